@@ -1,0 +1,4 @@
+pub mod Frames
+pub mod Jobs
+pub mod Limits
+pub mod Values
