@@ -1,5 +1,5 @@
 -- What the formats of a record keep of a frame.
-use Rattle.std.specs.Prelude.{ℕ, List, map}
+use Rattle.std.specs.Prelude.{List, map}
 use Rattle.det_base.specs.declared.format.Format.{Format}
 use Rattle.det_base.specs.declared.format.Format.TheVariants.{One, Two}
 use Rattle.det_base.specs.declared.frames.DrawnElement.{DrawnElement}

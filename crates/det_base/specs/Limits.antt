@@ -1,12 +1,12 @@
 -- The ranges of the values that clients exchange and that records hold.
-use Rattle.std.specs.Prelude.{◌≡◌, ℕ, ℤ, ◌+◌, ◌-◌, ◌^◌, ◌<◌, ◌≤◌, ◌≤ℤ◌, pos, negsuc, Bool, true, ◌&&◌, ◌||◌, ◌==◌, nat_le, List, length}
+use Rattle.std.specs.Prelude.{◌≡◌, ℕ, ℤ, ◌^◌, ◌<◌, ◌≤◌, ◌≤ℤ◌, pos, negsuc, Bool, ◌&&◌, ◌||◌, ◌==◌, nat_le, List, length}
 use Rattle.std.specs.List.{list_all, All}
 use Rattle.det_base.specs.declared.format.Format.{Format}
 use Rattle.det_base.specs.declared.format.Format.TheVariants as formats
 use Rattle.det_base.specs.declared.event.Policy.TheVariants as policies
 use Rattle.det_base.specs.declared.refused_at.Phase.{Phase}
 use Rattle.det_base.specs.declared.refused_at.Phase.TheVariants as phases
-use Rattle.det_base.specs.Values.{SampleValue, EventSpecValue, RefusedAtValue}
+use Rattle.det_base.specs.Values.{EventSpecValue}
 
 -- from -10^12 to 10^12
 abbrev pub IsSampleValue : ℤ → Type 0

@@ -2,6 +2,7 @@
 ghost use Rattle.std.specs.Prelude.{◌≡◌, ◌<◌, ◌≤◌, length, take, slice_index_or};
 ghost use Rattle.std.specs.Cmp.Lexicographic.{pointwise};
 
+use std::alloc::AllocError;
 use std::marker::Model;
 
 /// The bytes of one element, at most 64. They take no memory beyond their place.
@@ -72,5 +73,20 @@ impl PartialEq for Bytes64 {
         let left = self.as_slice();
         let right = other.as_slice();
         left == right
+    }
+}
+
+impl Clone for Bytes64 {
+    ghost use Rattle.std.specs.Prelude.{◌≡◌};
+
+    ghost is_clone = { λ a b. b ≡ a };
+
+    ghost is_infallible = { λ _. Unit {0} };
+
+    fn clone(&self) -> Result<Bytes64, AllocError> {
+        Ok(Bytes64 {
+            bytes: self.bytes,
+            len: self.len,
+        })
     }
 }

@@ -1,5 +1,6 @@
 //! The events that a profile names.
 use crate::EventName;
+use std::alloc::AllocError;
 use std::marker::Model;
 
 /// Which samples a cycle's window of an event holds: the last ones of all earlier cycles, or those of the cycle just before.
@@ -10,7 +11,7 @@ pub enum Policy {
 }
 
 /// An event that a client listens to. The capacity of its window is 1 to 1,024 samples.
-#[derive(Debug, Drop)]
+#[derive(Debug, PartialEq, Drop)]
 pub struct EventSpec {
     pub capacity: u16,
     pub name: EventName,
@@ -26,4 +27,23 @@ impl Model for EventSpec {
     ghost view = { λ e. record { capacity = e.capacity; name = e.name; policy = e.policy } };
 
     ghost invariant = { λ e. IsCapacity e.capacity };
+
+    ghost inverse = { λ v. record { capacity = v.capacity; name = v.name; policy = v.policy } };
+}
+
+impl Clone for EventSpec {
+    ghost use Rattle.std.specs.Prelude.{◌≡◌};
+
+    ghost is_clone = { λ a b. b ≡ a };
+
+    ghost is_infallible = { λ _. Unit {0} };
+
+    fn clone(&self) -> Result<EventSpec, AllocError> {
+        let name = self.name.clone()?;
+        Ok(EventSpec {
+            capacity: self.capacity,
+            name,
+            policy: self.policy,
+        })
+    }
 }

@@ -4,6 +4,7 @@ ghost use Rattle.std.specs.List.{list_all};
 ghost use Rattle.det_base.specs.Limits.{is_event_name, may_stand_in_name};
 
 use crate::Bytes64;
+use std::alloc::AllocError;
 use std::marker::Model;
 
 /// The name of an event: 1 to 32 of `a` to `z`, `0` to `9` and `_`.
@@ -94,5 +95,18 @@ impl PartialEq for EventName {
         let left = self.as_slice();
         let right = other.as_slice();
         left == right
+    }
+}
+
+impl Clone for EventName {
+    ghost use Rattle.std.specs.Prelude.{◌≡◌};
+
+    ghost is_clone = { λ a b. b ≡ a };
+
+    ghost is_infallible = { λ _. Unit {0} };
+
+    fn clone(&self) -> Result<EventName, AllocError> {
+        let bytes = self.bytes.clone()?;
+        Ok(EventName { bytes })
     }
 }

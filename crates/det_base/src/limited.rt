@@ -128,6 +128,21 @@ impl<T, const MOST: usize> Limited<T, MOST> {
     }
 }
 
+impl<T: Copy + Drop, const MOST: usize> Limited<T, MOST> {
+    ghost use Rattle.std.specs.Prelude.{◌≡◌, IfOk};
+
+    /// The same items again.
+    pub fn copied(&self, alloc: Global) -> Result<Limited<T, MOST>, OutOfMemory>
+        ensures { IfOk result (λ copy. copy ≡ self.now) }
+    {
+        let mut copy = Limited::new(alloc);
+        match copy.extend_from_slice(self.as_slice()) {
+            Ok(()) => Ok(copy),
+            Err(refused) => Err(refused),
+        }
+    }
+}
+
 impl<T: PartialEq, const MOST: usize> PartialEq for Limited<T, MOST> {
     ghost eq = { λ a b. pointwise T.eq a b };
 
