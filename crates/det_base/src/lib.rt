@@ -35,3 +35,6 @@ impl From<AllocError> for OutOfMemory {
         OutOfMemory
     }
 }
+
+#[cfg(test)]
+mod values_tests;
