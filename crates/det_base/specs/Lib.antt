@@ -1,4 +1,14 @@
+pub mod Count
+pub mod DirShelf
 pub mod Frames
 pub mod Jobs
 pub mod Limits
+pub mod MemShelf
+pub mod MemSink
+pub mod PlannedCalls
+pub mod Prefix
+pub mod Shelf
+pub mod Sink
+pub mod StdSink
+pub mod TextShelf
 pub mod Values
