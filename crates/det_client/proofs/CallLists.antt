@@ -1,14 +1,14 @@
 -- What a further call does to the list that a client comes from.
 use Rattle.std.proofs.Common.{◌≡◌, ℕ, zero, suc, ◌+◌, List, [], ◌∷◌, ◌++◌, None, Bool, true, false, cond, refl, sym, ap, ◌∙◌, append_assoc, arith, replicate, append-nil}
-use Rattle.element_random.specs.Words.{StandsFor}
+use Rattle.element_random.specs.Words.{Place, StandsFor, key}
 use Rattle.det_client.specs.declared.activation.Activation.{Activation}
 use Rattle.det_client.specs.declared.activation.Activation.TheVariants.{RegisterServices, ServiceDiscovery, Init, Run, Terminate}
 use Rattle.det_client.specs.declared.activation.Next.{Next}
 use Rattle.det_client.specs.declared.activation.Next.TheVariants.{Go}
 use Rattle.det_client.specs.State.{State, OwnAt, own_key, SameButSeed}
-use Rattle.det_client.specs.Life.{Life, answer, is_run, begins}
+use Rattle.det_client.specs.Life.{Life, answer, cycle_of, is_run, begins}
 use Rattle.det_client.specs.Step.{Stepped}
-use Rattle.det_client.specs.Calls.{Call, requests, seed_after, drawn_after, drawn_of, ComesFrom, resuming}
+use Rattle.det_client.specs.Calls.{Call, requests, seed_after, seed_of, drawn_after, drawn_of, ComesFrom, resuming}
 use Rattle.det_client.specs.Calls.Call.{waits, reseeds, draws}
 use Rattle.det_client.proofs.RequestLists.{answered_step, life_step}
 
@@ -102,4 +102,23 @@ comes_resumed seed cycle s is own life =
       life = rw e life;
       seed = is ∙ sym (seed_after-append 0 before (reseeds seed ∷ []));
       own = rw (drawn_after-append [] 0 before (reseeds seed ∷ [])) own;
+    }
+
+equal_places : (p q : Place) (k n : ℕ) → StandsFor p k n → StandsFor q k n → p ≡ q
+equal_places p q k n x y = λ i. record { state = (x.state ∙ sym y.state) i; draws = (x.draws ∙ sym y.draws) i }
+
+-- two clients that come from new ones of one cycle time by the same calls are equal
+pub equal_clients : (a b : State) (t : ℕ) (calls : List Call) → ComesFrom a t calls → ComesFrom b t calls → a ≡ b
+equal_clients a b t calls x y =
+    let k : ℕ = key (seed_of calls) (cycle_of (requests calls)) 255 0 in
+    let p : StandsFor a.own k (drawn_of calls) = rw (← x.seed, ← x.life.cycle) x.own in
+    let q : StandsFor b.own k (drawn_of calls) = rw (← y.seed, ← y.life.cycle) y.own in
+    let own : a.own ≡ b.own = equal_places a.own b.own k (drawn_of calls) p q in
+    λ i. record {
+      cycle_time = (x.cycle_time ∙ sym y.cycle_time) i;
+      last = (x.life.last ∙ sym y.life.last) i;
+      time = (x.life.time ∙ sym y.life.time) i;
+      seed = (x.seed ∙ sym y.seed) i;
+      cycle = (x.life.cycle ∙ sym y.life.cycle) i;
+      own = own i;
     }

@@ -1,4 +1,4 @@
-use Rattle.std.proofs.Common.{◌≡◌, ℕ, ◌+◌, List, ap, ◌∙◌, arith, add-one, min, ◌-◌, ◌^◌}
+use Rattle.std.proofs.Common.{ℕ, List, ap, ◌∙◌, arith, add-one}
 use Rattle.rand_xoshiro.specs.Xoshiro256.{plus_plus, next_state}
 use Rattle.element_random.specs.Words.{state_at, word}
 use Rattle.element_random.proofs.ElementRandom.get_random.Goals as goal
@@ -8,12 +8,9 @@ unfolding word
 returns-clause-word c = λ k n s.
     ap (λ (p : ℕ × List ℕ). p.0) c.next_word-word.ensures ∙ ap (λ v. (plus_plus v).0) (ap (λ p. p.state) c.self.view_is ∙ s.state)
 
-counted : (was n now : ℕ) → was ≡ min n (2 ^ 64 - 1) → now ≡ min (was + 1) (2 ^ 64 - 1) → now ≡ min (n + 1) (2 ^ 64 - 1)
-counted was n now d e = omega arith
-
 pub returns-clause-goes_on : goal.returns-clause-goes_on
 unfolding state_at
 returns-clause-goes_on c = λ k n s. record {
   state = rw add-one (ap (λ (p : ℕ × List ℕ). p.1) c.next_word-word.ensures ∙ ap next_state (ap (λ p. p.state) c.self.view_is ∙ s.state));
-  draws = counted _ n _ (ap (λ p. p.draws) c.self.view_is ∙ s.draws) c.saturating_add-self-inside.ensures;
+  draws = omega (arith, s.draws, ap (λ p. p.draws) c.self.view_is);
 }
