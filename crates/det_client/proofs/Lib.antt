@@ -1,0 +1,2 @@
+pub mod RequestLists
+pub mod CallLists

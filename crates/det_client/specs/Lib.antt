@@ -1,0 +1,4 @@
+pub mod State
+pub mod Life
+pub mod Step
+pub mod Calls

@@ -1,0 +1,33 @@
+-- What a client keeps.
+use Rattle.std.specs.Prelude.{◌≡◌, ℕ, ◌+◌, ◌-◌, ◌^◌, Option, None, Some, if◌then◌else◌, nat_le}
+use Rattle.element_random.specs.Words.{Place, StandsFor, key}
+use Rattle.det_client.specs.declared.activation.Activation.{Activation}
+
+-- the last activation, the time of the cycle that it began, the number of that cycle, and the own stream
+pub record State : Type 0 where
+  pub cycle_time : ℕ
+  pub last : Option Activation
+  pub time : Option ℕ
+  pub seed : ℕ
+  pub cycle : ℕ
+  pub own : Place
+
+-- a time plus the cycle time, where the time is known and the sum is a u64
+abbrev pub next_time : ℕ → Option ℕ → Option ℕ
+next_time cycle_time None = None
+next_time cycle_time (Some t) = if nat_le (t + cycle_time) (2 ^ 64 - 1) then Some (t + cycle_time) else None
+
+-- the key of a client's own stream
+abbrev pub own_key : State → ℕ
+own_key c = key c.seed c.cycle 255 0
+
+-- so many words of the own stream were drawn
+abbrev pub OwnAt : State → ℕ → Type 0
+OwnAt c drawn = StandsFor c.own (own_key c) drawn
+
+-- nothing but the seed and the own stream differs
+pub record SameButSeed (before after : State) : Type 0 where
+  pub cycle_time : after.cycle_time ≡ before.cycle_time
+  pub last : after.last ≡ before.last
+  pub time : after.time ≡ before.time
+  pub cycle : after.cycle ≡ before.cycle

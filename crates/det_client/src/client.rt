@@ -1,0 +1,186 @@
+//! The client.
+
+ghost use Rattle.std.specs.Prelude.{◌≡◌, ℕ, ◌+◌, ◌-◌, ◌^◌, ◌<◌, ◌≤◌, min, List, [], ◌∷◌, ◌++◌, None, Some, IfOk, OnErr, MatchResult, true, false, ◌==◌, if◌then◌else◌, replicate};
+ghost use Rattle.element_random.specs.Words.{key, word, StandsFor};
+ghost use Rattle.det_client.specs.State.{State, next_time, OwnAt, SameButSeed};
+ghost use Rattle.det_client.specs.Life.{Life, answer, cycle_of, time_of, is_stop};
+ghost use Rattle.det_client.specs.Step.{Stepped};
+ghost use Rattle.det_client.specs.Calls.{Call, ComesFrom, requests, seed_of, drawn_of, own_word, resuming};
+ghost use Rattle.det_client.specs.Calls.Call.{waits, reseeds, draws};
+
+use crate::activation::{Activation, Next};
+use element_random::{ElementRandom, key};
+use std::marker::Model;
+
+/// No time is known: no cycle runs, its request carried no time, or the time exceeds a `u64`.
+#[derive(Clone, Copy, Debug, PartialEq, Eq)]
+pub struct NotAvailable;
+
+/// The most cycles of a run.
+pub const MOST_CYCLES: u32 = 1_000_000;
+
+/// The client of one process.
+#[derive(Debug, Drop)]
+pub struct Client {
+    cycle_time: u64,
+    last: Option<Activation>,
+    time: Option<u64>,
+    seed: u64,
+    cycle: u32,
+    own: ElementRandom,
+}
+
+impl Model for Client {
+    ghost use Rattle.det_client.specs.State.{State};
+
+    ghost Value = { State };
+
+    ghost view = { λ c. record { cycle_time = c.cycle_time; last = c.last; time = c.time; seed = c.seed; cycle = c.cycle; own = c.own } };
+}
+
+/// The client's own stream in a cycle, at its beginning.
+fn own_stream(seed: u64, cycle: u32) -> ElementRandom
+    ensures { StandsFor result (key seed cycle 255 0) 0 }
+{
+    ElementRandom::at(key(seed, cycle, 255, 0))
+}
+
+impl Client {
+    /// A client of which nothing was asked, with the seed 0 and a cycle time in nanoseconds.
+    pub fn new(cycle_time: u64) -> Client
+        requires some_time { 1 ≤ cycle_time }
+        requires short { cycle_time < 2 ^ 63 }
+        ensures calls { ComesFrom result cycle_time [] }
+        ensures life { Life result [] }
+        ensures seed { result.seed ≡ 0 }
+        ensures cycle_time { result.cycle_time ≡ cycle_time }
+        ensures own { OwnAt result 0 }
+    {
+        Client {
+            cycle_time,
+            last: None,
+            time: None,
+            seed: 0,
+            cycle: 0,
+            own: own_stream(0, 0),
+        }
+    }
+
+    /// A client between two activations: the one that comes from a new client by three requests without a time, as
+    /// many more as there were cycles, and then this seed.
+    pub fn resumed(cycle_time: u64, seed: u64, cycle: u32) -> Client
+        requires some_time { 1 ≤ cycle_time }
+        requires short { cycle_time < 2 ^ 63 }
+        requires few_cycles { cycle ≤ MOST_CYCLES }
+        ensures calls { ComesFrom result cycle_time (resuming seed cycle) }
+        ensures life { Life result (replicate (3 + cycle) (Next.Go None)) }
+        ensures last { result.last ≡ Some (if cycle == 0 then Activation.Init else Activation.Run) }
+        ensures time { result.time ≡ None }
+        ensures cycle { result.cycle ≡ cycle }
+        ensures seed { result.seed ≡ seed }
+        ensures cycle_time { result.cycle_time ≡ cycle_time }
+        ensures own { OwnAt result 0 }
+    {
+        let last = if cycle == 0 {
+            Activation::Init
+        } else {
+            Activation::Run
+        };
+        Client {
+            cycle_time,
+            last: Some(last),
+            time: None,
+            seed,
+            cycle,
+            own: own_stream(seed, cycle),
+        }
+    }
+
+    fn step(&mut self, next: Next) -> Activation
+        requires { is_stop next ≡ false → self.old.cycle < MOST_CYCLES }
+        ensures { Stepped self.old next result self.new }
+    {
+        let activation = next.activation_after(self.last);
+        self.last = Some(activation);
+        self.time = None;
+        match activation {
+            Activation::Run => {
+                self.cycle += 1;
+                self.time = next.time();
+                self.own = own_stream(self.seed, self.cycle);
+            }
+            Activation::Init => self.own = own_stream(self.seed, self.cycle),
+            _ => (),
+        }
+        activation
+    }
+
+    /// Answers what to do next. After a stop, now or earlier, it is to end.
+    pub fn wait_for_activation(&mut self, next: Next) -> Activation
+        requires { is_stop next ≡ false → self.old.cycle < MOST_CYCLES }
+        ensures answer { (given : List Next) → Life self.old given → result ≡ answer (given ++ next ∷ []) }
+        ensures life { (given : List Next) → Life self.old given → Life self.new (given ++ next ∷ []) }
+        ensures calls { (t : ℕ) (calls : List Call) → ComesFrom self.old t calls → ComesFrom self.new t (calls ++ waits next ∷ []) }
+        ensures step { Stepped self.old next result self.new }
+    {
+        self.step(next)
+    }
+
+    /// The time of the present cycle, in nanoseconds.
+    pub fn get_activation_time(&self) -> Result<u64, NotAvailable>
+        ensures life { (given : List Next) → Life self.now given → MatchResult result (λ t. time_of given ≡ Some t) (λ _. time_of given ≡ None) }
+        ensures known { IfOk result (λ t. self.now.time ≡ Some t) }
+        ensures unknown { OnErr result (self.now.time ≡ None) }
+    {
+        self.time.ok_or(NotAvailable)
+    }
+
+    /// The time of the next cycle, in nanoseconds.
+    pub fn get_next_activation_time(&self) -> Result<u64, NotAvailable>
+        ensures life { (given : List Next) → Life self.now given → MatchResult result (λ t. next_time self.now.cycle_time (time_of given) ≡ Some t) (λ _. next_time self.now.cycle_time (time_of given) ≡ None) }
+        ensures known { IfOk result (λ t. next_time self.now.cycle_time self.now.time ≡ Some t) }
+        ensures unknown { OnErr result (next_time self.now.cycle_time self.now.time ≡ None) }
+    {
+        let time = self.get_activation_time()?;
+        time.checked_add(self.cycle_time).ok_or(NotAvailable)
+    }
+
+    /// Sets the seed of the random words inside and outside the pool, and begins the own stream anew.
+    pub fn set_random_seed(&mut self, seed: u64)
+        ensures calls { (t : ℕ) (calls : List Call) → ComesFrom self.old t calls → ComesFrom self.new t (calls ++ reseeds seed ∷ []) }
+        ensures seed { self.new.seed ≡ seed }
+        ensures same { SameButSeed self.old self.new }
+        ensures own { OwnAt self.new 0 }
+    {
+        self.seed = seed;
+        self.own = own_stream(seed, self.cycle);
+    }
+
+    /// Draws the next word of the own stream.
+    pub fn get_random(&mut self) -> u64
+        ensures own_word { (t : ℕ) (calls : List Call) → ComesFrom self.old t calls → result ≡ own_word calls }
+        ensures calls { (t : ℕ) (calls : List Call) → ComesFrom self.old t calls → ComesFrom self.new t (calls ++ draws ∷ []) }
+        ensures word { (k n : ℕ) → StandsFor self.old.own k n → result ≡ word k n }
+        ensures goes_on { (k n : ℕ) → StandsFor self.old.own k n → StandsFor self.new.own k (n + 1) }
+        ensures seed { self.new.seed ≡ self.old.seed }
+        ensures same { SameButSeed self.old self.new }
+    {
+        self.own.get_random()
+    }
+
+    /// The present seed.
+    pub fn seed(&self) -> u64
+        ensures calls { (t : ℕ) (calls : List Call) → ComesFrom self.now t calls → result ≡ seed_of calls }
+        ensures seed { result ≡ self.now.seed }
+    {
+        self.seed
+    }
+
+    /// The number of the present cycle: 0 before the first one.
+    pub fn cycle(&self) -> u32
+        ensures life { (given : List Next) → Life self.now given → result ≡ cycle_of given }
+        ensures cycle { result ≡ self.now.cycle }
+    {
+        self.cycle
+    }
+}
