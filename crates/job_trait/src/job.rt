@@ -1,0 +1,137 @@
+//! The trait.
+
+ghost use Rattle.std.specs.Prelude.{◌≡◌, ℕ, ◌<◌, ◌≤◌, List, length, None, Some, MatchResult, IfOk};
+ghost use Rattle.std.specs.List.{All};
+ghost use Rattle.element_random.specs.Words.{StandsFor, key};
+ghost use Rattle.det_client.specs.State.{next_time, OwnAt, SameButSeed};
+ghost use Rattle.event_cache.specs.Rings.{windows};
+
+use crate::{BadParam, Concluded, JobFault, Started, Worked};
+use det_base::{Bytes64, OutOfMemory, Params};
+use det_client::{Activation, Client};
+use element_random::ElementRandom;
+use event_cache::EventCache;
+use std::alloc::Global;
+
+/// A cyclic application over a container of elements. A value of it is fixed by its parameters and the number of events.
+///
+/// What its calls mean is `meaning`. `Own` says which elements are the job's own, `Fit` which plans are, and `Covers`
+/// from how many elements a part may come. `laws` are proved of these by every implementation.
+pub trait Job: Sized + Send + Sync + Drop {
+    ghost use Rattle.job_trait.specs.Meaning.{Meaning, Agrees, AgreesWithSeed, IfTold};
+    ghost use Rattle.job_trait.specs.Laws.{JobLaws, CoversSome, CoverTogether, CoversBoth};
+
+    /// What stays between cycles beside the elements.
+    type Globals: Send + Drop;
+
+    /// One element of the container.
+    type Element: Send + Sync + Drop;
+
+    /// What the sequential begin of a cycle tells its passes.
+    type Plan: Sync + Drop;
+
+    /// What a pass gathers from its elements, and hands to the next one.
+    type Part: Send + Sync + Drop;
+
+    ghost meaning: { Meaning Self Self.Globals Self.Element Self.Plan Self.Part };
+
+    ghost Covers: { Self → Self.Part → ℕ → Type 0 };
+
+    ghost Own: { Self → Self.Element → Type 0 };
+
+    ghost Fit: { Self → Self.Plan → Type 0 };
+
+    /// The job of these parameters. It takes no memory.
+    fn make(params: &Params, events: u16) -> Result<Self, BadParam>
+        ensures { MatchResult result (λ job. (meaning.bad_param params.now events ≡ None) × (job ≡ meaning.made params.now events)) (λ bad. meaning.bad_param params.now events ≡ Some bad.index) };
+
+    /// The elements and globals of a new run. The client stands in Init, which belongs to cycle 0; the job may draw
+    /// from it and set its seed.
+    fn start(
+        &self,
+        alloc: Global,
+        client: &mut Client,
+    ) -> Result<Started<Self::Globals, Self::Element>, OutOfMemory>
+        requires init { client.old.last ≡ Some Activation.Init }
+        requires beginning { StandsFor client.old.own (key client.old.seed 0 255 0) 0 }
+        ensures gives { IfOk result (λ begun. meaning.started self.now client.old.seed ≡ record { globals = begun.globals; elements = begun.elements; seed = client.new.seed }) }
+        ensures own { IfOk result (λ begun. All (Own self.now) begun.elements) }
+        ensures few { IfOk result (λ begun. length begun.elements ≤ 65536) }
+        ensures same { SameButSeed client.old client.new };
+
+    /// The sequential begin of a cycle. The client stands in that cycle; the job may draw from it and set its seed.
+    fn prepare(
+        &self,
+        alloc: Global,
+        globals: &Self::Globals,
+        elements: &[Self::Element],
+        cache: &EventCache,
+        client: &mut Client,
+    ) -> Result<Self::Plan, JobFault>
+        requires few { length elements.now ≤ 65536 }
+        requires own { All (Own self.now) elements.now }
+        requires events { length (windows cache.now) ≡ meaning.events self.now }
+        requires running { client.old.last ≡ Some Activation.Run }
+        requires beginning { OwnAt client.old 0 }
+        ensures gives { AgreesWithSeed result client.new.seed (meaning.prepared self.now globals.now elements.now (windows cache.now) client.old.seed client.old.cycle client.old.time (next_time client.old.cycle_time client.old.time)) }
+        ensures fit { IfOk result (λ plan. Fit self.now plan) }
+        ensures same { SameButSeed client.old client.new };
+
+    /// The number of passes of a plan. It takes no memory.
+    fn passes(&self, plan: &Self::Plan) -> u8
+        requires { Fit self.now plan.now }
+        ensures gives { result ≡ meaning.passes_of self.now plan.now }
+        ensures least { 1 ≤ result }
+        ensures most { result ≤ 8 };
+
+    /// The part of no elements. It takes no memory.
+    fn unit(&self, alloc: Global) -> Self::Part
+        ensures gives { result ≡ meaning.unit_part self.now }
+        ensures covers { Covers self.now result 0 };
+
+    /// Runs one element in a pass. `carry` is the part of the pass before, or the unit in the first one. The words are
+    /// the element's own.
+    fn run(
+        &self,
+        alloc: Global,
+        plan: &Self::Plan,
+        carry: &Self::Part,
+        pass: u8,
+        element: &Self::Element,
+        random: &mut ElementRandom,
+    ) -> Result<Worked<Self::Element, Self::Part>, JobFault>
+        requires fit { Fit self.now plan.now }
+        requires carry { CoversSome (Covers self.now) carry.now }
+        requires pass { pass < meaning.passes_of self.now plan.now }
+        requires own { Own self.now element.now }
+        requires random { (key : ℕ) × StandsFor random.old key 0 }
+        ensures gives { (key : ℕ) → StandsFor random.old key 0 → Agrees result (meaning.worked self.now plan.now carry.now pass element.now key) }
+        ensures draws { (key : ℕ) → StandsFor random.old key 0 → IfTold result (random.new.draws ≡ meaning.drawn self.now plan.now carry.now pass element.now key) }
+        ensures own { IfOk result (λ worked. Own self.now worked.element) }
+        ensures covers { IfOk result (λ worked. Covers self.now worked.part 1) };
+
+    /// Joins two neighbouring parts, of which `left` comes from the elements before those of `right`.
+    fn merge(&self, left: Self::Part, right: Self::Part) -> Result<Self::Part, OutOfMemory>
+        requires { CoverTogether (Covers self.now) left right }
+        ensures gives { IfOk result (λ part. part ≡ meaning.joined self.now left right) }
+        ensures covers { IfOk result (CoversBoth (Covers self.now) left right) };
+
+    /// An element's bytes in a record, which tell the job's own elements apart. It takes no memory.
+    fn element_bytes(&self, element: &Self::Element) -> Bytes64
+        requires { Own self.now element.now }
+        ensures { result ≡ meaning.shown self.now element.now };
+
+    /// The sequential end of a cycle, given the part of the last pass.
+    fn conclude(
+        &self,
+        alloc: Global,
+        globals: &Self::Globals,
+        plan: &Self::Plan,
+        part: Self::Part,
+    ) -> Result<Concluded<Self::Globals>, JobFault>
+        requires fit { Fit self.now plan.now }
+        requires part { CoversSome (Covers self.now) part }
+        ensures { Agrees result (meaning.concluded self.now globals.now plan.now part) };
+
+    ghost laws: { JobLaws meaning Covers Own Fit };
+}
