@@ -51,4 +51,6 @@ pub use text_shelf::TextShelf;
 pub use writing::write_all;
 
 #[cfg(test)]
+mod edge_tests;
+#[cfg(test)]
 mod values_tests;

@@ -78,7 +78,8 @@ impl MemShelf {
         opens: u32,
     ) -> Result<MemShelf, OutOfMemory>
         requires { opens ≤ 1024 }
-        ensures { IfOk result (λ shelf. IsNewMemShelf shelf (record { files = files; fails = fails; opens = opens; most = 2 ^ 64 - 1 })) }
+        ensures { IfOk result (λ shelf. IsNewMemShelf shelf
+            (record { files = files; fails = fails; opens = opens; most = 2 ^ 64 - 1 })) }
     {
         MemShelf::limited(alloc, files, fails, opens, usize::MAX)
     }
@@ -93,7 +94,8 @@ impl MemShelf {
     ) -> Result<MemShelf, OutOfMemory>
         requires opens { opens ≤ 1024 }
         requires most { 0 < most }
-        ensures { IfOk result (λ shelf. IsNewMemShelf shelf (record { files = files; fails = fails; opens = opens; most = most })) }
+        ensures { IfOk result (λ shelf. IsNewMemShelf shelf
+            (record { files = files; fails = fails; opens = opens; most = most })) }
     {
         let asked = Vec::with_capacity(alloc, opens as usize)?;
         let slots = Vec::with_capacity(alloc, opens as usize)?;
@@ -137,7 +139,8 @@ impl Slots for MemShelf {
         ensures stays { Unit {0} }
 
         ensures fails { is_err result ≡ is_listed (setup_of self.old).fails (calls_of self.old + 1) }
-        ensures amount { IfOk result (λ n. n ≡ min (min (length buf.old) (setup_of self.old).most) (length (rest_in self.old slot))) }
+        ensures amount { IfOk result (λ n.
+            n ≡ min (min (length buf.old) (setup_of self.old).most) (length (rest_in self.old slot))) }
         ensures setup { setup_of self.new ≡ setup_of self.old }
         ensures calls { calls_of self.new ≡ next_count (calls_of self.old) }
         ensures opened { opened_of self.new ≡ opened_of self.old }
@@ -174,7 +177,8 @@ impl Shelf for MemShelf {
         ensures stays { Unit {0} }
 
         ensures fails { is_err result ≡ open_fails self.old name.now }
-        ensures told { is_some (mem_shelf_state self.new).asked ≡ (is_some (mem_shelf_state self.old).asked && has_room_for self.old name.now) }
+        ensures told { is_some (mem_shelf_state self.new).asked
+            ≡ (is_some (mem_shelf_state self.old).asked && has_room_for self.old name.now) }
         ensures setup { setup_of self.new ≡ setup_of self.old }
         ensures calls { calls_of self.new ≡ next_count (calls_of self.old) }
         ensures opened { opened_of self.new ≡ min (opened_of self.old + 1) (setup_of self.old).opens }

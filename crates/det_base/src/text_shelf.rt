@@ -48,7 +48,8 @@ impl Slots for TextShelf {
         ensures stays { Unit {0} }
 
         ensures never_fails { IsOk result }
-        ensures amount { IfOk result (λ n. n ≡ min (length buf.old) (length (unwrap_or ((text_shelf_state self.old).left slot) []))) }
+        ensures amount { IfOk result (λ n.
+            n ≡ min (length buf.old) (length (unwrap_or ((text_shelf_state self.old).left slot) []))) }
     {
         let _ = slot;
         let rest = &self.bytes.as_slice()[self.at..];

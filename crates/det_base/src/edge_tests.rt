@@ -1,0 +1,139 @@
+//! Tests of shelves and sinks.
+use crate::{
+    Bytes, DirShelf, FailList, MemFile, MemFiles, MemShelf, MemSink, OutOfMemory, ReadEnd, Shelf,
+    ShelfFailed, Sink, SinkFailed, Slots, StdSink, TextShelf, read_limited, write_all,
+};
+use std::alloc::Global;
+use std::fs;
+use std::io::{self, Write};
+use std::test::Fail;
+
+fn fail_list(alloc: Global, number: u64) -> Result<FailList, OutOfMemory> {
+    let mut fails = FailList::new(alloc);
+    fails.push(number)?;
+    Ok(fails)
+}
+
+fn file(alloc: Global, name: &str, bytes: &[u8]) -> Result<MemFile, OutOfMemory> {
+    let name = String::from_str(alloc, name)?;
+    let bytes = Vec::from_slice(alloc, bytes)?;
+    Ok(MemFile::new(name, bytes))
+}
+
+// Files `a`, `b` and again `a`.
+fn files(alloc: Global) -> Result<MemFiles, OutOfMemory> {
+    let mut files = MemFiles::new(alloc);
+    files.push(file(alloc, "a", b"abc")?)?;
+    files.push(file(alloc, "b", b"")?)?;
+    files.push(file(alloc, "a", b"zz")?)?;
+    Ok(files)
+}
+
+#[test]
+fn mem_shelf_reads_and_fails(rt: HostRuntime) -> Result<(), Fail> {
+    let alloc = rt.alloc();
+    let mut buf = [0; 8];
+    let mut shelf = MemShelf::limited(alloc, files(alloc)?, fail_list(alloc, 3)?, 1, 2)?;
+    let a = shelf.open_input("a")?;
+    let answers = [
+        shelf.read(a, &mut buf),
+        shelf.read(a, &mut buf),
+        shelf.read(a, &mut buf),
+    ];
+    assert_eq!(rt; answers, [Ok(2), Err(ShelfFailed), Ok(1)]);
+    assert_eq!(rt; buf[0], b'c');
+    Ok(())
+}
+
+#[test]
+fn mem_shelf_opens_and_fails(rt: HostRuntime) -> Result<(), Fail> {
+    let alloc = rt.alloc();
+    let mut shelf = MemShelf::new(alloc, files(alloc)?, fail_list(alloc, 2)?, 3)?;
+    let answers = [
+        shelf.open_input("b"),
+        shelf.open_input("a"),
+        shelf.open_input("a"),
+        shelf.open_input("b"),
+    ];
+    assert_eq!(rt; answers, [Ok(0), Err(ShelfFailed), Ok(1), Err(ShelfFailed)]);
+    Ok(())
+}
+
+#[test]
+fn read_limited_refuses_a_longer_text(rt: HostRuntime) -> Result<(), Fail> {
+    let alloc = rt.alloc();
+    let mut shelf = MemShelf::new(alloc, files(alloc)?, fail_list(alloc, 3)?, 2)?;
+    let slot = shelf.open_input("a")?;
+    assert_eq!(rt;
+        read_limited(alloc, &mut shelf, slot, 2).err(),
+        Some(ReadEnd::TooLong)
+    );
+    Ok(())
+}
+
+#[test]
+fn mem_sink_writes_and_fails(rt: HostRuntime) -> Result<(), Fail> {
+    let alloc = rt.alloc();
+    let mut sink = MemSink::new(alloc, 5, 2, fail_list(alloc, 2)?)?;
+    let answers = [sink.write(b"abc"), sink.write(b"c"), sink.write(b"")];
+    assert_eq!(rt; answers, [Ok(2), Err(SinkFailed), Ok(0)]);
+    assert_eq!(rt;
+        write_all(&mut sink, b"cdef"),
+        Err(SinkFailed),
+        "there is no room for the last"
+    );
+    assert_eq!(rt; sink.bytes(), b"abcde".as_slice());
+    Ok(())
+}
+
+#[test]
+fn text_shelf_gives_its_text(rt: HostRuntime) -> Result<(), Fail> {
+    let alloc = rt.alloc();
+    let mut text = Bytes::new(alloc);
+    text.push(b'x')?;
+    text.push(b'y')?;
+    let mut shelf = TextShelf::new(text);
+    let mut buf = [0; 1];
+    assert_eq!(rt; shelf.read(0, &mut buf), Ok(1));
+    assert_eq!(rt; buf[0], b'x');
+    let rest = read_limited(alloc, &mut shelf, 0, 1)?;
+    assert_eq!(rt; rest.as_slice(), b"y".as_slice());
+    Ok(())
+}
+
+#[test]
+fn files_are_written_and_read(rt: HostRuntime) -> Result<(), Fail> {
+    let alloc = rt.alloc();
+    let mut sink = StdSink::new(fs::create(&rt, "edges.bin")?);
+    write_all(&mut sink, b"\x00bytes\xff")?;
+    drop(sink);
+    let mut shelf = DirShelf::new(&rt, alloc);
+    let slot = shelf.open_input("edges.bin")?;
+    let bytes = read_limited(alloc, &mut shelf, slot, 7)?;
+    assert_eq!(rt; bytes.as_slice(), b"\x00bytes\xff".as_slice());
+    fs::remove_file(&rt, "edges.bin")?;
+    assert_eq!(rt; shelf.open_input("edges.bin"), Err(ShelfFailed));
+    Ok(())
+}
+
+// A writer that takes nothing.
+#[derive(Drop)]
+struct Full;
+
+impl Write for Full {
+    fn write(&mut self, _: &[u8]) -> io::Result<usize> {
+        Ok(0)
+    }
+
+    fn flush(&mut self) -> io::Result<()> {
+        Ok(())
+    }
+}
+
+#[test]
+fn a_write_that_takes_nothing_is_a_fault(rt: HostRuntime) -> Result<(), Fail> {
+    let mut sink = StdSink::new(Full);
+    assert_eq!(rt; sink.write(b"a"), Err(SinkFailed));
+    assert_eq!(rt; sink.write(b""), Ok(0));
+    Ok(())
+}
