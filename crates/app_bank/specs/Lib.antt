@@ -1,0 +1,4 @@
+pub mod Meaning
+pub mod Ranges
+pub mod Levels
+pub mod Laws

@@ -1,0 +1,16 @@
+//! The filter bank: a job whose channels follow the newest samples of their events.
+//!
+//! Channel i listens to event i modulo the number of events. In each cycle its level moves towards the newest sample
+//! of that event by the difference divided by a power of two, rounded down. The output is the sum, the least and the
+//! greatest of all levels.
+#![tactic(auto)]
+
+mod bank;
+mod channel;
+mod job;
+mod summary;
+
+pub use bank::Bank;
+pub use channel::Channel;
+pub use job::NoGlobals;
+pub use summary::Summary;

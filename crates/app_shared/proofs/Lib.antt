@@ -1,0 +1,5 @@
+pub mod Ranges
+pub mod Apart
+pub mod Windows
+pub mod Answered
+pub mod Made
