@@ -1,0 +1,202 @@
+//! Frames, appended.
+ghost use Rattle.std.specs.Prelude.{◌≡◌, ◌<◌, ◌≤◌, ◌++◌, length, OnOk};
+ghost use Rattle.std.specs.List.{flat_map, All};
+ghost use Rattle.record_grammar.specs.Spelling.{spelled_element, IsElement, spelled_drawn, MayDraw, IsDrawn, spelled_time, IsTime, spelled_sample, IsSample, spelled_input, IsInput, phase_number, spelled_refusal, IsRefusal, AreBytes, spelled_finished, spelled_outcome, MayDrawAll, IsOutcome, spelled_frame, CanSpell, IsFrame};
+ghost use Rattle.record_codec.specs.Appending.{Grows};
+
+use crate::put::{put_element, put_i64, put_slice, put_u8, put_u16, put_u32, put_u64};
+use det_base::{
+    Bytes64, CycleInput, DrawnElement, Format, Frame, Outcome, Phase, RefusedAt, Sample,
+};
+use std::alloc::AllocError;
+
+fn put_elements(out: &mut Vec<u8>, elements: &[Bytes64]) -> Result<(), AllocError>
+    ensures ok { OnOk result (out.new.items ≡ out.old.items ++ flat_map spelled_element elements.now) }
+    ensures grows { Grows out.old.items out.new.items }
+    ensures fields { OnOk result (All IsElement elements.now) }
+{
+    for element in elements {
+        put_element(out, element)?;
+    }
+    Ok(())
+}
+
+fn put_drawn(out: &mut Vec<u8>, format: Format, element: &DrawnElement) -> Result<(), AllocError>
+    requires { MayDraw format element.now.draws }
+    ensures ok { OnOk result (out.new.items ≡ out.old.items ++ spelled_drawn format element.now) }
+    ensures grows { Grows out.old.items out.new.items }
+    ensures fields { IsDrawn format element.now }
+{
+    let draws = element.draws;
+    put_element(out, &element.bytes)?;
+    match format {
+        Format::One => Ok(()),
+        Format::Two => put_u32(out, draws),
+    }
+}
+
+fn put_all_drawn(
+    out: &mut Vec<u8>,
+    format: Format,
+    elements: &[DrawnElement],
+) -> Result<(), AllocError>
+    requires { All (λ e. MayDraw format e.draws) elements.now }
+    ensures ok { OnOk result (out.new.items ≡ out.old.items ++ flat_map (spelled_drawn format) elements.now) }
+    ensures grows { Grows out.old.items out.new.items }
+    ensures fields { OnOk result (All (IsDrawn format) elements.now) }
+{
+    for element in elements {
+        put_drawn(out, format, element)?;
+    }
+    Ok(())
+}
+
+fn put_time(out: &mut Vec<u8>, time: Option<u64>) -> Result<(), AllocError>
+    ensures ok { OnOk result (out.new.items ≡ out.old.items ++ spelled_time time) }
+    ensures grows { Grows out.old.items out.new.items }
+    ensures fields { IsTime time }
+{
+    match time {
+        None => put_u8(out, 0)?,
+        Some(time) => {
+            put_u8(out, 1)?;
+            put_u64(out, time)?;
+        }
+    }
+    Ok(())
+}
+
+fn put_sample(out: &mut Vec<u8>, events: u16, sample: &Sample) -> Result<(), AllocError>
+    requires { sample.now.event < events }
+    ensures ok { OnOk result (out.new.items ≡ out.old.items ++ spelled_sample sample.now) }
+    ensures grows { Grows out.old.items out.new.items }
+    ensures fields { IsSample events sample.now }
+{
+    let Sample { event, value } = *sample;
+    put_u16(out, event)?;
+    put_i64(out, &value)?;
+    Ok(())
+}
+
+fn put_samples(out: &mut Vec<u8>, events: u16, samples: &[Sample]) -> Result<(), AllocError>
+    requires { All (λ s. s.event < events) samples.now }
+    ensures ok { OnOk result (out.new.items ≡ out.old.items ++ flat_map spelled_sample samples.now) }
+    ensures grows { Grows out.old.items out.new.items }
+    ensures fields { OnOk result (All (IsSample events) samples.now) }
+{
+    for sample in samples {
+        put_sample(out, events, sample)?;
+    }
+    Ok(())
+}
+
+fn put_input(out: &mut Vec<u8>, events: u16, input: &CycleInput) -> Result<(), AllocError>
+    requires { All (λ s. s.event < events) input.now.samples }
+    ensures ok { OnOk result (out.new.items ≡ out.old.items ++ spelled_input input.now) }
+    ensures grows { Grows out.old.items out.new.items }
+    ensures fields { OnOk result (IsInput events input.now) }
+{
+    put_time(out, input.time)?;
+    let samples = input.samples.as_slice();
+    put_u32(out, samples.len() as u32)?;
+    put_samples(out, events, samples)?;
+    Ok(())
+}
+
+fn phase_byte(phase: Phase) -> u8
+    ensures { result ≡ phase_number phase }
+{
+    match phase {
+        Phase::Prepare => 0,
+        Phase::Pool => 1,
+        Phase::Conclude => 2,
+    }
+}
+
+fn put_refusal(out: &mut Vec<u8>, refused: &RefusedAt) -> Result<(), AllocError>
+    ensures ok { OnOk result (out.new.items ≡ out.old.items ++ spelled_refusal refused.now) }
+    ensures grows { Grows out.old.items out.new.items }
+    ensures fields { IsRefusal refused.now }
+{
+    let RefusedAt {
+        phase,
+        pass,
+        element,
+        code,
+    } = *refused;
+    put_u8(out, phase_byte(phase))?;
+    put_u8(out, pass)?;
+    put_u32(out, element)?;
+    put_u32(out, code)?;
+    Ok(())
+}
+
+fn put_finished(
+    out: &mut Vec<u8>,
+    format: Format,
+    elements: &[DrawnElement],
+    output: &[u8],
+) -> Result<(), AllocError>
+    requires draws { All (λ e. MayDraw format e.draws) elements.now }
+    requires few { length elements.now ≤ 65536 }
+    requires short { length output.now ≤ 1048576 }
+    ensures ok { OnOk result (out.new.items ≡ out.old.items ++ spelled_finished format elements.now output.now) }
+    ensures grows { Grows out.old.items out.new.items }
+    ensures fields { OnOk result (All (IsDrawn format) elements.now × AreBytes output.now) }
+{
+    put_u32(out, elements.len() as u32)?;
+    put_all_drawn(out, format, elements)?;
+    put_u32(out, output.len() as u32)?;
+    put_slice(out, output)?;
+    Ok(())
+}
+
+fn put_outcome(out: &mut Vec<u8>, format: Format, outcome: &Outcome) -> Result<(), AllocError>
+    requires { MayDrawAll format outcome.now }
+    ensures ok { OnOk result (out.new.items ≡ out.old.items ++ spelled_outcome format outcome.now) }
+    ensures grows { Grows out.old.items out.new.items }
+    ensures fields { OnOk result (IsOutcome format outcome.now) }
+{
+    match outcome {
+        Outcome::Finished { elements, output } => {
+            put_u8(out, 0)?;
+            put_finished(out, format, elements.as_slice(), output.as_slice())?;
+        }
+        Outcome::Refused(refused) => {
+            put_u8(out, 1)?;
+            put_refusal(out, refused)?;
+        }
+    }
+    Ok(())
+}
+
+#[tactic(auto, unfolding(record_grammar::specs::Spelling::spelled_frame, record_grammar::specs::Spelling::IsFrame))]
+pub fn put_frame(
+    out: &mut Vec<u8>,
+    format: Format,
+    events: u16,
+    frame: &Frame,
+) -> Result<(), AllocError>
+    requires { CanSpell format events frame.now }
+    ensures ok { OnOk result (out.new.items ≡ out.old.items ++ spelled_frame format frame.now) }
+    ensures grows { Grows out.old.items out.new.items }
+    ensures fields { OnOk result (IsFrame format events frame.now) }
+{
+    match frame {
+        Frame::Register => put_u8(out, 1)?,
+        Frame::Discover => put_u8(out, 2)?,
+        Frame::Init(elements) => {
+            put_u8(out, 3)?;
+            let elements = elements.as_slice();
+            put_u32(out, elements.len() as u32)?;
+            put_elements(out, elements)?;
+        }
+        Frame::Run(run) => {
+            put_u8(out, 4)?;
+            put_input(out, events, &run.input)?;
+            put_outcome(out, format, &run.outcome)?;
+        }
+        Frame::Terminate => put_u8(out, 5)?,
+    }
+    Ok(())
+}

@@ -1,0 +1,7 @@
+pub mod Read
+pub mod Numbers
+pub mod Grammar
+pub mod Places
+pub mod Record
+pub mod Spelling
+pub mod Laws

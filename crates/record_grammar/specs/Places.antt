@@ -1,0 +1,34 @@
+-- Which place an item leads to.
+use Rattle.std.specs.Prelude.{◌+◌, length}
+use Rattle.det_base.specs.declared.format.Format.{Format}
+use Rattle.det_base.specs.declared.format.Format.TheVariants.{One}
+use Rattle.det_base.specs.declared.frames.Frame.TheVariants.{Run, Terminate}
+use Rattle.det_base.specs.Values.{ProfileValue}
+use Rattle.record_grammar.specs.declared.place.Layout.{Layout}
+use Rattle.record_grammar.specs.declared.place.Place.{Place}
+use Rattle.record_grammar.specs.declared.place.Place.TheVariants as places
+use Rattle.record_grammar.specs.declared.item.Item.{Item}
+use Rattle.record_grammar.specs.declared.item.Item.TheVariants as items
+
+-- what the frames after a header depend on
+abbrev pub layout_of : ProfileValue → Layout
+layout_of p = record { format = p.format; events = length p.events }
+
+-- the place after an item
+abbrev pub after : Place → Item → Place
+after place (items.Header p) = places.Register (layout_of p)
+after (places.Register layout) (items.Frame f) = places.Discover layout
+after (places.Discover layout) (items.Frame f) = places.Init layout
+after (places.Init layout) (items.Frame f) = places.Runs layout 0
+after (places.Runs layout before) (items.Frame (Run r)) = places.Runs layout (before + 1)
+after (places.Runs layout before) (items.Frame Terminate) = places.End
+after place (items.Frame f) = place
+
+-- the format of the frames from a place on
+abbrev pub format_of : Place → Format
+format_of (places.Register layout) = layout.format
+format_of (places.Discover layout) = layout.format
+format_of (places.Init layout) = layout.format
+format_of (places.Runs layout before) = layout.format
+format_of places.Header = One
+format_of places.End = One

@@ -1,0 +1,12 @@
+//! The binary record: how it is spelled, how any bytes are judged from left to right, and what the two have in common.
+#![tactic(auto)]
+
+mod fault;
+mod item;
+mod limits;
+mod place;
+
+pub use fault::{Reason, RecordFault};
+pub use item::Item;
+pub use limits::Limits;
+pub use place::{Layout, Place};
