@@ -1,5 +1,6 @@
 -- Reads of slots, one after another.
-use Rattle.std.proofs.Common.{◌≡◌, ◌≢◌, ◌<◌, ℕ, List, [], ◌++◌, append_assoc, refl, sym, ◌∙◌, ap}
+use Rattle.std.proofs.Common.{◌≡◌, ◌≢◌, ◌<◌, ◌⊎◌, inl, inr, ℕ, eqb, true, false, List, [], ◌++◌, append_assoc, refl, sym, ◌∙◌, ap}
+use Rattle.std.proofs.lemmas.Bool.Decides.{eqb_tells}
 use Rattle.std.proofs.lemmas.List.{append-nil}
 use Rattle.std.specs.Prelude.{Option, Some, None, Result, Ok, Err}
 use Rattle.std.specs.Option.{option_map}
@@ -31,6 +32,18 @@ reads-then {after = after} {slot = slot} {a = a} {b = b} p q = record {
 -- a read that failed, or gave nothing, after other reads leaves what they read
 pub reads-then-none : {before mid after : ShelfState} {slot : ℕ} {a : List ℕ} → Reads before mid slot a → Reads mid after slot [] → Reads before after slot a
 reads-then-none {before = before} {after = after} {slot = slot} p q = let r = reads-then p q in rw append-nil at r
+
+append_none_is : (o : Option (List ℕ)) → option_map (λ rest. [] ++ rest) o ≡ o
+append_none_is (Some rest) = refl
+append_none_is None = refl
+
+-- after a read that moved nothing every slot has the same left, and so after a failed one
+pub reads-nothing : {before after : ShelfState} {slot : ℕ} → Reads before after slot [] → (k : ℕ) → after.left k ≡ before.left k
+reads-nothing {before = before} {after = after} {slot = slot} p k = at (eqb_tells k slot)
+  where
+    at : ((eqb k slot ≡ true) × (k ≡ slot)) ⊎ ((eqb k slot ≡ false) × (k ≢ slot)) → after.left k ≡ before.left k
+    at (inl same) = rw same.1 (sym (p.left ∙ append_none_is (after.left slot)))
+    at (inr other) = p.others k other.1
 
 -- a failed read moved nothing
 pub moved-err : (answer : Result ℕ ShelfFailed) (buf : List ℕ) (e : ShelfFailed) → answer ≡ Err e → moved answer buf ≡ []

@@ -183,7 +183,7 @@ impl Shelf for MemShelf {
         ensures calls { calls_of self.new ≡ next_count (calls_of self.old) }
         ensures opened { opened_of self.new ≡ min (opened_of self.old + 1) (setup_of self.old).opens }
     {
-        let is_to_fail = self.calls.next_fails();
+        let is_listed = self.calls.next_fails();
         if self.opened == self.opens {
             self.is_told = false;
             self.faults = self.faults.saturating_add(1);
@@ -196,7 +196,7 @@ impl Shelf for MemShelf {
             return Err(ShelfFailed);
         };
         push_within(&mut self.asked, file);
-        if is_to_fail {
+        if is_listed {
             self.faults = self.faults.saturating_add(1);
             return Err(ShelfFailed);
         }

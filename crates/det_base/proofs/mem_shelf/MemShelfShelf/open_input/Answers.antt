@@ -13,6 +13,6 @@ pub returns-clause-asked : goal.returns-clause-asked
 returns-clause-asked c = places-asked c.args.self.now.files _ c.args.self.now.slots.items _ c.args.self.now.is_told c.args.self.now.asked.items _ _ _
     c.in-Some.file c.args.name.now c.as_slice.ensures.items c.in-Some.ensures.value c.push_within.ensures.items
 
-pub returns-then-is_to_fail-clause-asked : goal.returns-then-is_to_fail-clause-asked
-returns-then-is_to_fail-clause-asked c = places-asked c.args.self.now.files _ c.args.self.now.slots.items _ c.args.self.now.is_told c.args.self.now.asked.items _ _ _
+pub returns-then-is_listed-clause-asked : goal.returns-then-is_listed-clause-asked
+returns-then-is_listed-clause-asked c = places-asked c.args.self.now.files _ c.args.self.now.slots.items _ c.args.self.now.is_told c.args.self.now.asked.items _ _ _
     c.in-Some.file c.args.name.now c.as_slice.ensures.items c.in-Some.ensures.value c.push_within.ensures.items
