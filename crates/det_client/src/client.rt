@@ -1,11 +1,11 @@
 //! The client.
 
-ghost use Rattle.std.specs.Prelude.{◌≡◌, ℕ, ◌+◌, ◌-◌, ◌^◌, ◌<◌, ◌≤◌, min, List, [], ◌∷◌, ◌++◌, None, Some, IfOk, OnErr, MatchResult, true, false, ◌==◌, if◌then◌else◌, replicate};
+ghost use Rattle.std.specs.Prelude.{◌≡◌, ℕ, ◌+◌, ◌^◌, ◌<◌, ◌≤◌, List, [], ◌∷◌, ◌++◌, None, Some, IfOk, OnErr, MatchResult, false, ◌==◌, if◌then◌else◌, replicate};
 ghost use Rattle.element_random.specs.Words.{key, word, StandsFor};
-ghost use Rattle.det_client.specs.State.{State, next_time, OwnAt, SameButSeed};
+ghost use Rattle.det_client.specs.State.{next_time, OwnAt, SameButSeed};
 ghost use Rattle.det_client.specs.Life.{Life, answer, cycle_of, time_of, is_stop};
 ghost use Rattle.det_client.specs.Step.{Stepped};
-ghost use Rattle.det_client.specs.Calls.{Call, ComesFrom, requests, seed_of, drawn_of, own_word, resuming};
+ghost use Rattle.det_client.specs.Calls.{Call, ComesFrom, seed_of, own_word, resuming};
 ghost use Rattle.det_client.specs.Calls.Call.{waits, reseeds, draws};
 
 use crate::activation::{Activation, Next};
@@ -120,7 +120,8 @@ impl Client {
         requires { is_stop next ≡ false → self.old.cycle < MOST_CYCLES }
         ensures answer { (given : List Next) → Life self.old given → result ≡ answer (given ++ next ∷ []) }
         ensures life { (given : List Next) → Life self.old given → Life self.new (given ++ next ∷ []) }
-        ensures calls { (t : ℕ) (calls : List Call) → ComesFrom self.old t calls → ComesFrom self.new t (calls ++ waits next ∷ []) }
+        ensures calls { (t : ℕ) (calls : List Call) → ComesFrom self.old t calls
+            → ComesFrom self.new t (calls ++ waits next ∷ []) }
         ensures step { Stepped self.old next result self.new }
     {
         self.step(next)
@@ -128,7 +129,8 @@ impl Client {
 
     /// The time of the present cycle, in nanoseconds.
     pub fn get_activation_time(&self) -> Result<u64, NotAvailable>
-        ensures life { (given : List Next) → Life self.now given → MatchResult result (λ t. time_of given ≡ Some t) (λ _. time_of given ≡ None) }
+        ensures life { (given : List Next) → Life self.now given
+            → MatchResult result (λ t. time_of given ≡ Some t) (λ _. time_of given ≡ None) }
         ensures known { IfOk result (λ t. self.now.time ≡ Some t) }
         ensures unknown { OnErr result (self.now.time ≡ None) }
     {
@@ -137,7 +139,8 @@ impl Client {
 
     /// The time of the next cycle, in nanoseconds.
     pub fn get_next_activation_time(&self) -> Result<u64, NotAvailable>
-        ensures life { (given : List Next) → Life self.now given → MatchResult result (λ t. next_time self.now.cycle_time (time_of given) ≡ Some t) (λ _. next_time self.now.cycle_time (time_of given) ≡ None) }
+        ensures life { (given : List Next) → Life self.now given
+            → MatchResult result (λ t. next_time self.now.cycle_time (time_of given) ≡ Some t) (λ _. next_time self.now.cycle_time (time_of given) ≡ None) }
         ensures known { IfOk result (λ t. next_time self.now.cycle_time self.now.time ≡ Some t) }
         ensures unknown { OnErr result (next_time self.now.cycle_time self.now.time ≡ None) }
     {
@@ -147,7 +150,8 @@ impl Client {
 
     /// Sets the seed of the random words inside and outside the pool, and begins the own stream anew.
     pub fn set_random_seed(&mut self, seed: u64)
-        ensures calls { (t : ℕ) (calls : List Call) → ComesFrom self.old t calls → ComesFrom self.new t (calls ++ reseeds seed ∷ []) }
+        ensures calls { (t : ℕ) (calls : List Call) → ComesFrom self.old t calls
+            → ComesFrom self.new t (calls ++ reseeds seed ∷ []) }
         ensures seed { self.new.seed ≡ seed }
         ensures same { SameButSeed self.old self.new }
         ensures own { OwnAt self.new 0 }
@@ -159,7 +163,8 @@ impl Client {
     /// Draws the next word of the own stream.
     pub fn get_random(&mut self) -> u64
         ensures own_word { (t : ℕ) (calls : List Call) → ComesFrom self.old t calls → result ≡ own_word calls }
-        ensures calls { (t : ℕ) (calls : List Call) → ComesFrom self.old t calls → ComesFrom self.new t (calls ++ draws ∷ []) }
+        ensures calls { (t : ℕ) (calls : List Call) → ComesFrom self.old t calls
+            → ComesFrom self.new t (calls ++ draws ∷ []) }
         ensures word { (k n : ℕ) → StandsFor self.old.own k n → result ≡ word k n }
         ensures goes_on { (k n : ℕ) → StandsFor self.old.own k n → StandsFor self.new.own k (n + 1) }
         ensures seed { self.new.seed ≡ self.old.seed }

@@ -3,7 +3,11 @@ use super::*;
 #[test]
 fn activation_life(rt: HostRuntime) {
     let mut client = Client::new(10_000_000);
-    let starts = [Activation::RegisterServices, Activation::ServiceDiscovery, Activation::Init];
+    let starts = [
+        Activation::RegisterServices,
+        Activation::ServiceDiscovery,
+        Activation::Init,
+    ];
     for start in starts {
         assert!(rt; client.cycle() == 0);
         assert_eq!(rt; client.wait_for_activation(Next::Go(Some(1))), start);
@@ -12,7 +16,11 @@ fn activation_life(rt: HostRuntime) {
     let cycles = [
         (None, Err(NotAvailable), Err(NotAvailable)),
         (Some(5), Ok(5), Ok(10_000_005)),
-        (Some(18_446_744_073_709_551_615), Ok(18_446_744_073_709_551_615), Err(NotAvailable)),
+        (
+            Some(18_446_744_073_709_551_615),
+            Ok(18_446_744_073_709_551_615),
+            Err(NotAvailable),
+        ),
     ];
     for (time, present, next) in cycles {
         assert!(rt; client.cycle() < 3);
@@ -20,16 +28,25 @@ fn activation_life(rt: HostRuntime) {
         assert_eq!(rt; client.get_activation_time(), present);
         assert_eq!(rt; client.get_next_activation_time(), next);
     }
-    assert_eq!(rt; client.wait_for_activation(Next::Stop), Activation::Terminate);
+    assert_eq!(rt;
+        client.wait_for_activation(Next::Stop),
+        Activation::Terminate
+    );
     assert_eq!(rt; client.get_activation_time(), Err(NotAvailable));
     assert!(rt; client.cycle() == 3);
-    assert_eq!(rt; client.wait_for_activation(Next::Go(Some(5))), Activation::Terminate);
+    assert_eq!(rt;
+        client.wait_for_activation(Next::Go(Some(5))),
+        Activation::Terminate
+    );
 }
 
 #[test]
 fn stop_at_once(rt: HostRuntime) {
     let mut client = Client::new(1);
-    assert_eq!(rt; client.wait_for_activation(Next::Stop), Activation::Terminate);
+    assert_eq!(rt;
+        client.wait_for_activation(Next::Stop),
+        Activation::Terminate
+    );
 }
 
 #[test]

@@ -4,7 +4,7 @@
 //! words of an element don't depend on the worker that works on it, nor on the order of the work.
 #![tactic(auto)]
 
-ghost use Rattle.std.specs.Prelude.{◌≡◌, ℕ, ◌+◌, ◌-◌, ◌^◌, ◌<◌, ◌≤◌, min, List};
+ghost use Rattle.std.specs.Prelude.{◌≡◌, ℕ, ◌+◌, ◌-◌, ◌^◌, min};
 ghost use Rattle.element_random.specs.Words.{mixed, key, word, StandsFor};
 
 use rand_core::SeedableRng;

@@ -1,6 +1,6 @@
 //! The windows of all events.
 
-ghost use Rattle.std.specs.Prelude.{◌≡◌, ℕ, ◌+◌, ◌<◌, ◌≤◌, List, [], ◌∷◌, ◌++◌, length, IfOk, map, slice_index_or};
+ghost use Rattle.std.specs.Prelude.{◌≡◌, ◌<◌, ◌≤◌, List, [], ◌∷◌, ◌++◌, length, IfOk, map, slice_index_or};
 ghost use Rattle.circular_buffer.specs.Buffer.{last_item};
 
 use crate::rings::EventRings;

@@ -1,6 +1,6 @@
 //! The two rings of one event.
 
-ghost use Rattle.std.specs.Prelude.{◌≡◌, ℕ, ◌+◌, ◌<◌, ◌≤◌, List, [], ◌∷◌, ◌++◌, length, IfOk, slice_get, slice_index_or, IfSome};
+ghost use Rattle.std.specs.Prelude.{◌≡◌, ◌<◌, List, [], ◌∷◌, ◌++◌, length, IfOk, slice_index_or};
 ghost use Rattle.circular_buffer.specs.Buffer.{last_item, keep_last};
 
 use circular_buffer::HeapCircularBuffer;
