@@ -33,7 +33,7 @@ impl EventCache {
     ghost use Rattle.event_cache.specs.Windows.{HasSeen, AreWindows, windows_after, window_of, next_windows};
 
     /// A cache of these events, to which no sample has come.
-    #[tactic(auto, using(crate::proofs::Rounds::seen_nothing, crate::proofs::Rounds::made_count, crate::proofs::Rounds::made_windows, crate::proofs::Rounds::made_fit, crate::proofs::Rounds::made_more))]
+    #[tactic(auto, using(crate::proofs::Rounds::made_more))]
     pub fn new(alloc: Global, events: &Events) -> Result<EventCache, OutOfMemory>
         ensures seen { IfOk result (λ cache. HasSeen cache events.now [] []) }
         ensures count { IfOk result (λ cache. length cache ≡ length events.now) }
@@ -61,7 +61,7 @@ impl EventCache {
     }
 
     /// Shows the samples that arrived, by the policies of their events.
-    #[tactic(auto, using(crate::proofs::Rounds::turned_more, crate::proofs::Rounds::turned_fit, crate::proofs::Rounds::seen_turned, crate::proofs::Rounds::turned_whole))]
+    #[tactic(auto, using(crate::proofs::Rounds::turned_more))]
     pub fn turn(&mut self)
         ensures turned { self.new ≡ map turned self.old }
         ensures count { length self.new ≡ length self.old }
