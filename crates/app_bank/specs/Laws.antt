@@ -11,7 +11,7 @@ use Rattle.job_trait.specs.declared.answers.Concluded.{Concluded}
 use Rattle.job_trait.specs.Meaning.{Prepared}
 use Rattle.job_trait.specs.Laws.{JobLaws, CoversBoth}
 use Rattle.app_shared.specs.Bytes.{u16_bytes, i64_bytes}
-use Rattle.app_shared.specs.Samples.{sample_of}
+use Rattle.app_shared.specs.Samples.{sample_of, IsSample}
 use Rattle.app_shared.proofs.Answered.{ok_same}
 use Rattle.app_shared.proofs.Apart.{u16_bytes-apart, i64_bytes-apart}
 use Rattle.app_shared.proofs.Made.{made_all}
@@ -20,9 +20,13 @@ use Rattle.app_bank.specs.declared.bank.Bank.{Bank}
 use Rattle.app_bank.specs.declared.channel.Channel.{Channel}
 use Rattle.app_bank.specs.declared.summary.Summary.{Summary}
 use Rattle.app_bank.specs.declared.job.NoGlobals.{NoGlobals}
-use Rattle.app_bank.specs.Meaning.{meaning, first_channel, first_channels, new_level, worked, summary_of, joined, output}
+use Rattle.app_bank.specs.Meaning.{meaning, first_channel, first_channels, level_after, new_level, worked, summary_of, joined, output}
 use Rattle.app_bank.specs.Ranges.{Own, Fit, IsSummaryOf, IsPartOf, Covers}
-use Rattle.app_bank.specs.Levels.{level_in_range}
+use Rattle.app_shared.proofs.Moves.{towards_in_range}
+
+level_in_range : (target : Option ℤ) (level : ℤ) (shift : ℕ) → IsSample target → IsSampleValue level → IsSampleValue (level_after target level shift)
+level_in_range None level shift t l = l
+level_in_range (Some v) level shift t l = towards_in_range level v shift l t
 
 right_unit : (p : Option Summary) → joined p None ≡ p
 right_unit None = refl

@@ -1,4 +1,3 @@
 pub mod Meaning
 pub mod Ranges
-pub mod Levels
 pub mod Laws

@@ -1,14 +1,15 @@
 -- The filter bank: a first-order low-pass filter per channel, which moves a level towards the newest sample of the
 -- channel's event.
-use Rattle.std.specs.Prelude.{ℕ, ℤ, pos, ◌%◌, ◌+ℤ◌, ◌-ℤ◌, List, ◌++◌, length, map, Option, None, Some, Ok, not, if◌then◌else◌, nat_lt, nat_le}
+use Rattle.std.specs.Prelude.{ℕ, ℤ, pos, ◌%◌, ◌+ℤ◌, List, ◌++◌, length, map, Option, None, Some, Ok, not, if◌then◌else◌, nat_lt, nat_le}
 use Rattle.std.proofs.Common.{lit≤}
 use Rattle.std.specs.List.{range_with_len}
-use Rattle.std.specs.Int.{int_shr, int_min, int_max}
+use Rattle.std.specs.Int.{int_min, int_max}
 use Rattle.job_trait.specs.declared.answers.Worked.{Worked}
 use Rattle.job_trait.specs.Meaning.{Meaning, Begun}
 use Rattle.app_shared.specs.Params.{is_param, natural_param, few_events, natural_most, events_few}
 use Rattle.app_shared.specs.Samples.{all_newest, sample_of}
 use Rattle.app_shared.specs.Bytes.{u16_bytes, i64_bytes}
+use Rattle.app_shared.specs.Filter.{towards}
 use Rattle.app_bank.specs.declared.bank.Bank.{Bank}
 use Rattle.app_bank.specs.declared.channel.Channel.{Channel}
 use Rattle.app_bank.specs.declared.summary.Summary.{Summary}
@@ -45,10 +46,10 @@ first_channels j = map (first_channel j) (range_with_len 0 j.channels)
 abbrev pub started : Bank → ℕ → Begun NoGlobals Channel
 started j seed = record { globals = record {}; elements = first_channels j; seed = seed }
 
--- a level after one step towards a target; the shift divides by a power of two and rounds down
+-- a level after one step towards a target, where there is one
 abbrev pub level_after : Option ℤ → ℤ → ℕ → ℤ
 level_after None level shift = level
-level_after (Some target) level shift = level +ℤ int_shr (target -ℤ level) shift
+level_after (Some target) level shift = towards level target shift
 
 abbrev pub new_level : Bank → List (Option ℤ) → Channel → ℤ
 new_level j plan e = level_after (sample_of plan e.event) e.level j.shift

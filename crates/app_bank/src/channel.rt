@@ -8,6 +8,7 @@ ghost use Rattle.app_bank.specs.Meaning.{level_after, first_channels, shown};
 ghost use Rattle.app_bank.specs.Ranges.{Own};
 
 use crate::Bank;
+use app_shared::towards;
 use det_base::{Bytes64, Container, OutOfMemory};
 use std::alloc::Global;
 
@@ -27,7 +28,7 @@ pub(crate) fn level_after(target: Option<i64>, level: i64, shift: u32) -> i64
     ensures limits { IsSampleValue result }
 {
     match target {
-        Some(target) => level + ((target - level) >> shift),
+        Some(target) => towards(level, target, shift),
         None => level,
     }
 }

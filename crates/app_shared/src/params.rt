@@ -1,6 +1,6 @@
 //! Parameters, each judged in its place.
 
-ghost use Rattle.std.specs.Prelude.{◌≡◌, ◌<◌, ◌≤◌, length, pos, true, false, MatchResult, IfOk, OnOk, IfErr};
+ghost use Rattle.std.specs.Prelude.{◌≡◌, ◌<◌, ◌≤◌, ◌^◌, length, pos, true, false, MatchResult, IfOk, OnOk, IfErr};
 ghost use Rattle.app_shared.specs.Params.{param, is_param, natural_param};
 
 use job_trait::BadParam;
@@ -19,6 +19,18 @@ pub fn whole_param(params: &[i64], index: u8, low: i64, high: i64) -> Result<i64
 }
 
 /// The same among natural numbers.
+pub fn wide_param(params: &[i64], index: u8, low: u64, high: u64) -> Result<u64, BadParam>
+    requires order { low ≤ high }
+    requires fits { high < 2 ^ 63 }
+    ensures ok { IfOk result (λ n. (is_param params.now index (pos low) (pos high) ≡ true) × (n ≡ natural_param params.now index low high)) }
+    ensures err { IfErr result (λ bad. (is_param params.now index (pos low) (pos high) ≡ false) × (bad.index ≡ index)) }
+    ensures range { IfOk result (λ n. n ≤ high) }
+{
+    let number = whole_param(params, index, low as i64, high as i64)?;
+    Ok(number as u64)
+}
+
+/// The same among small natural numbers.
 pub fn natural_param(params: &[i64], index: u8, low: u32, high: u32) -> Result<u32, BadParam>
     ensures ok { IfOk result (λ n. (is_param params.now index (pos low) (pos high) ≡ true) × (n ≡ natural_param params.now index low high)) }
     ensures err { IfErr result (λ bad. (is_param params.now index (pos low) (pos high) ≡ false) × (bad.index ≡ index)) }

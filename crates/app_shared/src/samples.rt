@@ -2,7 +2,6 @@
 
 ghost use Rattle.std.specs.Prelude.{◌≡◌, ℕ, ◌≤◌, length, IfOk};
 ghost use Rattle.event_cache.specs.Rings.{windows};
-ghost use Rattle.event_cache.specs.Windows.{AreWindows};
 ghost use Rattle.app_shared.specs.Samples.{newest, all_newest, sample_of, AreSamples, IsSample};
 
 use det_base::{Limited, OutOfMemory};

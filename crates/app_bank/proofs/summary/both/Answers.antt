@@ -2,7 +2,7 @@ use Rattle.std.proofs.Common.{◌∙◌, Some, rules}
 use mir.Val.{SFits}
 use Rattle.std.specs.Int.{w64}
 use Rattle.std.proofs.lemmas.Int.{to_z-of_z}
-use Rattle.app_bank.specs.Levels.{sum_computed}
+use Rattle.app_bank.proofs.Sums.{sum_computed}
 use Rattle.app_bank.proofs.summary.both.Goals as goal
 
 pub returns : goal.returns
