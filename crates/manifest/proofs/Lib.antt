@@ -1,0 +1,5 @@
+pub mod Lengths
+pub mod Steps
+pub mod NeedKeys
+pub mod Order
+pub mod Texts

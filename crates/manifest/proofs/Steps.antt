@@ -1,0 +1,83 @@
+-- One parameter, or one event, and those after it.
+use Rattle.std.proofs.Common.{◌≡◌, ℕ, ℤ, true, false, None, Some, suc, ◌+◌, ◌-◌, ◌<◌, Option, List, [], ◌∷◌, ◌++◌, append_assoc, length, take, drop, get_or, bytes_eq, if◌then◌else◌, refl, ap, ◌∙◌, arith}
+use Rattle.std.proofs.lemmas.List.{drop_more, take_more}
+use Rattle.std.specs.List.{list_any, All}
+use Rattle.std.proofs.lemmas.List.Elements.{All-append, All-cons, All-nil}
+use Rattle.std.specs.Option.{option_or}
+use Rattle.toml.specs.Data.{Data}
+use Rattle.det_base.specs.Values.{EventSpecValue}
+use Rattle.manifest.specs.Keys.{param_keys, event_keys, found}
+use Rattle.manifest.specs.Faults.{first_fault, fault_at, duplicate_after}
+use Rattle.manifest.specs.Meaning.{params_from, events_from, event_at}
+use Rattle.manifest.specs.Tree.{whole_of}
+use Rattle.manifest.specs.declared.fault.ManifestFault.{ManifestFault}
+use Rattle.manifest.specs.declared.key.Key.{Key}
+use Rattle.manifest.specs.declared.key.Key.TheVariants.{Param}
+
+one_more : (i n : ℕ) → i < n → n - i ≡ suc (n - (i + 1))
+one_more i n h = omega arith
+
+or_or : (a b c : Option ManifestFault) → option_or a (option_or b c) ≡ option_or (option_or a b) c
+or_or None b c = refl
+or_or (Some x) b c = refl
+
+pub params_fault : (tree : Data) (i n : ℕ) → i < n
+    → first_fault tree (param_keys i (n - i)) ≡ option_or (fault_at tree (Param i)) (first_fault tree (param_keys (i + 1) (n - (i + 1))))
+params_fault tree i n h = rw (one_more i n h)
+
+pub params_value : (tree : Data) (i n : ℕ) → i < n
+    → params_from tree i (n - i) ≡ whole_of (found tree (Param i)) ∷ params_from tree (i + 1) (n - (i + 1))
+params_value tree i n h = rw (one_more i n h)
+
+-- past a parameter without a fault
+pub params_past : (tree : Data) (i n : ℕ) → i < n → fault_at tree (Param i) ≡ None
+    → first_fault tree (param_keys i (n - i)) ≡ first_fault tree (param_keys (i + 1) (n - (i + 1)))
+params_past tree i n h good = params_fault tree i n h ∙ rw good
+
+-- the parameters so far, and one more
+pub params_more : (tree : Data) (i n : ℕ) (done more : List ℤ) (x : ℤ) → i < n → x ≡ whole_of (found tree (Param i)) → more ≡ done ++ x ∷ []
+    → done ++ params_from tree i (n - i) ≡ more ++ params_from tree (i + 1) (n - (i + 1))
+params_more tree i n done more x h e pushed = rw (pushed, append_assoc, length, take, drop, get_or, bytes_eq, if◌then◌else◌, params_value tree i n h, e)
+
+-- the first of some, and then of some more
+pub first_append : (tree : Data) (ks ls : List Key) → first_fault tree (ks ++ ls) ≡ option_or (first_fault tree ks) (first_fault tree ls)
+first_append tree [] ls = refl
+first_append tree (k ∷ ks) ls = ap (option_or (fault_at tree k)) (first_append tree ks ls) ∙ or_or (fault_at tree k) _ _
+
+pub events_fault : (tree : Data) (i n : ℕ) → i < n
+    → first_fault tree (event_keys i (n - i)) ≡ option_or (first_fault tree (event_keys i 1)) (first_fault tree (event_keys (i + 1) (n - (i + 1))))
+events_fault tree i n h = rw (one_more i n h) (first_append tree (event_keys i 1) (event_keys (i + 1) (n - (i + 1))))
+
+pub events_value : (tree : Data) (i n : ℕ) → i < n
+    → events_from tree i (n - i) ≡ event_at tree i ∷ events_from tree (i + 1) (n - (i + 1))
+events_value tree i n h = rw (one_more i n h)
+
+-- past an event without a fault
+pub events_past : (tree : Data) (i n : ℕ) → i < n → first_fault tree (event_keys i 1) ≡ None
+    → first_fault tree (event_keys i (n - i)) ≡ first_fault tree (event_keys (i + 1) (n - (i + 1)))
+events_past tree i n h good = events_fault tree i n h ∙ rw good
+
+-- the events so far, and one more
+pub events_more : (tree : Data) (i n : ℕ) (done more : List EventSpecValue) (x : EventSpecValue) → i < n → x ≡ event_at tree i → more ≡ done ++ x ∷ []
+    → done ++ events_from tree i (n - i) ≡ more ++ events_from tree (i + 1) (n - (i + 1))
+events_more tree i n done more x h e pushed = rw (pushed, append_assoc, length, take, drop, get_or, bytes_eq, if◌then◌else◌, events_value tree i n h, e)
+
+-- whether an event repeats an earlier one, and those after it
+pub duplicate_step : (events : List EventSpecValue) (i : ℕ) (d : EventSpecValue) → i < length events
+    → duplicate_after (take i events) i (drop i events)
+    ≡ (if list_any (λ e. bytes_eq e.name (get_or events i d).name) (take i events) then Some i else duplicate_after (take (i + 1) events) (i + 1) (drop (i + 1) events))
+duplicate_step events i d h = rw (drop_more events i d h, take_more events i d h)
+
+pub is_duplicate : (events : List EventSpecValue) (i : ℕ) (d : EventSpecValue) → d ≡ get_or events i d → i < length events
+    → list_any (λ e. bytes_eq e.name d.name) (take i events) ≡ true
+    → duplicate_after (take i events) i (drop i events) ≡ Some i
+is_duplicate events i d e h same = rw (drop_more events i d h, ← e, same)
+
+pub no_duplicate : (events : List EventSpecValue) (i : ℕ) (d : EventSpecValue) → d ≡ get_or events i d → i < length events
+    → list_any (λ e. bytes_eq e.name d.name) (take i events) ≡ false
+    → duplicate_after (take i events) i (drop i events) ≡ duplicate_after (take (i + 1) events) (i + 1) (drop (i + 1) events)
+no_duplicate events i d e h other = rw (drop_more events i d h, take_more events i d h, ← e, other)
+
+-- a fact of each event so far, and of one more
+pub all_more : (P : EventSpecValue → Type 0) (done more : List EventSpecValue) (x : EventSpecValue) → All P done → P x → more ≡ done ++ x ∷ [] → All P more
+all_more P done more x before here pushed = rw pushed (All-append P done (x ∷ []) before (All-cons P x [] here (All-nil P)))

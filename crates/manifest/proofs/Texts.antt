@@ -1,0 +1,44 @@
+-- A document as a value, and bytes that are no text.
+use Rattle.std.proofs.Common.{◌∙◌, Result, Ok, Err, IfOk, IfErr, ◌≡◌, ◌≤◌, Some, length, subst, le-leb, Bool, true, false, List, ℕ, String, BTreeMap, Global, IsUtf8, refl}
+use Rattle.std.specs.Str.{is_utf8}
+use Rattle.std.proofs.lemmas.Str.{IsUtf8-from_is_utf8, is_utf8-from_IsUtf8}
+use Rattle.manifest.specs.Judged.{Agrees}
+use Rattle.manifest.specs.Meaning.{manifest_of, manifest_in, document_of, IfFault}
+use Rattle.manifest.specs.Values.{ManifestValue}
+use Rattle.manifest.specs.declared.fault.ManifestError.{ManifestError}
+use Rattle.manifest.specs.declared.fault.ManifestError.TheVariants.{Fault, OutOfMemory}
+use Rattle.manifest.specs.declared.fault.ManifestFault.{ManifestFault}
+use Rattle.toml.specs.Data.{table}
+use Rattle.toml.specs.View.{view, table_view}
+use Rattle.toml.specs.declared.value.Value.{Value, Table as TableValue}
+use Rattle.toml.proofs.Views.{view-Table}
+
+pub of_table : (m : BTreeMap (String Global) Value) → view (TableValue m) ≡ table (table_view m)
+of_table m = view-Table m
+
+pub is_text : (bytes : List ℕ) → IsUtf8 bytes → is_utf8 bytes ≡ true
+is_text = is_utf8-from_IsUtf8
+
+no_text_by : (b : Bool) (bytes : List ℕ) → is_utf8 bytes ≡ b → (IsUtf8 bytes → ⊥) → is_utf8 bytes ≡ false
+no_text_by true bytes e none = absurd (none (IsUtf8-from_is_utf8 bytes e))
+no_text_by false bytes e none = e
+
+pub no_text : (bytes : List ℕ) → (IsUtf8 bytes → ⊥) → is_utf8 bytes ≡ false
+no_text bytes none = no_text_by (is_utf8 bytes) bytes refl none
+
+-- the two sides of an answer that agrees
+pub agreed_manifest : (r : Result ManifestValue ManifestError) (said meant : Result ManifestValue ManifestFault) → said ≡ meant → Agrees r meant → IfOk r (λ m. said ≡ Ok m)
+agreed_manifest (Ok m) said meant same agreed = same ∙ agreed
+agreed_manifest (Err e) said meant same agreed = tt
+
+pub agreed_fault : (r : Result ManifestValue ManifestError) (said meant : Result ManifestValue ManifestFault) → said ≡ meant → Agrees r meant → IfErr r (λ e. IfFault e (λ f. said ≡ Err f))
+agreed_fault (Ok m) said meant same agreed = tt
+agreed_fault (Err (Fault f)) said meant same agreed = same ∙ agreed
+agreed_fault (Err OutOfMemory) said meant same agreed = tt
+
+-- what a text says is what its tree says
+pub told : (bytes text : List ℕ) (tree : Value) → length bytes ≤ 65536 → IsUtf8 bytes → text ≡ bytes → document_of text ≡ Some (view tree)
+    → manifest_of bytes ≡ manifest_in (view tree)
+told bytes text tree few utf8 same parsed =
+    let read : document_of bytes ≡ Some (view tree) = subst (λ b. document_of b ≡ Some (view tree)) same parsed in
+    rw (le-leb (length bytes) 65536 few, is_text bytes utf8, read)

@@ -1,0 +1,50 @@
+-- What the readers of single keys, of groups of keys and of the whole answer.
+use Rattle.std.specs.Prelude.{◌≡◌, Option, Some, None, Result, Ok, Err, option_map}
+use Rattle.std.specs.Borrow.{Bor}
+use Rattle.toml.specs.Data.{Data}
+use Rattle.toml.specs.View.{view}
+use Rattle.toml.specs.declared.value.Value.{Value}
+use Rattle.manifest.specs.declared.key.Key.{Key}
+use Rattle.manifest.specs.declared.key.Key.TheVariants.{InitNeeds, InitNeed, RunNeeds, RunNeed}
+use Rattle.manifest.specs.declared.key.NeedKey.{NeedKey}
+use Rattle.manifest.specs.declared.stage.Stage.{Stage}
+use Rattle.manifest.specs.declared.stage.Stage.TheVariants.{Init, Run}
+use Rattle.manifest.specs.declared.fault.ManifestFault.{ManifestFault}
+use Rattle.manifest.specs.declared.fault.ManifestFault.TheVariants.{NotToml}
+use Rattle.manifest.specs.declared.fault.ManifestError.{ManifestError}
+use Rattle.manifest.specs.declared.fault.ManifestError.TheVariants.{Fault, OutOfMemory}
+
+-- what a look-up found
+abbrev pub seen : Option (Bor Value) → Option Data
+seen found = option_map (λ v. view v.now) found
+
+abbrev pub section_key : Stage → Key
+section_key Init = InitNeeds
+section_key Run = RunNeeds
+
+abbrev pub need_key : Stage → NeedKey → Key
+need_key Init need = InitNeed need
+need_key Run need = RunNeed need
+
+-- an answer tells the fault, or that there is none and what is meant
+abbrev pub IsJudged : {T : Type 0} → Result T ManifestFault → Option ManifestFault → T → Type 0
+IsJudged (Ok x) fault meant = (fault ≡ None) × (x ≡ meant)
+IsJudged (Err f) fault meant = fault ≡ Some f
+
+-- the same, where memory may be wanting
+abbrev pub IsRead : {T : Type 0} → Result T ManifestError → Option ManifestFault → T → Type 0
+IsRead (Ok x) fault meant = (fault ≡ None) × (x ≡ meant)
+IsRead (Err (Fault f)) fault meant = fault ≡ Some f
+IsRead (Err OutOfMemory) fault meant = Unit {0}
+
+-- an answer is what is meant, where memory may be wanting
+abbrev pub Agrees : {T : Type 0} → Result T ManifestError → Result T ManifestFault → Type 0
+Agrees (Ok x) meant = meant ≡ Ok x
+Agrees (Err (Fault fault)) meant = meant ≡ Err fault
+Agrees (Err OutOfMemory) meant = Unit {0}
+
+-- a text is read as its document, where memory may be wanting
+abbrev pub IsParsed : Result Value ManifestError → Option Data → Type 0
+IsParsed (Ok v) document = document ≡ Some (view v)
+IsParsed (Err (Fault fault)) document = (fault ≡ NotToml) × (document ≡ None)
+IsParsed (Err OutOfMemory) document = Unit {0}

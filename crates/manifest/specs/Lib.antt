@@ -1,0 +1,9 @@
+pub mod Faults
+pub mod Judged
+pub mod Keys
+pub mod KeyTexts
+pub mod Limits
+pub mod Meaning
+pub mod Profiles
+pub mod Tree
+pub mod Values

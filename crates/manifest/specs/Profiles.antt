@@ -1,0 +1,16 @@
+-- The profile of a manifest.
+use Rattle.std.specs.Prelude.{ℕ}
+use Rattle.det_base.specs.Jobs.{number_of_kind}
+use Rattle.det_base.specs.Values.{ProfileValue}
+use Rattle.det_base.specs.declared.format.Format.TheVariants.{Two}
+use Rattle.manifest.specs.Values.{ManifestValue}
+
+abbrev pub profile_of : ManifestValue → ℕ → ProfileValue
+profile_of m seed = record {
+  format = Two;
+  job = number_of_kind m.kind;
+  seed = seed;
+  cycle_time = m.cycle_time;
+  params = m.params;
+  events = m.events;
+}

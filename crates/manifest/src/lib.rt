@@ -1,0 +1,24 @@
+//! Reads a manifest: the TOML text that says from what a client is made, and which resources it needs.
+#![tactic(auto)]
+
+mod events;
+mod fault;
+mod judge;
+mod key;
+mod key_text;
+mod manifest;
+mod needs;
+mod params;
+mod platform_name;
+mod read;
+mod stage;
+#[cfg(test)]
+mod tests;
+
+pub use fault::{ManifestError, ManifestFault};
+pub use key::{Key, NeedKey};
+pub use key_text::KeyText;
+pub use manifest::Manifest;
+pub use needs::Needs;
+pub use platform_name::PlatformName;
+pub use read::read_manifest;

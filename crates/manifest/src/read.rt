@@ -1,0 +1,81 @@
+//! Reads a manifest from its text.
+ghost use Rattle.std.specs.Prelude.{◌≡◌, ◌||◌, Ok, Err, IfOk, IfErr};
+ghost use Rattle.toml.specs.View.{view};
+ghost use Rattle.manifest.specs.Keys.{has};
+ghost use Rattle.manifest.specs.Judged.{IsParsed, Agrees};
+ghost use Rattle.manifest.specs.Meaning.{manifest_in, manifest_of, document_of, IfFault};
+
+use crate::events::{duplicate_event, read_events};
+use crate::judge::{needed_text, number, platform_name};
+use crate::params::read_params;
+use crate::stage::Stage;
+use crate::{Key, Manifest, ManifestError, ManifestFault};
+use det_base::JobKind;
+use std::alloc::Global;
+use toml::Value;
+
+/// Whether a table of needs is there, so that the platform is needed.
+fn has_needs(tree: &Value) -> bool
+    ensures { result ≡ (has (view tree.now) Key.InitNeeds || has (view tree.now) Key.RunNeeds) }
+{
+    tree.get("init_needs").is_some() || tree.get("run_needs").is_some()
+}
+
+#[tactic(auto, using(crate::proofs::Order::first_of_keys))]
+fn read_tree(alloc: Global, tree: &Value) -> Result<Manifest, ManifestError>
+    ensures { Agrees result (manifest_in (view tree.now)) }
+{
+    let job = needed_text(tree.get("job"), Key::Job)?;
+    let time = tree.get("cycle_time_ns");
+    let cycle_time = number(time, Key::CycleTime, 1, i64::MAX as u64)?;
+    let workers = number(tree.get("workers"), Key::Workers, 1, 64)?;
+    let params = read_params(alloc, tree)?;
+    let events = read_events(alloc, tree)?;
+    let platform = platform_name(tree.get("platform"), Key::Platform, has_needs(tree))?;
+    let init_needs = Stage::Init.read_needs(tree)?;
+    let run_needs = Stage::Run.read_needs(tree)?;
+    if let Some(number) = duplicate_event(events.as_slice()) {
+        return Err(ManifestError::Fault(ManifestFault::DuplicateEvent(number)));
+    }
+    match JobKind::of_name(job) {
+        None => Err(ManifestError::Fault(ManifestFault::UnknownJob)),
+        Some(kind) => Ok(Manifest {
+            kind,
+            cycle_time,
+            workers: workers as u32,
+            params,
+            events,
+            platform,
+            init_needs,
+            run_needs,
+        }),
+    }
+}
+
+#[tactic(auto, using(crate::proofs::Texts::of_table))]
+fn parse(alloc: Global, text: &str) -> Result<Value, ManifestError>
+    ensures { IsParsed result (document_of text.now) }
+{
+    match toml::table_from_str(alloc, text) {
+        Ok(table) => Ok(Value::Table(table)),
+        Err(error) if error.is_memory() => Err(ManifestError::OutOfMemory),
+        Err(_) => Err(ManifestError::Fault(ManifestFault::NotToml)),
+    }
+}
+
+/// The manifest that a text of at most 65,536 bytes is, or its first fault. Keys that aren't known are ignored.
+#[tactic(auto, using(crate::proofs::Texts::is_text, crate::proofs::Texts::no_text))]
+pub fn read_manifest(alloc: Global, bytes: &[u8]) -> Result<Manifest, ManifestError>
+    ensures manifest { IfOk result (λ m. manifest_of bytes.now ≡ Ok m) }
+    ensures fault { IfErr result (λ e. IfFault e (λ f. manifest_of bytes.now ≡ Err f)) }
+{
+    if bytes.len() > 65536 {
+        return Err(ManifestError::Fault(ManifestFault::TooLong));
+    }
+    let text = match std::str::from_utf8(bytes) {
+        Ok(text) => text,
+        Err(_) => return Err(ManifestError::Fault(ManifestFault::NotToml)),
+    };
+    let tree = parse(alloc, text)?;
+    read_tree(alloc, &tree)
+}

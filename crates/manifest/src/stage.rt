@@ -1,0 +1,83 @@
+//! The two tables of needs.
+ghost use Rattle.std.specs.Prelude.{◌≡◌, ◌≤◌, true, IfOk};
+ghost use Rattle.std.specs.Option.{ForSome};
+ghost use Rattle.toml.specs.View.{view};
+ghost use Rattle.manifest.specs.Limits.{IsNeeds};
+ghost use Rattle.manifest.specs.Tree.{step, to_member, number_of};
+ghost use Rattle.manifest.specs.Keys.{needs_keys, need_kind, need_word, need_least, need_most, found};
+ghost use Rattle.manifest.specs.Faults.{first_fault, fault_by};
+ghost use Rattle.manifest.specs.Judged.{seen, section_key, need_key, IsJudged};
+ghost use Rattle.manifest.specs.Meaning.{needs_of};
+
+use crate::judge::{member, number, section};
+use crate::{Key, ManifestFault, NeedKey, Needs};
+use toml::Value;
+
+/// What has needs of its own: the initialisation, or a run.
+#[derive(Clone, Copy, Debug, PartialEq, Eq, Drop)]
+pub(crate) enum Stage {
+    Init,
+    Run,
+}
+
+impl Stage {
+    fn section_key(self) -> Key
+        ensures { result ≡ section_key self }
+    {
+        match self {
+            Stage::Init => Key::InitNeeds,
+            Stage::Run => Key::RunNeeds,
+        }
+    }
+
+    fn need_key(self, need: NeedKey) -> Key
+        ensures { result ≡ need_key self need }
+    {
+        match self {
+            Stage::Init => Key::InitNeed(need),
+            Stage::Run => Key::RunNeed(need),
+        }
+    }
+
+    /// What stands where the table belongs.
+    fn section(self, tree: &Value) -> Option<&Value>
+        ensures { seen result ≡ found (view tree.now) (section_key self) }
+    {
+        match self {
+            Stage::Init => tree.get("init_needs"),
+            Stage::Run => tree.get("run_needs"),
+        }
+    }
+
+    /// The number at a key of the table.
+    fn need(self, needs: Option<&Value>, need: NeedKey) -> Result<u64, ManifestFault>
+        ensures judged { IsJudged result (fault_by (need_key self need) true (need_kind need) (step (to_member (need_word need)) (seen needs.entry))) (number_of (step (to_member (need_word need)) (seen needs.entry))) }
+        ensures least { IfOk result (λ n. need_least need ≤ n) }
+        ensures most { IfOk result (λ n. n ≤ need_most need) }
+    {
+        let found = member(needs, need.word());
+        number(found, self.need_key(need), need.least(), need.most())
+    }
+
+    /// The table, where its key is there.
+    #[tactic(auto, using(crate::proofs::NeedKeys::need_found, crate::proofs::NeedKeys::need_fault, crate::proofs::NeedKeys::section_fault))]
+    pub(crate) fn read_needs(self, tree: &Value) -> Result<Option<Needs>, ManifestFault>
+        ensures judged { IsJudged result (first_fault (view tree.now) (needs_keys (section_key self) (need_key self))) (needs_of (view tree.now) (section_key self) (need_key self)) }
+        ensures range { IfOk result (λ needs. ForSome needs IsNeeds) }
+    {
+        let needs = self.section(tree);
+        if !section(needs, self.section_key())? {
+            return Ok(None);
+        }
+        let instructions = self.need(needs, NeedKey::Instructions)?;
+        let sequential_begin = self.need(needs, NeedKey::SequentialBegin)?;
+        let sequential_end = self.need(needs, NeedKey::SequentialEnd)?;
+        let speedup = self.need(needs, NeedKey::Speedup)?;
+        Ok(Some(Needs {
+            instructions,
+            sequential_begin,
+            sequential_end,
+            speedup: speedup as u32,
+        }))
+    }
+}
