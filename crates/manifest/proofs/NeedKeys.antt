@@ -15,7 +15,9 @@ need_found tree Init need = refl
 need_found tree Run need = refl
 
 pub need_fault : (tree : Data) (stage : Stage) (need : NeedKey)
-    → fault_at tree (need_key stage need) ≡ fault_by (need_key stage need) (is_some (found tree (section_key stage))) (need_kind need) (step (to_member (need_word need)) (found tree (section_key stage)))
+    → fault_at tree (need_key stage need)
+    ≡ fault_by (need_key stage need) (is_some (found tree (section_key stage))) (need_kind need)
+    (step (to_member (need_word need)) (found tree (section_key stage)))
 need_fault tree Init need = refl
 need_fault tree Run need = refl
 

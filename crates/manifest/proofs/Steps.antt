@@ -22,7 +22,8 @@ or_or None b c = refl
 or_or (Some x) b c = refl
 
 pub params_fault : (tree : Data) (i n : ℕ) → i < n
-    → first_fault tree (param_keys i (n - i)) ≡ option_or (fault_at tree (Param i)) (first_fault tree (param_keys (i + 1) (n - (i + 1))))
+    → first_fault tree (param_keys i (n - i))
+    ≡ option_or (fault_at tree (Param i)) (first_fault tree (param_keys (i + 1) (n - (i + 1))))
 params_fault tree i n h = rw (one_more i n h)
 
 pub params_value : (tree : Data) (i n : ℕ) → i < n
@@ -35,17 +36,20 @@ pub params_past : (tree : Data) (i n : ℕ) → i < n → fault_at tree (Param i
 params_past tree i n h good = params_fault tree i n h ∙ rw good
 
 -- the parameters so far, and one more
-pub params_more : (tree : Data) (i n : ℕ) (done more : List ℤ) (x : ℤ) → i < n → x ≡ whole_of (found tree (Param i)) → more ≡ done ++ x ∷ []
+pub params_more : (tree : Data) (i n : ℕ) (done more : List ℤ) (x : ℤ)
+    → i < n → x ≡ whole_of (found tree (Param i)) → more ≡ done ++ x ∷ []
     → done ++ params_from tree i (n - i) ≡ more ++ params_from tree (i + 1) (n - (i + 1))
-params_more tree i n done more x h e pushed = rw (pushed, append_assoc, length, take, drop, get_or, bytes_eq, if◌then◌else◌, params_value tree i n h, e)
+params_more tree i n done more x h e pushed = rw (pushed, append_assoc, params_value tree i n h, e)
 
--- the first of some, and then of some more
-pub first_append : (tree : Data) (ks ls : List Key) → first_fault tree (ks ++ ls) ≡ option_or (first_fault tree ks) (first_fault tree ls)
+-- the first fault of some keys and then of more
+pub first_append : (tree : Data) (ks ls : List Key)
+    → first_fault tree (ks ++ ls) ≡ option_or (first_fault tree ks) (first_fault tree ls)
 first_append tree [] ls = refl
 first_append tree (k ∷ ks) ls = ap (option_or (fault_at tree k)) (first_append tree ks ls) ∙ or_or (fault_at tree k) _ _
 
 pub events_fault : (tree : Data) (i n : ℕ) → i < n
-    → first_fault tree (event_keys i (n - i)) ≡ option_or (first_fault tree (event_keys i 1)) (first_fault tree (event_keys (i + 1) (n - (i + 1))))
+    → first_fault tree (event_keys i (n - i))
+    ≡ option_or (first_fault tree (event_keys i 1)) (first_fault tree (event_keys (i + 1) (n - (i + 1))))
 events_fault tree i n h = rw (one_more i n h) (first_append tree (event_keys i 1) (event_keys (i + 1) (n - (i + 1))))
 
 pub events_value : (tree : Data) (i n : ℕ) → i < n
@@ -58,9 +62,10 @@ pub events_past : (tree : Data) (i n : ℕ) → i < n → first_fault tree (even
 events_past tree i n h good = events_fault tree i n h ∙ rw good
 
 -- the events so far, and one more
-pub events_more : (tree : Data) (i n : ℕ) (done more : List EventSpecValue) (x : EventSpecValue) → i < n → x ≡ event_at tree i → more ≡ done ++ x ∷ []
+pub events_more : (tree : Data) (i n : ℕ) (done more : List EventSpecValue) (x : EventSpecValue)
+    → i < n → x ≡ event_at tree i → more ≡ done ++ x ∷ []
     → done ++ events_from tree i (n - i) ≡ more ++ events_from tree (i + 1) (n - (i + 1))
-events_more tree i n done more x h e pushed = rw (pushed, append_assoc, length, take, drop, get_or, bytes_eq, if◌then◌else◌, events_value tree i n h, e)
+events_more tree i n done more x h e pushed = rw (pushed, append_assoc, events_value tree i n h, e)
 
 -- whether an event repeats an earlier one, and those after it
 pub duplicate_step : (events : List EventSpecValue) (i : ℕ) (d : EventSpecValue) → i < length events
@@ -79,5 +84,6 @@ pub no_duplicate : (events : List EventSpecValue) (i : ℕ) (d : EventSpecValue)
 no_duplicate events i d e h other = rw (drop_more events i d h, take_more events i d h, ← e, other)
 
 -- a fact of each event so far, and of one more
-pub all_more : (P : EventSpecValue → Type 0) (done more : List EventSpecValue) (x : EventSpecValue) → All P done → P x → more ≡ done ++ x ∷ [] → All P more
+pub all_more : (P : EventSpecValue → Type 0) (done more : List EventSpecValue) (x : EventSpecValue)
+    → All P done → P x → more ≡ done ++ x ∷ [] → All P more
 all_more P done more x before here pushed = rw pushed (All-append P done (x ∷ []) before (All-cons P x [] here (All-nil P)))

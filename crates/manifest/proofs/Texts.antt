@@ -27,17 +27,20 @@ pub no_text : (bytes : List ℕ) → (IsUtf8 bytes → ⊥) → is_utf8 bytes �
 no_text bytes none = no_text_by (is_utf8 bytes) bytes refl none
 
 -- the two sides of an answer that agrees
-pub agreed_manifest : (r : Result ManifestValue ManifestError) (said meant : Result ManifestValue ManifestFault) → said ≡ meant → Agrees r meant → IfOk r (λ m. said ≡ Ok m)
+pub agreed_manifest : (r : Result ManifestValue ManifestError) (said meant : Result ManifestValue ManifestFault)
+    → said ≡ meant → Agrees r meant → IfOk r (λ m. said ≡ Ok m)
 agreed_manifest (Ok m) said meant same agreed = same ∙ agreed
 agreed_manifest (Err e) said meant same agreed = tt
 
-pub agreed_fault : (r : Result ManifestValue ManifestError) (said meant : Result ManifestValue ManifestFault) → said ≡ meant → Agrees r meant → IfErr r (λ e. IfFault e (λ f. said ≡ Err f))
+pub agreed_fault : (r : Result ManifestValue ManifestError) (said meant : Result ManifestValue ManifestFault)
+    → said ≡ meant → Agrees r meant → IfErr r (λ e. IfFault e (λ f. said ≡ Err f))
 agreed_fault (Ok m) said meant same agreed = tt
 agreed_fault (Err (Fault f)) said meant same agreed = same ∙ agreed
 agreed_fault (Err OutOfMemory) said meant same agreed = tt
 
 -- what a text says is what its tree says
-pub told : (bytes text : List ℕ) (tree : Value) → length bytes ≤ 65536 → IsUtf8 bytes → text ≡ bytes → document_of text ≡ Some (view tree)
+pub told : (bytes text : List ℕ) (tree : Value)
+    → length bytes ≤ 65536 → IsUtf8 bytes → text ≡ bytes → document_of text ≡ Some (view tree)
     → manifest_of bytes ≡ manifest_in (view tree)
 told bytes text tree few utf8 same parsed =
     let read : document_of bytes ≡ Some (view tree) = subst (λ b. document_of b ≡ Some (view tree)) same parsed in

@@ -1,5 +1,5 @@
 -- Places in the tree of a TOML document, and what stands there.
-use Rattle.std.specs.Prelude.{ℕ, suc, ℤ, pos, List, [], ◌∷◌, Option, Some, None, option_and_then}
+use Rattle.std.specs.Prelude.{ℕ, suc, ℤ, pos, List, [], ◌∷◌, Option, Some, option_and_then}
 use Rattle.toml.specs.Data.{Data, string, integer, array, Items, no_items, item, get, at}
 
 -- a step into a tree: to a member of a table, or to an item of an array

@@ -15,7 +15,8 @@ use std::alloc::Global;
 use toml::Value;
 
 fn read_event(tree: &Value, i: u16) -> Result<EventSpec, ManifestFault>
-    ensures judged { IsJudged result (first_fault (view tree.now) (event_keys i 1)) (event_at (view tree.now) i) }
+    ensures judged { IsJudged result (first_fault (view tree.now) (event_keys i 1))
+        (event_at (view tree.now) i) }
     ensures range { IfOk result IsEvent }
 {
     let event = item(tree.get("event"), i);
@@ -33,7 +34,8 @@ fn read_event(tree: &Value, i: u16) -> Result<EventSpec, ManifestFault>
 /// The events, none where the key is absent.
 #[tactic(auto, using(crate::proofs::Steps::events_fault, crate::proofs::Steps::events_value))]
 pub(crate) fn read_events(alloc: Global, tree: &Value) -> Result<Events, ManifestError>
-    ensures read { IsRead result (first_fault (view tree.now) (events_keys (view tree.now))) (events_of (view tree.now)) }
+    ensures read { IsRead result (first_fault (view tree.now) (events_keys (view tree.now)))
+        (events_of (view tree.now)) }
     ensures range { IfOk result (All IsEvent) }
 {
     let count = count(tree.get("event"), Key::Event, 256)?;

@@ -35,7 +35,8 @@ pub(crate) fn item<'t>(parent: Option<&'t Value>, index: u16) -> Option<&'t Valu
 
 /// A text, where the key is there.
 pub(crate) fn text<'t>(found: Option<&'t Value>, key: Key) -> Result<Option<&'t str>, ManifestFault>
-    ensures fault { IfErr result (λ f. (needed : Bool) (fits : List ℕ → Bool) → fault_by key needed (text fits) (seen found.entry) ≡ Some f) }
+    ensures fault { IfErr result (λ f. (needed : Bool) (fits : List ℕ → Bool)
+        → fault_by key needed (text fits) (seen found.entry) ≡ Some f) }
     ensures value { IfOk result (λ t. seen found.entry ≡ option_map (λ s. string s.now) t) }
 {
     match found {
@@ -49,7 +50,8 @@ pub(crate) fn text<'t>(found: Option<&'t Value>, key: Key) -> Result<Option<&'t 
 
 /// A text that is needed.
 pub(crate) fn needed_text<'t>(found: Option<&'t Value>, key: Key) -> Result<&'t str, ManifestFault>
-    ensures fault { IfErr result (λ f. (fits : List ℕ → Bool) → fault_by key true (text fits) (seen found.entry) ≡ Some f) }
+    ensures fault { IfErr result (λ f. (fits : List ℕ → Bool)
+        → fault_by key true (text fits) (seen found.entry) ≡ Some f) }
     ensures value { IfOk result (λ t. seen found.entry ≡ Some (string t.now)) }
 {
     match text(found, key)? {
@@ -60,7 +62,8 @@ pub(crate) fn needed_text<'t>(found: Option<&'t Value>, key: Key) -> Result<&'t 
 
 /// The name of an event, which is needed.
 pub(crate) fn event_name(found: Option<&Value>, key: Key) -> Result<EventName, ManifestFault>
-    ensures judged { IsJudged result (fault_by key true (text is_event_name) (seen found.entry)) (text_of (seen found.entry)) }
+    ensures judged { IsJudged result (fault_by key true (text is_event_name) (seen found.entry))
+        (text_of (seen found.entry)) }
     ensures name { IfOk result (λ n. is_event_name n ≡ true) }
 {
     match EventName::of(needed_text(found, key)?.as_bytes()) {
@@ -71,7 +74,8 @@ pub(crate) fn event_name(found: Option<&Value>, key: Key) -> Result<EventName, M
 
 /// A policy, Last where the key is absent.
 pub(crate) fn policy(found: Option<&Value>, key: Key) -> Result<Policy, ManifestFault>
-    ensures { IsJudged result (fault_by key false (text is_policy) (seen found.entry)) (policy_of (text_of (seen found.entry))) }
+    ensures { IsJudged result (fault_by key false (text is_policy) (seen found.entry))
+        (policy_of (text_of (seen found.entry))) }
 {
     match text(found, key)? {
         None | Some("last") => Ok(Policy::Last),
@@ -86,7 +90,8 @@ pub(crate) fn platform_name(
     key: Key,
     needed: bool,
 ) -> Result<Option<PlatformName>, ManifestFault>
-    ensures { IsJudged result (fault_by key needed (text is_platform_name) (seen found.entry)) (option_map (λ d. text_of (Some d)) (seen found.entry)) }
+    ensures { IsJudged result (fault_by key needed (text is_platform_name) (seen found.entry))
+        (option_map (λ d. text_of (Some d)) (seen found.entry)) }
 {
     match text(found, key)? {
         None if needed => Err(ManifestFault::Missing(key)),
@@ -100,9 +105,11 @@ pub(crate) fn platform_name(
 
 /// A whole number that is needed.
 pub(crate) fn whole(found: Option<&Value>, key: Key) -> Result<i64, ManifestFault>
-    ensures judged { IsJudged result (fault_by key true any_whole (seen found.entry)) (whole_of (seen found.entry)) }
+    ensures judged { IsJudged result (fault_by key true any_whole (seen found.entry))
+        (whole_of (seen found.entry)) }
     ensures is_whole { IfOk result (λ z. seen found.entry ≡ Some (integer z)) }
-    ensures fault { IfErr result (λ f. (least : ℕ) (most : ℕ) → fault_by key true (whole least most) (seen found.entry) ≡ Some f) }
+    ensures fault { IfErr result (λ f. (least : ℕ) (most : ℕ)
+        → fault_by key true (whole least most) (seen found.entry) ≡ Some f) }
 {
     match found {
         None => Err(ManifestFault::Missing(key)),
@@ -120,7 +127,8 @@ pub(crate) fn number(
     least: u64,
     most: u64,
 ) -> Result<u64, ManifestFault>
-    ensures judged { IsJudged result (fault_by key true (whole least most) (seen found.entry)) (number_of (seen found.entry)) }
+    ensures judged { IsJudged result (fault_by key true (whole least most) (seen found.entry))
+        (number_of (seen found.entry)) }
     ensures least { IfOk result (λ n. least ≤ n) }
     ensures most { IfOk result (λ n. n ≤ most) }
 {
@@ -133,7 +141,8 @@ pub(crate) fn number(
 /// The number of items of an array, 0 where the key is absent.
 #[tactic(auto, using(crate::proofs::Lengths::length_of_view))]
 pub(crate) fn count(found: Option<&Value>, key: Key, most: u16) -> Result<u16, ManifestFault>
-    ensures judged { IsJudged result (fault_by key false (array_up_to most) (seen found.entry)) (count_of (seen found.entry)) }
+    ensures judged { IsJudged result (fault_by key false (array_up_to most) (seen found.entry))
+        (count_of (seen found.entry)) }
     ensures most { IfOk result (λ n. n ≤ most) }
 {
     match found {

@@ -15,7 +15,8 @@ use toml::Value;
 /// The parameters, none where the key is absent.
 #[tactic(auto, using(crate::proofs::Steps::params_fault, crate::proofs::Steps::params_value))]
 pub(crate) fn read_params(alloc: Global, tree: &Value) -> Result<Params, ManifestError>
-    ensures { IsRead result (first_fault (view tree.now) (params_keys (view tree.now))) (params_of (view tree.now)) }
+    ensures { IsRead result (first_fault (view tree.now) (params_keys (view tree.now)))
+        (params_of (view tree.now)) }
 {
     let list = tree.get("params");
     let count = count(list, Key::Params, 16)?;
