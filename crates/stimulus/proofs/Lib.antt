@@ -1,0 +1,10 @@
+pub mod Numbers
+pub mod Parts
+pub mod Going
+pub mod Within
+pub mod Counting
+pub mod Standing
+pub mod Taking
+pub mod Growing
+pub mod Making
+pub mod Spelling

@@ -1,0 +1,10 @@
+pub mod Numbers
+pub mod Lines
+pub mod Places
+pub mod Reading
+pub mod Limits
+pub mod States
+pub mod FirstLine
+pub mod StandsFor
+pub mod Steps
+pub mod Made

@@ -1,0 +1,51 @@
+-- A reader's state: the place at which it is, and what it has still to give.
+use Rattle.std.specs.Prelude.{◌≡◌, ℕ, ◌+◌, ◌*◌, ◌≤◌, List, [], ◌∷◌, length, None}
+use Rattle.stimulus.specs.declared.line.Line.{Line}
+use Rattle.stimulus.specs.declared.state.State.{State}
+use Rattle.stimulus.specs.declared.state.State.TheVariants as states
+use Rattle.stimulus.specs.declared.state.Taken.{Taken}
+use Rattle.stimulus.specs.declared.state.Taken.TheVariants as answers
+use Rattle.stimulus.specs.declared.item.StimItem.{StimItem}
+use Rattle.stimulus.specs.declared.item.StimItem.TheVariants as items
+use Rattle.stimulus.specs.Places.{Place, First, Between, Inside, Ended, step, taken}
+
+abbrev pub place_of : State → Place
+place_of states.First = First
+place_of states.Between = Between
+place_of (states.Inside blocks input) = Inside blocks input
+place_of states.Last = Ended
+place_of states.Ended = Ended
+
+-- the item that a line has completed and that is still to be given
+abbrev pub owed : State → List StimItem
+owed states.Last = items.Terminate ∷ []
+owed _ = []
+
+abbrev pub TakenIs : Taken → State → Line → Type 0
+TakenIs (answers.Line s) state line = (taken (place_of state) line ≡ step [] (place_of s)) × (owed s ≡ [])
+TakenIs (answers.Item item s) state line = taken (place_of state) line ≡ step (item ∷ owed s) (place_of s)
+TakenIs answers.Bad state line = taken (place_of state) line ≡ None
+TakenIs (answers.OutOfMemory s) state line = s ≡ state
+
+-- how many lines can have been read in a state
+abbrev pub most_lines : State → ℕ
+most_lines states.First = 0
+most_lines states.Between = 1
+most_lines (states.Inside blocks input) = 4097 * blocks + length input.samples
+most_lines states.Last = 4097 * 1000001
+most_lines states.Ended = 4097 * 1000001
+
+-- no stimulus has more lines
+abbrev pub all_lines : ℕ
+all_lines = 4097 * 1000001
+
+-- and no block begins or goes on after more
+abbrev pub limit_of : State → ℕ
+limit_of (states.Inside blocks input) = 4097 * 1000000 + 4096
+limit_of _ = all_lines
+
+abbrev pub Counts : Taken → State → Type 0
+Counts (answers.Line s) state = most_lines state ≤ limit_of state → (most_lines state + 1 ≤ most_lines s) × (most_lines s ≤ limit_of s)
+Counts (answers.Item item s) state = most_lines state ≤ limit_of state → (most_lines state + 1 ≤ most_lines s) × (most_lines s ≤ limit_of s)
+Counts answers.Bad state = Unit {0}
+Counts (answers.OutOfMemory s) state = Unit {0}

@@ -1,0 +1,22 @@
+//! What a reader gives.
+use det_base::CycleInput;
+
+/// A complete block, or the end of the stimulus.
+#[derive(Debug, PartialEq, Drop)]
+pub enum StimItem {
+    Cycle(CycleInput),
+    Terminate,
+}
+
+/// The first line with which no continuation makes a stimulus. Lines are counted from 1.
+#[derive(Clone, Copy, Debug, PartialEq, Eq, Drop)]
+pub struct StimFault {
+    pub line: u64,
+}
+
+/// Why a reader gives nothing more.
+#[derive(Clone, Copy, Debug, PartialEq, Eq, Drop)]
+pub enum StimError {
+    Bad(StimFault),
+    OutOfMemory,
+}

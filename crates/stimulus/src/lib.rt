@@ -1,0 +1,18 @@
+//! The stimulus: a text that gives the time and the samples of each cycle, read in pieces.
+#![tactic(auto)]
+
+mod first_line;
+mod item;
+pub mod laws;
+mod line;
+mod made;
+mod number;
+mod reader;
+mod state;
+
+pub use item::{StimError, StimFault, StimItem};
+pub use made::made_stimulus;
+pub use reader::StimReader;
+
+#[cfg(test)]
+mod tests;

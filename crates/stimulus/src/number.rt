@@ -1,0 +1,63 @@
+//! Decimal numbers: no leading zero, no plus sign, no `-0`.
+ghost use Rattle.std.specs.Prelude.{◌≡◌, ◌≤◌, ◌<◌, ◌^◌, length, IfSome};
+ghost use Rattle.det_base.specs.Limits.{IsSampleValue};
+ghost use Rattle.stimulus.specs.Numbers.{number, number_after, below, value_of};
+
+/// One more than the greatest magnitude of a sample's value.
+const MAGNITUDES: u128 = 1_000_000_000_001;
+
+/// The number that the bytes write, where it is below the limit.
+#[tactic(auto, using(crate::proofs::Numbers::number_empty, crate::proofs::Numbers::number_one, crate::proofs::Numbers::number_none, crate::proofs::Numbers::number_long))]
+pub fn number_below(limit: u128, bytes: &[u8]) -> Option<u64>
+    requires { limit ≤ 2 ^ 64 }
+    ensures { result ≡ below limit (number bytes.now) }
+{
+    match bytes.len() {
+        0 => None,
+        1 => digits_below(limit, bytes),
+        _ if bytes[0] == b'0' => None,
+        _ => digits_below(limit, bytes),
+    }
+}
+
+/// The number that one or more digits write, where it is below the limit.
+fn digits_below(limit: u128, bytes: &[u8]) -> Option<u64>
+    requires limit { limit ≤ 2 ^ 64 }
+    requires some { 0 < length bytes.now }
+    ensures { result ≡ below limit (number_after 0 bytes.now) }
+{
+    let mut value: u64 = 0;
+    for read in 0..bytes.len() {
+        let digit = bytes[read];
+        if digit < b'0' {
+            return None;
+        }
+        if digit > b'9' {
+            return None;
+        }
+        let next = value as u128 * 10 + (digit - b'0') as u128;
+        if next >= limit {
+            return None;
+        }
+        value = next as u64;
+    }
+    Some(value)
+}
+
+/// A sample's value: from minus 10^12 to 10^12.
+#[tactic(auto, unfolding(crate::specs::Numbers::value_of))]
+pub fn sample_value(bytes: &[u8]) -> Option<i64>
+    ensures value { result ≡ value_of bytes.now }
+    ensures within { IfSome result (λ value. IsSampleValue value) }
+{
+    match bytes.strip_prefix(b"-".as_slice()) {
+        Some(digits) => match number_below(MAGNITUDES, digits) {
+            None | Some(0) => None,
+            Some(magnitude) => Some(-(magnitude as i64)),
+        },
+        None => match number_below(MAGNITUDES, bytes) {
+            None => None,
+            Some(magnitude) => Some(magnitude as i64),
+        },
+    }
+}

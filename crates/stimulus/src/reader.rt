@@ -1,0 +1,239 @@
+//! A stimulus that comes in pieces.
+ghost use Rattle.std.specs.Prelude.{◌≡◌, ◌≤◌, ◌<◌, ◌+◌, ◌*◌, drop, length, true};
+ghost use Rattle.std.specs.Option.{ForSome};
+ghost use Rattle.std.specs.Vec.{vec_len};
+ghost use Rattle.stimulus.specs.States.{most_lines, limit_of};
+
+use crate::first_line::{FirstLine, first_line};
+use crate::item::{StimError, StimFault, StimItem};
+use crate::line::{Line, parse_line};
+use crate::state::{State, Taken, take_line};
+use det_base::OutOfMemory;
+use std::alloc::Global;
+use std::mem;
+
+/// Gives the blocks of a stimulus whose bytes are fed in any pieces.
+#[derive(Drop)]
+pub struct StimReader {
+    alloc: Global,
+    events: u16,
+    /// Bytes that were fed, the first of which were read already.
+    pending: Vec<u8>,
+    read: usize,
+    /// How many good lines were read.
+    lines: u64,
+    state: State,
+    fault: Option<StimFault>,
+    /// Nothing was fed since `next_cycle` answered that it has no more.
+    settled: bool,
+    ghost in_range: { read ≤ vec_len pending },
+    ghost few: { lines ≤ most_lines state },
+    ghost countable: { most_lines state ≤ limit_of state },
+    ghost stuck: { ForSome fault (λ line. settled ≡ true) },
+}
+
+/// What looking at one line came to.
+enum Progress {
+    Item(StimItem),
+    Line,
+    Open,
+}
+
+impl StimReader {
+    ghost use Rattle.std.specs.Prelude.{ℕ, ◌-◌, List, [], ◌++◌, IsTrue, ◌↔◌, OnOk, OnErr};
+    ghost use Rattle.stimulus.specs.declared.item.StimItem.{StimItem};
+    ghost use Rattle.stimulus.specs.StandsFor.{StandsFor, NextIs, FinishIs, IsSettled, Settles, Falls, waiting, room, left};
+    ghost use Rattle.stimulus.specs.Steps.{LineIs, Shrinks, OpenSettles, TookIs, BadIs, IsPastEnd, IsLast};
+
+    /// A reader for a profile with so many events. It takes no memory.
+    pub fn new(alloc: Global, events: u16) -> StimReader
+        ensures stands { StandsFor result [] [] }
+        ensures events { result.events ≡ events }
+    {
+        StimReader {
+            alloc,
+            events,
+            pending: Vec::new(alloc),
+            read: 0,
+            lines: 0,
+            state: State::First,
+            fault: None,
+            settled: false,
+        }
+    }
+
+    /// Takes the next bytes of the text. A refused call changes nothing. Once a bad line was answered, bytes are
+    /// dropped.
+    pub fn feed(&mut self, piece: &[u8]) -> Result<(), OutOfMemory>
+        ensures events { self.new.events ≡ self.old.events }
+        ensures ok { OnOk result ((bytes : List ℕ) (given : List StimItem) → StandsFor self.old bytes given → StandsFor self.new (bytes ++ piece.now) given) }
+        ensures err { OnErr result ((bytes : List ℕ) (given : List StimItem) → StandsFor self.old bytes given → StandsFor self.new bytes given) }
+        ensures room { OnOk result (room self.new ≡ room self.old - length piece.now) }
+    {
+        if let Some(_) = self.fault {
+            return Ok(());
+        }
+        self.settled = false;
+        let read = self.read;
+        self.read = drop_read(&mut self.pending, read);
+        match self.pending.extend_from_slice(piece) {
+            Ok(()) => Ok(()),
+            Err(_) => Err(OutOfMemory),
+        }
+    }
+
+    /// The next complete block, or `Terminate`. None where more bytes are needed. A bad line is answered again by
+    /// every later call. After `OutOfMemory` the reader is as before.
+    pub fn next_cycle(&mut self) -> Result<Option<StimItem>, StimError>
+        ensures events { self.new.events ≡ self.old.events }
+        ensures settles { Settles result self.new }
+        ensures falls { Falls result self.old self.new }
+        ensures room { room self.new ≤ room self.old }
+        ensures next { (bytes : List ℕ) (given : List StimItem) → StandsFor self.old bytes given → NextIs result self.new bytes given }
+    {
+        loop {
+            match self.read_line() {
+                Ok(Progress::Line) => (),
+                Ok(Progress::Item(item)) => return Ok(Some(item)),
+                Ok(Progress::Open) => return Ok(None),
+                Err(error) => return Err(error),
+            }
+        }
+    }
+
+    /// Whether the text that was fed is a whole stimulus, if no more bytes come.
+    pub fn finish(&self) -> Result<(), StimFault>
+        requires { IsSettled self.now }
+        ensures { (bytes : List ℕ) (given : List StimItem) → StandsFor self.now bytes given → FinishIs result self.now.events bytes }
+    {
+        if let Some(fault) = self.fault {
+            return Err(fault);
+        }
+        if self.is_at_end() {
+            return Ok(());
+        }
+        Err(StimFault {
+            line: self.lines + 1,
+        })
+    }
+
+    /// Gives what is still to be given, or looks at the next line.
+    fn read_line(&mut self) -> Result<Progress, StimError>
+        ensures events { self.new.events ≡ self.old.events }
+        ensures settles { OpenSettles result self.new }
+        ensures shrinks { Shrinks result self.old self.new }
+        ensures room { room self.new ≤ room self.old }
+        ensures line { (bytes : List ℕ) (given : List StimItem) → StandsFor self.old bytes given → LineIs result self.new bytes given }
+    {
+        if let Some(fault) = self.fault {
+            return Err(StimError::Bad(fault));
+        }
+        if self.is_last() {
+            self.state = State::Ended;
+            return Ok(Progress::Item(StimItem::Terminate));
+        }
+        let bytes = rest_of(&self.pending, self.read);
+        match first_line(bytes) {
+            FirstLine::TooLong => Err(self.bad_line()),
+            FirstLine::Open => {
+                if self.is_past_end() {
+                    return Err(self.bad_line());
+                }
+                self.settled = true;
+                Ok(Progress::Open)
+            }
+            FirstLine::Whole(end) => match parse_line(self.events, &bytes[..end]) {
+                None => Err(self.bad_line()),
+                Some(line) => self.take(line, end + 1),
+            },
+        }
+    }
+
+    /// Takes a line that is spelled well, of so many bytes with its LF.
+    fn take(&mut self, line: Line, len: usize) -> Result<Progress, StimError>
+        requires some { 0 < len }
+        requires within { self.old.read + len ≤ vec_len self.old.pending }
+        ensures taken { TookIs result line len self.old self.new }
+    {
+        let state = mem::replace(&mut self.state, State::Ended);
+        match take_line(self.alloc, state, line) {
+            Taken::Line(state) => {
+                self.state = state;
+                self.read += len;
+                self.lines += 1;
+                Ok(Progress::Line)
+            }
+            Taken::Item(item, state) => {
+                self.state = state;
+                self.read += len;
+                self.lines += 1;
+                Ok(Progress::Item(item))
+            }
+            Taken::Bad => Err(self.bad_line()),
+            Taken::OutOfMemory(state) => {
+                self.state = state;
+                Err(StimError::OutOfMemory)
+            }
+        }
+    }
+
+    /// Remembers that the next line is bad.
+    fn bad_line(&mut self) -> StimError
+        ensures { BadIs result self.old self.new }
+    {
+        let fault = StimFault {
+            line: self.lines + 1,
+        };
+        self.fault = Some(fault);
+        self.settled = true;
+        StimError::Bad(fault)
+    }
+
+    /// Whether `Terminate` is still to be given.
+    fn is_last(&self) -> bool
+        ensures { IsTrue result ↔ IsLast self.now.state }
+    {
+        matches!(self.state, State::Last)
+    }
+
+    /// Whether `Terminate` was given, and no byte is left.
+    fn is_at_end(&self) -> bool
+        ensures { IsTrue result ↔ ((self.now.state ≡ State.Ended) × (length (left self.now) ≡ 0)) }
+    {
+        match self.state {
+            State::Ended => self.read == self.pending.len(),
+            _ => false,
+        }
+    }
+
+    /// Whether bytes are left behind the line `terminate`.
+    fn is_past_end(&self) -> bool
+        ensures { IsTrue result ↔ IsPastEnd self.now.state (left self.now) }
+    {
+        match self.state {
+            State::Ended => self.read < self.pending.len(),
+            _ => false,
+        }
+    }
+}
+
+fn rest_of(bytes: &[u8], read: usize) -> &[u8]
+    requires { read ≤ length bytes.now }
+    ensures { result.now ≡ drop read bytes.now }
+{
+    bytes.split_at(read).1
+}
+
+/// Removes the first bytes, which were read, once they are no fewer than the others: so no byte is moved twice as
+/// often as one is read. Answers how many of the bytes that stay were read.
+fn drop_read(bytes: &mut Vec<u8>, read: usize) -> usize
+    requires { read ≤ vec_len bytes.old }
+    ensures within { result ≤ vec_len bytes.new }
+    ensures rest { drop result bytes.new.items ≡ drop read bytes.old.items }
+{
+    if read < bytes.len() - read {
+        return read;
+    }
+    bytes.drain(..read);
+    0
+}

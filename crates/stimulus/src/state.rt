@@ -1,0 +1,96 @@
+//! Where a reader is, and which lines lead on from there.
+ghost use Rattle.std.specs.Prelude.{◌≡◌};
+ghost use Rattle.stimulus.specs.Places.{begun};
+ghost use Rattle.stimulus.specs.States.{TakenIs, Counts};
+
+use crate::item::StimItem;
+use crate::line::Line;
+use det_base::{CycleInput, Samples};
+use std::alloc::Global;
+
+const MAX_BLOCKS: u32 = 1_000_000;
+
+/// Where a reader is.
+#[derive(Drop)]
+pub enum State {
+    /// Nothing was read.
+    First,
+    /// The first line was read, and nothing else.
+    Between,
+    /// The last of so many blocks isn't complete. This much of it was read.
+    Inside { blocks: u32, input: CycleInput },
+    /// The line `terminate` was read and the block before it given. `Terminate` is still to be given.
+    Last,
+    /// All was given.
+    Ended,
+}
+
+/// What a line leads to.
+#[derive(Drop)]
+pub enum Taken {
+    /// Nothing is complete yet.
+    Line(State),
+    Item(StimItem, State),
+    Bad,
+    OutOfMemory(State),
+}
+
+fn begin(alloc: Global, blocks: u32, time: Option<u64>) -> State
+    ensures { result ≡ State.Inside blocks (begun time) }
+{
+    State::Inside {
+        blocks,
+        input: CycleInput {
+            time,
+            samples: Samples::new(alloc),
+        },
+    }
+}
+
+fn take_inside(alloc: Global, blocks: u32, block: CycleInput, line: Line) -> Taken
+    ensures taken { TakenIs result (State.Inside blocks block) line }
+    ensures counts { Counts result (State.Inside blocks block) }
+{
+    match line {
+        Line::Stim => Taken::Bad,
+        Line::Cycle(time) => {
+            if blocks >= MAX_BLOCKS {
+                return Taken::Bad;
+            }
+            let next = begin(alloc, blocks + 1, time);
+            Taken::Item(StimItem::Cycle(block), next)
+        }
+        Line::Sample(sample) => {
+            let mut input = block;
+            if input.samples.is_full() {
+                return Taken::Bad;
+            }
+            match input.samples.push(sample) {
+                Ok(()) => Taken::Line(State::Inside { blocks, input }),
+                Err(_) => Taken::OutOfMemory(State::Inside { blocks, input }),
+            }
+        }
+        Line::Terminate => Taken::Item(StimItem::Cycle(block), State::Last),
+    }
+}
+
+/// Takes a line where a reader is.
+pub fn take_line(alloc: Global, state: State, line: Line) -> Taken
+    ensures taken { TakenIs result state line }
+    ensures counts { Counts result state }
+{
+    match state {
+        State::First => match line {
+            Line::Stim => Taken::Line(State::Between),
+            _ => Taken::Bad,
+        },
+        State::Between => match line {
+            Line::Cycle(time) => Taken::Line(begin(alloc, 1, time)),
+            Line::Terminate => Taken::Item(StimItem::Terminate, State::Ended),
+            _ => Taken::Bad,
+        },
+        State::Inside { blocks, input } => take_inside(alloc, blocks, input, line),
+        State::Last => Taken::Bad,
+        State::Ended => Taken::Bad,
+    }
+}
