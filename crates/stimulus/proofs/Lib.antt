@@ -8,3 +8,7 @@ pub mod Taking
 pub mod Growing
 pub mod Making
 pub mod Spelling
+pub mod Signed
+pub mod Writing
+pub mod Places
+pub mod Heads

@@ -16,7 +16,7 @@ use Rattle.stimulus.specs.declared.item.StimItem.TheVariants as items
 use Rattle.stimulus.specs.Numbers.{number, below, as_positive, as_negative, value_of}
 use Rattle.stimulus.specs.Lines.{timed, cycle_line, sampled, sample_words, sample_line, line_of}
 use Rattle.stimulus.specs.Places.{Place, First, Between, Inside, Ended, Step, step, begun, with_sample, taken}
-use Rattle.stimulus.specs.Limits.{IsSample, IsInput, IsItem}
+use Rattle.stimulus.specs.Limits.{IsSample, IsLine, IsInput, IsItem}
 use Rattle.stimulus.specs.Reading.{Reading, reading, reading_from, parts, at_end, taken_if, taken_at, go_on}
 use Rattle.stimulus.proofs.Going.{open_items}
 
@@ -28,13 +28,7 @@ abbrev IfValue : Option ℤ → Type 0
 IfValue None = Unit {0}
 IfValue (Some v) = IsSampleValue v
 
-abbrev IsLine : ℕ → Line → Type 0
-IsLine events lines.Stim = Unit {0}
-IsLine events (lines.Cycle time) = Unit {0}
-IsLine events (lines.Sample s) = IsSample events s
-IsLine events lines.Terminate = Unit {0}
-
-abbrev IfLine : ℕ → Option Line → Type 0
+abbrev pub IfLine : ℕ → Option Line → Type 0
 IfLine events None = Unit {0}
 IfLine events (Some l) = IsLine events l
 
@@ -68,17 +62,17 @@ words_within events words None = tt
 words_within events words (Some space) =
     sampled_within events (below events (number (take space words))) (value_of (drop (space + 1) words)) (number_below events (number (take space words))) (value_within (drop (space + 1) words))
 
-timed_within : (events : ℕ) (o : Option ℕ) → IfLine events (timed o)
-timed_within events None = tt
-timed_within events (Some t) = tt
+timed_within : (events : ℕ) (o : Option ℕ) → IfNumber (2 ^ 64) o → IfLine events (timed o)
+timed_within events None h = tt
+timed_within events (Some t) h = h
 
 cycle_within : (events : ℕ) (time : List ℕ) → IfLine events (cycle_line time)
 cycle_within events time = elim (bytes_eq time (codes "-")) as (λ t. IfLine events (cond t (Some (lines.Cycle None)) (timed (below (2 ^ 64) (number time))))) [
   | true ↦ tt
-  | false ↦ timed_within events (below (2 ^ 64) (number time))
+  | false ↦ timed_within events (below (2 ^ 64) (number time)) (number_below (2 ^ 64) (number time))
 ]
 
-line_within : (events : ℕ) (line : List ℕ) → IfLine events (line_of events line)
+pub line_within : (events : ℕ) (line : List ℕ) → IfLine events (line_of events line)
 unfolding line_of
 line_within events line =
     let prefixed : Option Line = cond (bytes_eq (take 7 line) (codes "sample ")) (sample_line events (drop 7 line)) None in

@@ -8,3 +8,4 @@ pub mod FirstLine
 pub mod StandsFor
 pub mod Steps
 pub mod Made
+pub mod Good

@@ -1,9 +1,11 @@
 -- What the inputs of a stimulus keep to.
-use Rattle.std.specs.Prelude.{ℕ, ◌<◌, ◌≤◌, length}
+use Rattle.std.specs.Prelude.{ℕ, ◌^◌, ◌<◌, ◌≤◌, length, Some, None}
 use Rattle.std.specs.List.{All}
 use Rattle.det_base.specs.Values.{SampleValue}
 use Rattle.det_base.specs.Limits.{IsSampleValue}
 use Rattle.det_base.specs.declared.frames.CycleInput.{CycleInput}
+use Rattle.stimulus.specs.declared.line.Line.{Line}
+use Rattle.stimulus.specs.declared.line.Line.TheVariants as lines
 use Rattle.stimulus.specs.declared.item.StimItem.{StimItem}
 use Rattle.stimulus.specs.declared.item.StimItem.TheVariants as items
 
@@ -12,6 +14,15 @@ pub record IsSample (events : ℕ) (s : SampleValue) : Type 0 where
   pub event : s.event < events
   pub value : IsSampleValue s.value
 
+-- what a line may say
+abbrev pub IsLine : ℕ → Line → Type 0
+IsLine events lines.Stim = Unit {0}
+IsLine events (lines.Cycle None) = Unit {0}
+IsLine events (lines.Cycle (Some time)) = time < 2 ^ 64
+IsLine events (lines.Sample s) = IsSample events s
+IsLine events lines.Terminate = Unit {0}
+
+-- at most 4,096 samples
 pub record IsInput (events : ℕ) (input : CycleInput) : Type 0 where
   pub few : length input.samples ≤ 4096
   pub samples : All (IsSample events) input.samples

@@ -1,16 +1,25 @@
 //! Laws of the definitions that the contracts cite.
-ghost use Rattle.std.specs.Prelude.{◌≡◌, ℕ, ◌^◌, ◌<◌, ◌≤◌, List, ◌++◌, length, Some, true};
+ghost use Rattle.std.specs.Prelude.{◌≡◌, ℕ, ◌^◌, ◌<◌, ◌≤◌, List, ◌++◌, length, ℤ, Some, true};
 ghost use Rattle.std.specs.List.{All};
-ghost use Rattle.std.specs.Fmt.{decimal};
+ghost use Rattle.std.specs.Fmt.{decimal, signed_decimal};
 ghost use Rattle.det_base.specs.declared.frames.CycleInput.{CycleInput};
-ghost use Rattle.stimulus.specs.Limits.{IsInput};
-ghost use Rattle.stimulus.specs.Numbers.{number};
+ghost use Rattle.stimulus.specs.Limits.{IsInput, IsLine};
+ghost use Rattle.stimulus.specs.Numbers.{number, value_of};
+ghost use Rattle.stimulus.specs.Lines.{line_of, spelling};
+ghost use Rattle.stimulus.specs.declared.line.Line.{Line};
+ghost use Rattle.det_base.specs.Limits.{IsSampleValue};
+ghost use Rattle.stimulus.specs.Good.{IsHead};
 ghost use Rattle.stimulus.specs.Reading.{reading, blocks, has_bad};
 
-/// A number has exactly one spelling, that of `Display`.
+/// A number, a sample's value and a line have exactly one spelling each. Numbers and values are spelled as `Display`
+/// spells them.
 pub fn one_spelling()
-    ensures written { (n : ℕ) → n < 2 ^ 64 → number (decimal n) ≡ Some n }
-    ensures only { (bytes : List ℕ) (n : ℕ) → number bytes ≡ Some n → n < 2 ^ 64 → bytes ≡ decimal n }
+    ensures number { (n : ℕ) → n < 2 ^ 64 → number (decimal n) ≡ Some n }
+    ensures only_number { (bytes : List ℕ) (n : ℕ) → number bytes ≡ Some n → n < 2 ^ 64 → bytes ≡ decimal n }
+    ensures value { (v : ℤ) → IsSampleValue v → value_of (signed_decimal v) ≡ Some v }
+    ensures only_value { (bytes : List ℕ) (v : ℤ) → value_of bytes ≡ Some v → bytes ≡ signed_decimal v }
+    ensures line { (events : ℕ) (l : Line) → events ≤ 2 ^ 16 → IsLine events l → line_of events (spelling l) ≡ Some l }
+    ensures only_line { (events : ℕ) (bytes : List ℕ) (l : Line) → events ≤ 2 ^ 16 → line_of events bytes ≡ Some l → (bytes ≡ spelling l) × IsLine events l }
 {}
 
 /// More text only adds blocks, and mends no bad line that was fed.
@@ -23,4 +32,10 @@ pub fn more_text()
 pub fn limits()
     ensures few { (events : ℕ) (text : List ℕ) → length (blocks events text) ≤ 1000000 }
     ensures inputs { (events : ℕ) (text : List ℕ) → All (IsInput events) (blocks events text) }
+{}
+
+/// `head`, `blocks`, `ending` and `has_bad` are what the table of lines says: the longest list of good whole lines, the
+/// inputs of its complete blocks, the bad line or the end, and whether the line after them counts as fed.
+pub fn longest_head()
+    ensures { (events : ℕ) (text : List ℕ) → IsHead events text }
 {}

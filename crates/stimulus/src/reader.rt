@@ -112,9 +112,7 @@ impl StimReader {
         if self.is_at_end() {
             return Ok(());
         }
-        Err(StimFault {
-            line: self.lines + 1,
-        })
+        Err(self.next_fault())
     }
 
     /// Gives what is still to be given, or looks at the next line.
@@ -177,13 +175,20 @@ impl StimReader {
         }
     }
 
+    /// The fault that the next line would be.
+    fn next_fault(&self) -> StimFault
+        ensures { result.line ≡ self.now.lines + 1 }
+    {
+        StimFault {
+            line: self.lines + 1,
+        }
+    }
+
     /// Remembers that the next line is bad.
     fn bad_line(&mut self) -> StimError
         ensures { BadIs result self.old self.new }
     {
-        let fault = StimFault {
-            line: self.lines + 1,
-        };
+        let fault = self.next_fault();
         self.fault = Some(fault);
         self.settled = true;
         StimError::Bad(fault)
