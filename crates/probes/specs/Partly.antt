@@ -1,0 +1,13 @@
+-- Reports while a run is being shown.
+use Rattle.std.specs.Prelude.{ℕ, ◌+◌, List, ◌∷◌, ◌++◌, map, take, drop}
+use Rattle.std.specs.Option.{option_map}
+use Rattle.det_base.specs.declared.frames.RunFrame.{RunFrame}
+use Rattle.probes.specs.Reports.{ProbeLife, Report, told_after}
+
+-- the same report, where one run more stands in front
+abbrev pub later : Report → Report
+later r = record r { before = option_map (λ n. n + 1) r.before }
+
+-- the first ones of these saw the run and stayed, and the others didn't see it yet
+unfoldable pub partly : RunFrame → List RunFrame → ℕ → List ProbeLife → List Report
+partly run runs at ps = map later (map (told_after runs) (take at ps)) ++ map (told_after (run ∷ runs)) (drop at ps)

@@ -1,0 +1,59 @@
+-- What probes report, and in which order.
+use Rattle.std.specs.Prelude.{◌≡◌, ℕ, ◌+◌, List, [], ◌∷◌, ◌++◌, map, nat_eq, Option, Some, None, if◌then◌else◌}
+use Rattle.std.specs.Option.{option_map}
+use Rattle.det_base.specs.declared.frames.RunFrame.{RunFrame}
+use Rattle.probes.specs.declared.probe.Wish.{Wish}
+use Rattle.probes.specs.declared.probe.Wish.TheVariants.{Stay, Leave}
+
+-- what a probe reports once it has seen these runs up to the one at which it leaves, and how many of them come before
+-- that one, or none where it stays
+pub record ProbeLife : Type 0 where
+  pub report_after : List RunFrame → List ℕ
+  pub runs_before : List RunFrame → Option ℕ
+
+-- the number of the run at which a probe leaves, counted from 1, or none
+abbrev pub leaves : ProbeLife → List RunFrame → Option ℕ
+leaves p runs = option_map (λ n. n + 1) (p.runs_before runs)
+
+-- a probe saw a run: what it does at later ones, it would have done at this one and them
+abbrev pub Sees : Wish → ProbeLife → ProbeLife → RunFrame → Type 0
+Sees Stay old new run = (runs : List RunFrame) → (old.report_after (run ∷ runs) ≡ new.report_after runs) × (leaves old (run ∷ runs) ≡ option_map (λ n. n + 1) (leaves new runs))
+Sees Leave old new run = (runs : List RunFrame) → (old.report_after (run ∷ runs) ≡ new.report_after []) × (leaves old (run ∷ runs) ≡ Some 1)
+
+-- a probe's report, and how many runs come before the one at which it leaves
+pub record Report : Type 0 where
+  pub bytes : List ℕ
+  pub before : Option ℕ
+
+abbrev pub told_after : List RunFrame → ProbeLife → Report
+told_after runs p = record { bytes = p.report_after runs; before = p.runs_before runs }
+
+-- the report, where it comes after k runs and the next one
+abbrev pub bytes_at : ℕ → Report → List ℕ
+bytes_at k r = elim r.before [ Some n ↦ (if nat_eq n k then r.bytes else []) | None ↦ [] ]
+
+-- the report, where it comes at the end
+abbrev pub bytes_last : Report → List ℕ
+bytes_last r = elim r.before [ Some n ↦ [] | None ↦ r.bytes ]
+
+-- the reports of those that leave after k runs and the next one, in the order of the list
+unfoldable pub leaving : ℕ → List Report → List ℕ
+leaving k [] = []
+leaving k (r ∷ rs) = bytes_at k r ++ leaving k rs
+
+-- the reports of those that stay
+unfoldable pub staying : List Report → List ℕ
+staying [] = []
+staying (r ∷ rs) = bytes_last r ++ staying rs
+
+-- the reports of those that leave at these runs, run by run, where k runs stand before them
+unfoldable pub in_turn : ℕ → List RunFrame → List Report → List ℕ
+in_turn k [] rs = []
+in_turn k (run ∷ runs) rs = leaving k rs ++ in_turn (k + 1) runs rs
+
+abbrev pub joined : List RunFrame → List Report → List ℕ
+joined runs rs = in_turn 0 runs rs ++ staying rs
+
+-- all that probes report of these runs
+unfoldable pub reports : List ProbeLife → List RunFrame → List ℕ
+reports probes runs = joined runs (map (told_after runs) probes)

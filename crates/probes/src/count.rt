@@ -1,0 +1,43 @@
+//! Counting runs.
+ghost use Rattle.std.specs.Prelude.{◌≡◌};
+ghost use Rattle.probes.specs.Shipped.{count_life};
+
+use crate::probe::{Probe, Wish};
+use crate::texts::count_line;
+use det_base::{Bytes, Outcome, OutOfMemory, RunFrame};
+use std::alloc::Global;
+
+/// Counts finished and refused runs, and stays. The counts stand at their last value.
+#[derive(Debug, Drop)]
+pub struct CountProbe {
+    finished: u32,
+    refused: u32,
+}
+
+impl CountProbe {
+    /// A probe that saw no run.
+    pub fn new() -> CountProbe
+        ensures { ⟦<CountProbe as Probe>⟧.life result ≡ count_life 0 0 }
+    {
+        CountProbe {
+            finished: 0,
+            refused: 0,
+        }
+    }
+}
+
+impl Probe for CountProbe {
+    ghost life = { λ p. count_life p.finished p.refused };
+
+    fn see(&mut self, run: &RunFrame) -> Wish {
+        match &run.outcome {
+            Outcome::Finished { .. } => self.finished = self.finished.saturating_add(1),
+            Outcome::Refused(_) => self.refused = self.refused.saturating_add(1),
+        }
+        Wish::Stay
+    }
+
+    fn report(&self, alloc: Global) -> Result<Bytes, OutOfMemory> {
+        count_line(alloc, self.finished, self.refused)
+    }
+}

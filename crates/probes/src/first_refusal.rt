@@ -1,0 +1,43 @@
+//! The first refusal.
+ghost use Rattle.std.specs.Prelude.{◌≡◌, None};
+ghost use Rattle.probes.specs.Shipped.{refusal_life};
+
+use crate::probe::{Probe, Wish};
+use crate::texts::refusal_line;
+use det_base::{Bytes, Outcome, OutOfMemory, RefusedAt, RunFrame};
+use std::alloc::Global;
+
+/// Leaves at the first refused run, and tells its number and where it was refused.
+#[derive(Debug, Drop)]
+pub struct FirstRefusalProbe {
+    seen: u32,
+    at: Option<RefusedAt>,
+}
+
+impl FirstRefusalProbe {
+    /// A probe that saw no run.
+    pub fn new() -> FirstRefusalProbe
+        ensures { ⟦<FirstRefusalProbe as Probe>⟧.life result ≡ refusal_life 0 None }
+    {
+        FirstRefusalProbe { seen: 0, at: None }
+    }
+}
+
+impl Probe for FirstRefusalProbe {
+    ghost life = { λ p. refusal_life p.seen p.at };
+
+    fn see(&mut self, run: &RunFrame) -> Wish {
+        self.seen = self.seen.saturating_add(1);
+        match &run.outcome {
+            Outcome::Refused(at) => {
+                self.at = Some(*at);
+                Wish::Leave
+            }
+            Outcome::Finished { .. } => Wish::Stay,
+        }
+    }
+
+    fn report(&self, alloc: Global) -> Result<Bytes, OutOfMemory> {
+        refusal_line(alloc, self.seen, &self.at)
+    }
+}

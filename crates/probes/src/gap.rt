@@ -1,0 +1,60 @@
+//! The time between runs.
+ghost use Rattle.std.specs.Prelude.{◌≡◌, None};
+ghost use Rattle.probes.specs.Shipped.{gap_life, gap_between, greater};
+
+use crate::probe::{Probe, Wish};
+use crate::texts::gap_line;
+use det_base::{Bytes, OutOfMemory, RunFrame};
+use std::alloc::Global;
+
+/// Tells the greatest time from one run to the next, where both have a time and the second isn't before the first. It
+/// stays.
+#[derive(Debug, Drop)]
+pub struct GapProbe {
+    /// The time of the last run.
+    last: Option<u64>,
+    gap: Option<u64>,
+}
+
+fn between(before: Option<u64>, time: Option<u64>) -> Option<u64>
+    ensures { result ≡ gap_between before time }
+{
+    time?.checked_sub(before?)
+}
+
+fn greater_of(gap: Option<u64>, other: Option<u64>) -> Option<u64>
+    ensures { result ≡ greater gap other }
+{
+    match (gap, other) {
+        (Some(gap), Some(other)) => Some(gap.max(other)),
+        (Some(gap), None) => Some(gap),
+        (None, other) => other,
+    }
+}
+
+impl GapProbe {
+    /// A probe that saw no run.
+    pub fn new() -> GapProbe
+        ensures { ⟦<GapProbe as Probe>⟧.life result ≡ gap_life None None }
+    {
+        GapProbe {
+            last: None,
+            gap: None,
+        }
+    }
+}
+
+impl Probe for GapProbe {
+    ghost life = { λ p. gap_life p.last p.gap };
+
+    fn see(&mut self, run: &RunFrame) -> Wish {
+        let time = run.input.time;
+        self.gap = greater_of(self.gap, between(self.last, time));
+        self.last = time;
+        Wish::Stay
+    }
+
+    fn report(&self, alloc: Global) -> Result<Bytes, OutOfMemory> {
+        gap_line(alloc, self.gap)
+    }
+}

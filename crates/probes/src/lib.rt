@@ -1,0 +1,17 @@
+//! Probes see each run of a record, and each says one line about them: when it leaves, or at the end.
+#![tactic(auto)]
+
+mod count;
+mod first_refusal;
+mod gap;
+mod limit;
+mod probe;
+mod showing;
+mod texts;
+
+pub use count::CountProbe;
+pub use first_refusal::FirstRefusalProbe;
+pub use gap::GapProbe;
+pub use limit::LimitProbe;
+pub use probe::{Probe, Wish};
+pub use showing::{finish_all, show_all};

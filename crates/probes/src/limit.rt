@@ -1,0 +1,49 @@
+//! Leaving after so many runs.
+ghost use Rattle.std.specs.Prelude.{◌≡◌, ◌≤◌};
+ghost use Rattle.probes.specs.Shipped.{limit_life};
+
+use crate::probe::{Probe, Wish};
+use crate::texts::limit_line;
+use det_base::{Bytes, Outcome, OutOfMemory, RunFrame};
+use std::alloc::Global;
+
+/// Leaves at run number `most`, and tells how many runs it saw and how many of them were refused.
+#[derive(Debug, Drop)]
+pub struct LimitProbe {
+    most: u32,
+    seen: u32,
+    refused: u32,
+}
+
+impl LimitProbe {
+    /// A probe that saw no run.
+    pub fn new(most: u32) -> LimitProbe
+        requires { 1 ≤ most }
+        ensures { ⟦<LimitProbe as Probe>⟧.life result ≡ limit_life most 0 0 }
+    {
+        LimitProbe {
+            most,
+            seen: 0,
+            refused: 0,
+        }
+    }
+}
+
+impl Probe for LimitProbe {
+    ghost life = { λ p. limit_life p.most p.seen p.refused };
+
+    fn see(&mut self, run: &RunFrame) -> Wish {
+        self.seen = self.seen.saturating_add(1);
+        if let Outcome::Refused(_) = &run.outcome {
+            self.refused = self.refused.saturating_add(1);
+        }
+        if self.seen >= self.most {
+            return Wish::Leave;
+        }
+        Wish::Stay
+    }
+
+    fn report(&self, alloc: Global) -> Result<Bytes, OutOfMemory> {
+        limit_line(alloc, self.seen, self.refused)
+    }
+}

@@ -1,0 +1,95 @@
+//! The lines that the shipped probes say.
+ghost use Rattle.std.specs.Prelude.{◌≡◌, ◌≤◌, length, IfOk, Some};
+ghost use Rattle.std.specs.String.{string_bytes};
+ghost use Rattle.probes.specs.Texts.{count_text, gap_text, limit_text, phase_text, refusal_text};
+
+use det_base::{Bytes, OutOfMemory, Phase, RefusedAt};
+use std::alloc::Global;
+
+fn bytes_of(text: String) -> Bytes
+    requires { length (string_bytes text) ≤ 256 }
+    ensures bytes { result ≡ string_bytes text }
+    ensures short { length result ≤ 256 }
+{
+    Bytes::from_vec(text.into_bytes())
+}
+
+/// `count F R`: finished and refused runs.
+pub fn count_line(alloc: Global, finished: u32, refused: u32) -> Result<Bytes, OutOfMemory>
+    ensures bytes { IfOk result (λ bytes. bytes ≡ count_text finished refused) }
+    ensures short { IfOk result (λ bytes. length bytes ≤ 256) }
+{
+    let text = format!(in alloc; "count {finished} {refused}\n")?;
+    Ok(bytes_of(text))
+}
+
+fn gap_at(alloc: Global, gap: u64) -> Result<Bytes, OutOfMemory>
+    ensures bytes { IfOk result (λ bytes. bytes ≡ gap_text (Some gap)) }
+    ensures short { IfOk result (λ bytes. length bytes ≤ 256) }
+{
+    let text = format!(in alloc; "gap {gap}\n")?;
+    Ok(bytes_of(text))
+}
+
+/// `gap G`, in nanoseconds, or `gap none`.
+pub fn gap_line(alloc: Global, gap: Option<u64>) -> Result<Bytes, OutOfMemory>
+    ensures bytes { IfOk result (λ bytes. bytes ≡ gap_text gap) }
+    ensures short { IfOk result (λ bytes. length bytes ≤ 256) }
+{
+    match gap {
+        Some(gap) => gap_at(alloc, gap),
+        None => {
+            let text = format!(in alloc; "gap none\n")?;
+            Ok(bytes_of(text))
+        }
+    }
+}
+
+/// `limit M R`: the runs seen and the refused ones among them.
+pub fn limit_line(alloc: Global, seen: u32, refused: u32) -> Result<Bytes, OutOfMemory>
+    ensures bytes { IfOk result (λ bytes. bytes ≡ limit_text seen refused) }
+    ensures short { IfOk result (λ bytes. length bytes ≤ 256) }
+{
+    let text = format!(in alloc; "limit {seen} {refused}\n")?;
+    Ok(bytes_of(text))
+}
+
+fn phase_word(phase: Phase) -> &'static str
+    ensures { result.now ≡ phase_text phase }
+{
+    match phase {
+        Phase::Prepare => "prepare",
+        Phase::Pool => "pool",
+        Phase::Conclude => "conclude",
+    }
+}
+
+fn refusal_at(
+    alloc: Global,
+    seen: u32,
+    phase: Phase,
+    pass: u8,
+    element: u32,
+    code: u32,
+) -> Result<Bytes, OutOfMemory>
+    ensures bytes { IfOk result (λ bytes. bytes ≡ refusal_text seen (Some (record { phase = phase; pass = pass; element = element; code = code }))) }
+    ensures short { IfOk result (λ bytes. length bytes ≤ 256) }
+{
+    let phase = phase_word(phase);
+    let text = format!(in alloc; "refusal {seen} {phase} {pass} {element} {code}\n")?;
+    Ok(bytes_of(text))
+}
+
+/// `refusal C PHASE PASS ELEMENT CODE`, where C counts the runs seen, or `refusal none`.
+pub fn refusal_line(alloc: Global, seen: u32, at: &Option<RefusedAt>) -> Result<Bytes, OutOfMemory>
+    ensures bytes { IfOk result (λ bytes. bytes ≡ refusal_text seen at.now) }
+    ensures short { IfOk result (λ bytes. length bytes ≤ 256) }
+{
+    match at {
+        Some(at) => refusal_at(alloc, seen, at.phase, at.pass, at.element, at.code),
+        None => {
+            let text = format!(in alloc; "refusal none\n")?;
+            Ok(bytes_of(text))
+        }
+    }
+}
