@@ -36,8 +36,7 @@ pub refused_seen : (seen : ℕ) (at : Option RefusedAtValue) (run : RunFrame) (w
     → Sees Leave (refusal_life seen at) (refusal_life next (Some where_at)) run
 unfolding refusal_after first_refused
 refused_seen seen at run where_at next is count runs =
-    let test : is_refused run ≡ true = ap outcome_refused is in
-    (
+    let test : is_refused run ≡ true = ap outcome_refused is in (
       ap (λ t. cond t (refusal_text (counted (seen + 1)) (refusal_of run.outcome)) (refusal_after (counted (seen + 1)) at runs)) test ∙ (λ i. refusal_text (sym count i) (refusal_of (is i))),
       ap (λ t. option_map (λ n. n + 1) (cond t (Some 0) (option_map (λ n. n + 1) (first_refused runs)))) test,
     )
@@ -46,11 +45,10 @@ refused_seen seen at run where_at next is count runs =
 pub finished_seen : (seen : ℕ) (at : Option RefusedAtValue) (run : RunFrame) (next : ℕ) → is_refused run ≡ false → next ≡ counted (seen + 1)
     → Sees Stay (refusal_life seen at) (refusal_life next at) run
 unfolding refusal_after first_refused
-finished_seen seen at run next test count runs =
-    (
-      ap (λ t. cond t (refusal_text (counted (seen + 1)) (refusal_of run.outcome)) (refusal_after (counted (seen + 1)) at runs)) test ∙ ap (λ n. refusal_after n at runs) (sym count),
-      ap (λ t. option_map (λ n. n + 1) (cond t (Some 0) (option_map (λ n. n + 1) (first_refused runs)))) test,
-    )
+finished_seen seen at run next test count runs = (
+  ap (λ t. cond t (refusal_text (counted (seen + 1)) (refusal_of run.outcome)) (refusal_after (counted (seen + 1)) at runs)) test ∙ ap (λ n. refusal_after n at runs) (sym count),
+  ap (λ t. option_map (λ n. n + 1) (cond t (Some 0) (option_map (λ n. n + 1) (first_refused runs)))) test,
+)
 
 pub refusal_told : (seen : ℕ) (at : Option RefusedAtValue) → refusal_after seen at [] ≡ refusal_text seen at
 unfolding refusal_after

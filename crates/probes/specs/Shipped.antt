@@ -66,7 +66,7 @@ still most seen = most - (seen + 1)
 abbrev pub limit_life : ℕ → ℕ → ℕ → ProbeLife
 limit_life most seen refused = record {
   report_after = λ runs.
-    limit_text (counted (seen + length (take (still most seen + 1) runs))) (counted (refused + count_by is_refused (take (still most seen + 1) runs)));
+      limit_text (counted (seen + length (take (still most seen + 1) runs))) (counted (refused + count_by is_refused (take (still most seen + 1) runs)));
   runs_before = λ runs. if nat_lt (still most seen) (length runs) then Some (still most seen) else None;
 }
 

@@ -15,3 +15,6 @@ pub use gap::GapProbe;
 pub use limit::LimitProbe;
 pub use probe::{Probe, Wish};
 pub use showing::{finish_all, show_all};
+
+#[cfg(test)]
+mod tests;
