@@ -1,6 +1,6 @@
 -- Reports, while a run is being shown.
-use Rattle.std.proofs.Common.{◌≡◌, ◌≤◌, ◌<◌, ℕ, zero, suc, ◌+◌, List, [], ◌∷◌, ◌++◌, length, take, drop, set, get_or, map, refl, sym, ap, subst, ◌∙◌, arith, append_assoc, nat_eq}
-use Rattle.std.proofs.lemmas.List.{append-nil, take-map, drop-map, map-set, take_more, take_more_set, drop-set, drop-set-lt, take-set, drop_all, take_all, take_at, drop_at, length-take}
+use Rattle.std.proofs.Common.{◌≡◌, ◌≤◌, ◌<◌, ℕ, suc, ◌+◌, List, [], ◌∷◌, ◌++◌, length, take, drop, set, get_or, map, refl, sym, ap, subst, ◌∙◌, arith, append_assoc, nat_eq}
+use Rattle.std.proofs.lemmas.List.{append-nil, take-map, drop-map, map-set, take_more, take_more_set, drop-set-lt, take-set, drop_all, take_all, take_at, drop_at, length-take}
 use Rattle.std.proofs.Math.Seq.{drop-cons}
 use Rattle.std.proofs.Math.ListN.{get_or-map, length-map}
 use Rattle.std.proofs.lemmas.Bool.Decides.{nat_tests}
@@ -8,7 +8,6 @@ use Rattle.std.specs.List.{remove}
 use Rattle.std.specs.Prelude.{Option, Some, None, Bool, true, false, if◌then◌else◌}
 use Rattle.std.specs.Option.{option_map}
 use Rattle.det_base.specs.declared.frames.RunFrame.{RunFrame}
-use Rattle.probes.specs.declared.probe.Wish.{Wish}
 use Rattle.probes.specs.declared.probe.Wish.TheVariants.{Stay, Leave}
 use Rattle.probes.specs.Reports.{ProbeLife, leaves, Sees, Report, told_after, bytes_at, bytes_last, leaving, staying, in_turn, joined, reports}
 use Rattle.probes.specs.Partly.{later, partly}

@@ -1,16 +1,13 @@
 -- What the shipped probes do at a run more.
-use Rattle.std.proofs.Common.{◌≡◌, ◌↔◌, ℕ, ◌+◌, ◌^◌, ◌<◌, ◌≤◌, min, max, nat_le, List, [], ◌∷◌, length, Bool, true, false, cond, Option, Some, None, refl, sym, ap, ◌∙◌, arith}
-use Rattle.std.proofs.lemmas.Bool.Decides.{nat_tests}
+use Rattle.std.proofs.Common.{◌≡◌, ℕ, ◌+◌, max, List, [], ◌∷◌, true, false, cond, Option, Some, None, refl, sym, ap, ◌∙◌, arith}
 use Rattle.std.specs.Option.{option_map}
 use Rattle.det_base.specs.Values.{RefusedAtValue}
 use Rattle.det_base.specs.declared.frames.RunFrame.{RunFrame}
-use Rattle.det_base.specs.declared.frames.Outcome.{Outcome}
-use Rattle.det_base.specs.declared.frames.Outcome.TheVariants.{Finished, Refused}
-use Rattle.probes.specs.declared.probe.Wish.{Wish}
+use Rattle.det_base.specs.declared.frames.Outcome.TheVariants.{Refused}
 use Rattle.probes.specs.declared.probe.Wish.TheVariants.{Stay, Leave}
 use Rattle.probes.specs.Reports.{leaves, Sees}
 use Rattle.probes.specs.Texts.{refusal_text}
-use Rattle.probes.specs.Shipped.{counted, refusal_of, is_refused, outcome_refused, gap_between, greater, greatest_gap, gap_life, first_refused, refusal_after, refusal_life}
+use Rattle.probes.specs.Shipped.{counted, refusal_of, is_refused, outcome_refused, gap_between, greater, greatest_gap, first_refused, refusal_after, refusal_life}
 
 greater_none : (gap : Option ℕ) → greater gap None ≡ gap
 greater_none None = refl

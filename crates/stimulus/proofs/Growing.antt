@@ -3,6 +3,7 @@ use Rattle.std.proofs.Common.{◌≡◌, ℕ, ◌<◌, List, [], ◌∷◌, ◌+
 use Rattle.std.proofs.lemmas.Bool.Decides.{nat_tests}
 use Rattle.std.specs.List.{onto_first, All}
 use Rattle.std.proofs.lemmas.List.Elements.{All-nil, All-cons, All-head, All-tail}
+use Rattle.det_base.specs.Prefix.{IsPrefix}
 use Rattle.det_base.specs.declared.frames.CycleInput.{CycleInput}
 use Rattle.stimulus.specs.declared.item.StimItem.{StimItem}
 use Rattle.stimulus.specs.declared.item.StimItem.TheVariants as items
@@ -50,42 +51,38 @@ unfolding reading_from join
 read_join events place line o [] q qs = refl
 read_join events place line o (p ∷ ps) q qs = refl
 
--- the first list begins the second
-abbrev Begins : List StimItem → List StimItem → Type 0
-Begins xs ys = (rest : List StimItem) × (xs ++ rest ≡ ys)
-
-begins_after : (given xs ys : List StimItem) → Begins xs ys → Begins (given ++ xs) (given ++ ys)
+begins_after : (given xs ys : List StimItem) → IsPrefix xs ys → IsPrefix (given ++ xs) (given ++ ys)
 begins_after given xs ys (rest, is) = (rest, append_assoc given xs rest ∙ ap (λ l. given ++ l) is)
 
-go_on_begins : (line : List ℕ) (o : Option Step) (f g : Place → Reading) → ((p : Place) → Begins (f p).items (g p).items) → Begins (go_on line o f).items (go_on line o g).items
+go_on_begins : (line : List ℕ) (o : Option Step) (f g : Place → Reading) → ((p : Place) → IsPrefix (f p).items (g p).items) → IsPrefix (go_on line o f).items (go_on line o g).items
 go_on_begins line None f g all = ([], refl)
 go_on_begins line (Some s) f g all = begins_after s.items (f s.place).items (g s.place).items (all s.place)
 
-at_end_begins : (place : Place) (line : List ℕ) (ys : List StimItem) → Begins (at_end place line).items ys
+at_end_begins : (place : Place) (line : List ℕ) (ys : List StimItem) → IsPrefix (at_end place line).items ys
 at_end_begins Ended [] ys = (ys, refl)
 at_end_begins Ended (b ∷ bs) ys = (ys, refl)
 at_end_begins First line ys = (ys, refl)
 at_end_begins Between line ys = (ys, refl)
 at_end_begins (Inside n input) line ys = (ys, refl)
 
-from_begins : (events : ℕ) (place : Place) (ps : List (List ℕ)) (q : List ℕ) (qs : List (List ℕ)) → Begins (reading_from events place ps).items (reading_from events place (join ps q qs)).items
+from_begins : (events : ℕ) (place : Place) (ps : List (List ℕ)) (q : List ℕ) (qs : List (List ℕ)) → IsPrefix (reading_from events place ps).items (reading_from events place (join ps q qs)).items
 unfolding reading_from join
 from_begins events place [] q qs = ((reading_from events place (q ∷ qs)).items, refl)
 from_begins events place (line ∷ []) q qs = at_end_begins place line (reading_from events place ((line ++ q) ∷ qs)).items
 from_begins events place (line ∷ o ∷ ps) q qs =
-    let P : List StimItem → Type 0 = λ l. Begins (reading_from events place (line ∷ o ∷ ps)).items l in
+    let P : List StimItem → Type 0 = λ l. IsPrefix (reading_from events place (line ∷ o ∷ ps)).items l in
     subst P (ap (λ (r : Reading). r.items) (sym (read_join events place line o ps q qs)))
     (go_on_begins line (taken_at events place line) (λ p. reading_from events p (o ∷ ps)) (λ p. reading_from events p (join (o ∷ ps) q qs)) (λ p. from_begins events p (o ∷ ps) q qs))
 
 -- the items of a text are the first ones of every text that goes on
-pub items_grow : (events : ℕ) (text more : List ℕ) → (rest : List StimItem) × ((reading events text).items ++ rest ≡ (reading events (text ++ more)).items)
+pub items_grow : (events : ℕ) (text more : List ℕ) → IsPrefix (reading events text).items (reading events (text ++ more)).items
 items_grow events text more =
     let some = some_parts more in
-    let P : List (List ℕ) → Type 0 = λ l. Begins (reading events text).items (reading_from events First l).items in
+    let P : List (List ℕ) → Type 0 = λ l. IsPrefix (reading events text).items (reading_from events First l).items in
     subst P (sym (parts_append text more some.line some.others some.is)) (from_begins events First (parts text) some.line some.others)
 
 -- the blocks of a text are the first ones of every text that goes on
-pub blocks_grow : (events : ℕ) (text more : List ℕ) → (rest : List CycleInput) × (blocks events text ++ rest ≡ blocks events (text ++ more))
+pub blocks_grow : (events : ℕ) (text more : List ℕ) → IsPrefix (blocks events text) (blocks events (text ++ more))
 blocks_grow events text more =
     let grown = items_grow events text more in
     (inputs_of grown.0, sym (inputs_append (reading events text).items grown.0) ∙ ap inputs_of grown.1)
@@ -129,7 +126,7 @@ inputs_then given input = inputs_append given (items.Cycle input ∷ [])
 pub inputs_end : (given : List StimItem) → inputs_of (given ++ items.Terminate ∷ []) ≡ inputs_of given
 inputs_end given = inputs_append given (items.Terminate ∷ []) ∙ append-nil (inputs_of given)
 
-given_first : (fault : Option StimFault) (r : StimReader) (head : List (List ℕ)) (bytes : List ℕ) (given : List StimItem) → Resumes fault r head bytes given → (rest : List StimItem) × (given ++ rest ≡ (reading r.events bytes).items)
+given_first : (fault : Option StimFault) (r : StimReader) (head : List (List ℕ)) (bytes : List ℕ) (given : List StimItem) → Resumes fault r head bytes given → IsPrefix given (reading r.events bytes).items
 given_first None r head bytes given on =
     let rest : List StimItem = (from r (left r ++ [])).items in
     (owed r.state ++ rest, sym (ap (λ l. (reading r.events l).items) (sym (append-nil bytes)) ∙ ap (λ (x : Reading). x.items) (on.1 []) ∙ append_assoc given (owed r.state) rest))
@@ -137,7 +134,7 @@ given_first (Some fault) r head bytes given on =
     ([], append-nil given ∙ sym (ap (λ l. (reading r.events l).items) (sym (append-nil bytes)) ∙ ap (λ (x : Reading). x.items) (on.1 [])))
 
 -- the items given are the first ones of the text that was fed
-pub stands_within : (r : StimReader) (bytes : List ℕ) (given : List StimItem) → StandsFor r bytes given → (rest : List CycleInput) × (inputs_of given ++ rest ≡ blocks r.events bytes)
+pub stands_within : (r : StimReader) (bytes : List ℕ) (given : List StimItem) → StandsFor r bytes given → IsPrefix (inputs_of given) (blocks r.events bytes)
 stands_within r bytes given h =
     let first = given_first r.fault r h.head bytes given h.resumes in
     (inputs_of first.0, sym (inputs_append given first.0) ∙ ap inputs_of first.1)

@@ -104,7 +104,7 @@ one_item : (events : ℕ) (item : StimItem) (others : List StimItem) → IsItem 
 one_item events item others = All-cons (IsItem events) item others
 
 fresh : (events : ℕ) (time : Option ℕ) → IsInput events (begun time)
-fresh events time = record { few = omega arith; samples = All-nil (IsSample events) }
+fresh events time = record { few = omega arith; known = All-nil (λ s. s.event < events); values = All-nil (λ s. IsSampleValue s.value) }
 
 ended_within : (events : ℕ) (l : Line) → IfStep events (taken Ended l)
 ended_within events lines.Stim = tt
@@ -113,7 +113,11 @@ ended_within events (lines.Sample s) = tt
 ended_within events lines.Terminate = tt
 
 longer : (events : ℕ) (input : CycleInput) (s : SampleValue) → IsInput events input → IsSample events s → length input.samples < 4096 → IsInput events (with_sample input s)
-longer events input s h k room = record { few = omega (arith, length-append input.samples (s ∷ [])); samples = All-push (IsSample events) input.samples s h.samples k }
+longer events input s h k room = record {
+  few = omega (arith, length-append input.samples (s ∷ []));
+  known = All-push (λ s. s.event < events) input.samples s h.known k.event;
+  values = All-push (λ s. IsSampleValue s.value) input.samples s h.values k.value;
+}
 
 sample_within : (events n : ℕ) (input : CycleInput) (s : SampleValue) → IsInput events input → IsSample events s → IfStep events (taken (Inside n input) (lines.Sample s))
 sample_within events n input s h k = choice (nat_lt (length input.samples) 4096) refl where

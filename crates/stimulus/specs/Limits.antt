@@ -25,7 +25,8 @@ IsLine events lines.Terminate = Unit {0}
 -- at most 4,096 samples
 pub record IsInput (events : ℕ) (input : CycleInput) : Type 0 where
   pub few : length input.samples ≤ 4096
-  pub samples : All (IsSample events) input.samples
+  pub known : All (λ s. s.event < events) input.samples
+  pub values : All (λ s. IsSampleValue s.value) input.samples
 
 abbrev pub IsItem : ℕ → StimItem → Type 0
 IsItem events (items.Cycle input) = IsInput events input

@@ -2,12 +2,12 @@
 ghost use Rattle.std.specs.Prelude.{◌≡◌, ℕ, ◌^◌, ◌<◌, ◌≤◌, List, ◌++◌, length, ℤ, Some, true};
 ghost use Rattle.std.specs.List.{All};
 ghost use Rattle.std.specs.Fmt.{decimal, signed_decimal};
-ghost use Rattle.det_base.specs.declared.frames.CycleInput.{CycleInput};
+ghost use Rattle.det_base.specs.Limits.{IsSampleValue};
+ghost use Rattle.det_base.specs.Prefix.{IsPrefix};
 ghost use Rattle.stimulus.specs.Limits.{IsInput, IsLine};
 ghost use Rattle.stimulus.specs.Numbers.{number, value_of};
 ghost use Rattle.stimulus.specs.Lines.{line_of, spelling};
 ghost use Rattle.stimulus.specs.declared.line.Line.{Line};
-ghost use Rattle.det_base.specs.Limits.{IsSampleValue};
 ghost use Rattle.stimulus.specs.Good.{IsHead};
 ghost use Rattle.stimulus.specs.Reading.{reading, blocks, has_bad};
 
@@ -24,7 +24,7 @@ pub fn one_spelling()
 
 /// More text only adds blocks, and mends no bad line that was fed.
 pub fn more_text()
-    ensures blocks { (events : ℕ) (text more : List ℕ) → (rest : List CycleInput) × (blocks events text ++ rest ≡ blocks events (text ++ more)) }
+    ensures blocks { (events : ℕ) (text more : List ℕ) → IsPrefix (blocks events text) (blocks events (text ++ more)) }
     ensures bad { (events : ℕ) (text more : List ℕ) → has_bad events text ≡ true → reading events (text ++ more) ≡ reading events text }
 {}
 

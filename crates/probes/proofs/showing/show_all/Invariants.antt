@@ -1,4 +1,4 @@
-use Rattle.std.proofs.Common.{◌≡◌, ◌≤◌, ◌+◌, ◌*◌, ℕ, List, ◌∷◌, ◌++◌, map, length, ◌-◌}
+use Rattle.std.proofs.Common.{◌≡◌, ◌≤◌, ◌+◌, ◌*◌, List, ◌∷◌, ◌++◌, map, length, ◌-◌}
 use Rattle.std.specs.Vec.{vec_len}
 use Rattle.det_base.specs.declared.frames.RunFrame.{RunFrame}
 use Rattle.probes.specs.Reports.{reports, joined}

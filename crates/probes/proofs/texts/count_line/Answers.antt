@@ -1,4 +1,4 @@
-use Rattle.std.proofs.Common.{◌^◌, ◌<◌, arith}
+use Rattle.std.proofs.Common.{arith}
 use Rattle.probes.proofs.Lengths.{count_short}
 use Rattle.probes.proofs.texts.count_line.Goals as goal
 

@@ -1,4 +1,4 @@
-use Rattle.std.proofs.Common.{◌^◌, ◌<◌, arith}
+use Rattle.std.proofs.Common.{arith}
 use Rattle.probes.proofs.Lengths.{limit_short}
 use Rattle.probes.proofs.texts.limit_line.Goals as goal
 

@@ -1,4 +1,4 @@
-use Rattle.std.proofs.Common.{◌^◌, ◌<◌, arith}
+use Rattle.std.proofs.Common.{arith}
 use Rattle.probes.proofs.Lengths.{refusal_short}
 use Rattle.probes.proofs.texts.refusal_at.Goals as goal
 

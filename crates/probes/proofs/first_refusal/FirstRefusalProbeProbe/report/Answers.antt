@@ -1,4 +1,3 @@
-use Rattle.std.proofs.Common.{◌≡◌, sym, ◌∙◌}
 use Rattle.probes.proofs.Lives.{refusal_told, refusal_stays}
 use Rattle.probes.proofs.first_refusal.FirstRefusalProbeProbe.report.Goals as goal
 

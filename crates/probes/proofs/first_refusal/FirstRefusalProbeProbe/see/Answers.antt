@@ -1,6 +1,5 @@
-use Rattle.std.proofs.Common.{◌≡◌, ◌+◌, ap, refl, arith, Some, None, true, false}
-use Rattle.probes.specs.Shipped.{counted, is_refused, outcome_refused}
-use Rattle.probes.specs.Reports.{leaves}
+use Rattle.std.proofs.Common.{◌≡◌, ◌+◌, ap, refl, arith}
+use Rattle.probes.specs.Shipped.{counted, outcome_refused}
 use Rattle.probes.proofs.Lives.{refused_seen, finished_seen, refused_alone, finished_alone}
 use Rattle.probes.proofs.first_refusal.FirstRefusalProbeProbe.see.Goals as goal
 

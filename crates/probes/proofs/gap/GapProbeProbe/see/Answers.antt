@@ -1,4 +1,4 @@
-use Rattle.std.proofs.Common.{◌≡◌, refl, sym, ap, ◌∙◌}
+use Rattle.std.proofs.Common.{refl, sym, ap, ◌∙◌}
 use Rattle.probes.specs.Texts.{gap_text}
 use Rattle.probes.specs.Shipped.{greater, greatest_gap}
 use Rattle.probes.proofs.Lives.{gap_more}
