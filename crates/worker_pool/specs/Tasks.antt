@@ -1,0 +1,30 @@
+-- A pass that is to be run.
+use Rattle.std.specs.Prelude.{◌≡◌, ℕ, ◌<◌, ◌≤◌, length, Result}
+use Rattle.std.specs.List.{All}
+use Rattle.job_trait.specs.Meaning.{Meaning}
+use Rattle.job_trait.specs.Laws.{CoversSome}
+use Rattle.job_trait.specs.Pass.{Passed, Refusal, passed, block}
+use Rattle.worker_pool.specs.declared.task.Task.{Task}
+use Rattle.worker_pool.specs.Machine.{blocks_of}
+
+module _ {S G E L P : Type 0} where
+  -- the number of its blocks
+  abbrev pub blocks_in : Task S G E L P → ℕ
+  blocks_in t = blocks_of (length t.elements.now)
+
+  -- what block b gives
+  abbrev pub block_in : Meaning S G E L P → Task S G E L P → ℕ → Result (Passed E P) Refusal
+  block_in m t b = block m t.job.now t.plan.now t.carry.now t.seed t.cycle t.pass b t.elements.now
+
+  -- what the whole pass gives
+  abbrev pub pass_in : Meaning S G E L P → Task S G E L P → Result (Passed E P) Refusal
+  pass_in m t = passed m t.job.now t.plan.now t.carry.now t.seed t.cycle t.pass t.elements.now
+
+  -- the conditions of a pass
+  pub record Ready (m : Meaning S G E L P) (Covers : S → P → ℕ → Type 0) (Own : S → E → Type 0) (Fit : S → L → Type 0) (t : Task S G E L P) : Type 0 where
+    pub fit : Fit t.job.now t.plan.now
+    pub below : t.pass < m.passes_of t.job.now t.plan.now
+    pub few : length t.elements.now ≤ 65536
+    pub own : All (Own t.job.now) t.elements.now
+    pub carried : CoversSome (Covers t.job.now) t.carry.now
+    pub early : t.cycle ≤ 1000000
