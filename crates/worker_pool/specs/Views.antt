@@ -81,6 +81,10 @@ passed v = view v.entries (v.seen + 1) v.shares
 abbrev pub with_mark : ℕ → Mark → PoolView → PoolView
 with_mark b m v = view (marked b m v.entries) v.seen v.shares
 
+-- a seat that has seen nothing
+abbrev pub IsNew : PoolView → Type 0
+IsNew v = (v.entries ≡ []) × (v.seen ≡ 0)
+
 abbrev pub fresh : ℕ → PoolView
 fresh shares = view [] 0 shares
 

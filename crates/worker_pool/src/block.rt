@@ -1,10 +1,9 @@
 //! Elements are run one after another, and neighbours joined.
 ghost use Rattle.std.specs.Prelude.{◌≡◌, ℕ, ◌+◌, ◌<◌, [], Ok, Err, ◌≤◌, length, take, drop, IfOk};
-ghost use Rattle.job_trait.specs.Pass.{taken, nothing};
 ghost use Rattle.worker_pool.specs.Gather.{beside};
 ghost use Rattle.worker_pool.specs.IsPass.{passed_of, IsPass};
 ghost use Rattle.worker_pool.specs.Sums.{Sums};
-ghost use Rattle.worker_pool.specs.Tasks.{Ready};
+ghost use Rattle.worker_pool.specs.Tasks.{element_in, Ready};
 
 use crate::answers::{PassDone, PoolFault};
 use crate::task::Task;
@@ -35,7 +34,7 @@ pub(crate) fn with_element<J: Job>(
     requires ready { Ready J.meaning J.Covers J.Own J.Fit task.now }
     requires inside { i < length task.now.elements.now }
     requires room { (n : ℕ) × (n < 65536) × Sums J.Covers J.Own task.now.job.now n (passed_of done) }
-    ensures { IsPass result (taken J.meaning task.now.job.now task.now.plan.now task.now.carry.now task.now.seed task.now.cycle task.now.pass i (take 1 (drop i task.now.elements.now)) (passed_of done)) }
+    ensures { IsPass result (element_in J.meaning task.now i (passed_of done)) }
 {
     let mut random = ElementRandom::at(key(task.seed, task.cycle, task.pass, i));
     let element = &task.elements[i as usize];
@@ -75,8 +74,10 @@ pub(crate) fn with_next<J: Job>(
     done: PassDone<J::Element, J::Part>,
     next: PassDone<J::Element, J::Part>,
 ) -> Result<PassDone<J::Element, J::Part>, OutOfMemory>
-    requires room { (k n : ℕ) × (k + n ≤ 65536) × Sums J.Covers J.Own job.now k (passed_of done) × Sums J.Covers J.Own job.now n (passed_of next) }
-    ensures { IfOk result (λ both. passed_of both ≡ beside (J.meaning.joined job.now) (passed_of done) (passed_of next)) }
+    requires room { (k n : ℕ) × (k + n ≤ 65536)
+        × Sums J.Covers J.Own job.now k (passed_of done) × Sums J.Covers J.Own job.now n (passed_of next) }
+    ensures { IfOk result (λ both.
+        passed_of both ≡ beside (J.meaning.joined job.now) (passed_of done) (passed_of next)) }
 {
     let PassDone {
         mut elements,

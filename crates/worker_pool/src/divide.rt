@@ -1,10 +1,10 @@
 //! The workers of a pass, each on a thread and with a seat of its own.
-ghost use Rattle.std.specs.Prelude.{◌≡◌, ◌+◌, ◌≤◌, [], ◌++◌, IfOk};
+ghost use Rattle.std.specs.Prelude.{◌≡◌, ◌+◌, ◌≤◌, ◌++◌, IfOk};
 ghost use Rattle.std.specs.Thread.{IsSend, IsSync};
 ghost use Rattle.worker_pool.specs.Handles.{view_of, block_count, IsAt};
-ghost use Rattle.worker_pool.specs.Pool.{Pooled};
-ghost use Rattle.worker_pool.specs.Tasks.{block_in, blocks_in, Ready};
-ghost use Rattle.worker_pool.specs.Views.{joined};
+ghost use Rattle.worker_pool.specs.Pool.{KeepsSeat, IsShareOf};
+ghost use Rattle.worker_pool.specs.Tasks.{blocks_in, Ready};
+ghost use Rattle.worker_pool.specs.Views.{joined, IsNew};
 
 use crate::answers::BlockResult;
 use crate::gate::Gate;
@@ -32,8 +32,10 @@ fn shared_by_both<E: Drop, P: Drop>(
     requires mine { IsAt mine.seat table.now }
     requires theirs { IsAt theirs.seat table.now }
     ensures here { IfOk result (λ both. IsAt both.seat table.now) }
-    ensures view { IfOk result (λ both. view_of both.seat ≡ joined (view_of mine.seat) (view_of theirs.seat)) }
-    ensures results { IfOk result (λ both. both.results.items ≡ mine.results.items ++ theirs.results.items) }
+    ensures view { IfOk result (λ both.
+        view_of both.seat ≡ joined (view_of mine.seat) (view_of theirs.seat)) }
+    ensures results { IfOk result (λ both.
+        both.results.items ≡ mine.results.items ++ theirs.results.items) }
 {
     let Share {
         mut seat,
@@ -62,9 +64,9 @@ fn work_alone<J: Job, G: Gate>(
     requires here { IsAt seat table.now }
     requires ready { Ready J.meaning J.Covers J.Own J.Fit task.now }
     requires sized { block_count table.now ≡ blocks_in task.now }
-    requires new { ((view_of seat).entries ≡ []) × ((view_of seat).seen ≡ 0) }
-    ensures here { IfOk result (λ share. IsAt share.seat table.now × ((view_of share.seat).shares ≡ (view_of seat).shares)) }
-    ensures pooled { IfOk result (λ share. Pooled (block_in J.meaning task.now) (blocks_in task.now) (view_of share.seat) share.results.items) }
+    requires new { IsNew (view_of seat) }
+    ensures here { IfOk result (KeepsSeat seat table.now) }
+    ensures pooled { IfOk result (IsShareOf J.meaning task.now) }
 {
     gate.enter(worker);
     let found = work_blocks(
@@ -98,10 +100,10 @@ pub(crate) fn divide<J: Job, G: Gate, R: Threads + Sync>(
     requires here { IsAt seat table.now }
     requires ready { Ready J.meaning J.Covers J.Own J.Fit task.now }
     requires sized { block_count table.now ≡ blocks_in task.now }
-    requires new { ((view_of seat).entries ≡ []) × ((view_of seat).seen ≡ 0) }
+    requires new { IsNew (view_of seat) }
     requires enough { (1 ≤ workers) × (workers ≤ (view_of seat).shares) × (first + workers ≤ 64) }
-    ensures here { IfOk result (λ share. IsAt share.seat table.now × ((view_of share.seat).shares ≡ (view_of seat).shares)) }
-    ensures pooled { IfOk result (λ share. Pooled (block_in J.meaning task.now) (blocks_in task.now) (view_of share.seat) share.results.items) }
+    ensures here { IfOk result (KeepsSeat seat table.now) }
+    ensures pooled { IfOk result (IsShareOf J.meaning task.now) }
 {
     if workers == 1 {
         return work_alone(alloc, table, seat, task, first, gate);
@@ -113,22 +115,24 @@ pub(crate) fn divide<J: Job, G: Gate, R: Threads + Sync>(
     let (theirs, mine) = join(
         rt,
         move || -> Result<Share<J::Element, J::Part>, OutOfMemory>
-            requires threads { IsSync R.row × IsSync G.row × IsSync J.row × IsSync J.Plan.row × IsSend J.Element.row × IsSync J.Element.row × IsSend J.Part.row × IsSync J.Part.row }
+            requires threads { IsSync R.row × IsSync G.row × IsSync J.row × IsSync J.Plan.row
+                × IsSend J.Element.row × IsSync J.Element.row × IsSend J.Part.row × IsSync J.Part.row }
             requires here { IsAt other table.now }
             requires ready { Ready J.meaning J.Covers J.Own J.Fit task.now }
             requires sized { block_count table.now ≡ blocks_in task.now }
-            requires new { ((view_of other).entries ≡ []) × ((view_of other).seen ≡ 0) }
+            requires new { IsNew (view_of other) }
             requires enough { (1 ≤ fewer) × (fewer ≤ (view_of other).shares) × (next + fewer ≤ 64) }
-            ensures { IfOk result (λ share. IsAt share.seat table.entry.now × ((view_of share.seat).shares ≡ (view_of other).shares) × Pooled (block_in J.meaning task.entry.now) (blocks_in task.entry.now) (view_of share.seat) share.results.items) }
+            ensures { IfOk result (λ share. KeepsSeat other table.entry.now share × IsShareOf J.meaning task.entry.now share) }
         { divide(rt, alloc, table, other, task, next, fewer, gate) },
         move || -> Result<Share<J::Element, J::Part>, OutOfMemory>
-            requires threads { IsSync R.row × IsSync G.row × IsSync J.row × IsSync J.Plan.row × IsSend J.Element.row × IsSync J.Element.row × IsSend J.Part.row × IsSync J.Part.row }
+            requires threads { IsSync R.row × IsSync G.row × IsSync J.row × IsSync J.Plan.row
+                × IsSend J.Element.row × IsSync J.Element.row × IsSend J.Part.row × IsSync J.Part.row }
             requires here { IsAt seat table.now }
             requires ready { Ready J.meaning J.Covers J.Own J.Fit task.now }
             requires sized { block_count table.now ≡ blocks_in task.now }
-            requires new { ((view_of seat).entries ≡ []) × ((view_of seat).seen ≡ 0) }
+            requires new { IsNew (view_of seat) }
             requires enough { (1 ≤ more) × (more ≤ (view_of seat).shares) × (first + more ≤ 64) }
-            ensures { IfOk result (λ share. IsAt share.seat table.entry.now × ((view_of share.seat).shares ≡ (view_of seat).shares) × Pooled (block_in J.meaning task.entry.now) (blocks_in task.entry.now) (view_of share.seat) share.results.items) }
+            ensures { IfOk result (λ share. KeepsSeat seat table.entry.now share × IsShareOf J.meaning task.entry.now share) }
         { divide(rt, alloc, table, seat, task, first, more, gate) },
     );
     let theirs = theirs?;

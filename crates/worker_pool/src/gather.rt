@@ -2,11 +2,10 @@
 ghost use Rattle.std.specs.Prelude.{◌≡◌, ℕ, ◌<◌, ◌≤◌, length, IfOk, MatchOption, None, Some, replicate};
 ghost use mathlib.Core.Option.{some};
 ghost use lib.ListN.{get_elem?};
-ghost use Rattle.worker_pool.specs.Gather.{together};
 ghost use Rattle.worker_pool.specs.IsPass.{passed_of, IsPass};
 ghost use Rattle.worker_pool.specs.Pool.{Enough, Right, InOrder, IsFilled, NoneRefuses, IsLeastRefusal};
 ghost use Rattle.worker_pool.specs.Sums.{Sums};
-ghost use Rattle.worker_pool.specs.Tasks.{block_in, blocks_in, pass_in, Ready};
+ghost use Rattle.worker_pool.specs.Tasks.{block_in, blocks_in, together_in, pass_in, Ready};
 
 use crate::answers::{BlockAnswer, BlockResult, PassDone, PoolFault};
 use crate::block::{nothing_done, with_next};
@@ -26,7 +25,8 @@ struct RefusedBlock {
 impl RefusedBlock {
     /// The lower of this one and one that was found before.
     fn or_lower(self, found: Option<RefusedBlock>) -> RefusedBlock
-        ensures { MatchOption found (result ≡ self) (λ f. (f.block ≤ self.block → result ≡ f) × (self.block < f.block → result ≡ self)) }
+        ensures { MatchOption found (result ≡ self)
+            (λ f. (f.block ≤ self.block → result ≡ f) × (self.block < f.block → result ≡ self)) }
     {
         match found {
             Some(found) if found.block <= self.block => found,
@@ -37,7 +37,8 @@ impl RefusedBlock {
 
 /// The refusal of the least block among the results.
 fn least_refusal<E, P>(results: &[BlockResult<E, P>]) -> Option<RefusedBlock>
-    ensures { MatchOption result (NoneRefuses results.now) (λ f. IsLeastRefusal results.now f.block f.element f.code) }
+    ensures { MatchOption result (NoneRefuses results.now)
+        (λ f. IsLeastRefusal results.now f.block f.element f.code) }
 {
     let mut least: Option<RefusedBlock> = None;
     for result in results {
@@ -75,7 +76,8 @@ fn in_order<J: Job>(
 ) -> Result<Vec<Option<PassDone<J::Element, J::Part>>, Global>, OutOfMemory>
     requires few { length task.now.elements.now ≤ 65536 }
     requires right { Right (block_in J.meaning task.now) (blocks_in task.now) results.items }
-    ensures { IfOk result (λ places. InOrder (block_in J.meaning task.now) (blocks_in task.now) results.items places.items) }
+    ensures { IfOk result (λ places.
+        InOrder (block_in J.meaning task.now) (blocks_in task.now) results.items places.items) }
 {
     let blocks = (task.elements.len() + 63) / 64;
     let mut places = vacant(alloc, blocks)?;
@@ -95,8 +97,9 @@ fn assemble<J: Job>(
 ) -> Result<PassDone<J::Element, J::Part>, OutOfMemory>
     requires ready { Ready J.meaning J.Covers J.Own J.Fit task.now }
     requires sized { length places.items ≡ blocks_in task.now }
-    requires filled { (b : ℕ) → b < length places.items → IsFilled (block_in J.meaning task.now) b places.items }
-    ensures { IfOk result (λ done. passed_of done ≡ together (J.meaning.joined task.now.job.now) (J.meaning.unit_part task.now.job.now) (block_in J.meaning task.now) (blocks_in task.now)) }
+    requires filled { (b : ℕ) → b < length places.items
+        → IsFilled (block_in J.meaning task.now) b places.items }
+    ensures { IfOk result (λ done. passed_of done ≡ together_in J.meaning task.now) }
 {
     let mut all = nothing_done(alloc, task.job);
     'join: for b in 0..places.len() {

@@ -12,7 +12,8 @@ use std::alloc::Global;
 impl PassTable {
     /// A table on which nothing is claimed, and the seat with all shares.
     pub(crate) fn new(alloc: Global, blocks: u32) -> Result<(PassTable, PassSeat), OutOfMemory>
-        ensures { IfOk result (λ t. (block_count t.0 ≡ blocks) × IsAt t.1 t.0 × (view_of t.1 ≡ fresh all_shares)) }
+        ensures { IfOk result (λ made.
+            (block_count made.0 ≡ blocks) × IsAt made.1 made.0 × (view_of made.1 ≡ fresh all_shares)) }
     {
         let mut words = Vec::from_elem(alloc, 0u64, blocks as usize + 1)?;
         words[0] = u64::MAX;

@@ -3,7 +3,7 @@
 ghost use Rattle.std.specs.Prelude.{◌≡◌, ℕ, ◌+◌, ◌<◌, ◌≤◌, min, MatchOption, IsTrue};
 ghost use Rattle.worker_pool.specs.declared.view.Mark.TheVariants.{Open, Finished, Reported, Skipped};
 ghost use Rattle.worker_pool.specs.Handles.{view_of, number_of, block_count, IsAt, IsSameSeat};
-ghost use Rattle.worker_pool.specs.Steps.{Turn};
+ghost use Rattle.worker_pool.specs.Steps.{Turn, TurnOf};
 ghost use Rattle.worker_pool.specs.Views.{Stands, taken, passed, with_mark, least_in};
 
 use crate::plays::{Claim, Finish, Look, Report, Site};
@@ -35,10 +35,10 @@ impl PassTable {
         requires more { (view_of seat.old).seen < block_count self.now }
         ensures seat { IsSameSeat seat.new seat.old }
         ensures answer { MatchOption result
-            (Turn (block_count self.now) (number_of seat.old) (view_of seat.old) (view_of seat.new) ((view_of seat.old).seen + 1) 1 1
+            (TurnOf self.now seat.old seat.new ((view_of seat.old).seen + 1) 1 1
             × (view_of seat.new ≡ passed (view_of seat.old)))
             (λ b. (b ≡ (view_of seat.old).seen)
-            × Turn (block_count self.now) (number_of seat.old) (view_of seat.old) (view_of seat.new) (b + 1) 0 1
+            × TurnOf self.now seat.old seat.new (b + 1) 0 1
             × (view_of seat.new ≡ taken (view_of seat.old))) }
     {
         self.claim_at::<Brand>(seat)
@@ -71,7 +71,7 @@ impl PassTable {
         requires open { Stands block Open (view_of seat.old).entries }
         ensures seat { IsSameSeat seat.new seat.old }
         ensures view { view_of seat.new ≡ with_mark block Finished (view_of seat.old) }
-        ensures turn { (n : ℕ) × Turn (block_count self.now) (number_of seat.old) (view_of seat.old) (view_of seat.new) 0 n n }
+        ensures turn { (n : ℕ) × TurnOf self.now seat.old seat.new 0 n n }
     {
         self.finish_at::<Brand>(seat, block);
     }
@@ -93,9 +93,10 @@ impl PassTable {
         requires open { Stands block Open (view_of seat.old).entries }
         ensures seat { IsSameSeat seat.new seat.old }
         ensures skipped { IsTrue result → (view_of seat.new ≡ with_mark block Skipped (view_of seat.old))
-            × ((n : ℕ) × (n < block) × Turn (block_count self.now) (number_of seat.old) (view_of seat.old) (view_of seat.new) 0 n n) }
-        ensures stays { ¬ IsTrue result → (view_of seat.new ≡ view_of seat.old) × (block ≤ least_in (view_of seat.old).entries)
-            × ((n : ℕ) × (block ≤ n) × Turn (block_count self.now) (number_of seat.old) (view_of seat.old) (view_of seat.new) 0 n n) }
+            × ((n : ℕ) × (n < block) × TurnOf self.now seat.old seat.new 0 n n) }
+        ensures stays { ¬ IsTrue result → (view_of seat.new ≡ view_of seat.old)
+            × (block ≤ least_in (view_of seat.old).entries)
+            × ((n : ℕ) × (block ≤ n) × TurnOf self.now seat.old seat.new 0 n n) }
     {
         self.look_at::<Brand>(seat, block)
     }
@@ -107,7 +108,8 @@ impl PassTable {
         ensures seat { IsSameSeat seat.new seat.old }
         ensures skipped { IsTrue result → (view_of seat.new ≡ with_mark block Skipped (view_of seat.old))
             × ((n : ℕ) × (n < block) × Turn B.blocks B.seat (view_of seat.old) (view_of seat.new) 0 n n) }
-        ensures stays { ¬ IsTrue result → (view_of seat.new ≡ view_of seat.old) × (block ≤ least_in (view_of seat.old).entries)
+        ensures stays { ¬ IsTrue result → (view_of seat.new ≡ view_of seat.old)
+            × (block ≤ least_in (view_of seat.old).entries)
             × ((n : ℕ) × (block ≤ n) × Turn B.blocks B.seat (view_of seat.old) (view_of seat.new) 0 n n) }
     {
         let least = self.table.shared.load::<Look<B>>(&mut seat.seat, 0);
@@ -120,7 +122,7 @@ impl PassTable {
         requires open { Stands block Open (view_of seat.old).entries }
         ensures seat { IsSameSeat seat.new seat.old }
         ensures view { view_of seat.new ≡ with_mark block Reported (view_of seat.old) }
-        ensures turn { (n : ℕ) × Turn (block_count self.now) (number_of seat.old) (view_of seat.old) (view_of seat.new) 0 n (min n block) }
+        ensures turn { (n : ℕ) × TurnOf self.now seat.old seat.new 0 n (min n block) }
     {
         self.report_at::<Brand>(seat, block);
     }

@@ -9,7 +9,7 @@ ghost use Rattle.worker_pool.specs.Handles.{view_of, block_count, IsAt, IsSameSe
 ghost use Rattle.worker_pool.specs.Machine.{blocks_of};
 ghost use Rattle.worker_pool.specs.Results.{Ends, Stops, Tidy, Works};
 ghost use Rattle.worker_pool.specs.Tasks.{block_in, blocks_in, Ready};
-ghost use Rattle.worker_pool.specs.Views.{Stands, taken};
+ghost use Rattle.worker_pool.specs.Views.{Stands, taken, IsNew};
 
 use crate::answers::{BlockAnswer, BlockResult, BlockResults, PoolFault};
 use crate::block::{nothing_done, with_element};
@@ -32,7 +32,8 @@ fn run_block<J: Job>(
     requires inside { block < blocks_in task.now }
     requires open { Stands block Open (view_of seat.old).entries }
     ensures seat { IsSameSeat seat.new seat.old }
-    ensures ends { IfOk result (λ answer. Ends (block_in J.meaning task.now) block (view_of seat.old) answer (view_of seat.new)) }
+    ensures ends { IfOk result (λ answer.
+        Ends (block_in J.meaning task.now) block (view_of seat.old) answer (view_of seat.new)) }
     ensures given_up { OnErr result (view_of seat.new ≡ view_of seat.old) }
 {
     let first = block * 64;
@@ -70,7 +71,8 @@ fn try_block<J: Job>(
     requires so_far { Works (block_in J.meaning task.now) (view_of seat.old) results.old }
     ensures seat { IsSameSeat seat.new seat.old }
     ensures works { IfOk result (λ go. Works (block_in J.meaning task.now) (view_of seat.new) results.new) }
-    ensures seen { IfOk result (λ go. ((view_of seat.new).seen ≡ (view_of seat.old).seen + 1) × ((view_of seat.new).shares ≡ (view_of seat.old).shares)) }
+    ensures seen { IfOk result (λ go. ((view_of seat.new).seen ≡ (view_of seat.old).seen + 1)
+        × ((view_of seat.new).shares ≡ (view_of seat.old).shares)) }
     ensures stops { IfOk result (λ go. ¬ IsTrue go → Stops (view_of seat.new).entries) }
     ensures given_up { OnErr result (view_of seat.new ≡ taken (view_of seat.old)) }
 {
@@ -114,13 +116,19 @@ pub fn work_blocks<J: Job>(
     requires carry { CoversSome (J.Covers job.now) carry.now }
     requires cycle { cycle ≤ 1000000 }
     requires sized { block_count table.now ≡ blocks_of (length elements.now) }
-    requires new { ((view_of seat.old).entries ≡ []) × ((view_of seat.old).seen ≡ 0) }
+    requires new { IsNew (view_of seat.old) }
     ensures seat { IsSameSeat seat.new seat.old }
-    ensures works { IfOk result (λ results. Works (λ b. block_answer J.meaning job.now plan.now carry.now seed cycle pass b elements.now) (view_of seat.new) results) }
+    ensures works { IfOk result (λ results.
+        Works (λ b. block_answer J.meaning job.now plan.now carry.now seed cycle pass b elements.now)
+        (view_of seat.new) results) }
     ensures inside { IfOk result (λ results. (view_of seat.new).seen ≤ block_count table.now) }
     ensures shares { (view_of seat.new).shares ≡ (view_of seat.old).shares }
-    ensures all_tried { IfOk result (λ results. ((view_of seat.new).seen ≡ block_count table.now) ⊎ Stops (view_of seat.new).entries) }
-    ensures given_up { OnErr result ((before : PoolView) × Tidy (λ b. block_answer J.meaning job.now plan.now carry.now seed cycle pass b elements.now) before × (before.seen < block_count table.now) × (view_of seat.new ≡ taken before)) }
+    ensures all_tried { IfOk result (λ results.
+        ((view_of seat.new).seen ≡ block_count table.now) ⊎ Stops (view_of seat.new).entries) }
+    // The last entry is the Open one, and the others are as they would be after Ok.
+    ensures given_up { OnErr result ((before : PoolView)
+        × Tidy (λ b. block_answer J.meaning job.now plan.now carry.now seed cycle pass b elements.now) before
+        × (before.seen < block_count table.now) × (view_of seat.new ≡ taken before)) }
 {
     let task = Task {
         job,
