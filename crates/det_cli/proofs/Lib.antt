@@ -1,0 +1,3 @@
+pub mod Meeting
+mod Records
+mod Telling
