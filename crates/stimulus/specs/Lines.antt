@@ -1,4 +1,4 @@
--- The lines of a stimulus, without their LF.
+-- The lines of a stimulus, without their LF. The grammar is this project's own.
 use Rattle.std.specs.Prelude.{ℕ, ◌+◌, ◌^◌, ℤ, ◌==◌, List, ◌++◌, take, drop, position, Option, None, Some, if◌then◌else◌, codes}
 use Rattle.std.specs.Str.{bytes_eq}
 use Rattle.std.specs.Fmt.{decimal, signed_decimal}

@@ -1,4 +1,4 @@
--- Decimal numbers of a stimulus: no leading zero, no plus sign, no `-0`.
+-- Decimal numbers of a stimulus, whose grammar is this project's own: no leading zero, no plus sign, no `-0`.
 use Rattle.std.specs.Prelude.{ℕ, zero, suc, ◌+◌, ◌-◌, ◌*◌, ℤ, pos, negsuc, ◌==◌, nat_le, nat_lt, ◌&&◌, List, [], ◌∷◌, length, take, drop, Option, None, Some, if◌then◌else◌, codes}
 use Rattle.std.specs.Str.{bytes_eq}
 

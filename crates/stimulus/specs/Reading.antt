@@ -1,4 +1,4 @@
--- What a text comes to as a stimulus.
+-- What a text comes to as a stimulus. The format is this project's own.
 use Rattle.std.specs.Prelude.{ℕ, ◌+◌, ◌==◌, nat_lt, Bool, true, false, List, [], ◌∷◌, ◌++◌, length, Option, None, Some, if◌then◌else◌}
 use Rattle.std.specs.List.{slice_split}
 use Rattle.det_base.specs.declared.frames.CycleInput.{CycleInput}

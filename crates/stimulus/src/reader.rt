@@ -91,7 +91,7 @@ impl StimReader {
         ensures room { room self.new ≤ room self.old }
         ensures next { (bytes : List ℕ) (given : List StimItem) → StandsFor self.old bytes given → NextIs result self.new bytes given }
     {
-        loop {
+        'each_line: loop {
             match self.read_line() {
                 Ok(Progress::Line) => (),
                 Ok(Progress::Item(item)) => return Ok(Some(item)),

@@ -3,13 +3,13 @@ use Rattle.stimulus.specs.declared.item.StimItem.{StimItem}
 use Rattle.stimulus.specs.StandsFor.{StandsFor, waiting, room}
 use Rattle.stimulus.proofs.reader.StimReader.next_cycle.Given as goal
 
-abbrev pub invariant-loop-item : goal.invariant-loop-item
-invariant-loop-item l = record {
+abbrev pub invariant-each_line : goal.invariant-each_line
+invariant-each_line l = record {
   events : l.self.events ≡ l.initial.self.events;
   fewer : waiting l.self ≤ waiting l.initial.self;
   room : room l.self ≤ room l.initial.self;
   stands : (bytes : List ℕ) (given : List StimItem) → StandsFor l.initial.self bytes given → StandsFor l.self bytes given;
 }
 
-abbrev pub decreases-loop-item : goal.decreases-loop-item
-decreases-loop-item l = waiting l.self
+abbrev pub decreases-each_line : goal.decreases-each_line
+decreases-each_line l = waiting l.self
