@@ -1,8 +1,8 @@
 -- Which place an item leads to.
-use Rattle.std.specs.Prelude.{◌+◌, length}
+use Rattle.std.specs.Prelude.{ℕ, ◌+◌, ◌-◌, ◌<◌, suc, length}
 use Rattle.det_base.specs.declared.format.Format.{Format}
 use Rattle.det_base.specs.declared.format.Format.TheVariants.{One}
-use Rattle.det_base.specs.declared.frames.Frame.TheVariants.{Run, Terminate}
+use Rattle.det_base.specs.declared.frames.Frame.TheVariants.{Register, Discover, Init, Run, Terminate}
 use Rattle.det_base.specs.Values.{ProfileValue}
 use Rattle.record_grammar.specs.declared.place.Layout.{Layout}
 use Rattle.record_grammar.specs.declared.place.Place.{Place}
@@ -32,3 +32,22 @@ format_of (places.Init layout) = layout.format
 format_of (places.Runs layout before) = layout.format
 format_of places.Header = One
 format_of places.End = One
+
+-- an item of the kind that may stand in a place
+abbrev pub CanFollow : Place → Item → Type 0
+CanFollow places.Header (items.Header p) = Unit {0}
+CanFollow (places.Register layout) (items.Frame Register) = Unit {0}
+CanFollow (places.Discover layout) (items.Frame Discover) = Unit {0}
+CanFollow (places.Init layout) (items.Frame (Init elements)) = Unit {0}
+CanFollow (places.Runs layout before) (items.Frame (Run r)) = before < 1000000
+CanFollow (places.Runs layout before) (items.Frame Terminate) = Unit {0}
+CanFollow place item = ⊥
+
+-- how many items may come from a place on
+abbrev pub may_come : Place → ℕ
+may_come places.Header = 1000005
+may_come (places.Register layout) = 1000004
+may_come (places.Discover layout) = 1000003
+may_come (places.Init layout) = 1000002
+may_come (places.Runs layout before) = suc (1000000 - before)
+may_come places.End = 0
