@@ -103,10 +103,10 @@ module _ {A : Type 0} where
       record {
         in_range = omega arith;
         same = λ tail.
-          ap (λ (xs : List ℕ). with_front (front ++ first ∷ []) (many item (left - 1) (xs ++ tail))) d
-          ∙ sym (many_next item front (left - 1) (drop read bytes ++ tail) first (rest ++ tail) (steady.got (drop read bytes) tail (first, rest) got))
-          ∙ ap (λ (i : ℕ). with_front front (many item i (drop read bytes ++ tail))) (sym k)
-          ∙ h.same tail;
+            ap (λ (xs : List ℕ). with_front (front ++ first ∷ []) (many item (left - 1) (xs ++ tail))) d
+            ∙ sym (many_next item front (left - 1) (drop read bytes ++ tail) first (rest ++ tail) (steady.got (drop read bytes) tail (first, rest) got))
+            ∙ ap (λ (i : ℕ). with_front front (many item i (drop read bytes ++ tail))) (sym k)
+            ∙ h.same tail;
       }
 
   pub Continues-room : (item : List ℕ → Read A) → IsSteady 0 item → (front : List A) (left read : ℕ) (start : List A) (count : ℕ) (bytes : List ℕ) (first : A) (rest : List ℕ)

@@ -76,7 +76,8 @@ pub HasName-done : (len counter : ℕ) (rest bytes : List ℕ) → 1 ≤ len →
 HasName-done len counter rest bytes low high le ge h =
     let e : counter ≡ len = omega arith in
     let w : len ≤ length bytes = omega (arith, h.within) in
-    let d = HasMany-done name_byte_at len counter (take counter bytes) rest bytes le h.so_far in
-    (w,
-     d ∙ ap (λ (xs : List ℕ). got_many (take counter bytes) xs) h.rest_is ∙ ap (λ (n : ℕ). got_many (take n bytes) (drop n bytes)) e,
-     is_name len bytes low high w (rw e at h.good))
+    let d = HasMany-done name_byte_at len counter (take counter bytes) rest bytes le h.so_far in (
+      w,
+      d ∙ ap (λ (xs : List ℕ). got_many (take counter bytes) xs) h.rest_is ∙ ap (λ (n : ℕ). got_many (take n bytes) (drop n bytes)) e,
+      is_name len bytes low high w (rw e at h.good),
+    )

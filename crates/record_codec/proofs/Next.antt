@@ -52,7 +52,6 @@ trans_fault p q = p ∙ q
 module _ (old new : Decoder) (bytes : List ℕ) (given : List Item) (step : Step) (old_reads : old.fault ≡ None)
     (answers : AnswersBy (λ more. resume old.place old.partial more) old.place step.partial (drop step.read (unread old)) step.answer (unread old))
     (same_pending : new.pending.items ≡ old.pending.items) (same_before : new.before ≡ old.before) (new_partial : new.partial ≡ step.partial) (new_read : new.read ≡ old.read + step.read) where
-
   unread_is : drop step.read (unread old) ≡ unread new
   unread_is = drop-drop step.read old.read old.pending.items ∙ ap (λ (n : ℕ). drop n old.pending.items) (sym new_read) ∙ ap (drop new.read) (sym same_pending)
 
@@ -91,12 +90,16 @@ module _ (old new : Decoder) (bytes : List ℕ) (given : List Item) (step : Step
   pub next_more : step.answer ≡ Err stops.More → new.place ≡ old.place → new.fault ≡ None → new.settled ≡ true → StandsFor old bytes given → NextIs (Ok None) new bytes given
   next_more stopped same_place new_reads settles h =
       let at : item_at old.place h.rest ≡ More = stops_at stops.More stopped same_place h in
-      let all = all_at_more given old.place bytes h.rest h.leads at in
-      (record {
-        rest = h.rest;
-        leads = leads_new stops.More stopped same_place h;
-        stands = subst (λ (x : Option RecordFault). Stands x new bytes h.rest) (sym new_reads) (record { resumes = resumes_new stops.More stopped same_place h; counted = counted_new stops.More stopped same_place h; settled = λ e. rw same_place at });
-      }, all.0, all.1, settles)
+      let all = all_at_more given old.place bytes h.rest h.leads at in (
+        record {
+          rest = h.rest;
+          leads = leads_new stops.More stopped same_place h;
+          stands = subst (λ (x : Option RecordFault). Stands x new bytes h.rest) (sym new_reads) (record { resumes = resumes_new stops.More stopped same_place h; counted = counted_new stops.More stopped same_place h; settled = λ e. rw same_place at });
+        },
+        all.0,
+        all.1,
+        settles,
+      )
 
   pub next_bad : (reason : Reason) (left offset : ℕ) → step.answer ≡ Err (stops.Bad reason left) → new.place ≡ old.place → offset ≡ old.before + (length old.pending.items - left) → new.fault ≡ Some (record { offset = offset; reason = reason }) → new.settled ≡ true → StandsFor old bytes given
       → NextIs (Err (errors.Fault (record { offset = offset; reason = reason }))) new bytes given
@@ -108,12 +111,17 @@ module _ (old new : Decoder) (bytes : List ℕ) (given : List Item) (step : Step
       let count : offset + left ≡ length bytes = omega arith in
       let all = all_at_bad given old.place bytes h.rest reason left h.leads at in
       let o : length bytes - left ≡ offset = omega arith in
-      let s : Some (record { offset = length bytes - left; reason = reason }) ≡ Some (record { offset = offset; reason = reason }) = ap (λ (n : ℕ). some_fault n reason) o in
-      (record {
-        rest = h.rest;
-        leads = leads_new (stops.Bad reason left) stopped same_place h;
-        stands = subst (λ (x : Option RecordFault). Stands x new bytes h.rest) (sym new_faulty) (record { left = left; bad = rw same_place at; counted = count; settled = settles });
-      }, all.0, trans_fault all.1 s, settles, new_faulty)
+      let s : Some (record { offset = length bytes - left; reason = reason }) ≡ Some (record { offset = offset; reason = reason }) = ap (λ (n : ℕ). some_fault n reason) o in (
+        record {
+          rest = h.rest;
+          leads = leads_new (stops.Bad reason left) stopped same_place h;
+          stands = subst (λ (x : Option RecordFault). Stands x new bytes h.rest) (sym new_faulty) (record { left = left; bad = rw same_place at; counted = count; settled = settles });
+        },
+        all.0,
+        trans_fault all.1 s,
+        settles,
+        new_faulty,
+      )
 
   module _ (item : Item) (answered : step.answer ≡ Ok item) (follows : CanFollow old.place item → new.place ≡ after old.place item) (h : StandsFor old bytes given) where
     both_ok : (step.partial ≡ partials.Nothing) × (resume old.place old.partial (unread old) ≡ Got (item, unread new))
@@ -128,16 +136,19 @@ module _ (old new : Decoder) (bytes : List ℕ) (given : List Item) (step : Step
 
     pub next_ok : new.fault ≡ None → new.settled ≡ false → NextIs (Ok (Some item)) new bytes given
     next_ok new_reads unsettled =
-        let all = all_at_got given old.place bytes h.rest item (unread new) h.leads ok_at in
-        (record {
-          rest = unread new;
-          leads = subst (λ (to : Place). Leads places.Header bytes (given ++ item ∷ []) to (unread new)) (sym (follows kind)) (leads_on given places.Header old.place bytes h.rest item (unread new) h.leads ok_at);
-          stands = subst (λ (o : Option RecordFault). Stands o new bytes (unread new)) (sym new_reads) (record {
-            resumes = λ tail. ap (λ (part : Partial). resume new.place part (unread new ++ tail)) (new_partial ∙ both_ok.0);
-            counted = rw (same_before, same_pending) (old_is h).counted;
-            settled = λ e. absurd cc;
-          });
-        }, all.0, all.1)
+        let all = all_at_got given old.place bytes h.rest item (unread new) h.leads ok_at in (
+          record {
+            rest = unread new;
+            leads = subst (λ (to : Place). Leads places.Header bytes (given ++ item ∷ []) to (unread new)) (sym (follows kind)) (leads_on given places.Header old.place bytes h.rest item (unread new) h.leads ok_at);
+            stands = subst (λ (o : Option RecordFault). Stands o new bytes (unread new)) (sym new_reads) (record {
+              resumes = λ tail. ap (λ (part : Partial). resume new.place part (unread new ++ tail)) (new_partial ∙ both_ok.0);
+              counted = rw (same_before, same_pending) (old_is h).counted;
+              settled = λ e. absurd cc;
+            });
+          },
+          all.0,
+          all.1,
+        )
 
 -- an item leaves fewer that may come
 pub next_falls : (d : Decoder) (bytes : List ℕ) (given : List Item) (step : Step) (item : Item) (to : Place) → d.fault ≡ None
@@ -146,7 +157,7 @@ pub next_falls : (d : Decoder) (bytes : List ℕ) (given : List Item) (step : St
 next_falls d bytes given step item to reads answers answered follows h =
     let r = reading_of d.fault d bytes h.rest reads h.stands in
     let both : (step.partial ≡ partials.Nothing) × (resume d.place d.partial (unread d) ≡ Got (item, drop step.read (unread d))) =
-        subst (λ (a : Result Item Stop). AnswersBy (λ more. resume d.place d.partial more) d.place step.partial (drop step.read (unread d)) a (unread d)) answered answers in
+    subst (λ (a : Result Item Stop). AnswersBy (λ more. resume d.place d.partial more) d.place step.partial (drop step.read (unread d)) a (unread d)) answered answers in
     let at : item_at d.place h.rest ≡ Got (item, drop step.read (unread d)) = sym (here d.place d.partial (unread d) h.rest r.resumes) ∙ both.1 in
     let kind : CanFollow d.place item = can_follow d.place h.rest item (drop step.read (unread d)) at in
     subst (λ (p : Place). may_come p < may_come d.place) (sym (follows kind)) (room_falls d.place item kind)
@@ -208,7 +219,7 @@ pub answers_at : (d : Decoder) (partial : Partial) (bytes : List ℕ) (step : St
     → AnswersBy (λ more. resume d.place d.partial more) d.place step.partial (drop step.read (unread d)) step.answer (unread d)
 answers_at d partial bytes step p b h =
     subst (λ (q : Partial). AnswersBy (λ more. resume d.place q more) d.place step.partial (drop step.read (unread d)) step.answer (unread d)) p
-        (subst (λ (xs : List ℕ). AnswersBy (λ more. resume d.place partial more) d.place step.partial (drop step.read xs) step.answer xs) b h)
+    (subst (λ (xs : List ℕ). AnswersBy (λ more. resume d.place partial more) d.place step.partial (drop step.read xs) step.answer xs) b h)
 
 pub ends_early : (place : Place) → (place ≡ places.End → ⊥) → ending_at place ≡ early
 ends_early places.Header h = refl
@@ -222,6 +233,6 @@ pub bad_fits : (old : Decoder) (step : Step) (reason : Reason) (left : ℕ) → 
     → step.answer ≡ Err (stops.Bad reason left) → left ≤ length old.pending.items
 bad_fits old step reason left answers stopped =
     let b : Stops (stops.Bad reason left) (resume old.place step.partial (drop step.read (unread old))) × Resumes (λ more. resume old.place old.partial more) old.place step.partial (drop step.read (unread old)) (unread old) =
-        subst (λ (a : Result Item Stop). AnswersBy (λ more. resume old.place old.partial more) old.place step.partial (drop step.read (unread old)) a (unread old)) stopped answers in
+    subst (λ (a : Result Item Stop). AnswersBy (λ more. resume old.place old.partial more) old.place step.partial (drop step.read (unread old)) a (unread old)) stopped answers in
     let w : left ≤ 0 + length (drop step.read (unread old)) = (resume_steady old.place step.partial).within (drop step.read (unread old)) reason left b.0 in
     omega (arith, length-drop step.read (unread old), length-drop old.read old.pending.items)

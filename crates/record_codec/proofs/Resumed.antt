@@ -34,7 +34,7 @@ all_read : {A : Type 0} (item : List ℕ → Read A) (front : List A) (left read
     → with_front start (many item count bytes) ≡ Got (front, drop read bytes)
 all_read item front left read start count bytes none h =
     let one : with_front front (many item left (drop read bytes)) ≡ with_front start (many item count bytes) =
-        ap (λ (xs : List ℕ). with_front front (many item left xs)) (sym (append-nil (drop read bytes))) ∙ h.same [] ∙ ap (λ (xs : List ℕ). with_front start (many item count xs)) (append-nil bytes) in
+    ap (λ (xs : List ℕ). with_front front (many item left xs)) (sym (append-nil (drop read bytes))) ∙ h.same [] ∙ ap (λ (xs : List ℕ). with_front start (many item count xs)) (append-nil bytes) in
     sym one ∙ many_done item front left (drop read bytes) none
 
 -- ---- Init

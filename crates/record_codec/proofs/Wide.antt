@@ -51,7 +51,7 @@ wide limits zero v bytes h small within = refl
 wide limits (suc n) v [] h small within = absurd (omega arith)
 wide limits (suc n) v (b ∷ bytes) h small within =
     let test : can_be limits n (v * 256 + b) ≡ true =
-        possible limits n (v * 256 + b) (value n (v * 256 + b) bytes) (above n (v * 256 + b) bytes (omega arith)) (below n (v * 256 + b) bytes (omega arith) (λ i. small (suc i))) within in
+    possible limits n (v * 256 + b) (value n (v * 256 + b) bytes) (above n (v * 256 + b) bytes (omega arith)) (below n (v * 256 + b) bytes (omega arith) (λ i. small (suc i))) within in
     ap (λ (t : Bool). cond t (number_from limits n (v * 256 + b) bytes) (Bad Range (suc (length bytes)))) test
     ∙ wide limits n (v * 256 + b) bytes (omega arith) (λ i. small (suc i)) within
 

@@ -39,7 +39,7 @@ begun_run layout bytes = do
   input ← input_at layout.events bytes
   flag ← number 1 0 1 input.1
   if flag.0 == 0 then (number 4 0 65536 flag.1 >>= λ n. Got (run_of layout.format input.0 [] n.0, n.1))
-    else (refused_at input.0 flag.1 >>= λ f. Got (ready (items.Frame f.0), f.1))
+      else (refused_at input.0 flag.1 >>= λ f. Got (ready (items.Frame f.0), f.1))
 
 -- what a tag is refused for in a place where it may not stand
 abbrev pub refused_tag : Place → ℕ → Reason

@@ -5,7 +5,7 @@ ghost use Rattle.record_codec.specs.Resuming.{begun_view, begun_at, begun_tagged
 
 use crate::header::profile;
 use crate::input::{input, refused_run};
-use crate::number::{u32_at, u8_at};
+use crate::number::{u8_at, u32_at};
 use crate::partial::{Begun, InitSoFar, RunSoFar};
 use crate::stop::Stop;
 use det_base::{Frame, Limited};
@@ -13,6 +13,7 @@ use record_grammar::{Item, Layout, Place, Reason};
 use std::alloc::Global;
 
 const MAX_ELEMENTS: u32 = 65_536;
+
 const MAX_RUNS: u32 = 1_000_000;
 
 fn frame(frame: Frame) -> Begun
@@ -54,7 +55,13 @@ fn reason_of(place: Place, tag: u8) -> Reason
 }
 
 #[tactic(auto, unfolding(crate::specs::Resuming::begun_tagged))]
-fn begin_tagged(alloc: Global, place: Place, tag: u8, bytes: &[u8], left: usize) -> Result<(Begun, &[u8]), Stop>
+fn begin_tagged(
+    alloc: Global,
+    place: Place,
+    tag: u8,
+    bytes: &[u8],
+    left: usize,
+) -> Result<(Begun, &[u8]), Stop>
     ensures { Gives (λ x. (begun_view x.0, x.1.now)) result (begun_tagged place tag bytes.now left) }
 {
     match (place, tag) {

@@ -67,7 +67,16 @@ impl Decoder {
         }
         self.settled = false;
         let partial = mem::replace(&mut self.partial, Partial::Nothing);
-        let Step { partial, read, answer } = advance(self.alloc, self.place, partial, rest_of(&self.pending, self.read));
+        let Step {
+            partial,
+            read,
+            answer,
+        } = advance(
+            self.alloc,
+            self.place,
+            partial,
+            rest_of(&self.pending, self.read),
+        );
         self.read += read;
         self.partial = partial;
         match answer {

@@ -6,15 +6,18 @@ ghost use Rattle.record_codec.specs.Gives.{Gives};
 ghost use Rattle.record_codec.specs.Policies.{KnowsPolicy};
 ghost use Rattle.det_base.specs.Limits.{KnowsPolicies};
 
-use crate::number::{signed, u16_at, u64_at, u8_at};
+use crate::number::{signed, u8_at, u16_at, u64_at};
 use crate::stop::Stop;
 use det_base::{EventName, EventSpec, Events, Format, Limited, Params, Policy, Profile};
 use record_grammar::Reason;
 use std::alloc::Global;
 
 const MAX_PARAMS: u16 = 16;
+
 const MAX_EVENTS: u16 = 256;
+
 const MAX_CAPACITY: u16 = 1_024;
+
 const MAX_NAME: u8 = 32;
 
 fn exactly(reason: Reason, expected: u8, bytes: &[u8]) -> Result<(u8, &[u8]), Stop>
@@ -178,7 +181,12 @@ fn event(format: Format, bytes: &[u8]) -> Result<(EventSpec, &[u8]), Stop>
     Ok((event, rest))
 }
 
-fn all_events(alloc: Global, format: Format, count: u16, bytes: &[u8]) -> Result<(Events, &[u8]), Stop>
+fn all_events(
+    alloc: Global,
+    format: Format,
+    count: u16,
+    bytes: &[u8],
+) -> Result<(Events, &[u8]), Stop>
     requires { count ≤ 256 }
     ensures gives { Gives (λ x. (x.0, x.1.now)) result (many (event_at format) count bytes.now) }
     ensures known { IfOk result (λ x. KnowsPolicies format x.0) }

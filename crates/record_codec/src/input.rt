@@ -4,7 +4,7 @@ ghost use Rattle.record_grammar.specs.Read.{many};
 ghost use Rattle.record_grammar.specs.Grammar.{time_at, sample_at, most_samples, samples_at, input_at, phase_of, most_pass, most_element, refusal_at, refused_at};
 ghost use Rattle.record_codec.specs.Gives.{Gives, Stops, Pushed};
 
-use crate::number::{sample_value, u16_at, u32_at, u64_at, u8_at};
+use crate::number::{sample_value, u8_at, u16_at, u32_at, u64_at};
 use crate::stop::Stop;
 use det_base::{CycleInput, Frame, Limited, Outcome, Phase, RefusedAt, RunFrame, Sample, Samples};
 use std::alloc::Global;
@@ -25,7 +25,11 @@ fn time(bytes: &[u8]) -> Result<(Option<u64>, &[u8]), Stop>
 
 /// Reads a sample, adds it, and gives the bytes after it.
 #[tactic(auto, unfolding(record_grammar::specs::Grammar::sample_at))]
-fn push_sample<'a>(samples: &mut Vec<Sample>, events: u16, bytes: &'a [u8]) -> Result<&'a [u8], Stop>
+fn push_sample<'a>(
+    samples: &mut Vec<Sample>,
+    events: u16,
+    bytes: &'a [u8],
+) -> Result<&'a [u8], Stop>
     requires { 1 ≤ events }
     ensures ok { IfOk result (λ rest. Pushed samples.old.items samples.new.items rest.now (sample_at events bytes.now)) }
     ensures err { IfErr result (λ stop. Stops stop (sample_at events bytes.now)) }
@@ -38,7 +42,12 @@ fn push_sample<'a>(samples: &mut Vec<Sample>, events: u16, bytes: &'a [u8]) -> R
     }
 }
 
-fn all_samples(alloc: Global, events: u16, count: u32, bytes: &[u8]) -> Result<(Samples, &[u8]), Stop>
+fn all_samples(
+    alloc: Global,
+    events: u16,
+    count: u32,
+    bytes: &[u8],
+) -> Result<(Samples, &[u8]), Stop>
     requires { count ≤ most_samples events }
     ensures { Gives (λ x. (x.0, x.1.now)) result (many (sample_at events) count bytes.now) }
 {

@@ -17,7 +17,10 @@ pub fn place_after(place: Place, item: &Item) -> Place
         (Place::Register(layout), Item::Frame(_)) => Place::Discover(layout),
         (Place::Discover(layout), Item::Frame(_)) => Place::Init(layout),
         (Place::Init(layout), Item::Frame(_)) => Place::Runs(layout, 0),
-        (Place::Runs(layout, before), Item::Frame(Frame::Run(_))) => Place::Runs(layout, before.saturating_add(1)),
+        (Place::Runs(layout, before), Item::Frame(Frame::Run(_))) => Place::Runs(
+            layout,
+            before.saturating_add(1),
+        ),
         (Place::Runs(..), Item::Frame(Frame::Terminate)) => Place::End,
         _ => place,
     }

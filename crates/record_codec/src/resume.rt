@@ -32,7 +32,11 @@ fn go_on_init(start: InitSoFar, bytes: &[u8], place: Place) -> Step
         match element(rest_of(bytes, read)) {
             Err(stop) => return stopped(Partial::Init(InitSoFar { elements, left }), read, stop),
             Ok((element, rest)) => match elements.push(element) {
-                Err(_) => return stopped(Partial::Init(InitSoFar { elements, left }), read, Stop::Memory),
+                Err(_) => return stopped(
+                    Partial::Init(InitSoFar { elements, left }),
+                    read,
+                    Stop::Memory,
+                ),
                 Ok(()) => {
                     read = bytes.len() - rest.len();
                     left -= 1;
@@ -52,15 +56,38 @@ fn go_on_run(alloc: Global, start: RunSoFar, bytes: &[u8], place: Place) -> Step
     ensures within { result.read ≤ length bytes.now }
     ensures answers { Answers (λ more. framed (finished_from start.format start.input start.elements start.left more)) place result bytes.now }
 {
-    let RunSoFar { format, input, elements, left } = start;
+    let RunSoFar {
+        format,
+        input,
+        elements,
+        left,
+    } = start;
     let mut elements = elements;
     let mut left = left;
     let mut read = 0;
     while left > 0 {
         match drawn(format, rest_of(bytes, read)) {
-            Err(stop) => return stopped(Partial::Run(RunSoFar { format, input, elements, left }), read, stop),
+            Err(stop) => return stopped(
+                Partial::Run(RunSoFar {
+                    format,
+                    input,
+                    elements,
+                    left,
+                }),
+                read,
+                stop,
+            ),
             Ok((element, rest)) => match elements.push(element) {
-                Err(_) => return stopped(Partial::Run(RunSoFar { format, input, elements, left }), read, Stop::Memory),
+                Err(_) => return stopped(
+                    Partial::Run(RunSoFar {
+                        format,
+                        input,
+                        elements,
+                        left,
+                    }),
+                    read,
+                    Stop::Memory,
+                ),
                 Ok(()) => {
                     read = bytes.len() - rest.len();
                     left -= 1;
@@ -69,7 +96,16 @@ fn go_on_run(alloc: Global, start: RunSoFar, bytes: &[u8], place: Place) -> Step
         }
     }
     match output(alloc, rest_of(bytes, read)) {
-        Err(stop) => stopped(Partial::Run(RunSoFar { format, input, elements, left }), read, stop),
+        Err(stop) => stopped(
+            Partial::Run(RunSoFar {
+                format,
+                input,
+                elements,
+                left,
+            }),
+            read,
+            stop,
+        ),
         Ok((output, rest)) => {
             let outcome = Outcome::Finished { elements, output };
             Step {

@@ -59,9 +59,9 @@ behind_first d bytes = exactly_at Magic 69 bytes >>= λ e. exactly_at Magic 84 e
 behind_first_steady : (d : ℕ) → IsSteady 0 (behind_first d)
 behind_first_steady d =
     steady_then 0 (exactly_at Magic 69) (λ e bytes. exactly_at Magic 84 bytes >>= λ t. exactly_at Magic 82 t.1 >>= λ r. exactly_at Magic 69 r.1 >>= λ f. exactly_at Magic 67 f.1) (exactly_steady Magic 69 tt) (λ e.
-        steady_then 0 (exactly_at Magic 84) (λ t bytes. exactly_at Magic 82 bytes >>= λ r. exactly_at Magic 69 r.1 >>= λ f. exactly_at Magic 67 f.1) (exactly_steady Magic 84 tt) (λ t.
-            steady_then 0 (exactly_at Magic 82) (λ r bytes. exactly_at Magic 69 bytes >>= λ f. exactly_at Magic 67 f.1) (exactly_steady Magic 82 tt) (λ r.
-                steady_then 0 (exactly_at Magic 69) (λ f bytes. exactly_at Magic 67 bytes) (exactly_steady Magic 69 tt) (λ f. exactly_steady Magic 67 tt))))
+    steady_then 0 (exactly_at Magic 84) (λ t bytes. exactly_at Magic 82 bytes >>= λ r. exactly_at Magic 69 r.1 >>= λ f. exactly_at Magic 67 f.1) (exactly_steady Magic 84 tt) (λ t.
+    steady_then 0 (exactly_at Magic 82) (λ r bytes. exactly_at Magic 69 bytes >>= λ f. exactly_at Magic 67 f.1) (exactly_steady Magic 82 tt) (λ r.
+    steady_then 0 (exactly_at Magic 69) (λ f bytes. exactly_at Magic 67 bytes) (exactly_steady Magic 69 tt) (λ f. exactly_steady Magic 67 tt))))
 
 magic_takes : (bytes : List ℕ) (x : ℕ × List ℕ) → magic_at bytes ≡ Got x → length x.1 < length bytes
 unfolding magic_at
@@ -199,7 +199,7 @@ finished_only : (layout : Layout) (before : ℕ) (input : CycleInput) (bytes : L
 unfolding finished_at finished_from
 finished_only layout before input bytes few = only_then _ (number 4 0 65536 bytes) (λ count. finished_from layout.format input [] count.0 count.1) (λ count.
     only_then _ (with_front [] (many (drawn_at layout.format) count.0 count.1)) (λ es. string_at 4 1048576 es.1 >>= λ out. Got (finished input es.0 out.0, out.1)) (λ es.
-        only_then _ (string_at 4 1048576 es.1) (λ out. Got (finished input es.0 out.0, out.1)) (λ out. only_give (IsKind (places.Runs layout before)) (finished input es.0 out.0) out.1 few)))
+    only_then _ (string_at 4 1048576 es.1) (λ out. Got (finished input es.0 out.0, out.1)) (λ out. only_give (IsKind (places.Runs layout before)) (finished input es.0 out.0) out.1 few)))
 
 refused_only : (layout : Layout) (before : ℕ) (input : CycleInput) (bytes : List ℕ) → before < 1000000 → GivesOnly (IsKind (places.Runs layout before)) (refused_at input bytes)
 unfolding refused_at
@@ -210,8 +210,8 @@ run_only : (layout : Layout) (before : ℕ) (bytes : List ℕ) → before < 1000
 unfolding run_at
 run_only layout before bytes few =
     only_then _ (input_at layout.events bytes) (λ input. number 1 0 1 input.1 >>= λ flag. cond (eqb flag.0 0) (finished_at layout.format input.0 flag.1) (refused_at input.0 flag.1)) (λ input.
-        only_then _ (number 1 0 1 input.1) (λ flag. cond (eqb flag.0 0) (finished_at layout.format input.0 flag.1) (refused_at input.0 flag.1)) (λ flag.
-            only_if _ (eqb flag.0 0) (finished_at layout.format input.0 flag.1) (refused_at input.0 flag.1) (λ e. finished_only layout before input.0 flag.1 few) (refused_only layout before input.0 flag.1 few)))
+    only_then _ (number 1 0 1 input.1) (λ flag. cond (eqb flag.0 0) (finished_at layout.format input.0 flag.1) (refused_at input.0 flag.1)) (λ flag.
+    only_if _ (eqb flag.0 0) (finished_at layout.format input.0 flag.1) (refused_at input.0 flag.1) (λ e. finished_only layout before input.0 flag.1 few) (refused_only layout before input.0 flag.1 few)))
 
 tagged_only : (place : Place) (b : ℕ) (bytes : List ℕ) → GivesOnly (IsKind place) (tagged_at place b bytes)
 unfolding tagged_at
@@ -221,8 +221,8 @@ tagged_only (places.Discover layout) b bytes = only_if _ (eqb b 2) (Got (frames.
 tagged_only (places.Init layout) b bytes = only_if _ (eqb b 3) (init_at bytes) (Bad (tag_reason b) (suc (length bytes))) (λ e. init_only layout bytes) (only_bad _ (tag_reason b) (suc (length bytes)))
 tagged_only (places.Runs layout before) b bytes =
     only_if _ (eqb b 4) (cond (ltb before 1000000) (run_at layout bytes) (Bad TooMany (suc (length bytes)))) (cond (eqb b 5) (Got (frames.Terminate, bytes)) (Bad (tag_reason b) (suc (length bytes))))
-        (λ e. only_if _ (ltb before 1000000) (run_at layout bytes) (Bad TooMany (suc (length bytes))) (λ few. run_only layout before bytes (ltb-true before 1000000 few)) (only_bad _ TooMany (suc (length bytes))))
-        (only_if _ (eqb b 5) (Got (frames.Terminate, bytes)) (Bad (tag_reason b) (suc (length bytes))) (λ e. only_give (IsKind (places.Runs layout before)) frames.Terminate bytes tt) (only_bad _ (tag_reason b) (suc (length bytes))))
+    (λ e. only_if _ (ltb before 1000000) (run_at layout bytes) (Bad TooMany (suc (length bytes))) (λ few. run_only layout before bytes (ltb-true before 1000000 few)) (only_bad _ TooMany (suc (length bytes))))
+    (only_if _ (eqb b 5) (Got (frames.Terminate, bytes)) (Bad (tag_reason b) (suc (length bytes))) (λ e. only_give (IsKind (places.Runs layout before)) frames.Terminate bytes tt) (only_bad _ (tag_reason b) (suc (length bytes))))
 tagged_only places.End b bytes = only_bad _ _ _
 
 frame_only : (place : Place) (bytes : List ℕ) → GivesOnly (IsKind place) (frame_at place bytes)

@@ -65,9 +65,9 @@ pub steady_refuse : {A : Type 0} (why : Reason) → IsCause why → IsSteady {A 
 steady_refuse {A} why cause = record {
   got = λ bytes tail x e. absurd cc;
   bad = λ bytes tail reason left e.
-    let p = bad_is {A = A} why reason (suc (length bytes)) left e in
-    let l : suc (length (bytes ++ tail)) ≡ left + length tail = omega (arith, length-append bytes tail, p.1) in
-    ap (λ (n : ℕ). bad {A = A} why n) l ∙ ap (λ (r : Reason). bad {A = A} r (left + length tail)) p.0;
+      let p = bad_is {A = A} why reason (suc (length bytes)) left e in
+      let l : suc (length (bytes ++ tail)) ≡ left + length tail = omega (arith, length-append bytes tail, p.1) in
+      ap (λ (n : ℕ). bad {A = A} why n) l ∙ ap (λ (r : Reason). bad {A = A} r (left + length tail)) p.0;
   rest = λ bytes x e. absurd cc;
   within = λ bytes reason left e. let p = bad_is {A = A} why reason (suc (length bytes)) left e in omega (arith, p.1);
   cause = λ bytes reason left e. subst IsCause (bad_is {A = A} why reason (suc (length bytes)) left e).0 cause;
@@ -77,34 +77,34 @@ steady_refuse {A} why cause = record {
 pub steady_then : {A B : Type 0} (before : ℕ) (r : List ℕ → Read A) (f : A → List ℕ → Read B) → IsSteady before r → ((a : A) → IsSteady 0 (f a)) → IsSteady before (λ bytes. r bytes >>= λ x. f x.0 x.1)
 steady_then {A} {B} before r f hr hf = record {
   got = λ bytes tail y e.
-    let b = bind_got (r bytes) (λ x. f x.0 x.1) y e in
-    let one : r (bytes ++ tail) ≡ Got (b.0.0, b.0.1 ++ tail) = hr.got bytes tail b.0 b.1 in
-    ap (λ (q : Read A). q >>= λ x. f x.0 x.1) one ∙ (hf b.0.0).got b.0.1 tail y b.2;
+      let b = bind_got (r bytes) (λ x. f x.0 x.1) y e in
+      let one : r (bytes ++ tail) ≡ Got (b.0.0, b.0.1 ++ tail) = hr.got bytes tail b.0 b.1 in
+      ap (λ (q : Read A). q >>= λ x. f x.0 x.1) one ∙ (hf b.0.0).got b.0.1 tail y b.2;
   bad = λ bytes tail reason left e.
-    elim (bind_bad (r bytes) (λ x. f x.0 x.1) reason left e) [
-      | inl h ↦ ap (λ (q : Read A). q >>= λ x. f x.0 x.1) (hr.bad bytes tail reason left h)
-      | inr b ↦ ap (λ (q : Read A). q >>= λ x. f x.0 x.1) (hr.got bytes tail b.0 b.1) ∙ (hf b.0.0).bad b.0.1 tail reason left b.2
-    ];
+      elim (bind_bad (r bytes) (λ x. f x.0 x.1) reason left e) [
+        | inl h ↦ ap (λ (q : Read A). q >>= λ x. f x.0 x.1) (hr.bad bytes tail reason left h)
+        | inr b ↦ ap (λ (q : Read A). q >>= λ x. f x.0 x.1) (hr.got bytes tail b.0 b.1) ∙ (hf b.0.0).bad b.0.1 tail reason left b.2
+      ];
   rest = λ bytes y e.
-    let b = bind_got (r bytes) (λ x. f x.0 x.1) y e in
-    let one = hr.rest bytes b.0 b.1 in
-    let two = (hf b.0.0).rest b.0.1 y b.2 in
-    let l : length b.0.1 ≡ length bytes - one.0 = ap length one.2 ∙ length-drop one.0 bytes in
-    (one.0 + two.0, omega (arith, one.1, two.1, l), two.2 ∙ ap (λ (xs : List ℕ). drop two.0 xs) one.2 ∙ drop-drop two.0 one.0 bytes);
+      let b = bind_got (r bytes) (λ x. f x.0 x.1) y e in
+      let one = hr.rest bytes b.0 b.1 in
+      let two = (hf b.0.0).rest b.0.1 y b.2 in
+      let l : length b.0.1 ≡ length bytes - one.0 = ap length one.2 ∙ length-drop one.0 bytes in
+      (one.0 + two.0, omega (arith, one.1, two.1, l), two.2 ∙ ap (λ (xs : List ℕ). drop two.0 xs) one.2 ∙ drop-drop two.0 one.0 bytes);
   within = λ bytes reason left e.
-    elim (bind_bad (r bytes) (λ x. f x.0 x.1) reason left e) [
-      | inl h ↦ hr.within bytes reason left h
-      | inr b ↦
-        let one = hr.rest bytes b.0 b.1 in
-        let l : length b.0.1 ≡ length bytes - one.0 = ap length one.2 ∙ length-drop one.0 bytes in
-        let w : left ≤ 0 + length b.0.1 = (hf b.0.0).within b.0.1 reason left b.2 in
-        omega arith
-    ];
+      elim (bind_bad (r bytes) (λ x. f x.0 x.1) reason left e) [
+        | inl h ↦ hr.within bytes reason left h
+        | inr b ↦
+            let one = hr.rest bytes b.0 b.1 in
+            let l : length b.0.1 ≡ length bytes - one.0 = ap length one.2 ∙ length-drop one.0 bytes in
+            let w : left ≤ 0 + length b.0.1 = (hf b.0.0).within b.0.1 reason left b.2 in
+            omega arith
+      ];
   cause = λ bytes reason left e.
-    elim (bind_bad (r bytes) (λ x. f x.0 x.1) reason left e) [
-      | inl h ↦ hr.cause bytes reason left h
-      | inr b ↦ (hf b.0.0).cause b.0.1 reason left b.2
-    ];
+      elim (bind_bad (r bytes) (λ x. f x.0 x.1) reason left e) [
+        | inl h ↦ hr.cause bytes reason left h
+        | inr b ↦ (hf b.0.0).cause b.0.1 reason left b.2
+      ];
 }
 
 -- one of two readers
@@ -157,7 +157,7 @@ steady_number limits zero v = steady_same 0 (number_from limits zero v) (λ byte
 steady_number limits (suc left) v =
     let f : ℕ → List ℕ → Read ℕ = λ b bytes. cond (can_be limits left (v * 256 + b)) (number_from limits left (v * 256 + b) bytes) (Bad Range (suc (length bytes))) in
     steady_same 0 (number_from limits (suc left) v) (by_first f) (number_is limits left v) (steady_first f (λ b.
-        steady_if 1 (can_be limits left (v * 256 + b)) (number_from limits left (v * 256 + b)) (λ bytes. Bad Range (suc (length bytes))) (steady_wider (number_from limits left (v * 256 + b)) (steady_number limits left (v * 256 + b))) (steady_refuse Range tt)))
+    steady_if 1 (can_be limits left (v * 256 + b)) (number_from limits left (v * 256 + b)) (λ bytes. Bad Range (suc (length bytes))) (steady_wider (number_from limits left (v * 256 + b)) (steady_number limits left (v * 256 + b))) (steady_refuse Range tt)))
 
 pub raw_short : (n : ℕ) (bytes : List ℕ) → length bytes < n → raw_at n bytes ≡ More
 unfolding raw_at
@@ -172,9 +172,9 @@ steady_raw n = record {
   got = λ bytes tail x e. elim (cases_lt (length bytes) n) [
     | inl lt ↦ absurd (cc (raw_short n bytes lt))
     | inr le ↦
-      let p : (take n bytes, drop n bytes) ≡ x = got_is (take n bytes, drop n bytes) x (sym (raw_long n bytes le) ∙ e) in
-      let q : raw_at n (bytes ++ tail) ≡ Got (take n bytes, drop n bytes ++ tail) = rw (raw_long n (bytes ++ tail) (omega (arith, length-append bytes tail)), take-append-le n bytes tail le, drop-append-le n bytes tail le) refl in
-      q ∙ ap (λ (y : List ℕ × List ℕ). got (y.0, y.1 ++ tail)) p
+        let p : (take n bytes, drop n bytes) ≡ x = got_is (take n bytes, drop n bytes) x (sym (raw_long n bytes le) ∙ e) in
+        let q : raw_at n (bytes ++ tail) ≡ Got (take n bytes, drop n bytes ++ tail) = rw (raw_long n (bytes ++ tail) (omega (arith, length-append bytes tail)), take-append-le n bytes tail le, drop-append-le n bytes tail le) refl in
+        q ∙ ap (λ (y : List ℕ × List ℕ). got (y.0, y.1 ++ tail)) p
   ];
   bad = λ bytes tail reason left e. elim (cases_lt (length bytes) n) [
     | inl lt ↦ absurd (cc (raw_short n bytes lt))
@@ -183,8 +183,8 @@ steady_raw n = record {
   rest = λ bytes x e. elim (cases_lt (length bytes) n) [
     | inl lt ↦ absurd (cc (raw_short n bytes lt))
     | inr le ↦
-      let p : (take n bytes, drop n bytes) ≡ x = got_is (take n bytes, drop n bytes) x (sym (raw_long n bytes le) ∙ e) in
-      (n, le, sym (ap (λ (y : List ℕ × List ℕ). y.1) p))
+        let p : (take n bytes, drop n bytes) ≡ x = got_is (take n bytes, drop n bytes) x (sym (raw_long n bytes le) ∙ e) in
+        (n, le, sym (ap (λ (y : List ℕ × List ℕ). y.1) p))
   ];
   within = λ bytes reason left e. elim (cases_lt (length bytes) n) [
     | inl lt ↦ absurd (cc (raw_short n bytes lt))
@@ -201,4 +201,4 @@ unfolding many
 steady_many {A} item h zero = steady_same 0 (many item zero) (λ bytes. Got ([], bytes)) (λ bytes. refl) (steady_give 0 [])
 steady_many {A} item h (suc n) =
     steady_then 0 item (λ first bytes. many item n bytes >>= λ others. Got (first ∷ others.0, others.1)) h (λ first.
-        steady_then 0 (many item n) (λ others bytes. Got (first ∷ others, bytes)) (steady_many item h n) (λ others. steady_give 0 (first ∷ others)))
+    steady_then 0 (many item n) (λ others bytes. Got (first ∷ others, bytes)) (steady_many item h n) (λ others. steady_give 0 (first ∷ others)))
