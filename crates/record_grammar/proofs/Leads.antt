@@ -58,10 +58,10 @@ behind_first d bytes = exactly_at Magic 69 bytes >>= λ e. exactly_at Magic 84 e
 
 behind_first_steady : (d : ℕ) → IsSteady 0 (behind_first d)
 behind_first_steady d =
-    steady_then 0 (exactly_at Magic 69) (λ e bytes. exactly_at Magic 84 bytes >>= λ t. exactly_at Magic 82 t.1 >>= λ r. exactly_at Magic 69 r.1 >>= λ f. exactly_at Magic 67 f.1) (exactly_steady Magic 69 tt) (λ e.
-    steady_then 0 (exactly_at Magic 84) (λ t bytes. exactly_at Magic 82 bytes >>= λ r. exactly_at Magic 69 r.1 >>= λ f. exactly_at Magic 67 f.1) (exactly_steady Magic 84 tt) (λ t.
-    steady_then 0 (exactly_at Magic 82) (λ r bytes. exactly_at Magic 69 bytes >>= λ f. exactly_at Magic 67 f.1) (exactly_steady Magic 82 tt) (λ r.
-    steady_then 0 (exactly_at Magic 69) (λ f bytes. exactly_at Magic 67 bytes) (exactly_steady Magic 69 tt) (λ f. exactly_steady Magic 67 tt))))
+    steady_then 0 (exactly_at Magic 69) (λ e bytes. exactly_at Magic 84 bytes >>= λ t. exactly_at Magic 82 t.1 >>= λ r. exactly_at Magic 69 r.1 >>= λ f. exactly_at Magic 67 f.1) (exactly_steady Magic 69) (λ e.
+    steady_then 0 (exactly_at Magic 84) (λ t bytes. exactly_at Magic 82 bytes >>= λ r. exactly_at Magic 69 r.1 >>= λ f. exactly_at Magic 67 f.1) (exactly_steady Magic 84) (λ t.
+    steady_then 0 (exactly_at Magic 82) (λ r bytes. exactly_at Magic 69 bytes >>= λ f. exactly_at Magic 67 f.1) (exactly_steady Magic 82) (λ r.
+    steady_then 0 (exactly_at Magic 69) (λ f bytes. exactly_at Magic 67 bytes) (exactly_steady Magic 69) (λ f. exactly_steady Magic 67))))
 
 magic_takes : (bytes : List ℕ) (x : ℕ × List ℕ) → magic_at bytes ≡ Got x → length x.1 < length bytes
 unfolding magic_at
@@ -255,9 +255,3 @@ room_falls (places.Init layout) (items.Frame (frames.Init elements)) h = omega a
 room_falls (places.Runs layout before) (items.Frame (frames.Run r)) h = omega arith
 room_falls (places.Runs layout before) (items.Frame frames.Terminate) h = omega arith
 room_falls place item h = elim h [ ]
-
--- a fault that was found stays the fault where no more bytes come
-pub fault_stays : (len : ℕ) (ending : Ending) (f : RecordFault) → fault_so_far_from len ending ≡ Some f → fault_from len ending ≡ Some f
-fault_stays len whole f e = absurd cc
-fault_stays len early f e = absurd cc
-fault_stays len (faulty reason left) f e = e

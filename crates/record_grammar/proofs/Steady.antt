@@ -3,7 +3,7 @@ use Rattle.std.proofs.Common.{◌≡◌, ℕ, zero, suc, ◌+◌, ◌-◌, ◌*�
 use Rattle.std.proofs.lemmas.Bool.{cases_lt, ltb-false, le-ltb, ltb-true}
 use Rattle.std.proofs.lemmas.List.{take-append-le, drop-append-le, drop-drop}
 use Rattle.record_grammar.specs.declared.fault.Reason.{Reason}
-use Rattle.record_grammar.specs.declared.fault.Reason.TheVariants.{Magic, Version, Range, Order, TooMany, Truncated, Trailing}
+use Rattle.record_grammar.specs.declared.fault.Reason.TheVariants.{Range}
 use Rattle.record_grammar.specs.declared.limits.Limits.{Limits}
 use Rattle.record_grammar.specs.Numbers.{number_from, can_be}
 use Rattle.record_grammar.specs.Read.{Read, Got, More, Bad, ◌>>=◌, raw_at, many}
@@ -24,18 +24,12 @@ bind_bad (Got x) f reason left e = inr (x, refl, e)
 bind_bad More f reason left e = absurd cc
 bind_bad (Bad why other) f reason left e = inl cc
 
--- a byte may be refused for it
-abbrev pub IsCause : Reason → Type 0
-IsCause Truncated = ⊥
-IsCause reason = Unit {0}
-
 -- Of the bytes that the reader is given, the faulty one is among the last `left`, up to `before` bytes ahead of them.
 pub record IsSteady {A : Type 0} (before : ℕ) (read : List ℕ → Read A) : Type 0 where
   pub got : (bytes tail : List ℕ) (x : A × List ℕ) → read bytes ≡ Got x → read (bytes ++ tail) ≡ Got (x.0, x.1 ++ tail)
   pub bad : (bytes tail : List ℕ) (reason : Reason) (left : ℕ) → read bytes ≡ Bad reason left → read (bytes ++ tail) ≡ Bad reason (left + length tail)
   pub rest : (bytes : List ℕ) (x : A × List ℕ) → read bytes ≡ Got x → (n : ℕ) × (n ≤ length bytes) × (x.1 ≡ drop n bytes)
   pub within : (bytes : List ℕ) (reason : Reason) (left : ℕ) → read bytes ≡ Bad reason left → left ≤ before + length bytes
-  pub cause : (bytes : List ℕ) (reason : Reason) (left : ℕ) → read bytes ≡ Bad reason left → IsCause reason
 
 pub steady_same : {A : Type 0} (before : ℕ) (r s : List ℕ → Read A) → ((bytes : List ℕ) → r bytes ≡ s bytes) → IsSteady before s → IsSteady before r
 steady_same before r s same h = record {
@@ -43,7 +37,6 @@ steady_same before r s same h = record {
   bad = λ bytes tail reason left e. same (bytes ++ tail) ∙ h.bad bytes tail reason left (sym (same bytes) ∙ e);
   rest = λ bytes x e. h.rest bytes x (sym (same bytes) ∙ e);
   within = λ bytes reason left e. h.within bytes reason left (sym (same bytes) ∙ e);
-  cause = λ bytes reason left e. h.cause bytes reason left (sym (same bytes) ∙ e);
 }
 
 pub steady_give : {A : Type 0} (before : ℕ) (a : A) → IsSteady before (λ bytes. Got (a, bytes))
@@ -52,7 +45,6 @@ steady_give {A} before a = record {
   bad = λ bytes tail reason left e. absurd cc;
   rest = λ bytes x e. let p : (a, bytes) ≡ x = got_is (a, bytes) x e in (0, omega arith, sym (ap (λ (y : A × List ℕ). y.1) p));
   within = λ bytes reason left e. absurd cc;
-  cause = λ bytes reason left e. absurd cc;
 }
 
 abbrev pub bad : {A : Type 0} → Reason → ℕ → Read A
@@ -61,8 +53,8 @@ bad reason left = Bad reason left
 pub bad_is : {A : Type 0} (why reason : Reason) (m n : ℕ) → bad {A = A} why m ≡ bad reason n → (why ≡ reason) × (m ≡ n)
 bad_is why reason m n e = (cc, cc)
 
-pub steady_refuse : {A : Type 0} (why : Reason) → IsCause why → IsSteady {A = A} 1 (λ bytes. Bad why (suc (length bytes)))
-steady_refuse {A} why cause = record {
+pub steady_refuse : {A : Type 0} (why : Reason) → IsSteady {A = A} 1 (λ bytes. Bad why (suc (length bytes)))
+steady_refuse {A} why = record {
   got = λ bytes tail x e. absurd cc;
   bad = λ bytes tail reason left e.
       let p = bad_is {A = A} why reason (suc (length bytes)) left e in
@@ -70,7 +62,6 @@ steady_refuse {A} why cause = record {
       ap (λ (n : ℕ). bad {A = A} why n) l ∙ ap (λ (r : Reason). bad {A = A} r (left + length tail)) p.0;
   rest = λ bytes x e. absurd cc;
   within = λ bytes reason left e. let p = bad_is {A = A} why reason (suc (length bytes)) left e in omega (arith, p.1);
-  cause = λ bytes reason left e. subst IsCause (bad_is {A = A} why reason (suc (length bytes)) left e).0 cause;
 }
 
 -- a reader, and then one that depends on what was read
@@ -100,20 +91,15 @@ steady_then {A} {B} before r f hr hf = record {
             let w : left ≤ 0 + length b.0.1 = (hf b.0.0).within b.0.1 reason left b.2 in
             omega arith
       ];
-  cause = λ bytes reason left e.
-      elim (bind_bad (r bytes) (λ x. f x.0 x.1) reason left e) [
-        | inl h ↦ hr.cause bytes reason left h
-        | inr b ↦ (hf b.0.0).cause b.0.1 reason left b.2
-      ];
 }
 
 -- one of two readers
 pub steady_if : {A : Type 0} (before : ℕ) (b : Bool) (r s : List ℕ → Read A) → IsSteady before r → IsSteady before s → IsSteady before (λ bytes. cond b (r bytes) (s bytes))
-steady_if before true r s hr hs = record { got = hr.got; bad = hr.bad; rest = hr.rest; within = hr.within; cause = hr.cause }
-steady_if before false r s hr hs = record { got = hs.got; bad = hs.bad; rest = hs.rest; within = hs.within; cause = hs.cause }
+steady_if before true r s hr hs = record { got = hr.got; bad = hr.bad; rest = hr.rest; within = hr.within }
+steady_if before false r s hr hs = record { got = hs.got; bad = hs.bad; rest = hs.rest; within = hs.within }
 
 pub steady_wider : {A : Type 0} (r : List ℕ → Read A) → IsSteady 0 r → IsSteady 1 r
-steady_wider r h = record { got = h.got; bad = h.bad; rest = h.rest; cause = h.cause; within = λ bytes reason left e. let w : left ≤ 0 + length bytes = h.within bytes reason left e in omega arith }
+steady_wider r h = record { got = h.got; bad = h.bad; rest = h.rest; within = λ bytes reason left e. let w : left ≤ 0 + length bytes = h.within bytes reason left e in omega arith }
 
 -- a reader that looks at the first byte
 abbrev pub by_first : {A : Type 0} → (ℕ → List ℕ → Read A) → List ℕ → Read A
@@ -137,12 +123,8 @@ module _ {A : Type 0} (f : ℕ → List ℕ → Read A) (h : (b : ℕ) → IsSte
   first_within [] reason left e = absurd cc
   first_within (b ∷ bytes) reason left e = let w : left ≤ 1 + length bytes = (h b).within bytes reason left e in omega arith
 
-  first_cause : (bytes : List ℕ) (reason : Reason) (left : ℕ) → by_first f bytes ≡ Bad reason left → IsCause reason
-  first_cause [] reason left e = absurd cc
-  first_cause (b ∷ bytes) reason left e = (h b).cause bytes reason left e
-
   pub steady_first : IsSteady 0 (by_first f)
-  steady_first = record { got = first_got; bad = first_bad; rest = first_rest; within = first_within; cause = first_cause }
+  steady_first = record { got = first_got; bad = first_bad; rest = first_rest; within = first_within }
 
 -- ---- numbers, bytes, and values in a row
 
@@ -157,7 +139,7 @@ steady_number limits zero v = steady_same 0 (number_from limits zero v) (λ byte
 steady_number limits (suc left) v =
     let f : ℕ → List ℕ → Read ℕ = λ b bytes. cond (can_be limits left (v * 256 + b)) (number_from limits left (v * 256 + b) bytes) (Bad Range (suc (length bytes))) in
     steady_same 0 (number_from limits (suc left) v) (by_first f) (number_is limits left v) (steady_first f (λ b.
-    steady_if 1 (can_be limits left (v * 256 + b)) (number_from limits left (v * 256 + b)) (λ bytes. Bad Range (suc (length bytes))) (steady_wider (number_from limits left (v * 256 + b)) (steady_number limits left (v * 256 + b))) (steady_refuse Range tt)))
+    steady_if 1 (can_be limits left (v * 256 + b)) (number_from limits left (v * 256 + b)) (λ bytes. Bad Range (suc (length bytes))) (steady_wider (number_from limits left (v * 256 + b)) (steady_number limits left (v * 256 + b))) (steady_refuse Range)))
 
 pub raw_short : (n : ℕ) (bytes : List ℕ) → length bytes < n → raw_at n bytes ≡ More
 unfolding raw_at
@@ -187,10 +169,6 @@ steady_raw n = record {
         (n, le, sym (ap (λ (y : List ℕ × List ℕ). y.1) p))
   ];
   within = λ bytes reason left e. elim (cases_lt (length bytes) n) [
-    | inl lt ↦ absurd (cc (raw_short n bytes lt))
-    | inr le ↦ absurd (cc (raw_long n bytes le))
-  ];
-  cause = λ bytes reason left e. elim (cases_lt (length bytes) n) [
     | inl lt ↦ absurd (cc (raw_short n bytes lt))
     | inr le ↦ absurd (cc (raw_long n bytes le))
   ];

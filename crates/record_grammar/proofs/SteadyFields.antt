@@ -1,5 +1,5 @@
 -- Each reader of the grammar is steady.
-use Rattle.std.proofs.Common.{◌≡◌, ℕ, zero, suc, ◌-◌, Bool, cond, List, [], ◌∷◌, ◌++◌, length, Option, Some, None, refl, ltb, leb, eqb, true, false, ◌&&◌}
+use Rattle.std.proofs.Common.{◌≡◌, ℕ, zero, suc, ◌-◌, Bool, cond, List, [], ◌∷◌, ◌++◌, length, Option, Some, None, refl, ltb, eqb}
 use Rattle.std.specs.Prelude.{ℤ}
 use Rattle.std.specs.Int.{w64, cast_signed}
 use Rattle.det_base.specs.declared.format.Format.{Format}
@@ -13,7 +13,7 @@ use Rattle.det_base.specs.declared.frames.Frame.TheVariants as frames
 use Rattle.det_base.specs.Values.{ProfileValue}
 use Rattle.det_base.specs.Limits.{may_stand_in_name}
 use Rattle.record_grammar.specs.declared.fault.Reason.{Reason}
-use Rattle.record_grammar.specs.declared.fault.Reason.TheVariants.{Magic, Version, Range, Order, TooMany, Trailing}
+use Rattle.record_grammar.specs.declared.fault.Reason.TheVariants.{Magic, Version, Range, TooMany, Trailing}
 use Rattle.record_grammar.specs.declared.limits.Limits.TheVariants.{Between, Around}
 use Rattle.record_grammar.specs.declared.place.Layout.{Layout}
 use Rattle.record_grammar.specs.declared.place.Place.{Place}
@@ -22,7 +22,7 @@ use Rattle.record_grammar.specs.declared.item.Item.TheVariants as items
 use Rattle.record_grammar.specs.Read.{Read, Got, More, Bad, ◌>>=◌, raw_at, many, with_front}
 use Rattle.record_grammar.specs.Numbers.{number, number_from}
 use Rattle.record_grammar.specs.Grammar.{signed_at, sample_value_at, string_at, exactly_at, magic_at, format_at, version_at, name_byte_at, name_at, policy_of, policy_at, event_at, params_at, events_at, profile_at, element_at, drawn_at, time_at, sample_at, most_samples, samples_at, input_at, phase_of, most_pass, most_element, refusal_at, init_from, finished_from, init_at, finished_at, refused_at, run_at, tag_reason, tagged_at, frame_at, item_at}
-use Rattle.record_grammar.proofs.Steady.{IsSteady, IsCause, steady_same, steady_give, steady_refuse, steady_then, steady_if, steady_wider, by_first, steady_first, steady_number, steady_raw, steady_many}
+use Rattle.record_grammar.proofs.Steady.{IsSteady, steady_same, steady_give, steady_refuse, steady_then, steady_if, steady_wider, by_first, steady_first, steady_number, steady_raw, steady_many}
 
 pub number_steady : (width least most : ℕ) → IsSteady 0 (number width least most)
 number_steady width least most = steady_number (Between least most) width 0
@@ -52,20 +52,20 @@ exactly_same : (reason : Reason) (expected : ℕ) (bytes : List ℕ) → exactly
 exactly_same reason expected [] = refl
 exactly_same reason expected (b ∷ bytes) = refl
 
-pub exactly_steady : (reason : Reason) (expected : ℕ) → IsCause reason → IsSteady 0 (exactly_at reason expected)
-exactly_steady reason expected cause =
+pub exactly_steady : (reason : Reason) (expected : ℕ) → IsSteady 0 (exactly_at reason expected)
+exactly_steady reason expected =
     steady_same 0 (exactly_at reason expected) (by_first (exactly_by reason expected)) (exactly_same reason expected) (steady_first (exactly_by reason expected) (λ b.
-    steady_if 1 (eqb b expected) (λ bytes. Got (expected, bytes)) (λ bytes. Bad reason (suc (length bytes))) (steady_give 1 expected) (steady_refuse reason cause)))
+    steady_if 1 (eqb b expected) (λ bytes. Got (expected, bytes)) (λ bytes. Bad reason (suc (length bytes))) (steady_give 1 expected) (steady_refuse reason)))
 
 pub magic_steady : IsSteady 0 magic_at
 unfolding magic_at
 magic_steady =
-    steady_then 0 (exactly_at Magic 68) (λ d bytes. exactly_at Magic 69 bytes >>= λ e. exactly_at Magic 84 e.1 >>= λ t. exactly_at Magic 82 t.1 >>= λ r. exactly_at Magic 69 r.1 >>= λ f. exactly_at Magic 67 f.1) (exactly_steady Magic 68 tt) (λ d.
-    steady_then 0 (exactly_at Magic 69) (λ e bytes. exactly_at Magic 84 bytes >>= λ t. exactly_at Magic 82 t.1 >>= λ r. exactly_at Magic 69 r.1 >>= λ f. exactly_at Magic 67 f.1) (exactly_steady Magic 69 tt) (λ e.
-    steady_then 0 (exactly_at Magic 84) (λ t bytes. exactly_at Magic 82 bytes >>= λ r. exactly_at Magic 69 r.1 >>= λ f. exactly_at Magic 67 f.1) (exactly_steady Magic 84 tt) (λ t.
-    steady_then 0 (exactly_at Magic 82) (λ r bytes. exactly_at Magic 69 bytes >>= λ f. exactly_at Magic 67 f.1) (exactly_steady Magic 82 tt) (λ r.
-    steady_then 0 (exactly_at Magic 69) (λ f bytes. exactly_at Magic 67 bytes) (exactly_steady Magic 69 tt) (λ f.
-    exactly_steady Magic 67 tt)))))
+    steady_then 0 (exactly_at Magic 68) (λ d bytes. exactly_at Magic 69 bytes >>= λ e. exactly_at Magic 84 e.1 >>= λ t. exactly_at Magic 82 t.1 >>= λ r. exactly_at Magic 69 r.1 >>= λ f. exactly_at Magic 67 f.1) (exactly_steady Magic 68) (λ d.
+    steady_then 0 (exactly_at Magic 69) (λ e bytes. exactly_at Magic 84 bytes >>= λ t. exactly_at Magic 82 t.1 >>= λ r. exactly_at Magic 69 r.1 >>= λ f. exactly_at Magic 67 f.1) (exactly_steady Magic 69) (λ e.
+    steady_then 0 (exactly_at Magic 84) (λ t bytes. exactly_at Magic 82 bytes >>= λ r. exactly_at Magic 69 r.1 >>= λ f. exactly_at Magic 67 f.1) (exactly_steady Magic 84) (λ t.
+    steady_then 0 (exactly_at Magic 82) (λ r bytes. exactly_at Magic 69 bytes >>= λ f. exactly_at Magic 67 f.1) (exactly_steady Magic 82) (λ r.
+    steady_then 0 (exactly_at Magic 69) (λ f bytes. exactly_at Magic 67 bytes) (exactly_steady Magic 69) (λ f.
+    exactly_steady Magic 67)))))
 
 abbrev format_by : ℕ → List ℕ → Read Format
 format_by b bytes = cond (eqb b 1) (Got (One, bytes)) (cond (eqb b 2) (Got (Two, bytes)) (Bad Version (suc (length bytes))))
@@ -79,12 +79,12 @@ pub format_steady : IsSteady 0 format_at
 format_steady =
     steady_same 0 format_at (by_first format_by) format_same (steady_first format_by (λ b.
     steady_if 1 (eqb b 1) (λ bytes. Got (One, bytes)) (λ bytes. cond (eqb b 2) (Got (Two, bytes)) (Bad Version (suc (length bytes)))) (steady_give 1 One)
-    (steady_if 1 (eqb b 2) (λ bytes. Got (Two, bytes)) (λ bytes. Bad Version (suc (length bytes))) (steady_give 1 Two) (steady_refuse Version tt))))
+    (steady_if 1 (eqb b 2) (λ bytes. Got (Two, bytes)) (λ bytes. Bad Version (suc (length bytes))) (steady_give 1 Two) (steady_refuse Version))))
 
 pub version_steady : IsSteady 0 version_at
 unfolding version_at
 version_steady =
-    steady_then 0 (exactly_at Version 0) (λ high bytes. format_at bytes) (exactly_steady Version 0 tt) (λ high.
+    steady_then 0 (exactly_at Version 0) (λ high bytes. format_at bytes) (exactly_steady Version 0) (λ high.
     format_steady)
 
 abbrev name_byte_by : ℕ → List ℕ → Read ℕ
@@ -98,7 +98,7 @@ name_byte_same (b ∷ bytes) = refl
 pub name_byte_steady : IsSteady 0 name_byte_at
 name_byte_steady =
     steady_same 0 name_byte_at (by_first name_byte_by) name_byte_same (steady_first name_byte_by (λ b.
-    steady_if 1 (may_stand_in_name b) (λ bytes. Got (b, bytes)) (λ bytes. Bad Range (suc (length bytes))) (steady_give 1 b) (steady_refuse Range tt)))
+    steady_if 1 (may_stand_in_name b) (λ bytes. Got (b, bytes)) (λ bytes. Bad Range (suc (length bytes))) (steady_give 1 b) (steady_refuse Range)))
 
 pub name_steady : IsSteady 0 name_at
 unfolding name_at
@@ -238,30 +238,23 @@ run_steady layout =
     steady_if 0 (eqb flag 0) (finished_at layout.format input) (refused_at input) (finished_steady layout.format input) (refused_steady input)))
 
 steady_more : {A : Type 0} → IsSteady {A = A} 1 (λ bytes. More)
-steady_more = record { got = λ bytes tail x e. absurd cc; bad = λ bytes tail reason left e. absurd cc; rest = λ bytes x e. absurd cc; within = λ bytes reason left e. absurd cc; cause = λ bytes reason left e. absurd cc }
-
-chosen_cause : (t : Bool) → IsCause (cond t Order Range)
-chosen_cause true = tt
-chosen_cause false = tt
-
-pub tag_cause : (b : ℕ) → IsCause (tag_reason b)
-tag_cause b = chosen_cause (leb 1 b && leb b 5)
+steady_more = record { got = λ bytes tail x e. absurd cc; bad = λ bytes tail reason left e. absurd cc; rest = λ bytes x e. absurd cc; within = λ bytes reason left e. absurd cc }
 
 -- one frame alone may stand in a place
 pub only_steady : {A : Type 0} (a : A) (b tag : ℕ) → IsSteady 1 (λ bytes. cond (eqb b tag) (Got (a, bytes)) (Bad (tag_reason b) (suc (length bytes))))
-only_steady a b tag = steady_if 1 (eqb b tag) (λ bytes. Got (a, bytes)) (λ bytes. Bad (tag_reason b) (suc (length bytes))) (steady_give 1 a) (steady_refuse (tag_reason b) (tag_cause b))
+only_steady a b tag = steady_if 1 (eqb b tag) (λ bytes. Got (a, bytes)) (λ bytes. Bad (tag_reason b) (suc (length bytes))) (steady_give 1 a) (steady_refuse (tag_reason b))
 
 pub tagged_steady : (place : Place) (b : ℕ) → IsSteady 1 (tagged_at place b)
 unfolding tagged_at
 tagged_steady places.Header b = steady_more
 tagged_steady (places.Register layout) b = only_steady frames.Register b 1
 tagged_steady (places.Discover layout) b = only_steady frames.Discover b 2
-tagged_steady (places.Init layout) b = steady_if 1 (eqb b 3) init_at (λ bytes. Bad (tag_reason b) (suc (length bytes))) (steady_wider init_at init_steady) (steady_refuse (tag_reason b) (tag_cause b))
+tagged_steady (places.Init layout) b = steady_if 1 (eqb b 3) init_at (λ bytes. Bad (tag_reason b) (suc (length bytes))) (steady_wider init_at init_steady) (steady_refuse (tag_reason b))
 tagged_steady (places.Runs layout before) b =
     steady_if 1 (eqb b 4) (λ bytes. cond (ltb before 1000000) (run_at layout bytes) (Bad TooMany (suc (length bytes)))) (λ bytes. cond (eqb b 5) (Got (frames.Terminate, bytes)) (Bad (tag_reason b) (suc (length bytes))))
-    (steady_if 1 (ltb before 1000000) (run_at layout) (λ bytes. Bad TooMany (suc (length bytes))) (steady_wider (run_at layout) (run_steady layout)) (steady_refuse TooMany tt))
+    (steady_if 1 (ltb before 1000000) (run_at layout) (λ bytes. Bad TooMany (suc (length bytes))) (steady_wider (run_at layout) (run_steady layout)) (steady_refuse TooMany))
     (only_steady frames.Terminate b 5)
-tagged_steady places.End b = steady_refuse Trailing tt
+tagged_steady places.End b = steady_refuse Trailing
 
 pub frame_same : (place : Place) (bytes : List ℕ) → frame_at place bytes ≡ by_first (tagged_at place) bytes
 unfolding frame_at
