@@ -1,5 +1,1 @@
 pub mod Appending
-pub mod Gives
-pub mod Policies
-pub mod Resuming
-pub mod StandsFor

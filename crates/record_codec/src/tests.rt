@@ -1,7 +1,7 @@
 use super::*;
 use det_base::{
-    Bytes64, CycleInput, DrawnElement, EventName, EventSpec, Format, Frame, Limited, Outcome,
-    Policy, Profile, RunFrame, Sample,
+    Bytes64, CycleInput, DrawnElement, Elements, EventName, EventSpec, Format, Frame, Limited,
+    Outcome, Policy, Profile, RunFrame, Sample,
 };
 use std::alloc::Global;
 use std::test::*;
@@ -33,14 +33,14 @@ fn bank(alloc: Global, format: Format) -> Result<Profile, Fail> {
     })
 }
 
-fn zeros(alloc: Global) -> Result<Frame, Fail> {
+fn zeros(alloc: Global) -> Result<Elements, Fail> {
     let mut elements = Limited::new(alloc);
     for _ in 0..4 {
         if !elements.is_full() {
             elements.push(Bytes64::of(&[0; 8])).ok().ok_or("memory")?;
         }
     }
-    Ok(Frame::Init(elements))
+    Ok(elements)
 }
 
 fn encode_empty_run(alloc: Global, format: Format) -> Result<Vec<u8>, Fail> {
@@ -53,7 +53,7 @@ fn encode_empty_run(alloc: Global, format: Format) -> Result<Vec<u8>, Fail> {
     encode_frame(format, 1, &Frame::Discover, &mut out)
         .ok()
         .ok_or("memory")?;
-    let init = zeros(alloc)?;
+    let init = Frame::Init(zeros(alloc)?);
     encode_frame(format, 1, &init, &mut out)
         .ok()
         .ok_or("memory")?;
