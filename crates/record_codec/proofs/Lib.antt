@@ -1,1 +1,9 @@
 pub mod Appending
+pub mod Numbers
+pub mod Wide
+pub mod Many
+pub mod Names
+pub mod Resumed
+pub mod Begins
+pub mod Started
+pub mod Next

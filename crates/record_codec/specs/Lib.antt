@@ -1,1 +1,5 @@
 pub mod Appending
+pub mod Gives
+pub mod Policies
+pub mod Resuming
+pub mod StandsFor

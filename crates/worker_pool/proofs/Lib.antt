@@ -1,0 +1,17 @@
+mod Assembling
+mod Done
+mod Entries
+mod Events
+mod Gathered
+mod InBlocks
+mod Kept
+mod MarkKept
+mod Marks
+mod Placing
+mod Pooling
+mod Refusals
+mod Running
+mod Schedules
+mod Settled
+mod Sharing
+mod Sound

@@ -1,0 +1,11 @@
+use Rattle.std.proofs.Common.{◌+◌, ◌*◌}
+use Rattle.worker_pool.proofs.divide.+divide+fn-divide-join+arg2+fn-divide-join+arg3.Given as goal
+
+abbrev pub decreases-divide : goal.decreases-divide
+decreases-divide g l = 2 * l.workers
+
+abbrev pub decreases-join+arg2 : goal.decreases-join+arg2
+decreases-join+arg2 g l = 2 * l.fewer + 1
+
+abbrev pub decreases-join+arg3 : goal.decreases-join+arg3
+decreases-join+arg3 g l = 2 * l.more + 1

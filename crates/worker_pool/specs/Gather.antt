@@ -1,0 +1,36 @@
+-- What an ended machine gathers from the answers of the blocks.
+use Rattle.std.specs.Prelude.{◌≡◌, ℕ, zero, suc, Bool, cond, ltb, List, [], ◌++◌, Result, Ok, Err, is_err}
+use Rattle.job_trait.specs.Pass.{Passed, Refusal}
+use Rattle.worker_pool.specs.Machine.{Machine}
+
+module _ {E P : Type 0} where
+  -- what two neighbours give together
+  abbrev pub beside : (P → P → P) → Passed E P → Passed E P → Passed E P
+  beside join done next = record {
+    elements = done.elements ++ next.elements;
+    draws = done.draws ++ next.draws;
+    part = join done.part next.part;
+  }
+
+  -- whether a block is a refusal, by what each block gives
+  abbrev pub refuses : (ℕ → Result (Passed E P) Refusal) → ℕ → Bool
+  refuses block b = is_err (block b)
+
+  module _ (join : P → P → P) (unit : P) where
+    -- no element
+    abbrev pub empty : Passed E P
+    empty = record { elements = []; draws = []; part = unit }
+
+    abbrev pub left_by : Result (Passed E P) Refusal → Passed E P
+    left_by (Ok done) = done
+    left_by (Err refusal) = empty
+
+    module _ (block : ℕ → Result (Passed E P) Refusal) where
+      -- the blocks below n, in the order of their numbers
+      abbrev pub together : ℕ → Passed E P
+      together zero = empty
+      together (suc n) = beside join (together n) (left_by (block n))
+
+      -- the refusal of the least block that was reported, or all blocks together
+      abbrev pub gather : ℕ → Machine → Result (Passed E P) Refusal
+      gather blocks m = cond (ltb m.least blocks) (block m.least) (Ok (together blocks))

@@ -1,0 +1,70 @@
+-- What a worker has done: the marks of its entries, and its results.
+use Rattle.std.specs.Prelude.{◌≡◌, ℕ, ◌+◌, ◌≤◌, ◌⊎◌, true, false, List, [], ◌∷◌, ◌++◌, map, Option, None, Some, Result, Ok, Err}
+use Rattle.job_trait.specs.Pass.{Passed, Refusal}
+use Rattle.worker_pool.specs.declared.view.Mark.{Mark}
+use Rattle.worker_pool.specs.declared.view.Mark.TheVariants.{Open, Finished, Reported, Skipped}
+use Rattle.worker_pool.specs.declared.view.PoolEntry.{PoolEntry}
+use Rattle.worker_pool.specs.declared.view.PoolView.{PoolView}
+use Rattle.worker_pool.specs.declared.answers.BlockAnswer.{BlockAnswer}
+use Rattle.worker_pool.specs.declared.answers.BlockAnswer.TheVariants.{Done, Refused}
+use Rattle.worker_pool.specs.declared.answers.BlockResult.{BlockResult}
+use Rattle.worker_pool.specs.Views.{Stands, Below, with_mark}
+use Rattle.worker_pool.specs.Gather.{refuses}
+use Rattle.worker_pool.specs.IsPass.{passed_of}
+
+-- each block is above those before it, and the first is n or more
+abbrev pub Rising : ℕ → List PoolEntry → Type 0
+Rising n [] = Unit {0}
+Rising n (e ∷ es) = (n ≤ e.block) × Rising (e.block + 1) es
+
+-- a block that ends the work: one that refused, or one above a refusal
+abbrev pub Stops : List PoolEntry → Type 0
+Stops es = (b : ℕ) × (Stands b Reported es ⊎ Stands b Skipped es)
+
+module _ {E P : Type 0} where
+  abbrev pub answer_of : BlockAnswer E P → Result (Passed E P) Refusal
+  answer_of (Done done) = Ok (passed_of done)
+  answer_of (Refused element code) = Err (record { element = element; code = code })
+
+  abbrev pub shown : BlockResult E P → ℕ × Result (Passed E P) Refusal
+  shown r = (r.block, answer_of r.answer)
+
+-- beside what each block gives
+module _ {E P : Type 0} (block : ℕ → Result (Passed E P) Refusal) where
+  -- no block is Open, what is Finished isn't a refusal, and what is Reported is one
+  abbrev pub IsHonest : Mark → ℕ → Type 0
+  IsHonest Open b = ⊥
+  IsHonest Finished b = refuses block b ≡ false
+  IsHonest Reported b = refuses block b ≡ true
+  IsHonest Skipped b = Unit {0}
+
+  abbrev pub Honest : List PoolEntry → Type 0
+  Honest [] = Unit {0}
+  Honest (e ∷ es) = IsHonest e.mark e.block × Honest es
+
+  -- a result for an entry that is Finished or Reported, and for no other
+  abbrev pub result_at : Mark → ℕ → List (ℕ × Result (Passed E P) Refusal)
+  result_at Open b = []
+  result_at Finished b = (b, block b) ∷ []
+  result_at Reported b = (b, block b) ∷ []
+  result_at Skipped b = []
+
+  abbrev pub results_of : List PoolEntry → List (ℕ × Result (Passed E P) Refusal)
+  results_of [] = []
+  results_of (e ∷ es) = result_at e.mark e.block ++ results_of es
+
+  -- a view without an Open entry, whose marks are true, in rising order of the blocks
+  pub record Tidy (v : PoolView) : Type 0 where
+    pub honest : Honest v.entries
+    pub below : Below v.seen v.entries
+    pub rising : Rising 0 v.entries
+
+  -- the same, with exactly the results of its entries
+  pub record Works (v : PoolView) (rs : List (BlockResult E P)) : Type 0 where
+    pub tidy : Tidy v
+    pub results : map shown rs ≡ results_of v.entries
+
+  -- Block b was Open in the view v and was run. There is an answer, or it was skipped.
+  abbrev pub Ends : ℕ → PoolView → Option (BlockAnswer E P) → PoolView → Type 0
+  Ends b v (Some answer) w = (w ≡ v) × (answer_of answer ≡ block b)
+  Ends b v None w = w ≡ with_mark b Skipped v

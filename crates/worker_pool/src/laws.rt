@@ -1,0 +1,60 @@
+//! What holds of the machine and of the rule, whatever the workers do. Each law is a function that
+//! computes nothing, and its contract is the law.
+ghost use Rattle.std.specs.Prelude.{◌≡◌, ◌≢◌, ℕ, ◌+◌, ◌<◌, ◌≤◌, List, [], ◌∷◌, ◌++◌, length, min, slice_index, slice_set, Result};
+ghost use mathlib.Core.Option.{some};
+ghost use lib.ListN.{get_elem?};
+ghost use Rattle.job_trait.specs.Pass.{Passed, Refusal, passed as passed_in_order, block};
+ghost use Rattle.worker_pool.specs.Gather.{gather, refuses};
+ghost use Rattle.worker_pool.specs.Machine.{Machine, Event, claim, finish, look, report, Has, after, next, start, Leads, HasEnded, blocks_of};
+ghost use Rattle.worker_pool.specs.declared.view.Mark.TheVariants.{Open, Finished, Reported, Skipped};
+ghost use Rattle.worker_pool.specs.declared.view.PoolView.{PoolView};
+ghost use Rattle.worker_pool.specs.Views.{Stands, taken, passed, with_mark, kept_half, other_half, joined, fresh};
+ghost use Rattle.worker_pool.specs.Rule.{PoolState};
+ghost use Rattle.worker_pool.specs.Shown.{At, Becomes};
+ghost use Rattle.worker_pool.specs.Moves.{moved, regrouped};
+
+use job_trait::Job;
+
+/// Each kind of step keeps the rule, and changes the state that the table shows as one event of the
+/// machine does. A claim in vain, a load that tells nothing, a split and a join are no event.
+pub fn steps_are_events()
+    ensures claim { (blocks : ℕ) (s : PoolState) (id : ℕ) (v : PoolView) (m : Machine)
+        → At blocks s id v m → v.seen < blocks → slice_index s.words (v.seen + 1) ≡ 0
+        → (v.seen ≡ next m) × (next m < blocks)
+        × Becomes blocks (moved s (v.seen + 1) 1 id (taken v)) (after claim m) }
+    ensures claim_in_vain { (blocks : ℕ) (s : PoolState) (id : ℕ) (v : PoolView) (m : Machine)
+        → At blocks s id v m → v.seen < blocks → slice_index s.words (v.seen + 1) ≡ 1
+        → Becomes blocks (moved s (v.seen + 1) 1 id (passed v)) m }
+    ensures finish { (blocks : ℕ) (s : PoolState) (id : ℕ) (v : PoolView) (m : Machine)
+        → At blocks s id v m → (b : ℕ) → Stands b Open v.entries
+        → Has m b Open
+        × Becomes blocks (moved s 0 (slice_index s.words 0) id (with_mark b Finished v)) (after (finish b) m) }
+    ensures look { (blocks : ℕ) (s : PoolState) (id : ℕ) (v : PoolView) (m : Machine)
+        → At blocks s id v m → (b : ℕ) → Stands b Open v.entries → slice_index s.words 0 < b
+        → Has m b Open
+        × Becomes blocks (moved s 0 (slice_index s.words 0) id (with_mark b Skipped v)) (after (look b) m) }
+    ensures report { (blocks : ℕ) (s : PoolState) (id : ℕ) (v : PoolView) (m : Machine)
+        → At blocks s id v m → (b : ℕ) → Stands b Open v.entries
+        → Has m b Open
+        × Becomes blocks (moved s 0 (min (slice_index s.words 0) b) id (with_mark b Reported v)) (after (report b) m) }
+    ensures load { (blocks : ℕ) (s : PoolState) (id : ℕ) (v : PoolView) (m : Machine)
+        → At blocks s id v m → Becomes blocks (moved s 0 (slice_index s.words 0) id v) m }
+    ensures split { (blocks : ℕ) (s : PoolState) (id : ℕ) (v : PoolView) (m : Machine)
+        → At blocks s id v m → 2 ≤ v.shares
+        → Becomes blocks (regrouped s (slice_set s.views id (kept_half v) ++ other_half v ∷ [])) m }
+    ensures join { (blocks : ℕ) (s : PoolState) (id : ℕ) (v : PoolView) (m : Machine)
+        → At blocks s id v m → (other : ℕ) (w : PoolView) → other ≢ id → get_elem? s.views other ≡ some w
+        → Becomes blocks (regrouped s (slice_set (slice_set s.views id (joined v w)) other (fresh 0))) m }
+{}
+
+/// Whatever events happen and in whatever order, an ended machine gathers what one thread answers that takes the
+/// elements one after another.
+pub fn any_schedule<J: Job>()
+    ensures { (job : J) (plan : J.Plan) (carry : J.Part) (seed cycle pass : ℕ) (elements : List J.Element)
+        (events : List Event) (end : Machine) → length elements ≤ 65536
+        → let blocks : ℕ = blocks_of (length elements) in
+        let answer : ℕ → Result (Passed J.Element J.Part) Refusal = λ b. block J.meaning job plan carry seed cycle pass b elements in
+        Leads blocks (refuses answer) events start end → HasEnded blocks end
+        → gather (J.meaning.joined job) (J.meaning.unit_part job) answer blocks end
+        ≡ passed_in_order J.meaning job plan carry seed cycle pass elements }
+{}
