@@ -98,7 +98,6 @@ module _ (old new : Decoder) (bytes : List ℕ) (given : List Item) (step : Step
         },
         all.0,
         all.1,
-        settles,
       )
 
   pub next_bad : (reason : Reason) (left offset : ℕ) → step.answer ≡ Err (stops.Bad reason left) → new.place ≡ old.place → offset ≡ old.before + (length old.pending.items - left) → new.fault ≡ Some (record { offset = offset; reason = reason }) → new.settled ≡ true → StandsFor old bytes given
@@ -119,8 +118,6 @@ module _ (old new : Decoder) (bytes : List ℕ) (given : List Item) (step : Step
         },
         all.0,
         trans_fault all.1 s,
-        settles,
-        new_faulty,
       )
 
   module _ (item : Item) (answered : step.answer ≡ Ok item) (follows : CanFollow old.place item → new.place ≡ after old.place item) (h : StandsFor old bytes given) where
@@ -170,7 +167,7 @@ next_again d bytes given f e h =
     let all = all_at_bad given d.place bytes h.rest f.reason s.left h.leads s.bad in
     let o : length bytes - s.left ≡ f.offset = omega arith in
     let p : some_fault (length bytes - s.left) f.reason ≡ Some f = ap (λ (n : ℕ). some_fault n f.reason) o in
-    ((h, all.0, all.1 ∙ p, s.settled, e), all.2 ∙ p)
+    ((h, all.0, all.1 ∙ p), all.2 ∙ p)
 
 -- ---- more bytes come
 

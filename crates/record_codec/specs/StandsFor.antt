@@ -1,5 +1,6 @@
 -- What a decoder keeps of the bytes that were fed to it, and of the items that it gave.
-use Rattle.std.specs.Prelude.{◌≡◌, ℕ, ◌+◌, ◌<◌, List, [], ◌∷◌, ◌++◌, length, drop, Option, Some, None, Result, Ok, Err, true}
+use Rattle.std.specs.Prelude.{◌≡◌, ℕ, ◌+◌, ◌-◌, ◌^◌, ◌<◌, List, [], ◌∷◌, ◌++◌, length, drop, Option, Some, None, Result, Ok, Err, true}
+use Rattle.std.specs.Vec.{vec_len}
 use Rattle.record_grammar.specs.declared.fault.RecordFault.{RecordFault}
 use Rattle.record_grammar.specs.declared.place.Place.TheVariants as places
 use Rattle.record_grammar.specs.declared.item.Item.{Item}
@@ -48,6 +49,10 @@ told d = d.fault
 abbrev pub room : Decoder → ℕ
 room d = may_come d.place
 
+-- how many bytes may still be fed: all that were fed are counted in 64 bits
+abbrev pub feedable : Decoder → ℕ
+feedable d = 2 ^ 64 - 1 - (d.before + vec_len d.pending)
+
 -- an item leaves fewer that may come, and any other answer leaves as many
 abbrev pub RoomFell : Result (Option Item) DecodeError → ℕ → ℕ → Type 0
 RoomFell (Ok (Some item)) old new = new < old
@@ -56,9 +61,16 @@ RoomFell (Err e) old new = new ≡ old
 
 abbrev pub NextIs : Result (Option Item) DecodeError → Decoder → List ℕ → List Item → Type 0
 NextIs (Ok (Some item)) d bytes given = StandsFor d bytes (given ++ item ∷ []) × (others : List Item) × (items bytes ≡ given ++ item ∷ others)
-NextIs (Ok None) d bytes given = StandsFor d bytes given × (items bytes ≡ given) × (fault_so_far bytes ≡ None) × IsSettled d
-NextIs (Err (errors.Fault f)) d bytes given = StandsFor d bytes given × (items bytes ≡ given) × (fault_so_far bytes ≡ Some f) × IsSettled d × (told d ≡ Some f)
+NextIs (Ok None) d bytes given = StandsFor d bytes given × (items bytes ≡ given) × (fault_so_far bytes ≡ None)
+NextIs (Err (errors.Fault f)) d bytes given = StandsFor d bytes given × (items bytes ≡ given) × (fault_so_far bytes ≡ Some f)
 NextIs (Err errors.OutOfMemory) d bytes given = StandsFor d bytes given
+
+-- what an answer leaves: a fault that was answered is told, and a decoder that needs more bytes is settled
+abbrev pub Leaves : Result (Option Item) DecodeError → Decoder → Type 0
+Leaves (Ok (Some item)) d = told d ≡ None
+Leaves (Ok None) d = (told d ≡ None) × IsSettled d
+Leaves (Err (errors.Fault f)) d = told d ≡ Some f
+Leaves (Err errors.OutOfMemory) d = told d ≡ None
 
 abbrev pub FinishIs : Result (Unit {0}) RecordFault → List ℕ → Type 0
 FinishIs (Ok u) bytes = fault bytes ≡ None

@@ -32,10 +32,10 @@ pub struct Decoder {
 }
 
 impl Decoder {
-    ghost use Rattle.std.specs.Prelude.{ℕ, List, [], ◌++◌, IsTrue, OnOk, OnErr, Option, Some, None};
+    ghost use Rattle.std.specs.Prelude.{ℕ, List, [], ◌++◌, length, IsTrue, OnOk, OnErr, Option, Some, None};
     ghost use Rattle.record_grammar.specs.declared.fault.RecordFault.{RecordFault};
     ghost use Rattle.record_grammar.specs.declared.item.Item.{Item};
-    ghost use Rattle.record_codec.specs.StandsFor.{StandsFor, NextIs, FinishIs, IsSettled, told, room, RoomFell};
+    ghost use Rattle.record_codec.specs.StandsFor.{StandsFor, NextIs, FinishIs, Leaves, IsSettled, told, room, feedable, RoomFell};
 
     /// Takes no memory.
     pub fn new(alloc: Global) -> Decoder
@@ -57,10 +57,12 @@ impl Decoder {
     /// The next item that stands whole in the bytes fed. None where more bytes are needed, or after Terminate.
     pub fn next(&mut self) -> Result<Option<Item>, DecodeError>
         ensures answer { (bytes : List ℕ) (given : List Item) → StandsFor self.old bytes given → NextIs result self.new bytes given }
+        ensures leaves { Leaves result self.new }
         // A fault is answered again, whatever was fed since.
         ensures again { (fault : RecordFault) → told self.old ≡ Some fault → result ≡ Err (DecodeError.Fault fault) }
         // Each item leaves fewer that may come.
         ensures room { (bytes : List ℕ) (given : List Item) → StandsFor self.old bytes given → RoomFell result (room self.old) (room self.new) }
+        ensures feedable { feedable self.new ≡ feedable self.old }
     {
         if let Some(fault) = self.fault {
             return Err(DecodeError::Fault(fault));
@@ -101,12 +103,14 @@ impl Decoder {
         }
     }
 
-    /// Takes the next piece of the record. After a fault nothing is kept of it. A refused call takes nothing.
+    /// Takes the next piece of the record. After a fault nothing is kept of it. A refused call takes nothing. It is refused
+    /// where memory can't be had, and where more than 2^64 - 1 bytes would have been fed.
     pub fn feed(&mut self, piece: &[u8]) -> Result<(), OutOfMemory>
         ensures ok { OnOk result ((bytes : List ℕ) (given : List Item) → StandsFor self.old bytes given → StandsFor self.new (bytes ++ piece.now) given) }
         ensures err { OnErr result ((bytes : List ℕ) (given : List Item) → StandsFor self.old bytes given → StandsFor self.new bytes given) }
         ensures told { told self.new ≡ told self.old }
         ensures room { room self.new ≡ room self.old }
+        ensures feedable { OnOk result (told self.old ≡ None → feedable self.new + length piece.now ≡ feedable self.old) }
     {
         if let Some(_) = self.fault {
             return Ok(());
