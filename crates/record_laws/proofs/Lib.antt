@@ -1,0 +1,10 @@
+mod Lawful
+mod LawfulMany
+mod LawfulNumbers
+mod LawfulWords
+mod LawfulFields
+mod LawfulHeader
+mod LawfulParts
+mod LawfulRuns
+mod LawfulItems
+mod OneSpelling

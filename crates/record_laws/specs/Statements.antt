@@ -1,0 +1,33 @@
+-- The laws, over the definitions of a record.
+use Rattle.std.specs.Prelude.{◌≡◌, ℕ, ◌^◌, ◌≤◌, List, None}
+use Rattle.det_base.specs.declared.frames.Frame.{Frame}
+use Rattle.det_base.specs.Values.{ProfileValue}
+use Rattle.record_grammar.specs.declared.place.Place.{Place}
+use Rattle.record_grammar.specs.declared.place.Place.TheVariants as places
+use Rattle.record_grammar.specs.declared.item.Item.{Item}
+use Rattle.record_grammar.specs.Record.{items, fault, fault_so_far}
+use Rattle.record_grammar.specs.Spelling.{AreBytes, Spells, SpellsWhole}
+use Rattle.record_grammar.specs.Laws.{HaveOneSpelling, IsDecoded, IsInOrder, items_of}
+
+-- two bytes can spell the number of each event that the place knows of
+abbrev pub EventsFit : Place → Type 0
+EventsFit (places.Runs layout before) = layout.events ≤ 2 ^ 16
+EventsFit place = Unit {0}
+
+abbrev pub OneSpelling : Type 0
+OneSpelling = (place : Place) (a b : Item) (x y : List ℕ) → EventsFit place → HaveOneSpelling place a b x y
+
+abbrev pub Decoding : Type 0
+Decoding = (bytes : List ℕ) → AreBytes bytes → IsDecoded bytes
+
+abbrev pub InOrder : Type 0
+InOrder = (profile : ProfileValue) (frames : List Frame) (bytes : List ℕ) → IsInOrder profile frames bytes
+
+-- what a spelling is read as
+pub record IsRead (profile : ProfileValue) (frames : List Frame) (bytes : List ℕ) : Type 0 where
+  pub items : items bytes ≡ items_of profile frames
+  pub no_fault : fault_so_far bytes ≡ None
+  pub whole : SpellsWhole profile frames bytes → fault bytes ≡ None
+
+abbrev pub SpelledIsRead : Type 0
+SpelledIsRead = (profile : ProfileValue) (frames : List Frame) (bytes : List ℕ) → Spells profile frames bytes → IsRead profile frames bytes
