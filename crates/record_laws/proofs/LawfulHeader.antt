@@ -19,6 +19,7 @@ use Rattle.record_grammar.specs.Grammar.{signed_at, exactly_at, magic_at, format
 use Rattle.record_grammar.specs.Spelling.{spelled_u16, spelled_u64, spelled_signed, version, policy_number, spelled_policy, spelled_event, spelled_params, spelled_events, magic, spelled_numbers, spelled_header, IsEvent, IsHeader}
 use Rattle.record_grammar.proofs.Steady.{by_first}
 use Rattle.record_laws.proofs.Lawful.{IsLawful, lawful_give, lawful_read, lawful_values, lawful_map, lawful_then, lawful_first}
+use Rattle.record_laws.proofs.HeaderParts.{a_profile, from_events, from_params, from_cycle, from_seed, from_job, from_version}
 use Rattle.record_laws.proofs.LawfulWords.{IsFrom, byte_lawful, u16_lawful, u64_lawful}
 use Rattle.record_laws.proofs.LawfulFields.{fixed_then, exactly_lawful, counted_lawful, signed_lawful}
 
@@ -221,27 +222,6 @@ events_lawful format =
 
 -- ---- the header
 
-abbrev a_profile : Format → ℕ → ℕ → ℕ → List ℤ → List EventSpecValue → ProfileValue
-a_profile format job seed cycle params events = record { format = format; job = job; seed = seed; cycle_time = cycle; params = params; events = events }
-
-abbrev from_events : Format → ℕ → ℕ → ℕ → List ℤ → List ℕ → Read ProfileValue
-from_events format job seed cycle params bytes = events_at format bytes >>= λ events. Got (a_profile format job seed cycle params events.0, events.1)
-
-abbrev from_params : Format → ℕ → ℕ → ℕ → List ℕ → Read ProfileValue
-from_params format job seed cycle bytes = params_at bytes >>= λ params. from_events format job seed cycle params.0 params.1
-
-abbrev from_cycle : Format → ℕ → ℕ → List ℕ → Read ProfileValue
-from_cycle format job seed bytes = number 8 1 9223372036854775807 bytes >>= λ cycle. from_params format job seed cycle.0 cycle.1
-
-abbrev from_seed : Format → ℕ → List ℕ → Read ProfileValue
-from_seed format job bytes = number 8 0 18446744073709551615 bytes >>= λ seed. from_cycle format job seed.0 seed.1
-
-abbrev from_job : Format → List ℕ → Read ProfileValue
-from_job format bytes = number 2 0 65535 bytes >>= λ job. from_seed format job.0 job.1
-
-abbrev from_version : ℕ → List ℕ → Read ProfileValue
-from_version last bytes = version_at bytes >>= λ format. from_job format.0 format.1
-
 -- the fields, each by its own condition
 abbrev AreFields : Format → ProfileValue → Type 0
 AreFields format p = IsFrom 0 65535 p.job × IsFrom 0 18446744073709551615 p.seed × IsFrom 1 9223372036854775807 p.cycle_time × AreParams p.params × AreEvents format p.events
@@ -273,7 +253,7 @@ job_lawful format =
     ))
     (λ events he. ((((((((hj, hs, hc, hp, he), refl), refl), refl), refl), refl)), refl)) (events_lawful format)))))
 
-abbrev behind_version : ProfileValue → List ℕ
+abbrev pub behind_version : ProfileValue → List ℕ
 behind_version p = spelled_u16 p.job ++ (spelled_u64 p.seed ++ (spelled_u64 p.cycle_time ++ (spelled_params p.params ++ spelled_events p.format p.events)))
 
 abbrev IsAny : ProfileValue → Type 0
@@ -314,7 +294,7 @@ header_back : (p : ProfileValue) → IsHeader p → IsAny p
 header_back p h =
     ((omega arith, omega (arith, h.job)), (omega arith, omega (arith, h.seed)), (h.cycle_time.0, omega (arith, h.cycle_time.1)), ((omega arith, h.few_params), h.params), ((omega arith, h.few_events), events_back p.format p.events h.events h.policies))
 
-header_is : (p : ProfileValue) → spelled_header p ≡ magic ++ (spelled_u16 (version p.format) ++ behind_version p)
+pub header_is : (p : ProfileValue) → spelled_header p ≡ magic ++ (spelled_u16 (version p.format) ++ behind_version p)
 unfolding spelled_header spelled_numbers
 header_is p =
     let a = spelled_u16 (version p.format) in

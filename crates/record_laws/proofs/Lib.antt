@@ -3,8 +3,15 @@ mod LawfulMany
 mod LawfulNumbers
 mod LawfulWords
 mod LawfulFields
+mod HeaderParts
 mod LawfulHeader
 mod LawfulParts
 mod LawfulRuns
 mod LawfulItems
 mod OneSpelling
+mod Ranges
+mod Reasons
+mod InPlaces
+mod Whole
+mod Order
+mod Spelled

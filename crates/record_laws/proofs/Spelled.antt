@@ -1,0 +1,29 @@
+-- What is spelled is read.
+use Rattle.std.proofs.Common.{◌≡◌, ℕ, List, [], length, None, sym, ap, ◌∙◌}
+use Rattle.det_base.specs.declared.frames.Frame.{Frame}
+use Rattle.det_base.specs.Values.{ProfileValue}
+use Rattle.record_grammar.specs.declared.place.Place.{Place}
+use Rattle.record_grammar.specs.declared.place.Place.TheVariants as places
+use Rattle.record_grammar.specs.Record.{items as items_in, fault, fault_from, fault_so_far, ending_at}
+use Rattle.record_grammar.specs.Spelling.{Spells, SpellsWhole}
+use Rattle.record_grammar.specs.Laws.{AreItems, items_spelling, items_of}
+use Rattle.record_grammar.proofs.Leads.{all_at_more}
+use Rattle.record_laws.specs.Statements.{IsRead}
+use Rattle.record_laws.proofs.Order.{in_order}
+use Rattle.record_laws.proofs.Whole.{nil_more, all_leads_on}
+
+-- items that lead to a place, and nothing behind them
+stops : (profile : ProfileValue) (frames : List Frame) (bytes : List ℕ) (to : Place) → AreItems places.Header (items_of profile frames) to → bytes ≡ items_spelling places.Header (items_of profile frames)
+    → (items_in bytes ≡ items_of profile frames) × (fault_so_far bytes ≡ None) × (fault bytes ≡ fault_from (length bytes) (ending_at to))
+stops profile frames bytes to h e = all_at_more (items_of profile frames) to bytes [] (all_leads_on (items_of profile frames) to bytes h e) (nil_more to)
+
+pub spelled_is_read : (profile : ProfileValue) (frames : List Frame) (bytes : List ℕ) → Spells profile frames bytes → IsRead profile frames bytes
+spelled_is_read profile frames bytes s =
+    let o = in_order profile frames bytes in
+    let b = o.begun.0 s in
+    let r = stops profile frames bytes b.0 b.1 b.2 in
+    record {
+      items = r.0;
+      no_fault = r.1;
+      whole = λ w. let a = o.whole.0 w in (stops profile frames bytes places.End a.0 a.1).2;
+    }
