@@ -1,6 +1,6 @@
 -- A reader is lawful where it reads exactly what is spelled, needs more exactly where a spelling goes on, and refuses
 -- the first byte with which none does.
-use Rattle.std.proofs.Common.{◌≡◌, ℕ, zero, suc, ◌+◌, ◌-◌, ◌*◌, ◌<◌, ◌≤◌, Bool, true, false, cond, List, [], ◌∷◌, ◌++◌, length, take, drop, refl, sym, ap, subst, ◌∙◌, append_assoc, arith, inl, inr, ◌⊎◌, length-append}
+use Rattle.std.proofs.Common.{◌≡◌, ℕ, suc, ◌<◌, List, [], ◌∷◌, ◌++◌, length, refl, sym, ap, subst, ◌∙◌, append_assoc, inl, inr, ◌⊎◌}
 use Rattle.std.proofs.lemmas.List.Elements.{All-head, All-tail}
 use Rattle.record_grammar.specs.declared.fault.Reason.{Reason}
 use Rattle.record_grammar.specs.Read.{Read, Got, More, Bad, ◌>>=◌}

@@ -1,5 +1,5 @@
 -- A header is read lawfully.
-use Rattle.std.proofs.Common.{◌≡◌, ℕ, zero, suc, ◌+◌, ◌-◌, ◌^◌, ◌<◌, ◌≤◌, ℤ, pos, FitsSigned, Bool, true, false, cond, eqb, leb, ◌&&◌, List, [], ◌∷◌, ◌++◌, length, refl, sym, ap, subst, ◌∙◌, append_assoc, arith, inl, inr, ◌⊎◌, lit≤, lit<}
+use Rattle.std.proofs.Common.{◌≡◌, ℕ, zero, suc, ◌<◌, ℤ, pos, FitsSigned, Bool, true, false, cond, eqb, ◌&&◌, List, [], ◌∷◌, ◌++◌, length, refl, sym, ap, subst, ◌∙◌, append_assoc, arith, inl, inr, ◌⊎◌, lit≤, lit<}
 use Rattle.std.specs.List.{flat_map, All, list_all}
 use Rattle.std.specs.Int.{w64}
 use Rattle.std.proofs.Math.Facts.{sfits_lit}
@@ -11,9 +11,9 @@ use Rattle.det_base.specs.declared.format.Format.TheVariants.{One, Two}
 use Rattle.det_base.specs.declared.event.Policy.{Policy}
 use Rattle.det_base.specs.declared.event.Policy.TheVariants.{Last, Fresh}
 use Rattle.det_base.specs.Values.{EventSpecValue, ProfileValue}
-use Rattle.det_base.specs.Limits.{may_stand_in_name, is_event_name, IsCapacity, IsCycleTime, KnowsPolicies}
+use Rattle.det_base.specs.Limits.{may_stand_in_name, is_event_name, KnowsPolicies}
 use Rattle.record_grammar.specs.declared.fault.Reason.TheVariants.{Magic, Version, Range}
-use Rattle.record_grammar.specs.Read.{Read, Got, More, Bad, ◌>>=◌, many}
+use Rattle.record_grammar.specs.Read.{Read, Got, Bad, ◌>>=◌}
 use Rattle.record_grammar.specs.Numbers.{number}
 use Rattle.record_grammar.specs.Grammar.{signed_at, exactly_at, magic_at, format_at, version_at, name_byte_at, name_at, policy_of, policy_at, event_at, params_at, events_at, profile_at}
 use Rattle.record_grammar.specs.Spelling.{spelled_u16, spelled_u64, spelled_signed, version, policy_number, spelled_policy, spelled_event, spelled_params, spelled_events, magic, spelled_numbers, spelled_header, IsEvent, IsHeader}

@@ -1,12 +1,11 @@
 -- Numbers are read lawfully.
-use Rattle.std.proofs.Common.{◌≡◌, ℕ, zero, suc, ◌+◌, ◌-◌, ◌*◌, ◌/◌, ◌%◌, ◌^◌, ◌<◌, ◌≤◌, max, Bool, true, false, cond, ltb, leb, ◌&&◌, ◌||◌, List, [], ◌∷◌, length, refl, sym, ap, subst, ◌∙◌, arith, inl, inr, ◌⊎◌}
+use Rattle.std.proofs.Common.{◌≡◌, ℕ, zero, suc, ◌+◌, ◌*◌, ◌/◌, ◌%◌, ◌^◌, ◌<◌, ◌≤◌, max, Bool, true, false, cond, leb, ◌&&◌, List, [], ◌∷◌, length, refl, sym, ap, subst, ◌∙◌, arith, inl, inr, ◌⊎◌}
 use Rattle.std.proofs.lemmas.Bool.{cases_lt}
 use Rattle.std.proofs.lemmas.Bool.Decides.{nat_tests}
 use Rattle.record_grammar.specs.declared.limits.Limits.{Limits}
 use Rattle.record_grammar.specs.declared.limits.Limits.TheVariants.{Between, Around}
-use Rattle.record_grammar.specs.declared.fault.Reason.{Reason}
 use Rattle.record_grammar.specs.declared.fault.Reason.TheVariants.{Range}
-use Rattle.record_grammar.specs.Read.{Read, Got, More, Bad}
+use Rattle.record_grammar.specs.Read.{Bad}
 use Rattle.record_grammar.specs.Numbers.{IsWithin, lowest, highest, can_be, number_from, number}
 use Rattle.record_grammar.proofs.Steady.{by_first, number_is}
 use Rattle.record_laws.proofs.Lawful.{IsLawful, lawful_give, lawful_read, lawful_values, lawful_first}

@@ -1,5 +1,5 @@
 -- The parts of frames are read lawfully.
-use Rattle.std.proofs.Common.{◌≡◌, ℕ, zero, suc, ◌+◌, ◌-◌, ◌^◌, ◌<◌, ◌≤◌, ℤ, pos, Bool, true, false, cond, eqb, List, [], ◌∷◌, ◌++◌, length, Option, Some, None, refl, sym, ap, subst, ◌∙◌, append_assoc, arith, lit≤, lit<}
+use Rattle.std.proofs.Common.{◌≡◌, ℕ, zero, suc, ◌-◌, ◌<◌, ◌≤◌, ℤ, pos, Bool, false, cond, eqb, List, [], ◌∷◌, ◌++◌, length, Option, Some, None, refl, sym, ap, subst, ◌∙◌, arith, lit≤, lit<}
 use Rattle.std.specs.List.{flat_map, All}
 use Rattle.std.proofs.lemmas.Bool.Decides.{nat_tests}
 use Rattle.std.proofs.lemmas.Int.{ints}
@@ -12,10 +12,10 @@ use Rattle.det_base.specs.declared.frames.CycleInput.{CycleInput}
 use Rattle.det_base.specs.declared.frames.DrawnElement.{DrawnElement}
 use Rattle.det_base.specs.Values.{SampleValue, RefusedAtValue}
 use Rattle.det_base.specs.Limits.{IsSampleValue, IsPlace}
-use Rattle.record_grammar.specs.Read.{Read, Got, More, Bad, ◌>>=◌, many}
+use Rattle.record_grammar.specs.Read.{Read, Got, ◌>>=◌, many}
 use Rattle.record_grammar.specs.Numbers.{number}
-use Rattle.record_grammar.specs.Grammar.{element_at, drawn_at, time_at, sample_value_at, sample_at, most_samples, samples_at, input_at, phase_of, most_pass, most_element, refusal_at}
-use Rattle.record_grammar.specs.Spelling.{spelled_u16, spelled_u32, spelled_u64, spelled_signed, spelled_element, IsElement, spelled_drawn, MayDraw, IsDrawn, spelled_time, IsTime, spelled_sample, IsSample, spelled_input, IsInput, phase_number, spelled_refusal, IsRefusal, IsString}
+use Rattle.record_grammar.specs.Grammar.{element_at, drawn_at, time_at, sample_value_at, sample_at, samples_at, input_at, phase_of, most_pass, most_element, refusal_at}
+use Rattle.record_grammar.specs.Spelling.{spelled_u16, spelled_u32, spelled_u64, spelled_signed, spelled_element, IsElement, spelled_drawn, IsDrawn, spelled_time, IsTime, spelled_sample, IsSample, spelled_input, IsInput, phase_number, spelled_refusal, IsRefusal, IsString}
 use Rattle.record_laws.proofs.Lawful.{IsLawful, lawful_give, lawful_read, lawful_values, lawful_map, lawful_then}
 use Rattle.record_laws.proofs.LawfulWords.{IsFrom, byte_lawful, u16_lawful, u32_lawful, u64_lawful, string_lawful}
 use Rattle.record_laws.proofs.LawfulFields.{bind_bind, counted_lawful, sample_value_lawful}

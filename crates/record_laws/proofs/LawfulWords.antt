@@ -1,10 +1,9 @@
 -- Bytes, words of two, four and eight bytes, and strings are read lawfully.
-use Rattle.std.proofs.Common.{◌≡◌, ℕ, zero, suc, ◌+◌, ◌-◌, ◌/◌, ◌%◌, ◌^◌, ◌<◌, ◌≤◌, List, [], ◌∷◌, ◌++◌, length, take, drop, refl, sym, ap, ap₂, subst, ◌∙◌, arith, inl, inr, ◌⊎◌, length-append, lit≤, shr-shr}
-use Rattle.std.specs.Int.{w16, w32, w64, bytes_high_first, byte_at}
+use Rattle.std.proofs.Common.{◌≡◌, ℕ, zero, suc, ◌-◌, ◌/◌, ◌%◌, ◌^◌, ◌<◌, ◌≤◌, List, [], ◌∷◌, ◌++◌, length, take, drop, refl, sym, ap, subst, ◌∙◌, arith, inl, inr, length-append, shr-shr}
 use Rattle.std.proofs.lemmas.Bool.{cases_lt}
 use Rattle.std.proofs.lemmas.List.{take-append-drop, take_at, drop_at, length-take}
 use Rattle.std.proofs.lemmas.List.Elements.{All-nil, All-cons, All-take, All-append}
-use Rattle.record_grammar.specs.Read.{Read, Got, More, Bad, raw_at}
+use Rattle.record_grammar.specs.Read.{raw_at}
 use Rattle.record_grammar.specs.Numbers.{number, highest}
 use Rattle.record_grammar.specs.Grammar.{string_at}
 use Rattle.record_grammar.specs.Spelling.{AreBytes, IsString, spelled_u16, spelled_u32, spelled_u64}

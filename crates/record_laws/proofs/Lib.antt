@@ -1,17 +1,19 @@
+pub mod FirstFrames
+pub mod Growing
+mod HeaderParts
+pub mod InPlaces
 mod Lawful
+mod LawfulFields
+mod LawfulHeader
+mod LawfulItems
 mod LawfulMany
 mod LawfulNumbers
-mod LawfulWords
-mod LawfulFields
-mod HeaderParts
-mod LawfulHeader
 mod LawfulParts
 mod LawfulRuns
-mod LawfulItems
-mod OneSpelling
+mod LawfulWords
+pub mod OneSpelling
+pub mod Order
 mod Ranges
 mod Reasons
-mod InPlaces
-mod Whole
-mod Order
-mod Spelled
+pub mod Spelled
+pub mod Whole

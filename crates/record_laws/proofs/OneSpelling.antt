@@ -1,12 +1,12 @@
 -- One place, one spelling.
-use Rattle.std.proofs.Common.{◌≡◌, ℕ, List, ◌++◌, sym, ap, subst, ◌∙◌}
+use Rattle.std.proofs.Common.{◌≡◌, ℕ, List, sym, ap, subst, ◌∙◌}
 use Rattle.record_grammar.specs.declared.place.Place.{Place}
 use Rattle.record_grammar.specs.declared.place.Place.TheVariants as places
 use Rattle.record_grammar.specs.declared.item.Item.{Item}
 use Rattle.record_grammar.specs.Grammar.{item_at}
-use Rattle.record_grammar.specs.Laws.{MayStand, item_spelling}
+use Rattle.record_grammar.specs.Laws.{MayStand}
 use Rattle.record_grammar.proofs.Steady.{got_is}
-use Rattle.record_laws.specs.Statements.{EventsFit, OneSpelling}
+use Rattle.record_laws.specs.Statements.{OneSpelling}
 use Rattle.record_laws.proofs.LawfulItems.{item_lawful}
 
 -- nothing stands behind the end

@@ -1,7 +1,6 @@
 -- Frames in their places are the frames of a run, or its first frames.
-use Rattle.std.proofs.Common.{◌≡◌, ℕ, zero, suc, ◌+◌, ◌-◌, ◌<◌, ◌≤◌, List, [], ◌∷◌, ◌++◌, length, map, refl, sym, ap, subst, ◌∙◌, arith}
+use Rattle.std.proofs.Common.{◌≡◌, ℕ, ◌+◌, ◌≤◌, List, [], ◌∷◌, ◌++◌, length, map, refl, sym, ap, subst, ◌∙◌, arith}
 use Rattle.std.specs.List.{flat_map, All}
-use Rattle.std.proofs.lemmas.List.{append-nil}
 use Rattle.std.proofs.lemmas.List.Concat.{flat_map-cons}
 use Rattle.std.proofs.lemmas.List.Elements.{All-nil, All-cons, All-head, All-tail}
 use Rattle.det_base.specs.declared.frames.RunFrame.{RunFrame}
@@ -13,7 +12,7 @@ use Rattle.record_grammar.specs.declared.place.Place.{Place}
 use Rattle.record_grammar.specs.declared.place.Place.TheVariants as places
 use Rattle.record_grammar.specs.declared.item.Item.TheVariants as items
 use Rattle.record_grammar.specs.Places.{after, layout_of, CanFollow}
-use Rattle.record_grammar.specs.Spelling.{IsHeader, IsFrame, spelled_header, spelled_frame, AreRun, Spells, SpellsWhole, spelled}
+use Rattle.record_grammar.specs.Spelling.{IsFrame, spelled_header, spelled_frame, AreRun, Spells, spelled}
 use Rattle.record_grammar.specs.Laws.{MayStand, AreItems, item_spelling, items_spelling, items_of, IsInOrder}
 
 -- frames that may follow one another, by their kinds, from one place to another

@@ -1,6 +1,5 @@
 -- Behind the version of a header, and behind the tag of a frame, each fault is Range.
-use Rattle.std.proofs.Common.{◌≡◌, ℕ, zero, suc, ◌-◌, ◌*◌, ◌+◌, ◌<◌, ◌≤◌, Bool, true, false, cond, eqb, List, [], ◌∷◌, ◌++◌, length, Option, Some, None, refl, sym, ap, ◌∙◌, inl, inr, ◌⊎◌}
-use Rattle.std.specs.Prelude.{ℤ}
+use Rattle.std.proofs.Common.{◌≡◌, ℕ, zero, suc, ◌-◌, ◌*◌, ◌+◌, Bool, true, false, cond, eqb, List, [], ◌∷◌, ◌++◌, length, Some, None, sym, inl, inr}
 use Rattle.std.specs.Int.{w64, cast_signed}
 use Rattle.std.proofs.lemmas.Bool.{cases_lt}
 use Rattle.det_base.specs.declared.format.Format.{Format}
@@ -17,7 +16,7 @@ use Rattle.record_grammar.specs.declared.fault.Reason.TheVariants.{Range}
 use Rattle.record_grammar.specs.declared.limits.Limits.{Limits}
 use Rattle.record_grammar.specs.declared.limits.Limits.TheVariants.{Between, Around}
 use Rattle.record_grammar.specs.declared.place.Layout.{Layout}
-use Rattle.record_grammar.specs.Read.{Read, Got, More, Bad, ◌>>=◌, raw_at, many, with_front}
+use Rattle.record_grammar.specs.Read.{Read, Got, Bad, ◌>>=◌, raw_at, many, with_front}
 use Rattle.record_grammar.specs.Numbers.{number, number_from, can_be}
 use Rattle.record_grammar.specs.Grammar.{signed_at, sample_value_at, string_at, name_byte_at, name_at, policy_of, policy_at, event_at, params_at, events_at, element_at, drawn_at, time_at, sample_at, most_samples, samples_at, input_at, phase_of, most_pass, most_element, refusal_at, init_from, finished_from, init_at, finished_at, refused_at, run_at}
 use Rattle.record_grammar.proofs.Steady.{bad, bad_is, bind_bad, raw_short, raw_long}

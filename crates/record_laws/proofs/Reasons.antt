@@ -1,12 +1,10 @@
 -- Why an item is refused, by the place of the faulty byte.
-use Rattle.std.proofs.Common.{◌≡◌, ℕ, zero, suc, ◌+◌, ◌-◌, ◌<◌, ◌≤◌, Bool, true, false, cond, eqb, ltb, List, [], ◌∷◌, ◌++◌, length, refl, sym, ap, ◌∙◌, arith, inl, inr, ◌⊎◌}
-use Rattle.std.specs.Prelude.{ℤ}
+use Rattle.std.proofs.Common.{◌≡◌, ℕ, suc, ◌+◌, ◌<◌, ◌≤◌, Bool, true, false, cond, eqb, ltb, List, [], ◌∷◌, length, refl, sym, ap, ◌∙◌, arith, inl, inr, ◌⊎◌}
 use Rattle.det_base.specs.declared.format.Format.{Format}
 use Rattle.det_base.specs.declared.format.Format.TheVariants.{One, Two}
-use Rattle.det_base.specs.declared.event.Policy.TheVariants.{Last}
 use Rattle.det_base.specs.declared.frames.Frame.{Frame}
 use Rattle.det_base.specs.declared.frames.Frame.TheVariants as frames
-use Rattle.det_base.specs.Values.{ProfileValue, EventSpecValue}
+use Rattle.det_base.specs.Values.{ProfileValue}
 use Rattle.record_grammar.specs.declared.fault.Reason.{Reason}
 use Rattle.record_grammar.specs.declared.fault.Reason.TheVariants.{Magic, Version, Range, TooMany, Trailing}
 use Rattle.record_grammar.specs.declared.place.Layout.{Layout}
@@ -19,7 +17,7 @@ use Rattle.record_grammar.specs.Numbers.{number}
 use Rattle.record_grammar.specs.Grammar.{exactly_at, magic_at, format_at, version_at, params_at, events_at, profile_at, tag_reason, init_at, run_at, tagged_at, frame_at, item_at}
 use Rattle.record_grammar.specs.Laws.{tag_reason_at}
 use Rattle.record_grammar.proofs.Steady.{IsSteady, steady_then, steady_give, got_is, bad, bad_is, bind_got, bind_bad}
-use Rattle.record_grammar.proofs.SteadyFields.{number_steady, params_steady, events_steady, init_steady, run_steady, profile_is}
+use Rattle.record_grammar.proofs.SteadyFields.{number_steady, params_steady, events_steady, init_steady, run_steady}
 use Rattle.record_laws.proofs.HeaderParts.{a_profile, from_events, from_params, from_cycle, from_seed, from_job, from_version}
 use Rattle.record_laws.proofs.Ranges.{OnlyRange, only_give, only_then, only_number, only_params, only_events, only_init, only_run}
 

@@ -11,10 +11,10 @@ use Rattle.record_grammar.specs.declared.item.Item.{Item}
 use Rattle.record_grammar.specs.Read.{Read, Got, More, Bad}
 use Rattle.record_grammar.specs.Grammar.{item_at, frame_at, tagged_at, profile_at, magic_at}
 use Rattle.record_grammar.specs.Places.{after}
-use Rattle.record_grammar.specs.Record.{items as items_in, fault, fault_from, fault_so_far, ending_at}
+use Rattle.record_grammar.specs.Record.{items as items_in, fault_from, ending_at}
 use Rattle.record_grammar.specs.Leads.{Leads}
 use Rattle.record_grammar.specs.Spelling.{AreBytes}
-use Rattle.record_grammar.specs.Laws.{MayStand, AreItems, item_spelling, items_spelling, IsWhole, Begins, IsFirstFault, AreLongest, IsReason, tag_reason_at, IsDecoded}
+use Rattle.record_grammar.specs.Laws.{AreItems, item_spelling, items_spelling, Begins, AreLongest, IsReason, tag_reason_at, IsDecoded}
 use Rattle.record_grammar.proofs.Steady.{got_is, bad, bad_is}
 use Rattle.record_grammar.proofs.Leads.{item_takes, all_at_more, all_at_bad}
 use Rattle.record_laws.proofs.Lawful.{IsRefused, AreBytes-rest, AreBytes-head, AreBytes-tail}

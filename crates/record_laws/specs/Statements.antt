@@ -17,6 +17,9 @@ EventsFit place = Unit {0}
 abbrev pub OneSpelling : Type 0
 OneSpelling = (place : Place) (a b : Item) (x y : List ℕ) → EventsFit place → HaveOneSpelling place a b x y
 
+abbrev pub OneRecord : Type 0
+OneRecord = (p q : ProfileValue) (fs gs : List Frame) (bytes : List ℕ) → Spells p fs bytes → Spells q gs bytes → (p ≡ q) × (fs ≡ gs)
+
 abbrev pub Decoding : Type 0
 Decoding = (bytes : List ℕ) → AreBytes bytes → IsDecoded bytes
 

@@ -2,12 +2,13 @@
 //! spelling. Each function is empty and its contract is the law.
 #![tactic(auto)]
 
-ghost use Rattle.record_laws.specs.Statements.{OneSpelling, Decoding, InOrder, SpelledIsRead};
+ghost use Rattle.record_laws.specs.Statements.{OneSpelling, OneRecord, Decoding, InOrder, SpelledIsRead};
 
-/// In one place no item's spelling begins another's, and no two items have one spelling. The place is behind a header
-/// of at most 65,536 events.
+/// In one place no item's spelling begins another's, and no two items have one spelling; so no two profiles with frames
+/// have one spelling either. A place is meant whose events can be numbered in two bytes; a header names at most 256.
 pub fn one_spelling()
-    ensures { OneSpelling }
+    ensures item { OneSpelling }
+    ensures whole { OneRecord }
 {}
 
 /// The items and the fault of any bytes, in terms of whole records.
