@@ -1,7 +1,10 @@
 -- The laws, over the definitions of a record.
-use Rattle.std.specs.Prelude.{◌≡◌, ℕ, ◌^◌, ◌≤◌, List, None}
+use Rattle.std.specs.Prelude.{◌≡◌, ℕ, ◌^◌, ◌≤◌, ◌⊎◌, List, ◌++◌, length, Some, None}
 use Rattle.det_base.specs.declared.frames.Frame.{Frame}
 use Rattle.det_base.specs.Values.{ProfileValue}
+use Rattle.det_base.specs.Prefix.{IsPrefix}
+use Rattle.record_grammar.specs.declared.fault.Reason.TheVariants.{Truncated}
+use Rattle.record_grammar.specs.declared.fault.RecordFault.{RecordFault}
 use Rattle.record_grammar.specs.declared.place.Place.{Place}
 use Rattle.record_grammar.specs.declared.place.Place.TheVariants as places
 use Rattle.record_grammar.specs.declared.item.Item.{Item}
@@ -22,6 +25,22 @@ OneRecord = (p q : ProfileValue) (fs gs : List Frame) (bytes : List ℕ) → Spe
 
 abbrev pub Decoding : Type 0
 Decoding = (bytes : List ℕ) → AreBytes bytes → IsDecoded bytes
+
+-- without a fault so far there is none, or the bytes end too early
+abbrev pub EarlyEnd : Type 0
+EarlyEnd = (bytes : List ℕ) → fault_so_far bytes ≡ None → (fault bytes ≡ None) ⊎ (fault bytes ≡ Some (record { offset = length bytes; reason = Truncated }))
+
+abbrev pub ItemsGrow : Type 0
+ItemsGrow = (bytes more : List ℕ) → IsPrefix (items bytes) (items (bytes ++ more))
+
+-- bytes that were refused, with more behind them
+pub record IsStillRefused (bytes more : List ℕ) (f : RecordFault) : Type 0 where
+  pub items : items (bytes ++ more) ≡ items bytes
+  pub so_far : fault_so_far (bytes ++ more) ≡ Some f
+  pub fault : fault (bytes ++ more) ≡ Some f
+
+abbrev pub FaultStays : Type 0
+FaultStays = (bytes more : List ℕ) (f : RecordFault) → fault_so_far bytes ≡ Some f → IsStillRefused bytes more f
 
 abbrev pub InOrder : Type 0
 InOrder = (profile : ProfileValue) (frames : List Frame) (bytes : List ℕ) → IsInOrder profile frames bytes

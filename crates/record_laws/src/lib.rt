@@ -2,7 +2,7 @@
 //! spelling. Each function is empty and its contract is the law.
 #![tactic(auto)]
 
-ghost use Rattle.record_laws.specs.Statements.{OneSpelling, OneRecord, Decoding, InOrder, SpelledIsRead};
+ghost use Rattle.record_laws.specs.Statements.{OneSpelling, OneRecord, Decoding, EarlyEnd, ItemsGrow, FaultStays, InOrder, SpelledIsRead};
 
 /// In one place no item's spelling begins another's, and no two items have one spelling; so no two profiles with frames
 /// have one spelling either. A place is meant whose events can be numbered in two bytes; a header names at most 256.
@@ -13,7 +13,14 @@ pub fn one_spelling()
 
 /// The items and the fault of any bytes, in terms of whole records.
 pub fn decoding()
-    ensures { Decoding }
+    ensures all { Decoding }
+    ensures early { EarlyEnd }
+{}
+
+/// More bytes add items behind those that are there, and a fault whose byte is there stays whatever comes after it.
+pub fn more_bytes()
+    ensures items { ItemsGrow }
+    ensures fault { FaultStays }
 {}
 
 /// Items that stand in their places are the frames of a run, or its first frames.
