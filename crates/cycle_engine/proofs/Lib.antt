@@ -1,1 +1,3 @@
+mod Adding
 mod Beginning
+pub mod Standing

@@ -1,20 +1,35 @@
 //! A job with all that it keeps between cycles.
-ghost use Rattle.std.specs.Prelude.{◌≡◌, ℕ, ◌<◌, ◌≤◌, List, [], ◌∷◌, length, map, IfOk, None, true, false};
-ghost use Rattle.det_base.specs.Values.{ProfileValue};
-ghost use Rattle.cycle_engine.specs.Engine.{StandsFor, EngineState};
+ghost use Rattle.std.specs.Prelude.{◌≡◌, ℕ, ◌+◌, ◌<◌, ◌≤◌, List, [], ◌∷◌, ◌++◌, length, map, IfOk, OnOk, OnErr, None, true, false};
+ghost use Rattle.std.specs.List.{All};
+ghost use Rattle.det_base.specs.Values.{ProfileValue, SampleValue, EventSpecValue};
+ghost use Rattle.det_base.specs.declared.frames.CycleInput.{CycleInput as Input};
+ghost use Rattle.det_base.specs.Frames.{outcome_in_format};
+ghost use Rattle.event_cache.specs.Rings.{windows};
+ghost use Rattle.event_cache.specs.Windows.{HasSeen, next_windows};
+ghost use Rattle.job_trait.specs.Cycle.{outcome_of, state_after};
+ghost use Rattle.cycle_engine.specs.Frames.{frame_of, state_of};
+ghost use Rattle.cycle_engine.specs.Engine.{StandsFor, EngineState, IsAfter, next_cycle, next_frame};
 
-use det_base::{Bytes64, Container, Elements, Format, OutOfMemory, Profile};
+use crate::fault::CycleFault;
+use crate::phases::run_phases;
+use det_base::{
+    Bytes64, Container, CycleInput, Elements, Format, Frame, OutOfMemory, Outcome, Profile, RefusedAt,
+    RunFrame, Sample, as_format,
+};
 use det_client::{Client, Next};
 use event_cache::EventCache;
 use job_trait::Job;
 use std::alloc::Global;
 use std::marker::Model;
+use std::thread::Threads;
+use worker_pool::Gate;
 
 /// A job with all that it keeps between cycles.
 #[derive(Drop)]
 pub struct Engine<J: Job> {
     job: J,
     format: Format,
+    cycle_time: u64,
     globals: J::Globals,
     elements: Container<J::Element>,
     client: Client,
@@ -31,12 +46,46 @@ impl<J: Job> Model for Engine<J> {
       format = e.format;
       state = record { globals = e.globals; elements = e.elements; seed = e.client.seed };
       cycles = e.client.cycle;
-      cycle_time = e.client.cycle_time;
+      cycle_time = e.cycle_time;
       rings = e.cache;
       stopped = is_terminate e.client.last;
     } };
 
-    ghost invariant = { λ e. Fits J.meaning J.Own e.job e.elements e.client e.cache };
+    ghost invariant = { λ e. Fits J.meaning J.Own e.job e.elements e.client e.cache e.cycle_time };
+}
+
+/// Lets these samples arrive, and shows them to the next cycle.
+fn feed(cache: &mut EventCache, samples: &[Sample])
+    requires { All (λ s. s.event < length cache.old) samples.now }
+    ensures count { length cache.new ≡ length cache.old }
+    ensures seen { (events : List EventSpecValue) (rounds : List (List SampleValue))
+        → HasSeen cache.old events rounds [] → HasSeen cache.new events (rounds ++ samples.now ∷ []) [] }
+    ensures windows { (events : List EventSpecValue) (rounds : List (List SampleValue))
+        → HasSeen cache.old events rounds [] → windows cache.new ≡ next_windows events (windows cache.old) samples.now }
+{
+    for sample in samples {
+        cache.arrive(*sample);
+    }
+    cache.turn();
+}
+
+/// The outcome of a refused cycle.
+fn refused(at: RefusedAt) -> Outcome
+    ensures { result ≡ Outcome.Refused at }
+{
+    Outcome::Refused(at)
+}
+
+/// The frame of a cycle, as far as a format keeps it.
+fn framed(format: Format, input: CycleInput, outcome: Outcome) -> RunFrame
+    ensures { result ≡ record { input = input; outcome = outcome_in_format format outcome } }
+{
+    let mut frame = Frame::Run(RunFrame { input, outcome });
+    as_format(format, &mut frame);
+    match frame {
+        Frame::Run(run) => run,
+        _ => unreachable!(),
+    }
 }
 
 impl<J: Job> Engine<J> {
@@ -58,6 +107,7 @@ impl<J: Job> Engine<J> {
         Ok(Engine {
             job,
             format: profile.format,
+            cycle_time: profile.cycle_time,
             globals: begun.globals,
             elements: begun.elements,
             client,
@@ -74,6 +124,86 @@ impl<J: Job> Engine<J> {
             shown.push(self.job.element_bytes(element))?;
         }
         Ok(shown)
+    }
+
+    /// Runs the phases of the next cycle on a number of workers. The windows stay.
+    fn advance<G: Gate, R: Threads + Sync>(
+        &mut self,
+        rt: &R,
+        alloc: Global,
+        time: Option<u64>,
+        workers: u32,
+        gate: &G,
+    ) -> Result<Outcome, OutOfMemory>
+        requires few { self.old.cycles < 1000000 }
+        requires workers { (1 ≤ workers) × (workers ≤ 64) }
+        requires going { self.old.stopped ≡ false }
+        ensures outcome { IfOk result (λ outcome. outcome ≡ outcome_of (next_cycle J.meaning self.old time)) }
+        ensures after { OnOk result (self.new ≡ record self.old { state = state_after self.old.state (next_cycle J.meaning self.old time); cycles = self.old.cycles + 1 }) }
+        ensures kept { OnErr result (self.new ≡ self.old) }
+    {
+        let seed = self.client.seed();
+        let cycles = self.client.cycle();
+        let _ = self.client.wait_for_activation(Next::Go(time));
+        match run_phases(
+            rt,
+            alloc,
+            &self.job,
+            &self.globals,
+            self.elements.as_slice(),
+            &self.cache,
+            &mut self.client,
+            workers,
+            gate,
+        ) {
+            Ok(done) => {
+                self.globals = done.globals;
+                self.elements = done.elements;
+                Ok(Outcome::Finished {
+                    elements: done.shown,
+                    output: done.output,
+                })
+            }
+            Err(CycleFault::Refused(at)) => {
+                self.client.set_random_seed(seed);
+                Ok(refused(at))
+            }
+            Err(CycleFault::OutOfMemory) => {
+                self.client = Client::resumed(self.cycle_time, seed, cycles);
+                Err(OutOfMemory)
+            }
+        }
+    }
+
+    /// Runs the next cycle on a number of workers, from 1 to 64, and answers its frame.
+    ///
+    /// The windows of the cycle hold samples of earlier cycles alone: the input's samples arrive at its end, also where
+    /// it is refused. A refused cycle keeps globals, elements and seed, and counts as a cycle. After OutOfMemory all is as
+    /// before the call. Each worker passes the gate once in a pass.
+    pub fn cycle<G: Gate, R: Threads + Sync>(
+        &mut self,
+        rt: &R,
+        alloc: Global,
+        input: &CycleInput,
+        workers: u32,
+        gate: &G,
+    ) -> Result<RunFrame, OutOfMemory>
+        requires few { self.old.cycles < 1000000 }
+        requires events { All (λ s. s.event < length self.old.rings) input.now.samples }
+        requires workers { (1 ≤ workers) × (workers ≤ 64) }
+        requires going { self.old.stopped ≡ false }
+        ensures frame { IfOk result (λ frame. (profile : ProfileValue) (inputs : List Input) → StandsFor J.meaning profile self.old inputs
+            → frame ≡ frame_of J.meaning profile inputs (state_of J.meaning profile inputs) input.now) }
+        ensures stands { OnOk result ((profile : ProfileValue) (inputs : List Input) → StandsFor J.meaning profile self.old inputs
+            → StandsFor J.meaning profile self.new (inputs ++ input.now ∷ [])) }
+        ensures outcome { IfOk result (λ frame. frame ≡ next_frame J.meaning self.old input.now) }
+        ensures after { OnOk result (IsAfter J.meaning self.old input.now self.new) }
+        ensures kept { OnErr result (self.new ≡ self.old) }
+    {
+        let copy = input.copied(alloc)?;
+        let outcome = self.advance(rt, alloc, input.time, workers, gate)?;
+        feed(&mut self.cache, input.samples.as_slice());
+        Ok(framed(self.format, copy, outcome))
     }
 
     /// Brings the activation that ends the run. It takes no memory.

@@ -2,5 +2,8 @@
 #![tactic(auto)]
 
 mod engine;
+mod fault;
+mod passes;
+mod phases;
 
 pub use engine::Engine;

@@ -1,0 +1,75 @@
+//! Why a cycle gives no new state.
+ghost use Rattle.std.specs.Prelude.{◌≡◌, ◌<◌};
+ghost use Rattle.worker_pool.specs.IsPass.{RefusedBelow};
+ghost use Rattle.cycle_engine.specs.Answers.{PoolEnds, JobEnds};
+
+use det_base::{OutOfMemory, Outcome, Phase, RefusedAt};
+use job_trait::JobFault;
+use worker_pool::PoolFault;
+
+/// Why a cycle gives no new state.
+#[derive(Clone, Copy, Debug, PartialEq, Eq, Drop)]
+pub enum CycleFault {
+    /// The job refuses the cycle there.
+    Refused(RefusedAt),
+    /// Memory could not be had.
+    OutOfMemory,
+}
+
+impl From<OutOfMemory> for CycleFault {
+    ghost use Rattle.std.specs.Prelude.{◌≡◌};
+    ghost use Rattle.cycle_engine.specs.declared.fault.CycleFault.TheVariants as faults;
+
+    ghost from_gives = { λ _ fault. fault ≡ faults.OutOfMemory };
+
+    fn from(_: OutOfMemory) -> CycleFault {
+        CycleFault::OutOfMemory
+    }
+}
+
+/// The fault of a cycle in whose pass the pool had this fault.
+pub(crate) fn in_pool(pass: u8, fault: PoolFault) -> CycleFault
+    requires pass { pass < 8 }
+    requires element { RefusedBelow 65536 fault }
+    ensures { PoolEnds pass fault result }
+{
+    match fault {
+        PoolFault::Refused { element, code } => CycleFault::Refused(RefusedAt {
+            phase: Phase::Pool,
+            pass,
+            element,
+            code,
+        }),
+        PoolFault::OutOfMemory => CycleFault::OutOfMemory,
+    }
+}
+
+/// The fault of a cycle whose sequential begin had this fault.
+pub(crate) fn in_prepare(fault: JobFault) -> CycleFault
+    ensures { JobEnds Phase.Prepare fault result }
+{
+    match fault {
+        JobFault::Code(code) => CycleFault::Refused(RefusedAt {
+            phase: Phase::Prepare,
+            pass: 0,
+            element: 0,
+            code,
+        }),
+        JobFault::OutOfMemory => CycleFault::OutOfMemory,
+    }
+}
+
+/// The fault of a cycle whose sequential end had this fault.
+pub(crate) fn in_conclude(fault: JobFault) -> CycleFault
+    ensures { JobEnds Phase.Conclude fault result }
+{
+    match fault {
+        JobFault::Code(code) => CycleFault::Refused(RefusedAt {
+            phase: Phase::Conclude,
+            pass: 0,
+            element: 0,
+            code,
+        }),
+        JobFault::OutOfMemory => CycleFault::OutOfMemory,
+    }
+}
