@@ -1,5 +1,5 @@
 -- How an engine begins: its client comes to Init, and its job starts.
-use Rattle.std.proofs.Common.{◌≡◌, ℕ, ℤ, ◌+◌, ◌^◌, ◌<◌, ◌≤◌, List, length, refl, sym, ap, ◌∙◌, arith, true, false}
+use Rattle.std.proofs.Common.{◌≡◌, ℕ, ℤ, ◌+◌, ◌^◌, ◌<◌, ◌≤◌, List, length, sym, ap, ◌∙◌, arith}
 use Rattle.std.specs.Prelude.{None, Some, Option, [], if◌then◌else◌}
 use Rattle.det_base.specs.Values.{ProfileValue, EventSpecValue}
 use Rattle.event_cache.specs.Rings.{Rings}

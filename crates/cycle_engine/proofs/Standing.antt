@@ -1,20 +1,43 @@
 -- How the run of a profile goes on by one more input, and an engine with it. What stands above an engine builds on these.
-use Rattle.std.proofs.Common.{◌≡◌, ℕ, ℤ, ◌+◌, List, [], ◌∷◌, ◌++◌, length, map, refl, sym, ap, ◌∙◌, subst, arith, append_assoc, append-nil, length-append}
-use Rattle.det_base.specs.Values.{ProfileValue, SampleValue, EventSpecValue}
+use Rattle.std.proofs.Common.{◌≡◌, ℕ, suc, ℤ, ◌+◌, Option, Result, List, [], ◌∷◌, ◌++◌, length, refl, sym, ap, ◌∙◌, subst, append_assoc, append-nil, length-append}
+use Rattle.det_base.specs.Values.{ProfileValue, SampleValue, EventSpecValue, RefusedAtValue}
 use Rattle.det_base.specs.Frames.{outcome_in_format}
+use Rattle.det_base.specs.declared.format.Format.{Format}
 use Rattle.det_base.specs.declared.frames.CycleInput.{CycleInput}
+use Rattle.det_base.specs.declared.frames.Outcome.{Outcome}
 use Rattle.det_base.specs.declared.frames.RunFrame.{RunFrame}
-use Rattle.event_cache.specs.Rings.{Rings, windows}
-use Rattle.event_cache.specs.Windows.{HasSeen, windows_after, rings_from}
+use Rattle.det_client.specs.State.{next_time}
+use Rattle.event_cache.specs.Windows.{HasSeen, rings_from}
 use Rattle.event_cache.proofs.Rounds.{seen_windows}
 use Rattle.job_trait.specs.Meaning.{Meaning}
-use Rattle.job_trait.specs.Cycle.{State, cycled, outcome_of, state_after}
-use Rattle.cycle_engine.specs.Frames.{job_of, first_state, cycle_of, frame_of, state_behind, runs_behind, state_of, runs, samples_of}
+use Rattle.job_trait.specs.Cycle.{State, Done, cycled, outcome_of, state_after}
+use Rattle.cycle_engine.specs.Frames.{first_state, cycle_of, frame_of, state_behind, runs_behind, state_of, runs, samples_of}
 use Rattle.cycle_engine.specs.Engine.{EngineState, StandsFor, IsAfter, next_cycle, next_frame}
 
 pub samples_of-append : (inputs more : List CycleInput) → samples_of (inputs ++ more) ≡ samples_of inputs ++ samples_of more
 samples_of-append [] more = refl
 samples_of-append (first ∷ inputs) more = ap (λ l. first.samples ∷ l) (samples_of-append inputs more)
+
+length-rings : (event : ℕ) (events : List EventSpecValue) (rounds : List (List SampleValue)) (arrived : List SampleValue)
+    → length (rings_from event events rounds arrived) ≡ length events
+unfolding rings_from
+length-rings event [] rounds arrived = refl
+length-rings event (spec ∷ events) rounds arrived = ap suc (length-rings (suc event) events rounds arrived)
+
+-- what a cycle is made from, replaced by equals
+same_cycle : {S G E L P : Type 0} (m : Meaning S G E L P) {j k : S} {s t : State G E} {v w : List (List ℤ)} {a b : ℕ} (time : Option ℕ) {x y : Option ℕ}
+    → j ≡ k → s ≡ t → v ≡ w → a ≡ b → x ≡ y → cycled m j s v a time x ≡ cycled m k t w b time y
+same_cycle m time job state seen cycle next = λ i. cycled m (job i) (state i) (seen i) (cycle i) time (next i)
+
+abbrev as_frame : CycleInput → Outcome → RunFrame
+as_frame input outcome = record { input = input; outcome = outcome }
+
+same_frame : (input : CycleInput) {f g : Format} {a b : Outcome} → f ≡ g → a ≡ b
+    → as_frame input (outcome_in_format f a) ≡ as_frame input (outcome_in_format g b)
+same_frame input format outcome = λ i. record { input = input; outcome = outcome_in_format (format i) (outcome i) }
+
+same_after : {G E : Type 0} {s t : State G E} {a b : Result (Done G E) RefusedAtValue} → s ≡ t → a ≡ b → state_after s a ≡ state_after t b
+same_after state cycle = λ i. state_after (state i) (cycle i)
 
 module _ {S G E L P : Type 0} (m : Meaning S G E L P) (profile : ProfileValue) where
   -- the state after two lists of inputs is that after the second one, begun behind the first one
@@ -25,7 +48,7 @@ module _ {S G E L P : Type 0} (m : Meaning S G E L P) (profile : ProfileValue) w
   state_behind-append before (input ∷ inputs) more state =
       state_behind-append (before ++ input ∷ []) inputs more (state_after state (cycle_of m profile before state input))
       ∙ ap (λ b. state_behind m profile b (state_behind m profile (before ++ input ∷ []) (state_after state (cycle_of m profile before state input)) inputs) more)
-          (append_assoc before (input ∷ []) inputs)
+      (append_assoc before (input ∷ []) inputs)
 
   -- and so are the frames
   pub runs_behind-append : (before inputs more : List CycleInput) (state : State G E)
@@ -35,10 +58,10 @@ module _ {S G E L P : Type 0} (m : Meaning S G E L P) (profile : ProfileValue) w
   runs_behind-append before [] more state = ap (λ b. runs_behind m profile b state more) (sym (append-nil before))
   runs_behind-append before (input ∷ inputs) more state =
       ap (λ l. frame_of m profile before state input ∷ l)
-        (runs_behind-append (before ++ input ∷ []) inputs more (state_after state (cycle_of m profile before state input))
-        ∙ ap (λ b. runs_behind m profile (before ++ input ∷ []) (state_after state (cycle_of m profile before state input)) inputs
-              ++ runs_behind m profile b (state_behind m profile (before ++ input ∷ []) (state_after state (cycle_of m profile before state input)) inputs) more)
-            (append_assoc before (input ∷ []) inputs))
+      (runs_behind-append (before ++ input ∷ []) inputs more (state_after state (cycle_of m profile before state input))
+      ∙ ap (λ b. runs_behind m profile (before ++ input ∷ []) (state_after state (cycle_of m profile before state input)) inputs
+      ++ runs_behind m profile b (state_behind m profile (before ++ input ∷ []) (state_after state (cycle_of m profile before state input)) inputs) more)
+      (append_assoc before (input ∷ []) inputs))
 
   -- the state after one more input is that after its cycle
   pub state_of-append : (inputs : List CycleInput) (input : CycleInput)
@@ -54,19 +77,29 @@ module _ {S G E L P : Type 0} (m : Meaning S G E L P) (profile : ProfileValue) w
 
   -- an engine in the run has as many events as the profile
   pub stands_events : (engine : EngineState S G E) (inputs : List CycleInput) → StandsFor m profile engine inputs → length engine.rings ≡ length profile.events
-  stands_events engine inputs stands = ?
+  stands_events engine inputs stands = ap length stands.rings.rings ∙ length-rings 0 profile.events (samples_of inputs) []
 
   -- the next cycle of an engine in the run is that of the run
   pub cycle_is : (engine : EngineState S G E) (inputs : List CycleInput) (input : CycleInput) → StandsFor m profile engine inputs
       → next_cycle m engine input.time ≡ cycle_of m profile inputs (state_of m profile inputs) input
-  cycle_is engine inputs input stands = ?
+  cycle_is engine inputs input stands =
+      same_cycle m input.time stands.job stands.state (seen_windows _ _ _ _ stands.rings) (ap (λ n. n + 1) stands.cycles) (ap (λ t. next_time t input.time) stands.cycle_time)
 
   -- and so is its frame
   pub frame_is : (engine : EngineState S G E) (inputs : List CycleInput) (input : CycleInput) → StandsFor m profile engine inputs
       → next_frame m engine input ≡ frame_of m profile inputs (state_of m profile inputs) input
-  frame_is engine inputs input stands = ?
+  frame_is engine inputs input stands =
+      same_frame input stands.format (ap outcome_of (cycle_is engine inputs input stands))
 
   -- an engine stands in the run after its next cycle too
   pub stands_after : (old new : EngineState S G E) (inputs : List CycleInput) (input : CycleInput)
       → StandsFor m profile old inputs → IsAfter m old input new → StandsFor m profile new (inputs ++ input ∷ [])
-  stands_after old new inputs input stands after = ?
+  stands_after old new inputs input stands after = record {
+    job = after.job ∙ stands.job;
+    format = after.format ∙ stands.format;
+    cycle_time = after.cycle_time ∙ stands.cycle_time;
+    state = after.state ∙ same_after stands.state (cycle_is old inputs input stands) ∙ sym (state_of-append inputs input);
+    cycles = after.cycles ∙ ap (λ n. n + 1) stands.cycles ∙ sym (length-append inputs (input ∷ []));
+    rings = let Seen : List (List SampleValue) → Type 0 = λ rounds. HasSeen new.rings profile.events rounds [] in
+        subst Seen (sym (samples_of-append inputs (input ∷ []))) (after.rings profile.events (samples_of inputs) stands.rings);
+  }

@@ -1,6 +1,9 @@
 -- How the answers of a cycle's phases follow from the definition of a cycle.
-use Rattle.std.specs.Prelude.{◌≡◌, ℕ, Result, Ok, Err}
+use Rattle.std.specs.Prelude.{◌≡◌, ℕ, Result, Ok, Err, IsErr}
 use Rattle.det_base.specs.Values.{RefusedAtValue}
+use Rattle.det_base.specs.declared.faults.OutOfMemory.{OutOfMemory as NoMemory}
+use Rattle.det_base.specs.declared.frames.Outcome.{Outcome}
+use Rattle.det_base.specs.declared.frames.Outcome.TheVariants as outcomes
 use Rattle.det_base.specs.declared.refused_at.Phase.{Phase}
 use Rattle.job_trait.specs.declared.answers.JobFault.{JobFault}
 use Rattle.job_trait.specs.declared.answers.JobFault.TheVariants as job
@@ -42,3 +45,8 @@ JobEnds phase (job.Code code) (Refused at) = at ≡ record { phase = phase; pass
 JobEnds phase (job.Code code) OutOfMemory = ⊥
 JobEnds phase job.OutOfMemory (Refused at) = ⊥
 JobEnds phase job.OutOfMemory OutOfMemory = Unit {0}
+
+-- a refusal is an outcome, want of memory is none
+abbrev pub FaultOutcome : CycleFault → Result Outcome NoMemory → Type 0
+FaultOutcome (Refused at) outcome = outcome ≡ Ok (outcomes.Refused at)
+FaultOutcome OutOfMemory outcome = IsErr outcome

@@ -1,5 +1,5 @@
 -- The frames of a run: what a client of a profile does, given the inputs of its cycles. No worker stands here.
-use Rattle.std.specs.Prelude.{ℕ, ℤ, ◌+◌, List, [], ◌∷◌, ◌++◌, length, map, Option, None, Some, Result, Bool, if◌then◌else◌}
+use Rattle.std.specs.Prelude.{ℕ, ◌+◌, List, [], ◌∷◌, ◌++◌, length, map, Result, Bool, if◌then◌else◌}
 use Rattle.det_base.specs.Values.{ProfileValue, SampleValue, RefusedAtValue}
 use Rattle.det_base.specs.Frames.{outcome_in_format}
 use Rattle.det_base.specs.declared.frames.CycleInput.{CycleInput}

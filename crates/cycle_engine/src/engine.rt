@@ -3,6 +3,7 @@ ghost use Rattle.std.specs.Prelude.{◌≡◌, ℕ, ◌+◌, ◌<◌, ◌≤◌,
 ghost use Rattle.std.specs.List.{All};
 ghost use Rattle.det_base.specs.Values.{ProfileValue, SampleValue, EventSpecValue};
 ghost use Rattle.det_base.specs.declared.frames.CycleInput.{CycleInput as Input};
+ghost use Rattle.det_base.specs.declared.frames.RunFrame.{RunFrame as Run};
 ghost use Rattle.det_base.specs.Frames.{outcome_in_format};
 ghost use Rattle.event_cache.specs.Rings.{windows};
 ghost use Rattle.event_cache.specs.Windows.{HasSeen, next_windows};
@@ -10,10 +11,9 @@ ghost use Rattle.job_trait.specs.Cycle.{outcome_of, state_after};
 ghost use Rattle.cycle_engine.specs.Frames.{frame_of, state_of};
 ghost use Rattle.cycle_engine.specs.Engine.{StandsFor, EngineState, IsAfter, next_cycle, next_frame};
 
-use crate::fault::CycleFault;
 use crate::phases::run_phases;
 use det_base::{
-    Bytes64, Container, CycleInput, Elements, Format, Frame, OutOfMemory, Outcome, Profile, RefusedAt,
+    Bytes64, Container, CycleInput, Elements, Format, Frame, OutOfMemory, Outcome, Profile,
     RunFrame, Sample, as_format,
 };
 use det_client::{Client, Next};
@@ -69,11 +69,15 @@ fn feed(cache: &mut EventCache, samples: &[Sample])
     cache.turn();
 }
 
-/// The outcome of a refused cycle.
-fn refused(at: RefusedAt) -> Outcome
-    ensures { result ≡ Outcome.Refused at }
+/// The run in a frame that is one.
+fn run_in(frame: Frame) -> RunFrame
+    requires { (run : Run) × (frame ≡ Frame.Run run) }
+    ensures { frame ≡ Frame.Run result }
 {
-    Outcome::Refused(at)
+    match frame {
+        Frame::Run(run) => run,
+        _ => unreachable!(),
+    }
 }
 
 /// The frame of a cycle, as far as a format keeps it.
@@ -82,10 +86,7 @@ fn framed(format: Format, input: CycleInput, outcome: Outcome) -> RunFrame
 {
     let mut frame = Frame::Run(RunFrame { input, outcome });
     as_format(format, &mut frame);
-    match frame {
-        Frame::Run(run) => run,
-        _ => unreachable!(),
-    }
+    run_in(frame)
 }
 
 impl<J: Job> Engine<J> {
@@ -164,14 +165,16 @@ impl<J: Job> Engine<J> {
                     output: done.output,
                 })
             }
-            Err(CycleFault::Refused(at)) => {
-                self.client.set_random_seed(seed);
-                Ok(refused(at))
-            }
-            Err(CycleFault::OutOfMemory) => {
-                self.client = Client::resumed(self.cycle_time, seed, cycles);
-                Err(OutOfMemory)
-            }
+            Err(fault) => match fault.outcome() {
+                Ok(outcome) => {
+                    self.client.set_random_seed(seed);
+                    Ok(outcome)
+                }
+                Err(no_memory) => {
+                    self.client = Client::resumed(self.cycle_time, seed, cycles);
+                    Err(no_memory)
+                }
+            },
         }
     }
 

@@ -1,7 +1,7 @@
 //! Why a cycle gives no new state.
 ghost use Rattle.std.specs.Prelude.{◌≡◌, ◌<◌};
 ghost use Rattle.worker_pool.specs.IsPass.{RefusedBelow};
-ghost use Rattle.cycle_engine.specs.Answers.{PoolEnds, JobEnds};
+ghost use Rattle.cycle_engine.specs.Answers.{PoolEnds, JobEnds, FaultOutcome};
 
 use det_base::{OutOfMemory, Outcome, Phase, RefusedAt};
 use job_trait::JobFault;
@@ -24,6 +24,18 @@ impl From<OutOfMemory> for CycleFault {
 
     fn from(_: OutOfMemory) -> CycleFault {
         CycleFault::OutOfMemory
+    }
+}
+
+impl CycleFault {
+    /// The outcome of a cycle with this fault, if it has one.
+    pub(crate) fn outcome(self) -> Result<Outcome, OutOfMemory>
+        ensures { FaultOutcome self result }
+    {
+        match self {
+            CycleFault::Refused(at) => Ok(Outcome::Refused(at)),
+            CycleFault::OutOfMemory => Err(OutOfMemory),
+        }
     }
 }
 

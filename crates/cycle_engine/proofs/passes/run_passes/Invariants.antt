@@ -1,4 +1,4 @@
-use Rattle.std.proofs.Common.{◌≡◌, ℕ, ◌+◌, ◌-◌, ◌*◌, ◌≤◌, length, Result, Ok, Err}
+use Rattle.std.proofs.Common.{◌≡◌, ◌-◌, ◌*◌, ◌≤◌, length, Ok}
 use Rattle.std.specs.List.{All}
 use Rattle.worker_pool.specs.IsPass.{passed_of}
 use Rattle.job_trait.specs.Cycle.{all_passes, passes_on}

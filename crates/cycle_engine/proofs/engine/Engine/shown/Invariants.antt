@@ -1,4 +1,4 @@
-use Rattle.std.proofs.Common.{◌≡◌, ◌++◌, length, map, take}
+use Rattle.std.proofs.Common.{◌≡◌, map, take}
 use Rattle.cycle_engine.proofs.engine.Engine.shown.Given as goal
 
 abbrev pub invariant-loop-element : goal.invariant-loop-element

@@ -1,8 +1,8 @@
-use Rattle.std.proofs.Common.{◌≡◌, List, [], arith, refl, sym, ap, ◌∙◌, subst}
+use Rattle.std.proofs.Common.{List, [], arith, ap, ◌∙◌, subst}
 use Rattle.det_base.specs.Values.{EventSpecValue}
 use Rattle.det_client.specs.Life.{following}
 use Rattle.event_cache.specs.Windows.{HasSeen}
-use Rattle.cycle_engine.proofs.Beginning.{IsInit, comes-to-init, events-made, begins-run}
+use Rattle.cycle_engine.proofs.Beginning.{comes-to-init, events-made, begins-run}
 use Rattle.cycle_engine.proofs.engine.Engine.start.Goals as goal
 
 pub invariant_of-result : goal.invariant_of-result
@@ -14,6 +14,8 @@ invariant_of-result g c =
       events = events-made g.J.Job.meaning c.args.profile.now c.args.job c.in_ok-cache.cache c.profile.inside.events laws.events_made
           c.requires.made c.in_ok-cache.ensures.count (ap (λ p. p.events) c.profile.view_is) (omega (arith, c.events-events.ensures.count, c.events-events.ensures.few));
       ready = λ going. ap following (c.start.ensures.same.last ∙ init.last);
+      timed = c.start.ensures.same.cycle_time ∙ init.cycle_time ∙ c.new-client.ensures.cycle_time;
+      in_limits = c.profile.invariant.0;
     }
 
 pub returns-clause-stands : goal.returns-clause-stands
@@ -23,7 +25,7 @@ returns-clause-stands g c =
     record {
       job = c.requires.made;
       format = ap (λ p. p.format) c.profile.view_is;
-      cycle_time = c.start.ensures.same.cycle_time ∙ init.cycle_time ∙ c.new-client.ensures.cycle_time ∙ ap (λ p. p.cycle_time) c.profile.view_is;
+      cycle_time = ap (λ p. p.cycle_time) c.profile.view_is;
       state = begins-run g.J.Job.meaning c.args.profile.now c.args.job c.wait_for_activation-3.new.self.seed _ c.requires.made
           (init.seed ∙ c.set_random_seed.ensures.seed ∙ ap (λ p. p.seed) c.profile.view_is) c.in_ok-begun.ensures.gives;
       cycles = c.start.ensures.same.cycle ∙ init.cycle;
