@@ -1,9 +1,12 @@
 -- How the run of a profile goes on by one more input, and an engine with it. What stands above an engine builds on these.
-use Rattle.std.proofs.Common.{◌≡◌, ℕ, suc, ℤ, ◌+◌, Option, Result, List, [], ◌∷◌, ◌++◌, length, refl, sym, ap, ◌∙◌, subst, append_assoc, append-nil, length-append}
+use Rattle.std.proofs.Common.{◌≡◌, ℕ, suc, ℤ, ◌+◌, Option, Result, List, [], ◌∷◌, ◌++◌, length, refl, sym, ap, ◌∙◌, subst, map, append_assoc, append-nil, length-append, true, false}
+use Rattle.std.proofs.lemmas.List.{map-append}
 use Rattle.det_base.specs.Values.{ProfileValue, SampleValue, EventSpecValue, RefusedAtValue}
 use Rattle.det_base.specs.Frames.{outcome_in_format}
 use Rattle.det_base.specs.declared.format.Format.{Format}
 use Rattle.det_base.specs.declared.frames.CycleInput.{CycleInput}
+use Rattle.det_base.specs.declared.frames.Frame.{Frame}
+use Rattle.det_base.specs.declared.frames.Frame.TheVariants.{Register, Discover, Init, Run, Terminate}
 use Rattle.det_base.specs.declared.frames.Outcome.{Outcome}
 use Rattle.det_base.specs.declared.frames.RunFrame.{RunFrame}
 use Rattle.det_client.specs.State.{next_time}
@@ -11,7 +14,7 @@ use Rattle.event_cache.specs.Windows.{HasSeen, rings_from}
 use Rattle.event_cache.proofs.Rounds.{seen_windows}
 use Rattle.job_trait.specs.Meaning.{Meaning}
 use Rattle.job_trait.specs.Cycle.{State, Done, cycled, outcome_of, state_after}
-use Rattle.cycle_engine.specs.Frames.{first_state, cycle_of, frame_of, state_behind, runs_behind, state_of, runs, samples_of}
+use Rattle.cycle_engine.specs.Frames.{first_state, cycle_of, frame_of, state_behind, runs_behind, state_of, runs, samples_of, init_of, frames}
 use Rattle.cycle_engine.specs.Engine.{EngineState, StandsFor, IsAfter, next_cycle, next_frame}
 
 pub samples_of-append : (inputs more : List CycleInput) → samples_of (inputs ++ more) ≡ samples_of inputs ++ samples_of more
@@ -38,6 +41,9 @@ same_frame input format outcome = λ i. record { input = input; outcome = outcom
 
 same_after : {G E : Type 0} {s t : State G E} {a b : Result (Done G E) RefusedAtValue} → s ≡ t → a ≡ b → state_after s a ≡ state_after t b
 same_after state cycle = λ i. state_after (state i) (cycle i)
+
+abbrev as_run : RunFrame → Frame
+as_run run = Run run
 
 module _ {S G E L P : Type 0} (m : Meaning S G E L P) (profile : ProfileValue) where
   -- the state after two lists of inputs is that after the second one, begun behind the first one
@@ -74,6 +80,35 @@ module _ {S G E L P : Type 0} (m : Meaning S G E L P) (profile : ProfileValue) w
       → runs m profile (inputs ++ input ∷ []) ≡ runs m profile inputs ++ frame_of m profile inputs (state_of m profile inputs) input ∷ []
   unfolding runs_behind
   runs-append inputs input = runs_behind-append [] inputs (input ∷ []) (first_state m profile)
+
+  -- as many frames of cycles as inputs
+  pub length-runs : (before inputs : List CycleInput) (state : State G E) → length (runs_behind m profile before state inputs) ≡ length inputs
+  unfolding runs_behind
+  length-runs before [] state = refl
+  length-runs before (input ∷ inputs) state = ap suc (length-runs (before ++ input ∷ []) inputs (state_after state (cycle_of m profile before state input)))
+
+  -- the frames of a run that goes on begin with those so far
+  pub frames-append : (inputs : List CycleInput) (input : CycleInput)
+      → frames m profile (inputs ++ input ∷ []) false ≡ frames m profile inputs false ++ Run (frame_of m profile inputs (state_of m profile inputs) input) ∷ []
+  frames-append inputs input =
+      let start : List Frame = Register ∷ Discover ∷ Init (init_of m profile) ∷ [] in
+      let frame : RunFrame = frame_of m profile inputs (state_of m profile inputs) input in
+      append-nil (start ++ map as_run (runs m profile (inputs ++ input ∷ [])))
+      ∙ ap (λ l. start ++ map as_run l) (runs-append inputs input)
+      ∙ ap (λ l. start ++ l) (map-append as_run (runs m profile inputs) (frame ∷ []))
+      ∙ sym (append_assoc start (map as_run (runs m profile inputs)) (Run frame ∷ []))
+      ∙ ap (λ l. l ++ Run frame ∷ []) (sym (append-nil (start ++ map as_run (runs m profile inputs))))
+
+  -- and those of a run that ends are followed by Terminate
+  pub frames-ended : (inputs : List CycleInput) → frames m profile inputs true ≡ frames m profile inputs false ++ Terminate ∷ []
+  frames-ended inputs =
+      let start : List Frame = Register ∷ Discover ∷ Init (init_of m profile) ∷ [] in
+      ap (λ l. l ++ Terminate ∷ []) (sym (append-nil (start ++ map as_run (runs m profile inputs))))
+
+  -- what an engine shows at its start are the elements of Init
+  pub init_is : (engine : EngineState S G E) → StandsFor m profile engine [] → map (m.shown engine.job) engine.state.elements ≡ init_of m profile
+  unfolding state_behind
+  init_is engine stands = λ i. map (m.shown (stands.job i)) (stands.state i).elements
 
   -- an engine in the run has as many events as the profile
   pub stands_events : (engine : EngineState S G E) (inputs : List CycleInput) → StandsFor m profile engine inputs → length engine.rings ≡ length profile.events
