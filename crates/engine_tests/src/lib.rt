@@ -1,0 +1,17 @@
+//! Runs of the shipped jobs on an engine, and tests of what their worked examples give.
+#![tactic(auto)]
+
+mod fault;
+mod inputs;
+mod profiles;
+mod running;
+mod text;
+
+pub use fault::NoRun;
+pub use inputs::{Arrival, inputs_of};
+pub use profiles::{profile_of, without_events};
+pub use running::{Ran, run, run_inputs};
+pub use text::{all_draws, text_of, told};
+
+#[cfg(test)]
+mod tests;

@@ -1,0 +1,68 @@
+//! Runs of cycles.
+ghost use Rattle.std.specs.Prelude.{◌≡◌, ◌≤◌, ◌<◌, length, IfOk};
+ghost use Rattle.std.specs.List.{All};
+ghost use Rattle.cycle_engine.specs.Frames.{runs};
+
+use crate::{Arrival, NoRun, inputs_of};
+use cycle_engine::Engine;
+use det_base::{CycleInput, Elements, Profile, RunFrame};
+use job_trait::Job;
+use std::alloc::Global;
+use std::thread::Threads;
+use worker_pool::NoGate;
+
+/// The bytes of the first elements, the frames of the cycles, and the seed after each of them.
+#[derive(Drop)]
+pub struct Ran {
+    pub first: Elements,
+    pub frames: Vec<RunFrame>,
+    pub seeds: Vec<u64>,
+}
+
+/// Runs a job of the profile's parameters over these inputs.
+pub fn run_inputs<J: Job, R: Threads + Sync>(
+    rt: &R,
+    alloc: Global,
+    profile: &Profile,
+    inputs: &[CycleInput],
+    workers: u32,
+) -> Result<Ran, NoRun>
+    requires few { length inputs.now ≤ 1000000 }
+    requires known { All (λ input. All (λ s. s.event < length profile.now.events) input.samples) inputs.now }
+    requires workers { (1 ≤ workers) × (workers ≤ 64) }
+    ensures { IfOk result (λ ran. ran.frames.items ≡ runs J.meaning profile.now inputs.now) }
+{
+    let Ok(job) = J::make(&profile.params, profile.events.len() as u16) else {
+        return Err(NoRun::BadProfile);
+    };
+    let mut engine = Engine::start(alloc, job, profile)?;
+    let first = engine.shown(alloc)?;
+    let mut frames = Vec::new(alloc);
+    let mut seeds = Vec::new(alloc);
+    for input in inputs {
+        let frame = engine.cycle(rt, alloc, input, workers, &NoGate)?;
+        frames.push(frame).map_err(|_| NoRun::OutOfMemory)?;
+        seeds.push(engine.seed()).map_err(|_| NoRun::OutOfMemory)?;
+    }
+    Ok(Ran {
+        first,
+        frames,
+        seeds,
+    })
+}
+
+/// The same over so many cycles, in which these samples arrive. At most 1,000 cycles, and 1 to 64 workers.
+pub fn run<J: Job, R: Threads + Sync>(
+    rt: &R,
+    alloc: Global,
+    profile: &Profile,
+    arrivals: &[Arrival],
+    cycles: u32,
+    workers: u32,
+) -> Result<Ran, NoRun> {
+    if cycles > 1000 || workers == 0 || workers > 64 {
+        return Err(NoRun::BadProfile);
+    }
+    let inputs = inputs_of(alloc, profile.events.len() as u16, arrivals, cycles)?;
+    run_inputs::<J, R>(rt, alloc, profile, inputs.as_slice(), workers)
+}
