@@ -1,0 +1,2 @@
+pub mod Unshort
+pub mod Reading

@@ -1,0 +1,3 @@
+pub mod Digested
+pub mod StandsFor
+pub mod Steps

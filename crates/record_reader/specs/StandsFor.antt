@@ -1,0 +1,51 @@
+-- What a reader keeps of the bytes that it read and of the items that it gave.
+use Rattle.std.specs.Prelude.{◌≡◌, ℕ, ◌<◌, ◌⊎◌, List, [], ◌∷◌, ◌++◌, Option, Some, None, Result, Ok, Err}
+use Rattle.record_grammar.specs.declared.fault.Reason.TheVariants.{Truncated}
+use Rattle.record_grammar.specs.declared.fault.RecordFault.{RecordFault}
+use Rattle.record_grammar.specs.declared.item.Item.{Item}
+use Rattle.record_grammar.specs.Record.{items as items_in, fault as fault_in, fault_so_far}
+use Rattle.record_codec.specs.StandsFor.{StandsFor as Decodes, room as decoder_room}
+use Rattle.record_reader.specs.declared.reader.RecordReader.{RecordReader}
+use Rattle.record_reader.specs.declared.reader_end.ReaderEnd.{ReaderEnd}
+use Rattle.record_reader.specs.declared.reader_end.ReaderEnd.TheVariants as ends
+
+-- these bytes were read, these items given, and no fault was answered
+pub record StandsFor (r : RecordReader) (read : List ℕ) (given : List Item) : Type 0 where
+  pub decodes : Decodes r.decoder read given
+  pub going : r.fault ≡ None
+
+-- the fault that was answered
+abbrev pub told : RecordReader → Option RecordFault
+told r = r.fault
+
+-- the slot that it reads
+abbrev pub slot_of : RecordReader → ℕ
+slot_of r = r.slot
+
+-- how many items may still come
+abbrev pub room : RecordReader → ℕ
+room r = decoder_room r.decoder
+
+-- whatever bytes follow, these are the items, and this is the fault
+abbrev pub IsFaulty : RecordFault → List ℕ → List Item → Type 0
+IsFaulty f read given = (tail : List ℕ) → (items_in (read ++ tail) ≡ given) × (fault_in (read ++ tail) ≡ Some f)
+
+-- all items before the fault are given; the bytes read show it, or the slot has no more bytes
+pub record FoundFault (f : RecordFault) (at_end : Type 0) (read : List ℕ) (given : List Item) : Type 0 where
+  pub before : items_in read ≡ given
+  pub is : fault_in read ≡ Some f
+  pub found : IsFaulty f read given ⊎ at_end
+  pub truncated : f.reason ≡ Truncated → at_end
+
+abbrev pub ItemIs : Result (Option Item) ReaderEnd → RecordReader → Type 0 → List ℕ → List Item → Type 0
+ItemIs (Ok (Some item)) r at_end read given = StandsFor r read (given ++ item ∷ []) × (others : List Item) × (items_in read ≡ given ++ item ∷ others)
+ItemIs (Ok None) r at_end read given = StandsFor r read given × at_end × (items_in read ≡ given) × (fault_in read ≡ None)
+ItemIs (Err (ends.BadRecord f)) r at_end read given = FoundFault f at_end read given × (told r ≡ Some f)
+ItemIs (Err ends.ReadFault) r at_end read given = StandsFor r read given × (items_in read ≡ given) × (fault_so_far read ≡ None)
+ItemIs (Err ends.OutOfMemory) r at_end read given = Unit {0}
+
+-- an item leaves fewer that may come, and any other answer leaves as many
+abbrev pub RoomFell : Result (Option Item) ReaderEnd → ℕ → ℕ → Type 0
+RoomFell (Ok (Some item)) old new = new < old
+RoomFell (Ok None) old new = new ≡ old
+RoomFell (Err e) old new = new ≡ old

@@ -1,0 +1,10 @@
+//! Records read from a slot, item by item, bytes digested, and a record made whole up to its last whole frame.
+#![tactic(auto)]
+
+mod digest_sink;
+mod reader;
+mod reader_end;
+
+pub use digest_sink::DigestSink;
+pub use reader::RecordReader;
+pub use reader_end::ReaderEnd;

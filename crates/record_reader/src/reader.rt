@@ -1,0 +1,155 @@
+//! Records in slots.
+ghost use Rattle.std.specs.Prelude.{◌≡◌};
+
+use crate::reader_end::ReaderEnd;
+use det_base::Slots;
+use record_codec::{DecodeError, Decoder, Item, RecordFault};
+use std::alloc::Global;
+
+const PIECE: usize = 4096;
+
+/// Gives the items of the record in a slot, which it reads in pieces of 4,096 bytes. It keeps the item that hasn't come
+/// whole, and one piece.
+#[derive(Drop)]
+pub struct RecordReader {
+    slot: u32,
+    decoder: Decoder,
+    /// The fault that was answered.
+    fault: Option<RecordFault>,
+}
+
+/// What one step comes to.
+enum Progress {
+    Item(Item),
+    /// A piece was read.
+    Piece,
+    /// The slot was read to its end, and its record is whole.
+    End,
+}
+
+impl RecordReader {
+    ghost use Rattle.std.specs.Prelude.{ℕ, ◌<◌, ◌≤◌, List, [], ◌++◌, Option, Some, None, IsErrOf, Err};
+    ghost use Rattle.det_base.specs.Count.{Rose};
+    ghost use Rattle.det_base.specs.Shelf.{Reads, IsAtEnd};
+    ghost use Rattle.record_grammar.specs.declared.fault.RecordFault.{RecordFault};
+    ghost use Rattle.record_grammar.specs.declared.item.Item.{Item};
+    ghost use Rattle.record_reader.specs.StandsFor.{StandsFor, ItemIs, RoomFell, told, slot_of, room};
+    ghost use Rattle.record_reader.specs.Steps.{StepIs, Shrinks, GoesOn, IsHungry, GaveAll, FoundIs, StoppedIs};
+
+    /// A reader of what a slot has left. It takes no memory, and reads nothing yet.
+    pub fn at(alloc: Global, slot: u32) -> RecordReader
+        ensures stands { StandsFor result [] [] }
+        ensures slot { slot_of result ≡ slot }
+    {
+        RecordReader {
+            slot,
+            decoder: Decoder::new(alloc),
+            fault: None,
+        }
+    }
+
+    /// The next item. None where the slot was read to its end and its record is whole. Once a fault was answered it is
+    /// answered again. After `OutOfMemory` the reader stands for nothing.
+    pub fn next_item<S: Slots>(&mut self, shelf: &mut S) -> Result<Option<Item>, ReaderEnd>
+        requires { slot_of self.old < (S.sees shelf.old).slots }
+        ensures item { (more : List ℕ)
+            × Reads (S.sees shelf.old) (S.sees shelf.new) (slot_of self.old) more
+            × ((read : List ℕ) (given : List Item) → StandsFor self.old read given
+            → ItemIs result self.new (IsAtEnd (S.sees shelf.new) (slot_of self.old)) (read ++ more) given) }
+        // Each item leaves fewer that may come.
+        ensures room { (read : List ℕ) (given : List Item) → StandsFor self.old read given → RoomFell result (room self.old) (room self.new) }
+        ensures slot { slot_of self.new ≡ slot_of self.old }
+        // Nothing is read where a fault is answered again.
+        ensures again { (fault : RecordFault) → told self.old ≡ Some fault
+            → (result ≡ Err (ReaderEnd.BadRecord fault)) × (told self.new ≡ Some fault) × (S.sees shelf.new ≡ S.sees shelf.old) }
+        ensures cause { IsErrOf result ReaderEnd.ReadFault → Rose (S.sees shelf.old).faults (S.sees shelf.new).faults }
+        ensures counted { (S.sees shelf.old).faults ≤ (S.sees shelf.new).faults }
+        ensures stays { S.stays shelf.old shelf.new }
+    {
+        if let Some(fault) = self.fault {
+            return Err(ReaderEnd::BadRecord(fault));
+        }
+        'steps: loop {
+            match self.step(shelf) {
+                Ok(Progress::Piece) => (),
+                Ok(Progress::Item(item)) => return Ok(Some(item)),
+                Ok(Progress::End) => return Ok(None),
+                Err(end) => return Err(end),
+            }
+        }
+    }
+
+    /// Gives an item of what was read, or reads on.
+    fn step<S: Slots>(&mut self, shelf: &mut S) -> Result<Progress, ReaderEnd>
+        requires slot { slot_of self.old < (S.sees shelf.old).slots }
+        requires going { told self.old ≡ None }
+        ensures step { (more : List ℕ)
+            × Reads (S.sees shelf.old) (S.sees shelf.new) (slot_of self.old) more
+            × ((read : List ℕ) (given : List Item) → StandsFor self.old read given
+            → StepIs result self.new (IsAtEnd (S.sees shelf.new) (slot_of self.old)) (read ++ more) given) }
+        ensures shrinks { (read : List ℕ) (given : List Item) → StandsFor self.old read given → Shrinks result (room self.old) (room self.new) }
+        ensures going { GoesOn result self.old self.new }
+        ensures slot { slot_of self.new ≡ slot_of self.old }
+        ensures cause { IsErrOf result ReaderEnd.ReadFault → Rose (S.sees shelf.old).faults (S.sees shelf.new).faults }
+        ensures counted { (S.sees shelf.old).faults ≤ (S.sees shelf.new).faults }
+        ensures stays { S.stays shelf.old shelf.new }
+    {
+        let item = match self.decoder.next() {
+            Ok(item) => item,
+            Err(error) => return Err(self.stopped(error)),
+        };
+        match item {
+            Some(item) => Ok(Progress::Item(item)),
+            None => self.read_on(shelf),
+        }
+    }
+
+    /// Reads a piece, or finds the end of the slot.
+    fn read_on<S: Slots>(&mut self, shelf: &mut S) -> Result<Progress, ReaderEnd>
+        requires slot { slot_of self.old < (S.sees shelf.old).slots }
+        requires hungry { IsHungry self.old }
+        ensures step { (more : List ℕ)
+            × Reads (S.sees shelf.old) (S.sees shelf.new) (slot_of self.old) more
+            × ((read : List ℕ) (given : List Item) → GaveAll self.old read given
+            → StepIs result self.new (IsAtEnd (S.sees shelf.new) (slot_of self.old)) (read ++ more) given) }
+        ensures shrinks { Shrinks result (room self.old) (room self.new) }
+        ensures going { GoesOn result self.old self.new }
+        ensures slot { slot_of self.new ≡ slot_of self.old }
+        ensures cause { IsErrOf result ReaderEnd.ReadFault → Rose (S.sees shelf.old).faults (S.sees shelf.new).faults }
+        ensures counted { (S.sees shelf.old).faults ≤ (S.sees shelf.new).faults }
+        ensures stays { S.stays shelf.old shelf.new }
+    {
+        let mut buf = [0; PIECE];
+        let n = match shelf.read(self.slot, &mut buf) {
+            Ok(n) => n,
+            Err(_) => return Err(ReaderEnd::ReadFault),
+        };
+        if n == 0 {
+            return match self.decoder.finish() {
+                Ok(()) => Ok(Progress::End),
+                Err(fault) => Err(self.found(fault)),
+            };
+        }
+        match self.decoder.feed(&buf[..n]) {
+            Ok(()) => Ok(Progress::Piece),
+            Err(_) => Err(ReaderEnd::OutOfMemory),
+        }
+    }
+
+    /// Remembers a fault.
+    fn found(&mut self, fault: RecordFault) -> ReaderEnd
+        ensures { FoundIs fault self.old self.new result }
+    {
+        self.fault = Some(fault);
+        ReaderEnd::BadRecord(fault)
+    }
+
+    fn stopped(&mut self, error: DecodeError) -> ReaderEnd
+        ensures { StoppedIs error self.old self.new result }
+    {
+        match error {
+            DecodeError::Fault(fault) => self.found(fault),
+            DecodeError::OutOfMemory => ReaderEnd::OutOfMemory,
+        }
+    }
+}
