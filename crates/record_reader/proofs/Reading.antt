@@ -1,11 +1,11 @@
 -- What the answers of a decoder come to at its reader.
-use Rattle.std.proofs.Common.{◌≡◌, ◌⊎◌, inl, inr, ℕ, ◌+◌, ◌<◌, List, [], ◌∷◌, ◌++◌, length, take, Option, Some, None, Result, Ok, Err, refl, sym, ap, subst, ◌∙◌, append_assoc}
+use Rattle.std.proofs.Common.{◌≡◌, inl, inr, ℕ, List, [], ◌∷◌, ◌++◌, take, Option, Some, None, Ok, Err, sym, ap, subst, append_assoc}
 use Rattle.std.proofs.lemmas.List.{append-nil}
 use Rattle.det_base.specs.Shelf.{ShelfState, Reads}
 use Rattle.det_base.proofs.SlotReads.{reads-then}
 use Rattle.record_grammar.specs.declared.fault.RecordFault.{RecordFault}
 use Rattle.record_grammar.specs.declared.item.Item.{Item}
-use Rattle.record_grammar.specs.Record.{items as items_in, fault as fault_in, fault_so_far}
+use Rattle.record_grammar.specs.Record.{fault as fault_in}
 use Rattle.record_codec.specs.declared.decode_error.DecodeError.{DecodeError}
 use Rattle.record_codec.specs.declared.decode_error.DecodeError.TheVariants as errors
 use Rattle.record_codec.specs.declared.decoder.Decoder.{Decoder}
@@ -13,7 +13,6 @@ use Rattle.record_codec.specs.StandsFor.{StandsFor as Decodes, NextIs, FinishIs,
 use Rattle.record_codec.proofs.Next.{fed_faulty, next_again}
 use Rattle.record_reader.specs.declared.reader.RecordReader.{RecordReader}
 use Rattle.record_reader.specs.declared.reader_end.ReaderEnd.{ReaderEnd}
-use Rattle.record_reader.specs.declared.reader_end.ReaderEnd.TheVariants as ends
 use Rattle.record_reader.specs.StandsFor.{StandsFor, ItemIs, FoundFault, IsFaulty, told, slot_of, room}
 use Rattle.record_reader.specs.Steps.{StoppedIs, GaveAll, FoundIs}
 use Rattle.record_reader.proofs.Unshort.{unshort, so_far_is}

@@ -1,5 +1,5 @@
 -- No byte is refused as missing.
-use Rattle.std.proofs.Common.{◌≡◌, ℕ, zero, suc, ◌*◌, ◌+◌, Bool, true, false, cond, eqb, ltb, List, [], ◌∷◌, length, take, drop, Option, Some, None, refl, sym, ap, subst, ◌∙◌}
+use Rattle.std.proofs.Common.{◌≡◌, ℕ, zero, suc, ◌*◌, ◌+◌, Bool, true, false, cond, eqb, ltb, List, [], ◌∷◌, length, take, drop, Option, Some, None, ap, ◌∙◌}
 use Rattle.record_grammar.specs.declared.fault.Reason.{Reason}
 use Rattle.record_grammar.specs.declared.fault.Reason.TheVariants.{Magic, Version, Range, Order, TooMany, Truncated, Trailing}
 use Rattle.record_grammar.specs.declared.fault.RecordFault.{RecordFault}
@@ -11,7 +11,6 @@ use Rattle.record_grammar.specs.declared.item.Item.{Item}
 use Rattle.det_base.specs.declared.format.Format.{Format}
 use Rattle.det_base.specs.declared.format.Format.TheVariants.{One, Two}
 use Rattle.det_base.specs.declared.frames.CycleInput.{CycleInput}
-use Rattle.det_base.specs.declared.frames.Frame.{Frame}
 use Rattle.record_grammar.specs.Numbers.{number_from, can_be}
 use Rattle.record_grammar.specs.Read.{Read, Got, More, Bad, ◌>>=◌, raw_at, many}
 use Rattle.record_grammar.specs.Grammar.{signed_at, sample_value_at, string_at, exactly_at, magic_at, format_at, version_at, name_byte_at, name_at, policy_at, event_at, params_at, events_at, profile_at, drawn_at, time_at, sample_at, samples_at, input_at, refusal_at, init_from, finished_from, init_at, finished_at, refused_at, run_at, tag_reason, tagged_at, frame_at, item_at}

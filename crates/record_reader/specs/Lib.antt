@@ -1,3 +1,6 @@
 pub mod Digested
 pub mod StandsFor
 pub mod Steps
+pub mod Salvaged
+pub mod Keeping
+pub mod Salvages

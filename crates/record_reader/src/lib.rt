@@ -4,7 +4,12 @@
 mod digest_sink;
 mod reader;
 mod reader_end;
+mod salvage;
+mod salvage_end;
+mod salvaging;
 
 pub use digest_sink::DigestSink;
 pub use reader::RecordReader;
 pub use reader_end::ReaderEnd;
+pub use salvage_end::{SalvageEnd, Salvaged};
+pub use salvaging::salvage_run;

@@ -1,9 +1,7 @@
-use Rattle.std.proofs.Common.{◌≡◌, ◌<◌, ℕ, List, ◌++◌, Some, None, Ok, Err, subst, ◌∙◌, sym, arith}
+use Rattle.std.proofs.Common.{◌<◌, ℕ, ◌++◌, Some, None, Ok, Err, subst, ◌∙◌, arith}
 use Rattle.det_base.specs.Shelf.{IsAtEnd}
-use Rattle.record_grammar.specs.declared.item.Item.{Item}
 use Rattle.record_reader.specs.declared.reader.Progress.{Progress}
-use Rattle.record_reader.specs.declared.reader.Progress.TheVariants as progress
-use Rattle.record_reader.specs.StandsFor.{StandsFor, ItemIs, slot_of, room, RoomFell}
+use Rattle.record_reader.specs.StandsFor.{StandsFor, ItemIs, slot_of, room}
 use Rattle.record_reader.specs.Steps.{StepIs, Shrinks, GoesOn}
 use Rattle.record_reader.proofs.Reading.{HasRead, read_then}
 use Rattle.record_reader.proofs.reader.RecordReader.next_item.Goals as goal

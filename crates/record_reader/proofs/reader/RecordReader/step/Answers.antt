@@ -1,4 +1,4 @@
-use Rattle.std.proofs.Common.{◌≡◌, ◌<◌, ℕ, List, [], Option, Some, None, Ok, Err, refl, subst, ◌∙◌}
+use Rattle.std.proofs.Common.{◌≡◌, ℕ, List, [], Option, Some, Ok, Err, refl, subst, ◌∙◌}
 use Rattle.det_base.specs.Shelf.{IsAtEnd}
 use Rattle.det_base.proofs.SlotReads.{reads-none}
 use Rattle.record_grammar.specs.declared.item.Item.{Item}
