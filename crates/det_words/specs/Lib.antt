@@ -1,0 +1,5 @@
+pub mod Number
+pub mod Options
+pub mod Texts
+pub mod Told
+pub mod Words
