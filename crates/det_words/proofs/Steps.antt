@@ -8,7 +8,7 @@ use Rattle.det_words.specs.Texts.{texts}
 use Rattle.det_words.specs.Told.{Told, with_word, with_words}
 
 with_words-drop : (words : List (String Global)) (i : ℕ) (word : String Global) (told : Told) → i < length words → word ≡ get_or words i word
-  → with_words (texts (drop i words)) told ≡ option_and_then (with_words (texts (drop (suc i) words))) (with_word (string_bytes word) told)
+    → with_words (texts (drop i words)) told ≡ option_and_then (with_words (texts (drop (suc i) words))) (with_word (string_bytes word) told)
 unfolding with_words
 with_words-drop [] i word told within is = absurd (omega arith)
 with_words-drop (first ∷ rest) zero word told within is = ap (λ (w : String Global). option_and_then (with_words (texts rest)) (with_word (string_bytes w) told)) (sym is)

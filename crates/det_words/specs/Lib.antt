@@ -3,3 +3,4 @@ pub mod Options
 pub mod Texts
 pub mod Told
 pub mod Words
+pub mod Ranges

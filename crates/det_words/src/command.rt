@@ -10,7 +10,7 @@ use crate::number::number_of;
 use crate::told::Told;
 
 /// A command with its names and options. Names are those of files. An option is None where the words don't have it.
-#[derive(Clone, Copy)]
+#[derive(Clone, Copy, Debug)]
 pub enum Command<'a> {
     /// The record of the built-in profile over a stimulus.
     Demo {

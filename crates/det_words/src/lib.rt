@@ -3,6 +3,7 @@
 
 mod command;
 mod command_word;
+pub mod laws;
 mod names;
 mod number;
 mod told;
@@ -12,3 +13,6 @@ pub use command_word::CommandWord;
 pub use names::Names;
 pub use number::number_of;
 pub use told::{Told, read_words};
+
+#[cfg(test)]
+mod tests;

@@ -7,12 +7,12 @@ use Rattle.det_words.proofs.told.Told.with_words.Goals as goal
 pub returns-in_err-told : goal.returns-in_err-told
 returns-in_err-told c =
     ap (option_map told_of) c.from_residual.ensures ∙ ends _ c.args.words.now c.loop-word.word-index (told_of c.loop-word.told) c.loop-word.invariant
-      c.word-item.result c.as_str.result.now c.loop-word-test.true c.word-item.is c.as_str.ensures.value c.in_err-told.ensures
+    c.word-item.result c.as_str.result.now c.loop-word-test.true c.word-item.is c.as_str.ensures.value c.in_err-told.ensures
 
 pub loop-word-preserved : goal.loop-word-preserved
 loop-word-preserved c =
     goes_on _ c.args.words.now c.loop-word.word-index (told_of c.loop-word.told) c.loop-word.invariant
-      c.word-item.result c.as_str.result.now c.loop-word-test.true c.word-item.is c.as_str.ensures.value (told_of c.in_ok-told.told) c.in_ok-told.ensures
+    c.word-item.result c.as_str.result.now c.loop-word-test.true c.word-item.is c.as_str.ensures.value (told_of c.in_ok-told.told) c.in_ok-told.ensures
 
 pub returns : goal.returns
 returns c = is_whole _ c.args.words.now c.loop-word.word-index (told_of c.loop-word.told) c.loop-word.invariant c.loop-word-test.false
