@@ -10,8 +10,7 @@ mod text;
 pub use fault::NoRun;
 pub use inputs::{Arrival, inputs_of};
 pub use profiles::{profile_of, without_events};
-pub use running::{Ran, run, run_inputs};
-pub use text::{all_draws, text_of, told};
+pub use running::{Ran, run, run_inputs, told};
 
 #[cfg(test)]
 mod tests;

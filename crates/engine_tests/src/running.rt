@@ -19,6 +19,26 @@ pub struct Ran {
     pub seeds: Vec<u64>,
 }
 
+impl Ran {
+    /// Whether the seed after each cycle is the same, and not 0.
+    pub fn keeps_seed(&self) -> bool {
+        let seeds = self.seeds.as_slice();
+        match seeds.first() {
+            Some(first) => *first != 0 && all_are(seeds, *first),
+            None => false,
+        }
+    }
+}
+
+fn all_are(seeds: &[u64], seed: u64) -> bool {
+    for other in seeds {
+        if *other != seed {
+            return false;
+        }
+    }
+    true
+}
+
 /// Runs a job of the profile's parameters over these inputs.
 pub fn run_inputs<J: Job, R: Threads + Sync>(
     rt: &R,
@@ -65,4 +85,18 @@ pub fn run<J: Job, R: Threads + Sync>(
     }
     let inputs = inputs_of(alloc, profile.events.len() as u16, arrivals, cycles)?;
     run_inputs::<J, R>(rt, alloc, profile, inputs.as_slice(), workers)
+}
+
+/// The lines of that run.
+pub fn told<J: Job, R: Threads + Sync>(
+    rt: &R,
+    alloc: Global,
+    profile: &Profile,
+    arrivals: &[Arrival],
+    cycles: u32,
+    workers: u32,
+) -> Result<String, NoRun> {
+    let ran = run::<J, R>(rt, alloc, profile, arrivals, cycles, workers)?;
+    let text = ran.text(alloc)?;
+    Ok(text)
 }

@@ -1,11 +1,20 @@
 //! Runs as short texts.
-use crate::{Arrival, NoRun, Ran, run};
-use det_base::{Bytes64, DrawnElement, Outcome, Phase, Profile, RefusedAt};
-use job_trait::Job;
+use crate::Ran;
+use det_base::{Bytes64, DrawnElement, Outcome, Phase, RefusedAt};
 use std::alloc::{AllocError, Global};
-use std::thread::Threads;
 
-/// The number and the bytes of each element that isn't as it was at the start, each behind a space.
+/// An element as ` NUMBER:BYTES`, and `+DRAWS` where it drew.
+fn entry(alloc: Global, number: usize, element: &DrawnElement) -> Result<String, AllocError> {
+    let bytes = hex::encode(alloc, element.bytes.as_slice())?;
+    let draws = element.draws;
+    if draws == 0 {
+        format!(in alloc; " {number}:{bytes}")
+    } else {
+        format!(in alloc; " {number}:{bytes}+{draws}")
+    }
+}
+
+/// The elements that drew, or that aren't as at the start.
 fn changed(
     alloc: Global,
     first: &[Bytes64],
@@ -13,9 +22,8 @@ fn changed(
 ) -> Result<String, AllocError> {
     let mut text = String::new(alloc);
     for (number, (was, is)) in first.iter().zip(elements).enumerate() {
-        if *was != is.bytes {
-            let bytes = hex::encode(alloc, is.bytes.as_slice())?;
-            let entry = format!(in alloc; " {number}:{bytes}")?;
+        if is.draws != 0 || *was != is.bytes {
+            let entry = entry(alloc, number, is)?;
             text.push_str(entry.as_str())?;
         }
     }
@@ -40,7 +48,7 @@ fn refusal(alloc: Global, at: &RefusedAt) -> Result<String, AllocError> {
     format!(in alloc; "refused {phase} {pass} {element} {code}")
 }
 
-/// `done OUTPUT ELEMENT ..` with the elements that aren't as at the start, or a refusal.
+/// `done OUTPUT ELEMENT ..` with the elements that drew or aren't as at the start, or a refusal.
 fn line(alloc: Global, first: &[Bytes64], outcome: &Outcome) -> Result<String, AllocError> {
     match outcome {
         Outcome::Finished { elements, output } => {
@@ -52,40 +60,28 @@ fn line(alloc: Global, first: &[Bytes64], outcome: &Outcome) -> Result<String, A
     }
 }
 
-/// A line for each cycle of a run.
-pub fn text_of(alloc: Global, ran: &Ran) -> Result<String, AllocError> {
-    let mut text = String::new(alloc);
-    for frame in ran.frames.as_slice() {
-        let line = line(alloc, ran.first.as_slice(), &frame.outcome)?;
-        text.push_str(line.as_str())?;
-        text.push('\n')?;
+impl Ran {
+    /// A line for each cycle.
+    pub fn text(&self, alloc: Global) -> Result<String, AllocError> {
+        let mut text = String::new(alloc);
+        for frame in self.frames.as_slice() {
+            let line = line(alloc, self.first.as_slice(), &frame.outcome)?;
+            text.push_str(line.as_str())?;
+            text.push('\n')?;
+        }
+        Ok(text)
     }
-    Ok(text)
-}
 
-/// The lines of a run over so many cycles, in which these samples arrive.
-pub fn told<J: Job, R: Threads + Sync>(
-    rt: &R,
-    alloc: Global,
-    profile: &Profile,
-    arrivals: &[Arrival],
-    cycles: u32,
-    workers: u32,
-) -> Result<String, NoRun> {
-    let ran = run::<J, R>(rt, alloc, profile, arrivals, cycles, workers)?;
-    let text = text_of(alloc, &ran)?;
-    Ok(text)
-}
-
-/// The draws of all elements in all finished cycles of a run.
-pub fn all_draws(alloc: Global, ran: &Ran) -> Result<Vec<u32>, AllocError> {
-    let mut draws = Vec::new(alloc);
-    for frame in ran.frames.as_slice() {
-        if let Outcome::Finished { elements, .. } = &frame.outcome {
-            for element in elements.as_slice() {
-                draws.push(element.draws)?;
+    /// The draws of all elements in all finished cycles.
+    pub fn draws(&self, alloc: Global) -> Result<Vec<u32>, AllocError> {
+        let mut draws = Vec::new(alloc);
+        for frame in self.frames.as_slice() {
+            if let Outcome::Finished { elements, .. } = &frame.outcome {
+                for element in elements.as_slice() {
+                    draws.push(element.draws)?;
+                }
             }
         }
+        Ok(draws)
     }
-    Ok(draws)
 }
