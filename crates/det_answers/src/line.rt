@@ -1,0 +1,73 @@
+//! A short text that takes no memory beyond its place.
+ghost use Rattle.std.specs.Prelude.{◌≡◌, ◌+◌, ◌≤◌, [], ◌++◌, length, decimal};
+
+use itoa::Buffer;
+use std::marker::Model;
+
+const ROOM: usize = 160;
+
+/// A text of at most 160 bytes.
+#[derive(Drop)]
+pub struct Line {
+    bytes: [u8; 160],
+    len: usize,
+}
+
+impl Model for Line {
+    ghost use Rattle.std.specs.Prelude.{ℕ, List, take, ◌≤◌};
+
+    ghost Value = { List ℕ };
+
+    ghost view = { λ a. take a.len a.bytes };
+
+    ghost invariant = { λ a. a.len ≤ 160 };
+}
+
+impl Line {
+    /// The empty text.
+    pub fn new() -> Line
+        ensures { result ≡ [] }
+    {
+        Line {
+            bytes: [0; ROOM],
+            len: 0,
+        }
+    }
+
+    /// A text as a line.
+    pub fn of(text: &str) -> Line
+        requires { length text.now ≤ 160 }
+        ensures { result ≡ text.now }
+    {
+        let mut line = Line::new();
+        line.push(text);
+        line
+    }
+
+    /// Adds a text.
+    pub fn push(&mut self, text: &str)
+        requires { length self.old + length text.now ≤ 160 }
+        ensures { self.new ≡ self.old ++ text.now }
+    {
+        let end = self.len + text.len();
+        self.bytes[self.len..end].copy_from_slice(text.as_bytes());
+        self.len = end;
+    }
+
+    /// Adds a number in decimal, at most 20 digits.
+    pub fn push_number(&mut self, number: u64)
+        requires { length self.old + 20 ≤ 160 }
+        ensures text { self.new ≡ self.old ++ decimal number }
+        ensures short { length self.new ≤ length self.old + 20 }
+    {
+        let mut buffer = Buffer::new();
+        self.push(buffer.format(number));
+    }
+
+    /// The bytes as a slice.
+    pub fn as_slice(&self) -> &[u8]
+        ensures { result.now ≡ self.now }
+    {
+        &self.bytes[..self.len]
+    }
+}
