@@ -1,0 +1,5 @@
+pub mod Running
+pub mod Framing
+pub mod Items
+pub mod Loop
+pub mod Told

@@ -1,0 +1,54 @@
+-- How a recorded run ends.
+use Rattle.std.specs.Prelude.{◌≡◌, ◌⊎◌, ℕ, List, [], ◌++◌, length, true, false, Result, Ok, Err}
+use Rattle.std.specs.List.{count_by}
+use Rattle.det_base.specs.Values.{ProfileValue}
+use Rattle.det_base.specs.Sink.{Grew, GrewByPrefix, GrewShort}
+use Rattle.det_base.specs.declared.frames.RunFrame.{RunFrame}
+use Rattle.job_trait.specs.Meaning.{Meaning}
+use Rattle.cycle_engine.specs.Frames.{runs}
+use Rattle.stimulus.specs.Reading.{Terminated, BadLine, blocks, ending, has_bad}
+use Rattle.probes.specs.Shipped.{is_refused}
+use Rattle.recorder.specs.declared.ends.Counts.{Counts}
+use Rattle.recorder.specs.declared.ends.RecordEnd.{RecordEnd}
+use Rattle.recorder.specs.declared.ends.RecordEnd.TheVariants.{Stimulus, ReadFault, WriteFault, OutOfMemory}
+use Rattle.recorder.specs.Record.{record_of, record_with, counted}
+
+-- the counts of a record with these runs
+pub record Counted (counts : Counts) (done : List RunFrame) (spelling : List ℕ) : Type 0 where
+  pub cycles : counts.cycles ≡ length done
+  pub refused : counts.refused ≡ count_by is_refused done
+  pub bytes : counts.bytes ≡ counted (length spelling)
+
+module _ {S G E L P : Type 0} (m : Meaning S G E L P) (profile : ProfileValue) where
+  -- the text is a whole stimulus, and all of its record was taken
+  pub record Finishes (text : List ℕ) (counts : Counts) (before after : List ℕ → Type 0) : Type 0 where
+    pub good : ending (length profile.events) text ≡ Terminated
+    pub grew : Grew before after (record_of m profile text)
+    pub counted : Counted counts (runs m profile (blocks (length profile.events) text)) (record_of m profile text)
+
+  -- the text has this bad line, and all of the record before it was taken
+  pub record Stops (text : List ℕ) (line : ℕ) (before after : List ℕ → Type 0) : Type 0 where
+    pub bad : ending (length profile.events) text ≡ BadLine line
+    pub grew : Grew before after (record_of m profile text)
+
+  -- what an answer says of a text and of what the sink took
+  abbrev pub Answers : Result Counts RecordEnd → List ℕ → (List ℕ → Type 0) → (List ℕ → Type 0) → Type 0
+  Answers (Ok counts) text before after = Finishes text counts before after
+  Answers (Err (Stimulus line)) text before after = Stops text line before after
+  Answers (Err ReadFault) text before after = GrewByPrefix before after (record_of m profile text)
+  Answers (Err WriteFault) text before after = GrewShort before after (record_of m profile text)
+  Answers (Err OutOfMemory) text before after = GrewByPrefix before after (record_of m profile text)
+
+  -- how far a text was read: to its end, or as far as its bad line counts as fed; and what was written where a read failed
+  abbrev pub ReadsTo : Result Counts RecordEnd → List ℕ → Type 0 → (List ℕ → Type 0) → (List ℕ → Type 0) → Type 0
+  ReadsTo (Ok counts) read at_end before after = at_end
+  ReadsTo (Err (Stimulus line)) read at_end before after = (has_bad (length profile.events) read ≡ true) ⊎ at_end
+  ReadsTo (Err ReadFault) read at_end before after =
+      (has_bad (length profile.events) read ≡ false) × Grew before after (record_with m profile (blocks (length profile.events) read) false)
+  ReadsTo (Err WriteFault) read at_end before after = Unit {0}
+  ReadsTo (Err OutOfMemory) read at_end before after = Unit {0}
+
+  -- The answer after these bytes were read. It holds of every text that begins with them, or of them alone at the end.
+  pub record Ended (result : Result Counts RecordEnd) (read : List ℕ) (at_end : Type 0) (before after : List ℕ → Type 0) : Type 0 where
+    pub reads_to : ReadsTo result read at_end before after
+    pub answers : (rest : List ℕ) → (at_end → rest ≡ []) → Answers result (read ++ rest) before after

@@ -1,0 +1,4 @@
+pub mod Record
+pub mod Shows
+pub mod Ends
+pub mod Runs

@@ -1,0 +1,19 @@
+//! How a recorded run ends.
+
+/// The Run frames of a record, the refused ones among them, and the length of the record in bytes.
+#[derive(Clone, Copy, Debug, PartialEq, Eq, Drop)]
+pub struct Counts {
+    pub cycles: u32,
+    pub refused: u32,
+    /// It stands at its last value.
+    pub bytes: u64,
+}
+
+/// Why a record isn't whole. A bad line is counted from 1.
+#[derive(Clone, Copy, Debug, PartialEq, Eq, Drop)]
+pub enum RecordEnd {
+    Stimulus { line: u64 },
+    ReadFault,
+    WriteFault,
+    OutOfMemory,
+}

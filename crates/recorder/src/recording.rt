@@ -1,0 +1,178 @@
+//! Runs a job over a stimulus and writes its record.
+ghost use Rattle.std.specs.Prelude.{◌≡◌, ℕ, ◌<◌, ◌≤◌, ◌+◌, ◌*◌, List, [], ◌∷◌, ◌++◌, map, length, false, Err, OnOk, IfOk, IfSome, IsErrOf};
+ghost use Rattle.std.specs.Vec.{vec_len};
+ghost use Rattle.det_base.specs.Count.{Rose};
+ghost use Rattle.det_base.specs.Shelf.{Reads, IsAtEnd};
+ghost use Rattle.det_base.specs.Sink.{GrewByPrefix};
+ghost use Rattle.cycle_engine.specs.Engine.{StandsFor as EngineStands};
+ghost use Rattle.cycle_engine.specs.Frames.{runs};
+ghost use Rattle.record_grammar.specs.Spelling.{spelled};
+ghost use Rattle.stimulus.specs.Reading.{blocks};
+ghost use Rattle.probes.specs.Reports.{reports};
+ghost use Rattle.recorder.specs.Record.{record_of};
+ghost use Rattle.recorder.specs.Shows.{Shows};
+ghost use Rattle.recorder.specs.Ends.{Finishes, Stops, Ended};
+
+use crate::all_blocks::run_blocks;
+use crate::block::Crew;
+use crate::ends::{Counts, RecordEnd};
+use crate::frames::{write_bytes, write_frame};
+use cycle_engine::Engine;
+use det_base::{Bytes, Frame, OutOfMemory, Profile, Sink, Slots};
+use job_trait::Job;
+use probes::Probe;
+use record_codec::{encode_frame, encode_header};
+use std::alloc::Global;
+use std::thread::Threads;
+use stimulus::StimReader;
+use worker_pool::Gate;
+
+/// The bytes that are read at a time.
+const PIECE: usize = 4096;
+
+/// The header, and the frames up to Init.
+fn encode_opening<J: Job>(
+    alloc: Global,
+    profile: &Profile,
+    engine: &Engine<J>,
+) -> Result<Vec<u8>, OutOfMemory>
+    ensures { IfOk result (λ bytes. bytes.items ≡ spelled profile.now
+        (Frame.Register ∷ Frame.Discover ∷ Frame.Init (map (J.meaning.shown engine.now.job) engine.now.state.elements) ∷ [])) }
+{
+    let events = profile.events.len() as u16;
+    let init = Frame::Init(engine.shown(alloc)?);
+    let mut bytes = Vec::new(alloc);
+    encode_header(profile, &mut bytes)?;
+    encode_frame(profile.format, events, &Frame::Register, &mut bytes)?;
+    encode_frame(profile.format, events, &Frame::Discover, &mut bytes)?;
+    encode_frame(profile.format, events, &init, &mut bytes)?;
+    Ok(bytes)
+}
+
+/// The same as `record_run`, without what follows where the shelf tells the text.
+fn run_all<J: Job, S: Slots, K: Sink, R: Threads + Sync, G: Gate>(
+    crew: &Crew<'_, R, G>,
+    engine: &mut Engine<J>,
+    profile: &Profile,
+    shelf: &mut S,
+    slot: u32,
+    sink: &mut K,
+    probes: &mut Vec<Box<dyn Probe>>,
+    left: &mut Bytes,
+) -> Result<Counts, RecordEnd>
+    requires begun { EngineStands J.meaning profile.now engine.old [] }
+    requires going { engine.old.stopped ≡ false }
+    requires slot { slot < (S.sees shelf.old).slots }
+    requires space { length left.old + 256 * vec_len probes.old ≤ 1048576 }
+    ensures run { (read : List ℕ) × Reads (S.sees shelf.old) (S.sees shelf.new) slot read
+        × Ended J.meaning profile.now result read (IsAtEnd (S.sees shelf.new) slot) (K.took sink.old) (K.took sink.new)
+        × OnOk result (Shows left.old (map (λ b. life b) probes.old.items) left.new (map (λ b. life b) probes.new.items) (runs J.meaning profile.now (blocks (length profile.now.events) read))) }
+    ensures fewer { vec_len probes.new ≤ vec_len probes.old }
+    ensures read_fault { IsErrOf result RecordEnd.ReadFault → Rose (S.sees shelf.old).faults (S.sees shelf.new).faults }
+    ensures write_fault { IsErrOf result RecordEnd.WriteFault → Rose (K.faults sink.old) (K.faults sink.new) }
+    ensures reads_counted { (S.sees shelf.old).faults ≤ (S.sees shelf.new).faults }
+    ensures writes_counted { K.faults sink.old ≤ K.faults sink.new }
+    ensures stays { S.stays shelf.old shelf.new }
+{
+    let mut counts = Counts {
+        cycles: 0,
+        refused: 0,
+        bytes: 0,
+    };
+    let Ok(mut buffer) = encode_opening(crew.alloc, profile, engine) else {
+        return Err(RecordEnd::OutOfMemory);
+    };
+    write_bytes(&buffer, sink, &mut counts)?;
+    let events = profile.events.len() as u16;
+    let mut reader = StimReader::new(crew.alloc, events);
+    let mut piece = [0; PIECE];
+    'pieces: loop {
+        run_blocks(
+            crew,
+            profile,
+            &mut reader,
+            engine,
+            &mut buffer,
+            sink,
+            &mut counts,
+            probes,
+            left,
+        )?;
+        let n = match shelf.read(slot, &mut piece) {
+            Ok(n) => n,
+            Err(_) => return Err(RecordEnd::ReadFault),
+        };
+        if n == 0 {
+            break;
+        }
+        match reader.feed(&piece[..n]) {
+            Ok(()) => {}
+            Err(_) => return Err(RecordEnd::OutOfMemory),
+        }
+    }
+    if let Err(fault) = reader.finish() {
+        return Err(RecordEnd::Stimulus { line: fault.line });
+    }
+    engine.stop();
+    write_frame(
+        profile.format,
+        events,
+        &Frame::Terminate,
+        &mut buffer,
+        sink,
+        &mut counts,
+    )?;
+    counts.cycles = engine.cycles();
+    Ok(counts)
+}
+
+/// Runs a job over the stimulus that a slot has left, and writes the record of the profile and of this text.
+///
+/// The header and the frames up to Init are written before the first line is judged, then a Run frame for each complete
+/// block, and Terminate once the text was read to its end and is good. Each Run frame is shown to the probes after it
+/// was written; reports of probes that leave are appended to `left`. After an error the engine isn't to be used.
+pub fn record_run<J: Job, S: Slots, K: Sink, R: Threads + Sync, G: Gate>(
+    rt: &R,
+    alloc: Global,
+    engine: &mut Engine<J>,
+    profile: &Profile,
+    shelf: &mut S,
+    slot: u32,
+    sink: &mut K,
+    workers: u32,
+    gate: &G,
+    probes: &mut Vec<Box<dyn Probe>>,
+    left: &mut Bytes,
+) -> Result<Counts, RecordEnd>
+    requires begun { EngineStands J.meaning profile.now engine.old [] }
+    requires going { engine.old.stopped ≡ false }
+    requires slot { slot < (S.sees shelf.old).slots }
+    requires workers { (1 ≤ workers) × (workers ≤ 64) }
+    requires few { vec_len probes.old ≤ 1024 }
+    requires empty { left.old ≡ [] }
+
+    // Of the text, where the shelf tells it: it was recorded whole, or up to its bad line, or in part.
+    ensures ok { IfSome ((S.sees shelf.old).left slot) (λ text. IfOk result (λ counts. Finishes J.meaning profile.now text counts (K.took sink.old) (K.took sink.new))) }
+    ensures stimulus { IfSome ((S.sees shelf.old).left slot) (λ text. (line : ℕ) → result ≡ Err (RecordEnd.Stimulus line) → Stops J.meaning profile.now text line (K.took sink.old) (K.took sink.new)) }
+    ensures part { IfSome ((S.sees shelf.old).left slot) (λ text. GrewByPrefix (K.took sink.old) (K.took sink.new) (record_of J.meaning profile.now text)) }
+    ensures probes { IfSome ((S.sees shelf.old).left slot) (λ text. OnOk result (left.new ++ reports (map (λ b. life b) probes.new.items) [] ≡ reports (map (λ b. life b) probes.old.items) (runs J.meaning profile.now (blocks (length profile.now.events) text)))) }
+
+    // Of what was read, also where the shelf tells nothing.
+    ensures run { (read : List ℕ) × Reads (S.sees shelf.old) (S.sees shelf.new) slot read
+        × Ended J.meaning profile.now result read (IsAtEnd (S.sees shelf.new) slot) (K.took sink.old) (K.took sink.new)
+        × OnOk result (Shows [] (map (λ b. life b) probes.old.items) left.new (map (λ b. life b) probes.new.items) (runs J.meaning profile.now (blocks (length profile.now.events) read))) }
+    ensures fewer { vec_len probes.new ≤ vec_len probes.old }
+    ensures read_fault { IsErrOf result RecordEnd.ReadFault → Rose (S.sees shelf.old).faults (S.sees shelf.new).faults }
+    ensures write_fault { IsErrOf result RecordEnd.WriteFault → Rose (K.faults sink.old) (K.faults sink.new) }
+    ensures reads_counted { (S.sees shelf.old).faults ≤ (S.sees shelf.new).faults }
+    ensures writes_counted { K.faults sink.old ≤ K.faults sink.new }
+    ensures stays { S.stays shelf.old shelf.new }
+{
+    let crew = Crew {
+        rt,
+        alloc,
+        workers,
+        gate,
+    };
+    run_all(&crew, engine, profile, shelf, slot, sink, probes, left)
+}
