@@ -1,0 +1,7 @@
+//! Reads the manifest under a name of a shelf, and judges its parameters by its job.
+#![tactic(auto)]
+
+mod judging;
+mod setup;
+
+pub use setup::{SetupEnd, read_setup};
