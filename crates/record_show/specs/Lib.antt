@@ -1,0 +1,4 @@
+pub mod Text
+pub mod Cuts
+pub mod Shows
+pub mod Ended
