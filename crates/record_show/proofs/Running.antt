@@ -16,7 +16,7 @@ use Rattle.record_grammar.specs.declared.item.Item.{Item}
 use Rattle.record_grammar.specs.declared.item.Item.TheVariants as items
 use Rattle.record_grammar.specs.declared.place.Place.TheVariants as places
 use Rattle.record_grammar.specs.Places.{may_come}
-use Rattle.record_grammar.specs.Record.{items as items_in, fault as fault_in, fault_so_far, Decoded}
+use Rattle.record_grammar.specs.Record.{items as items_in, fault as fault_in, Decoded}
 use Rattle.record_grammar.proofs.Leads.{leads_grow, all_leads}
 use Rattle.record_reader.specs.declared.reader.RecordReader.{RecordReader}
 use Rattle.record_reader.specs.declared.reader_end.ReaderEnd.{ReaderEnd}
@@ -28,10 +28,10 @@ use Rattle.record_show.specs.declared.ends.Shown.{Shown}
 use Rattle.record_show.specs.declared.ends.ShowEnd.{ShowEnd}
 use Rattle.record_show.specs.declared.ends.ShowEnd.TheVariants.{BadRecord, ReadFault, WriteFault, OutOfMemory}
 use Rattle.record_show.specs.declared.printing.Printer.{Printer}
-use Rattle.record_show.specs.Text.{run_in, runs_in, format_by, format_behind, text_from, text_of}
+use Rattle.record_show.specs.Text.{run_in, runs_in, format_behind, text_from, text_of}
 use Rattle.record_show.specs.Cuts.{Cuts}
 use Rattle.record_show.specs.Shows.{Shows}
-use Rattle.record_show.specs.Ended.{IsShown, Answers, ReadsTo, Ended, AreShown, ItemsAre, end_of}
+use Rattle.record_show.specs.Ended.{IsShown, Answers, Ended, AreShown, end_of}
 use Rattle.record_show.proofs.Lines.{lines_first, lines_next, lines_none_yet, format_none_yet, behind_append, runs_next}
 
 -- ---- what was shown
@@ -150,26 +150,20 @@ cut_behind WriteFault before mid after a b grew cut = grew-then-short before mid
 cut_behind OutOfMemory before mid after a b grew cut = grew-then-part before mid after a b grew cut
 
 -- an item couldn't be printed
-pub running_cut : {before mid now : ShelfState} {slot : ℕ} {took0 took1 : List ℕ → Type 0} (took2 : List ℕ → Type 0) {r r' : RecordReader} {printer : Printer} {left0 left1 : List ℕ} {probes0 probes1 : List ProbeLife} {read : List ℕ} {given : List Item} {at_end : Type 0}
+pub running_cut : {before mid now : ShelfState} {slot : ℕ} {took0 took1 : List ℕ → Type 0} (took2 : List ℕ → Type 0) {r r' : RecordReader} {printer : Printer} {left0 left1 : List ℕ} {probes0 probes1 : List ProbeLife} {read : List ℕ} {given : List Item} (at_end : Type 0)
     (item : Item) (end : ShowEnd) → Running before mid slot took0 took1 r printer left0 probes0 left1 probes1 read given
     → (next : NextRead mid now slot r r' (Ok (Some item)))
     → Cuts end took1 took2 (item_lines printer.format printer.cycles (item ∷ []))
     → Ended (Err end) probes0 (read ++ next.0) at_end took0 took2
-running_cut {took0 = took0} took2 {r' = r'} {printer = printer} {read = read} {given = given} item end h next cut =
+running_cut {took0 = took0} took2 {r' = r'} {printer = printer} {read = read} {given = given} at_end item end h next cut =
     let step = next.2 read given h.stands in
     let lines = ap (λ (f : Format). record_lines given ++ item_lines f printer.cycles (item ∷ [])) h.format
     ∙ ap (λ (n : ℕ). record_lines given ++ item_lines (format_behind One given) n (item ∷ [])) h.cycles ∙ sym (lines_next given item) in
     ended_cut (read ++ next.0) (given ++ item ∷ []) end (more_items r' (read ++ next.0) (given ++ item ∷ []) step.0) (subst (Cuts end took0 took2) lines (cut_behind end _ _ _ _ _ h.grew cut))
 
 -- an item that was printed couldn't be shown
-pub running_unshown : {before mid now : ShelfState} {slot : ℕ} {took0 took1 : List ℕ → Type 0} (took2 : List ℕ → Type 0) {r r' : RecordReader} {printer : Printer} {left0 left1 : List ℕ} {probes0 probes1 : List ProbeLife} {read : List ℕ} {given : List Item} {at_end : Type 0}
-    (item : Item) (end : ShowEnd) → Running before mid slot took0 took1 r printer left0 probes0 left1 probes1 read given
-    → (next : NextRead mid now slot r r' (Ok (Some item)))
-    → Grew took1 took2 (item_lines printer.format printer.cycles (item ∷ []))
-    → end ≡ OutOfMemory
-    → Ended (Err end) probes0 (read ++ next.0) at_end took0 took2
-running_unshown {took0 = took0} {took1 = took1} took2 {probes0 = probes0} {read = read} {at_end = at_end} item end h next grew is =
-    subst (λ (e : ShowEnd). Ended (Err e) probes0 (read ++ next.0) at_end took0 took2) (sym is) (running_cut took2 item OutOfMemory h next (part-whole took1 took2 _ grew))
+pub unshown : (before after : List ℕ → Type 0) (bytes : List ℕ) (end : ShowEnd) → Grew before after bytes → end ≡ OutOfMemory → Cuts end before after bytes
+unshown before after bytes end grew is = subst (λ (e : ShowEnd). Cuts e before after bytes) (sym is) (part-whole before after bytes grew)
 
 -- ---- no item more
 

@@ -1,5 +1,5 @@
 -- How the printing of a record ends.
-use Rattle.std.specs.Prelude.{◌≡◌, ◌⊎◌, ℕ, List, [], ◌++◌, length, Option, Some, None, Result, Ok, Err}
+use Rattle.std.specs.Prelude.{◌≡◌, ◌⊎◌, ℕ, List, [], ◌++◌, length, Some, None, Result, Ok, Err}
 use Rattle.det_base.specs.Sink.{Grew, GrewByPrefix, GrewShort}
 use Rattle.record_grammar.specs.Record.{items as items_in, fault as fault_in, fault_so_far}
 use Rattle.det_texts.specs.Records.{record_lines}

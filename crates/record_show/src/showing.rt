@@ -1,5 +1,5 @@
 //! A record, printed and shown to probes as it is read.
-ghost use Rattle.std.specs.Prelude.{◌≡◌, ℕ, ◌<◌, ◌≤◌, ◌+◌, ◌*◌, List, [], ◌++◌, map, length, OnOk, IfErr, IfSome, IsErrOf};
+ghost use Rattle.std.specs.Prelude.{◌≡◌, ℕ, ◌<◌, ◌≤◌, ◌+◌, ◌*◌, List, [], ◌∷◌, ◌++◌, map, length, OnOk, IfErr, IfSome, IsErrOf};
 ghost use Rattle.std.specs.Vec.{vec_len};
 ghost use Rattle.det_base.specs.Count.{Rose};
 ghost use Rattle.det_base.specs.Shelf.{Reads, IsAtEnd};
@@ -7,7 +7,8 @@ ghost use Rattle.det_base.specs.Sink.{Grew, GrewByPrefix};
 ghost use Rattle.record_grammar.specs.Record.{items as items_in};
 ghost use Rattle.record_reader.specs.StandsFor.{StandsFor, slot_of};
 ghost use Rattle.probes.specs.Reports.{reports};
-ghost use Rattle.record_show.specs.Text.{run_in, runs_in, text_of};
+ghost use Rattle.det_texts.specs.Records.{item_lines};
+ghost use Rattle.record_show.specs.Text.{run_in, runs_in, format_behind, text_of};
 ghost use Rattle.record_show.specs.Cuts.{Cuts};
 ghost use Rattle.record_show.specs.Shows.{Shows};
 ghost use Rattle.record_show.specs.Ended.{Answers, Ended, ItemsAre, end_of};
@@ -116,10 +117,7 @@ fn show_items<S: Slots, K: Sink>(
         };
         match item {
             Some(item) => {
-                if let Err(end) = printer.print(alloc, &item, sink) {
-                    return Err(end);
-                }
-                if let Err(end) = show_item(alloc, &item, probes, left) {
+                if let Err(end) = take_item(alloc, item, &mut printer, sink, probes, left) {
                     return Err(end);
                 }
             }
@@ -130,6 +128,36 @@ fn show_items<S: Slots, K: Sink>(
             }
         }
     }
+}
+
+/// Prints an item, and then shows it to the probes where it is a Run frame.
+#[tactic(auto, using(crate::proofs::Running::unshown))]
+fn take_item<K: Sink>(
+    alloc: Global,
+    item: Item,
+    printer: &mut Printer,
+    sink: &mut K,
+    probes: &mut Vec<Box<dyn Probe>>,
+    left: &mut Bytes,
+) -> Result<(), ShowEnd>
+    requires few { printer.old.cycles < 4294967295 }
+    requires space { length left.old + 256 * vec_len probes.old ≤ 1048576 }
+    ensures printed { OnOk result (Grew (K.took sink.old) (K.took sink.new) (item_lines printer.old.format printer.old.cycles (item ∷ []))) }
+    ensures format { OnOk result (printer.new.format ≡ format_behind printer.old.format (item ∷ [])) }
+    ensures cycles { OnOk result (printer.new.cycles ≡ printer.old.cycles + length (run_in item)) }
+    ensures shown { OnOk result (Shows left.old (map (λ b. life b) probes.old.items) left.new (map (λ b. life b) probes.new.items) (run_in item)) }
+    ensures space { OnOk result (length left.new + 256 * vec_len probes.new ≤ length left.old + 256 * vec_len probes.old) }
+    ensures err { IfErr result (λ end. Cuts end (K.took sink.old) (K.took sink.new) (item_lines printer.old.format printer.old.cycles (item ∷ []))) }
+    ensures cause { IsErrOf result ShowEnd.WriteFault → Rose (K.faults sink.old) (K.faults sink.new) }
+    ensures counted { K.faults sink.old ≤ K.faults sink.new }
+{
+    if let Err(end) = printer.print(alloc, &item, sink) {
+        return Err(end);
+    }
+    if let Err(end) = show_item(alloc, &item, probes, left) {
+        return Err(end);
+    }
+    Ok(())
 }
 
 /// Shows an item to the probes where it is a Run frame.

@@ -1,4 +1,4 @@
-use Rattle.std.proofs.Common.{◌≡◌, ◌+◌, [], ◌∷◌, length, sym, ap, ◌∙◌}
+use Rattle.std.proofs.Common.{sym, ap, ◌∙◌}
 use Rattle.record_show.proofs.Lines.{put_header, put_frame, format_put}
 use Rattle.record_show.proofs.printing.Printer.put.Goals as goal
 
