@@ -1,4 +1,4 @@
-//! The worked examples.
+//! The worked examples. Their long texts stand in functions without a clause, so that no proof reads them.
 use crate::{Arrival, profile_of, run, told, without_events};
 use apps::{Bank, Cloud, Guard};
 use det_base::{Format, Policy};
@@ -12,30 +12,33 @@ fn arrival(cycle: u32, event: u16, value: i64) -> Arrival {
     }
 }
 
-const LAST_WINDOW: &str =
-    "done 000000000000000000000000000000000000000000000000\ndone 000000000000006400000000000000190000000000000019 0:0000000000000019 1:0000000000000019 2:0000000000000019 3:0000000000000019\ndone 00000000000000ac000000000000002b000000000000002b 0:000000000000002b 1:000000000000002b 2:000000000000002b 3:000000000000002b\n";
+fn last_window() -> &'static str {
+    "done 000000000000000000000000000000000000000000000000\ndone 000000000000006400000000000000190000000000000019 0:0000000000000019 1:0000000000000019 2:0000000000000019 3:0000000000000019\ndone 00000000000000ac000000000000002b000000000000002b 0:000000000000002b 1:000000000000002b 2:000000000000002b 3:000000000000002b\n"
+}
 
 #[test]
 fn a_bank_with_the_last_window(rt: HostRuntime) -> Result<(), Fail> {
     let profile = profile_of(rt.alloc(), &[4, 2], 1, 2, Policy::Last)?;
     let text = told::<Bank, _>(&rt, rt.alloc(), &profile, &[arrival(1, 0, 100)], 3, 1)?;
-    assert_eq!(rt; text.as_str(), LAST_WINDOW);
+    assert_eq!(rt; text.as_str(), last_window());
     Ok(())
 }
 
-const FRESH_WINDOW: &str =
-    "done 000000000000000000000000000000000000000000000000\ndone 000000000000006400000000000000190000000000000019 0:0000000000000019 1:0000000000000019 2:0000000000000019 3:0000000000000019\ndone 000000000000006400000000000000190000000000000019 0:0000000000000019 1:0000000000000019 2:0000000000000019 3:0000000000000019\n";
+fn fresh_window() -> &'static str {
+    "done 000000000000000000000000000000000000000000000000\ndone 000000000000006400000000000000190000000000000019 0:0000000000000019 1:0000000000000019 2:0000000000000019 3:0000000000000019\ndone 000000000000006400000000000000190000000000000019 0:0000000000000019 1:0000000000000019 2:0000000000000019 3:0000000000000019\n"
+}
 
 #[test]
 fn a_bank_with_a_fresh_window(rt: HostRuntime) -> Result<(), Fail> {
     let profile = profile_of(rt.alloc(), &[4, 2], 1, 2, Policy::Fresh)?;
     let text = told::<Bank, _>(&rt, rt.alloc(), &profile, &[arrival(1, 0, 100)], 3, 1)?;
-    assert_eq!(rt; text.as_str(), FRESH_WINDOW);
+    assert_eq!(rt; text.as_str(), fresh_window());
     Ok(())
 }
 
-const ARRIVALS_KEPT: &str =
-    "done 00000000000000000000000001000000000000000a\nrefused pool 0 3 1\ndone 00000000000000000000000001000000000000001e 3:0000000300000000000000050000 70:0000004600000000000000050000\n";
+fn arrivals_kept() -> &'static str {
+    "done 00000000000000000000000001000000000000000a\nrefused pool 0 3 1\ndone 00000000000000000000000001000000000000001e 3:0000000300000000000000050000 70:0000004600000000000000050000\n"
+}
 
 #[test]
 fn a_refused_cycle_keeps_what_arrived(rt: HostRuntime) -> Result<(), Fail> {
@@ -47,23 +50,27 @@ fn a_refused_cycle_keeps_what_arrived(rt: HostRuntime) -> Result<(), Fail> {
     ];
     let profile = profile_of(rt.alloc(), &[100, 0, 1000, 1, 100], 100, 1, Policy::Last)?;
     let text = told::<Guard, _>(&rt, rt.alloc(), &profile, &arrivals, 3, 2)?;
-    assert_eq!(rt; text.as_str(), ARRIVALS_KEPT);
+    assert_eq!(rt; text.as_str(), arrivals_kept());
     Ok(())
 }
 
-const ALL_REFUSE: &str = "done 00000000000000000000000001000000000000000a\nrefused pool 0 0 1\n";
+fn all_refuse() -> &'static str {
+    "done 00000000000000000000000001000000000000000a\nrefused pool 0 0 1\n"
+}
 
 #[test]
 fn all_refuse_for_any_workers(rt: HostRuntime) -> Result<(), Fail> {
     let profile = profile_of(rt.alloc(), &[1000, 0, 10, 1, 1000], 1, 1, Policy::Last)?;
     for workers in [1, 2, 8, 64] {
         let text = told::<Guard, _>(&rt, rt.alloc(), &profile, &[arrival(1, 0, 11)], 2, workers)?;
-        assert_eq!(rt; text.as_str(), ALL_REFUSE);
+        assert_eq!(rt; text.as_str(), all_refuse());
     }
     Ok(())
 }
 
-const CLOUD_CODES: &str = "\nrefused conclude 0 0 2\nrefused prepare 0 0 1\n";
+fn cloud_codes() -> &'static str {
+    "\nrefused conclude 0 0 2\nrefused prepare 0 0 1\n"
+}
 
 #[test]
 fn codes_of_a_cloud(rt: HostRuntime) -> Result<(), Fail> {
@@ -71,7 +78,7 @@ fn codes_of_a_cloud(rt: HostRuntime) -> Result<(), Fail> {
     let arrivals = [arrival(1, 0, 1000), arrival(2, 2, -1)];
     let ran = run::<Cloud, _>(&rt, rt.alloc(), &profile, &arrivals, 3, 1)?;
     let text = ran.text(rt.alloc())?;
-    assert!(rt; text.as_str().ends_with(CLOUD_CODES));
+    assert!(rt; text.as_str().ends_with(cloud_codes()));
     assert!(rt; ran.keeps_seed());
     Ok(())
 }
@@ -86,11 +93,14 @@ fn are_draws(draws: &[u32]) -> bool {
     draws.len() == 3
 }
 
-const LONE: [i64; 4] = [1, 1000, 0, 4_000_000_000_000];
+/// The parameters of one particle.
+fn lone() -> [i64; 4] {
+    [1, 1000, 0, 4_000_000_000_000]
+}
 
 #[test]
 fn draws_of_a_cloud_in_format_two(rt: HostRuntime) -> Result<(), Fail> {
-    let profile = without_events(rt.alloc(), Format::Two, &LONE)?;
+    let profile = without_events(rt.alloc(), Format::Two, &lone())?;
     let ran = run::<Cloud, _>(&rt, rt.alloc(), &profile, &[], 3, 1)?;
     assert!(rt; are_draws(ran.draws(rt.alloc())?.as_slice()));
     Ok(())
@@ -98,7 +108,7 @@ fn draws_of_a_cloud_in_format_two(rt: HostRuntime) -> Result<(), Fail> {
 
 #[test]
 fn draws_of_a_cloud_in_format_one(rt: HostRuntime) -> Result<(), Fail> {
-    let profile = without_events(rt.alloc(), Format::One, &LONE)?;
+    let profile = without_events(rt.alloc(), Format::One, &lone())?;
     let ran = run::<Cloud, _>(&rt, rt.alloc(), &profile, &[], 3, 1)?;
     assert_eq!(rt; ran.draws(rt.alloc())?.as_slice(), [0, 0, 0].as_slice());
     Ok(())
