@@ -1,0 +1,7 @@
+//! Tests of records printed as text.
+#![tactic(auto)]
+
+#[cfg(test)]
+mod shown;
+#[cfg(test)]
+mod vectors;
