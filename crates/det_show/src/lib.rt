@@ -1,0 +1,6 @@
+//! The command that prints a record as text, with the reports of its runs.
+#![tactic(auto)]
+
+mod showing;
+
+pub use showing::show;
