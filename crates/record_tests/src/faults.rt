@@ -1,6 +1,7 @@
 //! Where bytes are refused.
+use crate::feeding::fed;
 use crate::slow::slow_fault;
-use crate::sources::{changed, fault_at_once, fault_of};
+use crate::sources::{changed, fault_of};
 use crate::vectors::{empty_run, first, two_cycles};
 use record_codec::{Reason, RecordFault};
 use std::alloc::Global;
@@ -108,7 +109,7 @@ fn each_byte_value_at_each_offset_of_an_empty_run(rt: HostRuntime) -> Result<(),
     for at in 0..98 {
         for byte in 0..256u16 {
             let bytes = changed(alloc, empty_run(), at, byte as u8)?;
-            assert_eq!(rt; fault_at_once(alloc, &bytes)?, slow_fault(&bytes));
+            assert_eq!(rt; fed(alloc, &bytes, usize::MAX)?.1, slow_fault(&bytes));
         }
     }
     Ok(())

@@ -1,8 +1,14 @@
-//! Tests of records, read in pieces and salvaged.
+//! Tests of records, fed in pieces, read from shelves and salvaged.
 #![tactic(auto)]
 
 #[cfg(test)]
+mod failing;
+#[cfg(test)]
 mod faults;
+#[cfg(test)]
+mod feeding;
+#[cfg(test)]
+mod items;
 #[cfg(test)]
 mod salvages;
 #[cfg(test)]
