@@ -120,5 +120,10 @@ fn of_1_000_001_runs_1_000_000_are_salvaged(rt: HostRuntime) -> Result<(), Fail>
     };
     assert_eq!(rt; answer, Ok(all));
     assert_eq!(rt; sink.length(), 17_000_038);
+    bytes.pop();
+    bytes.push(5)?;
+    let mut whole = DigestSink::new();
+    whole.write(&bytes)?;
+    assert_eq!(rt; sink.finish(), whole.finish());
     Ok(())
 }

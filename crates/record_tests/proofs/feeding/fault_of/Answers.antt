@@ -1,4 +1,4 @@
-use Rattle.std.proofs.Common.{Option, None, Ok, subst}
+use Rattle.std.proofs.Common.{Option, Ok, subst}
 use Rattle.record_grammar.specs.declared.item.Item.{Item}
 use Rattle.record_codec.specs.StandsFor.{Leaves}
 use Rattle.record_tests.proofs.feeding.fault_of.Goals as goal
