@@ -1,0 +1,10 @@
+//! The command `needs`: the lines of a manifest, where its job takes its parameters.
+#![tactic(auto)]
+
+mod command;
+mod lines;
+mod put;
+#[cfg(test)]
+mod tests;
+
+pub use command::needs;
