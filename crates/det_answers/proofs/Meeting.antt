@@ -1,5 +1,5 @@
 -- How a run meets an outcome, by its answer, and what follows from that.
-use Rattle.std.proofs.Common.{◌≡◌, ℕ, List, [], refl, sym, ap, inl, inr, ◌∙◌}
+use Rattle.std.proofs.Common.{◌≡◌, ℕ, List, refl, sym, ap, inl, inr}
 use Rattle.std.specs.Prelude.{◌⊎◌}
 use Rattle.det_base.specs.Sink.{Grew, GrewByPrefix}
 use Rattle.det_base.proofs.Growth.{grew-none, same-none, part-none, part-whole}

@@ -1,5 +1,5 @@
 -- What is known of bytes that were read from a name whose bytes are told.
-use Rattle.std.proofs.Common.{◌≡◌, ◌≤◌, ℕ, List, [], ◌++◌, length, refl, ap, arith, length-append}
+use Rattle.std.proofs.Common.{◌≡◌, ℕ, List, [], ◌++◌, refl}
 use Rattle.std.specs.Prelude.{Option, Some, None, IsSome}
 use Rattle.std.specs.Option.{unwrap_or}
 use Rattle.det_base.specs.Shelf.{ShelfState, Reads, Opens, IsAtEnd}

@@ -1,6 +1,5 @@
 -- What an answer of a command tells: its exit status, and its line for `err`.
-use Rattle.std.specs.Prelude.{ℕ, List, [], ◌∷◌, ◌++◌, codes, decimal}
-use Rattle.manifest.specs.declared.fault.ManifestFault.{ManifestFault}
+use Rattle.std.specs.Prelude.{ℕ, List, [], ◌++◌, codes, decimal}
 use Rattle.manifest.specs.declared.fault.ManifestFault.TheVariants.{TooLong, NotToml, Missing, WrongKind, OutOfRange, DuplicateEvent, UnknownJob}
 use Rattle.manifest.specs.declared.key.Key.{Key}
 use Rattle.manifest.specs.KeyTexts.{key_text}

@@ -1,5 +1,5 @@
 -- What a command gives: an answer and the bytes for `out`; and when a run of it meets that.
-use Rattle.std.specs.Prelude.{◌≡◌, ℕ, ◌⊎◌, List, [], Option, IsSome}
+use Rattle.std.specs.Prelude.{◌≡◌, ℕ, ◌⊎◌, List, [], IsSome}
 use Rattle.std.specs.List.{All}
 use Rattle.std.specs.Option.{unwrap_or}
 use Rattle.det_base.specs.Sink.{Grew, GrewByPrefix}
