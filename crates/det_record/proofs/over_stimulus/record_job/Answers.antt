@@ -1,0 +1,22 @@
+use Rattle.std.proofs.Common.{[], ◌∷◌, length, sym, ap, ◌∙◌}
+use Rattle.det_base.proofs.Opening.{asks-all, asks-then-kept}
+use Rattle.det_answers.specs.Outcome.{told}
+use Rattle.det_answers.proofs.Meeting.{meets-read-fault}
+use Rattle.det_record.proofs.Recorded.{met-refused}
+use Rattle.det_record.proofs.over_stimulus.record_job.Goals as goal
+
+pub returns-in-Err-clause-meets : goal.returns-in-Err-clause-meets
+returns-in-Err-clause-meets g c =
+    let bad_param = g.J.Job.meaning.bad_param in
+    let events = c.len-events.ensures.len ∙ ap (λ p. length p.events) c.profile.view_is in
+    let refused = sym (ap (λ n. bad_param c.args.profile.now.params n) events)
+    ∙ sym (ap (λ p. bad_param p.params c.len-events.result) c.profile.view_is) ∙ c.in-Err.ensures in
+    met-refused g.J.Job.meaning c.args.profile.now (told (g.S.Slots.sees c.args.shelf.now) c.args.stimulus.now) _ _ _ _ c.in-Err.bad.index refused
+
+pub returns-in_default-clause-meets : goal.returns-in_default-clause-meets
+returns-in_default-clause-meets g c = meets-read-fault _ _ _ _ _ c.in_default.ensures.cause
+
+pub returns-clause-asked : goal.returns-clause-asked
+returns-clause-asked g c =
+    let run = c.record_run-run.ensures.run in
+    asks-all _ _ (c.args.stimulus.now ∷ []) (asks-then-kept c.in-Ok-open_input.ensures.asked run.1.asked)

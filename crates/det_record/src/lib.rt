@@ -1,0 +1,9 @@
+//! The commands `demo` and `record`: the record of a stimulus, by the built-in profile or by a manifest.
+#![tactic(auto)]
+
+mod built_in;
+mod by_manifest;
+mod over_stimulus;
+
+pub use built_in::demo;
+pub use by_manifest::record_stimulus;
