@@ -1,4 +1,6 @@
 use Rattle.std.proofs.Common.{[], ◌∷◌, length, sym, ap, ◌∙◌}
+use Rattle.std.specs.Prelude.{IsSome}
+use Rattle.det_base.specs.Count.{Rose}
 use Rattle.det_base.proofs.Opening.{asks-all, asks-then-kept}
 use Rattle.det_answers.specs.Outcome.{told}
 use Rattle.det_answers.proofs.Meeting.{meets-read-fault}
@@ -11,7 +13,10 @@ returns-in-Err-clause-meets g c =
     let events = c.len-events.ensures.len ∙ ap (λ p. length p.events) c.profile.view_is in
     let refused = sym (ap (λ n. bad_param c.args.profile.now.params n) events)
     ∙ sym (ap (λ p. bad_param p.params c.len-events.result) c.profile.view_is) ∙ c.in-Err.ensures in
-    met-refused g.J.Job.meaning c.args.profile.now (told (g.S.Slots.sees c.args.shelf.now) c.args.stimulus.now) _ _ _ _ c.in-Err.bad.index refused
+    let first = g.S.Slots.sees c.args.shelf.now in
+    let faults = g.K.Sink.faults c.args.out.now in
+    met-refused g.J.Job.meaning c.args.profile.now (told first c.args.stimulus.now) (IsSome (first.holds c.args.stimulus.now)) (Rose first.faults first.faults)
+    (Rose faults faults) (g.K.Sink.took c.args.out.now) c.in-Err.bad.index refused
 
 pub returns-in_default-clause-meets : goal.returns-in_default-clause-meets
 returns-in_default-clause-meets g c = meets-read-fault _ _ _ _ _ c.in_default.ensures.cause
