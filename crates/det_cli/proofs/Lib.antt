@@ -1,3 +1,1 @@
-pub mod Meeting
-mod Records
-mod Telling
+mod Joining

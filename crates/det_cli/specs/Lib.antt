@@ -1,6 +1,2 @@
-pub mod Answers
-pub mod Demo
 pub mod Outcome
-pub mod Statuses
 pub mod Texts
-pub mod Words

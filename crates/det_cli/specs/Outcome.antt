@@ -1,50 +1,52 @@
--- What the program gives: an answer and the bytes for `out`, by the words and by the bytes under each name.
-use Rattle.std.specs.Prelude.{◌≡◌, ℕ, ◌⊎◌, List, [], Option, Some, None, IsSome}
-use Rattle.std.specs.List.{All}
-use Rattle.std.specs.Option.{unwrap_or}
-use Rattle.det_base.specs.Sink.{Grew, GrewByPrefix}
-use Rattle.det_base.specs.Shelf.{ShelfState}
-use Rattle.det_cli.specs.declared.answer.Answer.{Answer}
-use Rattle.det_cli.specs.declared.answer.Answer.TheVariants.{Done, BadWords, ReadFault, WriteFault, OutOfMemory}
-use Rattle.det_cli.specs.Words.{Command, demo, help, version, command_of}
+-- What the program gives: an answer and the bytes for `out`, by the words, the bytes under each name and the probes.
+use Rattle.std.specs.Prelude.{ℕ, List, [], Option, Some, None, option_and_then}
+use Rattle.det_answers.specs.declared.answer.Answer.TheVariants.{BadWords}
+use Rattle.det_answers.specs.Outcome.{Outcome, text_outcome, refusal}
+use Rattle.det_words.specs.Words.{Command, demo, «record», replay, check, compare, show, needs, sim, salvage, upgrade, vote, chain, help, version, command_of, names}
+use Rattle.probes.specs.Reports.{ProbeLife}
+use Rattle.det_record.specs.Outcomes.{demo_outcome, record_outcome}
+use Rattle.det_needs.specs.Needs.{needs_outcome}
+use Rattle.det_show.specs.Show.{show_outcome}
 use Rattle.det_cli.specs.Texts.{usage_text, version_text}
-use Rattle.det_cli.specs.Demo.{demo_answer, demo_bytes}
 
-pub record Outcome : Type 0 where
-  pub answer : Answer
-  pub bytes : List ℕ
+-- the command, where it is one of those that are built
+abbrev pub built : Command → Option Command
+built (demo stimulus) = Some (demo stimulus)
+built («record» manifest stimulus seed workers) = Some («record» manifest stimulus seed workers)
+built (replay recorded workers) = None
+built (check recorded workers) = None
+built (compare records) = None
+built (show recorded) = Some (show recorded)
+built (needs manifest) = Some (needs manifest)
+built (sim number workers) = None
+built (salvage recorded reports) = None
+built (upgrade recorded workers) = None
+built (vote records dissent) = None
+built (chain first second stimulus seed workers) = None
+built help = Some help
+built version = Some version
 
-abbrev pub demo_outcome : List ℕ → Outcome
-demo_outcome text = record { answer = demo_answer text; bytes = demo_bytes text }
+-- the command that the words give, where it is built
+abbrev pub command_in : List (List ℕ) → Option Command
+command_in words = option_and_then built (command_of words)
 
--- a text that is always there
-abbrev pub text_outcome : List ℕ → Outcome
-text_outcome text = record { answer = Done; bytes = text }
+-- the names that a command opens, in their order
+abbrev pub names_in : Option Command → List (List ℕ)
+names_in (Some command) = names command
+names_in None = []
+
+abbrev pub names_of : List (List ℕ) → List (List ℕ)
+names_of words = names_in (command_in words)
 
 -- the outcome of a command, where these are the bytes under each name
-abbrev pub outcome_of : Option Command → (List ℕ → List ℕ) → Outcome
-outcome_of (Some (demo stimulus)) holds = demo_outcome (holds stimulus)
-outcome_of (Some help) holds = text_outcome usage_text
-outcome_of (Some version) holds = text_outcome version_text
-outcome_of None holds = record { answer = BadWords; bytes = [] }
+abbrev pub outcome_of : Option Command → (List ℕ → List ℕ) → List ProbeLife → Outcome
+outcome_of (Some (demo stimulus)) holds probes = demo_outcome (holds stimulus)
+outcome_of (Some («record» manifest stimulus seed workers)) holds probes = record_outcome (holds manifest) (holds stimulus) seed
+outcome_of (Some (show recorded)) holds probes = show_outcome probes (holds recorded)
+outcome_of (Some (needs manifest)) holds probes = needs_outcome (holds manifest)
+outcome_of (Some help) holds probes = text_outcome usage_text
+outcome_of (Some version) holds probes = text_outcome version_text
+outcome_of other holds probes = refusal BadWords
 
-abbrev pub outcome : List (List ℕ) → (List ℕ → List ℕ) → Outcome
-outcome words holds = outcome_of (command_of words) holds
-
--- the shelf tells the bytes under these names
-abbrev pub Tells : ShelfState → List (List ℕ) → Type 0
-Tells shelf names = All (λ name. IsSome (shelf.holds name)) names
-
--- the bytes under a name, where the shelf tells them
-abbrev pub told : ShelfState → List ℕ → List ℕ
-told shelf name = unwrap_or (shelf.holds name) []
-
--- How a run answers that ought to give an outcome: `tells` says that the bytes of its names are told, and the two
--- failures that the count of faults of the shelf, or of `out`, rose in the run.
-pub record Meets (wanted : Outcome) (tells read_failed write_failed : Type 0) (before after : List ℕ → Type 0) (answer : Answer) : Type 0 where
-  -- `out` took a prefix of the bytes
-  pub part : tells → GrewByPrefix before after wanted.bytes
-  -- the answer is a failure's, or it is the outcome's and `out` took all its bytes
-  pub whole : tells → (answer ≡ ReadFault) ⊎ ((answer ≡ WriteFault) ⊎ ((answer ≡ OutOfMemory) ⊎ ((answer ≡ wanted.answer) × Grew before after wanted.bytes)))
-  pub read_fault : answer ≡ ReadFault → read_failed
-  pub write_fault : answer ≡ WriteFault → write_failed
+abbrev pub outcome : List (List ℕ) → (List ℕ → List ℕ) → List ProbeLife → Outcome
+outcome words holds probes = outcome_of (command_in words) holds probes

@@ -1,52 +1,71 @@
 //! The whole program.
-ghost use Rattle.std.specs.Prelude.{◌≡◌, ◌↔◌, ◌⊎◌, None, OnErr};
+ghost use Rattle.std.specs.Prelude.{◌≡◌, ◌≤◌, ◌↔◌, ◌⊎◌, Some, None, OnErr, map};
+ghost use Rattle.std.specs.Vec.{vec_len};
 ghost use Rattle.det_base.specs.Count.{Rose};
 ghost use Rattle.det_base.specs.Sink.{Grew, GrewByPrefix};
 ghost use Rattle.det_base.specs.Shelf.{AsksPrefix};
-ghost use Rattle.det_cli.specs.Answers.{status_of, err_line};
-ghost use Rattle.det_cli.specs.Outcome.{Meets, outcome, text_outcome, Tells, told};
-ghost use Rattle.det_cli.specs.Words.{texts, command_of, names_of};
+ghost use Rattle.det_answers.specs.Answers.{status_of, err_line};
+ghost use Rattle.det_answers.specs.Outcome.{Meets, text_outcome, Tells, told};
+ghost use Rattle.det_words.specs.Texts.{texts};
+ghost use Rattle.det_words.specs.Told.{told_of, told_by};
+ghost use Rattle.det_words.specs.Words.{command_seen};
+ghost use Rattle.det_words.specs.Ranges.{IsInRange};
+ghost use Rattle.det_cli.specs.Outcome.{built, command_in, names_in, names_of, outcome_of, outcome};
 
-use crate::answer::Answer;
-use crate::command::{Command, read_words};
-use crate::demo::demo;
-use crate::status::Status;
 use crate::texts::{USAGE, VERSION};
+use det_answers::{Answer, Status};
 use det_base::{Shelf, Sink, write_all};
+use det_needs::needs;
+use det_record::{demo, record_stimulus};
+use det_show::show;
+use det_words::laws::ranges;
+use det_words::{Command, Told, read_words};
+use probes::Probe;
 use std::alloc::Global;
 use std::thread::Threads;
+use worker_pool::Gate;
 
 /// Runs the command that the words give, which are those after the program's name.
 ///
-/// The runtime starts no thread before there are cycles to run.
-#[tactic(auto, using(crate::proofs::Meeting::met))]
-pub fn top<R: Threads + Sync, S: Shelf, K: Sink, E: Sink>(
+/// `record` and `demo` run their cycles on real threads, each of which passes the gate. `show` shows the runs that it
+/// reads to the probes, at most 1,024, and takes them out of the list; other commands leave them.
+#[tactic(auto, using(det_answers::proofs::Meeting::met))]
+pub fn top<R: Threads + Sync, S: Shelf, K: Sink, E: Sink, G: Gate>(
     rt: &R,
     alloc: Global,
     words: &[String],
     shelf: &mut S,
     out: &mut K,
     err: &mut E,
+    probes: &mut Vec<Box<dyn Probe>>,
+    gate: &G,
 ) -> Status
+    requires { vec_len probes.old ≤ 1024 }
     // Where no count of faults rose, and the shelf tells the bytes under the command's names, status and bytes are
     // those of the outcome, or memory could not be had.
     ensures unfailed { ¬ Rose (S.sees shelf.old).faults (S.sees shelf.new).faults → ¬ Rose (K.faults out.old) (K.faults out.new)
         → Tells (S.sees shelf.old) (names_of (texts words.now)) → (result ≡ Status.OutOfMemory)
-        ⊎ ((result ≡ status_of (outcome (texts words.now) (told (S.sees shelf.old))).answer)
-        × Grew (K.took out.old) (K.took out.new) (outcome (texts words.now) (told (S.sees shelf.old))).bytes) }
+        ⊎ ((result ≡ status_of (outcome (texts words.now) (told (S.sees shelf.old)) (map (λ b. life b) probes.old.items)).answer)
+        × Grew (K.took out.old) (K.took out.new) (outcome (texts words.now) (told (S.sees shelf.old)) (map (λ b. life b) probes.old.items)).bytes) }
     // At every answer `out` took a prefix of the outcome's bytes.
     ensures part { Tells (S.sees shelf.old) (names_of (texts words.now))
-        → GrewByPrefix (K.took out.old) (K.took out.new) (outcome (texts words.now) (told (S.sees shelf.old))).bytes }
+        → GrewByPrefix (K.took out.old) (K.took out.new) (outcome (texts words.now) (told (S.sees shelf.old)) (map (λ b. life b) probes.old.items)).bytes }
     // Done comes only where the outcome is Done and `out` took all of its bytes.
     ensures done { Tells (S.sees shelf.old) (names_of (texts words.now)) → result ≡ Status.Done
-        → (status_of (outcome (texts words.now) (told (S.sees shelf.old))).answer ≡ Status.Done)
-        × Grew (K.took out.old) (K.took out.new) (outcome (texts words.now) (told (S.sees shelf.old))).bytes }
+        → (status_of (outcome (texts words.now) (told (S.sees shelf.old)) (map (λ b. life b) probes.old.items)).answer ≡ Status.Done)
+        × Grew (K.took out.old) (K.took out.new) (outcome (texts words.now) (told (S.sees shelf.old)) (map (λ b. life b) probes.old.items)).bytes }
 
     // The causes of the other answers.
-    ensures bad_words { (result ≡ Status.BadWords) ↔ (command_of (texts words.now) ≡ None) }
+    ensures bad_words { (result ≡ Status.BadWords) ↔ (command_in (texts words.now) ≡ None) }
+    ensures bad_manifest { Tells (S.sees shelf.old) (names_of (texts words.now)) → result ≡ Status.BadManifest
+        → (status_of (outcome (texts words.now) (told (S.sees shelf.old)) (map (λ b. life b) probes.old.items)).answer ≡ Status.BadManifest)
+        × Grew (K.took out.old) (K.took out.new) (outcome (texts words.now) (told (S.sees shelf.old)) (map (λ b. life b) probes.old.items)).bytes }
     ensures bad_stimulus { Tells (S.sees shelf.old) (names_of (texts words.now)) → result ≡ Status.BadStimulus
-        → (status_of (outcome (texts words.now) (told (S.sees shelf.old))).answer ≡ Status.BadStimulus)
-        × Grew (K.took out.old) (K.took out.new) (outcome (texts words.now) (told (S.sees shelf.old))).bytes }
+        → (status_of (outcome (texts words.now) (told (S.sees shelf.old)) (map (λ b. life b) probes.old.items)).answer ≡ Status.BadStimulus)
+        × Grew (K.took out.old) (K.took out.new) (outcome (texts words.now) (told (S.sees shelf.old)) (map (λ b. life b) probes.old.items)).bytes }
+    ensures bad_record { Tells (S.sees shelf.old) (names_of (texts words.now)) → result ≡ Status.BadRecord
+        → (status_of (outcome (texts words.now) (told (S.sees shelf.old)) (map (λ b. life b) probes.old.items)).answer ≡ Status.BadRecord)
+        × Grew (K.took out.old) (K.took out.new) (outcome (texts words.now) (told (S.sees shelf.old)) (map (λ b. life b) probes.old.items)).bytes }
     ensures read_fault { result ≡ Status.ReadFault → Rose (S.sees shelf.old).faults (S.sees shelf.new).faults }
     ensures write_fault { result ≡ Status.WriteFault → Rose (K.faults out.old) (K.faults out.new) }
     ensures asked { AsksPrefix (S.sees shelf.old) (S.sees shelf.new) (names_of (texts words.now)) }
@@ -54,29 +73,105 @@ pub fn top<R: Threads + Sync, S: Shelf, K: Sink, E: Sink>(
     // `err` took a prefix of the one line of the answer, and all of it where its count of faults didn't rise.
     ensures line { (answer : Answer) × (result ≡ status_of answer)
         × (Tells (S.sees shelf.old) (names_of (texts words.now)) → (answer ≡ Answer.ReadFault) ⊎ ((answer ≡ Answer.WriteFault)
-        ⊎ ((answer ≡ Answer.OutOfMemory) ⊎ (answer ≡ (outcome (texts words.now) (told (S.sees shelf.old))).answer))))
+        ⊎ ((answer ≡ Answer.OutOfMemory) ⊎ (answer ≡ (outcome (texts words.now) (told (S.sees shelf.old)) (map (λ b. life b) probes.old.items)).answer))))
         × GrewByPrefix (E.took err.old) (E.took err.new) (err_line answer)
         × (¬ Rose (E.faults err.old) (E.faults err.new) → Grew (E.took err.old) (E.took err.new) (err_line answer)) }
 {
-    let _ = rt;
-    let answer = run(alloc, words, shelf, out);
+    let answer = run(rt, alloc, words, shelf, out, probes, gate);
     let line = answer.line();
     let _ = write_all(err, line.as_slice());
     answer.status()
 }
 
-fn run<S: Shelf, K: Sink>(alloc: Global, words: &[String], shelf: &mut S, out: &mut K) -> Answer
-    ensures meets { Meets (outcome (texts words.now) (told (S.sees shelf.old))) (Tells (S.sees shelf.old) (names_of (texts words.now)))
+fn run<R: Threads + Sync, S: Shelf, K: Sink, G: Gate>(
+    rt: &R,
+    alloc: Global,
+    words: &[String],
+    shelf: &mut S,
+    out: &mut K,
+    probes: &mut Vec<Box<dyn Probe>>,
+    gate: &G,
+) -> Answer
+    requires { vec_len probes.old ≤ 1024 }
+    ensures meets { Meets (outcome (texts words.now) (told (S.sees shelf.old)) (map (λ b. life b) probes.old.items)) (Tells (S.sees shelf.old) (names_of (texts words.now)))
         (Rose (S.sees shelf.old).faults (S.sees shelf.new).faults) (Rose (K.faults out.old) (K.faults out.new))
         (K.took out.old) (K.took out.new) result }
-    ensures bad_words { (result ≡ Answer.BadWords) ↔ (command_of (texts words.now) ≡ None) }
+    ensures bad_words { (result ≡ Answer.BadWords) ↔ (command_in (texts words.now) ≡ None) }
     ensures asked { AsksPrefix (S.sees shelf.old) (S.sees shelf.new) (names_of (texts words.now)) }
 {
     match read_words(words) {
-        Some(Command::Demo { stimulus }) => demo(alloc, stimulus, shelf, out),
-        Some(Command::Help) => print(USAGE, out),
-        Some(Command::Version) => print(VERSION, out),
+        Some(words_told) => run_told(rt, alloc, words, &words_told, shelf, out, probes, gate),
         None => Answer::BadWords,
+    }
+}
+
+/// Runs what the words tell.
+fn run_told<R: Threads + Sync, S: Shelf, K: Sink, G: Gate>(
+    rt: &R,
+    alloc: Global,
+    words: &[String],
+    words_told: &Told<'_>,
+    shelf: &mut S,
+    out: &mut K,
+    probes: &mut Vec<Box<dyn Probe>>,
+    gate: &G,
+) -> Answer
+    requires few { vec_len probes.old ≤ 1024 }
+    requires told { Some (told_of words_told.now) ≡ told_by (texts words.now) }
+    ensures meets { Meets (outcome (texts words.now) (told (S.sees shelf.old)) (map (λ b. life b) probes.old.items)) (Tells (S.sees shelf.old) (names_of (texts words.now)))
+        (Rose (S.sees shelf.old).faults (S.sees shelf.new).faults) (Rose (K.faults out.old) (K.faults out.new))
+        (K.took out.old) (K.took out.new) result }
+    ensures bad_words { (result ≡ Answer.BadWords) ↔ (command_in (texts words.now) ≡ None) }
+    ensures asked { AsksPrefix (S.sees shelf.old) (S.sees shelf.new) (names_of (texts words.now)) }
+{
+    ranges();
+    match words_told.command() {
+        Some(command) => run_command(rt, alloc, command, shelf, out, probes, gate),
+        None => Answer::BadWords,
+    }
+}
+
+fn run_command<R: Threads + Sync, S: Shelf, K: Sink, G: Gate>(
+    rt: &R,
+    alloc: Global,
+    command: Command<'_>,
+    shelf: &mut S,
+    out: &mut K,
+    probes: &mut Vec<Box<dyn Probe>>,
+    gate: &G,
+) -> Answer
+    requires few { vec_len probes.old ≤ 1024 }
+    requires range { IsInRange (command_seen command) }
+    ensures meets { Meets (outcome_of (built (command_seen command.entry)) (told (S.sees shelf.old)) (map (λ b. life b) probes.old.items))
+        (Tells (S.sees shelf.old) (names_in (built (command_seen command.entry))))
+        (Rose (S.sees shelf.old).faults (S.sees shelf.new).faults) (Rose (K.faults out.old) (K.faults out.new))
+        (K.took out.old) (K.took out.new) result }
+    ensures bad_words { (result ≡ Answer.BadWords) ↔ (built (command_seen command.entry) ≡ None) }
+    ensures asked { AsksPrefix (S.sees shelf.old) (S.sees shelf.new) (names_in (built (command_seen command.entry))) }
+{
+    match command {
+        Command::Demo { stimulus } => demo(rt, alloc, stimulus, shelf, out, gate),
+        Command::Record {
+            manifest,
+            stimulus,
+            seed,
+            workers,
+        } => record_stimulus(
+            rt, alloc, manifest, stimulus, seed, workers, shelf, out, gate,
+        ),
+        Command::Show { record } => show(alloc, record, shelf, out, probes),
+        Command::Needs { manifest } => needs(alloc, manifest, shelf, out),
+        Command::Help => print(USAGE, out),
+        Command::Version => print(VERSION, out),
+        // These aren't built yet.
+        Command::Replay { .. } => Answer::BadWords,
+        Command::Check { .. } => Answer::BadWords,
+        Command::Compare { .. } => Answer::BadWords,
+        Command::Sim { .. } => Answer::BadWords,
+        Command::Salvage { .. } => Answer::BadWords,
+        Command::Upgrade { .. } => Answer::BadWords,
+        Command::Vote { .. } => Answer::BadWords,
+        Command::Chain { .. } => Answer::BadWords,
     }
 }
 

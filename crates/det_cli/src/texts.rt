@@ -4,12 +4,19 @@
 pub const USAGE: &str = "\
 det: records runs of the AUTOSAR deterministic client, byte for byte
 
-  det demo STIM    the record of the built-in filter bank over a stimulus
-  det --help       this text
-  det --version    the version
+  det demo STIM                  the record of the built-in filter bank
+  det record MANIFEST STIM       the record of a manifest's job
+      [--seed N] [--workers W]
+  det show RECORD                a record as text, and reports of its runs
+  det needs MANIFEST             the resource needs of a manifest
+  det --help                     this text
+  det --version                  the version
 
-STIM is the path of a file; one whose name begins with `-` is given as ./-name.
-The record goes to standard output, and one line on a refusal to standard error.
+STIM is the text of a stimulus, MANIFEST one in TOML, RECORD a binary record:
+paths of files. One whose name begins with `-` is given as ./-name.
+N is a number of 64 bits, 0 where none is given. W is 1 to 64, and the
+manifest's where none is given; the record is the same for every W.
+Results go to standard output, and one line on a refusal to standard error.
 
 Exit statuses:
   0  done                      5  bad record

@@ -1,10 +1,9 @@
-use Rattle.std.proofs.Common.{sym, ap, ◌∙◌}
-use Rattle.std.specs.Prelude.{Some}
-use Rattle.det_cli.specs.Words.{texts, command_of, command_seen}
-use Rattle.det_cli.proofs.Telling.{commanded}
+use Rattle.std.specs.Prelude.{None, refl}
+use Rattle.det_words.specs.Texts.{texts}
+use Rattle.det_cli.proofs.Joining.{words-give, command-in, meets-no-command}
 use Rattle.det_cli.proofs.program.run.Goals as goal
 
-pub returns-in-Some-Demo-clause-meets : goal.returns-in-Some-Demo-clause-meets
-returns-in-Some-Demo-clause-meets g c =
-    let is = sym c.in-Some-Demo.ensures ∙ ap (λ x. Some (command_seen x)) c.in-Some-Demo.field-0-is in
-    commanded (g.S.Slots.sees c.args.shelf.now) (command_of (texts c.args.words.now)) c.in-Some-Demo.stimulus.now _ _ _ _ _ is c.demo.ensures.meets
+pub returns-in-None-clause-meets : goal.returns-in-None-clause-meets
+returns-in-None-clause-meets g c =
+    let words = texts c.args.words.now in
+    meets-no-command (g.S.Slots.sees c.args.shelf.now) _ _ _ _ _ _ (command-in words None (words-give words None None c.in-None.ensures refl))

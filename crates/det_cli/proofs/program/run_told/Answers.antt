@@ -1,0 +1,23 @@
+use Rattle.std.specs.Prelude.{Some, None}
+use Rattle.det_words.specs.Texts.{texts}
+use Rattle.det_words.specs.Told.{told_of}
+use Rattle.det_words.specs.Words.{command_seen}
+use Rattle.det_cli.proofs.Joining.{words-give, command-in, meets-command, meets-no-command}
+use Rattle.det_cli.proofs.program.run_told.Goals as goal
+
+pub run_command-requires-clause-range : goal.run_command-requires-clause-range
+run_command-requires-clause-range g c κs lives =
+    c.ranges-2.ensures (texts c.args.words.now) (command_seen c.in-Some.command)
+    (words-give (texts c.args.words.now) (Some (told_of c.args.words_told.now)) (Some (command_seen c.in-Some.command)) c.requires.told c.in-Some.ensures)
+
+pub returns-in-Some-clause-meets : goal.returns-in-Some-clause-meets
+returns-in-Some-clause-meets g c =
+    let words = texts c.args.words.now in
+    let gives = words-give words (Some (told_of c.args.words_told.now)) (Some (command_seen c.in-Some.command)) c.requires.told c.in-Some.ensures in
+    meets-command (g.S.Slots.sees c.args.shelf.now) _ _ _ _ _ _ _ _ _ (command-in words (Some (command_seen c.in-Some.command)) gives) c.run_command.ensures.meets
+
+pub returns-in-None-clause-meets : goal.returns-in-None-clause-meets
+returns-in-None-clause-meets g c =
+    let words = texts c.args.words.now in
+    let gives = words-give words (Some (told_of c.args.words_told.now)) None c.requires.told c.in-None.ensures in
+    meets-no-command (g.S.Slots.sees c.args.shelf.now) _ _ _ _ _ _ (command-in words None gives)
