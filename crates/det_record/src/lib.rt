@@ -7,3 +7,6 @@ mod over_stimulus;
 
 pub use built_in::demo;
 pub use by_manifest::record_stimulus;
+
+#[cfg(test)]
+mod tests;
