@@ -1,3 +1,4 @@
 pub mod Joining
 pub mod Lengths
 pub mod Lives
+pub mod Shown

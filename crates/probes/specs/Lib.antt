@@ -1,4 +1,5 @@
 pub mod Reports
+pub mod Shows
 pub mod Texts
 pub mod Shipped
 pub mod Partly

@@ -3,6 +3,7 @@ ghost use Rattle.std.specs.Prelude.{◌≡◌, ◌≤◌, ◌+◌, ◌*◌, List
 ghost use Rattle.std.specs.Vec.{vec_len};
 ghost use Rattle.det_base.specs.declared.frames.RunFrame.{RunFrame};
 ghost use Rattle.probes.specs.Reports.{reports, Sees, leaves};
+ghost use Rattle.probes.specs.Shows.{Shows};
 
 use crate::probe::{Probe, Wish};
 use det_base::{Bytes, OutOfMemory, RunFrame};
@@ -31,7 +32,7 @@ pub fn show_all(
     run: &RunFrame,
 ) -> Result<(), OutOfMemory>
     requires { length left.old + 256 * vec_len probes.old ≤ 1048576 }
-    ensures shown { OnOk result ((runs : List RunFrame) → left.old ++ reports (map (λ b. life b) probes.old.items) (run.now ∷ runs) ≡ left.new ++ reports (map (λ b. life b) probes.new.items) runs) }
+    ensures shown { OnOk result (Shows left.old (map (λ b. life b) probes.old.items) left.new (map (λ b. life b) probes.new.items) (run.now ∷ [])) }
     ensures fewer { vec_len probes.new ≤ vec_len probes.old }
     ensures room { OnOk result (length left.new + 256 * vec_len probes.new ≤ length left.old + 256 * vec_len probes.old) }
 {

@@ -24,27 +24,16 @@ use Rattle.record_reader.specs.declared.reader_end.ReaderEnd.TheVariants as stop
 use Rattle.record_reader.specs.StandsFor.{StandsFor, ItemIs, FoundFault, IsFaulty, RoomFell, room}
 use Rattle.det_texts.specs.Records.{item_lines, record_lines}
 use Rattle.probes.specs.Reports.{ProbeLife, reports}
+use Rattle.probes.specs.Shows.{Shows}
+use Rattle.probes.proofs.Shown.{shows-none, shows-then, all-reports}
 use Rattle.record_show.specs.declared.ends.Shown.{Shown}
 use Rattle.record_show.specs.declared.ends.ShowEnd.{ShowEnd}
 use Rattle.record_show.specs.declared.ends.ShowEnd.TheVariants.{BadRecord, ReadFault, WriteFault, OutOfMemory}
 use Rattle.record_show.specs.declared.printing.Printer.{Printer}
 use Rattle.record_show.specs.Text.{run_in, runs_in, format_behind, text_from, text_of}
 use Rattle.record_show.specs.Cuts.{Cuts}
-use Rattle.record_show.specs.Shows.{Shows}
 use Rattle.record_show.specs.Ended.{IsShown, Answers, Ended, AreShown, end_of}
 use Rattle.record_show.proofs.Lines.{lines_first, lines_next, lines_none_yet, format_none_yet, behind_append, runs_next}
-
--- ---- what was shown
-
-pub shows_none : (left : List ℕ) (probes : List ProbeLife) → Shows left probes left probes []
-shows_none left probes = record { each = λ later. refl }
-
-pub shows_then : {left0 left1 left2 : List ℕ} {probes0 probes1 probes2 : List ProbeLife} {shown more : List RunFrame}
-    → Shows left0 probes0 left1 probes1 shown → Shows left1 probes1 left2 probes2 more → Shows left0 probes0 left2 probes2 (shown ++ more)
-shows_then {left0 = left0} {probes0 = probes0} {shown = shown} {more = more} p q = record {
-  each = λ later.
-      ap (λ (runs : List RunFrame). left0 ++ reports probes0 runs) (append_assoc shown more later) ∙ p.each (more ++ later) ∙ q.each later;
-}
 
 -- ---- the text
 
@@ -98,7 +87,7 @@ running_new before slot took r printer left probes stands format cycles = record
   grew = subst (Grew took took) (sym lines_none_yet) (grew-none took);
   format = format ∙ sym format_none_yet;
   cycles = cycles;
-  shows = shows_none left probes;
+  shows = shows-none left probes;
 }
 
 -- what a reader answers, by the bytes that it read of a slot
@@ -130,7 +119,7 @@ running_next {took0 = took0} {took2 = took2} {printer = printer} {left0 = left0}
           ∙ ap (λ (n : ℕ). record_lines given ++ item_lines (format_behind One given) n (item ∷ [])) h.cycles ∙ sym (lines_next given item)) (grew-then h.grew grew);
       format = format ∙ ap (λ (f : Format). format_behind f (item ∷ [])) h.format ∙ sym (behind_append One given (item ∷ []));
       cycles = cycles ∙ ap (λ (n : ℕ). n + length (run_in item)) h.cycles ∙ sym (length-append (runs_in given) (run_in item)) ∙ ap length (sym runs);
-      shows = subst (Shows left0 probes0 left2 probes2) (sym runs) (shows_then h.shows shows);
+      shows = subst (Shows left0 probes0 left2 probes2) (sym runs) (shows-then h.shows shows);
     }
 
 -- the lines of the first items were cut off
@@ -220,14 +209,10 @@ running_whole {took0 = took0} {took1 = took1} {left0 = left0} {left1 = left1} {p
 
 -- ---- the reports
 
--- what the probes report at last, behind what they reported before, is all that they report
-all_reports : {left0 left : List ℕ} {probes0 probes : List ProbeLife} {runs : List RunFrame} → left0 ≡ [] → Shows left0 probes0 left probes runs → left ++ reports probes [] ≡ reports probes0 runs
-all_reports {left0 = left0} {probes0 = probes0} {runs = runs} none h = sym (h.each []) ∙ ap (λ (xs : List ℕ). xs ++ reports probes0 (runs ++ [])) none ∙ ap (reports probes0) (append-nil runs)
-
 pub left_is : {shown : Shown} {probes0 probes1 : List ProbeLife} {left0 left1 : List ℕ} {read : List ℕ} {at_end : Type 0} {before mid : List ℕ → Type 0} (left2 : List ℕ)
     → left0 ≡ [] → AreShown shown probes0 left0 probes1 left1 read at_end before mid → left2 ≡ left1 ++ reports probes1 []
     → left2 ≡ reports probes0 (runs_in (items_in read))
-left_is left2 none h is = is ∙ all_reports none h.shows
+left_is left2 none h is = is ∙ all-reports none h.shows
 
 pub ended_whole : {shown : Shown} {probes0 probes1 : List ProbeLife} {left0 left1 : List ℕ} {read : List ℕ} {at_end : Type 0} {before mid : List ℕ → Type 0} (after : List ℕ → Type 0)
     → left0 ≡ [] → AreShown shown probes0 left0 probes1 left1 read at_end before mid → Grew mid after (left1 ++ reports probes1 [])
@@ -240,7 +225,7 @@ ended_whole {shown = shown} {probes0 = probes0} {probes1 = probes1} {left1 = lef
     here : IsShown shown probes0 read before after
     here = record {
       whole = h.whole;
-      grew = subst (Grew before after) (ap (λ (xs : List ℕ). record_lines (items_in read) ++ xs) (all_reports none h.shows) ∙ sym (text_good probes0 read h.whole)) (grew-then h.took grew);
+      grew = subst (Grew before after) (ap (λ (xs : List ℕ). record_lines (items_in read) ++ xs) (all-reports none h.shows) ∙ sym (text_good probes0 read h.whole)) (grew-then h.took grew);
       cycles = h.cycles;
     }
 
@@ -251,7 +236,7 @@ pub ended_reports : {shown : Shown} {probes0 probes1 : List ProbeLife} {left0 le
 ended_reports {shown = shown} {probes0 = probes0} {probes1 = probes1} {left1 = left1} {read = read} {at_end = at_end} {before = before} after end none h cut = by end all
   where
     all : Cuts end before after (text_of probes0 read)
-    all = subst (Cuts end before after) (ap (λ (xs : List ℕ). record_lines (items_in read) ++ xs) (all_reports none h.shows) ∙ sym (text_good probes0 read h.whole)) (cut_behind end _ _ _ _ _ h.took cut)
+    all = subst (Cuts end before after) (ap (λ (xs : List ℕ). record_lines (items_in read) ++ xs) (all-reports none h.shows) ∙ sym (text_good probes0 read h.whole)) (cut_behind end _ _ _ _ _ h.took cut)
 
     by : (end : ShowEnd) → Cuts end before after (text_of probes0 read) → Ended (Err end) probes0 read at_end before after
     by (BadRecord f) cut = absurd cut

@@ -6,11 +6,11 @@ use Rattle.det_texts.specs.Records.{record_lines}
 use Rattle.record_reader.specs.declared.reader_end.ReaderEnd.{ReaderEnd}
 use Rattle.record_reader.specs.declared.reader_end.ReaderEnd.TheVariants as stops
 use Rattle.probes.specs.Reports.{ProbeLife}
+use Rattle.probes.specs.Shows.{Shows}
 use Rattle.record_show.specs.declared.ends.Shown.{Shown}
 use Rattle.record_show.specs.declared.ends.ShowEnd.{ShowEnd}
 use Rattle.record_show.specs.declared.ends.ShowEnd.TheVariants.{BadRecord, ReadFault, WriteFault, OutOfMemory}
 use Rattle.record_show.specs.Text.{runs_in, text_of}
-use Rattle.record_show.specs.Shows.{Shows}
 
 -- the record is whole, and all of its text was taken
 pub record IsShown (shown : Shown) (probes : List ProbeLife) (record_bytes : List ℕ) (before after : List ℕ → Type 0) : Type 0 where

@@ -1,4 +1,3 @@
 pub mod Text
 pub mod Cuts
-pub mod Shows
 pub mod Ended

@@ -7,10 +7,10 @@ ghost use Rattle.det_base.specs.Sink.{Grew, GrewByPrefix};
 ghost use Rattle.record_grammar.specs.Record.{items as items_in};
 ghost use Rattle.record_reader.specs.StandsFor.{StandsFor, slot_of};
 ghost use Rattle.probes.specs.Reports.{reports};
+ghost use Rattle.probes.specs.Shows.{Shows};
 ghost use Rattle.det_texts.specs.Records.{item_lines};
 ghost use Rattle.record_show.specs.Text.{run_in, runs_in, format_behind, text_of};
 ghost use Rattle.record_show.specs.Cuts.{Cuts};
-ghost use Rattle.record_show.specs.Shows.{Shows};
 ghost use Rattle.record_show.specs.Ended.{Answers, Ended, ItemsAre, end_of};
 
 use crate::ends::{ShowEnd, Shown};

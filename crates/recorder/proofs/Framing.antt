@@ -19,7 +19,8 @@ use Rattle.job_trait.specs.Meaning.{Meaning}
 use Rattle.cycle_engine.specs.Engine.{EngineState, StandsFor as EngineStands}
 use Rattle.cycle_engine.specs.Frames.{state_of, frame_of}
 use Rattle.record_grammar.specs.Spelling.{CanSpell, MayDraw, MayDrawAll, spelled_frame}
-use Rattle.probes.specs.Reports.{ProbeLife, reports}
+use Rattle.probes.specs.Reports.{ProbeLife}
+use Rattle.probes.specs.Shows.{Shows}
 use Rattle.probes.specs.Shipped.{is_refused}
 use Rattle.recorder.specs.declared.ends.Counts.{Counts}
 use Rattle.recorder.specs.declared.ends.RecordEnd.{RecordEnd}
@@ -77,7 +78,7 @@ module _ {S G E L P : Type 0} (m : Meaning S G E L P) (profile : ProfileValue) w
       → run ≡ frame_of m profile given (state_of m profile given) input → frame ≡ Run run → format ≡ profile.format
       → EngineStands m profile engine (given ++ input ∷ []) → Grew before after (spelled_frame format frame)
       → c.refused ≡ c0.refused + count_by is_refused (run ∷ []) → c.bytes ≡ counted (c0.bytes + length (spelled_frame format frame))
-      → ((later : List RunFrame) → left0 ++ reports probes0 (run ∷ later) ≡ left ++ reports probes later)
+      → Shows left0 probes0 left probes (run ∷ [])
       → Ran m profile given engine before after c0 c left0 probes0 left probes (input ∷ [])
   ran-one given input run frame format engine before after c0 c left0 left probes0 probes run_is frame_is format_is stands grew refused bytes shown =
       let is = frame-is given input run frame format run_is frame_is format_is in
@@ -87,5 +88,5 @@ module _ {S G E L P : Type 0} (m : Meaning S G E L P) (profile : ProfileValue) w
         took = subst (Grew before after) is grew;
         refused = refused ∙ ap (λ rs. c0.refused + count_by is_refused rs) runs_are;
         bytes = bytes ∙ ap (λ l. counted (c0.bytes + length l)) is;
-        shown = record { each = λ later. ap (λ rs. left0 ++ reports probes0 (rs ++ later)) (sym runs_are) ∙ shown later };
+        shown = subst (Shows left0 probes0 left probes) runs_are shown;
       }

@@ -24,15 +24,16 @@ use Rattle.stimulus.specs.StandsFor.{StandsFor}
 use Rattle.stimulus.proofs.Counting.{inputs_append}
 use Rattle.stimulus.proofs.Growing.{blocks_grow, bad_stays}
 use Rattle.probes.specs.Reports.{ProbeLife}
+use Rattle.probes.specs.Shows.{Shows}
 use Rattle.probes.specs.Shipped.{is_refused}
+use Rattle.probes.proofs.Shown.{shows-none, shows-then}
 use Rattle.recorder.specs.declared.ends.Counts.{Counts}
 use Rattle.recorder.specs.declared.ends.RecordEnd.{RecordEnd}
 use Rattle.recorder.specs.declared.ends.RecordEnd.TheVariants.{Stimulus, ReadFault, WriteFault, OutOfMemory}
 use Rattle.recorder.specs.Record.{is_terminated, spelled_runs, counted, record_with, record_of, opening, runs_after}
-use Rattle.recorder.specs.Shows.{Shows}
 use Rattle.recorder.specs.Ends.{Finishes, Stops, Ended}
 use Rattle.recorder.specs.Runs.{Cuts, Ran, StandTogether, IsReady, AllRan, ComeFirst, Stopped, frames_of}
-use Rattle.recorder.proofs.Running.{refusals-append, shows-none, shows-then, runs-more, record-more, record-end, record-begin}
+use Rattle.recorder.proofs.Running.{refusals-append, runs-more, record-more, record-end, record-begin}
 
 counted-sum : (a b : ℕ) → counted (counted a + b) ≡ counted (a + b)
 counted-sum a b = omega arith
@@ -112,7 +113,7 @@ module _ {S G E L P : Type 0} (m : Meaning S G E L P) (profile : ProfileValue) w
         bytes = ran.bytes ∙ ap (λ n. counted (n + length (frames_of m profile given more))) h.bytes
             ∙ counted-sum (length (record_with m profile (inputs_of given) false)) (length (frames_of m profile given more))
             ∙ ap counted (sym (ap length record_is ∙ length-append (record_with m profile (inputs_of given) false) (frames_of m profile given more)));
-        shown = subst (Shows left0 probes0 left' probes') (sym runs_are) (shows-then left0 left left' probes0 probes probes' _ _ h.shown ran.shown);
+        shown = subst (Shows left0 probes0 left' probes') (sym runs_are) (shows-then h.shown ran.shown);
       }
 
   -- one more piece was read and fed

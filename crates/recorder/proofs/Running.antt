@@ -17,11 +17,11 @@ use Rattle.cycle_engine.specs.Engine.{EngineState, StandsFor as EngineStands}
 use Rattle.cycle_engine.specs.Frames.{first_state, state_of, runs, runs_behind, frame_of, init_of}
 use Rattle.cycle_engine.proofs.Standing.{state_behind-append, runs_behind-append}
 use Rattle.record_grammar.specs.Spelling.{spelled, spelled_header, spelled_frame}
-use Rattle.probes.specs.Reports.{ProbeLife, reports}
+use Rattle.probes.specs.Reports.{ProbeLife}
 use Rattle.probes.specs.Shipped.{is_refused}
+use Rattle.probes.proofs.Shown.{shows-none, shows-then}
 use Rattle.recorder.specs.declared.ends.Counts.{Counts}
 use Rattle.recorder.specs.Record.{spelled_runs, counted, record_with, opening, runs_after}
-use Rattle.recorder.specs.Shows.{Shows}
 use Rattle.recorder.specs.Runs.{Ran}
 
 -- counts
@@ -41,18 +41,6 @@ spelled_runs-append format xs ys =
 
 pub spelled_runs-one : (format : Format) (run : RunFrame) → spelled_runs format (run ∷ []) ≡ spelled_frame format (Run run)
 spelled_runs-one format run = append-nil (spelled_frame format (Run run))
-
--- shows
-
-pub shows-none : (left : List ℕ) (probes : List ProbeLife) → Shows left probes left probes []
-shows-none left probes = record { each = λ later. refl }
-
-pub shows-then : (left0 left1 left2 : List ℕ) (probes0 probes1 probes2 : List ProbeLife) (shown more : List RunFrame)
-    → Shows left0 probes0 left1 probes1 shown → Shows left1 probes1 left2 probes2 more → Shows left0 probes0 left2 probes2 (shown ++ more)
-shows-then left0 left1 left2 probes0 probes1 probes2 shown more p q = record {
-  each = λ later.
-      ap (λ runs. left0 ++ reports probes0 runs) (append_assoc shown more later) ∙ p.each (more ++ later) ∙ q.each later;
-}
 
 module _ {S G E L P : Type 0} (m : Meaning S G E L P) (profile : ProfileValue) where
   -- runs
@@ -141,5 +129,5 @@ module _ {S G E L P : Type 0} (m : Meaning S G E L P) (profile : ProfileValue) w
         refused = rw (runs_are, refusals-append) (let one = p.refused in let two = q.refused in omega arith);
         bytes = q.bytes ∙ ap (λ n. counted (n + length second)) p.bytes ∙ counted-twice c0.bytes (length first) (length second)
             ∙ ap (λ n. counted (c0.bytes + n)) (sym (ap length frames ∙ length-append first second));
-        shown = rw runs_are (shows-then left0 left1 left2 probes0 probes1 probes2 _ _ p.shown q.shown);
+        shown = rw runs_are (shows-then p.shown q.shown);
       }

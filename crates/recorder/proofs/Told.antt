@@ -1,5 +1,5 @@
 -- What the bytes that a shelf tells come to.
-use Rattle.std.proofs.Common.{◌≡◌, ℕ, List, [], ◌++◌, sym, ap, subst, ◌∙◌, append-nil, length}
+use Rattle.std.proofs.Common.{◌≡◌, ℕ, List, [], ◌++◌, refl, sym, ap, subst, ◌∙◌, append-nil, length}
 use Rattle.std.specs.Prelude.{Option, Some, None, Result, Ok, Err, IfSome, IfOk, OnOk}
 use Rattle.std.specs.Option.{option_map}
 use Rattle.det_base.specs.Values.{ProfileValue}
@@ -10,11 +10,12 @@ use Rattle.job_trait.specs.Meaning.{Meaning}
 use Rattle.cycle_engine.specs.Frames.{runs}
 use Rattle.stimulus.specs.Reading.{blocks}
 use Rattle.probes.specs.Reports.{ProbeLife, reports}
+use Rattle.probes.specs.Shows.{Shows}
+use Rattle.probes.proofs.Shown.{all-reports}
 use Rattle.recorder.specs.declared.ends.Counts.{Counts}
 use Rattle.recorder.specs.declared.ends.RecordEnd.{RecordEnd}
 use Rattle.recorder.specs.declared.ends.RecordEnd.TheVariants.{Stimulus, ReadFault, WriteFault, OutOfMemory}
 use Rattle.recorder.specs.Record.{record_of}
-use Rattle.recorder.specs.Shows.{Shows}
 use Rattle.recorder.specs.Ends.{Finishes, Stops, Answers, Ended}
 
 -- a fact about the text, where a shelf tells it, from what was read and what is left
@@ -46,8 +47,7 @@ module _ {S G E L P : Type 0} (m : Meaning S G E L P) (profile : ProfileValue) w
       → OnOk result (left ++ reports probes [] ≡ reports probes0 (runs m profile (blocks (length profile.events) (read ++ rest))))
   shown (Ok counts) read rest at_end before after left probes0 probes ended none shows =
       let all : read ≡ read ++ rest = sym (ap (λ l. read ++ l) (none ended.reads_to) ∙ append-nil read) in
-      sym (ap (λ text. reports probes0 (runs m profile (blocks (length profile.events) text))) (sym all)
-      ∙ ap (reports probes0) (sym (append-nil (runs m profile (blocks (length profile.events) read)))) ∙ shows.each [])
+      all-reports refl shows ∙ ap (λ text. reports probes0 (runs m profile (blocks (length profile.events) text))) all
   shown (Err end) read rest at_end before after left probes0 probes ended none shows = tt
 
   module _ (before after : ShelfState) (slot : ℕ) (took_before took : List ℕ → Type 0) (result : Result Counts RecordEnd) (read : List ℕ)

@@ -1,4 +1,3 @@
 pub mod Record
-pub mod Shows
 pub mod Ends
 pub mod Runs

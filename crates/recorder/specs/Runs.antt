@@ -14,12 +14,12 @@ use Rattle.stimulus.specs.declared.reader.StimReader.{StimReader}
 use Rattle.stimulus.specs.Reading.{blocks, inputs_of}
 use Rattle.stimulus.specs.StandsFor.{StandsFor, GaveAll, FoundBad}
 use Rattle.probes.specs.Reports.{ProbeLife}
+use Rattle.probes.specs.Shows.{Shows}
 use Rattle.probes.specs.Shipped.{is_refused}
 use Rattle.recorder.specs.declared.ends.Counts.{Counts}
 use Rattle.recorder.specs.declared.ends.RecordEnd.{RecordEnd}
 use Rattle.recorder.specs.declared.ends.RecordEnd.TheVariants.{Stimulus, ReadFault, WriteFault, OutOfMemory}
 use Rattle.recorder.specs.Record.{spelled_runs, runs_after, counted}
-use Rattle.recorder.specs.Shows.{Shows}
 
 -- how a run ends that the reader of its stimulus stops
 abbrev pub end_of : StimError → RecordEnd

@@ -9,8 +9,8 @@ ghost use Rattle.cycle_engine.specs.Frames.{runs};
 ghost use Rattle.record_grammar.specs.Spelling.{spelled};
 ghost use Rattle.stimulus.specs.Reading.{blocks};
 ghost use Rattle.probes.specs.Reports.{reports};
+ghost use Rattle.probes.specs.Shows.{Shows};
 ghost use Rattle.recorder.specs.Record.{record_of};
-ghost use Rattle.recorder.specs.Shows.{Shows};
 ghost use Rattle.recorder.specs.Ends.{Finishes, Stops, Ended};
 
 use crate::all_blocks::run_blocks;

@@ -40,5 +40,7 @@ loop-at-preserved g c =
     }
 
 pub returns-clause-shown : goal.returns-clause-shown
-returns-clause-shown g c = λ runs. c.loop-at.invariant.partly runs ∙ ap (λ xs. c.loop-at.left ++ xs)
-    (partly_all c.args.run.now runs c.loop-at.at (map (λ b. (goal.Probe-dyn g (b.vtable, b.value)).life b.value) c.loop-at.probes.items) (let k = length-map c.loop-at.probes.items (λ b. (goal.Probe-dyn g (b.vtable, b.value)).life b.value) in grind (arith, common_steps)))
+returns-clause-shown g c = record {
+  each = λ runs. c.loop-at.invariant.partly runs ∙ ap (λ xs. c.loop-at.left ++ xs)
+      (partly_all c.args.run.now runs c.loop-at.at (map (λ b. (goal.Probe-dyn g (b.vtable, b.value)).life b.value) c.loop-at.probes.items) (let k = length-map c.loop-at.probes.items (λ b. (goal.Probe-dyn g (b.vtable, b.value)).life b.value) in grind (arith, common_steps)));
+}
