@@ -14,14 +14,13 @@ use Rattle.det_base.proofs.SlotReads.{reads-none, reads-then, reads-told}
 use Rattle.record_grammar.specs.declared.fault.RecordFault.{RecordFault}
 use Rattle.record_grammar.specs.declared.item.Item.{Item}
 use Rattle.record_grammar.specs.declared.item.Item.TheVariants as items
-use Rattle.record_grammar.specs.declared.place.Place.TheVariants as places
 use Rattle.record_grammar.specs.Places.{may_come}
-use Rattle.record_grammar.specs.Record.{items as items_in, fault as fault_in, Decoded}
-use Rattle.record_grammar.proofs.Leads.{leads_grow, all_leads}
+use Rattle.record_grammar.specs.Record.{items as items_in, fault as fault_in}
 use Rattle.record_reader.specs.declared.reader.RecordReader.{RecordReader}
 use Rattle.record_reader.specs.declared.reader_end.ReaderEnd.{ReaderEnd}
 use Rattle.record_reader.specs.declared.reader_end.ReaderEnd.TheVariants as stops
 use Rattle.record_reader.specs.StandsFor.{StandsFor, ItemIs, FoundFault, IsFaulty, RoomFell, room}
+use Rattle.record_reader.proofs.Items.{more_items}
 use Rattle.det_texts.specs.Records.{item_lines, record_lines}
 use Rattle.probes.specs.Reports.{ProbeLife, reports}
 use Rattle.probes.specs.Shows.{Shows}
@@ -50,12 +49,6 @@ lines_before probes xs (Some f) = prefix-same (record_lines xs)
 -- these items come first of all, whatever bytes follow
 abbrev ComeFirst : List Item → List ℕ → Type 0
 ComeFirst given read = (rest : List ℕ) → (others : List Item) × (items_in (read ++ rest) ≡ given ++ others)
-
-more_items : (r : RecordReader) (read : List ℕ) (given : List Item) → StandsFor r read given → ComeFirst given read
-more_items r read given h rest =
-    let l = leads_grow given places.Header r.decoder.place read h.decodes.rest rest h.decodes.leads in
-    let d = all_leads given r.decoder.place (read ++ rest) (h.decodes.rest ++ rest) l in
-    (_, ap (λ (x : Decoded). x.items) d)
 
 first_longer : (given : List Item) (read more : List ℕ) → ComeFirst given read → ComeFirst given (read ++ more)
 first_longer given read more h rest = let x = h (more ++ rest) in (x.0, ap items_in (append_assoc read more rest) ∙ x.1)
