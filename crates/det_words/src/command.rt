@@ -102,81 +102,89 @@ impl<'a> Told<'a> {
         self.with_names()
     }
 
+    /// The command without names, where there is none.
+    fn bare(&self, command: Command<'a>) -> Option<Command<'a>>
+        ensures { option_map command_seen result ≡ option_map (λ _. command_seen command.entry) (between 0 0 (told_of self.now).names) }
+    {
+        between(0, 0, &self.names)?;
+        Some(command)
+    }
+
+    fn recorded(&self) -> Option<Command<'a>>
+        ensures { option_map command_seen result ≡ with_names CommandWord.Record (told_of self.now) }
+    {
+        let (manifest, stimulus) = self.names.pair()?;
+        Some(Command::Record {
+            manifest,
+            stimulus,
+            seed: self.seed,
+            workers: self.workers,
+        })
+    }
+
+    fn simulated(&self) -> Option<Command<'a>>
+        ensures { option_map command_seen result ≡ with_names CommandWord.Sim (told_of self.now) }
+    {
+        Some(Command::Sim {
+            number: number_of(self.names.sole()?)?,
+            workers: self.workers,
+        })
+    }
+
+    fn chained(&self) -> Option<Command<'a>>
+        ensures { option_map command_seen result ≡ with_names CommandWord.Chain (told_of self.now) }
+    {
+        let (first, second, stimulus) = self.names.triple()?;
+        Some(Command::Chain {
+            first,
+            second,
+            stimulus,
+            seed: self.seed,
+            workers: self.workers,
+        })
+    }
+
     fn with_names(&'a self) -> Option<Command<'a>>
         ensures { option_map command_seen result ≡ with_names self.now.command (told_of self.now) }
     {
-        let Told {
-            names,
-            workers,
-            seed,
-            reports,
-            dissent,
-            ..
-        } = *self;
         match self.command {
             CommandWord::Demo => Some(Command::Demo {
-                stimulus: names.sole()?,
+                stimulus: self.names.sole()?,
             }),
-            CommandWord::Record => {
-                let (manifest, stimulus) = names.pair()?;
-                Some(Command::Record {
-                    manifest,
-                    stimulus,
-                    seed,
-                    workers,
-                })
-            }
+            CommandWord::Record => self.recorded(),
             CommandWord::Replay => Some(Command::Replay {
-                record: names.sole()?,
-                workers,
+                record: self.names.sole()?,
+                workers: self.workers,
             }),
             CommandWord::Check => Some(Command::Check {
-                record: names.sole()?,
-                workers,
+                record: self.names.sole()?,
+                workers: self.workers,
             }),
             CommandWord::Compare => Some(Command::Compare {
                 records: between(2, 8, &self.names)?,
             }),
             CommandWord::Show => Some(Command::Show {
-                record: names.sole()?,
+                record: self.names.sole()?,
             }),
             CommandWord::Needs => Some(Command::Needs {
-                manifest: names.sole()?,
+                manifest: self.names.sole()?,
             }),
-            CommandWord::Sim => Some(Command::Sim {
-                number: number_of(names.sole()?)?,
-                workers,
-            }),
+            CommandWord::Sim => self.simulated(),
             CommandWord::Salvage => Some(Command::Salvage {
-                record: names.sole()?,
-                reports,
+                record: self.names.sole()?,
+                reports: self.reports,
             }),
             CommandWord::Upgrade => Some(Command::Upgrade {
-                record: names.sole()?,
-                workers,
+                record: self.names.sole()?,
+                workers: self.workers,
             }),
             CommandWord::Vote => Some(Command::Vote {
                 records: between(3, 7, &self.names)?,
-                dissent,
+                dissent: self.dissent,
             }),
-            CommandWord::Chain => {
-                let (first, second, stimulus) = names.triple()?;
-                Some(Command::Chain {
-                    first,
-                    second,
-                    stimulus,
-                    seed,
-                    workers,
-                })
-            }
-            CommandWord::Help => {
-                between(0, 0, &self.names)?;
-                Some(Command::Help)
-            }
-            CommandWord::Version => {
-                between(0, 0, &self.names)?;
-                Some(Command::Version)
-            }
+            CommandWord::Chain => self.chained(),
+            CommandWord::Help => self.bare(Command::Help),
+            CommandWord::Version => self.bare(Command::Version),
         }
     }
 }
