@@ -1,13 +1,10 @@
 -- What is printed of a manifest: its job, its cycle, its workers, its platform and its resource needs.
-use Rattle.std.specs.Prelude.{ℕ, List, ◌++◌, Option, Some, None, codes, decimal}
+use Rattle.std.specs.Prelude.{ℕ, List, ◌++◌, Option, Some, None, codes}
 use Rattle.det_base.specs.declared.job_kind.JobKind.{JobKind}
 use Rattle.det_base.specs.declared.job_kind.JobKind.TheVariants.{Bank, Cloud, Guard}
 use Rattle.manifest.specs.declared.needs.Needs.{Needs}
 use Rattle.manifest.specs.Values.{ManifestValue}
-
--- a line of a word and a number
-abbrev pub number_line : List ℕ → ℕ → List ℕ
-number_line word n = word ++ (codes " " ++ (decimal n ++ codes "\n"))
+use Rattle.det_texts.specs.Words.{number_line}
 
 abbrev pub job_line : JobKind → List ℕ
 job_line Bank = codes "job bank\n"

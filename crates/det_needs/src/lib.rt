@@ -3,7 +3,6 @@
 
 mod command;
 mod lines;
-mod put;
 #[cfg(test)]
 mod tests;
 

@@ -1,9 +1,10 @@
 //! The lines of a manifest, appended to a text.
 ghost use Rattle.std.specs.Prelude.{◌≡◌, ◌++◌, OnOk, option_map};
-ghost use Rattle.det_needs.specs.Lines.{number_line, job_line, platform_text, platform_line, needs_of, needs_lines};
+ghost use Rattle.det_texts.specs.Words.{number_line};
+ghost use Rattle.det_needs.specs.Lines.{job_line, platform_text, platform_line, needs_of, needs_lines};
 
-use crate::put::{put_number_line, put_words};
 use det_base::{JobKind, OutOfMemory};
+use det_texts::{put_number_line, put_words};
 use manifest::{Manifest, Needs, PlatformName};
 use std::alloc::AllocError;
 

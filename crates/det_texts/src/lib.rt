@@ -1,6 +1,6 @@
-//! The texts that a program prints: records and summaries, line by line.
+//! The texts that a program prints: records and summaries, line by line, and what lines are made of.
 //!
-//! Each call appends its lines to a text. The lines stand in `specs/`, as functions of what is printed.
+//! Each call appends to a text what stands in `specs/`, as a function of what is printed.
 #![tactic(auto)]
 
 mod frame_lines;
@@ -10,4 +10,5 @@ mod summary_lines;
 
 pub use frame_lines::put_frame_lines;
 pub use header_lines::put_header_lines;
+pub use put::{put_hex, put_number, put_number_line, put_words};
 pub use summary_lines::{Summary, put_salvaged_line, put_summary_lines};

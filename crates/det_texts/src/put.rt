@@ -7,14 +7,14 @@ ghost use Rattle.det_texts.specs.Words.{hex_text, number_line};
 use itoa::Buffer;
 use std::alloc::{AllocError, Global};
 
-/// Words, as they stand.
+/// Appends words, as they stand.
 pub fn put_words(out: &mut Vec<u8>, words: &str) -> Result<(), AllocError>
     ensures { OnOk result (out.new.items ≡ out.old.items ++ words.now) }
 {
     out.extend_from_slice(words.as_bytes())
 }
 
-/// A number in decimal.
+/// Appends a number in decimal.
 pub fn put_number(out: &mut Vec<u8>, number: u64) -> Result<(), AllocError>
     ensures { OnOk result (out.new.items ≡ out.old.items ++ decimal number) }
 {
@@ -22,7 +22,7 @@ pub fn put_number(out: &mut Vec<u8>, number: u64) -> Result<(), AllocError>
     out.extend_from_slice(buffer.format(number).as_bytes())
 }
 
-/// A number in decimal, behind a minus sign where it is negative.
+/// Appends a number in decimal, behind a minus sign where it is negative.
 pub fn put_signed(out: &mut Vec<u8>, number: i64) -> Result<(), AllocError>
     ensures { OnOk result (out.new.items ≡ out.old.items ++ signed_decimal number) }
 {
@@ -30,7 +30,7 @@ pub fn put_signed(out: &mut Vec<u8>, number: i64) -> Result<(), AllocError>
     out.extend_from_slice(buffer.format(number).as_bytes())
 }
 
-/// A line of a word and a number.
+/// Appends a line of a word and a number. After a refusal a part of it may stand there.
 pub fn put_number_line(out: &mut Vec<u8>, word: &str, number: u64) -> Result<(), AllocError>
     ensures { OnOk result (out.new.items ≡ out.old.items ++ number_line word.now number) }
 {
@@ -49,7 +49,7 @@ fn put_digits(alloc: Global, out: &mut Vec<u8>, bytes: &[u8]) -> Result<(), Allo
     Ok(())
 }
 
-/// Bytes as hex digits in lower case, and a dash where there is none.
+/// Appends bytes as hex digits in lower case, and a dash where there is none.
 pub fn put_hex(alloc: Global, out: &mut Vec<u8>, bytes: &[u8]) -> Result<(), AllocError>
     ensures { OnOk result (out.new.items ≡ out.old.items ++ hex_text bytes.now) }
 {

@@ -1,6 +1,6 @@
 use Rattle.std.proofs.Common.{◌++◌, ap, ◌∙◌}
 use Rattle.std.specs.Prelude.{codes}
-use Rattle.det_needs.specs.Lines.{number_line}
+use Rattle.det_texts.specs.Words.{number_line}
 use Rattle.det_needs.proofs.Appending.{four-appended}
 use Rattle.det_needs.proofs.lines.put_four_needs.Goals as goal
 
