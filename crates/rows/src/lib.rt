@@ -1,11 +1,26 @@
 //! Whole runs of the program over shelves and sinks in memory: worked examples with exact answers.
+//!
+//! The library runs the program and holds the records and texts of the examples. The tests of this crate are those of the
+//! records that it writes; other crates have those of texts and of failing edges.
 #![tactic(auto)]
 
+mod edges;
+mod manifests;
+mod ran;
+mod records;
 mod running;
-mod texts;
+mod stimuli;
 
-pub use running::{Edges, NoMemory, Ran, run};
-pub use texts::{empty_run, guard_manifest, guard_stimulus, three_cycles, two_cycles};
+pub use edges::Edges;
+pub use manifests::{bank_manifest, guard_manifest, user_manifest};
+pub use ran::Ran;
+pub use records::{changed, empty_run, empty_run_1, three_cycles, two_cycles, two_cycles_1};
+pub use running::{NoMemory, main_probes, run, run_with};
+pub use stimuli::{guard_stimulus, two_cycles_stimulus, user_stimulus};
 
 #[cfg(test)]
-mod tests;
+mod banks;
+#[cfg(test)]
+mod clouds;
+#[cfg(test)]
+mod guards;

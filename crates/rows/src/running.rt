@@ -1,12 +1,16 @@
 //! A run of the program in memory.
+ghost use Rattle.std.specs.Prelude.{◌≤◌, IfOk};
+ghost use Rattle.std.specs.Vec.{vec_len};
+
+use crate::{Edges, Ran};
 use det_base::{FailList, MemFile, MemFiles, MemShelf, MemSink, OutOfMemory};
 use det_cli::top;
 use probes::{CountProbe, FirstRefusalProbe, GapProbe, Probe};
 use std::alloc::{AllocError, Global};
 use std::thread::Threads;
-use worker_pool::NoGate;
+use worker_pool::{Gate, NoGate};
 
-/// Memory could not be had for a run.
+/// Memory could not be had for the words, the shelf, the sinks or the probes of a run.
 #[derive(Clone, Copy, Debug, Drop)]
 pub struct NoMemory;
 
@@ -22,61 +26,18 @@ impl From<AllocError> for NoMemory {
     }
 }
 
-/// The exit status of a run, and what it wrote.
-#[derive(Drop)]
-pub struct Ran {
-    pub status: u8,
-    pub out: MemSink,
-    pub err: MemSink,
-}
-
-impl Ran {
-    /// Whether it ended with this status, and all that it wrote are these bytes.
-    pub fn wrote(&self, status: u8, bytes: &[u8]) -> bool {
-        self.status == status && self.out.bytes() == bytes
-    }
-
-    /// Whether it ended with this status and this line for the user.
-    pub fn ended(&self, status: u8, line: &[u8]) -> bool {
-        self.status == status && self.err.bytes() == line
-    }
-
-    /// Whether it ended with this status, and what it wrote ends with these bytes.
-    pub fn wrote_last(&self, status: u8, bytes: &[u8]) -> bool {
-        self.status == status && self.out.bytes().ends_with(bytes)
-    }
-}
-
-/// How many bytes a call moves at most, the room of the output, and the numbers of the calls that fail, 0 for none.
-#[derive(Clone, Copy, Debug)]
-pub struct Edges {
-    pub most: usize,
-    pub room: usize,
-    pub failing_read: u64,
-    pub failing_write: u64,
-}
-
-impl Edges {
-    /// Nothing fails, and pieces are large.
-    pub fn calm(room: usize) -> Edges {
-        Edges {
-            most: 4096,
-            room,
-            failing_read: 0,
-            failing_write: 0,
-        }
-    }
-}
-
 fn fail_list(alloc: Global, number: u64) -> Result<FailList, NoMemory> {
     let mut fails = FailList::new(alloc);
     fails.push(number)?;
     Ok(fails)
 }
 
-/// The words of a line, parted by spaces.
+/// The words of a line, parted by spaces. The empty line has none.
 fn words_of(alloc: Global, line: &str) -> Result<Vec<String>, NoMemory> {
     let mut words = Vec::new(alloc);
+    if line.is_empty() {
+        return Ok(words);
+    }
     for word in line.split(' ') {
         let word = String::from_str(alloc, word)?;
         words.push(word).map_err(|_| NoMemory)?;
@@ -84,31 +45,26 @@ fn words_of(alloc: Global, line: &str) -> Result<Vec<String>, NoMemory> {
     Ok(words)
 }
 
-/// A shelf with a file `m` and a file `s`.
-fn shelf_of(alloc: Global, m: &[u8], s: &[u8], edges: Edges) -> Result<MemShelf, NoMemory> {
-    let mut files = MemFiles::new(alloc);
-    let name = String::from_str(alloc, "m")?;
-    files.push(MemFile::new(name, Vec::from_slice(alloc, m)?))?;
-    let name = String::from_str(alloc, "s")?;
-    files.push(MemFile::new(name, Vec::from_slice(alloc, s)?))?;
+/// A shelf with these files.
+fn shelf_of(alloc: Global, files: &[(&str, &[u8])], edges: Edges) -> Result<MemShelf, NoMemory> {
+    let mut named: Vec<MemFile> = Vec::new(alloc);
+    for (name, bytes) in files {
+        let name = String::from_str(alloc, name)?;
+        let bytes = Vec::from_slice(alloc, bytes)?;
+        named.push(MemFile::new(name, bytes)).map_err(|_| NoMemory)?;
+    }
+    if named.len() > 1024 {
+        return Err(NoMemory);
+    }
     let fails = fail_list(alloc, edges.failing_read)?;
-    Ok(MemShelf::limited(alloc, files, fails, 4, edges.most.max(1))?)
+    let most = edges.most_read.max(1);
+    Ok(MemShelf::limited(alloc, MemFiles::from_vec(named), fails, 16, most)?)
 }
 
-/// Runs the words of a line over a file `m` and a file `s`, with the probes of the program.
-pub fn run<R: Threads + Sync>(
-    rt: &R,
-    alloc: Global,
-    line: &str,
-    m: &[u8],
-    s: &[u8],
-    edges: Edges,
-) -> Result<Ran, NoMemory> {
-    let words = words_of(alloc, line)?;
-    let mut shelf = shelf_of(alloc, m, s, edges)?;
-    let fails = fail_list(alloc, edges.failing_write)?;
-    let mut out = MemSink::new(alloc, edges.room, edges.most.max(1), fails)?;
-    let mut err = MemSink::new(alloc, 200, 200, fail_list(alloc, 0)?)?;
+/// The probes of the program, in its order.
+pub fn main_probes(alloc: Global) -> Result<Vec<Box<dyn Probe>>, NoMemory>
+    ensures { IfOk result (λ probes. vec_len probes ≤ 1024) }
+{
     let mut probes: Vec<Box<dyn Probe>> = Vec::new(alloc);
     let probe = Box::new(alloc, CountProbe::new()).map_err(|_| NoMemory)?;
     probes.push(probe).map_err(|_| NoMemory)?;
@@ -116,6 +72,28 @@ pub fn run<R: Threads + Sync>(
     probes.push(probe).map_err(|_| NoMemory)?;
     let probe = Box::new(alloc, FirstRefusalProbe::new()).map_err(|_| NoMemory)?;
     probes.push(probe).map_err(|_| NoMemory)?;
+    Ok(probes)
+}
+
+/// Runs the words of a line over these files, with these probes and this gate.
+pub fn run_with<R: Threads + Sync, G: Gate>(
+    rt: &R,
+    alloc: Global,
+    line: &str,
+    files: &[(&str, &[u8])],
+    edges: Edges,
+    mut probes: Vec<Box<dyn Probe>>,
+    gate: &G,
+) -> Result<Ran, NoMemory>
+    requires { vec_len probes ≤ 1024 }
+{
+    let words = words_of(alloc, line)?;
+    let mut shelf = shelf_of(alloc, files, edges)?;
+    let most = edges.most_written.max(1);
+    let fails = fail_list(alloc, edges.failing_write)?;
+    let mut out = MemSink::new(alloc, edges.room, most, fails)?;
+    let fails = fail_list(alloc, edges.failing_line)?;
+    let mut err = MemSink::new(alloc, 200, most, fails)?;
     let status = top(
         rt,
         alloc,
@@ -124,11 +102,24 @@ pub fn run<R: Threads + Sync>(
         &mut out,
         &mut err,
         &mut probes,
-        &NoGate,
+        gate,
     );
     Ok(Ran {
         status: status.number(),
         out,
         err,
+        left: probes.len(),
     })
+}
+
+/// The same with the probes of the program, and with no gate.
+pub fn run<R: Threads + Sync>(
+    rt: &R,
+    alloc: Global,
+    line: &str,
+    files: &[(&str, &[u8])],
+    edges: Edges,
+) -> Result<Ran, NoMemory> {
+    let probes = main_probes(alloc)?;
+    run_with(rt, alloc, line, files, edges, probes, &NoGate)
 }

@@ -1,0 +1,13 @@
+//! Tests of whole runs over edges that fail or that move few bytes a call.
+#![tactic(auto)]
+
+mod case;
+mod failing;
+
+pub use case::{Case, needs_case, record_case, show_case, two_cycles_case};
+pub use failing::{failing_reads, failing_writes};
+
+#[cfg(test)]
+mod calls;
+#[cfg(test)]
+mod lines;
