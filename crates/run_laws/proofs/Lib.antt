@@ -1,0 +1,3 @@
+mod SpelledJob
+mod Passing
+mod Cycling
