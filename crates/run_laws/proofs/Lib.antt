@@ -1,3 +1,5 @@
 mod SpelledJob
 mod Passing
 mod Cycling
+mod Spelled
+mod Inputs
