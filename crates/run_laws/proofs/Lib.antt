@@ -3,3 +3,5 @@ mod Passing
 mod Cycling
 mod Spelled
 mod Inputs
+mod Windowed
+mod Whole

@@ -1,0 +1,35 @@
+-- What the frames of a run are read as, also where it wasn't ended.
+use Rattle.std.proofs.Common.{◌≡◌, ℕ, ◌+◌, List, [], ◌∷◌, ◌++◌, length, map, Some, refl, sym, ap, ◌∙◌}
+use Rattle.det_base.specs.declared.frames.RunFrame.{RunFrame}
+use Rattle.det_base.specs.declared.frames.Frame.{Frame}
+use Rattle.det_base.specs.declared.frames.Frame.TheVariants as frames
+use Rattle.det_base.specs.Values.{ProfileValue}
+use Rattle.record_grammar.specs.declared.fault.Reason.TheVariants.{Truncated}
+use Rattle.record_grammar.specs.declared.place.Layout.{Layout}
+use Rattle.record_grammar.specs.declared.place.Place.{Place}
+use Rattle.record_grammar.specs.declared.place.Place.TheVariants as places
+use Rattle.record_grammar.specs.declared.item.Item.{Item}
+use Rattle.record_grammar.specs.declared.item.Item.TheVariants as items
+use Rattle.record_grammar.specs.Record.{fault, fault_from, Ending, early, ending_at}
+use Rattle.record_grammar.specs.Spelling.{Spells}
+use Rattle.record_grammar.specs.Laws.{AreItems, items_of, items_spelling}
+use Rattle.record_grammar.proofs.Leads.{all_at_more}
+use Rattle.record_laws.proofs.Order.{in_order}
+use Rattle.record_laws.proofs.Whole.{nil_more, all_leads_on}
+
+abbrev begun_frames : List (List ℕ) → List RunFrame → List Frame
+begun_frames elements runs = frames.Register ∷ frames.Discover ∷ frames.Init elements ∷ map frames.Run runs
+
+-- behind runs more may come
+runs_open : (layout : Layout) (before : ℕ) (runs : List RunFrame) (to : Place) → AreItems (places.Runs layout before) (map items.Frame (map frames.Run runs)) to → ending_at to ≡ early
+runs_open layout before [] to h = ap ending_at (sym h)
+runs_open layout before (run ∷ runs) to h = runs_open layout (before + 1) runs to h.1
+
+-- a record whose run wasn't ended ends too early
+pub ends_early : (profile : ProfileValue) (elements : List (List ℕ)) (runs : List RunFrame) (bytes : List ℕ) → Spells profile (begun_frames elements runs) bytes
+    → fault bytes ≡ Some (record { offset = length bytes; reason = Truncated })
+ends_early profile elements runs bytes spells =
+    let fs : List Frame = begun_frames elements runs in
+    let at = (in_order profile fs bytes).begun.0 spells in
+    let read = all_at_more (items_of profile fs) at.0 bytes [] (all_leads_on (items_of profile fs) at.0 bytes at.1 at.2) (nil_more at.0) in
+    read.2 ∙ ap (fault_from (length bytes)) (runs_open (record { format = profile.format; events = length profile.events }) 0 runs at.0 at.1.1.1.1.1)
