@@ -5,3 +5,6 @@ mod Spelled
 mod Inputs
 mod Windowed
 mod Whole
+mod Keys
+mod Headers
+mod Parameters

@@ -1,0 +1,75 @@
+-- The profile of a manifest that is taken is a good header.
+use Rattle.std.proofs.Common.{◌≡◌, ℕ, ◌^◌, ◌<◌, List, length, Bool, true, false, cond, Option, Some, None, Result, Ok, Err, refl, sym, ap, ◌∙◌, subst, arith}
+use Rattle.std.specs.Prelude.{nat_le, FitsSigned}
+use Rattle.std.specs.Int.{w64}
+use Rattle.std.specs.List.{All}
+use Rattle.std.specs.Str.{is_utf8}
+use Rattle.det_base.specs.Jobs.{number_of_kind, kind_of_name}
+use Rattle.det_base.specs.Values.{ProfileValue}
+use Rattle.det_base.specs.declared.job_kind.JobKind.{JobKind}
+use Rattle.det_base.specs.declared.job_kind.JobKind.TheVariants.{Bank, Cloud, Guard}
+use Rattle.record_grammar.specs.Spelling.{IsHeader}
+use Rattle.toml.specs.Data.{Data}
+use Rattle.manifest.specs.Values.{ManifestValue}
+use Rattle.manifest.specs.Tree.{text_of}
+use Rattle.manifest.specs.Keys.{found, keys}
+use Rattle.manifest.specs.Faults.{first_fault, first_duplicate}
+use Rattle.manifest.specs.Profiles.{profile_of}
+use Rattle.manifest.specs.Meaning.{events_of, said, or_fault, with_job, manifest_in, in_document, document_of, manifest_of}
+use Rattle.manifest.specs.declared.key.Key.TheVariants.{Job}
+use Rattle.manifest.specs.declared.fault.ManifestFault.{ManifestFault}
+use Rattle.manifest.specs.declared.fault.ManifestFault.TheVariants.{TooLong, NotToml}
+use Rattle.run_laws.proofs.Keys.{AreGood, are_good}
+
+-- a tree without a fault says this manifest
+record IsSaid (m : ManifestValue) : Type 0 where
+  tree : Data
+  kind : JobKind
+  good : first_fault tree (keys tree) ≡ None
+  is : m ≡ said tree kind
+
+past : (o : Option ManifestFault) (answer : Result ManifestValue ManifestFault) (m : ManifestValue) → or_fault o answer ≡ Ok m → (o ≡ None) × (answer ≡ Ok m)
+past None answer m e = (refl, e)
+past (Some fault) answer m e = absurd cc
+
+by_job : (tree : Data) (o : Option JobKind) (m : ManifestValue) → first_fault tree (keys tree) ≡ None → with_job tree o ≡ Ok m → IsSaid m
+by_job tree None m good e = absurd cc
+by_job tree (Some kind) m good e = record { tree = tree; kind = kind; good = good; is = cc }
+
+by_tree : (o : Option Data) (m : ManifestValue) → in_document o ≡ Ok m → IsSaid m
+by_tree None m e = absurd cc
+by_tree (Some tree) m e =
+    let a = past (first_fault tree (keys tree)) _ m e in
+    let b = past _ (with_job tree (kind_of_name (text_of (found tree Job)))) m a.1 in
+    by_job tree (kind_of_name (text_of (found tree Job))) m a.0 b.1
+
+by_text : (few utf8 : Bool) (o : Option Data) (m : ManifestValue) → cond few (cond utf8 (in_document o) (Err NotToml)) (Err TooLong) ≡ Ok m → IsSaid m
+by_text true true o m e = by_tree o m e
+by_text true false o m e = absurd cc
+by_text false utf8 o m e = absurd cc
+
+is_said : (bytes : List ℕ) (m : ManifestValue) → manifest_of bytes ≡ Ok m → IsSaid m
+is_said bytes m e = by_text (nat_le (length bytes) 65536) (is_utf8 bytes) (document_of bytes) m e
+
+number_small : (kind : JobKind) → number_of_kind kind < 2 ^ 16
+number_small Bank = omega arith
+number_small Cloud = omega arith
+number_small Guard = omega arith
+
+said_header : (tree : Data) (kind : JobKind) (seed : ℕ) → seed < 2 ^ 64 → AreGood tree → All (FitsSigned w64) (said tree kind).params → IsHeader (profile_of (said tree kind) seed)
+said_header tree kind seed small good fit = record {
+  job = number_small kind;
+  seed = small;
+  cycle_time = good.cycle_time;
+  few_params = good.few_params;
+  params = fit;
+  few_events = good.few_events;
+  events = good.events;
+  policies = tt;
+}
+
+pub header_is : (bytes : List ℕ) (m : ManifestValue) (seed : ℕ) → seed < 2 ^ 64 → manifest_of bytes ≡ Ok m → All (FitsSigned w64) m.params → IsHeader (profile_of m seed)
+header_is bytes m seed small e fit =
+    let s = is_said bytes m e in
+    subst (λ (x : ManifestValue). IsHeader (profile_of x seed)) (sym s.is)
+    (said_header s.tree s.kind seed small (are_good s.tree s.good) (subst (λ (x : ManifestValue). All (FitsSigned w64) x.params) s.is fit))
