@@ -1,10 +1,13 @@
 mod SpelledJob
 mod Passing
 mod Cycling
-mod Spelled
-mod Inputs
 mod Windowed
-mod Whole
+mod Framing
+mod Shipped
+mod Inputs
 mod Keys
-mod Headers
 mod Parameters
+mod Headers
+mod Unended
+mod Reading
+mod Decoding

@@ -47,7 +47,7 @@ fits z h = let a = h.0 in let b = h.1 in wide_fits z (omega (arith, ints)) (omeg
 all_fit : (ps : List ℤ) (n : ℕ) → length ps ≤ n → ((i : ℕ) → i < n → Fits (param ps i)) → All Fits ps
 all_fit ps n few each = All-from_get_or Fits ps (pos 0) (λ i inside. each i (omega arith))
 
-bank_fits : (ps : List ℤ) (events : ℕ) → bank.bad_param ps events ≡ None → All Fits ps
+pub bank_fits : (ps : List ℤ) (events : ℕ) → bank.bad_param ps events ≡ None → All Fits ps
 bank_fits ps events e =
     let a = taken ps 0 0 (pos 1) (pos 65536) _ e in
     let b = taken ps 1 1 (pos 0) (pos 16) _ a.1 in
@@ -58,7 +58,7 @@ bank_fits ps events e =
     each a b (suc zero) h = let l = b.0 in let m = b.1 in fits (param ps 1) (omega (arith, ints), omega (arith, ints))
     each a b (suc (suc i)) h = absurd (omega arith)
 
-cloud_fits : (ps : List ℤ) (events : ℕ) → cloud.bad_param ps events ≡ None → All Fits ps
+pub cloud_fits : (ps : List ℤ) (events : ℕ) → cloud.bad_param ps events ≡ None → All Fits ps
 cloud_fits ps events e =
     let a = taken ps 0 0 (pos 1) (pos 65536) _ e in
     let b = taken ps 1 1 (pos 1) (pos 1000000) _ a.1 in
@@ -74,7 +74,7 @@ cloud_fits ps events e =
     each a b c d (suc (suc (suc zero))) h = let l = d.0 in let m = d.1 in fits (param ps 3) (omega (arith, ints), omega (arith, ints))
     each a b c d (suc (suc (suc (suc i)))) h = absurd (omega arith)
 
-guard_fits : (ps : List ℤ) (events : ℕ) → guard.bad_param ps events ≡ None → All Fits ps
+pub guard_fits : (ps : List ℤ) (events : ℕ) → guard.bad_param ps events ≡ None → All Fits ps
 guard_fits ps events e =
     let a = taken ps 0 0 (pos 1) (pos 65536) _ e in
     let b = taken ps 1 1 (negsuc 999999999999) (pos 1000000000000) _ a.1 in

@@ -1,0 +1,53 @@
+-- What the record of a run is read as.
+use Rattle.std.specs.Prelude.{◌≡◌, ℕ, ◌^◌, ◌<◌, List, length, Bool, true, false, Option, Some, None, Ok}
+use Rattle.std.specs.Option.{unwrap_or}
+use Rattle.det_base.specs.declared.frames.CycleInput.{CycleInput}
+use Rattle.det_base.specs.declared.frames.Frame.{Frame}
+use Rattle.det_base.specs.declared.job_kind.JobKind.{JobKind}
+use Rattle.det_base.specs.declared.job_kind.JobKind.TheVariants.{Bank, Cloud, Guard}
+use Rattle.det_base.specs.Values.{ProfileValue}
+use Rattle.app_bank.specs.Meaning as bank
+use Rattle.app_cloud.specs.Meaning as cloud
+use Rattle.app_guard.specs.Meaning as guard
+use Rattle.cycle_engine.specs.Frames.{frames}
+use Rattle.record_grammar.specs.declared.fault.Reason.TheVariants.{Truncated}
+use Rattle.record_grammar.specs.declared.fault.RecordFault.{RecordFault}
+use Rattle.record_grammar.specs.Record.{items, fault}
+use Rattle.record_grammar.specs.Laws.{items_of}
+use Rattle.stimulus.specs.Reading.{blocks, ending}
+use Rattle.recorder.specs.Record.{is_terminated}
+use Rattle.manifest.specs.Values.{ManifestValue}
+use Rattle.manifest.specs.Profiles.{profile_of}
+use Rattle.det_setup.specs.Setup.{setup_of}
+use Rattle.det_record.specs.Outcomes.{demo_profile, demo_outcome, record_outcome}
+
+-- the frames of a run, by the kind of its job
+abbrev pub frames_by_kind : JobKind → ProfileValue → List CycleInput → Bool → List Frame
+frames_by_kind Bank profile inputs ended = frames bank.meaning profile inputs ended
+frames_by_kind Cloud profile inputs ended = frames cloud.meaning profile inputs ended
+frames_by_kind Guard profile inputs ended = frames guard.meaning profile inputs ended
+
+-- the record of a run that was ended has no fault, and that of another one only ends too early
+abbrev pub fault_if : Bool → List ℕ → Option RecordFault
+fault_if true bytes = None
+fault_if false bytes = Some (record { offset = length bytes; reason = Truncated })
+
+-- bytes are read as a profile and the frames of a run, and as nothing else
+pub record IsRunRead (profile : ProfileValue) (run : List Frame) (ended : Bool) (bytes : List ℕ) : Type 0 where
+  pub items : items bytes ≡ items_of profile run
+  pub fault : fault bytes ≡ fault_if ended bytes
+
+-- the same of the run over the blocks of a stimulus, ended where the stimulus is
+abbrev pub IsRecordRead : ProfileValue → (List CycleInput → Bool → List Frame) → List ℕ → List ℕ → Type 0
+IsRecordRead profile run stimulus bytes =
+    let ended : Bool = is_terminated (ending (length profile.events) stimulus) in
+    IsRunRead profile (run (blocks (length profile.events) stimulus) ended) ended bytes
+
+-- what `record` writes, where the manifest is taken; without a seed it is 0
+abbrev pub RecordIsRead : Type 0
+RecordIsRead = (manifest stimulus : List ℕ) (seed : Option ℕ) (m : ManifestValue) → unwrap_or seed 0 < 2 ^ 64 → setup_of manifest ≡ Ok m
+    → IsRecordRead (profile_of m (unwrap_or seed 0)) (frames_by_kind m.kind (profile_of m (unwrap_or seed 0))) stimulus (record_outcome manifest stimulus seed).bytes
+
+-- what `demo` writes
+abbrev pub DemoIsRead : Type 0
+DemoIsRead = (stimulus : List ℕ) → IsRecordRead demo_profile (frames bank.meaning demo_profile) stimulus (demo_outcome stimulus).bytes
