@@ -1,0 +1,51 @@
+//! What a run is given.
+
+use crate::Failure;
+
+pub struct Event {
+    pub name: String,
+    pub capacity: u16,
+    pub is_fresh: bool,
+}
+
+pub struct Profile {
+    pub cycle_time: u64,
+    pub seed: u64,
+    pub params: Vec<i64>,
+    pub events: Vec<Event>,
+}
+
+#[derive(Clone, Copy)]
+pub struct Sample {
+    pub event: u16,
+    pub value: i64,
+}
+
+/// What one cycle is given: its time and the samples that arrive in it.
+pub struct Input {
+    pub time: Option<u64>,
+    pub samples: Vec<Sample>,
+}
+
+pub fn parse_event(text: &str) -> Result<Event, Failure> {
+    let parts: Vec<&str> = text.split(':').collect();
+    let [name, capacity, policy] = parts[..] else {
+        return Err(format!("no event: {text}").into());
+    };
+    Ok(Event {
+        name: name.to_string(),
+        capacity: capacity.parse()?,
+        is_fresh: policy == "fresh",
+    })
+}
+
+/// The parts of a list that commas part, or none for `-`.
+pub fn parse_list<T>(
+    text: &str,
+    parse: impl Fn(&str) -> Result<T, Failure>,
+) -> Result<Vec<T>, Failure> {
+    if text == "-" {
+        return Ok(Vec::new());
+    }
+    text.split(',').map(parse).collect()
+}
