@@ -15,7 +15,7 @@ import tempfile
 import time
 from dataclasses import dataclass
 from pathlib import Path
-from typing import Iterator, Optional
+from typing import Callable, Iterator, Optional
 
 TOP = Path(__file__).resolve().parent.parent
 PROGRAM = TOP / "crates" / "det" / "out" / "det"
@@ -76,7 +76,7 @@ def made_lines(number: int, cycles: int) -> list[str]:
     return [*lines, "terminate"]
 
 
-def sampled_lines(cycles: int, value) -> list[str]:
+def sampled_lines(cycles: int, value: Callable[[int], int]) -> list[str]:
     """A sample of event 0 in each cycle."""
     lines = ["stim 1"]
     for cycle in range(cycles):
@@ -198,7 +198,14 @@ class Bench:
         self.remarks: list[str] = []
         self.is_same = True
 
-    def add(self, row: tuple[str, Optional[int]], words: list[str], output: str, first: Optional[float], size_of=size) -> float:
+    def add(
+        self,
+        row: tuple[str, Optional[int]],
+        words: list[str],
+        output: str,
+        first: Optional[float],
+        size_of: Callable[[Path], int] = size,
+    ) -> float:
         """Runs a command once for its output and its memory, and then for its time, which it answers."""
         what, workers = row
         print(f"{what} {workers or ''} ..", file=sys.stderr)
@@ -226,21 +233,25 @@ class Bench:
         stimulus, words = self.inputs(recording)
         first, digests = None, []
         for workers in WORKERS:
-            seconds = self.add((f"record {name}", workers), [*words, "--workers", str(workers)], "record", first)
+            row = (f"record {name}", workers)
+            seconds = self.add(row, [*words, "--workers", str(workers)], "record", first)
             first = first or seconds
             digests.append(digest_of(record))
         self.compare(f"records of {name} by {ALL_WORKERS} workers", digests)
         if self.baseline:
-            self.add((f"plain Rust, {name}", None), [str(self.baseline), *recording.baseline_words(stimulus)], "plain", first)
+            plain = [str(self.baseline), *recording.baseline_words(stimulus)]
+            self.add((f"plain Rust, {name}", None), plain, "plain", first)
             self.compare(f"records of {name} by det and by plain Rust", [digests[0], digest_of(self.room / "plain")])
-        self.add((f"show {name}", None), [str(PROGRAM), "show", str(record)], "text", first, lambda _: size(record))
+        show = [str(PROGRAM), "show", str(record)]
+        self.add((f"show {name}", None), show, "text", first, lambda _: size(record))
 
     def sim(self) -> None:
         """The simulated run by each number of workers, and the time of its digest alone."""
         first, texts = None, []
         for workers in WORKERS:
             words = [str(PROGRAM), "sim", str(SIM_NUMBER), "--workers", str(workers)]
-            seconds = self.add((f"sim {SIM_NUMBER}", workers), words, "summary", first, lambda path: int(told(path)["bytes"]))
+            row = (f"sim {SIM_NUMBER}", workers)
+            seconds = self.add(row, words, "summary", first, lambda path: int(told(path)["bytes"]))
             first = first or seconds
             texts.append((self.room / "summary").read_text())
         self.compare(f"texts of sim by {ALL_WORKERS} workers", texts)
@@ -250,7 +261,8 @@ class Bench:
         memory_of(self.inputs(cloud)[1], record)
         self.compare("digests by sim and of the recorded cloud", [digest, digest_of(record)])
         if shutil.which("sha256sum"):
-            self.add(("sha256sum of its record", None), ["sha256sum", str(record)], "text", first, lambda _: size(record))
+            row = ("sha256sum of its record", None)
+            self.add(row, ["sha256sum", str(record)], "text", first, lambda _: size(record))
 
 
 # ---- the whole ----
