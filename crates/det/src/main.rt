@@ -10,12 +10,13 @@ use worker_pool::NoGate;
 
 fn main(rt: HostRuntime) -> ExitCode {
     let alloc = rt.alloc();
-    // A word that isn't UTF-8 is no word of a command.
-    let Ok(args) = env::args(&rt) else {
-        return ExitCode::from(Status::BadWords.number());
-    };
     let no_memory = ExitCode::from(Status::OutOfMemory.number());
-    let Ok(words) = args.skip(1).collect::<Vec<String>>(alloc) else {
+    // A word that isn't UTF-8 makes no command, and neither does no word at all.
+    let read = match env::args(&rt) {
+        Ok(args) => args.skip(1).collect::<Vec<String>>(alloc),
+        Err(_) => Ok(Vec::new(alloc)),
+    };
+    let Ok(words) = read else {
         return no_memory;
     };
     let Ok(count) = Box::new(alloc, CountProbe::new()) else {
