@@ -10,4 +10,4 @@ mod Parameters
 mod Headers
 mod Unended
 mod Reading
-mod Decoding
+mod Commands

@@ -1,4 +1,4 @@
-use Rattle.run_laws.proofs.Decoding.{record_read, demo_read}
+use Rattle.run_laws.proofs.Commands.{record_read, demo_read}
 use Rattle.run_laws.proofs.decoding.Goals as goal
 
 pub returns-clause-record : goal.returns-clause-record
