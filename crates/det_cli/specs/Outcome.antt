@@ -1,5 +1,5 @@
 -- What the program gives: an answer and the bytes for `out`, by the words, the bytes under each name and the probes.
-use Rattle.std.specs.Prelude.{ℕ, List, [], Option, Some, None, option_and_then}
+use Rattle.std.specs.Prelude.{ℕ, Bool, true, false, List, [], Option, Some, None, option_and_then}
 use Rattle.det_answers.specs.declared.answer.Answer.TheVariants.{BadWords}
 use Rattle.det_answers.specs.Outcome.{Outcome, text_outcome, refusal}
 use Rattle.det_words.specs.Words.{Command, demo, «record», replay, check, compare, show, needs, sim, salvage, upgrade, vote, chain, help, version, command_of, names}
@@ -7,6 +7,7 @@ use Rattle.probes.specs.Reports.{ProbeLife}
 use Rattle.det_record.specs.Outcomes.{demo_outcome, record_outcome}
 use Rattle.det_needs.specs.Needs.{needs_outcome}
 use Rattle.det_show.specs.Show.{show_outcome}
+use Rattle.det_sim.specs.Sim.{sim_outcome}
 use Rattle.det_cli.specs.Texts.{usage_text, version_text}
 
 -- the command, where it is one of those that are built
@@ -18,7 +19,7 @@ built (check recorded workers) = None
 built (compare records) = None
 built (show recorded) = Some (show recorded)
 built (needs manifest) = Some (needs manifest)
-built (sim number workers) = None
+built (sim number workers) = Some (sim number workers)
 built (salvage recorded reports) = None
 built (upgrade recorded workers) = None
 built (vote records dissent) = None
@@ -38,12 +39,19 @@ names_in None = []
 abbrev pub names_of : List (List ℕ) → List (List ℕ)
 names_of words = names_in (command_in words)
 
+-- the commands that show runs to the probes
+abbrev pub shows_runs : Option Command → Bool
+shows_runs (Some (show recorded)) = true
+shows_runs (Some (sim number workers)) = true
+shows_runs other = false
+
 -- the outcome of a command, where these are the bytes under each name
 abbrev pub outcome_of : Option Command → (List ℕ → List ℕ) → List ProbeLife → Outcome
 outcome_of (Some (demo stimulus)) holds probes = demo_outcome (holds stimulus)
 outcome_of (Some («record» manifest stimulus seed workers)) holds probes = record_outcome (holds manifest) (holds stimulus) seed
 outcome_of (Some (show recorded)) holds probes = show_outcome probes (holds recorded)
 outcome_of (Some (needs manifest)) holds probes = needs_outcome (holds manifest)
+outcome_of (Some (sim number workers)) holds probes = sim_outcome probes number
 outcome_of (Some help) holds probes = text_outcome usage_text
 outcome_of (Some version) holds probes = text_outcome version_text
 outcome_of other holds probes = refusal BadWords

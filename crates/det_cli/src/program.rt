@@ -1,5 +1,5 @@
 //! The whole program.
-ghost use Rattle.std.specs.Prelude.{◌≡◌, ◌≤◌, ◌↔◌, ◌⊎◌, Some, None, OnErr, map};
+ghost use Rattle.std.specs.Prelude.{◌≡◌, ◌≤◌, ◌↔◌, ◌⊎◌, [], true, false, Some, None, OnErr, map};
 ghost use Rattle.std.specs.Vec.{vec_len};
 ghost use Rattle.det_base.specs.Count.{Rose};
 ghost use Rattle.det_base.specs.Sink.{Grew, GrewByPrefix};
@@ -10,7 +10,7 @@ ghost use Rattle.det_words.specs.Texts.{texts};
 ghost use Rattle.det_words.specs.Told.{told_of, told_by};
 ghost use Rattle.det_words.specs.Words.{command_seen};
 ghost use Rattle.det_words.specs.Ranges.{IsInRange};
-ghost use Rattle.det_cli.specs.Outcome.{built, command_in, names_in, names_of, outcome_of, outcome};
+ghost use Rattle.det_cli.specs.Outcome.{built, command_in, names_in, names_of, shows_runs, outcome_of, outcome};
 
 use crate::texts::{USAGE, VERSION};
 use det_answers::{Answer, Status};
@@ -18,6 +18,7 @@ use det_base::{Shelf, Sink, write_all};
 use det_needs::needs;
 use det_record::{demo, record_stimulus};
 use det_show::show;
+use det_sim::sim;
 use det_words::laws::ranges;
 use det_words::{Command, Told, read_words};
 use probes::Probe;
@@ -27,8 +28,8 @@ use worker_pool::Gate;
 
 /// Runs the command that the words give, which are those after the program's name.
 ///
-/// `record` and `demo` run their cycles on real threads, each of which passes the gate. `show` shows the runs that it
-/// reads to the probes, at most 1,024, and takes them out of the list; other commands leave them.
+/// `record`, `demo` and `sim` run their cycles on real threads, each of which passes the gate. `show` and `sim` show the
+/// runs that they read or make to the probes, at most 1,024.
 #[tactic(auto, using(det_answers::proofs::Meeting::met))]
 pub fn top<R: Threads + Sync, S: Shelf, K: Sink, E: Sink, G: Gate>(
     rt: &R,
@@ -70,6 +71,10 @@ pub fn top<R: Threads + Sync, S: Shelf, K: Sink, E: Sink, G: Gate>(
     ensures write_fault { result ≡ Status.WriteFault → Rose (K.faults out.old) (K.faults out.new) }
     ensures asked { AsksPrefix (S.sees shelf.old) (S.sees shelf.new) (names_of (texts words.now)) }
 
+    // A command that shows no runs leaves the probes. One that shows them has taken all out where it is done.
+    ensures left { shows_runs (command_in (texts words.now)) ≡ false → map (λ b. life b) probes.new.items ≡ map (λ b. life b) probes.old.items }
+    ensures gone { shows_runs (command_in (texts words.now)) ≡ true → result ≡ Status.Done → probes.new.items ≡ [] }
+
     // `err` took a prefix of the one line of the answer, and all of it where its count of faults didn't rise.
     ensures line { (answer : Answer) × (result ≡ status_of answer)
         × (Tells (S.sees shelf.old) (names_of (texts words.now)) → (answer ≡ Answer.ReadFault) ⊎ ((answer ≡ Answer.WriteFault)
@@ -98,6 +103,8 @@ fn run<R: Threads + Sync, S: Shelf, K: Sink, G: Gate>(
         (K.took out.old) (K.took out.new) result }
     ensures bad_words { (result ≡ Answer.BadWords) ↔ (command_in (texts words.now) ≡ None) }
     ensures asked { AsksPrefix (S.sees shelf.old) (S.sees shelf.new) (names_of (texts words.now)) }
+    ensures left { shows_runs (command_in (texts words.now)) ≡ false → map (λ b. life b) probes.new.items ≡ map (λ b. life b) probes.old.items }
+    ensures gone { shows_runs (command_in (texts words.now)) ≡ true → result ≡ Answer.Done → probes.new.items ≡ [] }
 {
     match read_words(words) {
         Some(words_told) => run_told(rt, alloc, words, &words_told, shelf, out, probes, gate),
@@ -123,6 +130,8 @@ fn run_told<R: Threads + Sync, S: Shelf, K: Sink, G: Gate>(
         (K.took out.old) (K.took out.new) result }
     ensures bad_words { (result ≡ Answer.BadWords) ↔ (command_in (texts words.now) ≡ None) }
     ensures asked { AsksPrefix (S.sees shelf.old) (S.sees shelf.new) (names_of (texts words.now)) }
+    ensures left { shows_runs (command_in (texts words.now)) ≡ false → map (λ b. life b) probes.new.items ≡ map (λ b. life b) probes.old.items }
+    ensures gone { shows_runs (command_in (texts words.now)) ≡ true → result ≡ Answer.Done → probes.new.items ≡ [] }
 {
     ranges();
     match words_told.command() {
@@ -148,6 +157,8 @@ fn run_command<R: Threads + Sync, S: Shelf, K: Sink, G: Gate>(
         (K.took out.old) (K.took out.new) result }
     ensures bad_words { (result ≡ Answer.BadWords) ↔ (built (command_seen command.entry) ≡ None) }
     ensures asked { AsksPrefix (S.sees shelf.old) (S.sees shelf.new) (names_in (built (command_seen command.entry))) }
+    ensures left { shows_runs (built (command_seen command.entry)) ≡ false → map (λ b. life b) probes.new.items ≡ map (λ b. life b) probes.old.items }
+    ensures gone { shows_runs (built (command_seen command.entry)) ≡ true → result ≡ Answer.Done → probes.new.items ≡ [] }
 {
     match command {
         Command::Demo { stimulus } => demo(rt, alloc, stimulus, shelf, out, gate),
@@ -161,13 +172,13 @@ fn run_command<R: Threads + Sync, S: Shelf, K: Sink, G: Gate>(
         ),
         Command::Show { record } => show(alloc, record, shelf, out, probes),
         Command::Needs { manifest } => needs(alloc, manifest, shelf, out),
+        Command::Sim { number, workers } => sim(rt, alloc, number, workers, out, probes, gate),
         Command::Help => print(USAGE, out),
         Command::Version => print(VERSION, out),
         // These aren't built yet.
         Command::Replay { .. } => Answer::BadWords,
         Command::Check { .. } => Answer::BadWords,
         Command::Compare { .. } => Answer::BadWords,
-        Command::Sim { .. } => Answer::BadWords,
         Command::Salvage { .. } => Answer::BadWords,
         Command::Upgrade { .. } => Answer::BadWords,
         Command::Vote { .. } => Answer::BadWords,

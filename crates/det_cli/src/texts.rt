@@ -9,13 +9,16 @@ det: records runs of the AUTOSAR deterministic client, byte for byte
       [--seed N] [--workers W]
   det show RECORD                a record as text, and reports of its runs
   det needs MANIFEST             the resource needs of a manifest
+  det sim N [--workers W]        a summary of the run of a built-in cloud over a
+                                 stimulus made of N, and reports of its cycles
   det --help                     this text
   det --version                  the version
 
 STIM is the text of a stimulus, MANIFEST one in TOML, RECORD a binary record:
 paths of files. One whose name begins with `-` is given as ./-name.
-N is a number of 64 bits, 0 where none is given. W is 1 to 64, and the
-manifest's where none is given; the record is the same for every W.
+N is a number of 64 bits; the seed is 0 where none is given. W is 1 to 64; where
+none is given it is the manifest's, and 1 for `sim`. What is written is the same
+for every W.
 Results go to standard output, and one line on a refusal to standard error.
 
 Exit statuses:

@@ -1,6 +1,6 @@
 -- How the printing of a record meets the outcome, by its end.
 use Rattle.std.proofs.Common.{◌≡◌, ℕ, List, refl, sym, ap, ◌∙◌, inl, inr}
-use Rattle.std.specs.Prelude.{Option, Some, Result, Ok, Err, IsErrOf, IfSome}
+use Rattle.std.specs.Prelude.{Option, Some, Result, Ok, Err, IsErrOf, IfSome, OnOk}
 use Rattle.det_base.specs.Sink.{GrewByPrefix}
 use Rattle.probes.specs.Reports.{ProbeLife}
 use Rattle.record_show.specs.declared.ends.Shown.{Shown}
@@ -9,6 +9,7 @@ use Rattle.record_show.specs.declared.ends.ShowEnd.TheVariants as ends
 use Rattle.record_show.specs.Text.{text_of}
 use Rattle.record_show.specs.Ended.{Answers}
 use Rattle.det_answers.specs.declared.answer.Answer.{Answer}
+use Rattle.det_answers.specs.declared.answer.Answer.TheVariants.{Done}
 use Rattle.det_answers.specs.Outcome.{Meets}
 use Rattle.det_show.specs.Show.{by_fault, show_outcome, answer_of}
 
@@ -62,3 +63,11 @@ show-meets-left probes bytes left here rose other before after result answer sam
     rw is (show-meets probes bytes (here ≡ Some bytes) rose other before after result
     (λ t. told-at left bytes (λ b. Answers result probes b before after) (same ∙ t) answers)
     (λ t. told-at left bytes (λ b. GrewByPrefix before after (text_of probes b)) (same ∙ t) part) r w)
+
+-- where the command is done the printing was
+pub at-done : (result : Result Shown ShowEnd) (answer : Answer) {P : Type 0} → answer ≡ answer_of result → OnOk result P → answer ≡ Done → P
+at-done (Ok shown) answer is p done = p
+at-done (Err (ends.BadRecord f)) answer is p done = absurd (cc)
+at-done (Err ends.ReadFault) answer is p done = absurd (cc)
+at-done (Err ends.WriteFault) answer is p done = absurd (cc)
+at-done (Err ends.OutOfMemory) answer is p done = absurd (cc)

@@ -41,6 +41,7 @@ fn show_slot<S: Slots, K: Sink>(
         (Rose (S.sees shelf.old).faults (S.sees shelf.new).faults) (Rose (K.faults out.old) (K.faults out.new)) (K.took out.old) (K.took out.new) result }
     ensures words { result ≡ Answer.BadWords → ⊥ }
     ensures asked { (S.sees shelf.new).asked ≡ (S.sees shelf.old).asked }
+    ensures gone { result ≡ Answer.Done → probes.new.items ≡ [] }
 {
     let mut reader = RecordReader::at(alloc, slot);
     let mut left = Bytes::new(alloc);
@@ -62,6 +63,7 @@ pub fn show<S: Shelf, K: Sink>(
         (Rose (S.sees shelf.old).faults (S.sees shelf.new).faults) (Rose (K.faults out.old) (K.faults out.new)) (K.took out.old) (K.took out.new) result }
     ensures words { result ≡ Answer.BadWords → ⊥ }
     ensures asked { AsksPrefix (S.sees shelf.old) (S.sees shelf.new) (recorded.now ∷ []) }
+    ensures gone { result ≡ Answer.Done → probes.new.items ≡ [] }
 {
     let Ok(slot) = shelf.open_input(recorded) else {
         return Answer::ReadFault;

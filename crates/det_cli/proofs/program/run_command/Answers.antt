@@ -23,6 +23,11 @@ returns-in-Needs-clause-meets g c =
     meets-command (g.S.Slots.sees c.args.shelf.now) _ _ _ _ _ _ _ _ _ (ap (λ x. built (command_seen x)) c.in-Needs.is)
     (meets-under _ _ _ _ _ _ _ _ _ _ (λ t. t 0 c.in-Needs.manifest.now (omega arith)) (λ r. r) (λ o. o) c.needs.ensures.meets)
 
+pub returns-in-Sim-clause-meets : goal.returns-in-Sim-clause-meets
+returns-in-Sim-clause-meets g c =
+    meets-command (g.S.Slots.sees c.args.shelf.now) _ _ _ _ _ _ _ _ _ (ap (λ x. built (command_seen x)) c.in-Sim.is)
+    (meets-under _ _ _ _ _ _ _ _ _ _ (λ t. tt) (λ r. absurd r) (λ o. o) c.sim.ensures.meets)
+
 pub returns-in-Replay-clause-meets : goal.returns-in-Replay-clause-meets
 returns-in-Replay-clause-meets g c =
     meets-no-command (g.S.Slots.sees c.args.shelf.now) _ _ _ _ _ _ (ap (λ x. built (command_seen x)) c.in-Replay.is)
@@ -34,10 +39,6 @@ returns-in-Check-clause-meets g c =
 pub returns-in-Compare-clause-meets : goal.returns-in-Compare-clause-meets
 returns-in-Compare-clause-meets g c =
     meets-no-command (g.S.Slots.sees c.args.shelf.now) _ _ _ _ _ _ (ap (λ x. built (command_seen x)) c.in-Compare.is)
-
-pub returns-in-Sim-clause-meets : goal.returns-in-Sim-clause-meets
-returns-in-Sim-clause-meets g c =
-    meets-no-command (g.S.Slots.sees c.args.shelf.now) _ _ _ _ _ _ (ap (λ x. built (command_seen x)) c.in-Sim.is)
 
 pub returns-in-Salvage-clause-meets : goal.returns-in-Salvage-clause-meets
 returns-in-Salvage-clause-meets g c =

@@ -1,5 +1,5 @@
 use Rattle.std.proofs.Common.{ap}
-use Rattle.det_show.proofs.Meeting.{show-meets-left}
+use Rattle.det_show.proofs.Meeting.{show-meets-left, at-done}
 use Rattle.det_show.proofs.showing.show_slot.Goals as goal
 
 pub returns-clause-meets : goal.returns-clause-meets
@@ -10,3 +10,6 @@ returns-clause-meets g c bytes =
 
 pub returns-clause-asked : goal.returns-clause-asked
 returns-clause-asked g c = c.show_run-shown.ensures.run.1.asked
+
+pub returns-clause-gone : goal.returns-clause-gone
+returns-clause-gone g c = at-done c.show_run-shown.result c.answer_of.result c.answer_of.ensures.is c.show_run-shown.ensures.gone

@@ -1,0 +1,74 @@
+//! A job run over a text in memory.
+ghost use Rattle.std.specs.Prelude.{◌≡◌, ◌≤◌, [], ◌++◌, map, length, None, OnOk, IfOk};
+ghost use Rattle.std.specs.Vec.{vec_len};
+ghost use Rattle.manifest.specs.Limits.{IsWorkers};
+ghost use Rattle.stimulus.specs.Reading.{Terminated, ending};
+ghost use Rattle.probes.specs.Reports.{reports};
+ghost use Rattle.det_sim.specs.Sim.{runs_over, summary_over};
+
+use cycle_engine::Engine;
+use det_base::{Bytes, OutOfMemory, Profile, TextShelf};
+use det_texts::Summary;
+use job_trait::Job;
+use probes::Probe;
+use record_reader::DigestSink;
+use recorder::{RecordEnd, record_run};
+use std::alloc::Global;
+use std::thread::Threads;
+use worker_pool::Gate;
+
+/// Runs a job over a whole stimulus, and sums up the record without keeping it. Reports of probes that leave are
+/// appended to `left`.
+pub(crate) fn run_over<J: Job, R: Threads + Sync, G: Gate>(
+    rt: &R,
+    alloc: Global,
+    number: u64,
+    profile: &Profile,
+    text: Bytes,
+    workers: u32,
+    probes: &mut Vec<Box<dyn Probe>>,
+    left: &mut Bytes,
+    gate: &G,
+) -> Result<Summary, OutOfMemory>
+    requires good { J.meaning.bad_param profile.now.params (length profile.now.events) ≡ None }
+    requires whole { ending (length profile.now.events) text ≡ Terminated }
+    requires workers { IsWorkers workers }
+    requires few { vec_len probes.old ≤ 1024 }
+    requires empty { left.old ≡ [] }
+    ensures summary { IfOk result (λ summary. summary ≡ summary_over J.meaning profile.now text.entry number) }
+    ensures reports { OnOk result (left.new ++ reports (map (λ b. life b) probes.new.items) [] ≡ reports (map (λ b. life b) probes.old.items) (runs_over J.meaning profile.now text.entry)) }
+    ensures fewer { vec_len probes.new ≤ vec_len probes.old }
+{
+    let events = profile.events.len() as u16;
+    let Ok(job) = J::make(&profile.params, events) else {
+        unreachable!()
+    };
+    let mut engine = Engine::start(alloc, job, profile)?;
+    let mut shelf = TextShelf::new(text);
+    let mut sink = DigestSink::new();
+    let run = record_run(
+        rt,
+        alloc,
+        &mut engine,
+        profile,
+        &mut shelf,
+        0,
+        &mut sink,
+        workers,
+        gate,
+        probes,
+        left,
+    );
+    match run {
+        Ok(counts) => Ok(Summary {
+            number,
+            cycles: counts.cycles,
+            refused: counts.refused,
+            bytes: counts.bytes,
+            digest: sink.finish(),
+        }),
+        Err(RecordEnd::OutOfMemory) => Err(OutOfMemory),
+        // The text is whole, and neither the shelf nor the sink fails.
+        Err(_) => unreachable!(),
+    }
+}
