@@ -1,1 +1,3 @@
 mod Whole
+mod Running
+mod Simulated

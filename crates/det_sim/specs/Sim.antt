@@ -1,6 +1,6 @@
 -- What `sim` gives of a number: a summary of the run of a cloud over the stimulus that is made of the number, and what the
 -- probes report of it.
-use Rattle.std.specs.Prelude.{ℕ, pos, List, [], ◌∷◌, ◌++◌, length, codes}
+use Rattle.std.specs.Prelude.{ℕ, ℤ, pos, List, [], ◌∷◌, ◌++◌, length, codes}
 use Rattle.std.specs.List.{count_by}
 use Rattle.sha2.specs.Sha256.{sha256}
 use Rattle.det_base.specs.Values.{EventSpecValue, ProfileValue}
@@ -23,15 +23,22 @@ use Rattle.det_answers.specs.Outcome.{Outcome, text_outcome}
 abbrev pub newest_of : List ℕ → EventSpecValue
 newest_of name = record { capacity = 1; name = name; policy = Last }
 
--- a cloud of 10,000 particles: spread 1,000, a new seed in each 50th cycle, no distance too far; 10 ms, the number as seed
+-- 10,000 particles, a spread of 1,000, a new seed in each 50th cycle, and no distance too far
+abbrev pub sim_params : List ℤ
+sim_params = pos 10000 ∷ pos 1000 ∷ pos 50 ∷ pos 4000000000000 ∷ []
+
+abbrev pub sim_events : List EventSpecValue
+sim_events = newest_of (codes "x") ∷ newest_of (codes "y") ∷ newest_of (codes "hold") ∷ []
+
+-- a cloud with the number as its seed; 10 ms
 abbrev pub sim_profile : ℕ → ProfileValue
 sim_profile number = record {
   format = Two;
   job = 2;
   seed = number;
   cycle_time = 10000000;
-  params = pos 10000 ∷ pos 1000 ∷ pos 50 ∷ pos 4000000000000 ∷ [];
-  events = newest_of (codes "x") ∷ newest_of (codes "y") ∷ newest_of (codes "hold") ∷ [];
+  params = sim_params;
+  events = sim_events;
 }
 
 -- of a run: its number, how many cycles it had and how many of them were refused, the length of its record and the digest

@@ -1,5 +1,5 @@
 //! A job run over a text in memory.
-ghost use Rattle.std.specs.Prelude.{◌≡◌, ◌≤◌, [], ◌++◌, map, length, None, OnOk, IfOk};
+ghost use Rattle.std.specs.Prelude.{◌≡◌, ◌≤◌, [], ◌++◌, map, length, None, Ok, OnOk, IfOk, IfErr};
 ghost use Rattle.std.specs.Vec.{vec_len};
 ghost use Rattle.manifest.specs.Limits.{IsWorkers};
 ghost use Rattle.stimulus.specs.Reading.{Terminated, ending};
@@ -12,10 +12,21 @@ use det_texts::Summary;
 use job_trait::Job;
 use probes::Probe;
 use record_reader::DigestSink;
-use recorder::{RecordEnd, record_run};
+use recorder::{Counts, RecordEnd, record_run};
 use std::alloc::Global;
 use std::thread::Threads;
 use worker_pool::Gate;
+
+/// The counts of a run that nothing but want of memory ends early.
+fn counts_of(run: Result<Counts, RecordEnd>) -> Result<Counts, OutOfMemory>
+    requires { IfErr run (λ end. end ≡ RecordEnd.OutOfMemory) }
+    ensures { IfOk result (λ counts. run ≡ Ok counts) }
+{
+    match run {
+        Ok(counts) => Ok(counts),
+        Err(_) => Err(OutOfMemory),
+    }
+}
 
 /// Runs a job over a whole stimulus, and sums up the record without keeping it. Reports of probes that leave are
 /// appended to `left`.
@@ -35,8 +46,8 @@ pub(crate) fn run_over<J: Job, R: Threads + Sync, G: Gate>(
     requires workers { IsWorkers workers }
     requires few { vec_len probes.old ≤ 1024 }
     requires empty { left.old ≡ [] }
-    ensures summary { IfOk result (λ summary. summary ≡ summary_over J.meaning profile.now text.entry number) }
-    ensures reports { OnOk result (left.new ++ reports (map (λ b. life b) probes.new.items) [] ≡ reports (map (λ b. life b) probes.old.items) (runs_over J.meaning profile.now text.entry)) }
+    ensures summary { IfOk result (λ summary. summary ≡ summary_over J.meaning profile.now text number) }
+    ensures reports { OnOk result (left.new ++ reports (map (λ b. life b) probes.new.items) [] ≡ reports (map (λ b. life b) probes.old.items) (runs_over J.meaning profile.now text)) }
     ensures fewer { vec_len probes.new ≤ vec_len probes.old }
 {
     let events = profile.events.len() as u16;
@@ -59,16 +70,12 @@ pub(crate) fn run_over<J: Job, R: Threads + Sync, G: Gate>(
         probes,
         left,
     );
-    match run {
-        Ok(counts) => Ok(Summary {
-            number,
-            cycles: counts.cycles,
-            refused: counts.refused,
-            bytes: counts.bytes,
-            digest: sink.finish(),
-        }),
-        Err(RecordEnd::OutOfMemory) => Err(OutOfMemory),
-        // The text is whole, and neither the shelf nor the sink fails.
-        Err(_) => unreachable!(),
-    }
+    let counts = counts_of(run)?;
+    Ok(Summary {
+        number,
+        cycles: counts.cycles,
+        refused: counts.refused,
+        bytes: counts.bytes,
+        digest: sink.finish(),
+    })
 }
