@@ -3,5 +3,3 @@
 
 #[cfg(test)]
 mod shown;
-#[cfg(test)]
-mod vectors;

@@ -1,10 +1,10 @@
 //! Texts of records, with the reports of the probes that a program has.
-use crate::vectors::{EMPTY_RUN, TWO_CYCLES};
 use det_base::{Bytes, FailList, MemFile, MemFiles, MemShelf, MemSink, Shelf};
 use probes::{CountProbe, FirstRefusalProbe, GapProbe, Probe};
 use record_codec::{Reason, RecordFault};
 use record_reader::RecordReader;
 use record_show::{ShowEnd, Shown, show_run};
+use record_vectors::{empty_run, first, two_cycles};
 use std::alloc::Global;
 use std::test::*;
 
@@ -86,11 +86,11 @@ fn whole_records(rt: HostRuntime) -> Result<(), Fail> {
     let empty = joined(alloc, &[PARAMS, event, INIT, none])?;
     let cycles = joined(alloc, &[PARAMS, event, INIT, RUNS, two])?;
     assert_eq!(rt;
-        show(alloc, &EMPTY_RUN, 4096)?,
+        show(alloc, empty_run(), 4096)?,
         (Ok(Shown { cycles: 0 }), empty)
     );
     assert_eq!(rt;
-        show(alloc, &TWO_CYCLES, 4096)?,
+        show(alloc, two_cycles(), 4096)?,
         (Ok(Shown { cycles: 2 }), cycles)
     );
     Ok(())
@@ -106,12 +106,12 @@ fn records_that_break_off(rt: HostRuntime) -> Result<(), Fail> {
         reason: Reason::Truncated,
     };
     assert_eq!(rt;
-        show(alloc, &EMPTY_RUN[..97], 4096)?,
+        show(alloc, first(empty_run(), 97), 4096)?,
         (Err(ShowEnd::BadRecord(fault)), text)
     );
     let front = joined(alloc, &["job 1\nsee"])?;
     assert_eq!(rt;
-        show(alloc, &EMPTY_RUN, 9)?,
+        show(alloc, empty_run(), 9)?,
         (Err(ShowEnd::WriteFault), front)
     );
     Ok(())
@@ -120,7 +120,7 @@ fn records_that_break_off(rt: HostRuntime) -> Result<(), Fail> {
 #[test]
 fn a_record_of_format_2(rt: HostRuntime) -> Result<(), Fail> {
     let alloc = rt.alloc();
-    let mut bytes = Vec::from_slice(alloc, &EMPTY_RUN)?;
+    let mut bytes = Vec::from_slice(alloc, empty_run())?;
     assert!(rt; bytes.len() == 98);
     bytes[7] = 2;
     bytes.insert(50, 1)?;

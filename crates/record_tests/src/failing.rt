@@ -1,9 +1,9 @@
 //! Shelves that fail in mid-record.
 use crate::salvages::salvage;
 use crate::sources::{items_of, shelf_of};
-use crate::vectors::{first, two_cycles};
 use det_base::{FailList, MemSink, Shelf};
 use record_reader::{ReaderEnd, RecordReader, SalvageEnd};
+use record_vectors::{first, two_cycles};
 use std::alloc::Global;
 use std::process::Abort;
 use std::test::*;

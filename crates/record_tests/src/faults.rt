@@ -2,8 +2,8 @@
 use crate::feeding::fed;
 use crate::slow::slow_fault;
 use crate::sources::{changed, fault_of};
-use crate::vectors::{empty_run, first, two_cycles};
 use record_codec::{Reason, RecordFault};
+use record_vectors::{empty_run, first, two_cycles};
 use std::alloc::Global;
 use std::process::Abort;
 use std::test::*;

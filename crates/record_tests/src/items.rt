@@ -1,8 +1,9 @@
 //! How many items are given before a fault.
 use crate::feeding::fed;
 use crate::sources::changed;
-use crate::vectors::{empty_run, first, refused_runs, two_cycles};
+use crate::vectors::refused_runs;
 use record_codec::{Reason, RecordFault};
+use record_vectors::{empty_run, first, two_cycles};
 use std::alloc::Global;
 use std::process::Abort;
 use std::test::*;

@@ -3,10 +3,11 @@ ghost use Rattle.std.specs.Prelude.{◌<◌};
 
 use crate::feeding::fed;
 use crate::sources::shelf_of;
-use crate::vectors::{empty_run, first, refused_runs, two_cycles};
+use crate::vectors::refused_runs;
 use det_base::{FailList, MemSink, Shelf, Sink};
 use record_codec::{Reason, RecordFault};
 use record_reader::{DigestSink, RecordReader, SalvageEnd, Salvaged, salvage_run};
+use record_vectors::{empty_run, first, two_cycles};
 use std::alloc::Global;
 use std::process::Abort;
 use std::test::*;

@@ -1,28 +1,6 @@
-//! Records of format 1.
+//! Records of many cycles.
 use std::alloc::Global;
 use std::test::Fail;
-
-/// A run without cycles: a header of 50 bytes, Register, Discover, Init with four elements, Terminate.
-static EMPTY_RUN: [u8; 98] = [
-    0x44, 0x45, 0x54, 0x52, 0x45, 0x43, 0, 1, 0, 1, 0, 0, 0, 0, 0, 0, 0, 0, 0, 0, 0, 0, 0, 0x98,
-    0x96, 0x80, 0, 2, 0, 0, 0, 0, 0, 0, 0, 4, 0, 0, 0, 0, 0, 0, 0, 2, 0, 1, 0, 2, 1, 0x78, 1, 2, 3,
-    0, 0, 0, 4, 0, 8, 0, 0, 0, 0, 0, 0, 0, 0, 0, 8, 0, 0, 0, 0, 0, 0, 0, 0, 0, 8, 0, 0, 0, 0, 0, 0,
-    0, 0, 0, 8, 0, 0, 0, 0, 0, 0, 0, 0, 5,
-];
-
-/// The same run with two cycles, at the offsets 97 and 194, each with one element list of four and an output of 24 bytes.
-static TWO_CYCLES: [u8; 282] = [
-    0x44, 0x45, 0x54, 0x52, 0x45, 0x43, 0, 1, 0, 1, 0, 0, 0, 0, 0, 0, 0, 0, 0, 0, 0, 0, 0, 0x98,
-    0x96, 0x80, 0, 2, 0, 0, 0, 0, 0, 0, 0, 4, 0, 0, 0, 0, 0, 0, 0, 2, 0, 1, 0, 2, 1, 0x78, 1, 2, 3,
-    0, 0, 0, 4, 0, 8, 0, 0, 0, 0, 0, 0, 0, 0, 0, 8, 0, 0, 0, 0, 0, 0, 0, 0, 0, 8, 0, 0, 0, 0, 0, 0,
-    0, 0, 0, 8, 0, 0, 0, 0, 0, 0, 0, 0, 4, 1, 0, 0, 0, 0, 0, 0, 0, 0, 0, 0, 0, 1, 0, 0, 0, 0, 0, 0,
-    0, 0, 0, 0x64, 0, 0, 0, 0, 4, 0, 8, 0, 0, 0, 0, 0, 0, 0, 0, 0, 8, 0, 0, 0, 0, 0, 0, 0, 0, 0, 8,
-    0, 0, 0, 0, 0, 0, 0, 0, 0, 8, 0, 0, 0, 0, 0, 0, 0, 0, 0, 0, 0, 0x18, 0, 0, 0, 0, 0, 0, 0, 0, 0,
-    0, 0, 0, 0, 0, 0, 0, 0, 0, 0, 0, 0, 0, 0, 0, 4, 1, 0, 0, 0, 0, 0, 0x98, 0x96, 0x80, 0, 0, 0, 0,
-    0, 0, 0, 0, 4, 0, 8, 0, 0, 0, 0, 0, 0, 0, 0x19, 0, 8, 0, 0, 0, 0, 0, 0, 0, 0x19, 0, 8, 0, 0, 0,
-    0, 0, 0, 0, 0x19, 0, 8, 0, 0, 0, 0, 0, 0, 0, 0x19, 0, 0, 0, 0x18, 0, 0, 0, 0, 0, 0, 0, 0x64, 0,
-    0, 0, 0, 0, 0, 0, 0x19, 0, 0, 0, 0, 0, 0, 0, 0x19, 5,
-];
 
 /// A header of 30 bytes without events, Register, Discover, Init without elements.
 static NO_EVENTS: [u8; 37] = [
@@ -32,22 +10,6 @@ static NO_EVENTS: [u8; 37] = [
 
 /// A cycle without a time and without samples that was refused in Prepare with code 1.
 static REFUSED_RUN: [u8; 17] = [4, 0, 0, 0, 0, 0, 1, 0, 0, 0, 0, 0, 0, 0, 0, 0, 1];
-
-pub fn empty_run() -> &'static [u8] {
-    &EMPTY_RUN
-}
-
-pub fn two_cycles() -> &'static [u8] {
-    &TWO_CYCLES
-}
-
-/// The first bytes, or all where there are fewer.
-pub fn first(bytes: &'static [u8], len: usize) -> &'static [u8] {
-    if len < bytes.len() {
-        return &bytes[..len];
-    }
-    bytes
-}
 
 /// A record without events and so many refused cycles, before its Terminate.
 pub fn refused_runs(alloc: Global, count: u32) -> Result<Vec<u8>, Fail> {
