@@ -74,6 +74,11 @@ module _ {S G E L P : Type 0} (m : Meaning S G E L P) (profile : ProfileValue) w
   Stopped WriteFault bytes items frames before after = ComeFirst bytes items × GrewShort before after frames
   Stopped OutOfMemory bytes items frames before after = ComeFirst bytes items × GrewByPrefix before after frames
 
+  -- How the reading of a text ended early: its blocks stopped, or a read failed after all complete ones were run.
+  abbrev pub StoppedReading : RecordEnd → List ℕ → List StimItem → (frames : List ℕ) → (List ℕ → Type 0) → (List ℕ → Type 0) → Type 0
+  StoppedReading ReadFault bytes items frames before after = GaveAll (length profile.events) bytes items × Grew before after frames
+  StoppedReading end bytes items frames before after = Stopped end bytes items frames before after
+
   -- the frames of the inputs among these items, behind the inputs of others
   abbrev pub frames_of : List StimItem → List StimItem → List ℕ
   frames_of items more = spelled_runs profile.format (runs_after m profile (inputs_of items) (inputs_of more))

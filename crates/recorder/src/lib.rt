@@ -2,6 +2,7 @@
 #![tactic(auto)]
 
 mod all_blocks;
+mod all_pieces;
 mod block;
 mod ends;
 mod frames;

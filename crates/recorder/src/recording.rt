@@ -13,7 +13,7 @@ ghost use Rattle.probes.specs.Shows.{Shows};
 ghost use Rattle.recorder.specs.Record.{record_of};
 ghost use Rattle.recorder.specs.Ends.{Finishes, Stops, Ended};
 
-use crate::all_blocks::run_blocks;
+use crate::all_pieces::run_pieces;
 use crate::block::Crew;
 use crate::ends::{Counts, RecordEnd};
 use crate::frames::{write_bytes, write_frame};
@@ -26,9 +26,6 @@ use std::alloc::Global;
 use std::thread::Threads;
 use stimulus::StimReader;
 use worker_pool::Gate;
-
-/// The bytes that are read at a time.
-const PIECE: usize = 4096;
 
 /// The header, and the frames up to Init.
 fn encode_opening<J: Job>(
@@ -85,31 +82,19 @@ fn run_all<J: Job, S: Slots, K: Sink, R: Threads + Sync, G: Gate>(
     write_bytes(&buffer, sink, &mut counts)?;
     let events = profile.events.len() as u16;
     let mut reader = StimReader::new(crew.alloc, events);
-    let mut piece = [0; PIECE];
-    'pieces: loop {
-        run_blocks(
-            crew,
-            profile,
-            &mut reader,
-            engine,
-            &mut buffer,
-            sink,
-            &mut counts,
-            probes,
-            left,
-        )?;
-        let n = match shelf.read(slot, &mut piece) {
-            Ok(n) => n,
-            Err(_) => return Err(RecordEnd::ReadFault),
-        };
-        if n == 0 {
-            break;
-        }
-        match reader.feed(&piece[..n]) {
-            Ok(()) => {}
-            Err(_) => return Err(RecordEnd::OutOfMemory),
-        }
-    }
+    run_pieces(
+        crew,
+        profile,
+        shelf,
+        slot,
+        &mut reader,
+        engine,
+        &mut buffer,
+        sink,
+        &mut counts,
+        probes,
+        left,
+    )?;
     if let Err(fault) = reader.finish() {
         return Err(RecordEnd::Stimulus { line: fault.line });
     }
