@@ -35,7 +35,7 @@ fn one_particle_draws_the_same_words_whatever_the_workers(rt: HostRuntime) -> Re
 }
 
 #[test]
-fn so_do_65_536_particles(rt: HostRuntime) -> Result<(), Fail> {
+fn many_particles_draw_the_same_words_whatever_the_workers(rt: HostRuntime) -> Result<(), Fail> {
     for workers in [1, 3, 64] {
         let ran = cloud(&rt, rt.alloc(), 65_536, workers)?;
         let digest = "61470a0dd84d37ea0bba2bf69457c9243a70b3096d58c7c3c26b2e51cea769e0";
