@@ -1,8 +1,8 @@
 //! Records of guards, and cycles that they refuse.
 use crate::{
-    Edges, Ran, guard_manifest, guard_stimulus, main_probes, run, run_with, user_manifest,
-    user_stimulus,
+    Edges, Ran, guard_manifest, guard_stimulus, run, run_with, user_manifest, user_stimulus,
 };
+use probes::Probe;
 use std::alloc::Global;
 use std::test::*;
 use std::thread::Threads;
@@ -129,9 +129,17 @@ fn the_workers_of_a_run_meet(rt: HostRuntime) -> Result<(), Fail> {
     let manifest = guard_manifest(alloc)?;
     let files = [("m", manifest.as_bytes()), ("s", guard_stimulus())];
     let line = "record m s --workers 2";
-    let probes = main_probes(alloc)?;
+    let mut probes: Vec<Box<dyn Probe>> = Vec::new(alloc);
     let gate = MeetGate::new();
-    let ran = run_with(&rt, alloc, line, &files, Edges::calm(7000), probes, &gate)?;
+    let ran = run_with(
+        &rt,
+        alloc,
+        line,
+        &files,
+        Edges::calm(7000),
+        &mut probes,
+        &gate,
+    )?;
     assert!(rt; gate.met());
     let digest = "9d8db4b1a7ae3efccaa45c075129c2dbbdf74f6d99e832096b1883c53b97ec7b";
     assert!(rt; ran.wrote_digest(0, 6531, digest));

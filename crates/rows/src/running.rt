@@ -1,5 +1,5 @@
 //! A run of the program in memory.
-ghost use Rattle.std.specs.Prelude.{◌≤◌, IfOk};
+ghost use Rattle.std.specs.Prelude.{◌≤◌};
 ghost use Rattle.std.specs.Vec.{vec_len};
 
 use crate::{Edges, Ran};
@@ -61,20 +61,6 @@ fn shelf_of(alloc: Global, files: &[(&str, &[u8])], edges: Edges) -> Result<MemS
     Ok(MemShelf::limited(alloc, MemFiles::from_vec(named), fails, 16, most)?)
 }
 
-/// The probes of the program, in its order.
-pub fn main_probes(alloc: Global) -> Result<Vec<Box<dyn Probe>>, NoMemory>
-    ensures { IfOk result (λ probes. vec_len probes ≤ 1024) }
-{
-    let mut probes: Vec<Box<dyn Probe>> = Vec::new(alloc);
-    let probe = Box::new(alloc, CountProbe::new()).map_err(|_| NoMemory)?;
-    probes.push(probe).map_err(|_| NoMemory)?;
-    let probe = Box::new(alloc, GapProbe::new()).map_err(|_| NoMemory)?;
-    probes.push(probe).map_err(|_| NoMemory)?;
-    let probe = Box::new(alloc, FirstRefusalProbe::new()).map_err(|_| NoMemory)?;
-    probes.push(probe).map_err(|_| NoMemory)?;
-    Ok(probes)
-}
-
 /// Runs the words of a line over these files, with these probes and this gate.
 pub fn run_with<R: Threads + Sync, G: Gate>(
     rt: &R,
@@ -82,10 +68,10 @@ pub fn run_with<R: Threads + Sync, G: Gate>(
     line: &str,
     files: &[(&str, &[u8])],
     edges: Edges,
-    mut probes: Vec<Box<dyn Probe>>,
+    probes: &mut Vec<Box<dyn Probe>>,
     gate: &G,
 ) -> Result<Ran, NoMemory>
-    requires { vec_len probes ≤ 1024 }
+    requires { vec_len probes.old ≤ 1024 }
 {
     let words = words_of(alloc, line)?;
     let mut shelf = shelf_of(alloc, files, edges)?;
@@ -95,14 +81,7 @@ pub fn run_with<R: Threads + Sync, G: Gate>(
     let fails = fail_list(alloc, edges.failing_line)?;
     let mut err = MemSink::new(alloc, 200, most, fails)?;
     let status = top(
-        rt,
-        alloc,
-        &words,
-        &mut shelf,
-        &mut out,
-        &mut err,
-        &mut probes,
-        gate,
+        rt, alloc, &words, &mut shelf, &mut out, &mut err, probes, gate,
     );
     Ok(Ran {
         status: status.number(),
@@ -120,6 +99,12 @@ pub fn run<R: Threads + Sync>(
     files: &[(&str, &[u8])],
     edges: Edges,
 ) -> Result<Ran, NoMemory> {
-    let probes = main_probes(alloc)?;
-    run_with(rt, alloc, line, files, edges, probes, &NoGate)
+    let mut probes: Vec<Box<dyn Probe>> = Vec::new(alloc);
+    let probe = Box::new(alloc, CountProbe::new()).map_err(|_| NoMemory)?;
+    probes.push(probe).map_err(|_| NoMemory)?;
+    let probe = Box::new(alloc, GapProbe::new()).map_err(|_| NoMemory)?;
+    probes.push(probe).map_err(|_| NoMemory)?;
+    let probe = Box::new(alloc, FirstRefusalProbe::new()).map_err(|_| NoMemory)?;
+    probes.push(probe).map_err(|_| NoMemory)?;
+    run_with(rt, alloc, line, files, edges, &mut probes, &NoGate)
 }

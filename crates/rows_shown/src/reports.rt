@@ -59,9 +59,9 @@ fn a_refused_run_is_shown_and_reported(rt: HostRuntime) -> Result<(), Fail> {
 fn shown_to<R: Threads + Sync>(
     rt: &R,
     alloc: Global,
-    probes: Vec<Box<dyn Probe>>,
+    probes: &mut Vec<Box<dyn Probe>>,
 ) -> Result<Ran, Fail>
-    requires { vec_len probes ≤ 1024 }
+    requires { vec_len probes.old ≤ 1024 }
 {
     let made = guard_record(rt, alloc)?;
     let files = [("m", made.out.bytes())];
@@ -76,7 +76,7 @@ fn probes_that_left_report_first_and_in_order(rt: HostRuntime) -> Result<(), Fai
     probes.push(Box::new(alloc, FirstRefusalProbe::new())?)?;
     probes.push(Box::new(alloc, FirstRefusalProbe::new())?)?;
     probes.push(Box::new(alloc, CountProbe::new())?)?;
-    let ran = shown_to(&rt, alloc, probes)?;
+    let ran = shown_to(&rt, alloc, &mut probes)?;
     let digest = "3c1dd874e0765c78f9a136a94383ffd87a75cba8f53927ff3230677cd7fbb607";
     assert!(rt; ran.wrote_digest(0, 14_747, digest));
     let reports = "\nterminate\nrefusal 2 pool 0 3 1\nrefusal 2 pool 0 3 1\ncount 2 1\n";
@@ -91,7 +91,7 @@ fn probes_leave_at_their_limits(rt: HostRuntime) -> Result<(), Fail> {
     probes.push(Box::new(alloc, LimitProbe::new(3))?)?;
     probes.push(Box::new(alloc, LimitProbe::new(2))?)?;
     probes.push(Box::new(alloc, LimitProbe::new(1))?)?;
-    let ran = shown_to(&rt, alloc, probes)?;
+    let ran = shown_to(&rt, alloc, &mut probes)?;
     let digest = "093269bd4082cccf47bc55f4f52db8570e7420e1f7f1b5e34c4ca05ea0ba7ca0";
     assert!(rt; ran.wrote_digest(0, 14_725, digest));
     let reports = "\nterminate\nlimit 1 0\nlimit 2 1\nlimit 3 1\n";
