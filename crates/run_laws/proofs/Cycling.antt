@@ -12,7 +12,7 @@ use Rattle.job_trait.specs.Laws.{JobLaws, CoversSome}
 use Rattle.job_trait.specs.Pass.{Passed, Refusal, passed}
 use Rattle.job_trait.specs.Cycle.{State, Done, added, refused_in_pool, refused_in_prepare, refused_in_conclude, in_pool, shown_with, next_pass, first_pass, passes_on, all_passes, concluded, cycled, outcome_of, state_after}
 use Rattle.record_grammar.specs.Spelling.{IsDrawn, IsRefusal, IsOutcome}
-use Rattle.run_laws.proofs.ShippedJob.{IsSpelledJob}
+use Rattle.run_laws.proofs.SpelledJob.{IsSpelledJob}
 use Rattle.run_laws.proofs.Passing.{IsKept, IsPassed, pass_kept}
 
 length-added : (xs ys : List ℕ) → length xs ≡ length ys → length (added xs ys) ≡ length xs

@@ -23,7 +23,7 @@ use Rattle.job_trait.specs.Cycle.{State, Done, outcome_of, state_after}
 use Rattle.cycle_engine.specs.Frames.{samples_of, job_of, first_state, cycle_of, frame_of, runs_behind, runs, init_of, frames as frames_of}
 use Rattle.cycle_engine.proofs.Standing.{length-runs}
 use Rattle.record_grammar.specs.Spelling.{IsHeader, IsSample, IsInput, IsElement, IsDrawn, IsOutcome, IsFrame, AreRun, spelled, Spells, SpellsWhole}
-use Rattle.run_laws.proofs.ShippedJob.{IsSpelledJob}
+use Rattle.run_laws.proofs.SpelledJob.{IsSpelledJob}
 use Rattle.run_laws.proofs.Cycling.{IsCycled, cycle_is}
 use Rattle.run_laws.proofs.Windowed.{are_windows}
 

@@ -14,7 +14,7 @@ use Rattle.stimulus.specs.Reading.{blocks, ending}
 use Rattle.stimulus.proofs.Counting.{few_blocks}
 use Rattle.recorder.specs.Record.{is_terminated, record_with, record_of}
 use Rattle.run_laws.specs.Statements.{IsRunRead, IsRecordRead}
-use Rattle.run_laws.proofs.ShippedJob.{IsSpelledJob}
+use Rattle.run_laws.proofs.SpelledJob.{IsSpelledJob}
 use Rattle.run_laws.proofs.Inputs.{all_held}
 use Rattle.run_laws.proofs.Framing.{whole_spelled, begun_spelled}
 use Rattle.run_laws.proofs.Unended.{ends_early}

@@ -23,7 +23,7 @@ use Rattle.app_guard.specs.Bounds.{contains}
 use Rattle.app_guard.specs.declared.guard.Guard.{Guard}
 use Rattle.app_guard.specs.declared.channel.Channel.{Channel as GuardChannel}
 use Rattle.app_guard.specs.declared.job.Total.{Total}
-use Rattle.run_laws.proofs.ShippedJob.{IsSpelledJob}
+use Rattle.run_laws.proofs.SpelledJob.{IsSpelledJob}
 
 -- ---- bytes
 
