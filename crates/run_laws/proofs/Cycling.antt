@@ -41,7 +41,6 @@ pub record IsCycled {S G E : Type 0} (Own : S → E → Type 0) (j : S) (old : S
 
 module _ {S G E L P : Type 0} (m : Meaning S G E L P) (Covers : S → P → ℕ → Type 0) (Own : S → E → Type 0) (Fit : S → L → Type 0)
     (laws : JobLaws m Covers Own Fit) (spells : IsSpelledJob m) (j : S) where
-
   -- ---- passes
 
   module _ (plan : L) (fit : Fit j plan) (seed cycle n : ℕ) (few : n ≤ 65536) where

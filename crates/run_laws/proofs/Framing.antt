@@ -48,7 +48,6 @@ rounds_good events inputs h = All-map (All (λ (s : SampleValue). IsSampleValue 
 
 module _ {S G E L P : Type 0} (m : Meaning S G E L P) (Covers : S → P → ℕ → Type 0) (Own : S → E → Type 0) (Fit : S → L → Type 0)
     (laws : JobLaws m Covers Own Fit) (spells : IsSpelledJob m) (profile : ProfileValue) (header : IsHeader profile) where
-
   abbrev j : S
   j = job_of m profile
 
@@ -100,11 +99,10 @@ module _ {S G E L P : Type 0} (m : Meaning S G E L P) (Covers : S → P → ℕ 
   unfolding IsFrame
   init_holds =
       let is = first_own in
-      let few = is.few in
-      (
+      let few = is.few in (
         omega (arith, length-map (first_state m profile).elements (m.shown j)),
         All-map IsElement (m.shown j) (first_state m profile).elements
-        (All-weaker (Own j) (λ e. IsElement (m.shown j e)) (λ e own. (laws.shown_few j e own, spells.shown j e)) (first_state m profile).elements is.own),
+            (All-weaker (Own j) (λ e. IsElement (m.shown j e)) (λ e own. (laws.shown_few j e own, spells.shown j e)) (first_state m profile).elements is.own),
       )
 
   abbrev begun_frames : List CycleInput → List Frame

@@ -25,7 +25,6 @@ IsPassed Covers Own j n (Err r) = (r.element < n) × (r.code < 2 ^ 32)
 module _ {S G E L P : Type 0} (m : Meaning S G E L P) (Covers : S → P → ℕ → Type 0) (Own : S → E → Type 0) (Fit : S → L → Type 0)
     (laws : JobLaws m Covers Own Fit) (spells : IsSpelledJob m) (j : S) (plan : L) (fit : Fit j plan)
     (carry : P) (seed cycle pass : ℕ) (below : pass < m.passes_of j plan) (carried : CoversSome (Covers j) carry) where
-
   abbrev from : ℕ → List E → Passed E P → Result (Passed E P) Refusal
   from = taken m j plan carry seed cycle pass
 
