@@ -1,5 +1,5 @@
 -- The frames of a run can be spelled.
-use Rattle.std.proofs.Common.{◌≡◌, ℕ, ◌+◌, ◌^◌, ◌<◌, ◌≤◌, List, [], ◌∷◌, ◌++◌, length, map, Bool, true, false, Result, refl, sym, ap, ◌∙◌, subst, arith, append-nil}
+use Rattle.std.proofs.Common.{ℕ, ◌+◌, ◌≤◌, List, [], ◌∷◌, ◌++◌, length, map, Bool, true, false, Result, refl, sym, subst, arith, append-nil}
 use Rattle.std.specs.List.{All}
 use Rattle.std.proofs.lemmas.List.{length-map}
 use Rattle.std.proofs.lemmas.List.Elements.{All-nil, All-cons, All-head, All-tail, All-append, All-push, All-map, All-weaker}
@@ -9,10 +9,8 @@ use Rattle.det_base.specs.Frames.{undrawn, outcome_in_format}
 use Rattle.det_base.specs.declared.format.Format.{Format}
 use Rattle.det_base.specs.declared.format.Format.TheVariants.{One, Two}
 use Rattle.det_base.specs.declared.frames.CycleInput.{CycleInput}
-use Rattle.det_base.specs.declared.frames.DrawnElement.{DrawnElement}
 use Rattle.det_base.specs.declared.frames.Outcome.{Outcome}
 use Rattle.det_base.specs.declared.frames.Outcome.TheVariants.{Finished, Refused}
-use Rattle.det_base.specs.declared.frames.RunFrame.{RunFrame}
 use Rattle.det_base.specs.declared.frames.Frame.{Frame}
 use Rattle.det_base.specs.declared.frames.Frame.TheVariants as frames
 use Rattle.det_client.specs.State.{next_time}

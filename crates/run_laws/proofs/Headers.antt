@@ -1,11 +1,10 @@
 -- The profile of a manifest that is taken is a good header.
-use Rattle.std.proofs.Common.{◌≡◌, ℕ, ◌^◌, ◌<◌, List, length, Bool, true, false, cond, Option, Some, None, Result, Ok, Err, refl, sym, ap, ◌∙◌, subst, arith}
+use Rattle.std.proofs.Common.{◌≡◌, ℕ, ◌^◌, ◌<◌, List, length, Bool, true, false, cond, Option, Some, None, Result, Ok, Err, refl, sym, subst, arith}
 use Rattle.std.specs.Prelude.{nat_le, FitsSigned}
 use Rattle.std.specs.Int.{w64}
 use Rattle.std.specs.List.{All}
 use Rattle.std.specs.Str.{is_utf8}
 use Rattle.det_base.specs.Jobs.{number_of_kind, kind_of_name}
-use Rattle.det_base.specs.Values.{ProfileValue}
 use Rattle.det_base.specs.declared.job_kind.JobKind.{JobKind}
 use Rattle.det_base.specs.declared.job_kind.JobKind.TheVariants.{Bank, Cloud, Guard}
 use Rattle.record_grammar.specs.Spelling.{IsHeader}
@@ -13,9 +12,9 @@ use Rattle.toml.specs.Data.{Data}
 use Rattle.manifest.specs.Values.{ManifestValue}
 use Rattle.manifest.specs.Tree.{text_of}
 use Rattle.manifest.specs.Keys.{found, keys}
-use Rattle.manifest.specs.Faults.{first_fault, first_duplicate}
+use Rattle.manifest.specs.Faults.{first_fault}
 use Rattle.manifest.specs.Profiles.{profile_of}
-use Rattle.manifest.specs.Meaning.{events_of, said, or_fault, with_job, manifest_in, in_document, document_of, manifest_of}
+use Rattle.manifest.specs.Meaning.{said, or_fault, with_job, in_document, document_of, manifest_of}
 use Rattle.manifest.specs.declared.key.Key.TheVariants.{Job}
 use Rattle.manifest.specs.declared.fault.ManifestFault.{ManifestFault}
 use Rattle.manifest.specs.declared.fault.ManifestFault.TheVariants.{TooLong, NotToml}

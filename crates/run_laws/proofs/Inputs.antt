@@ -1,5 +1,5 @@
 -- The blocks of a stimulus are inputs that a record can hold.
-use Rattle.std.proofs.Common.{◌≡◌, ℕ, ◌+◌, ◌^◌, ◌<◌, ◌≤◌, ℤ, List, [], ◌∷◌, length, map, Bool, true, false, Option, Some, None, refl, sym, ap, ◌∙◌, subst, arith}
+use Rattle.std.proofs.Common.{◌≡◌, ℕ, ◌<◌, List, [], ◌∷◌, map, Bool, true, false, Option, Some, None, subst}
 use Rattle.std.specs.Prelude.{nat_lt}
 use Rattle.std.specs.List.{All}
 use Rattle.std.proofs.lemmas.List.Elements.{All-nil, All-cons, All-head, All-tail, All-same}
@@ -9,7 +9,7 @@ use Rattle.det_base.specs.declared.frames.CycleInput.{CycleInput}
 use Rattle.stimulus.specs.declared.line.Line.{Line}
 use Rattle.stimulus.specs.declared.line.Line.TheVariants as lines
 use Rattle.stimulus.specs.Good.{blocks_in, without_last, ends}
-use Rattle.stimulus.specs.Limits.{IsLine, IsInput}
+use Rattle.stimulus.specs.Limits.{IsLine}
 use Rattle.stimulus.specs.Lines.{line_of}
 use Rattle.stimulus.specs.Reading.{blocks, head}
 use Rattle.stimulus.proofs.Within.{IfLine, line_within}

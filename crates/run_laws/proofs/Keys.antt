@@ -1,5 +1,5 @@
 -- What the keys of a manifest without a fault hold.
-use Rattle.std.proofs.Common.{◌≡◌, ℕ, zero, suc, ◌+◌, ◌^◌, ◌-◌, ◌≤◌, pos, negsuc, List, [], ◌∷◌, ◌++◌, length, Bool, true, false, Option, Some, None, refl, sym, ap, ◌∙◌, arith}
+use Rattle.std.proofs.Common.{◌≡◌, ℕ, zero, suc, ◌+◌, ◌^◌, ◌-◌, ◌≤◌, pos, negsuc, List, ◌∷◌, ◌++◌, length, Bool, true, false, Option, Some, None, refl, sym, ap, ◌∙◌, arith}
 use Rattle.std.specs.Prelude.{nat_le, ◌&&◌}
 use Rattle.std.specs.List.{All}
 use Rattle.std.specs.Option.{option_or}
@@ -9,7 +9,7 @@ use Rattle.det_base.specs.Limits.{IsCycleTime, is_event_name}
 use Rattle.toml.specs.Data.{Data, string, integer, float, boolean, datetime, array, table}
 use Rattle.record_grammar.specs.Spelling.{IsEvent}
 use Rattle.manifest.specs.Tree.{count_of, number_of, text_of, length_of_items}
-use Rattle.manifest.specs.Keys.{Kind, text, whole, array_up_to, found, event_keys, params_keys, events_keys, last_keys, keys}
+use Rattle.manifest.specs.Keys.{text, whole, array_up_to, found, event_keys, params_keys, events_keys, last_keys, keys}
 use Rattle.manifest.specs.Faults.{unless, value_fault, fault_by, fault_at, first_fault}
 use Rattle.manifest.specs.Meaning.{params_from, params_of, event_at, events_from, events_of}
 use Rattle.manifest.specs.declared.key.Key.{Key}

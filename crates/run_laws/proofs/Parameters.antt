@@ -7,8 +7,6 @@ use Rattle.std.specs.List.{All}
 use Rattle.std.proofs.lemmas.Bool.{ltb-false, and_parts}
 use Rattle.std.proofs.lemmas.Int.{ints}
 use Rattle.std.proofs.lemmas.List.Elements.{All-from_get_or}
-use Rattle.det_base.specs.declared.job_kind.JobKind.{JobKind}
-use Rattle.det_base.specs.declared.job_kind.JobKind.TheVariants.{Bank, Cloud, Guard}
 use Rattle.app_shared.specs.Params.{param, is_param}
 use Rattle.app_shared.proofs.Ranges.{wide_fits}
 use Rattle.app_bank.specs.Meaning as bank

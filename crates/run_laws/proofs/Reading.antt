@@ -1,9 +1,7 @@
 -- The record of a run is read as its profile and its frames.
-use Rattle.std.proofs.Common.{◌≡◌, ℕ, ◌+◌, ◌^◌, ◌<◌, ◌≤◌, ℤ, List, [], ◌∷◌, ◌++◌, length, map, Bool, true, false, Option, Some, None, Result, Ok, Err, refl, sym, ap, subst, ◌∙◌, arith, append-nil}
-use Rattle.std.specs.Option.{unwrap_or}
+use Rattle.std.proofs.Common.{ℕ, ◌≤◌, List, length, Bool, true, false, append-nil}
 use Rattle.std.specs.List.{All}
 use Rattle.det_base.specs.declared.frames.CycleInput.{CycleInput}
-use Rattle.det_base.specs.declared.frames.Frame.{Frame}
 use Rattle.det_base.specs.Values.{ProfileValue}
 use Rattle.job_trait.specs.Meaning.{Meaning}
 use Rattle.job_trait.specs.Laws.{JobLaws}

@@ -1,21 +1,18 @@
 -- Numbers are spelled in bytes, and what the shipped jobs show can be spelled.
-use Rattle.std.proofs.Common.{◌≡◌, ℕ, ℤ, zero, suc, pos, ◌+◌, ◌%◌, ◌^◌, ◌<◌, ◌≤◌, List, [], ◌∷◌, ◌++◌, length, Bool, true, false, cond, leb, ltb, Option, Some, None, Result, Ok, Err, refl, sym, subst, arith}
-use Rattle.std.specs.Prelude.{nat_le, nat_lt, nat_eq, ◌==◌, if◌then◌else◌}
-use Rattle.std.specs.Int.{w16, w32, w64, bytes_high_first, byte_at, byte_len, to_be_bytes, cast_unsigned}
+use Rattle.std.proofs.Common.{◌≡◌, ℕ, ℤ, zero, suc, pos, ◌+◌, ◌^◌, ◌<◌, List, [], ◌∷◌, ◌++◌, length, Bool, true, false, cond, Option, Some, None, Result, Ok, Err, subst, arith}
+use Rattle.std.specs.Prelude.{nat_le, nat_lt}
+use Rattle.std.specs.Int.{w16, w32, w64, bytes_high_first, byte_at, byte_len, cast_unsigned}
 use Rattle.std.proofs.lemmas.List.Elements.{All-nil, All-cons, All-append}
 use Rattle.job_trait.specs.declared.answers.Worked.{Worked}
 use Rattle.job_trait.specs.declared.answers.Concluded.{Concluded}
-use Rattle.job_trait.specs.Meaning.{Prepared}
 use Rattle.record_grammar.specs.Spelling.{AreBytes}
 use Rattle.app_shared.specs.Samples.{newest}
 use Rattle.app_shared.specs.Bytes.{u16_bytes, u32_bytes, u64_bytes, i64_bytes}
 use Rattle.app_bank.specs.Meaning as bank
-use Rattle.app_bank.specs.declared.bank.Bank.{Bank}
 use Rattle.app_bank.specs.declared.channel.Channel.{Channel as BankChannel}
 use Rattle.app_bank.specs.declared.summary.Summary.{Summary}
 use Rattle.app_bank.specs.declared.job.NoGlobals.{NoGlobals}
 use Rattle.app_cloud.specs.Meaning as cloud
-use Rattle.app_cloud.specs.declared.particle.Target.{Target}
 use Rattle.app_cloud.specs.declared.best.Best.{Best}
 use Rattle.app_cloud.specs.declared.job.Finished.{Finished}
 use Rattle.app_guard.specs.Meaning as guard

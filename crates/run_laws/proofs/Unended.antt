@@ -1,5 +1,5 @@
 -- What the frames of a run are read as, also where it wasn't ended.
-use Rattle.std.proofs.Common.{◌≡◌, ℕ, ◌+◌, List, [], ◌∷◌, ◌++◌, length, map, Some, refl, sym, ap, subst, ◌∙◌}
+use Rattle.std.proofs.Common.{◌≡◌, ℕ, ◌+◌, List, [], ◌∷◌, length, map, Some, sym, ap, subst, ◌∙◌}
 use Rattle.det_base.specs.declared.frames.RunFrame.{RunFrame}
 use Rattle.det_base.specs.declared.frames.Frame.{Frame}
 use Rattle.det_base.specs.declared.frames.Frame.TheVariants as frames
@@ -8,12 +8,11 @@ use Rattle.record_grammar.specs.declared.fault.Reason.TheVariants.{Truncated}
 use Rattle.record_grammar.specs.declared.place.Layout.{Layout}
 use Rattle.record_grammar.specs.declared.place.Place.{Place}
 use Rattle.record_grammar.specs.declared.place.Place.TheVariants as places
-use Rattle.record_grammar.specs.declared.item.Item.{Item}
 use Rattle.record_grammar.specs.declared.item.Item.TheVariants as items
 use Rattle.record_grammar.specs.Places.{layout_of}
-use Rattle.record_grammar.specs.Record.{fault, fault_from, Ending, early, ending_at}
+use Rattle.record_grammar.specs.Record.{fault, fault_from, early, ending_at}
 use Rattle.record_grammar.specs.Spelling.{Spells}
-use Rattle.record_grammar.specs.Laws.{AreItems, items_of, items_spelling}
+use Rattle.record_grammar.specs.Laws.{AreItems, items_of}
 use Rattle.record_grammar.proofs.Leads.{all_at_more}
 use Rattle.record_laws.proofs.Order.{in_order}
 use Rattle.record_laws.proofs.Whole.{nil_more, all_leads_on}

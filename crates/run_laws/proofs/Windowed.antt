@@ -1,5 +1,5 @@
 -- The windows that a cycle is shown are windows of samples.
-use Rattle.std.proofs.Common.{◌≡◌, ℕ, zero, suc, ◌-◌, ℤ, List, [], ◌∷◌, ◌++◌, length, Bool, true, false, cond, nat_eq, refl, ap}
+use Rattle.std.proofs.Common.{◌≡◌, ℕ, suc, ◌-◌, List, [], ◌∷◌, length, true, false, cond, nat_eq, refl, ap}
 use Rattle.std.specs.List.{All}
 use Rattle.std.proofs.lemmas.List.Elements.{All-nil, All-cons, All-head, All-tail, All-append, All-drop}
 use Rattle.det_base.specs.Limits.{IsSampleValue}
