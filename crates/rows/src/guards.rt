@@ -6,7 +6,7 @@ use probes::Probe;
 use std::alloc::Global;
 use std::test::*;
 use std::thread::Threads;
-use worker_pool::MeetGate;
+use worker_pool::{Gate, MeetGate};
 
 /// The record of a manifest over a text, by the words of a line.
 fn record<R: Threads + Sync>(
@@ -123,23 +123,33 @@ fn where_all_refuse_the_first_is_told(rt: HostRuntime) -> Result<(), Fail> {
     Ok(())
 }
 
-#[test]
-fn the_workers_of_a_run_meet(rt: HostRuntime) -> Result<(), Fail> {
-    let alloc = rt.alloc();
-    let manifest = guard_manifest(alloc)?;
-    let files = [("m", manifest.as_bytes()), ("s", guard_stimulus())];
-    let line = "record m s --workers 2";
+/// The record of a manifest over a text by two workers that pass a gate, shown to nobody.
+fn record_through<R: Threads + Sync, G: Gate>(
+    rt: &R,
+    alloc: Global,
+    manifest: &str,
+    text: &[u8],
+    gate: &G,
+) -> Result<Ran, Fail> {
+    let files = [("m", manifest.as_bytes()), ("s", text)];
     let mut probes: Vec<Box<dyn Probe>> = Vec::new(alloc);
-    let gate = MeetGate::new();
-    let ran = run_with(
-        &rt,
+    let line = "record m s --workers 2";
+    Ok(run_with(
+        rt,
         alloc,
         line,
         &files,
         Edges::calm(7000),
         &mut probes,
-        &gate,
-    )?;
+        gate,
+    )?)
+}
+
+#[test]
+fn the_workers_of_a_run_meet(rt: HostRuntime) -> Result<(), Fail> {
+    let manifest = guard_manifest(rt.alloc())?;
+    let gate = MeetGate::new();
+    let ran = record_through(&rt, rt.alloc(), manifest.as_str(), guard_stimulus(), &gate)?;
     assert!(rt; gate.met());
     let digest = "9d8db4b1a7ae3efccaa45c075129c2dbbdf74f6d99e832096b1883c53b97ec7b";
     assert!(rt; ran.wrote_digest(0, 6531, digest));
