@@ -1,24 +1,12 @@
 //! Records of guards, and cycles that they refuse.
 use crate::{
-    Edges, Ran, guard_manifest, guard_stimulus, run, run_with, user_manifest, user_stimulus,
+    Edges, Ran, guard_manifest, guard_stimulus, record, run_with, user_manifest, user_stimulus,
 };
 use probes::Probe;
 use std::alloc::Global;
 use std::test::*;
 use std::thread::Threads;
 use worker_pool::{Gate, MeetGate};
-
-/// The record of a manifest over a text, by the words of a line.
-fn record<R: Threads + Sync>(
-    rt: &R,
-    alloc: Global,
-    line: &str,
-    manifest: &str,
-    text: &[u8],
-) -> Result<Ran, Fail> {
-    let files = [("m", manifest.as_bytes()), ("s", text)];
-    Ok(run(rt, alloc, line, &files, Edges::calm(300_000))?)
-}
 
 #[test]
 fn the_least_refusing_element_is_told(rt: HostRuntime) -> Result<(), Fail> {
@@ -68,7 +56,7 @@ capacity = 1
 "
     )?;
     let text = b"stim 1\ncycle -\nsample 0 11\ncycle -\ncycle -\ncycle -\nterminate\n";
-    record(rt, alloc, "record m s", manifest.as_str(), text)
+    Ok(record(rt, alloc, "record m s", manifest.as_str(), text)?)
 }
 
 #[test]

@@ -15,7 +15,7 @@ pub use edges::Edges;
 pub use manifests::{bank_manifest, guard_manifest, user_manifest};
 pub use ran::Ran;
 pub use records::{changed, empty_run, empty_run_1, three_cycles, two_cycles, two_cycles_1};
-pub use running::{NoMemory, run, run_with};
+pub use running::{NoMemory, record, run, run_with};
 pub use stimuli::{guard_stimulus, two_cycles_stimulus, user_stimulus};
 
 #[cfg(test)]

@@ -108,3 +108,15 @@ pub fn run<R: Threads + Sync>(
     probes.push(probe).map_err(|_| NoMemory)?;
     run_with(rt, alloc, line, files, edges, &mut probes, &NoGate)
 }
+
+/// Runs the words of a line over a manifest `m` and a stimulus `s`, where nothing fails and there is room for a record.
+pub fn record<R: Threads + Sync>(
+    rt: &R,
+    alloc: Global,
+    line: &str,
+    manifest: &str,
+    stimulus: &[u8],
+) -> Result<Ran, NoMemory> {
+    let files = [("m", manifest.as_bytes()), ("s", stimulus)];
+    run(rt, alloc, line, &files, Edges::calm(300_000))
+}

@@ -1,16 +1,15 @@
 //! A run in which one request for memory may be refused.
-use rows::{Edges, NoMemory, Ran, guard_manifest, guard_stimulus, run};
+use rows::{NoMemory, Ran, guard_manifest, guard_stimulus, record};
 use std::alloc::Global;
 use std::process::Abort;
 use std::test::*;
 use std::thread::Threads;
 
 /// The record of the guard that refuses its second cycle, by two workers.
-fn record<R: Threads + Sync>(rt: &R, alloc: Global) -> Result<Ran, NoMemory> {
+fn guard_record<R: Threads + Sync>(rt: &R, alloc: Global) -> Result<Ran, NoMemory> {
     let manifest = guard_manifest(alloc)?;
-    let files = [("m", manifest.as_bytes()), ("s", guard_stimulus())];
     let line = "record m s --workers 2";
-    run(rt, alloc, line, &files, Edges::calm(7000))
+    record(rt, alloc, line, manifest.as_str(), guard_stimulus())
 }
 
 fn is_whole(ran: &Ran) -> bool {
@@ -21,7 +20,7 @@ fn is_whole(ran: &Ran) -> bool {
 /// A run without memory wrote the first bytes of the record, and the same run finds all the memory the next time.
 fn broke_off<R: Threads + Sync + Abort>(rt: &R, alloc: Global, ran: &Ran) -> Result<(), Fail> {
     assert!(rt; ran.ended(8, "out of memory\n"));
-    let whole = record(rt, alloc)?;
+    let whole = guard_record(rt, alloc)?;
     assert!(rt; is_whole(&whole) && whole.out.bytes().starts_with(ran.out.bytes()));
     Ok(())
 }
@@ -29,7 +28,7 @@ fn broke_off<R: Threads + Sync + Abort>(rt: &R, alloc: Global, ran: &Ran) -> Res
 #[test]
 fn a_refused_request_ends_the_run(rt: HostRuntime) -> Result<(), Fail> {
     // Where the shelf, the words, the probes or a sink could not be made, there is no run.
-    let Ok(ran) = record(&rt, rt.alloc()) else {
+    let Ok(ran) = guard_record(&rt, rt.alloc()) else {
         println!(rt; "not made")?;
         return Ok(());
     };

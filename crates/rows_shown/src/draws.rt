@@ -1,6 +1,6 @@
 //! How many random words the elements of a record drew.
 use crate::shown;
-use rows::{Edges, Ran, guard_manifest, guard_stimulus, run, two_cycles};
+use rows::{Ran, guard_manifest, guard_stimulus, record, two_cycles};
 use std::alloc::Global;
 use std::str;
 use std::test::*;
@@ -39,9 +39,8 @@ workers = 1
 params = [{particles}, 1000, 0, 4000000000000]
 "
     )?;
-    let text = b"stim 1\ncycle -\ncycle -\ncycle -\nterminate\n".as_slice();
-    let files = [("m", manifest.as_bytes()), ("s", text)];
-    Ok(run(rt, alloc, "record m s", &files, Edges::calm(20_000))?)
+    let text = b"stim 1\ncycle -\ncycle -\ncycle -\nterminate\n";
+    Ok(record(rt, alloc, "record m s", manifest.as_str(), text)?)
 }
 
 #[test]
@@ -62,8 +61,13 @@ fn banks_and_guards_draw_nothing(rt: HostRuntime) -> Result<(), Fail> {
     let alloc = rt.alloc();
     assert!(rt; drawn(&rt, alloc, two_cycles())? == (8, 0, 0));
     let manifest = guard_manifest(alloc)?;
-    let files = [("m", manifest.as_bytes()), ("s", guard_stimulus())];
-    let guard = run(&rt, alloc, "record m s", &files, Edges::calm(7000))?;
+    let guard = record(
+        &rt,
+        alloc,
+        "record m s",
+        manifest.as_str(),
+        guard_stimulus(),
+    )?;
     assert!(rt; drawn(&rt, alloc, guard.out.bytes())? == (200, 0, 0));
     Ok(())
 }

@@ -5,7 +5,7 @@ ghost use Rattle.std.specs.Vec.{vec_len};
 use crate::{empty_run_text, shown, two_cycles_text};
 use probes::{CountProbe, FirstRefusalProbe, LimitProbe, Probe};
 use rows::{
-    Edges, Ran, empty_run_1, guard_manifest, guard_stimulus, run, run_with, two_cycles,
+    Edges, Ran, empty_run_1, guard_manifest, guard_stimulus, record, run_with, two_cycles,
     two_cycles_1,
 };
 use std::alloc::Global;
@@ -35,9 +35,8 @@ fn a_record_of_format_2_has_policies_and_draws(rt: HostRuntime) -> Result<(), Fa
 /// The record of a guard that refuses its second cycle of three.
 fn guard_record<R: Threads + Sync>(rt: &R, alloc: Global) -> Result<Ran, Fail> {
     let manifest = guard_manifest(alloc)?;
-    let files = [("m", manifest.as_bytes()), ("s", guard_stimulus())];
     let line = "record m s --workers 2";
-    Ok(run(rt, alloc, line, &files, Edges::calm(7000))?)
+    Ok(record(rt, alloc, line, manifest.as_str(), guard_stimulus())?)
 }
 
 #[test]
