@@ -120,7 +120,7 @@ fn of_manifests(rt: HostRuntime) -> Result<(), Fail> {
 fn of_a_manifest_that_is_too_long(rt: HostRuntime) -> Result<(), Fail> {
     let alloc = rt.alloc();
     let mut manifest = String::from_str(alloc, bank_manifest())?;
-    while manifest.len() < 65_537 {
+    for _ in 0..65_537u32 {
         manifest.push_str("\n")?;
     }
     let line = "bad manifest: too long\n";
