@@ -45,7 +45,7 @@ pub fn run_in_order<J: Job>(
         seed,
         cycle,
     };
-    let mut done = nothing_done(alloc, job);
+    let mut done = nothing_done(alloc, job, elements.len());
     'run: for i in 0..elements.len() as u32 {
         done = with_element(alloc, &task, done, i)?;
     }
