@@ -10,7 +10,7 @@ use det_base::{Container, OutOfMemory};
 use job_trait::Job;
 use std::alloc::Global;
 use std::thread::Threads;
-use worker_pool::{Gate, PassDone, run_worker_pool, with_room};
+use worker_pool::{Gate, PassDone, run_worker_pool};
 
 /// The sums of two lists, number by number.
 fn sums(alloc: Global, left: &[u32], right: &[u32]) -> Result<Container<u32>, OutOfMemory>
@@ -20,7 +20,7 @@ fn sums(alloc: Global, left: &[u32], right: &[u32]) -> Result<Container<u32>, Ou
     requires right { All (λ n. n ≤ 65535) right.now }
     ensures { IfOk result (λ sums. sums ≡ added left.now right.now) }
 {
-    let mut sums = with_room(alloc, left.len());
+    let mut sums = Container::new(alloc);
     for i in 0..left.len() {
         sums.push(left[i] + right[i])?;
     }

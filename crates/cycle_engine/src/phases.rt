@@ -14,7 +14,7 @@ use event_cache::EventCache;
 use job_trait::Job;
 use std::alloc::Global;
 use std::thread::Threads;
-use worker_pool::{Gate, with_room};
+use worker_pool::Gate;
 
 /// What a finished cycle leaves and shows.
 #[derive(Drop)]
@@ -37,7 +37,7 @@ fn show<J: Job>(
     requires drew { length draws.now ≡ length elements.now }
     ensures { IfOk result (λ shown. shown ≡ shown_with J.meaning job.now elements.now draws.now) }
 {
-    let mut shown = with_room(alloc, elements.len());
+    let mut shown = DrawnElements::new(alloc);
     for i in 0..elements.len() {
         shown.push(DrawnElement {
             bytes: job.element_bytes(&elements[i]),

@@ -6,26 +6,21 @@ ghost use Rattle.worker_pool.specs.Sums.{Sums};
 ghost use Rattle.worker_pool.specs.Tasks.{element_in, Ready};
 
 use crate::answers::{PassDone, PoolFault};
-use crate::room::with_room;
 use crate::task::Task;
-use det_base::OutOfMemory;
+use det_base::{Container, OutOfMemory};
 use element_random::{ElementRandom, key};
 use job_trait::{Job, JobFault};
 use std::alloc::Global;
 
-/// What a pass leaves before its first element, with room for so many elements.
-pub(crate) fn nothing_done<J: Job>(
-    alloc: Global,
-    job: &J,
-    room: usize,
-) -> PassDone<J::Element, J::Part>
+/// What a pass leaves before its first element.
+pub(crate) fn nothing_done<J: Job>(alloc: Global, job: &J) -> PassDone<J::Element, J::Part>
     ensures empty { passed_of result ≡ record { elements = []; draws = []; part = J.meaning.unit_part job.now } }
     ensures sums { Sums J.Covers J.Own job.now 0 (passed_of result) }
 {
     PassDone {
-        elements: with_room(alloc, room),
+        elements: Container::new(alloc),
         part: job.unit(alloc),
-        draws: with_room(alloc, room),
+        draws: Container::new(alloc),
     }
 }
 

@@ -45,7 +45,7 @@ pub fn run_in_order<J: Job>(
         seed,
         cycle,
     };
-    let mut done = nothing_done(alloc, job, elements.len());
+    let mut done = nothing_done(alloc, job);
     'run: for i in 0..elements.len() as u32 {
         done = with_element(alloc, &task, done, i)?;
     }
