@@ -53,13 +53,13 @@ pub(crate) fn first_channels(alloc: Global, bank: &Bank) -> Result<Container<Cha
 pub(crate) fn element_bytes(bank: &Bank, channel: &Channel) -> Bytes64
     ensures { result ≡ shown bank.now channel.now }
 {
-    let level = channel.level.to_be_bytes();
-    if bank.events >= 2 {
-        let mut bytes = [0; 10];
-        bytes[..2].copy_from_slice(&channel.event.to_be_bytes());
-        bytes[2..].copy_from_slice(&level);
-        Bytes64::of(&bytes)
+    let mut bytes = [0; 10];
+    bytes[..2].copy_from_slice(&channel.event.to_be_bytes());
+    bytes[2..].copy_from_slice(&channel.level.to_be_bytes());
+    let shown = if bank.events >= 2 {
+        &bytes[..]
     } else {
-        Bytes64::of(&level)
-    }
+        &bytes[2..]
+    };
+    Bytes64::of(shown)
 }

@@ -20,6 +20,7 @@ pub struct Best {
 }
 
 /// The best of one particle.
+#[inline(always)]
 pub(crate) fn best_of(target: Target, particle: Particle) -> Best
     requires target { IsPlace target.tx target.ty }
     requires place { IsPlace particle.x particle.y }
@@ -35,6 +36,7 @@ pub(crate) fn best_of(target: Target, particle: Particle) -> Best
 }
 
 /// Whether one is better than another: nearer, or as near and of a lesser number.
+#[inline(always)]
 fn is_better(best: Best, other: Best) -> bool
     ensures { result ≡ is_better best other }
 {
@@ -43,6 +45,7 @@ fn is_better(best: Best, other: Best) -> bool
 }
 
 /// The best of two; the left one where neither is better.
+#[inline(always)]
 pub(crate) fn joined(left: Option<Best>, right: Option<Best>) -> Option<Best>
     requires { CoverTogether IsPartOf left right }
     ensures joined { result ≡ joined left right }

@@ -168,6 +168,7 @@ impl Job for Cloud {
         None
     }
 
+    #[inline(always)]
     fn run(
         &self,
         _alloc: Global,
@@ -188,6 +189,7 @@ impl Job for Cloud {
         })
     }
 
+    #[inline(always)]
     fn merge(&self, left: Option<Best>, right: Option<Best>) -> Result<Option<Best>, OutOfMemory> {
         Ok(joined(left, right))
     }

@@ -42,6 +42,7 @@ pub(crate) fn first_channels(
 }
 
 /// What a channel reads: the newest sample of its event.
+#[inline(always)]
 pub(crate) fn reading(guard: &Guard, samples: &NewestSamples, channel: &Channel) -> Option<i64>
     ensures { result ≡ reading guard.now samples.now channel.now }
 {
@@ -70,6 +71,7 @@ fn corrected(alloc: Global, channel: &Channel) -> Result<Worked<Channel, Correct
 }
 
 /// A channel after a reading. It refuses with code 1 where it would have to be corrected once too often.
+#[inline(always)]
 pub(crate) fn judged(
     alloc: Global,
     guard: &Guard,

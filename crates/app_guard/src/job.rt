@@ -34,6 +34,7 @@ pub struct Plan {
 pub type Corrections = Container<u32>;
 
 /// The corrections of two neighbouring parts, the left ones first.
+#[inline(always)]
 fn joined(mut left: Corrections, right: Corrections) -> Result<Corrections, OutOfMemory>
     requires { CoverTogether IsPartOf left right }
     ensures joined { IfOk result (λ part. part ≡ joined left right) }
@@ -110,6 +111,7 @@ impl Job for Guard {
         Corrections::new(alloc)
     }
 
+    #[inline(always)]
     fn run(
         &self,
         alloc: Global,
@@ -123,6 +125,7 @@ impl Job for Guard {
         judged(alloc, self, element, value)
     }
 
+    #[inline(always)]
     fn merge(&self, left: Corrections, right: Corrections) -> Result<Corrections, OutOfMemory> {
         joined(left, right)
     }

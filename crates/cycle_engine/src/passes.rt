@@ -20,7 +20,7 @@ fn sums(alloc: Global, left: &[u32], right: &[u32]) -> Result<Container<u32>, Ou
     requires right { All (λ n. n ≤ 65535) right.now }
     ensures { IfOk result (λ sums. sums ≡ added left.now right.now) }
 {
-    let mut sums = Container::new(alloc);
+    let mut sums = Container::from_vec(Vec::with_capacity(alloc, left.len())?);
     for i in 0..left.len() {
         sums.push(left[i] + right[i])?;
     }

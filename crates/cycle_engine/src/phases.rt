@@ -37,7 +37,7 @@ fn show<J: Job>(
     requires drew { length draws.now ≡ length elements.now }
     ensures { IfOk result (λ shown. shown ≡ shown_with J.meaning job.now elements.now draws.now) }
 {
-    let mut shown = DrawnElements::new(alloc);
+    let mut shown = DrawnElements::from_vec(Vec::with_capacity(alloc, elements.len())?);
     for i in 0..elements.len() {
         shown.push(DrawnElement {
             bytes: job.element_bytes(&elements[i]),

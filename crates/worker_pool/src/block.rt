@@ -12,19 +12,26 @@ use element_random::{ElementRandom, key};
 use job_trait::{Job, JobFault};
 use std::alloc::Global;
 
-/// What a pass leaves before its first element.
-pub(crate) fn nothing_done<J: Job>(alloc: Global, job: &J) -> PassDone<J::Element, J::Part>
-    ensures empty { passed_of result ≡ record { elements = []; draws = []; part = J.meaning.unit_part job.now } }
-    ensures sums { Sums J.Covers J.Own job.now 0 (passed_of result) }
+/// What a pass leaves before its first element, with room for so many elements.
+pub(crate) fn nothing_done<J: Job>(
+    alloc: Global,
+    job: &J,
+    room: usize,
+) -> Result<PassDone<J::Element, J::Part>, OutOfMemory>
+    ensures empty { IfOk result (λ none.
+        passed_of none ≡ record { elements = []; draws = []; part = J.meaning.unit_part job.now }) }
+    ensures sums { IfOk result (λ none. Sums J.Covers J.Own job.now 0 (passed_of none)) }
 {
-    PassDone {
-        elements: Container::new(alloc),
+    Ok(PassDone {
+        elements: Container::from_vec(Vec::with_capacity(alloc, room)?),
         part: job.unit(alloc),
-        draws: Container::new(alloc),
-    }
+        draws: Container::from_vec(Vec::with_capacity(alloc, room)?),
+    })
 }
 
-/// Runs the element `i` with random words of its own, and adds what it gives to what is done.
+/// Runs the element `i` with random words of its own, and adds what it gives to what is done. It is the body of the
+/// loops that time is spent in, so it is inlined there.
+#[inline(always)]
 pub(crate) fn with_element<J: Job>(
     alloc: Global,
     task: &Task<J>,

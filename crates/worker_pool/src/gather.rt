@@ -101,7 +101,7 @@ fn assemble<J: Job>(
         → IsFilled (block_in J.meaning task.now) b places.items }
     ensures { IfOk result (λ done. passed_of done ≡ together_in J.meaning task.now) }
 {
-    let mut all = nothing_done(alloc, task.job);
+    let mut all = nothing_done(alloc, task.job, task.elements.len())?;
     'join: for b in 0..places.len() {
         let Some(done) = places[b].take() else {
             unreachable!()

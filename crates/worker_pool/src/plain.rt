@@ -1,4 +1,4 @@
-//! A pass on one thread, for tests to compare with.
+//! A pass on one thread: what the pool does where one is enough, and what tests compare several with.
 ghost use Rattle.std.specs.Prelude.{◌≡◌, ◌<◌, ◌≤◌, length, IfOk, IfErr};
 ghost use Rattle.std.specs.List.{All};
 ghost use Rattle.job_trait.specs.Laws.{CoversSome};
@@ -45,7 +45,7 @@ pub fn run_in_order<J: Job>(
         seed,
         cycle,
     };
-    let mut done = nothing_done(alloc, job);
+    let mut done = nothing_done(alloc, job, elements.len())?;
     'run: for i in 0..elements.len() as u32 {
         done = with_element(alloc, &task, done, i)?;
     }

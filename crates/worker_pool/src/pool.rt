@@ -9,6 +9,7 @@ use crate::answers::{PassDone, PoolFault};
 use crate::divide::{Share, divide};
 use crate::gate::Gate;
 use crate::gather::gather;
+use crate::plain::run_in_order;
 use crate::seat::PassTable;
 use crate::task::Task;
 use job_trait::Job;
@@ -19,7 +20,8 @@ use std::thread::Threads;
 ///
 /// `carry` is the part of the pass before, or the unit in pass 0. The refusal of the least element that refuses is
 /// answered, with its code. Each worker calls `gate.enter` once with its number before it looks for its first block.
-/// No more threads are started than there are blocks: a worker that can get none enters on the thread of another.
+/// No more threads are started than there are blocks: a worker that can get none enters on the thread of another. Where
+/// one thread is enough, the elements are run on the caller's, in order.
 pub fn run_worker_pool<J: Job, G: Gate, R: Threads + Sync>(
     rt: &R,
     alloc: Global,
@@ -48,6 +50,14 @@ pub fn run_worker_pool<J: Job, G: Gate, R: Threads + Sync>(
     ensures covers { IfOk result (λ done. J.Covers job.now done.part (length elements.now)) }
     ensures element { IfErr result (RefusedBelow (length elements.now)) }
 {
+    let blocks = ((elements.len() + 63) / 64) as u32;
+    let threads = workers.min(blocks.max(1));
+    if threads == 1 {
+        for worker in 0..workers {
+            gate.enter(worker);
+        }
+        return run_in_order(alloc, job, plan, carry, pass, elements, seed, cycle);
+    }
     let task = Task {
         job,
         plan,
@@ -57,9 +67,7 @@ pub fn run_worker_pool<J: Job, G: Gate, R: Threads + Sync>(
         seed,
         cycle,
     };
-    let blocks = ((elements.len() + 63) / 64) as u32;
     let (table, seat) = PassTable::new(alloc, blocks)?;
-    let threads = workers.min(blocks.max(1));
     let share = divide(rt, alloc, &table, seat, &task, 0, threads, gate);
     for worker in threads..workers {
         gate.enter(worker);

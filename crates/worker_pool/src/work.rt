@@ -38,7 +38,7 @@ fn run_block<J: Job>(
 {
     let first = block * 64;
     let end = (first + 64).min(task.elements.len() as u32);
-    let mut done = nothing_done(alloc, task.job);
+    let mut done = nothing_done(alloc, task.job, (end - first) as usize)?;
     'run: for i in first..end {
         if i > first && table.look(seat, block) {
             return Ok(None);

@@ -13,8 +13,8 @@ unreachable-requires g c = let size = c.join.invariant.sized in let q = c.requir
 
 pub join-init : goal.join-init
 join-init g c = record {
-  so_far = c.nothing_done-all.ensures.empty;
-  sums = subst (λ n. Sums g.J.Job.Covers g.J.Job.Own c.args.task.now.job.now n (passed_of c.nothing_done-all.result)) (omega arith) c.nothing_done-all.ensures.sums;
+  so_far = c.in_ok-all.ensures.empty;
+  sums = subst (λ n. Sums g.J.Job.Covers g.J.Job.Own c.args.task.now.job.now n (passed_of c.in_ok-all.all)) (omega arith) c.in_ok-all.ensures.sums;
   sized = refl;
   rest = λ j le. refl;
 }
@@ -36,8 +36,8 @@ join-preserved g c =
     let same = same_some c.in-Some.done q.0 (sym c.in-Some.is ∙ c.take.ensures.value ∙ place_is _ _ c.join.b c.index_mut.result.now q.0 (omega arith) c.index_mut.ensures.value (c.join.invariant.rest c.join.b (omega arith)) q.1) in
     let here = block_here g.J.Job.meaning g.J.Job.Covers g.J.Job.Own g.J.Job.Fit laws c.args.task.now c.requires.ready c.join.b q.0 c.in-Some.done q.2 same in
     record {
-      so_far = next_together (block_in g.J.Job.meaning c.args.task.now) (g.J.Job.meaning.joined c.args.task.now.job.now) (g.J.Job.meaning.unit_part c.args.task.now.job.now) c.join.b q.0 c.in-Some.done _ _ q.2 same c.join.invariant.so_far c.in_ok-all.ensures;
-      sums = blocks_hold g.J.Job.meaning g.J.Job.Covers g.J.Job.Own g.J.Job.Fit laws c.args.task.now c.requires.ready c.join.b _ _ _ (search rules) c.join.invariant.sums here c.in_ok-all.ensures;
+      so_far = next_together (block_in g.J.Job.meaning c.args.task.now) (g.J.Job.meaning.joined c.args.task.now.job.now) (g.J.Job.meaning.unit_part c.args.task.now.job.now) c.join.b q.0 c.in-Some.done _ _ q.2 same c.join.invariant.so_far c.in_ok-all-2.ensures;
+      sums = blocks_hold g.J.Job.meaning g.J.Job.Covers g.J.Job.Own g.J.Job.Fit laws c.args.task.now c.requires.ready c.join.b _ _ _ (search rules) c.join.invariant.sums here c.in_ok-all-2.ensures;
       sized = length-set _ _ _ ∙ size;
       rest = λ j le. set_else _ c.join.b j _ (λ e. omega arith) ∙ c.join.invariant.rest j (omega arith);
     }

@@ -7,15 +7,15 @@ use Rattle.worker_pool.proofs.plain.run_in_order.Goals as goal
 pub run-init : goal.run-init
 run-init g c =
     let t : Task _ _ _ _ _ = record { job = c.args.job; plan = c.args.plan; carry = c.args.carry; pass = c.args.pass; elements = c.args.elements; seed = c.args.seed; cycle = c.args.cycle } in
-    record { so_far = pass_begins g.J.Job.meaning t _ _ refl c.nothing_done-done.ensures.empty; sums = c.nothing_done-done.ensures.sums }
+    record { so_far = pass_begins g.J.Job.meaning t _ _ refl c.in_ok-done.ensures.empty; sums = c.in_ok-done.ensures.sums }
 
 pub run-preserved : goal.run-preserved
 run-preserved g c =
     let laws = (g.met.J.Job g.world.𝓛 g.world.𝓜 g.world.𝓡 ((λ s x. x), (λ x. x), (λ x. x), λ x. x)).laws in
     let t : Task _ _ _ _ _ = record { job = c.args.job; plan = c.args.plan; carry = c.args.carry; pass = c.args.pass; elements = c.args.elements; seed = c.args.seed; cycle = c.args.cycle } in
     record {
-      so_far = goes_on g.J.Job.meaning t _ _ _ _ (search rules) (omega arith) c.run.invariant.so_far c.in_ok-done.done c.in_ok-done.ensures;
-      sums = next_holds g.J.Job.meaning g.J.Job.Covers g.J.Job.Own g.J.Job.Fit laws t (search rules) _ _ _ c.in_ok-done.done c.run.invariant.sums (omega arith) (search rules) c.in_ok-done.ensures;
+      so_far = goes_on g.J.Job.meaning t _ _ _ _ (search rules) (omega arith) c.run.invariant.so_far c.in_ok-done-2.done c.in_ok-done-2.ensures;
+      sums = next_holds g.J.Job.meaning g.J.Job.Covers g.J.Job.Own g.J.Job.Fit laws t (search rules) _ _ _ c.in_ok-done-2.done c.run.invariant.sums (omega arith) (search rules) c.in_ok-done-2.ensures;
     }
 
 pub returns : goal.returns

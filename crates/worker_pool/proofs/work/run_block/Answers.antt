@@ -11,8 +11,8 @@ run-init g c = let e = c.min-end.ensures in record {
   table = refl;
   id = refl;
   view = refl;
-  so_far = block_begins g.J.Job.meaning c.args.task.now c.args.block _ _ (passed_of c.nothing_done-done.result) (omega arith) (omega arith) c.nothing_done-done.ensures.empty;
-  sums = subst (λ n. Sums g.J.Job.Covers g.J.Job.Own c.args.task.now.job.now n (passed_of c.nothing_done-done.result)) (omega arith) c.nothing_done-done.ensures.sums;
+  so_far = block_begins g.J.Job.meaning c.args.task.now c.args.block _ _ (passed_of c.in_ok-done.done) (omega arith) (omega arith) c.in_ok-done.ensures.empty;
+  sums = subst (λ n. Sums g.J.Job.Covers g.J.Job.Own c.args.task.now.job.now n (passed_of c.in_ok-done.done)) (omega arith) c.in_ok-done.ensures.sums;
   from = omega arith;
 }
 
