@@ -1,7 +1,7 @@
 -- How a command's run meets the outcome of the words.
-use Rattle.std.proofs.Common.{◌≡◌, ℕ, List, [], ap, ◌∙◌, sym}
-use Rattle.std.specs.Prelude.{Option, Some, None, option_and_then, Result, Ok, Err, OnOk, OnErr}
-use Rattle.det_base.specs.Shelf.{ShelfState, AsksPrefix}
+use Rattle.std.proofs.Common.{◌≡◌, ℕ, List, ap, ◌∙◌, sym}
+use Rattle.std.specs.Prelude.{Option, None, option_and_then, Result, Ok, Err, OnOk, OnErr}
+use Rattle.det_base.specs.Shelf.{ShelfState}
 use Rattle.probes.specs.Reports.{ProbeLife}
 use Rattle.det_answers.specs.declared.answer.Answer.{Answer}
 use Rattle.det_answers.specs.declared.answer.Answer.TheVariants.{BadWords}

@@ -1,5 +1,5 @@
 -- A made text is a whole stimulus.
-use Rattle.std.proofs.Common.{◌≡◌, ℕ, zero, suc, ◌+◌, ◌*◌, ◌^◌, ◌<◌, ◌≤◌, ℤ, pos, negsuc, List, [], ◌∷◌, ◌++◌, length, Bool, true, false, cond, nat_eq, nat_lt, Option, Some, None, refl, sym, ap, ◌∙◌, arith, rules, lit<, append_assoc, length-append, codes}
+use Rattle.std.proofs.Common.{◌≡◌, ℕ, zero, suc, ◌+◌, ◌*◌, ◌^◌, ◌<◌, ◌≤◌, ℤ, pos, negsuc, List, [], ◌∷◌, ◌++◌, length, Bool, true, false, cond, nat_lt, Option, Some, None, refl, ap, ◌∙◌, arith, rules, lit<, append_assoc, length-append, codes}
 use Rattle.std.specs.Fmt.{decimal, signed_decimal}
 use Rattle.std.specs.List.{All}
 use Rattle.std.specs.Str.Parse.{AllDigits}
@@ -10,7 +10,6 @@ use Rattle.std.proofs.lemmas.Str.Parse.{tells_digits}
 use Rattle.std.proofs.lemmas.Bool.Decides.{nat_tests}
 use Rattle.std.proofs.lemmas.Int.{ints}
 use Rattle.det_base.specs.Limits.{IsSampleValue}
-use Rattle.det_base.specs.Values.{SampleValue}
 use Rattle.det_base.specs.declared.frames.CycleInput.{CycleInput}
 use Rattle.stimulus.specs.declared.line.Line.{Line}
 use Rattle.stimulus.specs.declared.line.Line.TheVariants as lines
@@ -20,7 +19,7 @@ use Rattle.stimulus.specs.Limits.{IsLine}
 use Rattle.stimulus.specs.Lines.{spelling}
 use Rattle.stimulus.specs.Places.{Place, First, Between, Inside, Ended, step, taken, begun, with_sample}
 use Rattle.stimulus.specs.Made.{word, made_value, block_text, made_blocks, made}
-use Rattle.stimulus.specs.Reading.{Terminated, BadLine, parts, reading, reading_from, ending, taken_at}
+use Rattle.stimulus.specs.Reading.{Terminated, BadLine, parts, reading, reading_from, ending}
 use Rattle.stimulus.proofs.Parts.{is_lf}
 use Rattle.stimulus.proofs.Signed.{digits_of}
 use Rattle.stimulus.proofs.Writing.{line_of_spelling}

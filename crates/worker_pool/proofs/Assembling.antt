@@ -1,8 +1,6 @@
 -- The results of all workers give the answer of the pass.
-use Rattle.std.proofs.Common.{◌≡◌, ℕ, ◌+◌, ◌<◌, ◌≤◌, true, false, List, length, get_or, Option, Some, None, Result, Ok, Err, is_err, sym, ap, ◌∙◌, ⊎_elim, arith, add-one, lt_of_not-le}
+use Rattle.std.proofs.Common.{◌≡◌, ℕ, ◌+◌, ◌<◌, true, false, List, length, get_or, Option, Some, None, Result, Ok, Err, is_err, sym, ap, ◌∙◌, ⊎_elim, arith, add-one}
 use mathlib.Core.Option.{some, some-injective}
-use mathlib.Core.Logic.{dite}
-use native.Mathlib.Decide.{dec_le}
 use lib.ListN.{get_elem?}
 use Rattle.atomic_table.proofs.Lists.{at_index}
 use Rattle.job_trait.specs.Meaning.{Meaning}
@@ -12,7 +10,6 @@ use Rattle.worker_pool.specs.declared.answers.PassDone.{PassDone}
 use Rattle.worker_pool.specs.declared.task.Task.{Task}
 use Rattle.worker_pool.specs.Gather.{beside, refuses, left_by, together}
 use Rattle.worker_pool.specs.IsPass.{passed_of}
-use Rattle.worker_pool.specs.Results.{answer_of}
 use Rattle.worker_pool.specs.Pool.{IsIn, Enough, InOrder, IsFilled, NoneRefuses, IsLeastRefusal}
 use Rattle.worker_pool.specs.Tasks.{block_in, blocks_in, pass_in}
 use Rattle.worker_pool.proofs.InBlocks.{all_done, least_refuses}

@@ -1,5 +1,5 @@
 -- A worker's last block gets its mark.
-use Rattle.std.proofs.Common.{◌≡◌, ℕ, ◌+◌, ◌<◌, ◌≤◌, true, false, List, [], ◌∷◌, ◌++◌, length, map, Option, Some, None, Result, is_err, sym, refl, ap, ◌∙◌, subst, inl, inr, arith, append_assoc, length-append}
+use Rattle.std.proofs.Common.{◌≡◌, ℕ, ◌+◌, ◌<◌, ◌≤◌, List, [], ◌∷◌, ◌++◌, length, map, Option, Some, None, Result, is_err, sym, refl, ap, ◌∙◌, subst, inl, inr, arith, append_assoc, length-append}
 use mathlib.Core.List.{map-append}
 use Rattle.worker_pool.specs.declared.view.Mark.{Mark}
 use Rattle.worker_pool.specs.declared.view.Mark.TheVariants.{Open, Finished, Reported, Skipped}
@@ -10,7 +10,7 @@ use Rattle.worker_pool.specs.declared.answers.BlockResult.{BlockResult}
 use Rattle.worker_pool.specs.declared.answers.BlockAnswer.{BlockAnswer}
 use Rattle.worker_pool.specs.Views.{entry, view, Stands, marked, Below, taken, passed, with_mark}
 use Rattle.worker_pool.specs.Gather.{refuses}
-use Rattle.worker_pool.specs.Results.{Rising, Stops, answer_of, shown, IsHonest, Honest, result_at, results_of, Tidy, Works, Ends}
+use Rattle.worker_pool.specs.Results.{Rising, answer_of, shown, IsHonest, Honest, result_at, results_of, Tidy, Works, Ends}
 use Rattle.worker_pool.proofs.Entries.{below_append, below_more}
 use Rattle.worker_pool.proofs.Marks.{here, there}
 

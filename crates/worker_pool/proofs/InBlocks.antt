@@ -5,7 +5,6 @@ use native.Mathlib.Decide.{ℕ_discrete}
 use Rattle.std.proofs.Math.Seq.{take-add}
 use Rattle.std.proofs.lemmas.List.{take_all}
 use Rattle.element_random.specs.Words.{key}
-use Rattle.job_trait.specs.declared.answers.Worked.{Worked}
 use Rattle.job_trait.specs.Meaning.{Meaning}
 use Rattle.job_trait.specs.Pass.{Passed, Refusal, nothing, more, taken, passed, block}
 use Rattle.worker_pool.specs.Machine.{blocks_of}

@@ -1,5 +1,5 @@
 -- What two seats know together, and what the last one knows.
-use Rattle.std.proofs.Common.{◌≡◌, ℕ, List, [], ◌∷◌, ◌++◌, ◌≤◌, ◌⊎◌, length, map, Result, Ok, Err, IfOk, ap, sym, ◌∙◌, subst, inl, inr, ⊎_elim, arith}
+use Rattle.std.proofs.Common.{◌≡◌, ℕ, List, [], ◌∷◌, ◌++◌, ◌≤◌, ◌⊎◌, map, Result, Ok, Err, IfOk, ap, sym, ◌∙◌, subst, inl, inr, ⊎_elim, arith}
 use mathlib.Core.List.{map-append}
 use Rattle.worker_pool.specs.declared.view.Mark.{Mark}
 use Rattle.worker_pool.specs.declared.view.Mark.TheVariants.{Reported, Skipped}

@@ -1,8 +1,8 @@
 -- Elements are run one after another, up to an end.
-use Rattle.std.proofs.Common.{◌≡◌, ℕ, zero, suc, ◌+◌, ◌-◌, ◌*◌, ◌<◌, ◌≤◌, min, List, [], ◌∷◌, ◌++◌, length, take, drop, Result, Ok, Err, sym, refl, ap, ◌∙◌, subst, arith, length-take, length-drop, take-add, drop-drop}
+use Rattle.std.proofs.Common.{◌≡◌, ℕ, ◌+◌, ◌-◌, ◌*◌, ◌<◌, ◌≤◌, min, List, [], ◌++◌, length, take, drop, Result, Ok, Err, sym, ap, ◌∙◌, subst, arith, length-take, length-drop, take-add, drop-drop}
 use Rattle.std.proofs.lemmas.List.{take_all, take_min}
 use Rattle.job_trait.specs.Meaning.{Meaning}
-use Rattle.job_trait.specs.Pass.{Passed, Refusal, nothing, taken, passed, block}
+use Rattle.job_trait.specs.Pass.{Passed, Refusal, nothing, taken}
 use Rattle.worker_pool.specs.declared.answers.PassDone.{PassDone}
 use Rattle.worker_pool.specs.declared.answers.PoolFault.{PoolFault}
 use Rattle.worker_pool.specs.declared.answers.PoolFault.TheVariants.{Refused, OutOfMemory}

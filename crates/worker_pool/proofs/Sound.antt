@@ -1,11 +1,11 @@
 -- What the laws of a job say of the answers of its passes.
-use Rattle.std.proofs.Common.{◌≡◌, ℕ, zero, suc, ◌+◌, ◌-◌, ◌*◌, ◌/◌, ◌<◌, ◌≤◌, min, List, [], ◌∷◌, ◌++◌, length, take, drop, Result, Ok, Err, IfOk, IfErr, refl, sym, ap, ◌∙◌, subst, arith, length-append, length-take, length-drop}
+use Rattle.std.proofs.Common.{◌≡◌, ℕ, suc, ◌+◌, ◌-◌, ◌*◌, ◌<◌, ◌≤◌, min, List, [], ◌∷◌, length, take, drop, Result, Ok, Err, IfOk, IfErr, refl, sym, ap, ◌∙◌, subst, arith, length-append, length-take, length-drop}
 use Rattle.std.specs.List.{All}
 use Rattle.std.proofs.lemmas.List.Elements.{All-nil, All-head, All-tail, All-push, All-append, All-take, All-drop}
 use Rattle.element_random.specs.Words.{key}
 use Rattle.job_trait.specs.declared.answers.Worked.{Worked}
 use Rattle.job_trait.specs.Meaning.{Meaning}
-use Rattle.job_trait.specs.Laws.{JobLaws, CoversSome}
+use Rattle.job_trait.specs.Laws.{JobLaws}
 use Rattle.job_trait.specs.Pass.{Passed, Refusal, nothing, more, taken}
 use Rattle.worker_pool.specs.declared.answers.PassDone.{PassDone}
 use Rattle.worker_pool.specs.declared.answers.PoolFault.{PoolFault}

@@ -1,5 +1,5 @@
 -- What an ended machine gathers from the answers of the blocks.
-use Rattle.std.specs.Prelude.{◌≡◌, ℕ, zero, suc, Bool, cond, ltb, List, [], ◌++◌, Result, Ok, Err, is_err}
+use Rattle.std.specs.Prelude.{ℕ, zero, suc, Bool, cond, ltb, [], ◌++◌, Result, Ok, Err, is_err}
 use Rattle.job_trait.specs.Pass.{Passed, Refusal}
 use Rattle.worker_pool.specs.Machine.{Machine}
 

@@ -1,5 +1,5 @@
 -- A pass that is to be run.
-use Rattle.std.specs.Prelude.{◌≡◌, ℕ, ◌<◌, ◌≤◌, length, take, drop, Result}
+use Rattle.std.specs.Prelude.{ℕ, ◌<◌, ◌≤◌, length, take, drop, Result}
 use Rattle.std.specs.List.{All}
 use Rattle.job_trait.specs.Meaning.{Meaning}
 use Rattle.job_trait.specs.Laws.{CoversSome}

@@ -1,5 +1,4 @@
-use Rattle.std.proofs.Common.{ap, arith, ◌∷◌, []}
-use Rattle.det_answers.specs.Outcome.{told}
+use Rattle.std.proofs.Common.{ap, arith}
 use Rattle.det_answers.proofs.Meeting.{meets-under}
 use Rattle.det_words.specs.Words.{command_seen}
 use Rattle.det_cli.specs.Outcome.{built}

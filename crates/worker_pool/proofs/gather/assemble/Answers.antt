@@ -1,4 +1,4 @@
-use Rattle.std.proofs.Common.{rules, ◌≡◌, ◌*◌, min, length, sym, refl, subst, ◌∙◌, arith, length-set}
+use Rattle.std.proofs.Common.{rules, sym, refl, subst, ◌∙◌, arith, length-set}
 use Rattle.atomic_table.proofs.Lists.{set_else}
 use Rattle.worker_pool.specs.IsPass.{passed_of}
 use Rattle.worker_pool.specs.Sums.{Sums}

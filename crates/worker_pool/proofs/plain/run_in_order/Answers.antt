@@ -1,7 +1,7 @@
 use Rattle.std.proofs.Common.{rules, refl, arith}
 use Rattle.worker_pool.specs.declared.task.Task.{Task}
-use Rattle.worker_pool.proofs.Running.{goes_on, stops_there, all_run, pass_begins}
-use Rattle.worker_pool.proofs.Sound.{pass_holds, fault_inside, next_holds}
+use Rattle.worker_pool.proofs.Running.{goes_on, all_run, pass_begins}
+use Rattle.worker_pool.proofs.Sound.{pass_holds, next_holds}
 use Rattle.worker_pool.proofs.plain.run_in_order.Goals as goal
 
 pub run-init : goal.run-init

@@ -1,4 +1,4 @@
-use Rattle.std.proofs.Common.{rules, ◌≡◌, ◌-◌, ◌*◌, ◌<◌, ◌≤◌, length, min, refl, sym, subst, arith}
+use Rattle.std.proofs.Common.{rules, ◌-◌, ◌*◌, refl, sym, subst, arith}
 use Rattle.worker_pool.specs.IsPass.{passed_of}
 use Rattle.worker_pool.specs.Sums.{Sums}
 use Rattle.worker_pool.specs.Tasks.{block_in}

@@ -1,4 +1,4 @@
-use Rattle.std.proofs.Common.{◌≡◌, ◌-◌, ◌*◌, ◌≤◌, length, min}
+use Rattle.std.proofs.Common.{◌≡◌, ◌-◌, ◌*◌, ◌≤◌}
 use Rattle.worker_pool.specs.IsPass.{passed_of}
 use Rattle.worker_pool.specs.Sums.{Sums}
 use Rattle.worker_pool.specs.Tasks.{block_in}
