@@ -19,8 +19,9 @@ from typing import Callable, Iterator, Optional
 
 TOP = Path(__file__).resolve().parent.parent
 PROGRAM = TOP / "crates" / "det" / "out" / "det"
-BASELINE = TOP / "bench" / "baseline" / "main.rs"
+PLAIN = TOP / "bench"
 WORKERS = (1, 2, 4)
+CLIENT_WORKERS = (1, 4)
 ALL_WORKERS = ", ".join(map(str, WORKERS))
 NAMES = ("bank", "cloud", "guard", "cycles", "sim")
 SIM_NUMBER = 7
@@ -190,10 +191,11 @@ def digest_of(path: Path) -> str:
 class Bench:
     """The measurements, and what they found."""
 
-    def __init__(self, room: Path, times: int, baseline: Optional[Path]) -> None:
+    def __init__(self, room: Path, times: int, baseline: Optional[Path], client: Optional[Path]) -> None:
         self.room = room
         self.times = times
         self.baseline = baseline
+        self.client = client
         self.rows: list[Row] = []
         self.remarks: list[str] = []
         self.is_same = True
@@ -238,12 +240,26 @@ class Bench:
             first = first or seconds
             digests.append(digest_of(record))
         self.compare(f"records of {name} by {ALL_WORKERS} workers", digests)
+        plain = recording.baseline_words(stimulus)
+        if self.client:
+            self.same_interfaces(name, [str(self.client), *plain], first, digests[0])
         if self.baseline:
-            plain = [str(self.baseline), *recording.baseline_words(stimulus)]
-            self.add((f"plain Rust, {name}", None), plain, "plain", first)
-            self.compare(f"records of {name} by det and by plain Rust", [digests[0], digest_of(self.room / "plain")])
+            self.plain_rust(name, [str(self.baseline), *plain], first, digests[0])
         show = [str(PROGRAM), "show", str(record)]
         self.add((f"show {name}", None), show, "text", first, lambda _: size(record))
+
+    def same_interfaces(self, name: str, words: list[str], first: float, digest: str) -> None:
+        """The same recording by the plain program that offers the interfaces of the crates."""
+        what, digests = f"same interfaces in plain Rust, {name}", [digest]
+        for workers in CLIENT_WORKERS:
+            self.add((what, workers), [*words, str(workers)], "plain", first)
+            digests.append(digest_of(self.room / "plain"))
+        self.compare(f"records of {name} by det and by the same interfaces in plain Rust", digests)
+
+    def plain_rust(self, name: str, words: list[str], first: float, digest: str) -> None:
+        """The same recording by the least plain program."""
+        self.add((f"plain Rust, {name}", None), words, "plain", first)
+        self.compare(f"records of {name} by det and by plain Rust", [digest, digest_of(self.room / "plain")])
 
     def sim(self) -> None:
         """The simulated run by each number of workers, and the time of its digest alone."""
@@ -273,12 +289,12 @@ def build_program() -> None:
         raise Failure("bin/det doesn't run")
 
 
-def build_baseline(room: Path) -> Optional[Path]:
-    """The plain Rust program, where there is a compiler for it."""
-    program = room / "baseline"
-    words = ["rustc", "-O", "--edition", "2021", "-o", str(program), str(BASELINE)]
+def build_plain(name: str, room: Path) -> Optional[Path]:
+    """One of the plain Rust programs, where there is a compiler for it."""
+    program = room / name
+    words = ["rustc", "-O", "--edition", "2021", "-o", str(program), str(PLAIN / name / "main.rs")]
     if not shutil.which("rustc") or subprocess.run(words).returncode != 0:
-        print("plain Rust is left out: rustc doesn't build it", file=sys.stderr)
+        print(f"{name} in plain Rust is left out: rustc doesn't build it", file=sys.stderr)
         return None
     return program
 
@@ -293,7 +309,7 @@ def print_table(rows: list[Row]) -> None:
 def measure(room: Path, is_quick: bool, only: Optional[str]) -> Bench:
     build_program()
     adopt_orphans()
-    bench = Bench(room, 1 if is_quick else 3, build_baseline(room))
+    bench = Bench(room, 1 if is_quick else 3, build_plain("baseline", room), build_plain("client", room))
     for recording in recordings(is_quick):
         if only in (None, recording.name):
             bench.record(recording)

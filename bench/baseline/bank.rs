@@ -1,7 +1,8 @@
 //! The filter bank: levels that follow the newest samples.
 
-use crate::jobs::{put, Cycle, Job, Refusal};
-use crate::profile::Profile;
+use crate::jobs::{Cycle, Job, Refusal};
+use crate::shared::profile::Profile;
+use crate::shared::spelling::put;
 
 pub struct Bank {
     shift: u32,

@@ -1,9 +1,10 @@
 //! The cloud: particles that wander and are drawn to the one nearest to the target.
 
-use crate::jobs::{put, Cycle, Job, Refusal};
-use crate::profile::Profile;
-use crate::words::{Streams, Words};
-use crate::MOST_VALUE;
+use crate::jobs::{Cycle, Job, Refusal};
+use crate::shared::profile::Profile;
+use crate::shared::random_words::{Streams, Words};
+use crate::shared::spelling::put;
+use crate::shared::MOST_VALUE;
 
 #[derive(Clone, Copy, Default)]
 struct Particle {

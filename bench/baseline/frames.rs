@@ -1,32 +1,8 @@
 //! The frames of a record, format 2.
 
-use crate::jobs::{put, Cycle, Job, Refusal};
-use crate::profile::{Input, Profile, Sample};
-
-pub fn put_time(time: Option<u64>, bytes: &mut Vec<u8>) {
-    bytes.push(u8::from(time.is_some()));
-    if let Some(time) = time {
-        put(time.to_be_bytes(), bytes);
-    }
-}
-
-fn put_header<J: Job>(profile: &Profile, bytes: &mut Vec<u8>) {
-    bytes.extend_from_slice(b"DETREC\x00\x02");
-    put(J::NUMBER.to_be_bytes(), bytes);
-    put(profile.seed.to_be_bytes(), bytes);
-    put(profile.cycle_time.to_be_bytes(), bytes);
-    put((profile.params.len() as u16).to_be_bytes(), bytes);
-    for &param in &profile.params {
-        put(param.to_be_bytes(), bytes);
-    }
-    put((profile.events.len() as u16).to_be_bytes(), bytes);
-    for event in &profile.events {
-        put(event.capacity.to_be_bytes(), bytes);
-        bytes.push(event.name.len() as u8);
-        bytes.extend_from_slice(event.name.as_bytes());
-        bytes.push(u8::from(event.is_fresh));
-    }
-}
+use crate::jobs::{Cycle, Job, Refusal};
+use crate::shared::profile::{Input, Profile, Sample};
+use crate::shared::spelling::{put, put_header, put_input};
 
 /// Appends the elements, each with its length before it and, in a run, its draws behind it.
 fn put_elements<J: Job>(job: &J, is_run: bool, bytes: &mut Vec<u8>) {
@@ -84,7 +60,7 @@ impl<'a, J: Job> Recorder<'a, J> {
     /// The header and the frames before the first cycle.
     pub fn beginning(&mut self) -> &[u8] {
         self.frame.clear();
-        put_header::<J>(self.profile, &mut self.frame);
+        put_header(J::NUMBER, self.profile, &mut self.frame);
         self.frame.extend_from_slice(&[1, 2, 3]);
         put_elements(&self.job, false, &mut self.frame);
         &self.frame
@@ -105,12 +81,7 @@ impl<'a, J: Job> Recorder<'a, J> {
         let outcome = self.job.run(&cycle, &mut self.output);
         self.frame.clear();
         self.frame.push(4);
-        put_time(input.time, &mut self.frame);
-        put((input.samples.len() as u32).to_be_bytes(), &mut self.frame);
-        for sample in &input.samples {
-            put(sample.event.to_be_bytes(), &mut self.frame);
-            put(sample.value.to_be_bytes(), &mut self.frame);
-        }
+        put_input(input, &mut self.frame);
         match outcome {
             Ok(()) => {
                 self.frame.push(0);

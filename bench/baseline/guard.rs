@@ -1,8 +1,8 @@
 //! The guard: channels that hold their last good sample.
 
-use crate::frames::put_time;
-use crate::jobs::{put, Cycle, Job, Refusal};
-use crate::profile::Profile;
+use crate::jobs::{Cycle, Job, Refusal};
+use crate::shared::profile::Profile;
+use crate::shared::spelling::{put, put_time};
 
 #[derive(Clone, Copy, Default)]
 struct Held {

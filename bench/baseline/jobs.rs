@@ -22,7 +22,3 @@ pub trait Job {
     /// Runs a cycle and appends its output. A refused cycle changes nothing.
     fn run(&mut self, cycle: &Cycle, output: &mut Vec<u8>) -> Result<(), Refusal>;
 }
-
-pub fn put<const N: usize>(part: [u8; N], bytes: &mut Vec<u8>) {
-    bytes.extend_from_slice(&part);
-}

@@ -9,28 +9,21 @@ mod cloud;
 mod frames;
 mod guard;
 mod jobs;
-mod profile;
-mod stimulus;
-mod words;
+#[path = "../shared/mod.rs"]
+mod shared;
 
 use bank::Bank;
 use cloud::Cloud;
 use frames::Recorder;
 use guard::Guard;
 use jobs::Job;
-use profile::{parse_event, parse_list, Input, Profile};
+use shared::profile::{Input, Profile};
+use shared::program::{standard_output, status, Failure};
+use shared::stimulus::{Place, Stimulus};
 use std::env;
-use std::error::Error;
 use std::fs::File;
 use std::io::{self, BufReader, BufWriter, Write};
-use std::os::fd::AsFd;
 use std::process::ExitCode;
-use stimulus::{Place, Stimulus};
-
-/// The greatest value of a sample, of a level and of a coordinate; its negative is the least.
-pub const MOST_VALUE: i64 = 1_000_000_000_000;
-
-pub type Failure = Box<dyn Error>;
 
 /// Records a stimulus. Answers the number of its bad line, where it has one.
 fn record<J: Job>(
@@ -42,10 +35,7 @@ fn record<J: Job>(
     let mut recorder = Recorder::new(profile, job);
     out.write_all(recorder.beginning())?;
     let mut stimulus = Stimulus::open(BufReader::new(stimulus), profile.events.len())?;
-    let mut input = Input {
-        time: None,
-        samples: Vec::new(),
-    };
+    let mut input = Input::default();
     while stimulus.next_block(&mut input)? {
         out.write_all(recorder.run_frame(&input))?;
     }
@@ -60,15 +50,9 @@ fn run(words: &[String]) -> Result<Option<u64>, Failure> {
     let [job, cycle_time, params, events, seed, stimulus] = words else {
         return Err("baseline JOB CYCLE_TIME PARAMS EVENTS SEED STIMULUS".into());
     };
-    let profile = Profile {
-        cycle_time: cycle_time.parse()?,
-        seed: seed.parse()?,
-        params: parse_list(params, |param| Ok(param.parse()?))?,
-        events: parse_list(events, parse_event)?,
-    };
+    let profile = Profile::of_words(cycle_time, params, events, seed)?;
     let stimulus = File::open(stimulus)?;
-    // A file, since standard output itself would be written line by line.
-    let mut out = BufWriter::new(File::from(io::stdout().as_fd().try_clone_to_owned()?));
+    let mut out = BufWriter::new(standard_output()?);
     let bad_line = match job.as_str() {
         "bank" => record(&profile, Bank::new(&profile), stimulus, &mut out)?,
         "cloud" => record(&profile, Cloud::new(&profile), stimulus, &mut out)?,
@@ -81,15 +65,5 @@ fn run(words: &[String]) -> Result<Option<u64>, Failure> {
 
 fn main() -> ExitCode {
     let words: Vec<String> = env::args().skip(1).collect();
-    match run(&words) {
-        Ok(None) => ExitCode::SUCCESS,
-        Ok(Some(line)) => {
-            eprintln!("bad stimulus: line {line}");
-            ExitCode::from(4)
-        }
-        Err(failure) => {
-            eprintln!("{failure}");
-            ExitCode::from(1)
-        }
-    }
+    status(run(&words))
 }

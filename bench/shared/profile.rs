@@ -1,6 +1,6 @@
 //! What a run is given.
 
-use crate::Failure;
+use super::program::Failure;
 
 pub struct Event {
     pub name: String,
@@ -15,6 +15,23 @@ pub struct Profile {
     pub events: Vec<Event>,
 }
 
+impl Profile {
+    /// The profile that these words spell. Its values are taken as good.
+    pub fn of_words(
+        cycle_time: &str,
+        params: &str,
+        events: &str,
+        seed: &str,
+    ) -> Result<Profile, Failure> {
+        Ok(Profile {
+            cycle_time: cycle_time.parse()?,
+            seed: seed.parse()?,
+            params: parse_list(params, |param| Ok(param.parse()?))?,
+            events: parse_list(events, parse_event)?,
+        })
+    }
+}
+
 #[derive(Clone, Copy)]
 pub struct Sample {
     pub event: u16,
@@ -22,12 +39,13 @@ pub struct Sample {
 }
 
 /// What one cycle is given: its time and the samples that arrive in it.
+#[derive(Default)]
 pub struct Input {
     pub time: Option<u64>,
     pub samples: Vec<Sample>,
 }
 
-pub fn parse_event(text: &str) -> Result<Event, Failure> {
+fn parse_event(text: &str) -> Result<Event, Failure> {
     let parts: Vec<&str> = text.split(':').collect();
     let [name, capacity, policy] = parts[..] else {
         return Err(format!("no event: {text}").into());
@@ -40,7 +58,7 @@ pub fn parse_event(text: &str) -> Result<Event, Failure> {
 }
 
 /// The parts of a list that commas part, or none for `-`.
-pub fn parse_list<T>(
+fn parse_list<T>(
     text: &str,
     parse: impl Fn(&str) -> Result<T, Failure>,
 ) -> Result<Vec<T>, Failure> {

@@ -1,7 +1,7 @@
 //! The reader of a stimulus, line by line.
 
-use crate::profile::{Input, Sample};
-use crate::MOST_VALUE;
+use super::profile::{Input, Sample};
+use super::MOST_VALUE;
 use std::io::{self, BufRead, Read};
 
 const MOST_CYCLES: u32 = 1_000_000;

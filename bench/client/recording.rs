@@ -1,0 +1,85 @@
+//! A stimulus, recorded.
+
+use crate::encode::encode_frame;
+use crate::engine::Engine;
+use crate::frames::Frame;
+use crate::job::Job;
+use crate::probes::{all_probes, Probe};
+use crate::shared::profile::{Input, Profile};
+use crate::shared::program::Failure;
+use crate::shared::spelling::put_header;
+use crate::shared::stimulus::{Place, Stimulus};
+use std::fs::File;
+use std::io::{self, BufReader, Write};
+
+/// The bytes of a stimulus that are read at a time.
+const PIECE: usize = 4_096;
+
+/// An engine, and where its frames go.
+struct Recording<J: Job, W> {
+    engine: Engine<J>,
+    workers: usize,
+    out: W,
+    /// The frame that is written.
+    bytes: Vec<u8>,
+    probes: Vec<Box<dyn Probe>>,
+}
+
+impl<J: Job, W: Write> Recording<J, W> {
+    /// Writes the header and the frames before the first cycle.
+    fn begin(&mut self, profile: &Profile) -> io::Result<()> {
+        put_header(J::NUMBER, profile, &mut self.bytes);
+        let init = Frame::Init(self.engine.shown());
+        for frame in [Frame::Register, Frame::Discover, init] {
+            encode_frame(&frame, &mut self.bytes);
+        }
+        self.out.write_all(&self.bytes)
+    }
+
+    /// Writes a frame, and then shows it to the probes where it is a run.
+    fn write(&mut self, frame: &Frame) -> io::Result<()> {
+        self.bytes.clear();
+        encode_frame(frame, &mut self.bytes);
+        self.out.write_all(&self.bytes)?;
+        if let Frame::Run(run) = frame {
+            self.probes.iter_mut().for_each(|probe| probe.see(run));
+        }
+        Ok(())
+    }
+
+    /// Runs the next cycle, and writes its frame.
+    fn run(&mut self, input: Input) -> io::Result<()> {
+        let run = self.engine.cycle(input, self.workers);
+        self.write(&Frame::Run(run))
+    }
+}
+
+/// Records a stimulus. Answers the number of its bad line, where it has one.
+pub fn record<J: Job>(
+    profile: &Profile,
+    workers: usize,
+    stimulus: File,
+    out: impl Write,
+) -> Result<Option<u64>, Failure> {
+    let events = profile.events.len();
+    let job = J::make(&profile.params, events)?;
+    let mut recording = Recording {
+        engine: Engine::start(job, profile),
+        workers,
+        out,
+        bytes: Vec::new(),
+        probes: all_probes(),
+    };
+    recording.begin(profile)?;
+    let source = BufReader::with_capacity(PIECE, stimulus);
+    let mut stimulus = Stimulus::open(source, events)?;
+    let mut input = Input::default();
+    while stimulus.next_block(&mut input)? {
+        recording.run(std::mem::take(&mut input))?;
+    }
+    if let Place::BadLine(line) = stimulus.place {
+        return Ok(Some(line));
+    }
+    recording.write(&Frame::Terminate)?;
+    Ok(None)
+}
