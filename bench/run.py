@@ -23,7 +23,7 @@ PLAIN = TOP / "bench"
 WORKERS = (1, 2, 4)
 CLIENT_WORKERS = (1, 4)
 ALL_WORKERS = ", ".join(map(str, WORKERS))
-NAMES = ("bank", "cloud", "guard", "cycles", "sim")
+NAMES = ("bank", "cloud", "large", "guard", "cycles", "sim")
 SIM_NUMBER = 7
 WORD = (1 << 64) - 1
 
@@ -94,16 +94,16 @@ def recordings(is_quick: bool) -> list[Recording]:
     def spiky(cycle: int) -> int:
         return 5_000 if cycle % 5 == 3 else wave(cycle)
 
+    def cloud(name: str, particles: int, cycles: int) -> Recording:
+        """A cloud over the first cycles of the stimulus that `sim` makes, with its seed."""
+        params, events = [particles, 1_000, 50, 4_000_000_000_000], ["x", "y", "hold"]
+        return Recording(name, "cloud", params, events, made_lines(SIM_NUMBER, cycles), seed=SIM_NUMBER)
+
     return [
         Recording("bank", "bank", [65_536, 2], ["x"], sampled_lines(few, wave)),
-        Recording(
-            "cloud",
-            "cloud",
-            [10_000, 1_000, 50, 4_000_000_000_000],
-            ["x", "y", "hold"],
-            made_lines(SIM_NUMBER, some),
-            seed=SIM_NUMBER,
-        ),
+        cloud("cloud", 10_000, some),
+        # passes so long that starting threads for them counts for less
+        cloud("large", 65_536, 2 * few),
         # every fifth sample is out of range, so that all channels are corrected in the cycle after it
         Recording("guard", "guard", [65_536, -1_000, 1_000, 3, 65_536], ["x"], sampled_lines(few, spiky)),
         Recording("cycles", "bank", [4, 2], ["x"], sampled_lines(many, wave)),
