@@ -1,7 +1,7 @@
 //! Whole runs of the program over shelves and sinks in memory: worked examples with exact answers.
 //!
-//! The library runs the program and holds the records and texts of the examples. The tests of this crate are those of the
-//! records that it writes; other crates have those of texts and of failing edges.
+//! The library runs the program and holds the records and texts of the examples. It has no tests itself: `rows_recorded` has
+//! those of records, `rows_shown` those of texts and words, `rows_edges` those of failing edges.
 #![tactic(auto)]
 
 mod edges;
@@ -17,10 +17,3 @@ pub use ran::Ran;
 pub use records::{changed, empty_run, empty_run_1, three_cycles, two_cycles, two_cycles_1};
 pub use running::{NoMemory, record, run, run_with};
 pub use stimuli::{guard_stimulus, two_cycles_stimulus, user_stimulus};
-
-#[cfg(test)]
-mod banks;
-#[cfg(test)]
-mod clouds;
-#[cfg(test)]
-mod guards;

@@ -1,5 +1,5 @@
 //! Records of banks.
-use crate::{
+use rows::{
     Edges, Ran, bank_manifest, empty_run, run, three_cycles, two_cycles, two_cycles_stimulus,
 };
 use std::alloc::Global;

@@ -1,5 +1,5 @@
 //! Records of clouds.
-use crate::{Edges, Ran, run};
+use rows::{Edges, Ran, run};
 use std::alloc::Global;
 use std::test::*;
 use std::thread::Threads;

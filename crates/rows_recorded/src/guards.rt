@@ -1,8 +1,8 @@
 //! Records of guards, and cycles that they refuse.
-use crate::{
+use probes::Probe;
+use rows::{
     Edges, Ran, guard_manifest, guard_stimulus, record, run_with, user_manifest, user_stimulus,
 };
-use probes::Probe;
 use std::alloc::Global;
 use std::test::*;
 use std::thread::Threads;
