@@ -56,10 +56,6 @@ pub(crate) fn element_bytes(bank: &Bank, channel: &Channel) -> Bytes64
     let mut bytes = [0; 10];
     bytes[..2].copy_from_slice(&channel.event.to_be_bytes());
     bytes[2..].copy_from_slice(&channel.level.to_be_bytes());
-    let shown = if bank.events >= 2 {
-        &bytes[..]
-    } else {
-        &bytes[2..]
-    };
-    Bytes64::of(shown)
+    let length = if bank.events >= 2 { 10 } else { 8 };
+    Bytes64::of(&bytes[10 - length..])
 }
