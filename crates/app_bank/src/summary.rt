@@ -69,7 +69,7 @@ pub(crate) fn output(alloc: Global, part: Option<Summary>) -> Result<Bytes, OutO
             greatest: 0,
         },
     };
-    let mut bytes = Bytes::new(alloc);
+    let mut bytes = Bytes::from_vec(Vec::with_capacity(alloc, 24)?);
     bytes.extend_from_slice(&all.sum.to_be_bytes())?;
     bytes.extend_from_slice(&all.least.to_be_bytes())?;
     bytes.extend_from_slice(&all.greatest.to_be_bytes())?;

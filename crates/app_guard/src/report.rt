@@ -42,7 +42,7 @@ pub(crate) fn output(
 ) -> Result<Bytes, OutOfMemory>
     ensures { IfOk result (λ bytes. bytes ≡ output total corrections.now next) }
 {
-    let mut bytes = Bytes::new(alloc);
+    let mut bytes = Bytes::from_vec(Vec::with_capacity(alloc, 21 + 4 * corrections.len())?);
     bytes.extend_from_slice(&total.to_be_bytes())?;
     bytes.extend_from_slice(&(corrections.len() as u32).to_be_bytes())?;
     append_numbers(&mut bytes, corrections.as_slice())?;

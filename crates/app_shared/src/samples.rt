@@ -28,7 +28,7 @@ pub fn newest_samples(alloc: Global, cache: &EventCache) -> Result<NewestSamples
     ensures samples { IfOk result (λ samples. samples ≡ all_newest (windows cache.now)) }
     ensures limits { (events : ℕ) → length (windows cache.now) ≡ events → IfOk result (AreSamples events) }
 {
-    let mut samples = NewestSamples::new(alloc);
+    let mut samples = NewestSamples::from_vec(Vec::with_capacity(alloc, cache.events() as usize)?);
     for event in 0..cache.events() {
         samples.push(cache.newest(event))?;
     }
