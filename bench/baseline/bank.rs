@@ -1,8 +1,8 @@
 //! The filter bank: levels that follow the newest samples.
 
+use crate::common::profile::Profile;
+use crate::common::spelling::put;
 use crate::jobs::{Cycle, Job, Refusal};
-use crate::shared::profile::Profile;
-use crate::shared::spelling::put;
 
 pub struct Bank {
     shift: u32,

@@ -1,10 +1,10 @@
 //! The cloud: particles that wander and are drawn to the one nearest to the target.
 
+use crate::common::profile::Profile;
+use crate::common::random_words::{Streams, Words};
+use crate::common::spelling::put;
+use crate::common::MOST_VALUE;
 use crate::jobs::{Cycle, Job, Refusal};
-use crate::shared::profile::Profile;
-use crate::shared::random_words::{Streams, Words};
-use crate::shared::spelling::put;
-use crate::shared::MOST_VALUE;
 
 #[derive(Clone, Copy, Default)]
 struct Particle {

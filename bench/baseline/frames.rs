@@ -1,8 +1,8 @@
 //! The frames of a record, format 2.
 
+use crate::common::profile::{Input, Profile, Sample};
+use crate::common::spelling::{put, put_header, put_input};
 use crate::jobs::{Cycle, Job, Refusal};
-use crate::shared::profile::{Input, Profile, Sample};
-use crate::shared::spelling::{put, put_header, put_input};
 
 /// Appends the elements, each with its length before it and, in a run, its draws behind it.
 fn put_elements<J: Job>(job: &J, is_run: bool, bytes: &mut Vec<u8>) {

@@ -1,8 +1,8 @@
 //! The guard: channels that hold their last good sample.
 
+use crate::common::profile::Profile;
+use crate::common::spelling::{put, put_time};
 use crate::jobs::{Cycle, Job, Refusal};
-use crate::shared::profile::Profile;
-use crate::shared::spelling::{put, put_time};
 
 #[derive(Clone, Copy, Default)]
 struct Held {

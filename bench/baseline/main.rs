@@ -6,20 +6,20 @@
 
 mod bank;
 mod cloud;
+#[path = "../common/mod.rs"]
+mod common;
 mod frames;
 mod guard;
 mod jobs;
-#[path = "../shared/mod.rs"]
-mod shared;
 
 use bank::Bank;
 use cloud::Cloud;
+use common::profile::{Input, Profile};
+use common::program::{standard_output, status, Failure};
+use common::stimulus::{Place, Stimulus};
 use frames::Recorder;
 use guard::Guard;
 use jobs::Job;
-use shared::profile::{Input, Profile};
-use shared::program::{standard_output, status, Failure};
-use shared::stimulus::{Place, Stimulus};
 use std::env;
 use std::fs::File;
 use std::io::{self, BufReader, BufWriter, Write};

@@ -2,13 +2,13 @@
 
 use crate::cache::EventCache;
 use crate::client::Client;
+use crate::common::spelling::put;
+use crate::common::MOST_VALUE;
 use crate::frames::Bytes64;
 use crate::job::{
     no_more, towards, whole_param, BadParam, Code, Concluded, Job, Started, Worked, WorkedBy,
 };
 use crate::random::ElementRandom;
-use crate::shared::spelling::put;
-use crate::shared::MOST_VALUE;
 
 pub struct Cloud {
     particles: u32,

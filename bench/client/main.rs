@@ -7,6 +7,8 @@ mod bank;
 mod cache;
 mod client;
 mod cloud;
+#[path = "../common/mod.rs"]
+mod common;
 mod encode;
 mod engine;
 mod frames;
@@ -16,15 +18,13 @@ mod pool;
 mod probes;
 mod random;
 mod recording;
-#[path = "../shared/mod.rs"]
-mod shared;
 
 use bank::Bank;
 use cloud::Cloud;
+use common::profile::Profile;
+use common::program::{standard_output, status, Failure};
 use guard::Guard;
 use recording::record;
-use shared::profile::Profile;
-use shared::program::{standard_output, status, Failure};
 use std::env;
 use std::fs::File;
 use std::process::ExitCode;

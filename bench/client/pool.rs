@@ -1,8 +1,8 @@
 //! One pass over the elements, on one thread or on several.
 
+use crate::common::random_words::Streams;
 use crate::job::Job;
 use crate::random::ElementRandom;
-use crate::shared::random_words::Streams;
 use std::ops::Range;
 use std::sync::atomic::{AtomicUsize, Ordering};
 use std::thread;

@@ -1,14 +1,14 @@
 //! A stimulus, recorded.
 
+use crate::common::profile::{Input, Profile};
+use crate::common::program::Failure;
+use crate::common::spelling::put_header;
+use crate::common::stimulus::{Place, Stimulus};
 use crate::encode::encode_frame;
 use crate::engine::Engine;
 use crate::frames::Frame;
 use crate::job::Job;
 use crate::probes::{all_probes, Probe};
-use crate::shared::profile::{Input, Profile};
-use crate::shared::program::Failure;
-use crate::shared::spelling::put_header;
-use crate::shared::stimulus::{Place, Stimulus};
 use std::fs::File;
 use std::io::{self, BufReader, Write};
 
