@@ -4,7 +4,7 @@ ghost use Rattle.std.specs.Prelude.{◌≡◌, ◌≤◌, length, IfOk};
 ghost use Rattle.event_cache.specs.Rings.{windows};
 
 use anyhow::{Context, Result, bail};
-use det_base::{Events, OutOfMemory, Params};
+use det_values::{Events, OutOfMemory, Params};
 use det_client::{Client, Next};
 use event_cache::EventCache;
 use job_trait::{Job, Started};

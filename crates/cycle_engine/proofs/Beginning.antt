@@ -1,7 +1,7 @@
 -- How an engine begins: its client comes to Init, and its job starts.
 use Rattle.std.proofs.Common.{◌≡◌, ℕ, ℤ, ◌+◌, ◌^◌, ◌<◌, ◌≤◌, List, length, sym, ap, ◌∙◌, arith}
 use Rattle.std.specs.Prelude.{None, Some, Option, [], if◌then◌else◌}
-use Rattle.det_base.specs.Values.{ProfileValue, EventSpecValue}
+use Rattle.det_values.specs.Values.{ProfileValue, EventSpecValue}
 use Rattle.event_cache.specs.Rings.{Rings}
 use Rattle.job_trait.specs.Meaning.{Meaning, Begun}
 use Rattle.cycle_engine.specs.Frames.{job_of, begun_state, state_of, state_behind}

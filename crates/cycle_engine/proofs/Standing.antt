@@ -1,14 +1,14 @@
 -- How the run of a profile goes on by one more input, and an engine with it. What stands above an engine builds on these.
 use Rattle.std.proofs.Common.{◌≡◌, ℕ, suc, ℤ, ◌+◌, Option, Result, List, [], ◌∷◌, ◌++◌, length, refl, sym, ap, ◌∙◌, subst, map, append_assoc, append-nil, length-append, true, false}
 use Rattle.std.proofs.lemmas.List.{map-append}
-use Rattle.det_base.specs.Values.{ProfileValue, SampleValue, EventSpecValue, RefusedAtValue}
-use Rattle.det_base.specs.Frames.{outcome_in_format}
-use Rattle.det_base.specs.declared.format.Format.{Format}
-use Rattle.det_base.specs.declared.frames.CycleInput.{CycleInput}
-use Rattle.det_base.specs.declared.frames.Frame.{Frame}
-use Rattle.det_base.specs.declared.frames.Frame.TheVariants.{Register, Discover, Init, Run, Terminate}
-use Rattle.det_base.specs.declared.frames.Outcome.{Outcome}
-use Rattle.det_base.specs.declared.frames.RunFrame.{RunFrame}
+use Rattle.det_values.specs.Values.{ProfileValue, SampleValue, EventSpecValue, RefusedAtValue}
+use Rattle.det_values.specs.Frames.{outcome_in_format}
+use Rattle.det_values.specs.declared.format.Format.{Format}
+use Rattle.det_values.specs.declared.frames.CycleInput.{CycleInput}
+use Rattle.det_values.specs.declared.frames.Frame.{Frame}
+use Rattle.det_values.specs.declared.frames.Frame.TheVariants.{Register, Discover, Init, Run, Terminate}
+use Rattle.det_values.specs.declared.frames.Outcome.{Outcome}
+use Rattle.det_values.specs.declared.frames.RunFrame.{RunFrame}
 use Rattle.det_client.specs.State.{next_time}
 use Rattle.event_cache.specs.Windows.{HasSeen, rings_from}
 use Rattle.event_cache.proofs.Rounds.{seen_windows}

@@ -1,10 +1,10 @@
 -- How the answers of a cycle's phases follow from the definition of a cycle.
 use Rattle.std.specs.Prelude.{◌≡◌, ℕ, Result, Ok, Err, IsErr}
-use Rattle.det_base.specs.Values.{RefusedAtValue}
-use Rattle.det_base.specs.declared.faults.OutOfMemory.{OutOfMemory as NoMemory}
-use Rattle.det_base.specs.declared.frames.Outcome.{Outcome}
-use Rattle.det_base.specs.declared.frames.Outcome.TheVariants as outcomes
-use Rattle.det_base.specs.declared.refused_at.Phase.{Phase}
+use Rattle.det_values.specs.Values.{RefusedAtValue}
+use Rattle.det_values.specs.declared.out_of_memory.OutOfMemory.{OutOfMemory as NoMemory}
+use Rattle.det_values.specs.declared.frames.Outcome.{Outcome}
+use Rattle.det_values.specs.declared.frames.Outcome.TheVariants as outcomes
+use Rattle.det_values.specs.declared.refused_at.Phase.{Phase}
 use Rattle.job_trait.specs.declared.answers.JobFault.{JobFault}
 use Rattle.job_trait.specs.declared.answers.JobFault.TheVariants as job
 use Rattle.job_trait.specs.Pass.{Passed}

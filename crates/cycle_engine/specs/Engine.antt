@@ -1,12 +1,12 @@
 -- What an engine keeps, which run it stands in, and what one cycle makes of it.
 use Rattle.std.specs.Prelude.{◌≡◌, ℕ, ◌+◌, List, [], ◌∷◌, ◌++◌, length, Option, None, Some, Result, Bool, true, false}
 use Rattle.std.specs.List.{All}
-use Rattle.det_base.specs.Limits.{IsCycleTime}
-use Rattle.det_base.specs.Values.{ProfileValue, SampleValue, EventSpecValue, RefusedAtValue}
-use Rattle.det_base.specs.Frames.{outcome_in_format}
-use Rattle.det_base.specs.declared.format.Format.{Format}
-use Rattle.det_base.specs.declared.frames.CycleInput.{CycleInput}
-use Rattle.det_base.specs.declared.frames.RunFrame.{RunFrame}
+use Rattle.det_values.specs.Limits.{IsCycleTime}
+use Rattle.det_values.specs.Values.{ProfileValue, SampleValue, EventSpecValue, RefusedAtValue}
+use Rattle.det_values.specs.Frames.{outcome_in_format}
+use Rattle.det_values.specs.declared.format.Format.{Format}
+use Rattle.det_values.specs.declared.frames.CycleInput.{CycleInput}
+use Rattle.det_values.specs.declared.frames.RunFrame.{RunFrame}
 use Rattle.det_client.specs.declared.activation.Activation.{Activation}
 use Rattle.det_client.specs.declared.activation.Activation.TheVariants.{RegisterServices, ServiceDiscovery, Init, Run, Terminate}
 use Rattle.det_client.specs.Life.{following}

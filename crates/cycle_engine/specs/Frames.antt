@@ -1,11 +1,11 @@
 -- The frames of a run: what a client of a profile does, given the inputs of its cycles. No worker stands here.
 use Rattle.std.specs.Prelude.{ℕ, ◌+◌, List, [], ◌∷◌, ◌++◌, length, map, Result, Bool, if◌then◌else◌}
-use Rattle.det_base.specs.Values.{ProfileValue, SampleValue, RefusedAtValue}
-use Rattle.det_base.specs.Frames.{outcome_in_format}
-use Rattle.det_base.specs.declared.frames.CycleInput.{CycleInput}
-use Rattle.det_base.specs.declared.frames.RunFrame.{RunFrame}
-use Rattle.det_base.specs.declared.frames.Frame.{Frame}
-use Rattle.det_base.specs.declared.frames.Frame.TheVariants.{Register, Discover, Init, Run, Terminate}
+use Rattle.det_values.specs.Values.{ProfileValue, SampleValue, RefusedAtValue}
+use Rattle.det_values.specs.Frames.{outcome_in_format}
+use Rattle.det_values.specs.declared.frames.CycleInput.{CycleInput}
+use Rattle.det_values.specs.declared.frames.RunFrame.{RunFrame}
+use Rattle.det_values.specs.declared.frames.Frame.{Frame}
+use Rattle.det_values.specs.declared.frames.Frame.TheVariants.{Register, Discover, Init, Run, Terminate}
 use Rattle.det_client.specs.State.{next_time}
 use Rattle.event_cache.specs.Windows.{windows_after}
 use Rattle.job_trait.specs.Meaning.{Meaning, Begun}

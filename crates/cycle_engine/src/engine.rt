@@ -1,10 +1,10 @@
 //! A job with all that it keeps between cycles.
 ghost use Rattle.std.specs.Prelude.{◌≡◌, ℕ, ◌+◌, ◌<◌, ◌≤◌, List, [], ◌∷◌, ◌++◌, length, map, IfOk, OnOk, OnErr, None, true, false};
 ghost use Rattle.std.specs.List.{All};
-ghost use Rattle.det_base.specs.Values.{ProfileValue, SampleValue, EventSpecValue};
-ghost use Rattle.det_base.specs.declared.frames.CycleInput.{CycleInput as Input};
-ghost use Rattle.det_base.specs.declared.frames.RunFrame.{RunFrame as Run};
-ghost use Rattle.det_base.specs.Frames.{outcome_in_format};
+ghost use Rattle.det_values.specs.Values.{ProfileValue, SampleValue, EventSpecValue};
+ghost use Rattle.det_values.specs.declared.frames.CycleInput.{CycleInput as Input};
+ghost use Rattle.det_values.specs.declared.frames.RunFrame.{RunFrame as Run};
+ghost use Rattle.det_values.specs.Frames.{outcome_in_format};
 ghost use Rattle.event_cache.specs.Rings.{windows};
 ghost use Rattle.event_cache.specs.Windows.{HasSeen, next_windows};
 ghost use Rattle.job_trait.specs.Cycle.{outcome_of, state_after};
@@ -12,10 +12,7 @@ ghost use Rattle.cycle_engine.specs.Frames.{frame_of, state_of};
 ghost use Rattle.cycle_engine.specs.Engine.{StandsFor, EngineState, IsAfter, next_cycle, next_frame};
 
 use crate::phases::run_phases;
-use det_base::{
-    Bytes64, Container, CycleInput, Elements, Format, Frame, OutOfMemory, Outcome, Profile,
-    RunFrame, Sample, as_format,
-};
+use det_values::{Bytes64, Container, CycleInput, Elements, Format, Frame, OutOfMemory, Outcome, Profile, RunFrame, Sample, as_format};
 use det_client::{Client, Next};
 use event_cache::EventCache;
 use job_trait::Job;

@@ -3,7 +3,7 @@ ghost use Rattle.std.specs.Prelude.{◌≡◌, ◌<◌};
 ghost use Rattle.worker_pool.specs.IsPass.{RefusedBelow};
 ghost use Rattle.cycle_engine.specs.Answers.{PoolEnds, JobEnds, FaultOutcome};
 
-use det_base::{OutOfMemory, Outcome, Phase, RefusedAt};
+use det_values::{OutOfMemory, Outcome, Phase, RefusedAt};
 use job_trait::JobFault;
 use worker_pool::PoolFault;
 

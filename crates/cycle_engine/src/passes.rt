@@ -6,7 +6,7 @@ ghost use Rattle.worker_pool.specs.IsPass.{passed_of};
 ghost use Rattle.cycle_engine.specs.Answers.{ArePasses};
 
 use crate::fault::{CycleFault, in_pool};
-use det_base::{Container, OutOfMemory};
+use det_values::{Container, OutOfMemory};
 use job_trait::Job;
 use std::alloc::Global;
 use std::thread::Threads;

@@ -8,7 +8,7 @@ ghost use Rattle.cycle_engine.specs.Answers.{IsCycle};
 
 use crate::fault::{CycleFault, in_conclude, in_prepare};
 use crate::passes::run_passes;
-use det_base::{Bytes, Container, DrawnElement, DrawnElements, OutOfMemory};
+use det_values::{Bytes, Container, DrawnElement, DrawnElements, OutOfMemory};
 use det_client::{Activation, Client};
 use event_cache::EventCache;
 use job_trait::Job;

@@ -1,7 +1,7 @@
 //! The program `det`: the real shelf, standard output and standard error, the shipped probes, and `top`.
 #![tactic(auto)]
 
-use det_base::{DirShelf, StdSink};
+use det_edges::{DirShelf, StdSink};
 use det_cli::{Status, top};
 use probes::{CountProbe, FirstRefusalProbe, GapProbe, Probe};
 use std::env;

@@ -1,14 +1,14 @@
 -- How a command's run meets the outcome of the words.
 use Rattle.std.proofs.Common.{◌≡◌, ℕ, List, ap, ◌∙◌, sym}
 use Rattle.std.specs.Prelude.{Option, None, option_and_then, Result, Ok, Err, OnOk, OnErr}
-use Rattle.det_base.specs.Shelf.{ShelfState}
+use Rattle.det_edges.specs.Shelf.{ShelfState}
 use Rattle.probes.specs.Reports.{ProbeLife}
-use Rattle.det_answers.specs.declared.answer.Answer.{Answer}
-use Rattle.det_answers.specs.declared.answer.Answer.TheVariants.{BadWords}
-use Rattle.det_answers.specs.Outcome.{Meets, Tells}
-use Rattle.det_answers.proofs.Meeting.{meets-refusal}
-use Rattle.det_words.specs.Words.{Command, command_of, command_told}
-use Rattle.det_words.specs.Told.{Told, told_by}
+use Rattle.cli_answers.specs.declared.answer.Answer.{Answer}
+use Rattle.cli_answers.specs.declared.answer.Answer.TheVariants.{BadWords}
+use Rattle.cli_answers.specs.Outcome.{Meets, Tells}
+use Rattle.cli_answers.proofs.Meeting.{meets-refusal}
+use Rattle.cli_words.specs.Words.{Command, command_of, command_told}
+use Rattle.cli_words.specs.Told.{Told, told_by}
 use Rattle.det_cli.specs.Outcome.{built, command_in, names_in, outcome_of}
 
 -- the words give the command that was told

@@ -1,13 +1,13 @@
 -- What the program gives: an answer and the bytes for `out`, by the words, the bytes under each name and the probes.
 use Rattle.std.specs.Prelude.{ℕ, Bool, true, false, List, [], Option, Some, None, option_and_then}
-use Rattle.det_answers.specs.declared.answer.Answer.TheVariants.{BadWords}
-use Rattle.det_answers.specs.Outcome.{Outcome, text_outcome, refusal}
-use Rattle.det_words.specs.Words.{Command, demo, «record», replay, check, compare, show, needs, sim, salvage, upgrade, vote, chain, help, version, command_of, names}
+use Rattle.cli_answers.specs.declared.answer.Answer.TheVariants.{BadWords}
+use Rattle.cli_answers.specs.Outcome.{Outcome, text_outcome, refusal}
+use Rattle.cli_words.specs.Words.{Command, demo, «record», replay, check, compare, show, needs, sim, salvage, upgrade, vote, chain, help, version, command_of, names}
 use Rattle.probes.specs.Reports.{ProbeLife}
-use Rattle.det_record.specs.Outcomes.{demo_outcome, record_outcome}
-use Rattle.det_needs.specs.Needs.{needs_outcome}
-use Rattle.det_show.specs.Show.{show_outcome}
-use Rattle.det_sim.specs.Sim.{sim_outcome}
+use Rattle.cmd_record.specs.Outcomes.{demo_outcome, record_outcome}
+use Rattle.cmd_needs.specs.Needs.{needs_outcome}
+use Rattle.cmd_show.specs.Show.{show_outcome}
+use Rattle.cmd_sim.specs.Sim.{sim_outcome}
 use Rattle.det_cli.specs.Texts.{usage_text, version_text}
 
 -- the command, where it is one of those that are built

@@ -8,5 +8,5 @@
 mod program;
 mod texts;
 
-pub use det_answers::{Answer, Status};
+pub use cli_answers::{Answer, Status};
 pub use program::top;

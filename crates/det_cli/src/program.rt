@@ -1,26 +1,26 @@
 //! The whole program.
 ghost use Rattle.std.specs.Prelude.{◌≡◌, ◌≤◌, ◌↔◌, ◌⊎◌, [], true, false, Some, None, OnErr, map};
 ghost use Rattle.std.specs.Vec.{vec_len};
-ghost use Rattle.det_base.specs.Count.{Rose};
-ghost use Rattle.det_base.specs.Sink.{Grew, GrewByPrefix};
-ghost use Rattle.det_base.specs.Shelf.{AsksPrefix};
-ghost use Rattle.det_answers.specs.Answers.{status_of, err_line};
-ghost use Rattle.det_answers.specs.Outcome.{Meets, text_outcome, Tells, told};
-ghost use Rattle.det_words.specs.Texts.{texts};
-ghost use Rattle.det_words.specs.Told.{told_of, told_by};
-ghost use Rattle.det_words.specs.Words.{command_seen};
-ghost use Rattle.det_words.specs.Ranges.{IsInRange};
+ghost use Rattle.det_edges.specs.Count.{Rose};
+ghost use Rattle.det_edges.specs.Sink.{Grew, GrewByPrefix};
+ghost use Rattle.det_edges.specs.Shelf.{AsksPrefix};
+ghost use Rattle.cli_answers.specs.Answers.{status_of, err_line};
+ghost use Rattle.cli_answers.specs.Outcome.{Meets, text_outcome, Tells, told};
+ghost use Rattle.cli_words.specs.Texts.{texts};
+ghost use Rattle.cli_words.specs.Told.{told_of, told_by};
+ghost use Rattle.cli_words.specs.Words.{command_seen};
+ghost use Rattle.cli_words.specs.Ranges.{IsInRange};
 ghost use Rattle.det_cli.specs.Outcome.{built, command_in, names_in, names_of, shows_runs, outcome_of, outcome};
 
 use crate::texts::{USAGE, VERSION};
-use det_answers::{Answer, Status};
-use det_base::{Shelf, Sink, write_all};
-use det_needs::needs;
-use det_record::{demo, record_stimulus};
-use det_show::show;
-use det_sim::sim;
-use det_words::laws::ranges;
-use det_words::{Command, Told, read_words};
+use cli_answers::{Answer, Status};
+use det_edges::{Shelf, Sink, write_all};
+use cmd_needs::needs;
+use cmd_record::{demo, record_stimulus};
+use cmd_show::show;
+use cmd_sim::sim;
+use cli_words::laws::ranges;
+use cli_words::{Command, Told, read_words};
 use probes::Probe;
 use std::alloc::Global;
 use std::thread::Threads;
@@ -30,7 +30,7 @@ use worker_pool::Gate;
 ///
 /// `record`, `demo` and `sim` run their cycles on real threads, each of which passes the gate. `show` and `sim` show the
 /// runs that they read or make to the probes, at most 1,024.
-#[tactic(auto, using(det_answers::proofs::Meeting::met))]
+#[tactic(auto, using(cli_answers::proofs::Meeting::met))]
 pub fn top<R: Threads + Sync, S: Shelf, K: Sink, E: Sink, G: Gate>(
     rt: &R,
     alloc: Global,

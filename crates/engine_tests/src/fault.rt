@@ -1,5 +1,5 @@
 //! Why there is no run.
-use det_base::OutOfMemory;
+use det_values::OutOfMemory;
 use std::alloc::AllocError;
 
 /// Why there is no run.

@@ -3,7 +3,7 @@ ghost use Rattle.std.specs.Prelude.{◌≡◌, ◌≤◌, ◌<◌, length, IfOk}
 ghost use Rattle.std.specs.List.{All};
 
 use crate::NoRun;
-use det_base::{CycleInput, Sample, Samples};
+use det_values::{CycleInput, Sample, Samples};
 use std::alloc::Global;
 
 /// A sample that arrives in a cycle, counted from 1.

@@ -2,7 +2,7 @@
 ghost use Rattle.std.specs.Prelude.{◌≡◌, ◌≤◌, ◌<◌, ◌^◌, length, IfOk};
 
 use crate::NoRun;
-use det_base::{EventName, EventSpec, Events, Format, Params, Policy, Profile};
+use det_values::{EventName, EventSpec, Events, Format, Params, Policy, Profile};
 use std::alloc::Global;
 
 fn params_of(alloc: Global, values: &[i64]) -> Result<Params, NoRun> {

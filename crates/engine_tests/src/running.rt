@@ -5,7 +5,7 @@ ghost use Rattle.cycle_engine.specs.Frames.{runs};
 
 use crate::{Arrival, NoRun, inputs_of};
 use cycle_engine::Engine;
-use det_base::{CycleInput, Elements, Profile, RunFrame};
+use det_values::{CycleInput, Elements, Profile, RunFrame};
 use job_trait::Job;
 use std::alloc::Global;
 use std::thread::Threads;

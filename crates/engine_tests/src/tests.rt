@@ -1,7 +1,7 @@
 //! The worked examples. Their long texts stand in functions without a clause, so that no proof reads them.
 use crate::{Arrival, profile_of, run, told, without_events};
-use apps::{Bank, Cloud, Guard};
-use det_base::{Format, Policy};
+use shipped_jobs::{Bank, Cloud, Guard};
+use det_values::{Format, Policy};
 use std::test::Fail;
 
 fn arrival(cycle: u32, event: u16, value: i64) -> Arrival {

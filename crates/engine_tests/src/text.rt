@@ -1,6 +1,6 @@
 //! Runs as short texts.
 use crate::Ran;
-use det_base::{Bytes64, DrawnElement, Outcome, Phase, RefusedAt};
+use det_values::{Bytes64, DrawnElement, Outcome, Phase, RefusedAt};
 use std::alloc::{AllocError, Global};
 
 /// An element as ` NUMBER:BYTES`, and `+DRAWS` where it drew.

@@ -4,12 +4,12 @@ use Rattle.std.proofs.lemmas.List.{take_all, drop_all, map_more, length-map, get
 use Rattle.std.proofs.lemmas.List.Edits.{map_over_more}
 use Rattle.std.specs.List.{All}
 use Rattle.std.proofs.lemmas.List.Elements.{All-nil, All-same, All-map, All-weaker, All-set, All-get_or, All-drop, All-push, All-append}
-use Rattle.det_base.specs.Limits.{IsSampleValue}
+use Rattle.det_values.specs.Limits.{IsSampleValue}
 use Rattle.std.proofs.lemmas.Bool.Decides.{eqb_tells}
 use Rattle.circular_buffer.specs.Buffer.{keep_last}
-use Rattle.det_base.specs.Values.{SampleValue, EventSpecValue}
-use Rattle.det_base.specs.declared.event.Policy.{Policy}
-use Rattle.det_base.specs.declared.event.Policy.TheVariants.{Last, Fresh}
+use Rattle.det_values.specs.Values.{SampleValue, EventSpecValue}
+use Rattle.det_values.specs.declared.event.Policy.{Policy}
+use Rattle.det_values.specs.declared.event.Policy.TheVariants.{Last, Fresh}
 use Rattle.event_cache.specs.Rings.{Rings, turned, joined, seen_next, windows, IsInLimits}
 use Rattle.event_cache.specs.Windows.{values_of, all_of, last_of, looked_at, window, windows_from, rings_from, HasSeen, AreWindows, staying, next_windows_from, next_windows, windows_after}
 use Rattle.event_cache.proofs.Keeping.{kept_in, kept_first, kept_none}

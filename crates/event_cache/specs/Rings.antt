@@ -2,9 +2,9 @@
 use Rattle.std.specs.Prelude.{ℕ, ℤ, List, [], ◌∷◌, ◌++◌, map}
 use Rattle.std.specs.List.{All}
 use Rattle.circular_buffer.specs.Buffer.{keep_last}
-use Rattle.det_base.specs.Limits.{IsSampleValue}
-use Rattle.det_base.specs.declared.event.Policy.{Policy}
-use Rattle.det_base.specs.declared.event.Policy.TheVariants.{Last, Fresh}
+use Rattle.det_values.specs.Limits.{IsSampleValue}
+use Rattle.det_values.specs.declared.event.Policy.{Policy}
+use Rattle.det_values.specs.declared.event.Policy.TheVariants.{Last, Fresh}
 
 -- the rings of one event: its window, and the values that arrived since the last turn
 pub record Rings : Type 0 where

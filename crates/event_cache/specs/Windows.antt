@@ -3,10 +3,10 @@
 use Rattle.std.specs.Prelude.{◌≡◌, ℕ, suc, ℤ, ◌==◌, List, [], ◌∷◌, ◌++◌, length, slice_index_or, if◌then◌else◌}
 use Rattle.std.specs.List.{All}
 use Rattle.circular_buffer.specs.Buffer.{keep_last}
-use Rattle.det_base.specs.Limits.{IsSampleValue}
-use Rattle.det_base.specs.Values.{SampleValue, EventSpecValue}
-use Rattle.det_base.specs.declared.event.Policy.{Policy}
-use Rattle.det_base.specs.declared.event.Policy.TheVariants.{Last, Fresh}
+use Rattle.det_values.specs.Limits.{IsSampleValue}
+use Rattle.det_values.specs.Values.{SampleValue, EventSpecValue}
+use Rattle.det_values.specs.declared.event.Policy.{Policy}
+use Rattle.det_values.specs.declared.event.Policy.TheVariants.{Last, Fresh}
 use Rattle.event_cache.specs.Rings.{Rings}
 
 -- the values of one event, in order

@@ -4,7 +4,7 @@ ghost use Rattle.std.specs.Prelude.{◌≡◌, ◌<◌, ◌≤◌, List, [], ◌
 ghost use Rattle.circular_buffer.specs.Buffer.{last_item};
 
 use crate::rings::EventRings;
-use det_base::{Events, OutOfMemory, Sample};
+use det_values::{Events, OutOfMemory, Sample};
 use std::alloc::Global;
 use std::marker::Model;
 
@@ -27,8 +27,8 @@ impl Model for EventCache {
 }
 
 impl EventCache {
-    ghost use Rattle.det_base.specs.Limits.{IsSampleValue};
-    ghost use Rattle.det_base.specs.Values.{SampleValue, EventSpecValue};
+    ghost use Rattle.det_values.specs.Limits.{IsSampleValue};
+    ghost use Rattle.det_values.specs.Values.{SampleValue, EventSpecValue};
     ghost use Rattle.event_cache.specs.Rings.{windows, turned};
     ghost use Rattle.event_cache.specs.Windows.{HasSeen, AreWindows, windows_after, window_of, next_windows};
 

@@ -4,7 +4,7 @@ ghost use Rattle.std.specs.Prelude.{◌≡◌, ◌<◌, List, [], ◌∷◌, ◌
 ghost use Rattle.circular_buffer.specs.Buffer.{last_item, keep_last};
 
 use circular_buffer::HeapCircularBuffer;
-use det_base::{EventSpec, OutOfMemory, Policy, Sample};
+use det_values::{EventSpec, OutOfMemory, Policy, Sample};
 use std::alloc::Global;
 use std::marker::Model;
 use std::mem;

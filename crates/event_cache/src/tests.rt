@@ -1,7 +1,7 @@
 ghost use Rattle.std.specs.Prelude.{◌≡◌, length, IfOk};
 
 use super::*;
-use det_base::{EventName, EventSpec, Events, OutOfMemory, Policy, Sample};
+use det_values::{EventName, EventSpec, Events, OutOfMemory, Policy, Sample};
 use std::alloc::Global;
 use std::test::Fail;
 

@@ -2,8 +2,8 @@
 //! by a program that shares nothing with this one.
 
 use crate::trial::{bad_index, told, untimed};
-use apps::Cloud;
-use det_base::Sample;
+use shipped_jobs::Cloud;
+use det_values::Sample;
 use std::test::Fail;
 
 #[test]

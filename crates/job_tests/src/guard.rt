@@ -1,8 +1,8 @@
 //! The guard.
 
 use crate::trial::{Round, bad_index, told, untimed};
-use apps::Guard;
-use det_base::Sample;
+use shipped_jobs::Guard;
+use det_values::Sample;
 use std::test::Fail;
 
 #[test]

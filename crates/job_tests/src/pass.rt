@@ -6,7 +6,7 @@ ghost use Rattle.job_trait.specs.Laws.{CoversSome};
 ghost use Rattle.det_client.specs.State.{OwnAt};
 ghost use Rattle.event_cache.specs.Rings.{windows};
 
-use det_base::{Bytes, Container, OutOfMemory};
+use det_values::{Bytes, Container, OutOfMemory};
 use det_client::{Activation, Client};
 use element_random::{ElementRandom, key};
 use event_cache::EventCache;

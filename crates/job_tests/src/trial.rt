@@ -5,7 +5,7 @@ ghost use Rattle.std.specs.List.{All};
 ghost use Rattle.event_cache.specs.Rings.{windows};
 
 use crate::pass::{Cycled, Refused, run_cycle};
-use det_base::{Container, EventName, EventSpec, Events, OutOfMemory, Params, Policy, Sample};
+use det_values::{Container, EventName, EventSpec, Events, OutOfMemory, Params, Policy, Sample};
 use det_client::{Client, Next};
 use event_cache::EventCache;
 use job_trait::{BadParam, Job, Started};

@@ -1,6 +1,6 @@
 //! What the calls of a job answer.
 
-use det_base::{Bytes, Container, OutOfMemory};
+use det_values::{Bytes, Container, OutOfMemory};
 
 /// A parameter that a job refuses, by its index.
 ///

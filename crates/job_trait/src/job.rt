@@ -1,13 +1,13 @@
 //! The trait.
 
-ghost use Rattle.std.specs.Prelude.{◌≡◌, ℕ, ◌<◌, ◌≤◌, List, length, None, Some, MatchResult, IfOk};
+ghost use Rattle.std.specs.Prelude.{◌≡◌, ℕ, ◌<◌, ◌≤◌, ◌++◌, List, length, None, Some, MatchResult, IfOk, OnOk};
 ghost use Rattle.std.specs.List.{All};
 ghost use Rattle.element_random.specs.Words.{StandsFor, key};
 ghost use Rattle.det_client.specs.State.{next_time, OwnAt, SameButSeed};
 ghost use Rattle.event_cache.specs.Rings.{windows};
 
 use crate::{BadParam, Concluded, JobFault, Started, Worked};
-use det_base::{Bytes64, OutOfMemory, Params};
+use det_values::{Container, OutOfMemory, Params};
 use det_client::{Activation, Client};
 use element_random::ElementRandom;
 use event_cache::EventCache;
@@ -17,21 +17,22 @@ use std::alloc::Global;
 ///
 /// What its calls mean is `meaning`. `Own` says which elements are the job's own, `Fit` which plans are, and `Covers`
 /// from how many elements a part may come. `laws` are proved of these by every implementation.
-pub trait Job: Sized + Send + Sync + Drop {
+pub trait Job: Sized + Drop {
     ghost use Rattle.job_trait.specs.Meaning.{Meaning, Agrees, AgreesWithSeed, IfTold};
     ghost use Rattle.job_trait.specs.Laws.{JobLaws, CoversSome, CoverTogether, CoversBoth};
+    ghost use Rattle.det_values.specs.Spelling.{Grows};
 
     /// What stays between cycles beside the elements.
-    type Globals: Send + Drop;
+    type Globals: Drop;
 
     /// One element of the container.
-    type Element: Send + Sync + Drop;
+    type Element: Drop;
 
     /// What the sequential begin of a cycle tells its passes.
-    type Plan: Sync + Drop;
+    type Plan: Drop;
 
     /// What a pass gathers from its elements, and hands to the next one.
-    type Part: Send + Sync + Drop;
+    type Part: Drop;
 
     ghost meaning: { Meaning Self Self.Globals Self.Element Self.Plan Self.Part };
 
@@ -64,11 +65,10 @@ pub trait Job: Sized + Send + Sync + Drop {
         &self,
         alloc: Global,
         globals: &Self::Globals,
-        elements: &[Self::Element],
+        elements: &Container<Self::Element>,
         cache: &EventCache,
         client: &mut Client,
     ) -> Result<Self::Plan, JobFault>
-        requires few { length elements.now ≤ 65536 }
         requires own { All (Own self.now) elements.now }
         requires events { length (windows cache.now) ≡ meaning.events self.now }
         requires running { client.old.last ≡ Some Activation.Run }
@@ -116,10 +116,17 @@ pub trait Job: Sized + Send + Sync + Drop {
         ensures gives { IfOk result (λ part. part ≡ meaning.joined self.now left right) }
         ensures covers { IfOk result (CoversBoth (Covers self.now) left right) };
 
-    /// An element's bytes in a record, which tell the job's own elements apart. It takes no memory.
-    fn element_bytes(&self, element: &Self::Element) -> Bytes64
+    /// Appends an element's bytes in a record, at most 64, which tell the job's own elements apart. A refused call may
+    /// leave some of them.
+    fn put_element(
+        &self,
+        element: &Self::Element,
+        out: &mut Vec<u8>,
+    ) -> Result<(), OutOfMemory>
         requires { Own self.now element.now }
-        ensures { result ≡ meaning.shown self.now element.now };
+        ensures ok { OnOk result (out.new.items ≡ out.old.items ++ meaning.shown self.now element.now) }
+        ensures short { OnOk result (length (meaning.shown self.now element.now) ≤ 64) }
+        ensures grows { Grows out.old.items out.new.items };
 
     /// The sequential end of a cycle, given the part of the last pass.
     fn conclude(

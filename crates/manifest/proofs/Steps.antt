@@ -5,7 +5,7 @@ use Rattle.std.specs.List.{list_any, All}
 use Rattle.std.proofs.lemmas.List.Elements.{All-append, All-cons, All-nil}
 use Rattle.std.specs.Option.{option_or}
 use Rattle.toml.specs.Data.{Data}
-use Rattle.det_base.specs.Values.{EventSpecValue}
+use Rattle.det_values.specs.Values.{EventSpecValue}
 use Rattle.manifest.specs.Keys.{param_keys, event_keys, found}
 use Rattle.manifest.specs.Faults.{first_fault, fault_at, duplicate_after}
 use Rattle.manifest.specs.Meaning.{params_from, events_from, event_at}

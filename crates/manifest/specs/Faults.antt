@@ -2,7 +2,7 @@
 use Rattle.std.specs.Prelude.{ℕ, ◌+◌, pos, negsuc, Bool, ◌&&◌, nat_le, List, [], ◌∷◌, ◌++◌, Option, Some, None, if◌then◌else◌, bytes_eq}
 use Rattle.std.specs.List.{list_any}
 use Rattle.std.specs.Option.{option_or}
-use Rattle.det_base.specs.Values.{EventSpecValue}
+use Rattle.det_values.specs.Values.{EventSpecValue}
 use Rattle.toml.specs.Data.{Data, string, integer, array, table}
 use Rattle.manifest.specs.Tree.{length_of_items}
 use Rattle.manifest.specs.Keys.{Kind, text, any_whole, whole, array_up_to, section, rule, found}

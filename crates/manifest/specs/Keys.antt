@@ -1,6 +1,6 @@
 -- The table of keys: where each stands, when it is needed, what it may hold, and in which order they are judged.
 use Rattle.std.specs.Prelude.{ℕ, zero, suc, ◌+◌, ◌-◌, ◌^◌, Bool, true, false, ◌||◌, List, [], ◌∷◌, ◌++◌, Option, Some, is_some, codes}
-use Rattle.det_base.specs.Limits.{is_event_name}
+use Rattle.det_values.specs.Limits.{is_event_name}
 use Rattle.toml.specs.Data.{Data}
 use Rattle.manifest.specs.Limits.{is_platform_name, is_policy}
 use Rattle.manifest.specs.Tree.{Step, to_member, to_item, walk, count_of}

@@ -1,8 +1,8 @@
 -- The ranges of what a manifest says.
 use Rattle.std.specs.Prelude.{◌≡◌, ℕ, ◌^◌, ◌<◌, ◌≤◌, true, Bool, ◌&&◌, ◌||◌, nat_le, List, length, codes, bytes_eq}
 use Rattle.std.specs.List.{list_all}
-use Rattle.det_base.specs.Limits.{IsCapacity, is_event_name}
-use Rattle.det_base.specs.Values.{EventSpecValue}
+use Rattle.det_values.specs.Limits.{IsCapacity, is_event_name}
+use Rattle.det_values.specs.Values.{EventSpecValue}
 use Rattle.manifest.specs.declared.needs.Needs.{Needs}
 
 -- from the blank to `~`

@@ -1,11 +1,11 @@
 -- The manifest that a text is.
 use Rattle.std.specs.Prelude.{ℕ, zero, suc, ◌+◌, ℤ, nat_le, List, [], ◌∷◌, length, Option, Some, None, Result, Ok, Err, if◌then◌else◌, option_map, codes, bytes_eq}
 use Rattle.std.specs.Str.{is_utf8}
-use Rattle.det_base.specs.Jobs.{kind_of_name}
-use Rattle.det_base.specs.Values.{EventSpecValue}
-use Rattle.det_base.specs.declared.event.Policy.{Policy}
-use Rattle.det_base.specs.declared.event.Policy.TheVariants.{Last, Fresh}
-use Rattle.det_base.specs.declared.job_kind.JobKind.{JobKind}
+use Rattle.det_values.specs.Jobs.{kind_of_name}
+use Rattle.det_values.specs.Values.{EventSpecValue}
+use Rattle.det_values.specs.declared.event.Policy.{Policy}
+use Rattle.det_values.specs.declared.event.Policy.TheVariants.{Last, Fresh}
+use Rattle.det_values.specs.declared.job_kind.JobKind.{JobKind}
 use Rattle.toml.specs.Data.{Data, table}
 use Rattle.toml.specs.Parse.{parse_document}
 use Rattle.manifest.specs.Tree.{count_of, whole_of, number_of, text_of}

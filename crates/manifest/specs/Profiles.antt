@@ -1,8 +1,8 @@
 -- The profile of a manifest.
 use Rattle.std.specs.Prelude.{ℕ}
-use Rattle.det_base.specs.Jobs.{number_of_kind}
-use Rattle.det_base.specs.Values.{ProfileValue}
-use Rattle.det_base.specs.declared.format.Format.TheVariants.{Two}
+use Rattle.det_values.specs.Jobs.{number_of_kind}
+use Rattle.det_values.specs.Values.{ProfileValue}
+use Rattle.det_values.specs.declared.format.Format.TheVariants.{Two}
 use Rattle.manifest.specs.Values.{ManifestValue}
 
 abbrev pub profile_of : ManifestValue → ℕ → ProfileValue

@@ -1,7 +1,7 @@
 -- What contracts see of a manifest: what it says, without the ranges.
 use Rattle.std.specs.Prelude.{ℕ, ℤ, List, Option}
-use Rattle.det_base.specs.Values.{EventSpecValue}
-use Rattle.det_base.specs.declared.job_kind.JobKind.{JobKind}
+use Rattle.det_values.specs.Values.{EventSpecValue}
+use Rattle.det_values.specs.declared.job_kind.JobKind.{JobKind}
 use Rattle.manifest.specs.declared.needs.Needs.{Needs}
 
 pub record ManifestValue : Type 0 where

@@ -10,7 +10,7 @@ ghost use Rattle.manifest.specs.Meaning.{events_of, event_at};
 
 use crate::judge::{count, event_name, item, member, needed_section, number, policy};
 use crate::{Key, ManifestError, ManifestFault};
-use det_base::{EventSpec, Events};
+use det_values::{EventSpec, Events};
 use std::alloc::Global;
 use toml::Value;
 

@@ -1,6 +1,6 @@
 //! What can be wrong with a manifest.
 use crate::Key;
-use det_base::OutOfMemory;
+use det_values::OutOfMemory;
 use thiserror::Error;
 
 /// The first thing that is wrong with a manifest. Keys are judged in a fixed order, each for being there, for its kind

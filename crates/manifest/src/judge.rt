@@ -1,6 +1,6 @@
 //! Judges what stands at single keys: whether it has to be there, its kind, and its range.
 ghost use Rattle.std.specs.Prelude.{◌≡◌, ℕ, ◌<◌, ◌≤◌, ◌^◌, Some, None, Bool, true, false, List, IfOk, IfErr, is_some, option_map, pos};
-ghost use Rattle.det_base.specs.Limits.{is_event_name};
+ghost use Rattle.det_values.specs.Limits.{is_event_name};
 ghost use Rattle.toml.specs.Data.{string, integer, get, at};
 ghost use Rattle.manifest.specs.Limits.{is_platform_name, is_policy};
 ghost use Rattle.manifest.specs.Tree.{to_member, to_item, step, count_of, whole_of, number_of, text_of};
@@ -10,7 +10,7 @@ ghost use Rattle.manifest.specs.Judged.{seen, IsJudged};
 ghost use Rattle.manifest.specs.Meaning.{policy_of};
 
 use crate::{Key, ManifestFault, PlatformName};
-use det_base::{EventName, Policy};
+use det_values::{EventName, Policy};
 use toml::Value;
 
 /// A member of what was found.

@@ -1,13 +1,13 @@
 //! What a manifest says.
 ghost use Rattle.std.specs.Prelude.{◌≡◌, IfOk, IfSome, IfNone, None, option_map};
 ghost use Rattle.std.specs.List.{All};
-ghost use Rattle.det_base.specs.Limits.{IsCycleTime};
+ghost use Rattle.det_values.specs.Limits.{IsCycleTime};
 ghost use Rattle.manifest.specs.Limits.{IsWorkers, IsEvent, IsNeeds};
 ghost use Rattle.manifest.specs.Faults.{first_duplicate};
 ghost use Rattle.manifest.specs.Profiles.{profile_of};
 
 use crate::{Needs, PlatformName};
-use det_base::{Events, Format, JobKind, OutOfMemory, Params, Profile};
+use det_values::{Events, Format, JobKind, OutOfMemory, Params, Profile};
 use std::alloc::Global;
 use std::marker::Model;
 
@@ -28,7 +28,7 @@ impl Model for Manifest {
     ghost use Rattle.std.specs.Prelude.{◌≡◌, None};
     ghost use Rattle.std.specs.List.{All};
     ghost use Rattle.std.specs.Option.{ForSome};
-    ghost use Rattle.det_base.specs.Limits.{IsCycleTime};
+    ghost use Rattle.det_values.specs.Limits.{IsCycleTime};
     ghost use Rattle.manifest.specs.Values.{ManifestValue};
     ghost use Rattle.manifest.specs.Limits.{IsWorkers, IsEvent, IsNeeds};
     ghost use Rattle.manifest.specs.Faults.{first_duplicate};

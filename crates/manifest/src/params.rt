@@ -8,7 +8,7 @@ ghost use Rattle.manifest.specs.Meaning.{params_of};
 
 use crate::judge::{count, item, whole};
 use crate::{Key, ManifestError};
-use det_base::Params;
+use det_values::Params;
 use std::alloc::Global;
 use toml::Value;
 

@@ -3,7 +3,7 @@ ghost use Rattle.std.specs.Prelude.{◌≡◌, ◌≤◌, length, IfSome, IfNone
 ghost use Rattle.std.specs.List.{list_all};
 ghost use Rattle.manifest.specs.Limits.{is_printable, is_platform_name};
 
-use det_base::Bytes64;
+use det_values::Bytes64;
 use std::marker::Model;
 
 /// The name of a platform: 1 to 64 bytes of printable ASCII, the blank among them.

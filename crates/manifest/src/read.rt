@@ -10,7 +10,7 @@ use crate::judge::{needed_text, number, platform_name};
 use crate::params::read_params;
 use crate::stage::Stage;
 use crate::{Key, Manifest, ManifestError, ManifestFault};
-use det_base::JobKind;
+use det_values::JobKind;
 use std::alloc::Global;
 use toml::Value;
 

@@ -1,5 +1,5 @@
 use crate::{Key, Manifest, ManifestError, ManifestFault, NeedKey, Needs, read_manifest};
-use det_base::{EventSpec, Format, JobKind, Policy, Profile};
+use det_values::{EventSpec, Format, JobKind, Policy, Profile};
 use std::alloc::{AllocError, Global};
 use std::test::Fail;
 

@@ -4,7 +4,7 @@ ghost use Rattle.std.specs.Prelude.{◌≡◌, ℕ, ◌%◌};
 ghost use Rattle.element_random.specs.Words.{StandsFor};
 ghost use Rattle.pool_tests.specs.Meaning.{byte_after};
 
-use det_base::{Bytes, Bytes64, Container, OutOfMemory, Params};
+use det_values::{Bytes, Bytes64, Container, OutOfMemory, Params};
 use det_client::Client;
 use element_random::ElementRandom;
 use event_cache::EventCache;

@@ -3,7 +3,7 @@
 ghost use Rattle.std.specs.Prelude.{◌≡◌, ◌≤◌, length, IfOk};
 ghost use Rattle.event_cache.specs.Rings.{windows};
 
-use det_base::{EventName, EventSpec, Events, OutOfMemory, Params, Policy, Sample};
+use det_values::{EventName, EventSpec, Events, OutOfMemory, Params, Policy, Sample};
 use det_client::{Client, Next};
 use event_cache::EventCache;
 use job_trait::{Job, Started};

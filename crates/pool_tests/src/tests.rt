@@ -1,6 +1,6 @@
 use crate::{HoldGate, ListJob, first_pass, in_order, in_pool};
-use apps::{Bank, Guard};
-use det_base::Sample;
+use shipped_jobs::{Bank, Guard};
+use det_values::Sample;
 use std::sync::atomic::{AtomicBool, AtomicU64, Ordering};
 use std::test::Fail;
 use worker_pool::{MeetGate, NoGate, PoolFault};

@@ -7,7 +7,7 @@ use Rattle.std.proofs.lemmas.Bool.Decides.{nat_tests}
 use Rattle.std.specs.List.{remove}
 use Rattle.std.specs.Prelude.{Option, Some, None, Bool, true, false, if◌then◌else◌}
 use Rattle.std.specs.Option.{option_map}
-use Rattle.det_base.specs.declared.frames.RunFrame.{RunFrame}
+use Rattle.det_values.specs.declared.frames.RunFrame.{RunFrame}
 use Rattle.probes.specs.declared.probe.Wish.TheVariants.{Stay, Leave}
 use Rattle.probes.specs.Reports.{ProbeLife, leaves, Sees, Report, told_after, bytes_at, bytes_last, leaving, staying, in_turn, joined, reports}
 use Rattle.probes.specs.Partly.{later, partly}

@@ -2,9 +2,9 @@
 use Rattle.std.proofs.Common.{ℕ, ◌^◌, ◌<◌, ◌≤◌, length, Some, None, arith, length-append}
 use Rattle.std.specs.Fmt.{decimal}
 use Rattle.std.proofs.lemmas.Fmt.{length-decimal-le}
-use Rattle.det_base.specs.Values.{RefusedAtValue}
-use Rattle.det_base.specs.declared.refused_at.Phase.{Phase}
-use Rattle.det_base.specs.declared.refused_at.Phase.TheVariants.{Prepare, Pool, Conclude}
+use Rattle.det_values.specs.Values.{RefusedAtValue}
+use Rattle.det_values.specs.declared.refused_at.Phase.{Phase}
+use Rattle.det_values.specs.declared.refused_at.Phase.TheVariants.{Prepare, Pool, Conclude}
 use Rattle.probes.specs.Texts.{count_text, gap_text, limit_text, phase_text, refusal_text}
 
 short_number : (n : ℕ) → n < 2 ^ 64 → length (decimal n) ≤ 20

@@ -1,9 +1,9 @@
 -- What the shipped probes do at a run more.
 use Rattle.std.proofs.Common.{◌≡◌, ℕ, ◌+◌, max, List, [], ◌∷◌, true, false, cond, Option, Some, None, refl, sym, ap, ◌∙◌, arith}
 use Rattle.std.specs.Option.{option_map}
-use Rattle.det_base.specs.Values.{RefusedAtValue}
-use Rattle.det_base.specs.declared.frames.RunFrame.{RunFrame}
-use Rattle.det_base.specs.declared.frames.Outcome.TheVariants.{Refused}
+use Rattle.det_values.specs.Values.{RefusedAtValue}
+use Rattle.det_values.specs.declared.frames.RunFrame.{RunFrame}
+use Rattle.det_values.specs.declared.frames.Outcome.TheVariants.{Refused}
 use Rattle.probes.specs.declared.probe.Wish.TheVariants.{Stay, Leave}
 use Rattle.probes.specs.Reports.{leaves, Sees}
 use Rattle.probes.specs.Texts.{refusal_text}

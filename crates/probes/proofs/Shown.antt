@@ -1,6 +1,6 @@
 -- Runs shown one after another.
 use Rattle.std.proofs.Common.{◌≡◌, ℕ, List, [], ◌++◌, refl, sym, ap, ◌∙◌, append_assoc, append-nil}
-use Rattle.det_base.specs.declared.frames.RunFrame.{RunFrame}
+use Rattle.det_values.specs.declared.frames.RunFrame.{RunFrame}
 use Rattle.probes.specs.Reports.{ProbeLife, reports}
 use Rattle.probes.specs.Shows.{Shows}
 

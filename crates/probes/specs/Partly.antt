@@ -1,7 +1,7 @@
 -- Reports while a run is being shown.
 use Rattle.std.specs.Prelude.{ℕ, ◌+◌, List, ◌∷◌, ◌++◌, map, take, drop}
 use Rattle.std.specs.Option.{option_map}
-use Rattle.det_base.specs.declared.frames.RunFrame.{RunFrame}
+use Rattle.det_values.specs.declared.frames.RunFrame.{RunFrame}
 use Rattle.probes.specs.Reports.{ProbeLife, Report, told_after}
 
 -- the same report, where one run more stands in front

@@ -1,7 +1,7 @@
 -- What probes report, and in which order.
 use Rattle.std.specs.Prelude.{◌≡◌, ℕ, ◌+◌, List, [], ◌∷◌, ◌++◌, map, nat_eq, Option, Some, None, if◌then◌else◌}
 use Rattle.std.specs.Option.{option_map}
-use Rattle.det_base.specs.declared.frames.RunFrame.{RunFrame}
+use Rattle.det_values.specs.declared.frames.RunFrame.{RunFrame}
 use Rattle.probes.specs.declared.probe.Wish.{Wish}
 use Rattle.probes.specs.declared.probe.Wish.TheVariants.{Stay, Leave}
 

@@ -2,10 +2,10 @@
 use Rattle.std.specs.Prelude.{ℕ, ◌+◌, ◌-◌, ◌^◌, min, max, nat_le, nat_lt, Bool, true, false, List, [], ◌∷◌, length, take, Option, Some, None, if◌then◌else◌}
 use Rattle.std.specs.List.{count_by}
 use Rattle.std.specs.Option.{option_map}
-use Rattle.det_base.specs.Values.{RefusedAtValue}
-use Rattle.det_base.specs.declared.frames.RunFrame.{RunFrame}
-use Rattle.det_base.specs.declared.frames.Outcome.{Outcome}
-use Rattle.det_base.specs.declared.frames.Outcome.TheVariants.{Finished, Refused}
+use Rattle.det_values.specs.Values.{RefusedAtValue}
+use Rattle.det_values.specs.declared.frames.RunFrame.{RunFrame}
+use Rattle.det_values.specs.declared.frames.Outcome.{Outcome}
+use Rattle.det_values.specs.declared.frames.Outcome.TheVariants.{Finished, Refused}
 use Rattle.probes.specs.Reports.{ProbeLife}
 use Rattle.probes.specs.Texts.{count_text, gap_text, limit_text, refusal_text}
 

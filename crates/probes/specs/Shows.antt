@@ -1,6 +1,6 @@
 -- What probes were shown.
 use Rattle.std.specs.Prelude.{◌≡◌, ℕ, List, ◌++◌}
-use Rattle.det_base.specs.declared.frames.RunFrame.{RunFrame}
+use Rattle.det_values.specs.declared.frames.RunFrame.{RunFrame}
 use Rattle.probes.specs.Reports.{ProbeLife, reports}
 
 -- These runs were shown: whatever runs come later, what was left before and what the probes before would report of all

@@ -1,9 +1,9 @@
 -- The lines that the shipped probes say, with numbers as `Display` writes them.
 use Rattle.std.specs.Prelude.{ℕ, List, ◌++◌, Option, Some, None, codes}
 use Rattle.std.specs.Fmt.{decimal}
-use Rattle.det_base.specs.Values.{RefusedAtValue}
-use Rattle.det_base.specs.declared.refused_at.Phase.{Phase}
-use Rattle.det_base.specs.declared.refused_at.Phase.TheVariants.{Prepare, Pool, Conclude}
+use Rattle.det_values.specs.Values.{RefusedAtValue}
+use Rattle.det_values.specs.declared.refused_at.Phase.{Phase}
+use Rattle.det_values.specs.declared.refused_at.Phase.TheVariants.{Prepare, Pool, Conclude}
 
 -- finished and refused runs
 abbrev pub count_text : ℕ → ℕ → List ℕ

@@ -4,7 +4,7 @@ ghost use Rattle.probes.specs.Shipped.{count_life};
 
 use crate::probe::{Probe, Wish};
 use crate::texts::count_line;
-use det_base::{Bytes, OutOfMemory, Outcome, RunFrame};
+use det_values::{Bytes, OutOfMemory, Outcome, RunFrame};
 use std::alloc::Global;
 
 /// Counts finished and refused runs, and stays. The counts stand at their last value.

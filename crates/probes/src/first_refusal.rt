@@ -4,7 +4,7 @@ ghost use Rattle.probes.specs.Shipped.{refusal_life};
 
 use crate::probe::{Probe, Wish};
 use crate::texts::refusal_line;
-use det_base::{Bytes, OutOfMemory, Outcome, RefusedAt, RunFrame};
+use det_values::{Bytes, OutOfMemory, Outcome, RefusedAt, RunFrame};
 use std::alloc::Global;
 
 /// Leaves at the first refused run, and tells its number and where it was refused.

@@ -4,7 +4,7 @@ ghost use Rattle.probes.specs.Shipped.{gap_life, gap_between, greater};
 
 use crate::probe::{Probe, Wish};
 use crate::texts::gap_line;
-use det_base::{Bytes, OutOfMemory, RunFrame};
+use det_values::{Bytes, OutOfMemory, RunFrame};
 use std::alloc::Global;
 
 /// Tells the greatest time from one run to the next, where both have a time and the second isn't before the first. It

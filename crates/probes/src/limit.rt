@@ -4,7 +4,7 @@ ghost use Rattle.probes.specs.Shipped.{limit_life};
 
 use crate::probe::{Probe, Wish};
 use crate::texts::limit_line;
-use det_base::{Bytes, OutOfMemory, Outcome, RunFrame};
+use det_values::{Bytes, OutOfMemory, Outcome, RunFrame};
 use std::alloc::Global;
 
 /// Leaves at run number `most`, and tells how many runs it saw and how many of them were refused.

@@ -2,7 +2,7 @@
 ghost use Rattle.std.specs.Prelude.{◌≡◌, ◌≤◌, ◌∷◌, [], length, IfOk, Some, None, ◌↔◌};
 ghost use Rattle.probes.specs.Reports.{ProbeLife, Sees, leaves};
 
-use det_base::{Bytes, OutOfMemory, RunFrame};
+use det_values::{Bytes, OutOfMemory, RunFrame};
 use std::alloc::Global;
 
 /// Whether a probe is done.

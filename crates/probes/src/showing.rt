@@ -1,12 +1,12 @@
 //! Showing runs to probes.
 ghost use Rattle.std.specs.Prelude.{◌≡◌, ◌≤◌, ◌+◌, ◌*◌, List, [], ◌∷◌, ◌++◌, map, length, OnOk, IfOk, None};
 ghost use Rattle.std.specs.Vec.{vec_len};
-ghost use Rattle.det_base.specs.declared.frames.RunFrame.{RunFrame};
+ghost use Rattle.det_values.specs.declared.frames.RunFrame.{RunFrame};
 ghost use Rattle.probes.specs.Reports.{reports, Sees, leaves};
 ghost use Rattle.probes.specs.Shows.{Shows};
 
 use crate::probe::{Probe, Wish};
-use det_base::{Bytes, OutOfMemory, RunFrame};
+use det_values::{Bytes, OutOfMemory, RunFrame};
 use std::alloc::Global;
 
 fn see_one(probe: &mut Box<dyn Probe>, run: &RunFrame) -> Wish

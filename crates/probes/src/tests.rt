@@ -2,7 +2,7 @@ ghost use Rattle.std.specs.Prelude.{◌≤◌, ◌*◌};
 ghost use Rattle.std.specs.Vec.{vec_len};
 
 use super::*;
-use det_base::{Bytes, CycleInput, DrawnElements, Outcome, Phase, RefusedAt, RunFrame, Samples};
+use det_values::{Bytes, CycleInput, DrawnElements, Outcome, Phase, RefusedAt, RunFrame, Samples};
 use std::alloc::Global;
 use std::test::Fail;
 

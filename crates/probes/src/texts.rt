@@ -3,7 +3,7 @@ ghost use Rattle.std.specs.Prelude.{◌≡◌, ◌≤◌, length, IfOk, Some};
 ghost use Rattle.std.specs.String.{string_bytes};
 ghost use Rattle.probes.specs.Texts.{count_text, gap_text, limit_text, phase_text, refusal_text};
 
-use det_base::{Bytes, OutOfMemory, Phase, RefusedAt};
+use det_values::{Bytes, OutOfMemory, Phase, RefusedAt};
 use std::alloc::Global;
 
 fn bytes_of(text: String) -> Bytes

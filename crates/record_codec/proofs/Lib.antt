@@ -1,3 +1,4 @@
+pub mod Flat
 pub mod Appending
 pub mod Numbers
 pub mod Wide

@@ -5,11 +5,11 @@ use Rattle.std.proofs.lemmas.List.Folds.{list_all_more}
 use Rattle.std.proofs.lemmas.List.Elements.{All-push, All-nil}
 use Rattle.std.proofs.lemmas.Bool.Decides.{nat_tests}
 use Rattle.std.specs.List.{list_all, All}
-use Rattle.det_base.specs.declared.format.Format.{Format}
-use Rattle.det_base.specs.declared.format.Format.TheVariants.{One, Two}
-use Rattle.det_base.specs.declared.event.Policy.TheVariants.{Last}
-use Rattle.det_base.specs.Values.{EventSpecValue}
-use Rattle.det_base.specs.Limits.{may_stand_in_name, is_event_name, KnowsPolicies}
+use Rattle.det_values.specs.declared.format.Format.{Format}
+use Rattle.det_values.specs.declared.format.Format.TheVariants.{One, Two}
+use Rattle.det_values.specs.declared.event.Policy.TheVariants.{Last}
+use Rattle.det_values.specs.Values.{EventSpecValue}
+use Rattle.det_values.specs.Limits.{may_stand_in_name, is_event_name, KnowsPolicies}
 use Rattle.record_grammar.specs.declared.fault.Reason.TheVariants.{Range}
 use Rattle.record_grammar.specs.Read.{Read, Got, Bad, many}
 use Rattle.record_grammar.specs.Grammar.{name_byte_at}

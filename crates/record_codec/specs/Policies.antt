@@ -1,9 +1,9 @@
 -- What a format says of one event's policy.
 use Rattle.std.specs.Prelude.{◌≡◌}
-use Rattle.det_base.specs.declared.format.Format.{Format}
-use Rattle.det_base.specs.declared.format.Format.TheVariants.{One, Two}
-use Rattle.det_base.specs.declared.event.Policy.{Policy}
-use Rattle.det_base.specs.declared.event.Policy.TheVariants.{Last}
+use Rattle.det_values.specs.declared.format.Format.{Format}
+use Rattle.det_values.specs.declared.format.Format.TheVariants.{One, Two}
+use Rattle.det_values.specs.declared.event.Policy.{Policy}
+use Rattle.det_values.specs.declared.event.Policy.TheVariants.{Last}
 
 abbrev pub KnowsPolicy : Format → Policy → Type 0
 KnowsPolicy One policy = policy ≡ Last

@@ -8,7 +8,7 @@ use crate::input::{input, refused_run};
 use crate::number::{u8_at, u32_at};
 use crate::partial::{Begun, InitSoFar, RunSoFar};
 use crate::stop::Stop;
-use det_base::{Frame, Limited};
+use det_values::{DrawnElements, Frame, Limited};
 use record_grammar::{Item, Layout, Place, Reason};
 use std::alloc::Global;
 
@@ -33,7 +33,7 @@ fn begin_run(alloc: Global, layout: Layout, bytes: &[u8]) -> Result<(Begun, &[u8
         let run = RunSoFar {
             format: layout.format,
             input,
-            elements: Limited::new(alloc),
+            elements: DrawnElements::new(alloc),
             left,
         };
         return Ok((Begun::Run(run), rest));

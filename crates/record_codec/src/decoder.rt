@@ -7,7 +7,7 @@ use crate::next_place::place_after;
 use crate::partial::{Partial, Step};
 use crate::resume::{advance, rest_of};
 use crate::stop::Stop;
-use det_base::OutOfMemory;
+use det_values::OutOfMemory;
 use record_grammar::{Item, Place, Reason, RecordFault};
 use std::alloc::Global;
 use std::mem;

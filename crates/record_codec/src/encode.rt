@@ -4,7 +4,7 @@ ghost use Rattle.record_grammar.specs.Spelling.{spelled_header, IsHeader, spelle
 
 use crate::put_frame::put_frame;
 use crate::put_header::put_header;
-use det_base::{Format, Frame, OutOfMemory, Profile};
+use det_values::{Format, Frame, OutOfMemory, Profile};
 
 /// Appends the one spelling of a header, in the profile's own format. A refused call leaves `out` as it was.
 pub fn encode_header(profile: &Profile, out: &mut Vec<u8>) -> Result<(), OutOfMemory>

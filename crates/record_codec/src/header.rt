@@ -4,11 +4,11 @@ ghost use Rattle.record_grammar.specs.Read.{many};
 ghost use Rattle.record_grammar.specs.Grammar.{signed_at, exactly_at, magic_at, format_at, version_at, name_byte_at, name_at, policy_of, policy_at, event_at, params_at, events_at, profile_at};
 ghost use Rattle.record_codec.specs.Gives.{Gives};
 ghost use Rattle.record_codec.specs.Policies.{KnowsPolicy};
-ghost use Rattle.det_base.specs.Limits.{KnowsPolicies};
+ghost use Rattle.det_values.specs.Limits.{KnowsPolicies};
 
 use crate::number::{signed, u8_at, u16_at, u64_at};
 use crate::stop::Stop;
-use det_base::{EventName, EventSpec, Events, Format, Limited, Params, Policy, Profile};
+use det_values::{EventName, EventSpec, Events, Format, Limited, Params, Policy, Profile};
 use record_grammar::Reason;
 use std::alloc::Global;
 

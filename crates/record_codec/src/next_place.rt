@@ -2,7 +2,7 @@
 ghost use Rattle.std.specs.Prelude.{◌≡◌};
 ghost use Rattle.record_grammar.specs.Places.{after, CanFollow};
 
-use det_base::Frame;
+use det_values::Frame;
 use record_grammar::{Item, Layout, Place};
 
 /// The place after an item that may stand in this one.

@@ -3,7 +3,7 @@ ghost use Rattle.std.specs.Prelude.{◌≡◌, ◌≤◌, ◌<◌, ◌^◌, IfOk
 ghost use Rattle.record_grammar.specs.Numbers.{lowest, highest, can_be, number_from, number, IsWithin};
 ghost use Rattle.record_grammar.specs.Grammar.{signed_at, sample_value_at};
 ghost use Rattle.record_codec.specs.Gives.{Gives};
-ghost use Rattle.det_base.specs.Limits.{IsSampleValue};
+ghost use Rattle.det_values.specs.Limits.{IsSampleValue};
 
 use crate::stop::Stop;
 use record_grammar::{Limits, Reason};

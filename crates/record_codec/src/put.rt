@@ -4,7 +4,7 @@ ghost use Rattle.std.specs.Int.{w64};
 ghost use Rattle.record_grammar.specs.Spelling.{spelled_u16, spelled_u32, spelled_u64, spelled_signed, AreBytes, spelled_element, IsElement};
 ghost use Rattle.record_codec.specs.Appending.{Grows};
 
-use det_base::Bytes64;
+use det_values::Bytes64;
 use std::alloc::AllocError;
 
 #[tactic(auto, unfolding(record_grammar::specs::Spelling::spelled_u16))]

@@ -3,11 +3,10 @@ ghost use Rattle.std.specs.Prelude.{◌≡◌, ◌<◌, ◌≤◌, ◌++◌, len
 ghost use Rattle.std.specs.List.{flat_map, All};
 ghost use Rattle.record_grammar.specs.Spelling.{spelled_element, IsElement, spelled_drawn, MayDraw, IsDrawn, spelled_time, IsTime, spelled_sample, IsSample, spelled_input, IsInput, phase_number, spelled_refusal, IsRefusal, AreBytes, spelled_finished, spelled_outcome, MayDrawAll, IsOutcome, spelled_frame, CanSpell, IsFrame};
 ghost use Rattle.record_codec.specs.Appending.{Grows};
+ghost use Rattle.det_values.specs.declared.format.Format.TheVariants.{One};
 
 use crate::put::{put_element, put_i64, put_slice, put_u8, put_u16, put_u32, put_u64};
-use det_base::{
-    Bytes64, CycleInput, DrawnElement, Format, Frame, Outcome, Phase, RefusedAt, Sample,
-};
+use det_values::{Bytes64, CycleInput, DrawnElements, Format, Frame, Outcome, Phase, RefusedAt, Sample};
 use std::alloc::AllocError;
 
 fn put_elements(out: &mut Vec<u8>, elements: &[Bytes64]) -> Result<(), AllocError>
@@ -21,34 +20,39 @@ fn put_elements(out: &mut Vec<u8>, elements: &[Bytes64]) -> Result<(), AllocErro
     Ok(())
 }
 
-fn put_drawn(out: &mut Vec<u8>, format: Format, element: &DrawnElement) -> Result<(), AllocError>
-    requires { MayDraw format element.now.draws }
-    ensures ok { OnOk result (out.new.items ≡ out.old.items ++ spelled_drawn format element.now) }
+fn put_undrawn(out: &mut Vec<u8>, elements: &DrawnElements) -> Result<(), AllocError>
+    requires { All (λ e. MayDraw One e.draws) elements.now }
+    ensures ok { OnOk result (out.new.items ≡ out.old.items ++ flat_map (spelled_drawn One) elements.now) }
     ensures grows { Grows out.old.items out.new.items }
-    ensures fields { IsDrawn format element.now }
 {
-    let draws = element.draws;
-    put_element(out, &element.bytes)?;
-    match format {
-        Format::One => Ok(()),
-        Format::Two => put_u32(out, draws),
+    let mut walk = elements.walk();
+    for _ in 0..elements.len() {
+        match walk.next() {
+            Some((bytes, _)) => {
+                put_u16(out, bytes.len() as u16)?;
+                put_slice(out, bytes)?;
+            }
+            None => return Ok(()),
+        }
     }
+    Ok(())
 }
 
 fn put_all_drawn(
     out: &mut Vec<u8>,
     format: Format,
-    elements: &[DrawnElement],
+    elements: &DrawnElements,
 ) -> Result<(), AllocError>
     requires { All (λ e. MayDraw format e.draws) elements.now }
     ensures ok { OnOk result (out.new.items ≡ out.old.items ++ flat_map (spelled_drawn format) elements.now) }
     ensures grows { Grows out.old.items out.new.items }
     ensures fields { OnOk result (All (IsDrawn format) elements.now) }
 {
-    for element in elements {
-        put_drawn(out, format, element)?;
+    let spelled = elements.spelled();
+    match format {
+        Format::One => put_undrawn(out, elements),
+        Format::Two => put_slice(out, spelled),
     }
-    Ok(())
 }
 
 fn put_time(out: &mut Vec<u8>, time: Option<u64>) -> Result<(), AllocError>
@@ -134,17 +138,18 @@ fn put_refusal(out: &mut Vec<u8>, refused: &RefusedAt) -> Result<(), AllocError>
 fn put_finished(
     out: &mut Vec<u8>,
     format: Format,
-    elements: &[DrawnElement],
+    elements: &DrawnElements,
     output: &[u8],
 ) -> Result<(), AllocError>
     requires draws { All (λ e. MayDraw format e.draws) elements.now }
-    requires few { length elements.now ≤ 65536 }
     requires short { length output.now ≤ 1048576 }
+    ensures few { length elements.now ≤ 65536 }
     ensures ok { OnOk result (out.new.items ≡ out.old.items ++ spelled_finished format elements.now output.now) }
     ensures grows { Grows out.old.items out.new.items }
     ensures fields { OnOk result (All (IsDrawn format) elements.now × AreBytes output.now) }
 {
-    put_u32(out, elements.len() as u32)?;
+    let count = elements.len();
+    put_u32(out, count as u32)?;
     put_all_drawn(out, format, elements)?;
     put_u32(out, output.len() as u32)?;
     put_slice(out, output)?;
@@ -160,7 +165,7 @@ fn put_outcome(out: &mut Vec<u8>, format: Format, outcome: &Outcome) -> Result<(
     match outcome {
         Outcome::Finished { elements, output } => {
             put_u8(out, 0)?;
-            put_finished(out, format, elements.as_slice(), output.as_slice())?;
+            put_finished(out, format, elements, output.as_slice())?;
         }
         Outcome::Refused(refused) => {
             put_u8(out, 1)?;

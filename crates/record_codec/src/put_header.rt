@@ -2,12 +2,12 @@
 ghost use Rattle.std.specs.Prelude.{◌≡◌, ◌≤◌, ◌<◌, ◌^◌, ◌++◌, length, OnOk, FitsSigned, ℤ};
 ghost use Rattle.std.specs.Int.{w64};
 ghost use Rattle.std.specs.List.{flat_map, All};
-ghost use Rattle.det_base.specs.Limits.{IsCycleTime, KnowsPolicies};
+ghost use Rattle.det_values.specs.Limits.{IsCycleTime, KnowsPolicies};
 ghost use Rattle.record_grammar.specs.Spelling.{spelled_signed, spelled_params, version, policy_number, spelled_policy, spelled_event, IsEvent, spelled_events, magic, spelled_numbers, spelled_header, IsHeader};
 ghost use Rattle.record_codec.specs.Appending.{Grows};
 
 use crate::put::{put_i64, put_slice, put_u8, put_u16, put_u64};
-use det_base::{EventSpec, Events, Format, Params, Policy, Profile};
+use det_values::{EventSpec, Events, Format, Params, Policy, Profile};
 use std::alloc::AllocError;
 
 fn put_all_signed(out: &mut Vec<u8>, params: &[i64]) -> Result<(), AllocError>

@@ -7,7 +7,7 @@ use crate::begin::begin;
 use crate::field::{drawn, element, output};
 use crate::partial::{Begun, InitSoFar, Partial, RunSoFar, Step, stopped};
 use crate::stop::Stop;
-use det_base::{Frame, Outcome, RunFrame};
+use det_values::{Frame, Outcome, RunFrame};
 use record_grammar::{Item, Place};
 use std::alloc::Global;
 
@@ -77,7 +77,7 @@ fn go_on_run(alloc: Global, start: RunSoFar, bytes: &[u8], place: Place) -> Step
                 read,
                 stop,
             ),
-            Ok((element, rest)) => match elements.push(element) {
+            Ok((shown, draws, rest)) => match elements.push(shown, draws) {
                 Err(_) => return stopped(
                     Partial::Run(RunSoFar {
                         format,

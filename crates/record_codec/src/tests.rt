@@ -1,8 +1,5 @@
 use super::*;
-use det_base::{
-    Bytes64, CycleInput, DrawnElement, Elements, EventName, EventSpec, Format, Frame, Limited,
-    Outcome, Policy, Profile, RunFrame, Sample,
-};
+use det_values::{Bytes64, CycleInput, DrawnElement, Elements, EventName, EventSpec, Format, Frame, Limited, Outcome, Policy, Profile, RunFrame, Sample};
 use std::alloc::Global;
 use std::test::*;
 

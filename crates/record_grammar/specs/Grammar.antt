@@ -1,19 +1,19 @@
 -- How a record is read from left to right, in formats 1 and 2.
 use Rattle.std.specs.Prelude.{ℕ, ◌-◌, ℤ, List, [], ◌∷◌, length, Option, Some, None, ◌==◌, nat_lt, nat_le, ◌&&◌, if◌then◌else◌}
 use Rattle.std.specs.Int.{w64, cast_signed}
-use Rattle.det_base.specs.declared.format.Format.{Format}
-use Rattle.det_base.specs.declared.format.Format.TheVariants.{One, Two}
-use Rattle.det_base.specs.declared.event.Policy.{Policy}
-use Rattle.det_base.specs.declared.event.Policy.TheVariants.{Last, Fresh}
-use Rattle.det_base.specs.declared.refused_at.Phase.{Phase}
-use Rattle.det_base.specs.declared.refused_at.Phase.TheVariants as phases
-use Rattle.det_base.specs.declared.frames.CycleInput.{CycleInput}
-use Rattle.det_base.specs.declared.frames.DrawnElement.{DrawnElement}
-use Rattle.det_base.specs.declared.frames.Outcome.TheVariants.{Finished, Refused}
-use Rattle.det_base.specs.declared.frames.Frame.{Frame}
-use Rattle.det_base.specs.declared.frames.Frame.TheVariants as frames
-use Rattle.det_base.specs.Values.{SampleValue, EventSpecValue, RefusedAtValue, ProfileValue}
-use Rattle.det_base.specs.Limits.{may_stand_in_name}
+use Rattle.det_values.specs.declared.format.Format.{Format}
+use Rattle.det_values.specs.declared.format.Format.TheVariants.{One, Two}
+use Rattle.det_values.specs.declared.event.Policy.{Policy}
+use Rattle.det_values.specs.declared.event.Policy.TheVariants.{Last, Fresh}
+use Rattle.det_values.specs.declared.refused_at.Phase.{Phase}
+use Rattle.det_values.specs.declared.refused_at.Phase.TheVariants as phases
+use Rattle.det_values.specs.declared.frames.CycleInput.{CycleInput}
+use Rattle.det_values.specs.declared.frames.DrawnElement.{DrawnElement}
+use Rattle.det_values.specs.declared.frames.Outcome.TheVariants.{Finished, Refused}
+use Rattle.det_values.specs.declared.frames.Frame.{Frame}
+use Rattle.det_values.specs.declared.frames.Frame.TheVariants as frames
+use Rattle.det_values.specs.Values.{SampleValue, EventSpecValue, RefusedAtValue, ProfileValue}
+use Rattle.det_values.specs.Limits.{may_stand_in_name}
 use Rattle.record_grammar.specs.declared.fault.Reason.{Reason}
 use Rattle.record_grammar.specs.declared.fault.Reason.TheVariants.{Magic, Version, Range, Order, TooMany, Trailing}
 use Rattle.record_grammar.specs.declared.limits.Limits.TheVariants.{Around}

@@ -1,9 +1,9 @@
 -- Which place an item leads to.
 use Rattle.std.specs.Prelude.{ℕ, ◌+◌, ◌-◌, ◌<◌, suc, length}
-use Rattle.det_base.specs.declared.format.Format.{Format}
-use Rattle.det_base.specs.declared.format.Format.TheVariants.{One}
-use Rattle.det_base.specs.declared.frames.Frame.TheVariants.{Register, Discover, Init, Run, Terminate}
-use Rattle.det_base.specs.Values.{ProfileValue}
+use Rattle.det_values.specs.declared.format.Format.{Format}
+use Rattle.det_values.specs.declared.format.Format.TheVariants.{One}
+use Rattle.det_values.specs.declared.frames.Frame.TheVariants.{Register, Discover, Init, Run, Terminate}
+use Rattle.det_values.specs.Values.{ProfileValue}
 use Rattle.record_grammar.specs.declared.place.Layout.{Layout}
 use Rattle.record_grammar.specs.declared.place.Place.{Place}
 use Rattle.record_grammar.specs.declared.place.Place.TheVariants as places

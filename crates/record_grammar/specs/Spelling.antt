@@ -3,21 +3,21 @@
 use Rattle.std.specs.Prelude.{◌≡◌, ℕ, ◌^◌, ◌<◌, ◌≤◌, ℤ, List, [], ◌∷◌, ◌++◌, length, map, Option, Some, None, codes, true, FitsSigned}
 use Rattle.std.specs.List.{flat_map, All}
 use Rattle.std.specs.Int.{w16, w32, w64, cast_unsigned, to_be_bytes}
-use Rattle.det_base.specs.declared.format.Format.{Format}
-use Rattle.det_base.specs.declared.format.Format.TheVariants.{One, Two}
-use Rattle.det_base.specs.declared.event.Policy.{Policy}
-use Rattle.det_base.specs.declared.event.Policy.TheVariants.{Last, Fresh}
-use Rattle.det_base.specs.declared.refused_at.Phase.{Phase}
-use Rattle.det_base.specs.declared.refused_at.Phase.TheVariants as phases
-use Rattle.det_base.specs.declared.frames.CycleInput.{CycleInput}
-use Rattle.det_base.specs.declared.frames.DrawnElement.{DrawnElement}
-use Rattle.det_base.specs.declared.frames.Outcome.{Outcome}
-use Rattle.det_base.specs.declared.frames.Outcome.TheVariants.{Finished, Refused}
-use Rattle.det_base.specs.declared.frames.RunFrame.{RunFrame}
-use Rattle.det_base.specs.declared.frames.Frame.{Frame}
-use Rattle.det_base.specs.declared.frames.Frame.TheVariants.{Register, Discover, Init, Run, Terminate}
-use Rattle.det_base.specs.Values.{SampleValue, EventSpecValue, RefusedAtValue, ProfileValue}
-use Rattle.det_base.specs.Limits.{IsSampleValue, IsCapacity, IsCycleTime, is_event_name, IsPlace, KnowsPolicies}
+use Rattle.det_values.specs.declared.format.Format.{Format}
+use Rattle.det_values.specs.declared.format.Format.TheVariants.{One, Two}
+use Rattle.det_values.specs.declared.event.Policy.{Policy}
+use Rattle.det_values.specs.declared.event.Policy.TheVariants.{Last, Fresh}
+use Rattle.det_values.specs.declared.refused_at.Phase.{Phase}
+use Rattle.det_values.specs.declared.refused_at.Phase.TheVariants as phases
+use Rattle.det_values.specs.declared.frames.CycleInput.{CycleInput}
+use Rattle.det_values.specs.declared.frames.DrawnElement.{DrawnElement}
+use Rattle.det_values.specs.declared.frames.Outcome.{Outcome}
+use Rattle.det_values.specs.declared.frames.Outcome.TheVariants.{Finished, Refused}
+use Rattle.det_values.specs.declared.frames.RunFrame.{RunFrame}
+use Rattle.det_values.specs.declared.frames.Frame.{Frame}
+use Rattle.det_values.specs.declared.frames.Frame.TheVariants.{Register, Discover, Init, Run, Terminate}
+use Rattle.det_values.specs.Values.{SampleValue, EventSpecValue, RefusedAtValue, ProfileValue}
+use Rattle.det_values.specs.Limits.{IsSampleValue, IsCapacity, IsCycleTime, is_event_name, IsPlace, KnowsPolicies}
 
 abbrev pub AreBytes : List ℕ → Type 0
 AreBytes bytes = All (λ b. b < 256) bytes

@@ -1,5 +1,5 @@
 //! What a record is made of.
-use det_base::{Frame, Profile};
+use det_values::{Frame, Profile};
 
 /// A part of a record: its header, and then one frame after another.
 #[derive(Debug, PartialEq, Drop)]

@@ -1,5 +1,5 @@
 //! Where in a record a reader stands.
-use det_base::Format;
+use det_values::Format;
 
 /// What a header says that the frames after it depend on: the format, and the number of events.
 #[derive(Clone, Copy, Debug, PartialEq, Eq, Drop)]

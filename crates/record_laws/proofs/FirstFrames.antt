@@ -3,8 +3,8 @@ use Rattle.std.proofs.Common.{◌≡◌, ℕ, List, [], ◌∷◌, ◌++◌, len
 use Rattle.std.specs.List.{flat_map, All}
 use Rattle.std.proofs.lemmas.List.Concat.{flat_map-append}
 use Rattle.std.proofs.lemmas.List.Elements.{All-nil, All-cons, All-head, All-tail}
-use Rattle.det_base.specs.declared.frames.Frame.{Frame}
-use Rattle.det_base.specs.Values.{ProfileValue}
+use Rattle.det_values.specs.declared.frames.Frame.{Frame}
+use Rattle.det_values.specs.Values.{ProfileValue}
 use Rattle.record_grammar.specs.Spelling.{IsFrame, spelled_header, spelled_frame, spelled, AreRun, Spells}
 
 pub spelled_more : (profile : ProfileValue) (fs more : List Frame) → spelled profile (fs ++ more) ≡ spelled profile fs ++ flat_map (spelled_frame profile.format) more

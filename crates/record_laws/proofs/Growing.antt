@@ -1,7 +1,7 @@
 -- What more bytes add to the items and the fault of a record.
 use Rattle.std.proofs.Common.{◌≡◌, ℕ, suc, ◌+◌, ◌-◌, List, [], ◌∷◌, ◌++◌, length, Option, Some, None, refl, sym, ap, ◌∙◌, arith, inl, inr, ◌⊎◌, length-append}
 use Rattle.std.proofs.lemmas.List.{append-nil}
-use Rattle.det_base.specs.Prefix.{IsPrefix}
+use Rattle.det_edges.specs.Prefix.{IsPrefix}
 use Rattle.record_grammar.specs.declared.fault.Reason.{Reason}
 use Rattle.record_grammar.specs.declared.fault.Reason.TheVariants.{Truncated}
 use Rattle.record_grammar.specs.declared.fault.RecordFault.{RecordFault}

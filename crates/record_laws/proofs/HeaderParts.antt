@@ -1,7 +1,7 @@
 -- The reader of a header, from each field on.
 use Rattle.std.specs.Prelude.{ℕ, ℤ, List}
-use Rattle.det_base.specs.declared.format.Format.{Format}
-use Rattle.det_base.specs.Values.{ProfileValue, EventSpecValue}
+use Rattle.det_values.specs.declared.format.Format.{Format}
+use Rattle.det_values.specs.Values.{ProfileValue, EventSpecValue}
 use Rattle.record_grammar.specs.Read.{Read, Got, ◌>>=◌}
 use Rattle.record_grammar.specs.Numbers.{number}
 use Rattle.record_grammar.specs.Grammar.{version_at, params_at, events_at}

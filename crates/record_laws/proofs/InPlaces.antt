@@ -3,9 +3,9 @@ use Rattle.std.proofs.Common.{◌≡◌, ℕ, ◌≤◌, List, [], ◌∷◌, �
 use Rattle.std.specs.Prelude.{FitsSigned}
 use Rattle.std.specs.Int.{w64}
 use Rattle.std.proofs.lemmas.List.Elements.{All-nil}
-use Rattle.det_base.specs.declared.format.Format.TheVariants.{Two}
-use Rattle.det_base.specs.declared.frames.Frame.TheVariants as frames
-use Rattle.det_base.specs.Values.{ProfileValue}
+use Rattle.det_values.specs.declared.format.Format.TheVariants.{Two}
+use Rattle.det_values.specs.declared.frames.Frame.TheVariants as frames
+use Rattle.det_values.specs.Values.{ProfileValue}
 use Rattle.record_grammar.specs.declared.place.Place.{Place}
 use Rattle.record_grammar.specs.declared.place.Place.TheVariants as places
 use Rattle.record_grammar.specs.declared.item.Item.{Item}

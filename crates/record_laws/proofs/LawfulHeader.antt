@@ -6,12 +6,12 @@ use Rattle.std.proofs.Math.Facts.{sfits_lit}
 use Rattle.std.proofs.lemmas.Bool.{eqb-true}
 use Rattle.std.proofs.lemmas.Bool.Decides.{nat_tests}
 use Rattle.std.proofs.lemmas.List.Elements.{All-nil, All-cons, All-head, All-tail, All-weaker}
-use Rattle.det_base.specs.declared.format.Format.{Format}
-use Rattle.det_base.specs.declared.format.Format.TheVariants.{One, Two}
-use Rattle.det_base.specs.declared.event.Policy.{Policy}
-use Rattle.det_base.specs.declared.event.Policy.TheVariants.{Last, Fresh}
-use Rattle.det_base.specs.Values.{EventSpecValue, ProfileValue}
-use Rattle.det_base.specs.Limits.{may_stand_in_name, is_event_name, KnowsPolicies}
+use Rattle.det_values.specs.declared.format.Format.{Format}
+use Rattle.det_values.specs.declared.format.Format.TheVariants.{One, Two}
+use Rattle.det_values.specs.declared.event.Policy.{Policy}
+use Rattle.det_values.specs.declared.event.Policy.TheVariants.{Last, Fresh}
+use Rattle.det_values.specs.Values.{EventSpecValue, ProfileValue}
+use Rattle.det_values.specs.Limits.{may_stand_in_name, is_event_name, KnowsPolicies}
 use Rattle.record_grammar.specs.declared.fault.Reason.TheVariants.{Magic, Version, Range}
 use Rattle.record_grammar.specs.Read.{Read, Got, Bad, ◌>>=◌}
 use Rattle.record_grammar.specs.Numbers.{number}

@@ -4,10 +4,10 @@ use Rattle.std.specs.List.{flat_map, All}
 use Rattle.std.proofs.lemmas.Bool.{eqb-true, ltb-true}
 use Rattle.std.proofs.lemmas.Bool.Decides.{nat_tests}
 use Rattle.std.proofs.lemmas.List.Elements.{All-nil}
-use Rattle.det_base.specs.declared.format.Format.TheVariants.{One}
-use Rattle.det_base.specs.declared.frames.Frame.{Frame}
-use Rattle.det_base.specs.declared.frames.Frame.TheVariants as frames
-use Rattle.det_base.specs.Values.{ProfileValue}
+use Rattle.det_values.specs.declared.format.Format.TheVariants.{One}
+use Rattle.det_values.specs.declared.frames.Frame.{Frame}
+use Rattle.det_values.specs.declared.frames.Frame.TheVariants as frames
+use Rattle.det_values.specs.Values.{ProfileValue}
 use Rattle.record_grammar.specs.declared.fault.Reason.{Reason}
 use Rattle.record_grammar.specs.declared.fault.Reason.TheVariants.{TooMany}
 use Rattle.record_grammar.specs.declared.place.Layout.{Layout}

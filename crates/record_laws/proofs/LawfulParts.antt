@@ -4,14 +4,14 @@ use Rattle.std.specs.List.{flat_map, All}
 use Rattle.std.proofs.lemmas.Bool.Decides.{nat_tests}
 use Rattle.std.proofs.lemmas.Int.{ints}
 use Rattle.std.proofs.lemmas.List.Elements.{All-nil, All-head}
-use Rattle.det_base.specs.declared.format.Format.{Format}
-use Rattle.det_base.specs.declared.format.Format.TheVariants.{One, Two}
-use Rattle.det_base.specs.declared.refused_at.Phase.{Phase}
-use Rattle.det_base.specs.declared.refused_at.Phase.TheVariants as phases
-use Rattle.det_base.specs.declared.frames.CycleInput.{CycleInput}
-use Rattle.det_base.specs.declared.frames.DrawnElement.{DrawnElement}
-use Rattle.det_base.specs.Values.{SampleValue, RefusedAtValue}
-use Rattle.det_base.specs.Limits.{IsSampleValue, IsPlace}
+use Rattle.det_values.specs.declared.format.Format.{Format}
+use Rattle.det_values.specs.declared.format.Format.TheVariants.{One, Two}
+use Rattle.det_values.specs.declared.refused_at.Phase.{Phase}
+use Rattle.det_values.specs.declared.refused_at.Phase.TheVariants as phases
+use Rattle.det_values.specs.declared.frames.CycleInput.{CycleInput}
+use Rattle.det_values.specs.declared.frames.DrawnElement.{DrawnElement}
+use Rattle.det_values.specs.Values.{SampleValue, RefusedAtValue}
+use Rattle.det_values.specs.Limits.{IsSampleValue, IsPlace}
 use Rattle.record_grammar.specs.Read.{Read, Got, ◌>>=◌, many}
 use Rattle.record_grammar.specs.Numbers.{number}
 use Rattle.record_grammar.specs.Grammar.{element_at, drawn_at, time_at, sample_value_at, sample_at, samples_at, input_at, phase_of, most_pass, most_element, refusal_at}

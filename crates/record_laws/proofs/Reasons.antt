@@ -1,10 +1,10 @@
 -- Why an item is refused, by the place of the faulty byte.
 use Rattle.std.proofs.Common.{◌≡◌, ℕ, suc, ◌+◌, ◌<◌, ◌≤◌, Bool, true, false, cond, eqb, ltb, List, [], ◌∷◌, length, refl, sym, ap, ◌∙◌, arith, inl, inr, ◌⊎◌}
-use Rattle.det_base.specs.declared.format.Format.{Format}
-use Rattle.det_base.specs.declared.format.Format.TheVariants.{One, Two}
-use Rattle.det_base.specs.declared.frames.Frame.{Frame}
-use Rattle.det_base.specs.declared.frames.Frame.TheVariants as frames
-use Rattle.det_base.specs.Values.{ProfileValue}
+use Rattle.det_values.specs.declared.format.Format.{Format}
+use Rattle.det_values.specs.declared.format.Format.TheVariants.{One, Two}
+use Rattle.det_values.specs.declared.frames.Frame.{Frame}
+use Rattle.det_values.specs.declared.frames.Frame.TheVariants as frames
+use Rattle.det_values.specs.Values.{ProfileValue}
 use Rattle.record_grammar.specs.declared.fault.Reason.{Reason}
 use Rattle.record_grammar.specs.declared.fault.Reason.TheVariants.{Magic, Version, Range, TooMany, Trailing}
 use Rattle.record_grammar.specs.declared.place.Layout.{Layout}

@@ -1,8 +1,8 @@
 -- The laws, over the definitions of a record.
 use Rattle.std.specs.Prelude.{◌≡◌, ℕ, ◌^◌, ◌≤◌, ◌⊎◌, List, ◌++◌, length, Some, None}
-use Rattle.det_base.specs.declared.frames.Frame.{Frame}
-use Rattle.det_base.specs.Values.{ProfileValue}
-use Rattle.det_base.specs.Prefix.{IsPrefix}
+use Rattle.det_values.specs.declared.frames.Frame.{Frame}
+use Rattle.det_values.specs.Values.{ProfileValue}
+use Rattle.det_edges.specs.Prefix.{IsPrefix}
 use Rattle.record_grammar.specs.declared.fault.Reason.TheVariants.{Truncated}
 use Rattle.record_grammar.specs.declared.fault.RecordFault.{RecordFault}
 use Rattle.record_grammar.specs.declared.place.Place.{Place}

@@ -1,8 +1,8 @@
 -- What the answers of a decoder come to at its reader.
 use Rattle.std.proofs.Common.{◌≡◌, inl, inr, ℕ, List, [], ◌∷◌, ◌++◌, take, Option, Some, None, Ok, Err, sym, ap, subst, append_assoc}
 use Rattle.std.proofs.lemmas.List.{append-nil}
-use Rattle.det_base.specs.Shelf.{ShelfState, Reads}
-use Rattle.det_base.proofs.SlotReads.{reads-then}
+use Rattle.det_edges.specs.Shelf.{ShelfState, Reads}
+use Rattle.det_edges.proofs.SlotReads.{reads-then}
 use Rattle.record_grammar.specs.declared.fault.RecordFault.{RecordFault}
 use Rattle.record_grammar.specs.declared.item.Item.{Item}
 use Rattle.record_grammar.specs.Record.{fault as fault_in}

@@ -5,20 +5,20 @@ use Rattle.std.specs.List.{flat_map, list_any}
 use Rattle.std.proofs.lemmas.Grind.{flat_map-append}
 use Rattle.std.proofs.lemmas.List.Sums.{sum_by-append, sum_by-cons}
 use Rattle.std.proofs.lemmas.List.Folds.{list_any-append}
-use Rattle.det_base.specs.declared.format.Format.{Format}
-use Rattle.det_base.specs.Count.{Rose}
-use Rattle.det_base.specs.declared.frames.Outcome.{Outcome}
-use Rattle.det_base.specs.declared.frames.Outcome.TheVariants.{Finished, Refused}
-use Rattle.det_base.specs.declared.frames.Frame.{Frame}
-use Rattle.det_base.specs.declared.frames.Frame.TheVariants.{Register, Discover, Init, Run, Terminate}
-use Rattle.det_base.specs.Values.{ProfileValue}
-use Rattle.det_base.specs.Prefix.{IsPrefix, IsProperPrefix}
-use Rattle.det_base.specs.Shelf.{ShelfState, Reads}
-use Rattle.det_base.specs.Sink.{Grew, GrewShort}
-use Rattle.det_base.proofs.Counts.{rose-before}
-use Rattle.det_base.proofs.Growth.{grew-then, grew-none, grew-then-short}
-use Rattle.det_base.proofs.SlotReads.{reads-then}
-use Rattle.det_base.proofs.Prefixes.{prefix-none, prefix-same, proper-prefix, proper-length, prefix-then-proper}
+use Rattle.det_values.specs.declared.format.Format.{Format}
+use Rattle.det_edges.specs.Count.{Rose}
+use Rattle.det_values.specs.declared.frames.Outcome.{Outcome}
+use Rattle.det_values.specs.declared.frames.Outcome.TheVariants.{Finished, Refused}
+use Rattle.det_values.specs.declared.frames.Frame.{Frame}
+use Rattle.det_values.specs.declared.frames.Frame.TheVariants.{Register, Discover, Init, Run, Terminate}
+use Rattle.det_values.specs.Values.{ProfileValue}
+use Rattle.det_edges.specs.Prefix.{IsPrefix, IsProperPrefix}
+use Rattle.det_edges.specs.Shelf.{ShelfState, Reads}
+use Rattle.det_edges.specs.Sink.{Grew, GrewShort}
+use Rattle.det_edges.proofs.Counts.{rose-before}
+use Rattle.det_edges.proofs.Growth.{grew-then, grew-none, grew-then-short}
+use Rattle.det_edges.proofs.SlotReads.{reads-then}
+use Rattle.det_edges.proofs.Prefixes.{prefix-none, prefix-same, proper-prefix, proper-length, prefix-then-proper}
 use Rattle.record_grammar.specs.declared.item.Item.{Item}
 use Rattle.record_grammar.specs.declared.item.Item.TheVariants as items
 use Rattle.record_grammar.specs.Record.{items as items_in}

@@ -2,9 +2,9 @@
 use Rattle.std.proofs.Common.{◌≡◌, ◌⊎◌, inl, inr, ℕ, List, [], ◌++◌, Option, Some, None, Result, Ok, Err, sym, ap, subst, ◌∙◌, append-nil}
 use Rattle.std.specs.Prelude.{IfOk, IfSome, IsErrOf}
 use Rattle.std.specs.Option.{option_map}
-use Rattle.det_base.specs.Shelf.{ShelfState, Reads, IsAtEnd}
-use Rattle.det_base.specs.Sink.{Grew}
-use Rattle.det_base.proofs.Prefixes.{prefix-same}
+use Rattle.det_edges.specs.Shelf.{ShelfState, Reads, IsAtEnd}
+use Rattle.det_edges.specs.Sink.{Grew}
+use Rattle.det_edges.proofs.Prefixes.{prefix-same}
 use Rattle.record_grammar.specs.declared.fault.RecordFault.{RecordFault}
 use Rattle.record_reader.specs.declared.salvage_end.Salvaged.{Salvaged}
 use Rattle.record_reader.specs.declared.salvage_end.SalvageEnd.{SalvageEnd}

@@ -8,13 +8,13 @@ use Rattle.record_grammar.specs.declared.place.Layout.{Layout}
 use Rattle.record_grammar.specs.declared.place.Place.{Place}
 use Rattle.record_grammar.specs.declared.place.Place.TheVariants as places
 use Rattle.record_grammar.specs.declared.item.Item.{Item}
-use Rattle.det_base.specs.declared.format.Format.{Format}
-use Rattle.det_base.specs.declared.format.Format.TheVariants.{One, Two}
-use Rattle.det_base.specs.declared.frames.CycleInput.{CycleInput}
+use Rattle.det_values.specs.declared.format.Format.{Format}
+use Rattle.det_values.specs.declared.format.Format.TheVariants.{One, Two}
+use Rattle.det_values.specs.declared.frames.CycleInput.{CycleInput}
 use Rattle.record_grammar.specs.Numbers.{number_from, can_be}
 use Rattle.record_grammar.specs.Read.{Read, Got, More, Bad, ◌>>=◌, raw_at, many}
 use Rattle.record_grammar.specs.Grammar.{signed_at, sample_value_at, string_at, exactly_at, magic_at, format_at, version_at, name_byte_at, name_at, policy_at, event_at, params_at, events_at, profile_at, drawn_at, time_at, sample_at, samples_at, input_at, refusal_at, init_from, finished_from, init_at, finished_at, refused_at, run_at, tag_reason, tagged_at, frame_at, item_at}
-use Rattle.det_base.specs.Limits.{may_stand_in_name}
+use Rattle.det_values.specs.Limits.{may_stand_in_name}
 use Rattle.record_grammar.specs.Places.{after}
 use Rattle.record_grammar.specs.Record.{Decoded, Ending, whole, early, faulty, ending_at, decoded, decoded_all, with_next, fault, fault_from, fault_so_far, fault_so_far_from}
 

@@ -1,11 +1,11 @@
 -- What is spelled of a record, and what of it was written.
 use Rattle.std.specs.Prelude.{◌≡◌, ℕ, ◌+◌, List, [], ◌++◌, Bool, true, false, ◌||◌, Result, Ok, Err}
 use Rattle.std.specs.List.{list_any}
-use Rattle.det_base.specs.declared.format.Format.{Format}
-use Rattle.det_base.specs.declared.frames.Frame.{Frame}
-use Rattle.det_base.specs.declared.frames.Frame.TheVariants.{Terminate}
-use Rattle.det_base.specs.Values.{ProfileValue}
-use Rattle.det_base.specs.Sink.{Grew, GrewShort}
+use Rattle.det_values.specs.declared.format.Format.{Format}
+use Rattle.det_values.specs.declared.frames.Frame.{Frame}
+use Rattle.det_values.specs.declared.frames.Frame.TheVariants.{Terminate}
+use Rattle.det_values.specs.Values.{ProfileValue}
+use Rattle.det_edges.specs.Sink.{Grew, GrewShort}
 use Rattle.record_grammar.specs.declared.item.Item.{Item}
 use Rattle.record_grammar.specs.declared.item.Item.TheVariants as items
 use Rattle.record_grammar.specs.Places.{layout_of}

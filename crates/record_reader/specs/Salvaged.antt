@@ -1,11 +1,11 @@
 -- A record that breaks off, made whole up to its last whole frame.
 use Rattle.std.specs.Prelude.{ℕ, List, [], ◌∷◌, ◌++◌, Bool, true, false, Option, Some, None, sum_by, if◌then◌else◌}
 use Rattle.std.specs.List.{flat_map, list_any}
-use Rattle.det_base.specs.declared.frames.Outcome.{Outcome}
-use Rattle.det_base.specs.declared.frames.Outcome.TheVariants.{Finished, Refused}
-use Rattle.det_base.specs.declared.frames.Frame.{Frame}
-use Rattle.det_base.specs.declared.frames.Frame.TheVariants.{Init, Run, Terminate}
-use Rattle.det_base.specs.Values.{ProfileValue}
+use Rattle.det_values.specs.declared.frames.Outcome.{Outcome}
+use Rattle.det_values.specs.declared.frames.Outcome.TheVariants.{Finished, Refused}
+use Rattle.det_values.specs.declared.frames.Frame.{Frame}
+use Rattle.det_values.specs.declared.frames.Frame.TheVariants.{Init, Run, Terminate}
+use Rattle.det_values.specs.Values.{ProfileValue}
 use Rattle.record_grammar.specs.declared.item.Item.{Item}
 use Rattle.record_grammar.specs.declared.item.Item.TheVariants as items
 use Rattle.record_grammar.specs.Record.{items as items_in}

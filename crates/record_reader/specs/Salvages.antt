@@ -1,8 +1,8 @@
 -- What salvaging comes to, by the bytes that were read.
 use Rattle.std.specs.Prelude.{◌≡◌, ◌⊎◌, ℕ, List, [], ◌∷◌, ◌++◌, Option, Some, None, Result, Ok, Err}
-use Rattle.det_base.specs.Prefix.{IsPrefix, IsProperPrefix}
-use Rattle.det_base.specs.Sink.{Grew}
-use Rattle.det_base.specs.Values.{ProfileValue}
+use Rattle.det_edges.specs.Prefix.{IsPrefix, IsProperPrefix}
+use Rattle.det_edges.specs.Sink.{Grew}
+use Rattle.det_values.specs.Values.{ProfileValue}
 use Rattle.record_grammar.specs.declared.fault.RecordFault.{RecordFault}
 use Rattle.record_grammar.specs.declared.item.Item.TheVariants as items
 use Rattle.record_grammar.specs.Record.{items as items_in, fault as fault_in, fault_so_far}

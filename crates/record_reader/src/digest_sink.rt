@@ -1,5 +1,5 @@
 //! A sink that counts and digests what it takes.
-use det_base::{Sink, SinkFailed};
+use det_edges::{Sink, SinkFailed};
 use sha2::{Digest, Sha256};
 
 /// Takes everything, and keeps nothing of it but its SHA-256 state and a count. It never fails and takes no memory.
@@ -41,8 +41,8 @@ impl DigestSink {
 
 impl Sink for DigestSink {
     ghost use Rattle.std.specs.Prelude.{◌≡◌, ◌<◌, ◌≤◌, length, take, IsOk, IfOk, OnErr};
-    ghost use Rattle.det_base.specs.Count.{Rose};
-    ghost use Rattle.det_base.specs.Sink.{Grew, Same};
+    ghost use Rattle.det_edges.specs.Count.{Rose};
+    ghost use Rattle.det_edges.specs.Sink.{Grew, Same};
     ghost use Rattle.record_reader.specs.Digested.{Digested};
 
     ghost took = { Digested };

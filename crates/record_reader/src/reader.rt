@@ -2,7 +2,7 @@
 ghost use Rattle.std.specs.Prelude.{◌≡◌};
 
 use crate::reader_end::ReaderEnd;
-use det_base::Slots;
+use det_edges::Slots;
 use record_codec::{DecodeError, Decoder, Item, RecordFault};
 use std::alloc::Global;
 
@@ -29,8 +29,8 @@ enum Progress {
 
 impl RecordReader {
     ghost use Rattle.std.specs.Prelude.{ℕ, ◌<◌, ◌≤◌, List, [], ◌++◌, Option, Some, None, IsErrOf, Err};
-    ghost use Rattle.det_base.specs.Count.{Rose};
-    ghost use Rattle.det_base.specs.Shelf.{Reads, IsAtEnd};
+    ghost use Rattle.det_edges.specs.Count.{Rose};
+    ghost use Rattle.det_edges.specs.Shelf.{Reads, IsAtEnd};
     ghost use Rattle.record_grammar.specs.declared.fault.RecordFault.{RecordFault};
     ghost use Rattle.record_grammar.specs.declared.item.Item.{Item};
     ghost use Rattle.record_reader.specs.StandsFor.{StandsFor, ItemIs, RoomFell, told, slot_of, room};

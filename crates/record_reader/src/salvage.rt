@@ -4,7 +4,8 @@ ghost use Rattle.record_grammar.specs.declared.item.Item.TheVariants as items;
 ghost use Rattle.record_reader.specs.Salvaged.{is_init, runs_in, refusals_in};
 
 use crate::salvage_end::{SalvageEnd, Salvaged};
-use det_base::{Format, Frame, OutOfMemory, Outcome, Profile, Sink, write_all};
+use det_edges::{Sink, write_all};
+use det_values::{Format, Frame, OutOfMemory, Outcome, Profile};
 use record_codec::{Layout, encode_frame, encode_header};
 use std::alloc::Global;
 
@@ -53,7 +54,7 @@ fn has_begun_by(has_begun: bool, frame: &Frame) -> bool
 }
 
 impl Salvage {
-    ghost use Rattle.det_base.specs.Count.{Rose};
+    ghost use Rattle.det_edges.specs.Count.{Rose};
     ghost use Rattle.record_grammar.specs.Spelling.{CanSpell};
     ghost use Rattle.record_reader.specs.Keeping.{Holds, CutBy, spelled_unless_last, SameCounts, Counted, IsFresh, FinishIs};
 

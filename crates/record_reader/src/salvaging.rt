@@ -1,8 +1,8 @@
 //! Salvaging a record that breaks off.
 ghost use Rattle.std.specs.Prelude.{◌≡◌, ℕ, ◌<◌, ◌≤◌, List, [], IfOk, IfErr, IfSome, IsErrOf};
-ghost use Rattle.det_base.specs.Count.{Rose};
-ghost use Rattle.det_base.specs.Shelf.{Reads, IsAtEnd};
-ghost use Rattle.det_base.specs.Sink.{Grew};
+ghost use Rattle.det_edges.specs.Count.{Rose};
+ghost use Rattle.det_edges.specs.Shelf.{Reads, IsAtEnd};
+ghost use Rattle.det_edges.specs.Sink.{Grew};
 ghost use Rattle.record_grammar.specs.declared.fault.RecordFault.{RecordFault};
 ghost use Rattle.record_reader.specs.StandsFor.{StandsFor, slot_of};
 ghost use Rattle.record_reader.specs.Salvaged.{salvaged};
@@ -13,7 +13,8 @@ use crate::reader::RecordReader;
 use crate::reader_end::ReaderEnd;
 use crate::salvage::Salvage;
 use crate::salvage_end::{SalvageEnd, Salvaged};
-use det_base::{Profile, Sink, Slots};
+use det_edges::{Sink, Slots};
+use det_values::Profile;
 use record_codec::Item;
 use std::alloc::Global;
 

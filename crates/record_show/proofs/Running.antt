@@ -1,16 +1,16 @@
 -- A record on its way to a sink, item by item.
 use Rattle.std.proofs.Common.{◌≡◌, ◌⊎◌, inl, inr, ℕ, ◌+◌, ◌<◌, ◌≤◌, List, [], ◌∷◌, ◌++◌, length, Option, Some, None, Result, Ok, Err, refl, sym, ap, subst, ◌∙◌, append_assoc, append-nil, arith, length-append}
 use Rattle.std.specs.Prelude.{IfSome}
-use Rattle.det_base.specs.declared.format.Format.{Format}
-use Rattle.det_base.specs.declared.format.Format.TheVariants.{One}
-use Rattle.det_base.specs.declared.frames.RunFrame.{RunFrame}
-use Rattle.det_base.specs.declared.frames.Frame.TheVariants.{Register, Discover, Init, Run, Terminate}
-use Rattle.det_base.specs.Prefix.{IsPrefix}
-use Rattle.det_base.specs.Shelf.{ShelfState, Reads, IsAtEnd}
-use Rattle.det_base.specs.Sink.{Grew, GrewByPrefix, GrewShort}
-use Rattle.det_base.proofs.Growth.{grew-then, grew-none, grew-then-short, grew-then-part, part-wider, part-whole, short-wider, short-part}
-use Rattle.det_base.proofs.Prefixes.{prefix-same, prefix-then, prefix-append}
-use Rattle.det_base.proofs.SlotReads.{reads-none, reads-then, reads-told}
+use Rattle.det_values.specs.declared.format.Format.{Format}
+use Rattle.det_values.specs.declared.format.Format.TheVariants.{One}
+use Rattle.det_values.specs.declared.frames.RunFrame.{RunFrame}
+use Rattle.det_values.specs.declared.frames.Frame.TheVariants.{Register, Discover, Init, Run, Terminate}
+use Rattle.det_edges.specs.Prefix.{IsPrefix}
+use Rattle.det_edges.specs.Shelf.{ShelfState, Reads, IsAtEnd}
+use Rattle.det_edges.specs.Sink.{Grew, GrewByPrefix, GrewShort}
+use Rattle.det_edges.proofs.Growth.{grew-then, grew-none, grew-then-short, grew-then-part, part-wider, part-whole, short-wider, short-part}
+use Rattle.det_edges.proofs.Prefixes.{prefix-same, prefix-then, prefix-append}
+use Rattle.det_edges.proofs.SlotReads.{reads-none, reads-then, reads-told}
 use Rattle.record_grammar.specs.declared.fault.RecordFault.{RecordFault}
 use Rattle.record_grammar.specs.declared.item.Item.{Item}
 use Rattle.record_grammar.specs.declared.item.Item.TheVariants as items
@@ -21,7 +21,7 @@ use Rattle.record_reader.specs.declared.reader_end.ReaderEnd.{ReaderEnd}
 use Rattle.record_reader.specs.declared.reader_end.ReaderEnd.TheVariants as stops
 use Rattle.record_reader.specs.StandsFor.{StandsFor, ItemIs, FoundFault, IsFaulty, RoomFell, room}
 use Rattle.record_reader.proofs.Items.{more_items}
-use Rattle.det_texts.specs.Records.{item_lines, record_lines}
+use Rattle.record_text.specs.Records.{item_lines, record_lines}
 use Rattle.probes.specs.Reports.{ProbeLife, reports}
 use Rattle.probes.specs.Shows.{Shows}
 use Rattle.probes.proofs.Shown.{shows-none, shows-then, all-reports}

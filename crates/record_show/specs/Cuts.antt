@@ -1,6 +1,6 @@
 -- How the writing of a text ends early.
 use Rattle.std.specs.Prelude.{ℕ, List}
-use Rattle.det_base.specs.Sink.{GrewByPrefix, GrewShort}
+use Rattle.det_edges.specs.Sink.{GrewByPrefix, GrewShort}
 use Rattle.record_show.specs.declared.ends.ShowEnd.{ShowEnd}
 use Rattle.record_show.specs.declared.ends.ShowEnd.TheVariants.{BadRecord, ReadFault, WriteFault, OutOfMemory}
 

@@ -1,8 +1,8 @@
 -- How the printing of a record ends.
 use Rattle.std.specs.Prelude.{◌≡◌, ◌⊎◌, ℕ, List, [], ◌++◌, length, Some, None, Result, Ok, Err}
-use Rattle.det_base.specs.Sink.{Grew, GrewByPrefix, GrewShort}
+use Rattle.det_edges.specs.Sink.{Grew, GrewByPrefix, GrewShort}
 use Rattle.record_grammar.specs.Record.{items as items_in, fault as fault_in, fault_so_far}
-use Rattle.det_texts.specs.Records.{record_lines}
+use Rattle.record_text.specs.Records.{record_lines}
 use Rattle.record_reader.specs.declared.reader_end.ReaderEnd.{ReaderEnd}
 use Rattle.record_reader.specs.declared.reader_end.ReaderEnd.TheVariants as stops
 use Rattle.probes.specs.Reports.{ProbeLife}

@@ -1,14 +1,15 @@
 //! Items, printed one after another.
 ghost use Rattle.std.specs.Prelude.{◌≡◌, ◌≤◌, ◌<◌, ◌+◌, [], ◌∷◌, length, OnOk, IfErr, IsErrOf};
-ghost use Rattle.det_base.specs.Count.{Rose};
-ghost use Rattle.det_base.specs.Sink.{Grew};
+ghost use Rattle.det_edges.specs.Count.{Rose};
+ghost use Rattle.det_edges.specs.Sink.{Grew};
 ghost use Rattle.record_grammar.specs.declared.item.Item.TheVariants as items;
 ghost use Rattle.record_show.specs.Text.{run_in};
 ghost use Rattle.record_show.specs.Cuts.{Cuts};
 
 use crate::ends::ShowEnd;
-use det_base::{Format, Frame, OutOfMemory, Sink, write_all};
-use det_texts::{put_frame_lines, put_header_lines};
+use det_edges::{Sink, write_all};
+use det_values::{Format, Frame, OutOfMemory};
+use record_text::{put_frame_lines, put_header_lines};
 use record_grammar::Item;
 use std::alloc::Global;
 
@@ -47,8 +48,8 @@ fn cycles_in(frame: &Frame) -> u32
 }
 
 impl Printer {
-    ghost use Rattle.det_base.specs.declared.format.Format.TheVariants.{One};
-    ghost use Rattle.det_texts.specs.Records.{item_lines};
+    ghost use Rattle.det_values.specs.declared.format.Format.TheVariants.{One};
+    ghost use Rattle.record_text.specs.Records.{item_lines};
     ghost use Rattle.record_show.specs.Text.{format_behind};
 
     /// A printer that printed nothing. It takes no memory.

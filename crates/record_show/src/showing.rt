@@ -1,21 +1,22 @@
 //! A record, printed and shown to probes as it is read.
 ghost use Rattle.std.specs.Prelude.{◌≡◌, ℕ, ◌<◌, ◌≤◌, ◌+◌, ◌*◌, List, [], ◌∷◌, ◌++◌, map, length, OnOk, IfErr, IfSome, IsErrOf};
 ghost use Rattle.std.specs.Vec.{vec_len};
-ghost use Rattle.det_base.specs.Count.{Rose};
-ghost use Rattle.det_base.specs.Shelf.{Reads, IsAtEnd};
-ghost use Rattle.det_base.specs.Sink.{Grew, GrewByPrefix};
+ghost use Rattle.det_edges.specs.Count.{Rose};
+ghost use Rattle.det_edges.specs.Shelf.{Reads, IsAtEnd};
+ghost use Rattle.det_edges.specs.Sink.{Grew, GrewByPrefix};
 ghost use Rattle.record_grammar.specs.Record.{items as items_in};
 ghost use Rattle.record_reader.specs.StandsFor.{StandsFor, slot_of};
 ghost use Rattle.probes.specs.Reports.{reports};
 ghost use Rattle.probes.specs.Shows.{Shows};
-ghost use Rattle.det_texts.specs.Records.{item_lines};
+ghost use Rattle.record_text.specs.Records.{item_lines};
 ghost use Rattle.record_show.specs.Text.{run_in, runs_in, format_behind, text_of};
 ghost use Rattle.record_show.specs.Cuts.{Cuts};
 ghost use Rattle.record_show.specs.Ended.{Answers, Ended, ItemsAre, end_of};
 
 use crate::ends::{ShowEnd, Shown};
 use crate::printing::{Printer, write_text};
-use det_base::{Bytes, Frame, Sink, Slots};
+use det_edges::{Sink, Slots};
+use det_values::{Bytes, Frame};
 use probes::{Probe, finish_all, show_all};
 use record_grammar::Item;
 use record_reader::{ReaderEnd, RecordReader};

@@ -1,5 +1,6 @@
 //! Texts of records, with the reports of the probes that a program has.
-use det_base::{Bytes, FailList, MemFile, MemFiles, MemShelf, MemSink, Shelf};
+use det_edges::{FailList, MemFile, MemFiles, MemShelf, MemSink, Shelf};
+use det_values::Bytes;
 use probes::{CountProbe, FirstRefusalProbe, GapProbe, Probe};
 use record_codec::{Reason, RecordFault};
 use record_reader::RecordReader;

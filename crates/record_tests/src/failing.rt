@@ -1,7 +1,7 @@
 //! Shelves that fail in mid-record.
 use crate::salvages::salvage;
 use crate::sources::{items_of, shelf_of};
-use det_base::{FailList, MemSink, Shelf};
+use det_edges::{FailList, MemSink, Shelf};
 use record_reader::{ReaderEnd, RecordReader, SalvageEnd};
 use record_vectors::{first, two_cycles};
 use std::alloc::Global;

@@ -4,7 +4,7 @@ ghost use Rattle.std.specs.Prelude.{◌<◌};
 use crate::feeding::fed;
 use crate::sources::shelf_of;
 use crate::vectors::refused_runs;
-use det_base::{FailList, MemSink, Shelf, Sink};
+use det_edges::{FailList, MemSink, Shelf, Sink};
 use record_codec::{Reason, RecordFault};
 use record_reader::{DigestSink, RecordReader, SalvageEnd, Salvaged, salvage_run};
 use record_vectors::{empty_run, first, two_cycles};

@@ -1,9 +1,9 @@
 //! Records on shelves.
 ghost use Rattle.std.specs.Prelude.{◌<◌};
-ghost use Rattle.det_base.specs.MemShelf.{mem_shelf_state};
+ghost use Rattle.det_edges.specs.MemShelf.{mem_shelf_state};
 ghost use Rattle.record_reader.specs.StandsFor.{slot_of};
 
-use det_base::{FailList, MemFile, MemFiles, MemShelf, Shelf};
+use det_edges::{FailList, MemFile, MemFiles, MemShelf, Shelf};
 use record_codec::{Item, RecordFault};
 use record_reader::{ReaderEnd, RecordReader};
 use std::alloc::Global;

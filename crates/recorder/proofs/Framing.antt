@@ -2,19 +2,19 @@
 use Rattle.std.proofs.Common.{◌≡◌, ◌<◌, ℕ, ◌+◌, List, [], ◌∷◌, ◌++◌, length, map, refl, sym, ap, subst, ◌∙◌}
 use Rattle.std.specs.List.{All, count_by}
 use Rattle.std.proofs.lemmas.List.Elements.{All-nil, All-cons}
-use Rattle.det_base.specs.Values.{ProfileValue, SampleValue}
-use Rattle.det_base.specs.Sink.{Grew, GrewByPrefix}
-use Rattle.det_base.proofs.Growth.{part-whole}
-use Rattle.det_base.specs.Frames.{undrawn, outcome_in_format}
-use Rattle.det_base.specs.declared.format.Format.{Format}
-use Rattle.det_base.specs.declared.format.Format.TheVariants.{One, Two}
-use Rattle.det_base.specs.declared.frames.CycleInput.{CycleInput}
-use Rattle.det_base.specs.declared.frames.DrawnElement.{DrawnElement}
-use Rattle.det_base.specs.declared.frames.Outcome.{Outcome}
-use Rattle.det_base.specs.declared.frames.Outcome.TheVariants.{Finished, Refused}
-use Rattle.det_base.specs.declared.frames.RunFrame.{RunFrame}
-use Rattle.det_base.specs.declared.frames.Frame.{Frame}
-use Rattle.det_base.specs.declared.frames.Frame.TheVariants.{Run}
+use Rattle.det_values.specs.Values.{ProfileValue, SampleValue}
+use Rattle.det_edges.specs.Sink.{Grew, GrewByPrefix}
+use Rattle.det_edges.proofs.Growth.{part-whole}
+use Rattle.det_values.specs.Frames.{undrawn, outcome_in_format}
+use Rattle.det_values.specs.declared.format.Format.{Format}
+use Rattle.det_values.specs.declared.format.Format.TheVariants.{One, Two}
+use Rattle.det_values.specs.declared.frames.CycleInput.{CycleInput}
+use Rattle.det_values.specs.declared.frames.DrawnElement.{DrawnElement}
+use Rattle.det_values.specs.declared.frames.Outcome.{Outcome}
+use Rattle.det_values.specs.declared.frames.Outcome.TheVariants.{Finished, Refused}
+use Rattle.det_values.specs.declared.frames.RunFrame.{RunFrame}
+use Rattle.det_values.specs.declared.frames.Frame.{Frame}
+use Rattle.det_values.specs.declared.frames.Frame.TheVariants.{Run}
 use Rattle.job_trait.specs.Meaning.{Meaning}
 use Rattle.cycle_engine.specs.Engine.{EngineState, StandsFor as EngineStands}
 use Rattle.cycle_engine.specs.Frames.{state_of, frame_of}

@@ -1,9 +1,9 @@
 -- What a reader gives, run block by block.
 use Rattle.std.proofs.Common.{◌≡◌, ◌≤◌, ◌<◌, ℕ, List, [], ◌∷◌, ◌++◌, length, ap, subst, ◌∙◌, arith, append_assoc, length-append}
 use Rattle.std.specs.Prelude.{Option, Some, None, Result, Ok, Err}
-use Rattle.det_base.specs.Values.{ProfileValue}
-use Rattle.det_base.proofs.Growth.{grew-then-part, grew-then-short, part-whole}
-use Rattle.det_base.specs.declared.frames.CycleInput.{CycleInput}
+use Rattle.det_values.specs.Values.{ProfileValue}
+use Rattle.det_edges.proofs.Growth.{grew-then-part, grew-then-short, part-whole}
+use Rattle.det_values.specs.declared.frames.CycleInput.{CycleInput}
 use Rattle.job_trait.specs.Meaning.{Meaning}
 use Rattle.cycle_engine.specs.Engine.{EngineState, StandsFor as EngineStands}
 use Rattle.stimulus.specs.declared.item.StimItem.{StimItem}

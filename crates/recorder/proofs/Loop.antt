@@ -2,16 +2,16 @@
 use Rattle.std.proofs.Common.{◌≡◌, ◌≤◌, ◌<◌, inl, inr, ℕ, ◌+◌, ◌^◌, List, [], ◌∷◌, ◌++◌, length, take, map, sym, ap, subst, ◌∙◌, arith, append-nil, zero-add, length-append}
 use Rattle.std.specs.Prelude.{Bool, true, false, Ok, Err}
 use Rattle.std.specs.List.{count_by}
-use Rattle.det_base.specs.Values.{ProfileValue}
-use Rattle.det_base.specs.Prefix.{IsPrefix}
-use Rattle.det_base.specs.Sink.{Grew, GrewByPrefix, GrewShort}
-use Rattle.det_base.specs.Shelf.{ShelfState, Reads}
-use Rattle.det_base.proofs.Prefixes.{prefix-none, prefix-same, prefix-then}
-use Rattle.det_base.proofs.Growth.{grew-none, grew-then, grew-then-part, grew-then-short, part-whole, part-wider, short-wider}
-use Rattle.det_base.proofs.SlotReads.{reads-none, reads-then, reads-then-none}
-use Rattle.det_base.specs.declared.format.Format.{Format}
-use Rattle.det_base.specs.declared.frames.CycleInput.{CycleInput}
-use Rattle.det_base.specs.declared.frames.Frame.TheVariants.{Register, Discover, Init, Terminate}
+use Rattle.det_values.specs.Values.{ProfileValue}
+use Rattle.det_edges.specs.Prefix.{IsPrefix}
+use Rattle.det_edges.specs.Sink.{Grew, GrewByPrefix, GrewShort}
+use Rattle.det_edges.specs.Shelf.{ShelfState, Reads}
+use Rattle.det_edges.proofs.Prefixes.{prefix-none, prefix-same, prefix-then}
+use Rattle.det_edges.proofs.Growth.{grew-none, grew-then, grew-then-part, grew-then-short, part-whole, part-wider, short-wider}
+use Rattle.det_edges.proofs.SlotReads.{reads-none, reads-then, reads-then-none}
+use Rattle.det_values.specs.declared.format.Format.{Format}
+use Rattle.det_values.specs.declared.frames.CycleInput.{CycleInput}
+use Rattle.det_values.specs.declared.frames.Frame.TheVariants.{Register, Discover, Init, Terminate}
 use Rattle.job_trait.specs.Meaning.{Meaning}
 use Rattle.cycle_engine.specs.Engine.{EngineState, StandsFor as EngineStands}
 use Rattle.cycle_engine.proofs.Standing.{length-runs, init_is}

@@ -2,10 +2,10 @@
 use Rattle.std.proofs.Common.{◌≡◌, ℕ, List, [], ◌++◌, refl, sym, ap, subst, ◌∙◌, append-nil, length}
 use Rattle.std.specs.Prelude.{Option, Some, None, Result, Ok, Err, IfSome, IfOk, OnOk}
 use Rattle.std.specs.Option.{option_map}
-use Rattle.det_base.specs.Values.{ProfileValue}
-use Rattle.det_base.specs.Sink.{GrewByPrefix}
-use Rattle.det_base.specs.Shelf.{ShelfState, Reads, IsAtEnd}
-use Rattle.det_base.proofs.Growth.{part-whole, short-part}
+use Rattle.det_values.specs.Values.{ProfileValue}
+use Rattle.det_edges.specs.Sink.{GrewByPrefix}
+use Rattle.det_edges.specs.Shelf.{ShelfState, Reads, IsAtEnd}
+use Rattle.det_edges.proofs.Growth.{part-whole, short-part}
 use Rattle.job_trait.specs.Meaning.{Meaning}
 use Rattle.cycle_engine.specs.Frames.{runs}
 use Rattle.stimulus.specs.Reading.{blocks}

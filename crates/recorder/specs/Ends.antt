@@ -1,9 +1,9 @@
 -- How a recorded run ends.
 use Rattle.std.specs.Prelude.{◌≡◌, ◌⊎◌, ℕ, List, [], ◌++◌, length, true, false, Result, Ok, Err}
 use Rattle.std.specs.List.{count_by}
-use Rattle.det_base.specs.Values.{ProfileValue}
-use Rattle.det_base.specs.Sink.{Grew, GrewByPrefix, GrewShort}
-use Rattle.det_base.specs.declared.frames.RunFrame.{RunFrame}
+use Rattle.det_values.specs.Values.{ProfileValue}
+use Rattle.det_edges.specs.Sink.{Grew, GrewByPrefix, GrewShort}
+use Rattle.det_values.specs.declared.frames.RunFrame.{RunFrame}
 use Rattle.job_trait.specs.Meaning.{Meaning}
 use Rattle.cycle_engine.specs.Frames.{runs}
 use Rattle.stimulus.specs.Reading.{Terminated, BadLine, blocks, ending, has_bad}

@@ -1,11 +1,11 @@
 -- The record of a stimulus: the run of a profile over the blocks of a text, spelled.
 use Rattle.std.specs.Prelude.{ℕ, ◌-◌, ◌^◌, List, [], ◌∷◌, length, map, min, Bool, true, false}
 use Rattle.std.specs.List.{flat_map}
-use Rattle.det_base.specs.Values.{ProfileValue}
-use Rattle.det_base.specs.declared.format.Format.{Format}
-use Rattle.det_base.specs.declared.frames.CycleInput.{CycleInput}
-use Rattle.det_base.specs.declared.frames.RunFrame.{RunFrame}
-use Rattle.det_base.specs.declared.frames.Frame.TheVariants.{Register, Discover, Init, Run}
+use Rattle.det_values.specs.Values.{ProfileValue}
+use Rattle.det_values.specs.declared.format.Format.{Format}
+use Rattle.det_values.specs.declared.frames.CycleInput.{CycleInput}
+use Rattle.det_values.specs.declared.frames.RunFrame.{RunFrame}
+use Rattle.det_values.specs.declared.frames.Frame.TheVariants.{Register, Discover, Init, Run}
 use Rattle.job_trait.specs.Meaning.{Meaning}
 use Rattle.cycle_engine.specs.Frames.{frames, init_of, state_of, runs_behind}
 use Rattle.record_grammar.specs.Spelling.{spelled, spelled_frame}

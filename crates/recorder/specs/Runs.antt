@@ -1,10 +1,10 @@
 -- Blocks that were run, and their frames written and shown.
 use Rattle.std.specs.Prelude.{◌≡◌, ◌≤◌, ◌<◌, ◌^◌, ℕ, ◌+◌, List, ◌++◌, length, false}
 use Rattle.std.specs.List.{count_by}
-use Rattle.det_base.specs.Values.{ProfileValue}
-use Rattle.det_base.specs.Prefix.{IsPrefix}
-use Rattle.det_base.specs.Sink.{Grew, GrewByPrefix, GrewShort}
-use Rattle.det_base.specs.declared.frames.CycleInput.{CycleInput}
+use Rattle.det_values.specs.Values.{ProfileValue}
+use Rattle.det_edges.specs.Prefix.{IsPrefix}
+use Rattle.det_edges.specs.Sink.{Grew, GrewByPrefix, GrewShort}
+use Rattle.det_values.specs.declared.frames.CycleInput.{CycleInput}
 use Rattle.job_trait.specs.Meaning.{Meaning}
 use Rattle.cycle_engine.specs.Engine.{EngineState, StandsFor as EngineStands}
 use Rattle.stimulus.specs.declared.item.StimItem.{StimItem}

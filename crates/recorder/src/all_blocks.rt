@@ -1,7 +1,7 @@
 //! All complete blocks that a reader has, run one after another.
 ghost use Rattle.std.specs.Prelude.{◌≡◌, ℕ, ◌≤◌, ◌+◌, ◌*◌, List, ◌++◌, map, length, false, OnOk, IfErr, IsErrOf};
 ghost use Rattle.std.specs.Vec.{vec_len};
-ghost use Rattle.det_base.specs.Count.{Rose};
+ghost use Rattle.det_edges.specs.Count.{Rose};
 ghost use Rattle.stimulus.specs.declared.item.StimItem.{StimItem as Item};
 ghost use Rattle.stimulus.specs.StandsFor.{IsSettled, room};
 ghost use Rattle.stimulus.specs.Reading.{inputs_of};
@@ -10,7 +10,8 @@ ghost use Rattle.recorder.specs.Runs.{end_of, Ran, StandTogether, IsReady, AllRa
 use crate::block::{Crew, run_block};
 use crate::ends::{Counts, RecordEnd};
 use cycle_engine::Engine;
-use det_base::{Bytes, Profile, Sink};
+use det_edges::Sink;
+use det_values::{Bytes, Profile};
 use job_trait::Job;
 use probes::Probe;
 use std::thread::Threads;

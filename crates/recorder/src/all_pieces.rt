@@ -1,8 +1,8 @@
 //! A text, read piece by piece, and its blocks run.
 ghost use Rattle.std.specs.Prelude.{◌≡◌, ℕ, ◌<◌, ◌≤◌, ◌+◌, ◌*◌, ◌^◌, List, [], map, length, false, OnOk, IfErr, IsErrOf};
 ghost use Rattle.std.specs.Vec.{vec_len};
-ghost use Rattle.det_base.specs.Count.{Rose};
-ghost use Rattle.det_base.specs.Shelf.{Reads, IsAtEnd};
+ghost use Rattle.det_edges.specs.Count.{Rose};
+ghost use Rattle.det_edges.specs.Shelf.{Reads, IsAtEnd};
 ghost use Rattle.stimulus.specs.declared.item.StimItem.{StimItem as Item};
 ghost use Rattle.stimulus.specs.StandsFor.{IsSettled};
 ghost use Rattle.stimulus.specs.Reading.{inputs_of};
@@ -12,7 +12,8 @@ use crate::all_blocks::run_blocks;
 use crate::block::Crew;
 use crate::ends::{Counts, RecordEnd};
 use cycle_engine::Engine;
-use det_base::{Bytes, Profile, Sink, Slots};
+use det_edges::{Sink, Slots};
+use det_values::{Bytes, Profile};
 use job_trait::Job;
 use probes::Probe;
 use std::thread::Threads;

@@ -1,17 +1,18 @@
 //! Frames, encoded and written one after another.
 ghost use Rattle.std.specs.Prelude.{◌≡◌, ◌≤◌, ◌+◌, [], ◌∷◌, length, OnOk, IfErr, IsErrOf};
 ghost use Rattle.std.specs.List.{count_by};
-ghost use Rattle.det_base.specs.Count.{Rose};
-ghost use Rattle.det_base.specs.Sink.{Grew};
-ghost use Rattle.det_base.specs.declared.frames.RunFrame.{RunFrame as RunValue};
-ghost use Rattle.det_base.specs.declared.frames.Frame.TheVariants.{Run};
+ghost use Rattle.det_edges.specs.Count.{Rose};
+ghost use Rattle.det_edges.specs.Sink.{Grew};
+ghost use Rattle.det_values.specs.declared.frames.RunFrame.{RunFrame as RunValue};
+ghost use Rattle.det_values.specs.declared.frames.Frame.TheVariants.{Run};
 ghost use Rattle.record_grammar.specs.Spelling.{CanSpell, spelled_frame};
 ghost use Rattle.probes.specs.Shipped.{is_refused};
 ghost use Rattle.recorder.specs.Record.{counted};
 ghost use Rattle.recorder.specs.Runs.{Cuts};
 
 use crate::ends::{Counts, RecordEnd};
-use det_base::{Format, Frame, Outcome, RunFrame, Sink, write_all};
+use det_edges::{Sink, write_all};
+use det_values::{Format, Frame, Outcome, RunFrame};
 use record_codec::encode_frame;
 
 /// Writes bytes of the record and counts them.

@@ -1,9 +1,9 @@
 //! Runs a job over a stimulus and writes its record.
 ghost use Rattle.std.specs.Prelude.{◌≡◌, ℕ, ◌<◌, ◌≤◌, ◌+◌, ◌*◌, List, [], ◌∷◌, ◌++◌, map, length, false, Err, OnOk, IfOk, IfSome, IsErrOf};
 ghost use Rattle.std.specs.Vec.{vec_len};
-ghost use Rattle.det_base.specs.Count.{Rose};
-ghost use Rattle.det_base.specs.Shelf.{Reads, IsAtEnd};
-ghost use Rattle.det_base.specs.Sink.{GrewByPrefix};
+ghost use Rattle.det_edges.specs.Count.{Rose};
+ghost use Rattle.det_edges.specs.Shelf.{Reads, IsAtEnd};
+ghost use Rattle.det_edges.specs.Sink.{GrewByPrefix};
 ghost use Rattle.cycle_engine.specs.Engine.{StandsFor as EngineStands};
 ghost use Rattle.cycle_engine.specs.Frames.{runs};
 ghost use Rattle.record_grammar.specs.Spelling.{spelled};
@@ -18,7 +18,8 @@ use crate::block::Crew;
 use crate::ends::{Counts, RecordEnd};
 use crate::frames::{write_bytes, write_frame};
 use cycle_engine::Engine;
-use det_base::{Bytes, Frame, OutOfMemory, Profile, Sink, Slots};
+use det_edges::{Sink, Slots};
+use det_values::{Bytes, Frame, OutOfMemory, Profile};
 use job_trait::Job;
 use probes::Probe;
 use record_codec::{encode_frame, encode_header};

@@ -6,28 +6,28 @@ use Rattle.std.specs.Option.{unwrap_or}
 use Rattle.std.specs.List.{All}
 use Rattle.std.proofs.lemmas.Int.{ints}
 use Rattle.std.proofs.lemmas.List.Elements.{All-nil, All-cons}
-use Rattle.det_base.specs.declared.event.Policy.TheVariants.{Last}
-use Rattle.det_base.specs.declared.job_kind.JobKind.{JobKind}
-use Rattle.det_base.specs.declared.job_kind.JobKind.TheVariants.{Bank, Cloud, Guard}
-use Rattle.det_base.specs.Values.{ProfileValue, EventSpecValue}
-use Rattle.app_shared.proofs.Ranges.{wide_fits}
-use Rattle.app_bank.specs.Meaning as bank
-use Rattle.app_bank.specs.Ranges as bank_ranges
-use Rattle.app_bank.specs.Laws.{bank_laws}
-use Rattle.app_cloud.specs.Meaning as cloud
-use Rattle.app_cloud.specs.Ranges as cloud_ranges
-use Rattle.app_cloud.specs.Laws.{cloud_laws}
-use Rattle.app_guard.specs.Meaning as guard
-use Rattle.app_guard.specs.Ranges as guard_ranges
-use Rattle.app_guard.specs.Laws.{guard_laws}
+use Rattle.det_values.specs.declared.event.Policy.TheVariants.{Last}
+use Rattle.det_values.specs.declared.job_kind.JobKind.{JobKind}
+use Rattle.det_values.specs.declared.job_kind.JobKind.TheVariants.{Bank, Cloud, Guard}
+use Rattle.det_values.specs.Values.{ProfileValue, EventSpecValue}
+use Rattle.job_shared.proofs.Ranges.{wide_fits}
+use Rattle.job_bank.specs.Meaning as bank
+use Rattle.job_bank.specs.Ranges as bank_ranges
+use Rattle.job_bank.specs.Laws.{bank_laws}
+use Rattle.job_cloud.specs.Meaning as cloud
+use Rattle.job_cloud.specs.Ranges as cloud_ranges
+use Rattle.job_cloud.specs.Laws.{cloud_laws}
+use Rattle.job_guard.specs.Meaning as guard
+use Rattle.job_guard.specs.Ranges as guard_ranges
+use Rattle.job_guard.specs.Laws.{guard_laws}
 use Rattle.record_grammar.specs.Spelling.{IsHeader, IsEvent}
 use Rattle.manifest.specs.Values.{ManifestValue}
 use Rattle.manifest.specs.Meaning.{manifest_of}
 use Rattle.manifest.specs.Profiles.{profile_of}
 use Rattle.manifest.specs.declared.fault.ManifestFault.{ManifestFault}
-use Rattle.det_answers.specs.declared.answer.BadManifest.{BadManifest}
-use Rattle.det_setup.specs.Setup.{bad_param, unless_bad, setup_from}
-use Rattle.det_record.specs.Outcomes.{demo_profile, demo_outcome, recorded_by_kind, recorded_by}
+use Rattle.cli_answers.specs.declared.answer.BadManifest.{BadManifest}
+use Rattle.cmd_setup.specs.Setup.{bad_param, unless_bad, setup_from}
+use Rattle.cmd_record.specs.Outcomes.{demo_profile, demo_outcome, recorded_by_kind, recorded_by}
 use Rattle.run_laws.specs.Statements.{frames_by_kind, IsRecordRead, RecordIsRead, DemoIsRead}
 use Rattle.run_laws.proofs.Shipped.{bank_spelled, cloud_spelled, guard_spelled}
 use Rattle.run_laws.proofs.Parameters.{bank_fits, cloud_fits, guard_fits}

@@ -2,8 +2,8 @@
 use Rattle.std.proofs.Common.{◌≡◌, ℕ, ℤ, zero, suc, ◌+◌, ◌-◌, ◌*◌, ◌<◌, ◌≤◌, List, [], ◌∷◌, length, Option, Result, Ok, Err, refl, sym, ap, ◌∙◌, subst, arith}
 use Rattle.std.specs.List.{All}
 use Rattle.std.proofs.lemmas.List.Elements.{All-nil, All-cons, All-head, All-tail, All-weaker}
-use Rattle.det_base.specs.declared.format.Format.TheVariants.{Two}
-use Rattle.det_base.specs.Values.{RefusedAtValue}
+use Rattle.det_values.specs.declared.format.Format.TheVariants.{Two}
+use Rattle.det_values.specs.Values.{RefusedAtValue}
 use Rattle.event_cache.specs.Windows.{AreWindows}
 use Rattle.job_trait.specs.declared.answers.Concluded.{Concluded}
 use Rattle.job_trait.specs.Meaning.{Meaning, Prepared}

@@ -3,16 +3,16 @@ use Rattle.std.proofs.Common.{ℕ, ◌+◌, ◌≤◌, List, [], ◌∷◌, ◌+
 use Rattle.std.specs.List.{All}
 use Rattle.std.proofs.lemmas.List.{length-map}
 use Rattle.std.proofs.lemmas.List.Elements.{All-nil, All-cons, All-head, All-tail, All-append, All-push, All-map, All-weaker}
-use Rattle.det_base.specs.Limits.{IsSampleValue}
-use Rattle.det_base.specs.Values.{ProfileValue, SampleValue, RefusedAtValue}
-use Rattle.det_base.specs.Frames.{undrawn, outcome_in_format}
-use Rattle.det_base.specs.declared.format.Format.{Format}
-use Rattle.det_base.specs.declared.format.Format.TheVariants.{One, Two}
-use Rattle.det_base.specs.declared.frames.CycleInput.{CycleInput}
-use Rattle.det_base.specs.declared.frames.Outcome.{Outcome}
-use Rattle.det_base.specs.declared.frames.Outcome.TheVariants.{Finished, Refused}
-use Rattle.det_base.specs.declared.frames.Frame.{Frame}
-use Rattle.det_base.specs.declared.frames.Frame.TheVariants as frames
+use Rattle.det_values.specs.Limits.{IsSampleValue}
+use Rattle.det_values.specs.Values.{ProfileValue, SampleValue, RefusedAtValue}
+use Rattle.det_values.specs.Frames.{undrawn, outcome_in_format}
+use Rattle.det_values.specs.declared.format.Format.{Format}
+use Rattle.det_values.specs.declared.format.Format.TheVariants.{One, Two}
+use Rattle.det_values.specs.declared.frames.CycleInput.{CycleInput}
+use Rattle.det_values.specs.declared.frames.Outcome.{Outcome}
+use Rattle.det_values.specs.declared.frames.Outcome.TheVariants.{Finished, Refused}
+use Rattle.det_values.specs.declared.frames.Frame.{Frame}
+use Rattle.det_values.specs.declared.frames.Frame.TheVariants as frames
 use Rattle.det_client.specs.State.{next_time}
 use Rattle.event_cache.specs.Windows.{AreWindows, windows_after}
 use Rattle.job_trait.specs.Meaning.{Meaning}

@@ -4,9 +4,9 @@ use Rattle.std.specs.Prelude.{nat_le, FitsSigned}
 use Rattle.std.specs.Int.{w64}
 use Rattle.std.specs.List.{All}
 use Rattle.std.specs.Str.{is_utf8}
-use Rattle.det_base.specs.Jobs.{number_of_kind, kind_of_name}
-use Rattle.det_base.specs.declared.job_kind.JobKind.{JobKind}
-use Rattle.det_base.specs.declared.job_kind.JobKind.TheVariants.{Bank, Cloud, Guard}
+use Rattle.det_values.specs.Jobs.{number_of_kind, kind_of_name}
+use Rattle.det_values.specs.declared.job_kind.JobKind.{JobKind}
+use Rattle.det_values.specs.declared.job_kind.JobKind.TheVariants.{Bank, Cloud, Guard}
 use Rattle.record_grammar.specs.Spelling.{IsHeader}
 use Rattle.toml.specs.Data.{Data}
 use Rattle.manifest.specs.Values.{ManifestValue}

@@ -5,7 +5,7 @@ use Rattle.std.specs.List.{All}
 use Rattle.std.specs.Option.{option_or}
 use Rattle.std.proofs.lemmas.Bool.{leb-true, and_parts}
 use Rattle.std.proofs.lemmas.List.Elements.{All-nil, All-cons}
-use Rattle.det_base.specs.Limits.{IsCycleTime, is_event_name}
+use Rattle.det_values.specs.Limits.{IsCycleTime, is_event_name}
 use Rattle.toml.specs.Data.{Data, string, integer, float, boolean, datetime, array, table}
 use Rattle.record_grammar.specs.Spelling.{IsEvent}
 use Rattle.manifest.specs.Tree.{count_of, number_of, text_of, length_of_items}

@@ -7,11 +7,11 @@ use Rattle.std.specs.List.{All}
 use Rattle.std.proofs.lemmas.Bool.{ltb-false, and_parts}
 use Rattle.std.proofs.lemmas.Int.{ints}
 use Rattle.std.proofs.lemmas.List.Elements.{All-from_get_or}
-use Rattle.app_shared.specs.Params.{param, is_param}
-use Rattle.app_shared.proofs.Ranges.{wide_fits}
-use Rattle.app_bank.specs.Meaning as bank
-use Rattle.app_cloud.specs.Meaning as cloud
-use Rattle.app_guard.specs.Meaning as guard
+use Rattle.job_shared.specs.Params.{param, is_param}
+use Rattle.job_shared.proofs.Ranges.{wide_fits}
+use Rattle.job_bank.specs.Meaning as bank
+use Rattle.job_cloud.specs.Meaning as cloud
+use Rattle.job_guard.specs.Meaning as guard
 
 abbrev Fits : ℤ → Type 0
 Fits z = FitsSigned w64 z

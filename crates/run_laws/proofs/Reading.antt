@@ -1,8 +1,8 @@
 -- The record of a run is read as its profile and its frames.
 use Rattle.std.proofs.Common.{ℕ, ◌≤◌, List, length, Bool, true, false, append-nil}
 use Rattle.std.specs.List.{All}
-use Rattle.det_base.specs.declared.frames.CycleInput.{CycleInput}
-use Rattle.det_base.specs.Values.{ProfileValue}
+use Rattle.det_values.specs.declared.frames.CycleInput.{CycleInput}
+use Rattle.det_values.specs.Values.{ProfileValue}
 use Rattle.job_trait.specs.Meaning.{Meaning}
 use Rattle.job_trait.specs.Laws.{JobLaws}
 use Rattle.cycle_engine.specs.Frames.{frames, init_of, runs}

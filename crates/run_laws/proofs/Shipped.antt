@@ -6,20 +6,20 @@ use Rattle.std.proofs.lemmas.List.Elements.{All-nil, All-cons, All-append}
 use Rattle.job_trait.specs.declared.answers.Worked.{Worked}
 use Rattle.job_trait.specs.declared.answers.Concluded.{Concluded}
 use Rattle.record_grammar.specs.Spelling.{AreBytes}
-use Rattle.app_shared.specs.Samples.{newest}
-use Rattle.app_shared.specs.Bytes.{u16_bytes, u32_bytes, u64_bytes, i64_bytes}
-use Rattle.app_bank.specs.Meaning as bank
-use Rattle.app_bank.specs.declared.channel.Channel.{Channel as BankChannel}
-use Rattle.app_bank.specs.declared.summary.Summary.{Summary}
-use Rattle.app_bank.specs.declared.job.NoGlobals.{NoGlobals}
-use Rattle.app_cloud.specs.Meaning as cloud
-use Rattle.app_cloud.specs.declared.best.Best.{Best}
-use Rattle.app_cloud.specs.declared.job.Finished.{Finished}
-use Rattle.app_guard.specs.Meaning as guard
-use Rattle.app_guard.specs.Bounds.{contains}
-use Rattle.app_guard.specs.declared.guard.Guard.{Guard}
-use Rattle.app_guard.specs.declared.channel.Channel.{Channel as GuardChannel}
-use Rattle.app_guard.specs.declared.job.Total.{Total}
+use Rattle.job_shared.specs.Samples.{newest}
+use Rattle.job_shared.specs.Bytes.{u16_bytes, u32_bytes, u64_bytes, i64_bytes}
+use Rattle.job_bank.specs.Meaning as bank
+use Rattle.job_bank.specs.declared.channel.Channel.{Channel as BankChannel}
+use Rattle.job_bank.specs.declared.summary.Summary.{Summary}
+use Rattle.job_bank.specs.declared.job.NoGlobals.{NoGlobals}
+use Rattle.job_cloud.specs.Meaning as cloud
+use Rattle.job_cloud.specs.declared.best.Best.{Best}
+use Rattle.job_cloud.specs.declared.job.Finished.{Finished}
+use Rattle.job_guard.specs.Meaning as guard
+use Rattle.job_guard.specs.Bounds.{contains}
+use Rattle.job_guard.specs.declared.guard.Guard.{Guard}
+use Rattle.job_guard.specs.declared.channel.Channel.{Channel as GuardChannel}
+use Rattle.job_guard.specs.declared.job.Total.{Total}
 use Rattle.run_laws.proofs.SpelledJob.{IsSpelledJob}
 
 -- ---- bytes

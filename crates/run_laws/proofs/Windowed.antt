@@ -2,10 +2,10 @@
 use Rattle.std.proofs.Common.{◌≡◌, ℕ, suc, ◌-◌, List, [], ◌∷◌, length, true, false, cond, nat_eq, refl, ap}
 use Rattle.std.specs.List.{All}
 use Rattle.std.proofs.lemmas.List.Elements.{All-nil, All-cons, All-head, All-tail, All-append, All-drop}
-use Rattle.det_base.specs.Limits.{IsSampleValue}
-use Rattle.det_base.specs.Values.{SampleValue, EventSpecValue}
-use Rattle.det_base.specs.declared.event.Policy.{Policy}
-use Rattle.det_base.specs.declared.event.Policy.TheVariants.{Last, Fresh}
+use Rattle.det_values.specs.Limits.{IsSampleValue}
+use Rattle.det_values.specs.Values.{SampleValue, EventSpecValue}
+use Rattle.det_values.specs.declared.event.Policy.{Policy}
+use Rattle.det_values.specs.declared.event.Policy.TheVariants.{Last, Fresh}
 use Rattle.event_cache.specs.Windows.{values_of, all_of, last_of, looked_at, window, windows_from, windows_after, AreWindows}
 
 abbrev IsGood : SampleValue → Type 0

@@ -1,14 +1,14 @@
 -- What the record of a run is read as.
 use Rattle.std.specs.Prelude.{◌≡◌, ℕ, ◌^◌, ◌<◌, List, length, Bool, true, false, Option, Some, None, Ok}
 use Rattle.std.specs.Option.{unwrap_or}
-use Rattle.det_base.specs.declared.frames.CycleInput.{CycleInput}
-use Rattle.det_base.specs.declared.frames.Frame.{Frame}
-use Rattle.det_base.specs.declared.job_kind.JobKind.{JobKind}
-use Rattle.det_base.specs.declared.job_kind.JobKind.TheVariants.{Bank, Cloud, Guard}
-use Rattle.det_base.specs.Values.{ProfileValue}
-use Rattle.app_bank.specs.Meaning as bank
-use Rattle.app_cloud.specs.Meaning as cloud
-use Rattle.app_guard.specs.Meaning as guard
+use Rattle.det_values.specs.declared.frames.CycleInput.{CycleInput}
+use Rattle.det_values.specs.declared.frames.Frame.{Frame}
+use Rattle.det_values.specs.declared.job_kind.JobKind.{JobKind}
+use Rattle.det_values.specs.declared.job_kind.JobKind.TheVariants.{Bank, Cloud, Guard}
+use Rattle.det_values.specs.Values.{ProfileValue}
+use Rattle.job_bank.specs.Meaning as bank
+use Rattle.job_cloud.specs.Meaning as cloud
+use Rattle.job_guard.specs.Meaning as guard
 use Rattle.cycle_engine.specs.Frames.{frames}
 use Rattle.record_grammar.specs.declared.fault.Reason.TheVariants.{Truncated}
 use Rattle.record_grammar.specs.declared.fault.RecordFault.{RecordFault}
@@ -18,8 +18,8 @@ use Rattle.stimulus.specs.Reading.{blocks, ending}
 use Rattle.recorder.specs.Record.{is_terminated}
 use Rattle.manifest.specs.Values.{ManifestValue}
 use Rattle.manifest.specs.Profiles.{profile_of}
-use Rattle.det_setup.specs.Setup.{setup_of}
-use Rattle.det_record.specs.Outcomes.{demo_profile, demo_outcome, record_outcome}
+use Rattle.cmd_setup.specs.Setup.{setup_of}
+use Rattle.cmd_record.specs.Outcomes.{demo_profile, demo_outcome, record_outcome}
 
 -- the frames of a run, by the kind of its job
 abbrev pub frames_by_kind : JobKind → ProfileValue → List CycleInput → Bool → List Frame

@@ -3,8 +3,8 @@ use Rattle.std.proofs.Common.{◌≡◌, ℕ, ◌<◌, List, [], ◌∷◌, ◌+
 use Rattle.std.proofs.lemmas.Bool.Decides.{nat_tests}
 use Rattle.std.specs.List.{onto_first, All}
 use Rattle.std.proofs.lemmas.List.Elements.{All-nil, All-cons, All-head, All-tail}
-use Rattle.det_base.specs.Prefix.{IsPrefix}
-use Rattle.det_base.specs.declared.frames.CycleInput.{CycleInput}
+use Rattle.det_edges.specs.Prefix.{IsPrefix}
+use Rattle.det_values.specs.declared.frames.CycleInput.{CycleInput}
 use Rattle.stimulus.specs.declared.item.StimItem.{StimItem}
 use Rattle.stimulus.specs.declared.item.StimItem.TheVariants as items
 use Rattle.stimulus.specs.declared.item.StimFault.{StimFault}

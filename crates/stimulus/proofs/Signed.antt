@@ -8,7 +8,7 @@ use Rattle.std.proofs.lemmas.Str.Parse.{tells_digits}
 use Rattle.std.proofs.lemmas.Bool.Decides.{nat_tests}
 use Rattle.std.proofs.lemmas.Slice.Eq.{bytes_eq-Decides}
 use Rattle.std.proofs.lemmas.Int.{ints}
-use Rattle.det_base.specs.Limits.{IsSampleValue}
+use Rattle.det_values.specs.Limits.{IsSampleValue}
 use Rattle.stimulus.specs.Numbers.{number, below, as_positive, as_negative, value_of}
 use Rattle.stimulus.proofs.Spelling.{number_of_decimal, decimal_of_number}
 

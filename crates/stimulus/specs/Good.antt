@@ -1,8 +1,8 @@
 -- Good lists of lines, said line by line: which line may stand after which others, and the blocks of such a list.
 use Rattle.std.specs.Prelude.{◌≡◌, ℕ, ◌+◌, ◌<◌, ◌≤◌, nat_lt, ◌↔◌, ◌⊎◌, Bool, true, false, List, [], ◌∷◌, ◌++◌, length, map, Some}
 use Rattle.std.specs.List.{All, count_by}
-use Rattle.det_base.specs.Values.{SampleValue}
-use Rattle.det_base.specs.declared.frames.CycleInput.{CycleInput}
+use Rattle.det_values.specs.Values.{SampleValue}
+use Rattle.det_values.specs.declared.frames.CycleInput.{CycleInput}
 use Rattle.stimulus.specs.declared.line.Line.{Line}
 use Rattle.stimulus.specs.declared.line.Line.TheVariants as lines
 use Rattle.stimulus.specs.Lines.{line_of}

@@ -1,9 +1,9 @@
 -- What the inputs of a stimulus keep to.
 use Rattle.std.specs.Prelude.{ℕ, ◌^◌, ◌<◌, ◌≤◌, length, Some, None}
 use Rattle.std.specs.List.{All}
-use Rattle.det_base.specs.Values.{SampleValue}
-use Rattle.det_base.specs.Limits.{IsSampleValue}
-use Rattle.det_base.specs.declared.frames.CycleInput.{CycleInput}
+use Rattle.det_values.specs.Values.{SampleValue}
+use Rattle.det_values.specs.Limits.{IsSampleValue}
+use Rattle.det_values.specs.declared.frames.CycleInput.{CycleInput}
 use Rattle.stimulus.specs.declared.line.Line.{Line}
 use Rattle.stimulus.specs.declared.line.Line.TheVariants as lines
 use Rattle.stimulus.specs.declared.item.StimItem.{StimItem}

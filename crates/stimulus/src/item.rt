@@ -1,5 +1,5 @@
 //! What a reader gives.
-use det_base::CycleInput;
+use det_values::CycleInput;
 
 /// A complete block, or the end of the stimulus.
 #[derive(Debug, PartialEq, Drop)]

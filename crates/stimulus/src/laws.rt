@@ -2,8 +2,8 @@
 ghost use Rattle.std.specs.Prelude.{◌≡◌, ℕ, ◌^◌, ◌<◌, ◌≤◌, List, ◌++◌, length, ℤ, Some, true};
 ghost use Rattle.std.specs.List.{All};
 ghost use Rattle.std.specs.Fmt.{decimal, signed_decimal};
-ghost use Rattle.det_base.specs.Limits.{IsSampleValue};
-ghost use Rattle.det_base.specs.Prefix.{IsPrefix};
+ghost use Rattle.det_values.specs.Limits.{IsSampleValue};
+ghost use Rattle.det_edges.specs.Prefix.{IsPrefix};
 ghost use Rattle.stimulus.specs.Limits.{IsInput, IsLine};
 ghost use Rattle.stimulus.specs.Numbers.{number, value_of};
 ghost use Rattle.stimulus.specs.Lines.{line_of, spelling};

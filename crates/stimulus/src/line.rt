@@ -3,7 +3,7 @@ ghost use Rattle.std.specs.Prelude.{◌≡◌, ◌==◌, position};
 ghost use Rattle.stimulus.specs.Lines.{line_of, cycle_line, sample_line};
 
 use crate::number::{number_below, sample_value};
-use det_base::Sample;
+use det_values::Sample;
 
 /// What a line says.
 #[derive(Clone, Copy, Debug, PartialEq, Eq, Drop)]

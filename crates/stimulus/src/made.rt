@@ -4,7 +4,7 @@ ghost use Rattle.std.specs.Prelude.{◌≡◌, ◌≤◌, ◌+◌, ◌<◌, ℕ,
 ghost use Rattle.std.specs.String.{string_bytes};
 ghost use Rattle.stimulus.specs.Made.{state_at, word, made_value, block_text, made};
 
-use det_base::{Bytes, OutOfMemory};
+use det_values::{Bytes, OutOfMemory};
 use rand_core::SeedableRng;
 use rand_core::utils::NextWord;
 use rand_xoshiro::SplitMix64;

@@ -1,6 +1,6 @@
 //! Decimal numbers: no leading zero, no plus sign, no `-0`.
 ghost use Rattle.std.specs.Prelude.{◌≡◌, ◌≤◌, ◌<◌, ◌^◌, length, IfSome};
-ghost use Rattle.det_base.specs.Limits.{IsSampleValue};
+ghost use Rattle.det_values.specs.Limits.{IsSampleValue};
 ghost use Rattle.stimulus.specs.Numbers.{number, number_after, below, value_of};
 
 /// One more than the greatest magnitude of a sample's value.

@@ -8,7 +8,7 @@ use crate::first_line::{FirstLine, first_line};
 use crate::item::{StimError, StimFault, StimItem};
 use crate::line::{Line, parse_line};
 use crate::state::{State, Taken, take_line};
-use det_base::OutOfMemory;
+use det_values::OutOfMemory;
 use std::alloc::Global;
 use std::mem;
 

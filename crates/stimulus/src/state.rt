@@ -5,7 +5,7 @@ ghost use Rattle.stimulus.specs.States.{TakenIs, Counts};
 
 use crate::item::StimItem;
 use crate::line::Line;
-use det_base::{CycleInput, Samples};
+use det_values::{CycleInput, Samples};
 use std::alloc::Global;
 
 const MAX_BLOCKS: u32 = 1_000_000;

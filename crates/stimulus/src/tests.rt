@@ -1,7 +1,7 @@
 ghost use Rattle.std.specs.Prelude.{◌<◌};
 
 use super::*;
-use det_base::OutOfMemory;
+use det_values::OutOfMemory;
 use std::alloc::Global;
 use std::test::Fail;
 

@@ -2,7 +2,7 @@
 ghost use Rattle.std.specs.Prelude.{◌≡◌, is_err};
 ghost use Rattle.worker_pool.specs.Results.{answer_of};
 
-use det_base::{Container, Limited, OutOfMemory};
+use det_values::{Container, Limited, OutOfMemory};
 
 /// What a pass leaves: the new elements, the parts joined, and the number of words that each element drew.
 #[derive(Debug, Drop)]

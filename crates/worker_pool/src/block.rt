@@ -7,7 +7,7 @@ ghost use Rattle.worker_pool.specs.Tasks.{element_in, Ready};
 
 use crate::answers::{PassDone, PoolFault};
 use crate::task::Task;
-use det_base::{Container, OutOfMemory};
+use det_values::{Container, OutOfMemory};
 use element_random::{ElementRandom, key};
 use job_trait::{Job, JobFault};
 use std::alloc::Global;

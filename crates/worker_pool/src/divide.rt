@@ -11,7 +11,7 @@ use crate::gate::Gate;
 use crate::seat::{PassSeat, PassTable};
 use crate::task::Task;
 use crate::work::work_blocks;
-use det_base::OutOfMemory;
+use det_values::OutOfMemory;
 use job_trait::Job;
 use std::alloc::Global;
 use std::thread::{Threads, join};

@@ -10,7 +10,7 @@ ghost use Rattle.worker_pool.specs.Tasks.{block_in, blocks_in, together_in, pass
 use crate::answers::{BlockAnswer, BlockResult, PassDone, PoolFault};
 use crate::block::{nothing_done, with_next};
 use crate::task::Task;
-use det_base::OutOfMemory;
+use det_values::OutOfMemory;
 use job_trait::Job;
 use std::alloc::Global;
 

@@ -6,7 +6,7 @@ ghost use Rattle.worker_pool.specs.Handles.{view_of, block_count, IsAt, IsSameSe
 use crate::plays::{Halves, Tell};
 use crate::seat::{PassSeat, PassTable};
 use atomic_table::Table;
-use det_base::OutOfMemory;
+use det_values::OutOfMemory;
 use std::alloc::Global;
 
 impl PassTable {

@@ -15,7 +15,7 @@ use crate::answers::{BlockAnswer, BlockResult, BlockResults, PoolFault};
 use crate::block::{nothing_done, with_element};
 use crate::seat::{PassSeat, PassTable};
 use crate::task::Task;
-use det_base::OutOfMemory;
+use det_values::OutOfMemory;
 use job_trait::Job;
 use std::alloc::Global;
 

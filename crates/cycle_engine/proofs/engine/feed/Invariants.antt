@@ -1,5 +1,5 @@
 use Rattle.std.proofs.Common.{◌≡◌, List, [], length, take}
-use Rattle.det_base.specs.Values.{SampleValue, EventSpecValue}
+use Rattle.det_values.specs.Values.{SampleValue, EventSpecValue}
 use Rattle.event_cache.specs.Rings.{windows}
 use Rattle.event_cache.specs.Windows.{HasSeen}
 use Rattle.cycle_engine.proofs.engine.feed.Given as goal

@@ -1,5 +1,5 @@
 use Rattle.std.specs.Prelude.{None, refl}
-use Rattle.det_words.specs.Texts.{texts}
+use Rattle.cli_words.specs.Texts.{texts}
 use Rattle.det_cli.proofs.Joining.{words-give, command-in, meets-no-command}
 use Rattle.det_cli.proofs.program.run.Goals as goal
 

@@ -1,6 +1,6 @@
 use Rattle.std.proofs.Common.{ap, arith}
-use Rattle.det_answers.proofs.Meeting.{meets-under}
-use Rattle.det_words.specs.Words.{command_seen}
+use Rattle.cli_answers.proofs.Meeting.{meets-under}
+use Rattle.cli_words.specs.Words.{command_seen}
 use Rattle.det_cli.specs.Outcome.{built}
 use Rattle.det_cli.proofs.Joining.{meets-command, meets-no-command}
 use Rattle.det_cli.proofs.program.run_command.Goals as goal

@@ -1,7 +1,7 @@
 use Rattle.std.specs.Prelude.{Some, None}
-use Rattle.det_words.specs.Texts.{texts}
-use Rattle.det_words.specs.Told.{told_of}
-use Rattle.det_words.specs.Words.{command_seen}
+use Rattle.cli_words.specs.Texts.{texts}
+use Rattle.cli_words.specs.Told.{told_of}
+use Rattle.cli_words.specs.Words.{command_seen}
 use Rattle.det_cli.proofs.Joining.{words-give, command-in, meets-command, meets-no-command}
 use Rattle.det_cli.proofs.program.run_told.Goals as goal
 

@@ -1,6 +1,6 @@
 use Rattle.std.proofs.Common.{List, ℕ, ◌∙◌, subst}
-use Rattle.det_base.specs.Sink.{Grew, GrewByPrefix}
-use Rattle.det_answers.proofs.Meeting.{told-line}
+use Rattle.det_edges.specs.Sink.{Grew, GrewByPrefix}
+use Rattle.cli_answers.proofs.Meeting.{told-line}
 use Rattle.det_cli.proofs.Joining.{whole-unless}
 use Rattle.det_cli.proofs.program.top.Goals as goal
 

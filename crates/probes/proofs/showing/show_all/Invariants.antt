@@ -1,6 +1,6 @@
 use Rattle.std.proofs.Common.{◌≡◌, ◌≤◌, ◌+◌, ◌*◌, List, ◌∷◌, ◌++◌, map, length, ◌-◌}
 use Rattle.std.specs.Vec.{vec_len}
-use Rattle.det_base.specs.declared.frames.RunFrame.{RunFrame}
+use Rattle.det_values.specs.declared.frames.RunFrame.{RunFrame}
 use Rattle.probes.specs.Reports.{reports, joined}
 use Rattle.probes.specs.Partly.{partly}
 use Rattle.probes.proofs.showing.show_all.Given as goal

@@ -1,4 +1,4 @@
-use Rattle.det_base.specs.Limits.{KnowsPolicies}
+use Rattle.det_values.specs.Limits.{KnowsPolicies}
 use Rattle.record_grammar.specs.Grammar.{event_at}
 use Rattle.record_codec.proofs.Many.{HasMany}
 use Rattle.record_codec.proofs.header.all_events.Given as goal

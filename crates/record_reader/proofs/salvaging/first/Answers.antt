@@ -1,5 +1,5 @@
 use Rattle.std.proofs.Common.{◌∙◌, [], Option, Some, None, Ok, ap, subst}
-use Rattle.det_base.specs.Shelf.{IsAtEnd}
+use Rattle.det_edges.specs.Shelf.{IsAtEnd}
 use Rattle.record_grammar.specs.declared.item.Item.{Item}
 use Rattle.record_grammar.specs.declared.item.Item.TheVariants as items
 use Rattle.record_reader.specs.StandsFor.{ItemIs, slot_of}

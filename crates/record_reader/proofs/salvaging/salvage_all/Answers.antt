@@ -1,7 +1,7 @@
 use Rattle.std.proofs.Common.{◌≡◌, ◌∙◌, ◌<◌, inr, ℕ, List, [], ◌∷◌, ◌++◌, Option, Some, None, Ok, Err, sym, ap, subst, arith}
-use Rattle.det_base.specs.Shelf.{IsAtEnd}
-use Rattle.det_base.proofs.Counts.{rose-before}
-use Rattle.det_base.proofs.Growth.{grew-none}
+use Rattle.det_edges.specs.Shelf.{IsAtEnd}
+use Rattle.det_edges.proofs.Counts.{rose-before}
+use Rattle.det_edges.proofs.Growth.{grew-none}
 use Rattle.record_grammar.specs.declared.place.Layout.{Layout}
 use Rattle.record_grammar.specs.declared.item.Item.{Item}
 use Rattle.record_grammar.specs.declared.item.Item.TheVariants as items

@@ -1,5 +1,5 @@
 use Rattle.std.proofs.Common.{◌≡◌, ◌≤◌, ◌+◌, ℕ, List}
-use Rattle.det_base.specs.Values.{ProfileValue}
+use Rattle.det_values.specs.Values.{ProfileValue}
 use Rattle.record_grammar.specs.declared.item.Item.{Item}
 use Rattle.record_reader.specs.StandsFor.{slot_of, room}
 use Rattle.record_reader.proofs.Running.{Running}

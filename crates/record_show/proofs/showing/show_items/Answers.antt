@@ -1,6 +1,6 @@
 use Rattle.std.proofs.Common.{[], ◌++◌, Some, None, Err, refl, ◌∙◌, arith}
-use Rattle.det_base.specs.Shelf.{IsAtEnd}
-use Rattle.det_base.proofs.SlotReads.{reads-then}
+use Rattle.det_edges.specs.Shelf.{IsAtEnd}
+use Rattle.det_edges.proofs.SlotReads.{reads-then}
 use Rattle.record_reader.specs.StandsFor.{slot_of, room}
 use Rattle.record_show.proofs.Running.{next_at, next_given, running_new, running_next, running_cut, running_stopped, running_whole, room_new, one_fewer, runs_few}
 use Rattle.record_show.proofs.showing.show_items.Goals as goal

@@ -1,5 +1,5 @@
 use Rattle.std.proofs.Common.{◌<◌}
-use Rattle.det_base.specs.MemShelf.{mem_shelf_state}
+use Rattle.det_edges.specs.MemShelf.{mem_shelf_state}
 use Rattle.record_reader.specs.StandsFor.{slot_of}
 use Rattle.record_tests.proofs.sources.items_of.Given as goal
 

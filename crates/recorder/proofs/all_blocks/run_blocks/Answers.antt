@@ -1,7 +1,7 @@
 use Rattle.std.proofs.Common.{◌<◌, ◌++◌, ◌∷◌, [], refl, ap, sym, ◌∙◌, arith, subst, append-nil}
 use Rattle.std.specs.Prelude.{Ok, Some, None}
 use Rattle.std.specs.List.{All}
-use Rattle.det_base.specs.Values.{SampleValue}
+use Rattle.det_values.specs.Values.{SampleValue}
 use Rattle.stimulus.specs.declared.item.StimItem.TheVariants.{Cycle, Terminate}
 use Rattle.stimulus.specs.Reading.{inputs_of}
 use Rattle.recorder.specs.Runs.{Stopped, frames_of}

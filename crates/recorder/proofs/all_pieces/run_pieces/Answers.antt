@@ -1,6 +1,6 @@
 use Rattle.std.proofs.Common.{[], ◌++◌, refl, ◌∙◌, arith}
-use Rattle.det_base.proofs.Growth.{part-whole}
-use Rattle.det_base.proofs.SlotReads.{reads-then, reads-then-none}
+use Rattle.det_edges.proofs.Growth.{part-whole}
+use Rattle.det_edges.proofs.SlotReads.{reads-then, reads-then-none}
 use Rattle.recorder.proofs.Loop.{running-none, running-ran, running-fed, running-stopped, ready-of, first-fed, not_read, reads-zero}
 use Rattle.recorder.proofs.all_pieces.run_pieces.Goals as goal
 

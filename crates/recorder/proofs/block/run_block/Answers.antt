@@ -1,7 +1,7 @@
 use Rattle.std.proofs.Common.{◌<◌, ◌+◌, sym, ap, subst, ◌∙◌, length}
 use Rattle.std.specs.List.{All}
 use Rattle.std.proofs.lemmas.Result.{err_from_is_err_and}
-use Rattle.det_base.specs.Values.{SampleValue}
+use Rattle.det_values.specs.Values.{SampleValue}
 use Rattle.cycle_engine.proofs.Standing.{stands_events}
 use Rattle.recorder.specs.declared.ends.Counts.{Counts}
 use Rattle.recorder.proofs.Framing.{can_spell, cuts-one, part-one, ran-one, same_run}

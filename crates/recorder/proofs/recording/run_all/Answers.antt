@@ -1,7 +1,7 @@
 use Rattle.std.proofs.Common.{◌≡◌, [], ap, ◌∙◌, length, subst}
 use Rattle.std.proofs.lemmas.Result.{err_from_is_err_and}
-use Rattle.det_base.specs.Sink.{Grew}
-use Rattle.det_base.proofs.SlotReads.{reads-none}
+use Rattle.det_edges.specs.Sink.{Grew}
+use Rattle.det_edges.proofs.SlotReads.{reads-none}
 use Rattle.stimulus.specs.Reading.{Terminated, BadLine, ending}
 use Rattle.recorder.specs.declared.ends.Counts.{Counts}
 use Rattle.recorder.proofs.Loop.{grew-opened, ended-stopped, ended-early, ended-cut, ended-whole, shown-all, cuts-last, grew-last, counted-first, counted-last, opening-is, ended-opening}

@@ -1,5 +1,5 @@
 use Rattle.std.proofs.Common.{List, [], arith, ap, ◌∙◌, subst}
-use Rattle.det_base.specs.Values.{EventSpecValue}
+use Rattle.det_values.specs.Values.{EventSpecValue}
 use Rattle.det_client.specs.Life.{following}
 use Rattle.event_cache.specs.Windows.{HasSeen}
 use Rattle.cycle_engine.proofs.Beginning.{comes-to-init, events-made, begins-run}

@@ -1,6 +1,6 @@
 use Rattle.std.proofs.Common.{arith, rules, ◌<◌, ◌≡◌, length, [], ap, get_or, List, ℤ}
 use Rattle.std.proofs.lemmas.Int.{to_z-of_z}
-use Rattle.det_base.specs.Limits.{IsSampleValue}
+use Rattle.det_values.specs.Limits.{IsSampleValue}
 use Rattle.event_cache.specs.Rings.{Rings, windows}
 use Rattle.event_cache.proofs.Rounds.{value_in_limits, window_is}
 use Rattle.event_cache.proofs.cache.EventCache.sample.Goals as goal

@@ -1,5 +1,5 @@
 use Rattle.std.proofs.Common.{◌<◌, ℕ, ◌++◌, Some, None, Ok, Err, subst, ◌∙◌, arith}
-use Rattle.det_base.specs.Shelf.{IsAtEnd}
+use Rattle.det_edges.specs.Shelf.{IsAtEnd}
 use Rattle.record_reader.specs.declared.reader.Progress.{Progress}
 use Rattle.record_reader.specs.StandsFor.{StandsFor, ItemIs, slot_of, room}
 use Rattle.record_reader.specs.Steps.{StepIs, Shrinks, GoesOn}

@@ -1,6 +1,6 @@
 use Rattle.std.proofs.Common.{◌≡◌, ◌≤◌, ℕ, List, ◌++◌, None}
 use Rattle.record_grammar.specs.declared.item.Item.{Item}
-use Rattle.det_base.specs.Shelf.{Reads}
+use Rattle.det_edges.specs.Shelf.{Reads}
 use Rattle.record_reader.specs.StandsFor.{StandsFor, told, slot_of, room}
 use Rattle.record_reader.specs.Steps.{feedable}
 use Rattle.record_reader.proofs.reader.RecordReader.next_item.Given as goal

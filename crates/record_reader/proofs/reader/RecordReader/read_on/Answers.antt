@@ -1,5 +1,5 @@
 use Rattle.std.proofs.Common.{ℕ, List, [], Ok, Err, None, subst, arith}
-use Rattle.det_base.specs.Shelf.{Reads, IsAtEnd}
+use Rattle.det_edges.specs.Shelf.{Reads, IsAtEnd}
 use Rattle.record_reader.specs.StandsFor.{ItemIs, slot_of}
 use Rattle.record_reader.proofs.Reading.{took_none, read_none, ended_good, ended_bad}
 use Rattle.record_reader.proofs.reader.RecordReader.read_on.Goals as goal

@@ -1,6 +1,6 @@
 use Rattle.std.proofs.Common.{◌≡◌, ℕ, List, [], Option, Some, Ok, Err, refl, subst, ◌∙◌}
-use Rattle.det_base.specs.Shelf.{IsAtEnd}
-use Rattle.det_base.proofs.SlotReads.{reads-none}
+use Rattle.det_edges.specs.Shelf.{IsAtEnd}
+use Rattle.det_edges.proofs.SlotReads.{reads-none}
 use Rattle.record_grammar.specs.declared.item.Item.{Item}
 use Rattle.record_codec.specs.StandsFor.{RoomFell, room as decoder_room}
 use Rattle.record_reader.specs.StandsFor.{ItemIs, slot_of, room}

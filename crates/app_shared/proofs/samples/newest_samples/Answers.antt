@@ -1,8 +1,0 @@
-use Rattle.std.proofs.Common.{arith}
-use Rattle.event_cache.specs.Rings.{windows}
-use Rattle.app_shared.proofs.Windows.{samples_whole}
-use Rattle.app_shared.proofs.samples.newest_samples.Goals as goal
-
-pub returns-clause-limits : goal.returns-clause-limits
-returns-clause-limits c events many =
-    samples_whole c.events-event-end.result c.loop-event.event events (windows c.args.cache.now) c.loop-event.samples c.events-event-end.ensures.windows (omega arith) many c.loop-event.invariant.so_far

@@ -1,0 +1,72 @@
+-- What an answer of a command tells: its exit status, and its line for `err`.
+use Rattle.std.specs.Prelude.{ℕ, List, [], ◌++◌, codes, decimal}
+use Rattle.manifest.specs.declared.fault.ManifestFault.TheVariants.{TooLong, NotToml, Missing, WrongKind, OutOfRange, DuplicateEvent, UnknownJob}
+use Rattle.manifest.specs.declared.key.Key.{Key}
+use Rattle.manifest.specs.KeyTexts.{key_text}
+use Rattle.record_grammar.specs.declared.fault.Reason.{Reason}
+use Rattle.record_grammar.specs.declared.fault.Reason.TheVariants.{Magic, Version, Range, Order, TooMany, Truncated, Trailing}
+use Rattle.record_grammar.specs.declared.fault.RecordFault.{RecordFault}
+use Rattle.cli_answers.specs.declared.status.Status.{Status}
+use Rattle.cli_answers.specs.declared.status.Status.TheVariants as statuses
+use Rattle.cli_answers.specs.declared.answer.BadManifest as refusals
+use Rattle.cli_answers.specs.declared.answer.BadManifest.TheVariants.{Fault, Parameter}
+use Rattle.cli_answers.specs.declared.answer.Answer.{Answer}
+use Rattle.cli_answers.specs.declared.answer.Answer.TheVariants.{Done, Differs, BadWords, BadManifest, BadStimulus, BadRecord, BadProfile, ReadFault, WriteFault, OutOfMemory, NoMajority}
+
+abbrev pub status_of : Answer → Status
+status_of Done = statuses.Done
+status_of Differs = statuses.Differs
+status_of BadWords = statuses.BadWords
+status_of (BadManifest why) = statuses.BadManifest
+status_of (BadStimulus line) = statuses.BadStimulus
+status_of (BadRecord copy fault) = statuses.BadRecord
+status_of BadProfile = statuses.BadRecord
+status_of ReadFault = statuses.ReadFault
+status_of WriteFault = statuses.WriteFault
+status_of OutOfMemory = statuses.OutOfMemory
+status_of (NoMajority row) = statuses.NoMajority
+
+-- a text, and the end of its line
+abbrev pub ended : List ℕ → List ℕ
+ended text = text ++ codes "\n"
+
+-- words, and the text of a key
+abbrev pub with_key : List ℕ → Key → List ℕ
+with_key words key = words ++ key_text key
+
+abbrev pub bad_manifest_text : refusals.BadManifest → List ℕ
+bad_manifest_text (Fault TooLong) = codes "bad manifest: too long"
+bad_manifest_text (Fault NotToml) = codes "bad manifest: not toml"
+bad_manifest_text (Fault (Missing key)) = with_key (codes "bad manifest: missing ") key
+bad_manifest_text (Fault (WrongKind key)) = with_key (codes "bad manifest: wrong kind ") key
+bad_manifest_text (Fault (OutOfRange key)) = with_key (codes "bad manifest: out of range ") key
+bad_manifest_text (Fault (DuplicateEvent number)) = codes "bad manifest: duplicate event " ++ decimal number
+bad_manifest_text (Fault UnknownJob) = codes "bad manifest: unknown job"
+bad_manifest_text (Parameter index) = codes "bad manifest: bad parameter " ++ decimal index
+
+abbrev pub reason_word : Reason → List ℕ
+reason_word Magic = codes "magic"
+reason_word Version = codes "version"
+reason_word Range = codes "range"
+reason_word Order = codes "order"
+reason_word TooMany = codes "too_many"
+reason_word Truncated = codes "truncated"
+reason_word Trailing = codes "trailing"
+
+abbrev pub bad_record_text : ℕ → RecordFault → List ℕ
+bad_record_text copy fault =
+    codes "bad record: copy " ++ (decimal copy ++ (codes " offset " ++ (decimal fault.offset ++ (codes " " ++ reason_word fault.reason))))
+
+-- the line for `err`
+abbrev pub err_line : Answer → List ℕ
+err_line Done = []
+err_line Differs = []
+err_line BadWords = codes "bad words\n"
+err_line (BadManifest why) = ended (bad_manifest_text why)
+err_line (BadStimulus line) = ended (codes "bad stimulus: line " ++ decimal line)
+err_line (BadRecord copy fault) = ended (bad_record_text copy fault)
+err_line BadProfile = codes "bad record: profile\n"
+err_line ReadFault = codes "read fault\n"
+err_line WriteFault = codes "write fault\n"
+err_line OutOfMemory = codes "out of memory\n"
+err_line (NoMajority row) = ended (codes "no majority: row " ++ decimal row)

@@ -1,0 +1,155 @@
+//! How a command ended, with what its line for `err` tells.
+ghost use Rattle.std.specs.Prelude.{◌≡◌, ◌≤◌, ◌++◌, length, decimal};
+ghost use Rattle.manifest.specs.KeyTexts.{key_text};
+ghost use Rattle.cli_answers.specs.Answers.{status_of, reason_word, ended, with_key, bad_manifest_text, bad_record_text, err_line};
+
+use crate::line::Line;
+use crate::status::Status;
+use manifest::{Key, ManifestFault};
+use record_grammar::{Reason, RecordFault};
+
+/// Why a manifest is refused: it has a fault, or its job refuses a parameter, the least bad one, counted from 0.
+#[derive(Clone, Copy, Debug, PartialEq, Eq, Drop)]
+pub enum BadManifest {
+    Fault(ManifestFault),
+    Parameter(u8),
+}
+
+/// How a command ended.
+#[derive(Clone, Copy, Debug, PartialEq, Eq, Drop)]
+pub enum Answer {
+    Done,
+    /// The copies differ, or a record departs from the run of its own inputs. The output tells where.
+    Differs,
+    BadWords,
+    BadManifest(BadManifest),
+    /// The number of the bad line, counted from 1.
+    BadStimulus { line: u64 },
+    /// The copy, counted from 0, and its fault. Where one record is read the copy is 0.
+    BadRecord { copy: u32, fault: RecordFault },
+    /// The job that the record's header names is unknown, or it refuses the header's parameters.
+    BadProfile,
+    ReadFault,
+    WriteFault,
+    OutOfMemory,
+    /// The first row that no majority of the copies holds.
+    NoMajority { row: u32 },
+}
+
+fn word_of(reason: Reason) -> &'static str
+    ensures word { result.now ≡ reason_word reason }
+    ensures short { length result.now ≤ 9 }
+{
+    match reason {
+        Reason::Magic => "magic",
+        Reason::Version => "version",
+        Reason::Range => "range",
+        Reason::Order => "order",
+        Reason::TooMany => "too_many",
+        Reason::Truncated => "truncated",
+        Reason::Trailing => "trailing",
+    }
+}
+
+fn key_line(words: &str, key: Key) -> Line
+    requires { length words.now ≤ 40 }
+    ensures { result ≡ ended (with_key words.now key) }
+{
+    let mut line = Line::new();
+    line.push(words);
+    line.push(key.text().as_str());
+    line.push("\n");
+    line
+}
+
+fn number_line(words: &str, number: u64) -> Line
+    requires { length words.now ≤ 40 }
+    ensures { result ≡ ended (words.now ++ decimal number) }
+{
+    let mut line = Line::new();
+    line.push(words);
+    line.push_number(number);
+    line.push("\n");
+    line
+}
+
+fn fault_line(fault: ManifestFault) -> Line
+    ensures { result ≡ ended (bad_manifest_text (BadManifest.Fault fault)) }
+{
+    match fault {
+        ManifestFault::TooLong => Line::of("bad manifest: too long\n"),
+        ManifestFault::NotToml => Line::of("bad manifest: not toml\n"),
+        ManifestFault::Missing(key) => key_line("bad manifest: missing ", key),
+        ManifestFault::WrongKind(key) => key_line("bad manifest: wrong kind ", key),
+        ManifestFault::OutOfRange(key) => key_line("bad manifest: out of range ", key),
+        ManifestFault::DuplicateEvent(number) => {
+            number_line("bad manifest: duplicate event ", number as u64)
+        }
+        ManifestFault::UnknownJob => Line::of("bad manifest: unknown job\n"),
+    }
+}
+
+fn manifest_line(why: BadManifest) -> Line
+    ensures { result ≡ ended (bad_manifest_text why) }
+{
+    match why {
+        BadManifest::Fault(fault) => fault_line(fault),
+        BadManifest::Parameter(index) => {
+            number_line("bad manifest: bad parameter ", index as u64)
+        }
+    }
+}
+
+fn record_line(copy: u32, fault: RecordFault) -> Line
+    ensures { result ≡ ended (bad_record_text copy fault) }
+{
+    let mut line = Line::new();
+    line.push("bad record: copy ");
+    line.push_number(copy as u64);
+    line.push(" offset ");
+    line.push_number(fault.offset);
+    line.push(" ");
+    line.push(word_of(fault.reason));
+    line.push("\n");
+    line
+}
+
+impl Answer {
+    /// The exit status.
+    pub fn status(self) -> Status
+        ensures { result ≡ status_of self }
+    {
+        match self {
+            Answer::Done => Status::Done,
+            Answer::Differs => Status::Differs,
+            Answer::BadWords => Status::BadWords,
+            Answer::BadManifest(_) => Status::BadManifest,
+            Answer::BadStimulus { .. } => Status::BadStimulus,
+            Answer::BadRecord { .. } => Status::BadRecord,
+            Answer::BadProfile => Status::BadRecord,
+            Answer::ReadFault => Status::ReadFault,
+            Answer::WriteFault => Status::WriteFault,
+            Answer::OutOfMemory => Status::OutOfMemory,
+            Answer::NoMajority { .. } => Status::NoMajority,
+        }
+    }
+
+    /// The line for `err`, which is empty where the command is done or differs. It takes no memory.
+    pub fn line(self) -> Line
+        ensures { result ≡ err_line self }
+    {
+        match self {
+            Answer::Done => Line::new(),
+            Answer::Differs => Line::new(),
+            Answer::BadWords => Line::of("bad words\n"),
+            Answer::BadManifest(why) => manifest_line(why),
+            Answer::BadStimulus { line } => number_line("bad stimulus: line ", line),
+            Answer::BadRecord { copy, fault } => record_line(copy, fault),
+            Answer::BadProfile => Line::of("bad record: profile\n"),
+            Answer::ReadFault => Line::of("read fault\n"),
+            Answer::WriteFault => Line::of("write fault\n"),
+            Answer::OutOfMemory => Line::of("out of memory\n"),
+            Answer::NoMajority { row } => number_line("no majority: row ", row as u64),
+        }
+    }
+}

@@ -1,0 +1,18 @@
+use Rattle.std.proofs.Common.{refl, sym, ap, ◌∙◌}
+use Rattle.std.specs.Prelude.{Err}
+use Rattle.cli_answers.specs.Outcome.{told, text_outcome}
+use Rattle.cli_answers.proofs.Meeting.{meets-whole}
+use Rattle.cmd_setup.proofs.Ending.{meets-end}
+use Rattle.cmd_needs.specs.Needs.{needs_from}
+use Rattle.cmd_needs.proofs.command.needs.Goals as goal
+
+pub returns-in-Err-clause-meets : goal.returns-in-Err-clause-meets
+returns-in-Err-clause-meets g c =
+    let bytes = told (g.S.Slots.sees c.args.shelf.now) c.args.name.now in
+    rw c.answer.ensures (meets-end needs_from (λ why. refl) bytes _ _ _ _ c.in-Err.end c.in-Err.ensures.refused (λ e. c.in-Err.ensures.cause (ap Err e)))
+
+pub returns-in-Ok-write_all-clause-meets : goal.returns-in-Ok-write_all-clause-meets
+returns-in-Ok-write_all-clause-meets g c =
+    meets-whole _ _ _ _ _ _ _ c.deref.result.now (λ e. cc) (λ e. cc)
+    (λ tells. ap needs_from (c.in-Ok.ensures.manifest tells) ∙ ap text_outcome (sym (c.deref.ensures.value ∙ c.in-Ok-needs_text.ensures)))
+    c.in-Ok-write_all.ensures.all

@@ -1,0 +1,48 @@
+//! The command `needs`.
+ghost use Rattle.std.specs.Prelude.{◌≡◌, ◌∷◌, [], IfOk, IsSome};
+ghost use Rattle.det_edges.specs.Count.{Rose};
+ghost use Rattle.det_edges.specs.Shelf.{Asks};
+ghost use Rattle.cli_answers.specs.Outcome.{Meets, told};
+ghost use Rattle.cmd_needs.specs.Lines.{needs_lines};
+ghost use Rattle.cmd_needs.specs.Needs.{needs_outcome};
+
+use crate::lines::put_needs_lines;
+use cli_answers::Answer;
+use det_edges::{Shelf, Sink, write_all};
+use det_values::OutOfMemory;
+use cmd_setup::read_setup;
+use manifest::Manifest;
+use std::alloc::Global;
+
+/// The lines of a manifest.
+fn needs_text(alloc: Global, manifest: &Manifest) -> Result<Vec<u8>, OutOfMemory>
+    ensures { IfOk result (λ text. text.items ≡ needs_lines manifest.now) }
+{
+    let profile = manifest.profile(alloc, 0)?;
+    let mut text = Vec::new(alloc);
+    put_needs_lines(&mut text, manifest, profile.cycle_time)?;
+    Ok(text)
+}
+
+/// Writes the lines of the manifest under this name: its job, its cycle time in nanoseconds, its workers, its platform,
+/// and what an initialisation and a run need.
+pub fn needs<S: Shelf, K: Sink>(alloc: Global, name: &str, shelf: &mut S, out: &mut K) -> Answer
+    ensures meets { Meets (needs_outcome (told (S.sees shelf.old) name.now)) (IsSome ((S.sees shelf.old).holds name.now))
+        (Rose (S.sees shelf.old).faults (S.sees shelf.new).faults) (Rose (K.faults out.old) (K.faults out.new))
+        (K.took out.old) (K.took out.new) result }
+    ensures words { result ≡ Answer.BadWords → ⊥ }
+    ensures asked { Asks (S.sees shelf.old) (S.sees shelf.new) (name.now ∷ []) }
+{
+    let manifest = match read_setup(alloc, name, shelf) {
+        Ok(manifest) => manifest,
+        Err(end) => return end.answer(),
+    };
+    let text = match needs_text(alloc, &manifest) {
+        Ok(text) => text,
+        Err(_) => return Answer::OutOfMemory,
+    };
+    match write_all(out, &text) {
+        Ok(()) => Answer::Done,
+        Err(_) => Answer::WriteFault,
+    }
+}

@@ -1,0 +1,87 @@
+-- The outcomes of `demo` and `record` are those of their profiles.
+use Rattle.std.proofs.Common.{◌≡◌, ℕ, List, [], ◌∷◌, length, refl, sym, ap, subst, ◌∙◌, arith}
+use Rattle.std.specs.Prelude.{Option, Some, None, Result, Ok, Err, IsSome}
+use Rattle.std.specs.Option.{unwrap_or}
+use Rattle.det_values.specs.Values.{ProfileValue}
+use Rattle.det_edges.specs.Shelf.{ShelfState}
+use Rattle.det_values.specs.declared.job_kind.JobKind.{JobKind}
+use Rattle.det_values.specs.declared.job_kind.JobKind.TheVariants.{Bank, Cloud, Guard}
+use Rattle.job_bank.specs.Meaning as bank
+use Rattle.job_cloud.specs.Meaning as cloud
+use Rattle.job_guard.specs.Meaning as guard
+use Rattle.manifest.specs.Values.{ManifestValue}
+use Rattle.manifest.specs.Profiles.{profile_of}
+use Rattle.manifest.specs.Meaning.{manifest_of}
+use Rattle.manifest.specs.declared.fault.ManifestFault.{ManifestFault}
+use Rattle.cli_answers.specs.declared.answer.Answer.{Answer}
+use Rattle.cli_answers.specs.Outcome.{Meets, Tells, told}
+use Rattle.cmd_setup.specs.declared.setup.SetupEnd.{SetupEnd}
+use Rattle.cmd_setup.specs.declared.setup.SetupEnd.TheVariants as ends
+use Rattle.cmd_setup.specs.Setup.{bad_param, unless_bad, setup_from, setup_of, IfBad, answer_of}
+use Rattle.cmd_setup.proofs.Ending.{meets-end}
+use Rattle.cmd_record.specs.Outcomes.{recorded_if_good, demo_profile, demo_outcome, good_by_kind, recorded_by_kind, recorded_by, record_outcome}
+use Rattle.cmd_record.proofs.Recorded.{if-good}
+
+-- the first of some told names, and the second
+pub tells-first : (shelf : ShelfState) (name : List ℕ) (names : List (List ℕ)) → Tells shelf (name ∷ names) → IsSome (shelf.holds name)
+tells-first shelf name names t = t 0 name (omega arith)
+
+pub tells-second : (shelf : ShelfState) (first name : List ℕ) (names : List (List ℕ)) → Tells shelf (first ∷ name ∷ names) → IsSome (shelf.holds name)
+tells-second shelf first name names t = t 1 name (omega arith)
+
+-- the outcome of the built-in profile
+pub is-demo_outcome : (p : ProfileValue) (text : List ℕ) → p ≡ demo_profile → demo_outcome text ≡ recorded_if_good bank.meaning p text
+unfolding demo_outcome
+is-demo_outcome p text is = sym (ap (λ q. recorded_if_good bank.meaning q text) is ∙ if-good bank.meaning demo_profile text refl)
+
+kept : (bad : Option ℕ) (n m : ManifestValue) → unless_bad bad n ≡ Ok m → (bad ≡ None) × (n ≡ m)
+kept (Some index) n m e = cc
+kept None n m e = (refl, cc)
+
+-- the job of a manifest that is set up refuses no parameter
+setup-good : (read : Result ManifestValue ManifestFault) (m : ManifestValue) → setup_from read ≡ Ok m → bad_param m.kind m.params (length m.events) ≡ None
+setup-good (Err fault) m e = cc
+setup-good (Ok n) m e = let k = kept (bad_param n.kind n.params (length n.events)) n m e in
+    subst (λ (x : ManifestValue). bad_param x.kind x.params (length x.events) ≡ None) k.1 k.0
+
+kind-good : (kind : JobKind) (p : ProfileValue) (text : List ℕ) → bad_param kind p.params (length p.events) ≡ None → good_by_kind kind p text ≡ recorded_by_kind kind p text
+kind-good Bank p text good = if-good bank.meaning p text good
+kind-good Cloud p text good = if-good cloud.meaning p text good
+kind-good Guard p text good = if-good guard.meaning p text good
+
+-- the outcome of a manifest that was read, by the job of its kind
+by-setup : (bytes text : List ℕ) (seed : ℕ) (m : ManifestValue) → setup_of bytes ≡ Ok m → recorded_by seed text (setup_of bytes) ≡ good_by_kind m.kind (profile_of m seed) text
+by-setup bytes text seed m is =
+    ap (recorded_by seed text) is ∙ sym (kind-good m.kind (profile_of m seed) text (setup-good (manifest_of bytes) m is))
+
+module _ (first : ShelfState) (name stimulus : List ℕ) where
+  -- the same, where the manifest and the stimulus are told
+  pub by-told : (mid : ShelfState) (seed : Option ℕ) (m : ManifestValue) (kind : JobKind) (p : ProfileValue) → mid.holds ≡ first.holds
+      → (IsSome (first.holds name) → setup_of (told first name) ≡ Ok m) → kind ≡ m.kind → p ≡ profile_of m (unwrap_or seed 0)
+      → Tells first (name ∷ stimulus ∷ [])
+      → record_outcome (told first name) (told first stimulus) seed ≡ good_by_kind kind p (told mid stimulus)
+  by-told mid seed m kind p holds is same profile tells =
+      by-setup (told first name) (told first stimulus) (unwrap_or seed 0) m (is (tells-first first name (stimulus ∷ []) tells))
+      ∙ ap (λ k. good_by_kind k (profile_of m (unwrap_or seed 0)) (told first stimulus)) (sym same)
+      ∙ ap (λ q. good_by_kind kind q (told first stimulus)) (sym profile)
+      ∙ ap (λ h. good_by_kind kind p (unwrap_or (h stimulus) [])) (sym holds)
+
+  -- the stimulus is told behind the manifest
+  pub still-told : (mid : ShelfState) → mid.holds ≡ first.holds → Tells first (name ∷ stimulus ∷ []) → IsSome (mid.holds stimulus)
+  still-told mid holds tells = subst (λ h. IsSome (h stimulus)) (sym holds) (tells-second first name stimulus [] tells)
+
+  bad-told : (end : SetupEnd) → IfBad end (λ why. IsSome (first.holds name) → setup_of (told first name) ≡ Err why)
+      → IfBad end (λ why. Tells first (name ∷ stimulus ∷ []) → setup_of (told first name) ≡ Err why)
+  bad-told (ends.BadManifest why) bad = λ tells. bad (tells-first first name (stimulus ∷ []) tells)
+  bad-told ends.ReadFault bad = bad
+  bad-told ends.OutOfMemory bad = bad
+
+  -- a manifest that is refused, or couldn't be read
+  pub met-end : (seed : Option ℕ) (rose failed : Type 0) (before : List ℕ → Type 0) (end : SetupEnd) (answer : Answer) → answer ≡ answer_of end
+      → IfBad end (λ why. IsSome (first.holds name) → setup_of (told first name) ≡ Err why) → (end ≡ ends.ReadFault → rose)
+      → Meets (record_outcome (told first name) (told first stimulus) seed) (Tells first (name ∷ stimulus ∷ [])) rose failed before before answer
+  met-end seed rose failed before end answer is bad read =
+      let wanted = recorded_by (unwrap_or seed 0) (told first stimulus) in
+      let tells = Tells first (name ∷ stimulus ∷ []) in
+      subst (λ a. Meets (wanted (setup_of (told first name))) tells rose failed before before a) (sym is)
+      (meets-end wanted (λ why. refl) (told first name) tells rose failed before end (bad-told end bad) read)

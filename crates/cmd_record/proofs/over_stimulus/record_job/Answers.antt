@@ -1,0 +1,27 @@
+use Rattle.std.proofs.Common.{[], ◌∷◌, length, sym, ap, ◌∙◌}
+use Rattle.std.specs.Prelude.{IsSome}
+use Rattle.det_edges.specs.Count.{Rose}
+use Rattle.det_edges.proofs.Opening.{asks-all, asks-then-kept}
+use Rattle.cli_answers.specs.Outcome.{told}
+use Rattle.cli_answers.proofs.Meeting.{meets-read-fault}
+use Rattle.cmd_record.proofs.Recorded.{met-refused}
+use Rattle.cmd_record.proofs.over_stimulus.record_job.Goals as goal
+
+pub returns-in-Err-clause-meets : goal.returns-in-Err-clause-meets
+returns-in-Err-clause-meets g c =
+    let bad_param = g.J.Job.meaning.bad_param in
+    let events = c.len-events.ensures.len ∙ ap (λ p. length p.events) c.profile.view_is in
+    let refused = sym (ap (λ n. bad_param c.args.profile.now.params n) events)
+    ∙ sym (ap (λ p. bad_param p.params c.len-events.result) c.profile.view_is) ∙ c.in-Err.ensures in
+    let first = g.S.Slots.sees c.args.shelf.now in
+    let faults = g.K.Sink.faults c.args.out.now in
+    met-refused g.J.Job.meaning c.args.profile.now (told first c.args.stimulus.now) (IsSome (first.holds c.args.stimulus.now)) (Rose first.faults first.faults)
+    (Rose faults faults) (g.K.Sink.took c.args.out.now) c.in-Err.bad.index refused
+
+pub returns-in_default-clause-meets : goal.returns-in_default-clause-meets
+returns-in_default-clause-meets g c = meets-read-fault _ _ _ _ _ c.in_default.ensures.cause
+
+pub returns-clause-asked : goal.returns-clause-asked
+returns-clause-asked g c =
+    let run = c.record_run-run.ensures.run in
+    asks-all _ _ (c.args.stimulus.now ∷ []) (asks-then-kept c.in-Ok-open_input.ensures.asked run.1.asked)

@@ -1,0 +1,88 @@
+-- What `demo` and `record` give.
+use Rattle.std.specs.Prelude.{ℕ, pos, List, [], ◌∷◌, length, codes, Option, Some, None, Result, Ok, Err}
+use Rattle.std.specs.Option.{unwrap_or}
+use Rattle.det_values.specs.Values.{ProfileValue}
+use Rattle.det_values.specs.declared.format.Format.TheVariants.{Two}
+use Rattle.det_values.specs.declared.event.Policy.TheVariants.{Last}
+use Rattle.det_values.specs.declared.job_kind.JobKind.{JobKind}
+use Rattle.det_values.specs.declared.job_kind.JobKind.TheVariants.{Bank, Cloud, Guard}
+use Rattle.job_trait.specs.Meaning.{Meaning}
+use Rattle.job_bank.specs.Meaning as bank
+use Rattle.job_cloud.specs.Meaning as cloud
+use Rattle.job_guard.specs.Meaning as guard
+use Rattle.stimulus.specs.Reading.{Ending, Terminated, BadLine, ending}
+use Rattle.recorder.specs.Record.{record_of}
+use Rattle.recorder.specs.declared.ends.Counts.{Counts}
+use Rattle.recorder.specs.declared.ends.RecordEnd.{RecordEnd}
+use Rattle.recorder.specs.declared.ends.RecordEnd.TheVariants.{Stimulus, ReadFault, WriteFault, OutOfMemory}
+use Rattle.manifest.specs.Values.{ManifestValue}
+use Rattle.manifest.specs.Profiles.{profile_of}
+use Rattle.cli_answers.specs.declared.answer.BadManifest.{BadManifest}
+use Rattle.cli_answers.specs.declared.answer.BadManifest.TheVariants.{Parameter}
+use Rattle.cli_answers.specs.declared.answer.Answer.{Answer}
+use Rattle.cli_answers.specs.declared.answer.Answer.TheVariants as answers
+use Rattle.cli_answers.specs.Outcome.{Outcome, refusal}
+use Rattle.cmd_setup.specs.Setup.{setup_of}
+
+-- what a stimulus that ends like this is answered
+abbrev pub answer_to : Ending → Answer
+answer_to Terminated = answers.Done
+answer_to (BadLine line) = answers.BadStimulus line
+
+-- what a run of the recorder is answered
+abbrev pub answer_of : Result Counts RecordEnd → Answer
+answer_of (Ok counts) = answers.Done
+answer_of (Err (Stimulus line)) = answers.BadStimulus line
+answer_of (Err ReadFault) = answers.ReadFault
+answer_of (Err WriteFault) = answers.WriteFault
+answer_of (Err OutOfMemory) = answers.OutOfMemory
+
+-- an outcome, where no parameter is refused
+abbrev pub unless_refused : Option ℕ → Outcome → Outcome
+unless_refused (Some index) outcome = refusal (answers.BadManifest (Parameter index))
+unless_refused None outcome = outcome
+
+module _ {S G E L P : Type 0} (m : Meaning S G E L P) (profile : ProfileValue) where
+  -- the record of a text, also where a bad line ends it
+  abbrev pub recorded : List ℕ → Outcome
+  recorded text = record { answer = answer_to (ending (length profile.events) text); bytes = record_of m profile text }
+
+  -- the same of a profile whose parameters the job may refuse
+  abbrev pub recorded_if_good : List ℕ → Outcome
+  recorded_if_good text = unless_refused (m.bad_param profile.params (length profile.events)) (recorded text)
+
+-- a bank of 4 channels with the shift 2 and one event `x` of capacity 2; 10 ms, seed 0
+abbrev pub demo_profile : ProfileValue
+demo_profile = record {
+  format = Two;
+  job = 1;
+  seed = 0;
+  cycle_time = 10000000;
+  params = pos 4 ∷ pos 2 ∷ [];
+  events = record { capacity = 2; name = codes "x"; policy = Last } ∷ [];
+}
+
+-- what `demo` gives of a stimulus
+unfoldable pub demo_outcome : List ℕ → Outcome
+demo_outcome stimulus = recorded bank.meaning demo_profile stimulus
+
+-- the same by the kind of the job
+abbrev pub recorded_by_kind : JobKind → ProfileValue → List ℕ → Outcome
+recorded_by_kind Bank profile text = recorded bank.meaning profile text
+recorded_by_kind Cloud profile text = recorded cloud.meaning profile text
+recorded_by_kind Guard profile text = recorded guard.meaning profile text
+
+-- the same of a profile whose parameters the job may refuse
+abbrev pub good_by_kind : JobKind → ProfileValue → List ℕ → Outcome
+good_by_kind Bank profile text = recorded_if_good bank.meaning profile text
+good_by_kind Cloud profile text = recorded_if_good cloud.meaning profile text
+good_by_kind Guard profile text = recorded_if_good guard.meaning profile text
+
+-- a manifest's profile with a seed, over a stimulus, or the refusal of the manifest
+abbrev pub recorded_by : ℕ → List ℕ → Result ManifestValue BadManifest → Outcome
+recorded_by seed stimulus (Ok m) = recorded_by_kind m.kind (profile_of m seed) stimulus
+recorded_by seed stimulus (Err why) = refusal (answers.BadManifest why)
+
+-- what `record` gives of a manifest and a stimulus, with the seed 0 where none is given
+abbrev pub record_outcome : (manifest stimulus : List ℕ) → Option ℕ → Outcome
+record_outcome manifest stimulus seed = recorded_by (unwrap_or seed 0) stimulus (setup_of manifest)

@@ -1,0 +1,74 @@
+//! The command `demo`.
+ghost use Rattle.std.specs.Prelude.{◌≡◌, ◌∷◌, [], IfOk};
+ghost use Rattle.det_edges.specs.Count.{Rose};
+ghost use Rattle.det_edges.specs.Shelf.{AsksPrefix};
+ghost use Rattle.cli_answers.specs.Outcome.{Meets, Tells, told};
+ghost use Rattle.cmd_record.specs.Outcomes.{demo_outcome, demo_profile};
+
+use crate::over_stimulus::record_job;
+use job_bank::Bank;
+use cli_answers::Answer;
+use det_edges::{Shelf, Sink};
+use det_values::{EventName, EventSpec, Events, Format, JobKind, OutOfMemory, Params, Policy, Profile};
+use std::alloc::Global;
+use std::thread::Threads;
+use worker_pool::Gate;
+
+fn demo_events(alloc: Global) -> Result<Events, OutOfMemory>
+    ensures { IfOk result (λ events. events ≡ demo_profile.events) }
+{
+    let mut events = Events::new(alloc);
+    let Some(name) = EventName::of(b"x") else {
+        unreachable!()
+    };
+    events.push(EventSpec {
+        capacity: 2,
+        name,
+        policy: Policy::Last,
+    })?;
+    Ok(events)
+}
+
+fn demo_params(alloc: Global) -> Result<Params, OutOfMemory>
+    ensures { IfOk result (λ params. params ≡ demo_profile.params) }
+{
+    let mut params = Params::new(alloc);
+    params.extend_from_slice(&[4, 2])?;
+    Ok(params)
+}
+
+fn demo_profile(alloc: Global) -> Result<Profile, OutOfMemory>
+    ensures { IfOk result (λ profile. profile ≡ demo_profile) }
+{
+    let params = demo_params(alloc)?;
+    let events = demo_events(alloc)?;
+    Ok(Profile {
+        format: Format::Two,
+        job: JobKind::Bank.number(),
+        seed: 0,
+        cycle_time: 10_000_000,
+        params,
+        events,
+    })
+}
+
+/// Writes the record of the built-in profile over the stimulus of this name.
+pub fn demo<R: Threads + Sync, S: Shelf, K: Sink, G: Gate>(
+    rt: &R,
+    alloc: Global,
+    stimulus: &str,
+    shelf: &mut S,
+    out: &mut K,
+    gate: &G,
+) -> Answer
+    ensures meets { Meets (demo_outcome (told (S.sees shelf.old) stimulus.now)) (Tells (S.sees shelf.old) (stimulus.now ∷ []))
+        (Rose (S.sees shelf.old).faults (S.sees shelf.new).faults) (Rose (K.faults out.old) (K.faults out.new))
+        (K.took out.old) (K.took out.new) result }
+    ensures words { result ≡ Answer.BadWords → ⊥ }
+    ensures asked { AsksPrefix (S.sees shelf.old) (S.sees shelf.new) (stimulus.now ∷ []) }
+{
+    let Ok(profile) = demo_profile(alloc) else {
+        return Answer::OutOfMemory;
+    };
+    record_job::<Bank, S, K, R, G>(rt, alloc, &profile, stimulus, 1, shelf, out, gate)
+}

@@ -1,0 +1,105 @@
+//! The command `record`.
+ghost use Rattle.std.specs.Prelude.{◌≡◌, ◌≤◌, ◌∷◌, [], IsSome, IfSome};
+ghost use Rattle.det_edges.specs.Count.{Rose};
+ghost use Rattle.det_edges.specs.Shelf.{AsksPrefix};
+ghost use Rattle.manifest.specs.Limits.{IsWorkers};
+ghost use Rattle.cli_answers.specs.Outcome.{Meets, Tells, told};
+ghost use Rattle.cmd_record.specs.Outcomes.{good_by_kind, record_outcome};
+
+use crate::over_stimulus::record_job;
+use job_bank::Bank;
+use job_cloud::Cloud;
+use job_guard::Guard;
+use cli_answers::Answer;
+use det_edges::{Shelf, Sink};
+use det_values::{JobKind, Profile};
+use cmd_setup::read_setup;
+use std::alloc::Global;
+use std::thread::Threads;
+use worker_pool::Gate;
+
+/// The number of workers that is given, or else the manifest's.
+fn workers_or(given: Option<u32>, own: u32) -> u32
+    requires given { IfSome given IsWorkers }
+    requires own { IsWorkers own }
+    ensures { IsWorkers result }
+{
+    match given {
+        Some(workers) => workers,
+        None => own,
+    }
+}
+
+/// Records the stimulus under a name with the job of a kind.
+fn record_kind<R: Threads + Sync, S: Shelf, K: Sink, G: Gate>(
+    rt: &R,
+    alloc: Global,
+    kind: JobKind,
+    profile: &Profile,
+    stimulus: &str,
+    workers: u32,
+    shelf: &mut S,
+    out: &mut K,
+    gate: &G,
+) -> Answer
+    requires workers { IsWorkers workers }
+    ensures meets { Meets (good_by_kind kind profile.now (told (S.sees shelf.old) stimulus.now)) (IsSome ((S.sees shelf.old).holds stimulus.now))
+        (Rose (S.sees shelf.old).faults (S.sees shelf.new).faults) (Rose (K.faults out.old) (K.faults out.new))
+        (K.took out.old) (K.took out.new) result }
+    ensures words { result ≡ Answer.BadWords → ⊥ }
+    ensures asked { AsksPrefix (S.sees shelf.old) (S.sees shelf.new) (stimulus.now ∷ []) }
+{
+    match kind {
+        JobKind::Bank => record_job::<Bank, S, K, R, G>(
+            rt, alloc, profile, stimulus, workers, shelf, out, gate,
+        ),
+        JobKind::Cloud => record_job::<Cloud, S, K, R, G>(
+            rt, alloc, profile, stimulus, workers, shelf, out, gate,
+        ),
+        JobKind::Guard => record_job::<Guard, S, K, R, G>(
+            rt, alloc, profile, stimulus, workers, shelf, out, gate,
+        ),
+    }
+}
+
+/// Writes the record of a manifest's profile over a stimulus. The seed is 0, and the number of workers the manifest's,
+/// where none is given. The manifest is read and judged before the stimulus is opened.
+pub fn record_stimulus<R: Threads + Sync, S: Shelf, K: Sink, G: Gate>(
+    rt: &R,
+    alloc: Global,
+    manifest: &str,
+    stimulus: &str,
+    seed: Option<u64>,
+    workers: Option<u32>,
+    shelf: &mut S,
+    out: &mut K,
+    gate: &G,
+) -> Answer
+    requires workers { IfSome workers IsWorkers }
+    ensures meets { Meets (record_outcome (told (S.sees shelf.old) manifest.now) (told (S.sees shelf.old) stimulus.now) seed)
+        (Tells (S.sees shelf.old) (manifest.now ∷ stimulus.now ∷ []))
+        (Rose (S.sees shelf.old).faults (S.sees shelf.new).faults) (Rose (K.faults out.old) (K.faults out.new))
+        (K.took out.old) (K.took out.new) result }
+    ensures words { result ≡ Answer.BadWords → ⊥ }
+    ensures asked { AsksPrefix (S.sees shelf.old) (S.sees shelf.new) (manifest.now ∷ stimulus.now ∷ []) }
+{
+    let setup = match read_setup(alloc, manifest, shelf) {
+        Ok(setup) => setup,
+        Err(end) => return end.answer(),
+    };
+    let Ok(profile) = setup.profile(alloc, seed.unwrap_or(0)) else {
+        return Answer::OutOfMemory;
+    };
+    let workers = workers_or(workers, setup.workers());
+    record_kind(
+        rt,
+        alloc,
+        setup.kind(),
+        &profile,
+        stimulus,
+        workers,
+        shelf,
+        out,
+        gate,
+    )
+}

@@ -1,0 +1,76 @@
+//! Records a stimulus by a profile, for any job.
+ghost use Rattle.std.specs.Prelude.{◌≡◌, ◌≤◌, ◌∷◌, [], IsSome};
+ghost use Rattle.det_edges.specs.Count.{Rose};
+ghost use Rattle.det_edges.specs.Shelf.{AsksPrefix};
+ghost use Rattle.cli_answers.specs.Outcome.{Meets, told};
+ghost use Rattle.cmd_record.specs.Outcomes.{answer_of, recorded_if_good};
+
+use cycle_engine::Engine;
+use cli_answers::{Answer, BadManifest};
+use det_edges::{Shelf, Sink};
+use det_values::{Bytes, Profile};
+use job_trait::Job;
+use recorder::{Counts, RecordEnd, record_run};
+use std::alloc::Global;
+use std::thread::Threads;
+use worker_pool::Gate;
+
+/// What a run of the recorder is answered.
+fn answer_of(run: Result<Counts, RecordEnd>) -> Answer
+    ensures { result ≡ answer_of run }
+{
+    match run {
+        Ok(_) => Answer::Done,
+        Err(RecordEnd::Stimulus { line }) => Answer::BadStimulus { line },
+        Err(RecordEnd::ReadFault) => Answer::ReadFault,
+        Err(RecordEnd::WriteFault) => Answer::WriteFault,
+        Err(RecordEnd::OutOfMemory) => Answer::OutOfMemory,
+    }
+}
+
+/// Records the stimulus under a name. A parameter that the job refuses is answered before the name is opened.
+pub(crate) fn record_job<J: Job, S: Shelf, K: Sink, R: Threads + Sync, G: Gate>(
+    rt: &R,
+    alloc: Global,
+    profile: &Profile,
+    stimulus: &str,
+    workers: u32,
+    shelf: &mut S,
+    out: &mut K,
+    gate: &G,
+) -> Answer
+    requires workers { (1 ≤ workers) × (workers ≤ 64) }
+    ensures meets { Meets (recorded_if_good J.meaning profile.now (told (S.sees shelf.old) stimulus.now)) (IsSome ((S.sees shelf.old).holds stimulus.now))
+        (Rose (S.sees shelf.old).faults (S.sees shelf.new).faults) (Rose (K.faults out.old) (K.faults out.new))
+        (K.took out.old) (K.took out.new) result }
+    ensures words { result ≡ Answer.BadWords → ⊥ }
+    ensures asked { AsksPrefix (S.sees shelf.old) (S.sees shelf.new) (stimulus.now ∷ []) }
+{
+    let events = profile.events.len() as u16;
+    let job = match J::make(&profile.params, events) {
+        Ok(job) => job,
+        Err(bad) => return Answer::BadManifest(BadManifest::Parameter(bad.index)),
+    };
+    let Ok(slot) = shelf.open_input(stimulus) else {
+        return Answer::ReadFault;
+    };
+    let Ok(mut engine) = Engine::start(alloc, job, profile) else {
+        return Answer::OutOfMemory;
+    };
+    let mut probes = Vec::new(alloc);
+    let mut left = Bytes::new(alloc);
+    let run = record_run(
+        rt,
+        alloc,
+        &mut engine,
+        profile,
+        shelf,
+        slot,
+        out,
+        workers,
+        gate,
+        &mut probes,
+        &mut left,
+    );
+    answer_of(run)
+}

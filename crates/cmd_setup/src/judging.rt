@@ -1,0 +1,63 @@
+//! Judges the text of a manifest, and its parameters by its job.
+ghost use Rattle.std.specs.Prelude.{◌≡◌, IfOk, IfErr, Ok, Err};
+ghost use Rattle.cmd_setup.specs.Setup.{bad_param, judged, setup_of, IfBad, IsCalm};
+
+use crate::SetupEnd;
+use job_bank::Bank;
+use job_cloud::Cloud;
+use job_guard::Guard;
+use cli_answers::BadManifest;
+use det_values::{JobKind, Params};
+use job_trait::Job;
+use manifest::{Manifest, ManifestError, read_manifest};
+use std::alloc::Global;
+
+/// The least parameter that a job refuses.
+fn refused<J: Job>(params: &Params, events: u16) -> Option<u8>
+    ensures { result ≡ J.meaning.bad_param params.now events }
+{
+    match J::make(params, events) {
+        Ok(_) => None,
+        Err(bad) => Some(bad.index),
+    }
+}
+
+/// The least parameter that the job of a kind refuses.
+fn bad_param(kind: JobKind, params: &Params, events: u16) -> Option<u8>
+    ensures { result ≡ bad_param kind params.now events }
+{
+    match kind {
+        JobKind::Bank => refused::<Bank>(params, events),
+        JobKind::Cloud => refused::<Cloud>(params, events),
+        JobKind::Guard => refused::<Guard>(params, events),
+    }
+}
+
+/// The manifest, where its job takes its parameters.
+fn judged(alloc: Global, manifest: Manifest) -> Result<Manifest, SetupEnd>
+    ensures manifest { IfOk result (λ m. judged manifest ≡ Ok m) }
+    ensures refused { IfErr result (λ e. IfBad e (λ why. judged manifest ≡ Err why)) }
+    ensures calm { IfErr result IsCalm }
+{
+    let profile = manifest.profile(alloc, 0)?;
+    let events = profile.events.len() as u16;
+    match bad_param(manifest.kind(), &profile.params, events) {
+        None => Ok(manifest),
+        Some(index) => Err(SetupEnd::BadManifest(BadManifest::Parameter(index))),
+    }
+}
+
+/// The manifest that a text is, where its job takes its parameters.
+pub(crate) fn setup_of(alloc: Global, text: &[u8]) -> Result<Manifest, SetupEnd>
+    ensures manifest { IfOk result (λ m. setup_of text.now ≡ Ok m) }
+    ensures refused { IfErr result (λ e. IfBad e (λ why. setup_of text.now ≡ Err why)) }
+    ensures calm { IfErr result IsCalm }
+{
+    match read_manifest(alloc, text) {
+        Ok(manifest) => judged(alloc, manifest),
+        Err(ManifestError::Fault(fault)) => {
+            Err(SetupEnd::BadManifest(BadManifest::Fault(fault)))
+        }
+        Err(ManifestError::OutOfMemory) => Err(SetupEnd::OutOfMemory),
+    }
+}

@@ -1,0 +1,77 @@
+-- What `sim` gives of a number: a summary of the run of a cloud over the stimulus that is made of the number, and what the
+-- probes report of it.
+use Rattle.std.specs.Prelude.{ℕ, ℤ, pos, List, [], ◌∷◌, ◌++◌, length, codes}
+use Rattle.std.specs.List.{count_by}
+use Rattle.sha2.specs.Sha256.{sha256}
+use Rattle.det_values.specs.Values.{EventSpecValue, ProfileValue}
+use Rattle.det_values.specs.declared.format.Format.TheVariants.{Two}
+use Rattle.det_values.specs.declared.event.Policy.TheVariants.{Last}
+use Rattle.det_values.specs.declared.frames.RunFrame.{RunFrame}
+use Rattle.job_trait.specs.Meaning.{Meaning}
+use Rattle.job_cloud.specs.Meaning.{meaning}
+use Rattle.cycle_engine.specs.Frames.{runs}
+use Rattle.stimulus.specs.Made.{made}
+use Rattle.stimulus.specs.Reading.{blocks}
+use Rattle.probes.specs.Reports.{ProbeLife, reports}
+use Rattle.probes.specs.Shipped.{is_refused}
+use Rattle.recorder.specs.Record.{record_of, counted}
+use Rattle.record_text.specs.Summaries.{summary_lines}
+use Rattle.record_text.specs.declared.summary_lines.Summary.{Summary}
+use Rattle.cli_answers.specs.Outcome.{Outcome, text_outcome}
+
+-- an event that keeps its newest sample
+abbrev pub newest_of : List ℕ → EventSpecValue
+newest_of name = record { capacity = 1; name = name; policy = Last }
+
+-- 10,000 particles, a spread of 1,000, a new seed in each 50th cycle, and no distance too far
+abbrev pub sim_params : List ℤ
+sim_params = pos 10000 ∷ pos 1000 ∷ pos 50 ∷ pos 4000000000000 ∷ []
+
+abbrev pub sim_events : List EventSpecValue
+sim_events = newest_of (codes "x") ∷ newest_of (codes "y") ∷ newest_of (codes "hold") ∷ []
+
+-- a cloud with the number as its seed; 10 ms
+abbrev pub sim_profile : ℕ → ProfileValue
+sim_profile number = record {
+  format = Two;
+  job = 2;
+  seed = number;
+  cycle_time = 10000000;
+  params = sim_params;
+  events = sim_events;
+}
+
+-- of a run: its number, how many cycles it had and how many of them were refused, the length of its record and the digest
+abbrev pub summary_with : ℕ → List RunFrame → List ℕ → Summary
+summary_with number cycles record_bytes = record {
+  number = number;
+  cycles = length cycles;
+  refused = count_by is_refused cycles;
+  bytes = counted (length record_bytes);
+  digest = sha256 record_bytes;
+}
+
+module _ {S G E L P : Type 0} (m : Meaning S G E L P) (profile : ProfileValue) (text : List ℕ) where
+  -- the cycles of a job over a text
+  abbrev pub runs_over : List RunFrame
+  runs_over = runs m profile (blocks (length profile.events) text)
+
+  -- and what is told of them and of their record
+  abbrev pub summary_over : ℕ → Summary
+  summary_over number = summary_with number runs_over (record_of m profile text)
+
+-- the cycles of the cloud over the made stimulus
+unfoldable pub sim_runs : ℕ → List RunFrame
+sim_runs number = runs_over meaning (sim_profile number) (made number)
+
+-- what is told of them
+unfoldable pub summary_of : ℕ → Summary
+summary_of number = summary_over meaning (sim_profile number) (made number) number
+
+-- the lines of the summary, and the reports
+unfoldable pub sim_text : List ProbeLife → ℕ → List ℕ
+sim_text probes number = summary_lines (summary_of number) ++ reports probes (sim_runs number)
+
+-- what `sim` gives
+unfoldable pub sim_outcome : List ProbeLife → ℕ → Outcome
+sim_outcome probes number = text_outcome (sim_text probes number)

@@ -1,0 +1,32 @@
+//! The edges at which bytes come in and go out: shelves with slots that are read, and sinks that are written.
+#![tactic(auto)]
+
+mod copying;
+mod dir_shelf;
+mod faults;
+mod mem_shelf;
+mod mem_sink;
+mod planned_calls;
+mod reading;
+mod shelf;
+mod sink;
+mod slots;
+mod std_sink;
+mod text_shelf;
+mod writing;
+
+pub use dir_shelf::DirShelf;
+pub use faults::{ShelfFailed, SinkFailed};
+pub use mem_shelf::{MemFile, MemFiles, MemShelf};
+pub use mem_sink::MemSink;
+pub use planned_calls::FailList;
+pub use reading::{ReadEnd, read_limited};
+pub use shelf::Shelf;
+pub use sink::Sink;
+pub use slots::Slots;
+pub use std_sink::StdSink;
+pub use text_shelf::TextShelf;
+pub use writing::write_all;
+
+#[cfg(test)]
+mod edge_tests;

@@ -1,0 +1,41 @@
+//! A writer of std as a sink.
+use crate::{Sink, SinkFailed};
+use std::io::Write;
+
+/// Writes to a writer. It tells no bytes. Each failure of the writer is a fault, and so is a write that takes nothing of a
+/// piece that isn't empty.
+#[derive(Drop)]
+pub struct StdSink<W> {
+    writer: W,
+    faults: u64,
+}
+
+impl<W: Write + Drop> StdSink<W> {
+    ghost use Rattle.std.specs.Prelude.{◌≡◌};
+    ghost use Rattle.det_edges.specs.StdSink.{std_sink_faults};
+
+    /// A sink over this writer.
+    pub fn new(writer: W) -> StdSink<W>
+        ensures { std_sink_faults result ≡ 0 }
+    {
+        StdSink { writer, faults: 0 }
+    }
+}
+
+impl<W: Write + Drop> Sink for StdSink<W> {
+    ghost use Rattle.det_edges.specs.StdSink.{NothingTold, std_sink_faults};
+
+    ghost took = { λ _ m. NothingTold m };
+
+    ghost faults = { λ s. std_sink_faults s };
+
+    fn write(&mut self, piece: &[u8]) -> Result<usize, SinkFailed> {
+        match self.writer.write(piece) {
+            Ok(n) if n > 0 || piece.is_empty() => Ok(n),
+            _ => {
+                self.faults = self.faults.saturating_add(1);
+                Err(SinkFailed)
+            }
+        }
+    }
+}

@@ -1,6 +1,0 @@
-use Rattle.det_texts.specs.Records.{sample_line}
-use Rattle.det_texts.proofs.Appending.{HasPut}
-use Rattle.det_texts.proofs.frame_lines.put_sample_lines.Given as goal
-
-abbrev pub invariant-loop-sample : goal.invariant-loop-sample
-invariant-loop-sample l = HasPut sample_line l.samples l.sample-index l.initial.out.items l.out.items

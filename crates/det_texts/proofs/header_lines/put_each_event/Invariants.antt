@@ -1,6 +1,0 @@
-use Rattle.det_texts.specs.Records.{event_line}
-use Rattle.det_texts.proofs.Numbering.{HasNumbered}
-use Rattle.det_texts.proofs.header_lines.put_each_event.Given as goal
-
-abbrev pub invariant-loop-i : goal.invariant-loop-i
-invariant-loop-i l = HasNumbered (event_line l.format) l.events l.i l.initial.out.items l.out.items

@@ -1,0 +1,29 @@
+-- What the formats of a record keep of a frame.
+use Rattle.std.specs.Prelude.{List, map}
+use Rattle.det_values.specs.declared.format.Format.{Format}
+use Rattle.det_values.specs.declared.format.Format.TheVariants.{One, Two}
+use Rattle.det_values.specs.declared.frames.DrawnElement.{DrawnElement}
+use Rattle.det_values.specs.declared.frames.Outcome.{Outcome}
+use Rattle.det_values.specs.declared.frames.Outcome.TheVariants.{Finished, Refused}
+use Rattle.det_values.specs.declared.frames.Frame.{Frame}
+use Rattle.det_values.specs.declared.frames.Frame.TheVariants.{Register, Discover, Init, Run, Terminate}
+
+-- an element as if it had drawn nothing
+abbrev pub undrawn : DrawnElement → DrawnElement
+undrawn e = record { bytes = e.bytes; draws = 0 }
+
+abbrev pub all_undrawn : List DrawnElement → List DrawnElement
+all_undrawn es = map undrawn es
+
+-- format One knows no draws, so all of them are 0 in it; format Two keeps them
+abbrev pub outcome_in_format : Format → Outcome → Outcome
+outcome_in_format One (Finished elements output) = Finished (all_undrawn elements) output
+outcome_in_format One (Refused at) = Refused at
+outcome_in_format Two outcome = outcome
+
+abbrev pub in_format : Format → Frame → Frame
+in_format format (Run r) = Run (record { input = r.input; outcome = outcome_in_format format r.outcome })
+in_format format Register = Register
+in_format format Discover = Discover
+in_format format (Init elements) = Init elements
+in_format format Terminate = Terminate

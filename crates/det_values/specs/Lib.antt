@@ -1,0 +1,7 @@
+pub mod Values
+pub mod Limits
+pub mod Jobs
+pub mod Spelling
+pub mod Equal
+pub mod Frames
+pub mod Blocks

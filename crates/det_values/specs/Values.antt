@@ -1,0 +1,28 @@
+-- What contracts see of the values that have ranges of their own: their fields, without the ranges.
+use Rattle.std.specs.Prelude.{ℕ, ℤ, List}
+use Rattle.det_values.specs.declared.format.Format.{Format}
+use Rattle.det_values.specs.declared.event.Policy.{Policy}
+use Rattle.det_values.specs.declared.refused_at.Phase.{Phase}
+
+pub record SampleValue : Type 0 where
+  pub event : ℕ
+  pub value : ℤ
+
+pub record EventSpecValue : Type 0 where
+  pub capacity : ℕ
+  pub name : List ℕ
+  pub policy : Policy
+
+pub record RefusedAtValue : Type 0 where
+  pub phase : Phase
+  pub pass : ℕ
+  pub element : ℕ
+  pub code : ℕ
+
+pub record ProfileValue : Type 0 where
+  pub format : Format
+  pub job : ℕ
+  pub seed : ℕ
+  pub cycle_time : ℕ
+  pub params : List ℤ
+  pub events : List EventSpecValue

@@ -1,0 +1,69 @@
+//! An element added to the blocks of a container.
+ghost use Rattle.std.specs.Prelude.{◌≡◌, ◌++◌, ◌∷◌, [], OnOk, OnErr};
+ghost use Rattle.std.specs.Bool.{OnTrue, OnFalse};
+ghost use Rattle.det_values.specs.Blocks.{joined, AreBlocks, HasRoom, AreFull, held_by};
+
+use crate::OutOfMemory;
+use std::alloc::Global;
+
+/// Whether an item was added. A refused one is dropped.
+pub(crate) fn pushed<T: Drop>(items: &mut Vec<T>, item: T) -> bool
+    ensures yes { OnTrue result (items.new.items ≡ items.old.items ++ item ∷ []) }
+    ensures no { OnFalse result (items.new.items ≡ items.old.items) }
+{
+    items.push(item).is_ok()
+}
+
+/// Whether the last block isn't full.
+pub(crate) fn has_room<E>(blocks: &Vec<Vec<E>>) -> bool
+    requires { AreBlocks (held_by blocks.now.items) }
+    ensures yes { OnTrue result (HasRoom (held_by blocks.now.items)) }
+    ensures no { OnFalse result (AreFull (held_by blocks.now.items)) }
+{
+    let count = blocks.len();
+    if count == 0 {
+        return false;
+    }
+    if blocks[count - 1].len() < 64 {
+        return true;
+    }
+    false
+}
+
+/// Adds an element to the last block. A refused call drops it and changes nothing.
+pub(crate) fn add_to_last<E: Drop>(blocks: &mut Vec<Vec<E>>, item: E) -> Result<(), OutOfMemory>
+    requires blocks { AreBlocks (held_by blocks.old.items) }
+    requires room { HasRoom (held_by blocks.old.items) }
+    ensures blocks { AreBlocks (held_by blocks.new.items) }
+    ensures ok { OnOk result (joined (held_by blocks.new.items) ≡ joined (held_by blocks.old.items) ++ item ∷ []) }
+    ensures err { OnErr result (joined (held_by blocks.new.items) ≡ joined (held_by blocks.old.items)) }
+{
+    let count = blocks.len();
+    let last = &mut blocks[count - 1];
+    if pushed(last, item) {
+        return Ok(());
+    }
+    Err(OutOfMemory)
+}
+
+/// Adds a block of one element. A refused call drops it and changes nothing.
+pub(crate) fn add_block<E: Drop>(
+    blocks: &mut Vec<Vec<E>>,
+    alloc: Global,
+    item: E,
+) -> Result<(), OutOfMemory>
+    requires blocks { AreBlocks (held_by blocks.old.items) }
+    requires full { AreFull (held_by blocks.old.items) }
+    ensures blocks { AreBlocks (held_by blocks.new.items) }
+    ensures ok { OnOk result (joined (held_by blocks.new.items) ≡ joined (held_by blocks.old.items) ++ item ∷ []) }
+    ensures err { OnErr result (joined (held_by blocks.new.items) ≡ joined (held_by blocks.old.items)) }
+{
+    let mut block = Vec::new(alloc);
+    if !pushed(&mut block, item) {
+        return Err(OutOfMemory);
+    }
+    if pushed(blocks, block) {
+        return Ok(());
+    }
+    Err(OutOfMemory)
+}

@@ -1,0 +1,115 @@
+//! A list in blocks that are moved and never copied.
+ghost use Rattle.std.specs.Prelude.{◌≡◌, ℕ, ◌≤◌, ◌<◌, ◌+◌, ◌*◌, ◌++◌, ◌∷◌, [], length, take, drop, slice_index_or, OnOk, OnErr, IfOk};
+ghost use Rattle.det_values.specs.Blocks.{joined, AreBlocks, held_by};
+
+use crate::OutOfMemory;
+use crate::blocks::{add_block, add_to_last, has_room, pushed};
+use std::alloc::Global;
+use std::marker::Model;
+
+/// The elements of a job, or one value for each of them: at most 65,536, in blocks of 64, of which the last one may be
+/// shorter. Blocks are what the workers of a pass claim and give.
+#[derive(Debug, Drop)]
+pub struct Container<E> {
+    blocks: Vec<Vec<E>>,
+}
+
+impl<E> Model for Container<E> {
+    ghost use Rattle.std.specs.Prelude.{List, ◌≤◌, length};
+    ghost use Rattle.det_values.specs.Blocks.{joined, AreBlocks, held_by};
+
+    ghost Value = { List E };
+
+    ghost view = { λ c. joined (held_by c.blocks.items) };
+
+    ghost invariant = { λ c. AreBlocks (held_by c.blocks.items) × (length (joined (held_by c.blocks.items)) ≤ 65536) };
+}
+
+impl<E> Container<E> {
+    /// No elements. It takes no memory.
+    pub fn new(alloc: Global) -> Container<E>
+        ensures { result ≡ [] }
+    {
+        Container {
+            blocks: Vec::new(alloc),
+        }
+    }
+
+    /// No elements, and room for the blocks of so many.
+    pub fn with_room(alloc: Global, elements: usize) -> Result<Container<E>, OutOfMemory>
+        requires { elements ≤ 65536 }
+        ensures { IfOk result (λ container. container ≡ []) }
+    {
+        Ok(Container {
+            blocks: Vec::with_capacity(alloc, (elements + 63) / 64)?,
+        })
+    }
+
+    /// The number of elements.
+    pub fn len(&self) -> usize
+        ensures len { result ≡ length self.now }
+        ensures most { result ≤ 65536 }
+    {
+        let count = self.blocks.len();
+        if count == 0 {
+            return 0;
+        }
+        64 * (count - 1) + self.blocks[count - 1].len()
+    }
+
+    /// The element at an index, counted from 0.
+    pub fn item(&self, index: usize) -> &E
+        requires { index < length self.now }
+        ensures { result.now ≡ slice_index_or self.now index result.now }
+    {
+        &self.blocks[index / 64][index % 64]
+    }
+
+    /// The elements of block `number`, 64 or those that are left.
+    pub fn block(&self, number: usize) -> &[E]
+        requires { 64 * number < length self.now }
+        ensures { result.now ≡ take 64 (drop (64 * number) self.now) }
+    {
+        self.blocks[number].as_slice()
+    }
+
+    /// The number of blocks.
+    pub fn blocks(&self) -> usize
+        ensures enough { length self.now ≤ 64 * result }
+        ensures no_more { (b : ℕ) → b < result → 64 * b < length self.now }
+    {
+        self.blocks.len()
+    }
+
+    /// Adds an element at the end. A refused call drops it and changes nothing.
+    pub fn push(&mut self, alloc: Global, item: E) -> Result<(), OutOfMemory>
+    where
+        E: Drop,
+        requires { length self.old < 65536 }
+        ensures ok { OnOk result (self.new ≡ self.old ++ item ∷ []) }
+        ensures err { OnErr result (self.new ≡ self.old) }
+    {
+        if has_room(&self.blocks) {
+            add_to_last(&mut self.blocks, item)
+        } else {
+            add_block(&mut self.blocks, alloc, item)
+        }
+    }
+
+    /// Moves a block to the end, behind whole ones. A refused call drops it and changes nothing.
+    pub fn push_block(&mut self, block: Vec<E>) -> Result<(), OutOfMemory>
+    where
+        E: Drop,
+        requires whole { (n : ℕ) × (length self.old ≡ 64 * n) }
+        requires some { 0 < length block.items }
+        requires few { length block.items ≤ 64 }
+        requires room { length self.old + length block.items ≤ 65536 }
+        ensures ok { OnOk result (self.new ≡ self.old ++ block.items) }
+        ensures err { OnErr result (self.new ≡ self.old) }
+    {
+        if pushed(&mut self.blocks, block) {
+            return Ok(());
+        }
+        Err(OutOfMemory)
+    }
+}

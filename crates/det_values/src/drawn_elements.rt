@@ -1,0 +1,120 @@
+//! The elements of a finished cycle.
+ghost use Rattle.std.specs.Prelude.{◌≡◌, ◌≤◌, ◌<◌, List, ◌++◌, ◌∷◌, [], length, OnOk, OnErr};
+ghost use Rattle.std.specs.List.{All};
+ghost use Rattle.det_values.specs.Spelling.{an_element, spelled_all, IsDrawn};
+ghost use Rattle.det_values.specs.declared.frames.DrawnElement.{DrawnElement};
+
+use crate::put::put_drawn;
+use crate::undraw::undraw_all;
+use crate::walk::Walk;
+use crate::OutOfMemory;
+use std::alloc::Global;
+use std::marker::Model;
+
+/// The bytes and draws of each element of a finished cycle: at most 65,536 elements of at most 64 bytes each.
+///
+/// They are held as format Two of a record spells them, one behind another, so that a frame is encoded by one copy.
+#[derive(Debug, Drop)]
+pub struct DrawnElements {
+    bytes: Vec<u8>,
+    count: u32,
+}
+
+impl Model for DrawnElements {
+    ghost use Rattle.std.specs.Prelude.{List};
+    ghost use Rattle.det_values.specs.declared.frames.DrawnElement.{DrawnElement};
+    ghost use Rattle.det_values.specs.Spelling.{elements_in, IsFlat};
+
+    ghost Value = { List DrawnElement };
+
+    ghost view = { λ f. elements_in f.count f.bytes.items };
+
+    ghost invariant = { λ f. IsFlat f.count f.bytes.items };
+}
+
+impl DrawnElements {
+    ghost use Rattle.det_values.specs.Frames.{all_undrawn};
+
+    /// No elements. It takes no memory.
+    pub fn new(alloc: Global) -> DrawnElements
+        ensures { result ≡ [] }
+    {
+        DrawnElements {
+            bytes: Vec::new(alloc),
+            count: 0,
+        }
+    }
+
+    /// The number of elements.
+    pub fn len(&self) -> usize
+        ensures len { result ≡ length self.now }
+        ensures most { result ≤ 65536 }
+    {
+        self.count as usize
+    }
+
+    /// The elements as the record spells them.
+    pub fn spelled(&self) -> &[u8]
+        ensures bytes { result.now ≡ spelled_all self.now }
+        ensures fields { All IsDrawn self.now }
+    {
+        self.bytes.as_slice()
+    }
+
+    /// Adds an element at the end. A refused call changes nothing.
+    pub fn push(&mut self, bytes: &[u8], draws: u32) -> Result<(), OutOfMemory>
+        requires room { length self.old < 65536 }
+        requires short { length bytes.now ≤ 64 }
+        ensures ok { OnOk result (self.new ≡ self.old ++ an_element bytes.now draws ∷ []) }
+        ensures err { OnErr result (self.new ≡ self.old) }
+    {
+        match put_drawn(&mut self.bytes, bytes, draws) {
+            Ok(()) => {
+                self.count += 1;
+                Ok(())
+            }
+            Err(refused) => Err(refused),
+        }
+    }
+
+    /// So many elements that were spelled one behind another. The bytes are moved and not copied.
+    pub fn from_spelled(bytes: Vec<u8>, count: u32) -> DrawnElements
+        requires few { count ≤ 65536 }
+        requires spelled { (es : List DrawnElement) × (bytes.items ≡ spelled_all es) × (length es ≡ count) × All IsDrawn es }
+        ensures { (es : List DrawnElement) → bytes.items ≡ spelled_all es → length es ≡ count → All IsDrawn es → result ≡ es }
+    {
+        DrawnElements { bytes, count }
+    }
+
+    /// Makes all draws 0.
+    pub fn undraw(&mut self)
+        ensures { self.new ≡ all_undrawn self.old }
+    {
+        undraw_all(self.bytes.as_mut_slice(), self.count);
+    }
+
+    /// The elements, to be taken one after another.
+    pub fn walk(&self) -> Walk<'_>
+        ensures { result ≡ self.now }
+    {
+        Walk {
+            rest: self.bytes.as_slice(),
+            left: self.count,
+        }
+    }
+}
+
+impl PartialEq for DrawnElements {
+    ghost use Rattle.std.specs.Cmp.Lexicographic.{pointwise};
+    ghost use Rattle.det_values.specs.Equal.{drawn_eq, flat_laws};
+
+    ghost eq = { λ a b. pointwise drawn_eq a b };
+
+    ghost laws = { flat_laws };
+
+    fn eq(&self, other: &DrawnElements) -> bool {
+        let left = self.bytes.as_slice();
+        let right = other.bytes.as_slice();
+        left == right
+    }
+}

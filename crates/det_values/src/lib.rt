@@ -1,0 +1,41 @@
+//! The values that every other crate speaks of, with their limits.
+#![tactic(auto)]
+
+mod blocks;
+mod bytes64;
+mod container;
+mod drawn_elements;
+mod event;
+mod event_name;
+mod first;
+mod format;
+mod frames;
+mod job_kind;
+mod limited;
+mod lists;
+mod out_of_memory;
+mod profile;
+pub mod put;
+mod refused_at;
+mod sample;
+mod undraw;
+mod walk;
+
+pub use bytes64::Bytes64;
+pub use container::Container;
+pub use drawn_elements::DrawnElements;
+pub use event::{EventSpec, Policy};
+pub use event_name::EventName;
+pub use format::{Format, as_format};
+pub use frames::{CycleInput, DrawnElement, Frame, Outcome, RunFrame};
+pub use job_kind::JobKind;
+pub use limited::Limited;
+pub use lists::{Bytes, Elements, Events, Params, Samples};
+pub use out_of_memory::OutOfMemory;
+pub use profile::Profile;
+pub use refused_at::{Phase, RefusedAt};
+pub use sample::Sample;
+pub use walk::Walk;
+
+#[cfg(test)]
+mod values_tests;

@@ -1,0 +1,71 @@
+//! Numbers and elements, appended.
+ghost use Rattle.std.specs.Prelude.{◌≡◌, ◌≤◌, ◌+◌, ◌++◌, ◌∷◌, [], length, take, drop, OnOk, OnErr};
+ghost use Rattle.det_values.specs.Spelling.{spelled_u16, spelled_u32, AreBytes, an_element, spelled_drawn, IsDrawn, Grows};
+
+use crate::OutOfMemory;
+use std::alloc::AllocError;
+
+#[tactic(auto, unfolding(crate::specs::Spelling::spelled_u16))]
+pub fn put_u16(out: &mut Vec<u8>, n: u16) -> Result<(), AllocError>
+    ensures ok { OnOk result (out.new.items ≡ out.old.items ++ spelled_u16 n) }
+    ensures grows { Grows out.old.items out.new.items }
+{
+    out.extend_from_slice(&n.to_be_bytes())
+}
+
+#[tactic(auto, unfolding(crate::specs::Spelling::spelled_u32))]
+pub fn put_u32(out: &mut Vec<u8>, n: u32) -> Result<(), AllocError>
+    ensures ok { OnOk result (out.new.items ≡ out.old.items ++ spelled_u32 n) }
+    ensures grows { Grows out.old.items out.new.items }
+{
+    out.extend_from_slice(&n.to_be_bytes())
+}
+
+/// Bytes without their length.
+pub fn put_slice(out: &mut Vec<u8>, bytes: &[u8]) -> Result<(), AllocError>
+    ensures ok { OnOk result (out.new.items ≡ out.old.items ++ bytes.now) }
+    ensures grows { Grows out.old.items out.new.items }
+    ensures fields { AreBytes bytes.now }
+{
+    out.extend_from_slice(bytes)
+}
+
+#[tactic(auto, unfolding(crate::specs::Spelling::spelled_drawn))]
+fn put_parts(out: &mut Vec<u8>, bytes: &[u8], draws: u32) -> Result<(), AllocError>
+    requires { length bytes.now ≤ 64 }
+    ensures ok { OnOk result (out.new.items ≡ out.old.items ++ spelled_drawn (an_element bytes.now draws)) }
+    ensures grows { Grows out.old.items out.new.items }
+    ensures fields { AreBytes bytes.now }
+{
+    put_u16(out, bytes.len() as u16)?;
+    put_slice(out, bytes)?;
+    put_u32(out, draws)?;
+    Ok(())
+}
+
+/// An element with its draws. A refused call leaves `out` as it was.
+pub fn put_drawn(out: &mut Vec<u8>, bytes: &[u8], draws: u32) -> Result<(), OutOfMemory>
+    requires { length bytes.now ≤ 64 }
+    ensures ok { OnOk result (out.new.items ≡ out.old.items ++ spelled_drawn (an_element bytes.now draws)) }
+    ensures err { OnErr result (out.new.items ≡ out.old.items) }
+    ensures fields { IsDrawn (an_element bytes.now draws) }
+{
+    let len = out.len();
+    match put_parts(out, bytes, draws) {
+        Ok(()) => Ok(()),
+        Err(_) => {
+            out.truncate(len);
+            Err(OutOfMemory)
+        }
+    }
+}
+
+/// Writes a number over the two bytes at an index.
+pub fn fill_u16(out: &mut Vec<u8>, at: usize, n: u16)
+    requires { at + 2 ≤ length out.old.items }
+    ensures { out.new.items ≡ take at out.old.items ++ (spelled_u16 n ++ drop (at + 2) out.old.items) }
+{
+    let bytes = n.to_be_bytes();
+    out[at] = bytes[0];
+    out[at + 1] = bytes[1];
+}

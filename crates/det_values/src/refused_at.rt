@@ -1,0 +1,33 @@
+//! Where a cycle was refused.
+use std::marker::Model;
+
+/// A part of a cycle: its sequential begin, the passes of the pool, its sequential end.
+#[derive(Clone, Copy, Debug, PartialEq, Eq, Drop)]
+pub enum Phase {
+    Prepare,
+    Pool,
+    Conclude,
+}
+
+/// Where a cycle was refused, and the code that the job gave. In the pool the pass is below 8 and the element below
+/// 65,536; in the other phases both are 0.
+#[derive(Clone, Copy, Debug, PartialEq, Eq, Drop)]
+pub struct RefusedAt {
+    pub phase: Phase,
+    pub pass: u8,
+    pub element: u32,
+    pub code: u32,
+}
+
+impl Model for RefusedAt {
+    ghost use Rattle.det_values.specs.Values.{RefusedAtValue};
+    ghost use Rattle.det_values.specs.Limits.{IsPlace};
+
+    ghost Value = { RefusedAtValue };
+
+    ghost view = { λ r. record { phase = r.phase; pass = r.pass; element = r.element; code = r.code } };
+
+    ghost invariant = { λ r. IsPlace r.phase r.pass r.element };
+
+    ghost inverse = { λ v. record { phase = v.phase; pass = v.pass; element = v.element; code = v.code } };
+}

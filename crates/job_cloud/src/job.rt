@@ -1,0 +1,217 @@
+//! The cloud as a job.
+
+ghost use Rattle.std.specs.Prelude.{◌≡◌, ℕ, ◌≤◌, ◌%◌, ◌==◌};
+ghost use Rattle.element_random.specs.Words.{StandsFor, key, word};
+ghost use Rattle.det_client.specs.State.{OwnAt, SameButSeed};
+ghost use Rattle.event_cache.specs.Rings.{windows};
+ghost use Rattle.job_shared.specs.Samples.{newest};
+ghost use Rattle.job_trait.specs.Laws.{CoversSome};
+ghost use Rattle.job_cloud.specs.Meaning.{is_held, target_of, seed_of, stepped, pulled};
+ghost use Rattle.job_cloud.specs.Steps.{landing, step_of, words_drawn};
+ghost use Rattle.job_cloud.specs.Ranges.{IsPlace, Own, IsPartOf};
+
+use crate::best::{best_of, is_far, joined, output};
+use crate::particle::{element_bytes, first_particles, moved};
+use crate::steps::random_step;
+use crate::{Best, Cloud, Particle, Target};
+use job_shared::{newest, towards};
+use det_values::{Bytes64, OutOfMemory, Params};
+use det_client::Client;
+use element_random::ElementRandom;
+use event_cache::EventCache;
+use job_trait::{BadParam, Concluded, Job, JobFault, Started, Worked};
+use std::alloc::Global;
+
+/// The number of finished cycles. It stands at `u32::MAX`.
+#[derive(Clone, Copy, Debug, PartialEq, Eq, Drop)]
+pub struct Finished {
+    pub(crate) cycles: u32,
+}
+
+/// Whether the newest sample of event 2 refuses the cycle.
+fn is_held(cache: &EventCache) -> bool
+    ensures { result ≡ is_held (newest (windows cache.now) 2) }
+{
+    match newest(cache, 2) {
+        Some(hold) => hold < 0,
+        None => false,
+    }
+}
+
+/// Where the newest samples of events 0 and 1 lead; a coordinate without one is 0.
+fn target_of(cache: &EventCache) -> Target
+    ensures target { result ≡ target_of (windows cache.now) }
+    ensures limits { IsPlace result.tx result.ty }
+{
+    Target {
+        tx: newest(cache, 0).unwrap_or(0),
+        ty: newest(cache, 1).unwrap_or(0),
+    }
+}
+
+/// Draws a new seed in the cycles that ask for one.
+fn reseed(cloud: &Cloud, client: &mut Client)
+    requires { OwnAt client.old 0 }
+    ensures seed { client.new.seed ≡ seed_of cloud.now client.old.seed client.old.cycle }
+    ensures same { SameButSeed client.old client.new }
+{
+    if cloud.reseeds(client.cycle()) {
+        let seed = client.get_random();
+        client.set_random_seed(seed);
+    }
+}
+
+/// A particle after a random step.
+fn stepped(cloud: &Cloud, particle: &Particle, random: &mut ElementRandom) -> Particle
+    requires { Own cloud.now particle.now }
+    ensures particle { (key : ℕ) → StandsFor random.old key 0 → result ≡ stepped particle.now (step_of cloud.now.spread key (landing cloud.now.spread key)) }
+    ensures draws { (key : ℕ) → StandsFor random.old key 0 → random.new.draws ≡ words_drawn (landing cloud.now.spread key) }
+    ensures own { Own cloud.now result }
+{
+    let step = random_step(cloud.spread, random);
+    Particle {
+        number: particle.number,
+        x: moved(particle.x, step.dx),
+        y: moved(particle.y, step.dy),
+    }
+}
+
+/// A particle that may be pulled to the best one.
+fn pulled(
+    cloud: &Cloud,
+    carry: Option<Best>,
+    particle: &Particle,
+    random: &mut ElementRandom,
+) -> Particle
+    requires own { Own cloud.now particle.now }
+    requires carry { CoversSome IsPartOf carry }
+    ensures particle { (key : ℕ) → StandsFor random.old key 0 → result ≡ pulled carry particle.now (word key 0) }
+    ensures draws { (key : ℕ) → StandsFor random.old key 0 → random.new.draws ≡ 1 }
+    ensures own { Own cloud.now result }
+{
+    let word = random.get_random();
+    match carry {
+        None => *particle,
+        Some(best) => {
+            if word % 8 == 0 {
+                *particle
+            } else {
+                Particle {
+                    number: particle.number,
+                    x: towards(particle.x, best.x, 3),
+                    y: towards(particle.y, best.y, 3),
+                }
+            }
+        }
+    }
+}
+
+impl Job for Cloud {
+    ghost use Rattle.job_cloud.specs.Meaning.{meaning};
+    ghost use Rattle.job_cloud.specs.Ranges.{Covers, Own, Fit};
+    ghost use Rattle.job_cloud.specs.Laws.{cloud_laws};
+
+    type Globals = Finished;
+
+    type Element = Particle;
+
+    type Plan = Target;
+
+    /// None where there is no particle.
+    type Part = Option<Best>;
+
+    ghost meaning = { meaning };
+
+    ghost Covers = { Covers };
+
+    ghost Own = { Own };
+
+    ghost Fit = { Fit };
+
+    ghost laws = { cloud_laws };
+
+    fn make(params: &Params, events: u16) -> Result<Cloud, BadParam> {
+        Cloud::of_params(params.as_slice(), events)
+    }
+
+    fn start(
+        &self,
+        alloc: Global,
+        _client: &mut Client,
+    ) -> Result<Started<Finished, Particle>, OutOfMemory> {
+        Ok(Started {
+            globals: Finished { cycles: 0 },
+            elements: first_particles(alloc, self)?,
+        })
+    }
+
+    fn prepare(
+        &self,
+        _alloc: Global,
+        _globals: &Finished,
+        _elements: &[Particle],
+        cache: &EventCache,
+        client: &mut Client,
+    ) -> Result<Target, JobFault> {
+        if is_held(cache) {
+            return Err(JobFault::Code(1));
+        }
+        reseed(self, client);
+        Ok(target_of(cache))
+    }
+
+    fn passes(&self, _plan: &Target) -> u8 {
+        2
+    }
+
+    fn unit(&self, _alloc: Global) -> Option<Best> {
+        None
+    }
+
+    #[inline(always)]
+    fn run(
+        &self,
+        _alloc: Global,
+        plan: &Target,
+        carry: &Option<Best>,
+        pass: u8,
+        element: &Particle,
+        random: &mut ElementRandom,
+    ) -> Result<Worked<Particle, Option<Best>>, JobFault> {
+        let particle = if pass == 0 {
+            stepped(self, element, random)
+        } else {
+            pulled(self, *carry, element, random)
+        };
+        Ok(Worked {
+            element: particle,
+            part: Some(best_of(*plan, particle)),
+        })
+    }
+
+    #[inline(always)]
+    fn merge(&self, left: Option<Best>, right: Option<Best>) -> Result<Option<Best>, OutOfMemory> {
+        Ok(joined(left, right))
+    }
+
+    fn element_bytes(&self, element: &Particle) -> Bytes64 {
+        element_bytes(element)
+    }
+
+    fn conclude(
+        &self,
+        alloc: Global,
+        globals: &Finished,
+        _plan: &Target,
+        part: Option<Best>,
+    ) -> Result<Concluded<Finished>, JobFault> {
+        if is_far(self.far, part) {
+            return Err(JobFault::Code(2));
+        }
+        let cycles = globals.cycles.saturating_add(1);
+        Ok(Concluded {
+            globals: Finished { cycles },
+            output: output(alloc, part, cycles)?,
+        })
+    }
+}

@@ -1,0 +1,73 @@
+//! Particles, and where they stand.
+
+ghost use Rattle.std.specs.Prelude.{◌≡◌, ◌<◌, ◌≤◌, IfOk, length};
+ghost use Rattle.std.specs.List.{All};
+ghost use Rattle.det_values.specs.Limits.{IsSampleValue};
+ghost use Rattle.job_cloud.specs.Meaning.{first_particles, distance, moved, shown};
+ghost use Rattle.job_cloud.specs.Ranges.{Own, IsPlace};
+
+use crate::Cloud;
+use det_values::{Bytes64, Container, OutOfMemory};
+use std::alloc::Global;
+
+/// A particle: its number, and its coordinates, from -10^12 to 10^12.
+#[derive(Clone, Copy, Debug, PartialEq, Eq, Drop)]
+pub struct Particle {
+    pub(crate) number: u32,
+    pub(crate) x: i64,
+    pub(crate) y: i64,
+}
+
+/// Where the particles are to go.
+#[derive(Clone, Copy, Debug, PartialEq, Eq, Drop)]
+pub struct Target {
+    pub(crate) tx: i64,
+    pub(crate) ty: i64,
+}
+
+/// All particles of a cloud, with both coordinates 0.
+pub(crate) fn first_particles(
+    alloc: Global,
+    cloud: &Cloud,
+) -> Result<Container<Particle>, OutOfMemory>
+    ensures particles { IfOk result (λ particles. particles ≡ first_particles cloud.now) }
+    ensures own { IfOk result (All (Own cloud.now)) }
+    ensures few { IfOk result (λ particles. length particles ≤ 65536) }
+{
+    let mut particles = Container::new(alloc);
+    for number in 0..cloud.particles {
+        particles.push(Particle { number, x: 0, y: 0 })?;
+    }
+    Ok(particles)
+}
+
+/// How far a place is from the target, along both coordinates.
+pub(crate) fn distance(target: Target, x: i64, y: i64) -> u64
+    requires target { IsPlace target.tx target.ty }
+    requires place { IsPlace x y }
+    ensures distance { result ≡ distance target x y }
+    ensures limits { result ≤ 4000000000000 }
+{
+    x.abs_diff(target.tx) + y.abs_diff(target.ty)
+}
+
+/// A coordinate after a step. It stays from -10^12 to 10^12.
+pub(crate) fn moved(coordinate: i64, by: i64) -> i64
+    requires coordinate { IsSampleValue coordinate }
+    requires by { IsSampleValue by }
+    ensures moved { result ≡ moved coordinate by }
+    ensures limits { IsSampleValue result }
+{
+    (coordinate + by).clamp(-1_000_000_000_000, 1_000_000_000_000)
+}
+
+/// Number and coordinates, 20 bytes.
+pub(crate) fn element_bytes(particle: &Particle) -> Bytes64
+    ensures { result ≡ shown particle.now }
+{
+    let mut bytes = [0; 20];
+    bytes[..4].copy_from_slice(&particle.number.to_be_bytes());
+    bytes[4..12].copy_from_slice(&particle.x.to_be_bytes());
+    bytes[12..].copy_from_slice(&particle.y.to_be_bytes());
+    Bytes64::of(&bytes)
+}

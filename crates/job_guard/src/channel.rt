@@ -1,0 +1,120 @@
+//! Channels, and what a sample makes of them.
+
+ghost use Rattle.std.specs.Prelude.{◌≡◌, ◌≤◌, IfOk, length};
+ghost use Rattle.std.specs.List.{All};
+ghost use Rattle.job_shared.specs.Samples.{IsSample};
+ghost use Rattle.job_trait.specs.Meaning.{Agrees};
+ghost use Rattle.job_guard.specs.Meaning.{first_channels, reading, corrected, judged, shown};
+ghost use Rattle.job_guard.specs.Ranges.{Own, IsPartOf};
+
+use crate::{Corrections, Guard};
+use job_shared::{NewestSamples, sample_of};
+use det_values::{Bytes64, Container, OutOfMemory};
+use job_trait::{JobFault, Worked};
+use std::alloc::Global;
+
+/// A channel: its number, the value that it holds, from -10^12 to 10^12, and how often in a row it was corrected.
+#[derive(Clone, Copy, Debug, PartialEq, Eq, Drop)]
+pub struct Channel {
+    pub(crate) number: u32,
+    pub(crate) held: i64,
+    pub(crate) streak: u16,
+}
+
+/// All channels of a guard, each holding 0.
+pub(crate) fn first_channels(
+    alloc: Global,
+    guard: &Guard,
+) -> Result<Container<Channel>, OutOfMemory>
+    ensures channels { IfOk result (λ channels. channels ≡ first_channels guard.now) }
+    ensures own { IfOk result (All (Own guard.now)) }
+    ensures few { IfOk result (λ channels. length channels ≤ 65536) }
+{
+    let mut channels = Container::new(alloc);
+    for number in 0..guard.channels {
+        channels.push(Channel {
+            number,
+            held: 0,
+            streak: 0,
+        })?;
+    }
+    Ok(channels)
+}
+
+/// What a channel reads: the newest sample of its event.
+#[inline(always)]
+pub(crate) fn reading(guard: &Guard, samples: &NewestSamples, channel: &Channel) -> Option<i64>
+    ensures { result ≡ reading guard.now samples.now channel.now }
+{
+    if guard.events == 0 {
+        None
+    } else {
+        sample_of(samples, channel.number % u32::from(guard.events))
+    }
+}
+
+/// A channel that goes on holding its value.
+fn corrected(alloc: Global, channel: &Channel) -> Result<Worked<Channel, Corrections>, OutOfMemory>
+    requires { channel.now.streak ≤ 1000 }
+    ensures { IfOk result (λ worked. worked ≡ corrected channel.now) }
+{
+    let mut part = Corrections::new(alloc);
+    part.push(channel.number)?;
+    Ok(Worked {
+        element: Channel {
+            number: channel.number,
+            held: channel.held,
+            streak: channel.streak + 1,
+        },
+        part,
+    })
+}
+
+/// A channel after a reading. It refuses with code 1 where it would have to be corrected once too often.
+#[inline(always)]
+pub(crate) fn judged(
+    alloc: Global,
+    guard: &Guard,
+    channel: &Channel,
+    reading: Option<i64>,
+) -> Result<Worked<Channel, Corrections>, JobFault>
+    requires own { Own guard.now channel.now }
+    requires reading { IsSample reading }
+    ensures judged { Agrees result (judged guard.now channel.now reading) }
+    ensures own { IfOk result (λ worked. Own guard.now worked.element) }
+    ensures covers { IfOk result (λ worked. IsPartOf worked.part 1) }
+{
+    match reading {
+        None => Ok(Worked {
+            element: *channel,
+            part: Corrections::new(alloc),
+        }),
+        Some(value) => {
+            if guard.bounds.contains(value) {
+                Ok(Worked {
+                    element: Channel {
+                        number: channel.number,
+                        held: value,
+                        streak: 0,
+                    },
+                    part: Corrections::new(alloc),
+                })
+            } else if channel.streak + 1 >= guard.limit {
+                Err(JobFault::Code(1))
+            } else {
+                Ok(corrected(alloc, channel)?)
+            }
+        }
+    }
+}
+
+/// Number, held value and streak, 14 bytes.
+pub(crate) fn element_bytes(channel: &Channel) -> Bytes64
+    ensures { result ≡ shown channel.now }
+{
+    let mut bytes = [0; 14];
+    bytes[..4].copy_from_slice(&channel.number.to_be_bytes());
+    bytes[4..12].copy_from_slice(&channel.held.to_be_bytes());
+    bytes[12..].copy_from_slice(&channel.streak.to_be_bytes());
+    Bytes64::of(&bytes)
+}

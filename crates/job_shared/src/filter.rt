@@ -1,0 +1,16 @@
+//! The step of a filter.
+
+ghost use Rattle.std.specs.Prelude.{◌≡◌, ◌≤◌};
+ghost use Rattle.det_values.specs.Limits.{IsSampleValue};
+ghost use Rattle.job_shared.specs.Filter.{towards};
+
+/// A value that moves towards a target: by the difference divided by 2 to the power of `shift`, rounded down.
+pub fn towards(value: i64, target: i64, shift: u32) -> i64
+    requires value { IsSampleValue value }
+    requires target { IsSampleValue target }
+    requires shift { shift ≤ 16 }
+    ensures step { result ≡ towards value target shift }
+    ensures limits { IsSampleValue result }
+{
+    value + ((target - value) >> shift)
+}

@@ -1,0 +1,46 @@
+//! The newest samples of events.
+
+ghost use Rattle.std.specs.Prelude.{◌≡◌, ℕ, ◌≤◌, length, IfOk};
+ghost use Rattle.event_cache.specs.Rings.{windows};
+ghost use Rattle.job_shared.specs.Samples.{newest, all_newest, sample_of, AreSamples, IsSample};
+
+use det_values::{Limited, OutOfMemory};
+use event_cache::EventCache;
+use std::alloc::Global;
+
+/// The newest sample of each event, where it has one.
+pub type NewestSamples = Limited<Option<i64>, 256>;
+
+/// The newest sample of an event. None where there is no such event, or its window is empty.
+pub fn newest(cache: &EventCache, event: u16) -> Option<i64>
+    ensures sample { result ≡ newest (windows cache.now) event }
+    ensures limits { IsSample result }
+{
+    if event < cache.events() {
+        cache.newest(event)
+    } else {
+        None
+    }
+}
+
+/// The newest sample of each event.
+pub fn newest_samples(alloc: Global, cache: &EventCache) -> Result<NewestSamples, OutOfMemory>
+    ensures samples { IfOk result (λ samples. samples ≡ all_newest (windows cache.now)) }
+    ensures limits { (events : ℕ) → length (windows cache.now) ≡ events → IfOk result (AreSamples events) }
+{
+    let mut samples = NewestSamples::from_vec(Vec::with_capacity(alloc, cache.events() as usize)?);
+    for event in 0..cache.events() {
+        samples.push(cache.newest(event))?;
+    }
+    Ok(samples)
+}
+
+/// The sample of an event among the newest ones. None where there is no such event.
+pub fn sample_of(samples: &NewestSamples, event: u32) -> Option<i64>
+    ensures { result ≡ sample_of samples.now event }
+{
+    match samples.as_slice().get(event as usize) {
+        Some(sample) => *sample,
+        None => None,
+    }
+}

@@ -1,0 +1,110 @@
+//! Commands whose edges fail in turn.
+use program_runs::{
+    Edges, NoMemory, Ran, guard_manifest, guard_stimulus, run, two_cycles_1, two_cycles_stimulus,
+    user_manifest,
+};
+use std::alloc::{AllocError, Global};
+use std::thread::Threads;
+
+/// A command over the files `m` and `s`, how many bytes of them it reads a call, and what it writes where nothing fails: so
+/// many bytes of this SHA-256.
+#[derive(Drop)]
+pub struct Case {
+    words: &'static str,
+    manifest: Vec<u8>,
+    stimulus: Vec<u8>,
+    most_read: usize,
+    len: usize,
+    digest: &'static str,
+}
+
+/// The bank of two cycles, recorded.
+pub fn two_cycles_case(alloc: Global) -> Result<Case, AllocError> {
+    Ok(Case {
+        words: "demo s",
+        manifest: Vec::new(alloc),
+        stimulus: Vec::from_slice(alloc, two_cycles_stimulus())?,
+        most_read: 7,
+        len: 315,
+        digest: "4de3266dc536f19da48c064c418036d009cf25f141d63b897d2ee124428210b0",
+    })
+}
+
+/// The guard that refuses its second cycle, recorded by two workers.
+pub fn record_case(alloc: Global) -> Result<Case, AllocError> {
+    Ok(Case {
+        words: "record m s --workers 2",
+        manifest: Vec::from_slice(alloc, guard_manifest(alloc)?.as_bytes())?,
+        stimulus: Vec::from_slice(alloc, guard_stimulus())?,
+        most_read: 40,
+        len: 6531,
+        digest: "9d8db4b1a7ae3efccaa45c075129c2dbbdf74f6d99e832096b1883c53b97ec7b",
+    })
+}
+
+/// The record of two cycles, shown.
+pub fn show_case(alloc: Global) -> Result<Case, AllocError> {
+    Ok(Case {
+        words: "show m",
+        manifest: Vec::from_slice(alloc, two_cycles_1())?,
+        stimulus: Vec::new(alloc),
+        most_read: 7,
+        len: 631,
+        digest: "db67b99784e7418f303b9dffebdd356e3e7f441509d6b442ba9bca1570fb2f84",
+    })
+}
+
+/// The needs of the user's manifest.
+pub fn needs_case(alloc: Global) -> Result<Case, AllocError> {
+    Ok(Case {
+        words: "needs m",
+        manifest: Vec::from_slice(alloc, user_manifest(alloc)?.as_bytes())?,
+        stimulus: Vec::new(alloc),
+        most_read: 7,
+        len: 238,
+        digest: "3c0084c03832a9829fe92b634120d0eea3f6257bdffe51c65d17268a52d7d4ce",
+    })
+}
+
+/// The calls that read a file of so many bytes to its end: the opening, a read for each piece, and one that finds the end.
+fn calls_for(len: usize, most: usize) -> u64 {
+    let pieces = len.div_ceil(most.max(1)) as u64;
+    pieces.saturating_add(2)
+}
+
+impl Case {
+    /// Runs the command.
+    pub fn run<R: Threads + Sync>(
+        &self,
+        rt: &R,
+        alloc: Global,
+        edges: Edges,
+    ) -> Result<Ran, NoMemory> {
+        let files = [
+            ("m", self.manifest.as_slice()),
+            ("s", self.stimulus.as_slice()),
+        ];
+        run(rt, alloc, self.words, &files, edges)
+    }
+
+    /// Edges that move few bytes a call and at which nothing fails.
+    pub fn edges(&self) -> Edges {
+        Edges::calm(7000).in_pieces(self.most_read, 10)
+    }
+
+    /// Whether a run was done and wrote what it is to write.
+    pub fn is_done(&self, ran: &Ran) -> bool {
+        ran.wrote_digest(0, self.len, self.digest) && ran.ended(0, "")
+    }
+
+    /// How many calls of the shelf the command makes: those that read its files to their ends.
+    pub fn calls(&self) -> u64 {
+        let mut calls: u64 = 0;
+        for bytes in [self.manifest.as_slice(), self.stimulus.as_slice()] {
+            if !bytes.is_empty() {
+                calls = calls.saturating_add(calls_for(bytes.len(), self.most_read));
+            }
+        }
+        calls
+    }
+}

@@ -1,0 +1,138 @@
+//! Words of the command line.
+use program_runs::{Edges, Ran, empty_run_1, run};
+use std::alloc::Global;
+use std::str;
+use std::test::*;
+use std::thread::Threads;
+
+/// A run of these words over a shelf that fails at its first call, so that a command that opens a file ends otherwise.
+fn run_words<R: Threads + Sync>(rt: &R, alloc: Global, words: &str) -> Result<Ran, Fail> {
+    let files = [
+        ("m", empty_run_1()),
+        ("s", b"stim 1\nterminate\n".as_slice()),
+    ];
+    let edges = Edges::calm(5000).failing_read(1);
+    Ok(run(rt, alloc, words, &files, edges)?)
+}
+
+/// Lines of words that are no command. The first has no words, and a line that ends with a space has an empty word.
+fn bad_words() -> &'static str {
+    "
+record m
+record m s --workers 0
+record m s --workers 65
+record m s --workers 2 --workers 2
+record m s --workers=2
+record m s --workers
+record m s --workers 02
+record m s --seed 18446744073709551616
+record m s --seed -1
+record m s s
+--workers 2 record m s
+demo s --seed 1
+demo s --workers 1
+demo
+compare m
+compare m m m m m m m m m
+show -x
+show
+show m m
+show m --reports
+needs\x20
+\x20needs m
+needs m --seed 1
+sim
+sim 007
+sim 18446744073709551616
+sim 1 --seed 2
+vote m m
+salvage m --reports --reports
+--help m
+--help --version
+-h
+Show m
+det show m"
+}
+
+#[test]
+fn bad_words_are_told_and_open_nothing(rt: HostRuntime) -> Result<(), Fail> {
+    for words in bad_words().split('\n') {
+        let ran = run_words(&rt, rt.alloc(), words)?;
+        assert!(rt; ran.ended(2, "bad words\n") && ran.wrote(2, b""), "{words}");
+    }
+    Ok(())
+}
+
+#[test]
+fn good_words_open_their_file(rt: HostRuntime) -> Result<(), Fail> {
+    for words in [
+        "demo s",
+        "show m",
+        "needs m",
+        "record m s",
+        "record m --workers 64 s",
+        "record --seed 18446744073709551615 m --workers 1 s",
+    ] {
+        let ran = run_words(&rt, rt.alloc(), words)?;
+        assert!(rt; ran.ended(6, "read fault\n"), "{words}");
+    }
+    Ok(())
+}
+
+#[test]
+fn seven_commands_are_not_built_yet(rt: HostRuntime) -> Result<(), Fail> {
+    for words in [
+        "replay m",
+        "check m",
+        "compare m m",
+        "salvage m",
+        "upgrade m",
+        "vote m m m",
+        "chain m m s",
+    ] {
+        let ran = run_words(&rt, rt.alloc(), words)?;
+        assert!(rt; ran.ended(2, "bad words\n"), "{words}");
+    }
+    Ok(())
+}
+
+#[test]
+fn the_usage_fits_a_screen_and_opens_nothing(rt: HostRuntime) -> Result<(), Fail> {
+    let ran = run_words(&rt, rt.alloc(), "--help")?;
+    assert!(rt; ran.ended(0, ""));
+    let usage = str::from_utf8(ran.out.bytes())?;
+    let mut lines = 0u32;
+    for line in usage.lines() {
+        lines = lines.saturating_add(1);
+        assert!(rt; line.len() <= 80, "{line}");
+    }
+    assert!(rt; 10 <= lines && lines <= 60 && usage.ends_with('\n'));
+    Ok(())
+}
+
+#[test]
+fn the_usage_names_what_is_built(rt: HostRuntime) -> Result<(), Fail> {
+    let ran = run_words(&rt, rt.alloc(), "--help")?;
+    let usage = str::from_utf8(ran.out.bytes())?;
+    for part in [
+        "det demo STIM",
+        "det record MANIFEST STIM",
+        "--seed N",
+        "--workers W",
+        "det show RECORD",
+        "det needs MANIFEST",
+        "det --help",
+        "det --version",
+        "9  no majority",
+    ] {
+        assert!(rt; usage.contains(part), "{part}");
+    }
+    Ok(())
+}
+
+#[test]
+fn the_version_is_one_line(rt: HostRuntime) -> Result<(), Fail> {
+    let ran = run_words(&rt, rt.alloc(), "--version")?;
+    assert!(rt; ran.ended(0, "") && ran.wrote(0, b"det 0.1.0\n"));
+    Ok(())
+}

@@ -1,0 +1,55 @@
+-- Flat elements, spelled in a format.
+use Rattle.std.proofs.Common.{◌≡◌, ℕ, suc, ◌+◌, ◌<◌, ◌≤◌, List, [], ◌∷◌, ◌++◌, length, refl, sym, ap, ◌∙◌, append_assoc, arith, length-append}
+use Rattle.std.specs.List.{flat_map, All}
+use Rattle.std.proofs.lemmas.List.{append-nil}
+use Rattle.std.proofs.lemmas.List.Concat.{flat_map-append}
+use Rattle.std.proofs.lemmas.List.Elements.{All-nil, All-cons, All-head, All-tail}
+use Rattle.det_values.specs.declared.format.Format.{Format}
+use Rattle.det_values.specs.declared.format.Format.TheVariants.{One, Two}
+use Rattle.det_values.specs.declared.frames.DrawnElement.{DrawnElement}
+use Rattle.det_values.specs.Spelling as flat
+use Rattle.record_grammar.specs.Spelling.{spelled_u16, spelled_u32, spelled_element, spelled_drawn, IsDrawn, MayDraw}
+use Rattle.record_codec.specs.Appending.{Grows}
+
+one_same : (e : DrawnElement) → flat.spelled_drawn e ≡ spelled_drawn Two e
+unfolding flat.spelled_drawn flat.spelled_u16 flat.spelled_u32 spelled_u16 spelled_u32
+one_same e = sym (append_assoc (spelled_u16 (length e.bytes)) e.bytes (spelled_u32 e.draws))
+
+pub all_same : (es : List DrawnElement) → flat.spelled_all es ≡ flat_map (spelled_drawn Two) es
+all_same [] = refl
+all_same (e ∷ es) = ap (λ (xs : List ℕ). xs ++ flat.spelled_all es) (one_same e) ∙ ap (λ (xs : List ℕ). spelled_drawn Two e ++ xs) (all_same es)
+
+pub in_ranges : (format : Format) (es : List DrawnElement) → All flat.IsDrawn es → All (λ e. MayDraw format e.draws) es → All (IsDrawn format) es
+in_ranges format [] h k = All-nil (IsDrawn format)
+in_ranges format (e ∷ es) h k =
+    let i : flat.IsDrawn e = All-head flat.IsDrawn e es h in
+    All-cons (IsDrawn format) e es ((i.short, i.bytes), i.draws, All-head (λ d. MayDraw format d.draws) e es k) (in_ranges format es (All-tail flat.IsDrawn e es h) (All-tail (λ d. MayDraw format d.draws) e es k))
+
+-- what a walk has put so far
+pub record PutSoFar (es : List DrawnElement) (i : ℕ) (left : List DrawnElement) (old new : List ℕ) : Type 0 where
+  pub before : List DrawnElement
+  pub parts : es ≡ before ++ left
+  pub counted : length before ≡ i
+  pub written : new ≡ old ++ flat_map (spelled_drawn One) before
+
+pub put_begin : (es : List DrawnElement) (old : List ℕ) → PutSoFar es 0 es old old
+put_begin es old = record { before = []; parts = refl; counted = refl; written = sym (append-nil old) }
+
+pub put_more : (es : List DrawnElement) (i : ℕ) (left more : List DrawnElement) (old mid next new bytes : List ℕ) (draws : ℕ) → PutSoFar es i left old mid → left ≡ flat.an_element bytes draws ∷ more → next ≡ mid ++ spelled_u16 (length bytes) → new ≡ next ++ bytes → PutSoFar es (i + 1) more old new
+put_more es i left more old mid next new bytes draws h l n w =
+    let e : DrawnElement = flat.an_element bytes draws in
+    let b : List DrawnElement = h.before in
+    let s : flat_map (spelled_drawn One) (b ++ e ∷ []) ≡ flat_map (spelled_drawn One) b ++ spelled_element bytes = flat_map-append (spelled_drawn One) b (e ∷ []) ∙ ap (λ (xs : List ℕ). flat_map (spelled_drawn One) b ++ xs) (append-nil (spelled_element bytes)) in
+    record {
+      before = b ++ e ∷ [];
+      parts = h.parts ∙ ap (λ (xs : List DrawnElement). b ++ xs) l ∙ sym (append_assoc b (e ∷ []) more);
+      counted = omega (arith, h.counted, length-append b (e ∷ []));
+      written = w ∙ ap (λ (xs : List ℕ). xs ++ bytes) n ∙ append_assoc mid (spelled_u16 (length bytes)) bytes ∙ ap (λ (xs : List ℕ). xs ++ spelled_element bytes) h.written ∙ append_assoc old (flat_map (spelled_drawn One) b) (spelled_element bytes) ∙ ap (λ (xs : List ℕ). old ++ xs) (sym s);
+    }
+
+pub put_end : (es : List DrawnElement) (i : ℕ) (left : List DrawnElement) (old new : List ℕ) → length es ≤ i → PutSoFar es i left old new → new ≡ old ++ flat_map (spelled_drawn One) es
+put_end es i [] old new le h = h.written ∙ ap (λ (xs : List DrawnElement). old ++ flat_map (spelled_drawn One) xs) (sym (append-nil h.before) ∙ sym h.parts)
+put_end es i (e ∷ left) old new le h = absurd (omega (arith, le, h.counted, ap length h.parts, length-append h.before (e ∷ left)))
+
+pub put_stops : (es : List DrawnElement) (i : ℕ) (left : List DrawnElement) (old new : List ℕ) → PutSoFar es i left old new → left ≡ [] → new ≡ old ++ flat_map (spelled_drawn One) es
+put_stops es i left old new h e = h.written ∙ ap (λ (xs : List DrawnElement). old ++ flat_map (spelled_drawn One) xs) (sym (append-nil h.before) ∙ ap (λ (xs : List DrawnElement). h.before ++ xs) (sym e) ∙ sym h.parts)

@@ -1,0 +1,9 @@
+use Rattle.record_text.specs.Records.{drawn_line}
+use Rattle.record_text.proofs.Numbering.{HasNumbered-next, HasNumbered-done}
+use Rattle.record_text.proofs.frame_lines.put_drawn_lines.Goals as goal
+
+pub loop-i-preserved : goal.loop-i-preserved
+loop-i-preserved c = HasNumbered-next (drawn_line c.args.format) _ _ _ _ _ _ c.loop-i-test.true c.index-elements-i.is c.loop-i.invariant c.in_ok-put_drawn_line.ensures
+
+pub returns : goal.returns
+returns c = HasNumbered-done (drawn_line c.args.format) _ _ _ _ c.loop-i-test.false c.loop-i.invariant

@@ -1,0 +1,112 @@
+//! The lines of a header.
+ghost use Rattle.std.specs.Prelude.{◌≡◌, ◌++◌, OnOk};
+ghost use Rattle.std.specs.List.{flat_map};
+ghost use Rattle.record_text.specs.Words.{numbered};
+ghost use Rattle.record_text.specs.Records.{spaced_param, params_text, params_line, policy_word, policy_text, format_line, event_line, front_lines, header_lines};
+
+use crate::put::{put_number, put_number_line, put_signed, put_words};
+use det_values::{EventSpec, Events, Format, OutOfMemory, Params, Policy, Profile};
+use std::alloc::AllocError;
+
+fn put_spaced_params(out: &mut Vec<u8>, params: &[i64]) -> Result<(), AllocError>
+    ensures { OnOk result (out.new.items ≡ out.old.items ++ flat_map spaced_param params.now) }
+{
+    for param in params {
+        put_words(out, " ")?;
+        put_signed(out, *param)?;
+    }
+    Ok(())
+}
+
+fn put_params(out: &mut Vec<u8>, params: &[i64]) -> Result<(), AllocError>
+    ensures { OnOk result (out.new.items ≡ out.old.items ++ params_text params.now) }
+{
+    match params {
+        [] => put_words(out, " -"),
+        _ => put_spaced_params(out, params),
+    }
+}
+
+fn put_params_line(out: &mut Vec<u8>, params: &Params) -> Result<(), AllocError>
+    ensures { OnOk result (out.new.items ≡ out.old.items ++ params_line params.now) }
+{
+    put_words(out, "params")?;
+    put_params(out, params.as_slice())?;
+    put_words(out, "\n")?;
+    Ok(())
+}
+
+fn put_policy(out: &mut Vec<u8>, format: Format, policy: Policy) -> Result<(), AllocError>
+    ensures { OnOk result (out.new.items ≡ out.old.items ++ policy_text format policy) }
+{
+    match (format, policy) {
+        (Format::One, _) => Ok(()),
+        (Format::Two, Policy::Last) => put_words(out, " last"),
+        (Format::Two, Policy::Fresh) => put_words(out, " fresh"),
+    }
+}
+
+fn put_event_line(
+    out: &mut Vec<u8>,
+    format: Format,
+    number: usize,
+    event: &EventSpec,
+) -> Result<(), AllocError>
+    ensures { OnOk result (out.new.items ≡ out.old.items ++ event_line format number event.now) }
+{
+    put_words(out, "event ")?;
+    put_number(out, number as u64)?;
+    put_words(out, " ")?;
+    out.extend_from_slice(event.name.as_slice())?;
+    put_words(out, " ")?;
+    put_number(out, event.capacity as u64)?;
+    put_policy(out, format, event.policy)?;
+    put_words(out, "\n")?;
+    Ok(())
+}
+
+fn put_each_event(out: &mut Vec<u8>, format: Format, events: &[EventSpec]) -> Result<(), AllocError>
+    ensures { OnOk result (out.new.items ≡ out.old.items ++ numbered (event_line format) 0 events.now) }
+{
+    for i in 0..events.len() {
+        put_event_line(out, format, i, &events[i])?;
+    }
+    Ok(())
+}
+
+fn put_event_lines(out: &mut Vec<u8>, format: Format, events: &Events) -> Result<(), AllocError>
+    ensures { OnOk result (out.new.items ≡ out.old.items ++ numbered (event_line format) 0 events.now) }
+{
+    put_each_event(out, format, events.as_slice())
+}
+
+fn put_format_line(out: &mut Vec<u8>, format: Format) -> Result<(), AllocError>
+    ensures { OnOk result (out.new.items ≡ out.old.items ++ format_line format) }
+{
+    match format {
+        Format::One => Ok(()),
+        Format::Two => put_words(out, "format 2\n"),
+    }
+}
+
+/// The lines before the parameters.
+fn put_front_lines(out: &mut Vec<u8>, profile: &Profile) -> Result<(), AllocError>
+    ensures { OnOk result (out.new.items ≡ out.old.items ++ front_lines profile.now) }
+{
+    put_format_line(out, profile.format)?;
+    put_number_line(out, "job", profile.job as u64)?;
+    put_number_line(out, "seed", profile.seed)?;
+    put_number_line(out, "cycle_time", profile.cycle_time)?;
+    Ok(())
+}
+
+/// Appends the lines of a header: its format where that is 2, the job's number, the seed, the cycle time in
+/// nanoseconds, the parameters and the events. After a refusal some of them may stand there.
+pub fn put_header_lines(out: &mut Vec<u8>, profile: &Profile) -> Result<(), OutOfMemory>
+    ensures { OnOk result (out.new.items ≡ out.old.items ++ header_lines profile.now) }
+{
+    put_front_lines(out, profile)?;
+    put_params_line(out, &profile.params)?;
+    put_event_lines(out, profile.format, &profile.events)?;
+    Ok(())
+}

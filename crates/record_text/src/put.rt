@@ -1,0 +1,60 @@
+//! Words, numbers and bytes, appended to a text.
+ghost use Rattle.std.specs.Prelude.{◌≡◌, ◌≤◌, ◌++◌, length, OnOk, decimal};
+ghost use Rattle.std.specs.Fmt.{signed_decimal};
+ghost use Rattle.hex.specs.Hex.{encode_lower};
+ghost use Rattle.record_text.specs.Words.{hex_text, number_line};
+
+use itoa::Buffer;
+use std::alloc::{AllocError, Global};
+
+/// Appends words, as they stand.
+pub fn put_words(out: &mut Vec<u8>, words: &str) -> Result<(), AllocError>
+    ensures { OnOk result (out.new.items ≡ out.old.items ++ words.now) }
+{
+    out.extend_from_slice(words.as_bytes())
+}
+
+/// Appends a number in decimal.
+pub fn put_number(out: &mut Vec<u8>, number: u64) -> Result<(), AllocError>
+    ensures { OnOk result (out.new.items ≡ out.old.items ++ decimal number) }
+{
+    let mut buffer = Buffer::new();
+    out.extend_from_slice(buffer.format(number).as_bytes())
+}
+
+/// Appends a number in decimal, behind a minus sign where it is negative.
+pub fn put_signed(out: &mut Vec<u8>, number: i64) -> Result<(), AllocError>
+    ensures { OnOk result (out.new.items ≡ out.old.items ++ signed_decimal number) }
+{
+    let mut buffer = Buffer::new();
+    out.extend_from_slice(buffer.format(number).as_bytes())
+}
+
+/// Appends a line of a word and a number. After a refusal a part of it may stand there.
+pub fn put_number_line(out: &mut Vec<u8>, word: &str, number: u64) -> Result<(), AllocError>
+    ensures { OnOk result (out.new.items ≡ out.old.items ++ number_line word.now number) }
+{
+    put_words(out, word)?;
+    put_words(out, " ")?;
+    put_number(out, number)?;
+    put_words(out, "\n")?;
+    Ok(())
+}
+
+fn put_digits(alloc: Global, out: &mut Vec<u8>, bytes: &[u8]) -> Result<(), AllocError>
+    ensures { OnOk result (out.new.items ≡ out.old.items ++ encode_lower bytes.now) }
+{
+    let digits = hex::encode(alloc, bytes)?;
+    put_words(out, digits.as_str())?;
+    Ok(())
+}
+
+/// Appends bytes as hex digits in lower case, and a dash where there is none.
+pub fn put_hex(alloc: Global, out: &mut Vec<u8>, bytes: &[u8]) -> Result<(), AllocError>
+    ensures { OnOk result (out.new.items ≡ out.old.items ++ hex_text bytes.now) }
+{
+    match bytes {
+        [] => put_words(out, "-"),
+        _ => put_digits(alloc, out, bytes),
+    }
+}

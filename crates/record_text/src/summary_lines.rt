@@ -1,0 +1,51 @@
+//! The lines that stand for a record.
+ghost use Rattle.std.specs.Prelude.{◌≡◌, ◌++◌, OnOk};
+ghost use Rattle.record_text.specs.Summaries.{digest_line, summary_lines, salvaged_line};
+
+use crate::put::{put_hex, put_number_line, put_words};
+use det_values::OutOfMemory;
+use std::alloc::{AllocError, Global};
+
+/// What is told of a simulated run: its number, its cycles and the refused ones among them, and the length and the
+/// SHA-256 digest of its record.
+#[derive(Clone, Copy, Debug, PartialEq, Eq, Drop)]
+pub struct Summary {
+    pub number: u64,
+    pub cycles: u32,
+    pub refused: u32,
+    pub bytes: u64,
+    pub digest: [u8; 32],
+}
+
+fn put_digest_line(alloc: Global, out: &mut Vec<u8>, digest: &[u8]) -> Result<(), AllocError>
+    ensures { OnOk result (out.new.items ≡ out.old.items ++ digest_line digest.now) }
+{
+    put_words(out, "sha256 ")?;
+    put_hex(alloc, out, digest)?;
+    put_words(out, "\n")?;
+    Ok(())
+}
+
+/// Appends the lines of a simulated run. After a refusal some of them may stand there.
+pub fn put_summary_lines(
+    alloc: Global,
+    out: &mut Vec<u8>,
+    summary: &Summary,
+) -> Result<(), OutOfMemory>
+    ensures { OnOk result (out.new.items ≡ out.old.items ++ summary_lines summary.now) }
+{
+    put_number_line(out, "sim", summary.number)?;
+    put_number_line(out, "cycles", summary.cycles as u64)?;
+    put_number_line(out, "refused", summary.refused as u64)?;
+    put_number_line(out, "bytes", summary.bytes)?;
+    put_digest_line(alloc, out, &summary.digest)?;
+    Ok(())
+}
+
+/// Appends the line of a salvaged record of so many cycles. After a refusal a part of it may stand there.
+pub fn put_salvaged_line(out: &mut Vec<u8>, cycles: u32) -> Result<(), OutOfMemory>
+    ensures { OnOk result (out.new.items ≡ out.old.items ++ salvaged_line cycles) }
+{
+    put_number_line(out, "salvaged", cycles as u64)?;
+    Ok(())
+}

@@ -1,0 +1,6 @@
+//! The jobs that the product ships: the filter bank, the particle cloud and the guard.
+#![tactic(auto)]
+
+pub use job_bank::Bank;
+pub use job_cloud::Cloud;
+pub use job_guard::Guard;
