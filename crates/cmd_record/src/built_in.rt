@@ -6,11 +6,13 @@ ghost use Rattle.cli_answers.specs.Outcome.{Meets, Tells, told};
 ghost use Rattle.cmd_record.specs.Outcomes.{demo_outcome, demo_profile};
 
 use crate::over_stimulus::record_job;
-use job_bank::Bank;
 use cli_answers::Answer;
+use crew_recorder::Workers;
 use det_edges::{Shelf, Sink};
 use det_values::{EventName, EventSpec, Events, Format, JobKind, OutOfMemory, Params, Policy, Profile};
+use job_bank::Bank;
 use std::alloc::Global;
+use std::sync::Arc;
 use std::thread::Threads;
 use worker_pool::Gate;
 
@@ -53,13 +55,13 @@ fn demo_profile(alloc: Global) -> Result<Profile, OutOfMemory>
 }
 
 /// Writes the record of the built-in profile over the stimulus of this name.
-pub fn demo<R: Threads + Sync, S: Shelf, K: Sink, G: Gate>(
+pub fn demo<R: Threads + Sync, S: Shelf, K: Sink, G: Gate + Send + Sync + 'static>(
     rt: &R,
     alloc: Global,
     stimulus: &str,
     shelf: &mut S,
     out: &mut K,
-    gate: &G,
+    gate: &Arc<G, Global>,
 ) -> Answer
     ensures meets { Meets (demo_outcome (told (S.sees shelf.old) stimulus.now)) (Tells (S.sees shelf.old) (stimulus.now ∷ []))
         (Rose (S.sees shelf.old).faults (S.sees shelf.new).faults) (Rose (K.faults out.old) (K.faults out.new))
@@ -70,5 +72,6 @@ pub fn demo<R: Threads + Sync, S: Shelf, K: Sink, G: Gate>(
     let Ok(profile) = demo_profile(alloc) else {
         return Answer::OutOfMemory;
     };
-    record_job::<Bank, S, K, R, G>(rt, alloc, &profile, stimulus, 1, shelf, out, gate)
+    let workers = Workers { rt, count: 1, gate };
+    record_job::<Bank, S, K, R, G>(alloc, &workers, &profile, stimulus, shelf, out)
 }

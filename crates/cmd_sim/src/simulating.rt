@@ -10,13 +10,15 @@ ghost use Rattle.cmd_sim.specs.Sim.{sim_text, sim_outcome};
 
 use crate::profile::sim_profile;
 use crate::run::run_over;
-use job_cloud::Cloud;
 use cli_answers::Answer;
+use crew_recorder::Workers;
 use det_edges::{Sink, write_all};
 use det_values::{Bytes, OutOfMemory};
 use record_text::{Summary, put_summary_lines};
 use probes::{Probe, finish_all};
+use job_cloud::Cloud;
 use std::alloc::Global;
+use std::sync::Arc;
 use std::thread::Threads;
 use stimulus::made_stimulus;
 use worker_pool::Gate;
@@ -42,13 +44,13 @@ fn lines_of(
 }
 
 /// The text of `sim`.
-fn sim_text<R: Threads + Sync, G: Gate>(
+fn sim_text<R: Threads + Sync, G: Gate + Send + Sync + 'static>(
     rt: &R,
     alloc: Global,
     number: u64,
     workers: u32,
     probes: &mut Vec<Box<dyn Probe>>,
-    gate: &G,
+    gate: &Arc<G, Global>,
 ) -> Result<Vec<u8>, OutOfMemory>
     requires few { vec_len probes.old ≤ 1024 }
     requires workers { IsWorkers workers }
@@ -58,22 +60,27 @@ fn sim_text<R: Threads + Sync, G: Gate>(
     let profile = sim_profile(alloc, number)?;
     let stimulus = made_stimulus(alloc, number)?;
     let mut left = Bytes::new(alloc);
+    let workers = Workers {
+        rt,
+        count: workers,
+        gate,
+    };
     let summary = run_over::<Cloud, R, G>(
-        rt, alloc, number, &profile, stimulus, workers, probes, &mut left, gate,
+        alloc, &workers, number, &profile, stimulus, probes, &mut left,
     )?;
     lines_of(alloc, &summary, &left, probes)
 }
 
 /// Prints a summary of the built-in cloud's run over the stimulus that is made of a number, and shows its cycles to the
 /// probes, at most 1,024. What they report is printed behind the summary. One worker runs where no number is given.
-pub fn sim<R: Threads + Sync, K: Sink, G: Gate>(
+pub fn sim<R: Threads + Sync, K: Sink, G: Gate + Send + Sync + 'static>(
     rt: &R,
     alloc: Global,
     number: u64,
     workers: Option<u32>,
     out: &mut K,
     probes: &mut Vec<Box<dyn Probe>>,
-    gate: &G,
+    gate: &Arc<G, Global>,
 ) -> Answer
     requires few { vec_len probes.old ≤ 1024 }
     requires workers { IfSome workers IsWorkers }

@@ -23,6 +23,7 @@ use cli_words::laws::ranges;
 use cli_words::{Command, Told, read_words};
 use probes::Probe;
 use std::alloc::Global;
+use std::sync::Arc;
 use std::thread::Threads;
 use worker_pool::Gate;
 
@@ -31,7 +32,7 @@ use worker_pool::Gate;
 /// `record`, `demo` and `sim` run their cycles on real threads, each of which passes the gate. `show` and `sim` show the
 /// runs that they read or make to the probes, at most 1,024.
 #[tactic(auto, using(cli_answers::proofs::Meeting::met))]
-pub fn top<R: Threads + Sync, S: Shelf, K: Sink, E: Sink, G: Gate>(
+pub fn top<R: Threads + Sync, S: Shelf, K: Sink, E: Sink, G: Gate + Send + Sync + 'static>(
     rt: &R,
     alloc: Global,
     words: &[String],
@@ -39,7 +40,7 @@ pub fn top<R: Threads + Sync, S: Shelf, K: Sink, E: Sink, G: Gate>(
     out: &mut K,
     err: &mut E,
     probes: &mut Vec<Box<dyn Probe>>,
-    gate: &G,
+    gate: &Arc<G, Global>,
 ) -> Status
     requires { vec_len probes.old ≤ 1024 }
     // Where no count of faults rose, and the shelf tells the bytes under the command's names, status and bytes are
@@ -88,14 +89,14 @@ pub fn top<R: Threads + Sync, S: Shelf, K: Sink, E: Sink, G: Gate>(
     answer.status()
 }
 
-fn run<R: Threads + Sync, S: Shelf, K: Sink, G: Gate>(
+fn run<R: Threads + Sync, S: Shelf, K: Sink, G: Gate + Send + Sync + 'static>(
     rt: &R,
     alloc: Global,
     words: &[String],
     shelf: &mut S,
     out: &mut K,
     probes: &mut Vec<Box<dyn Probe>>,
-    gate: &G,
+    gate: &Arc<G, Global>,
 ) -> Answer
     requires { vec_len probes.old ≤ 1024 }
     ensures meets { Meets (outcome (texts words.now) (told (S.sees shelf.old)) (map (λ b. life b) probes.old.items)) (Tells (S.sees shelf.old) (names_of (texts words.now)))
@@ -113,7 +114,7 @@ fn run<R: Threads + Sync, S: Shelf, K: Sink, G: Gate>(
 }
 
 /// Runs what the words tell.
-fn run_told<R: Threads + Sync, S: Shelf, K: Sink, G: Gate>(
+fn run_told<R: Threads + Sync, S: Shelf, K: Sink, G: Gate + Send + Sync + 'static>(
     rt: &R,
     alloc: Global,
     words: &[String],
@@ -121,7 +122,7 @@ fn run_told<R: Threads + Sync, S: Shelf, K: Sink, G: Gate>(
     shelf: &mut S,
     out: &mut K,
     probes: &mut Vec<Box<dyn Probe>>,
-    gate: &G,
+    gate: &Arc<G, Global>,
 ) -> Answer
     requires few { vec_len probes.old ≤ 1024 }
     requires told { Some (told_of words_told.now) ≡ told_by (texts words.now) }
@@ -140,14 +141,14 @@ fn run_told<R: Threads + Sync, S: Shelf, K: Sink, G: Gate>(
     }
 }
 
-fn run_command<R: Threads + Sync, S: Shelf, K: Sink, G: Gate>(
+fn run_command<R: Threads + Sync, S: Shelf, K: Sink, G: Gate + Send + Sync + 'static>(
     rt: &R,
     alloc: Global,
     command: Command<'_>,
     shelf: &mut S,
     out: &mut K,
     probes: &mut Vec<Box<dyn Probe>>,
-    gate: &G,
+    gate: &Arc<G, Global>,
 ) -> Answer
     requires few { vec_len probes.old ≤ 1024 }
     requires range { IsInRange (command_seen command) }
