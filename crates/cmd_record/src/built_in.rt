@@ -1,9 +1,10 @@
 //! The command `demo`.
-ghost use Rattle.std.specs.Prelude.{◌≡◌, ◌∷◌, [], IfOk};
+ghost use Rattle.std.specs.Prelude.{◌≡◌, ◌∷◌, [], IfOk, true};
 ghost use Rattle.det_edges.specs.Count.{Rose};
 ghost use Rattle.det_edges.specs.Shelf.{AsksPrefix};
+ghost use Rattle.cli_answers.specs.Ends.{can_end};
 ghost use Rattle.cli_answers.specs.Outcome.{Meets, Tells, told};
-ghost use Rattle.cmd_record.specs.Outcomes.{demo_outcome, demo_profile};
+ghost use Rattle.cmd_record.specs.Outcomes.{demo_outcome, demo_profile, demo_work};
 
 use crate::over_stimulus::record_job;
 use cli_answers::Answer;
@@ -66,7 +67,7 @@ pub fn demo<R: Threads + Sync, S: Shelf, K: Sink, G: Gate + Send + Sync + 'stati
     ensures meets { Meets (demo_outcome (told (S.sees shelf.old) stimulus.now)) (Tells (S.sees shelf.old) (stimulus.now ∷ []))
         (Rose (S.sees shelf.old).faults (S.sees shelf.new).faults) (Rose (K.faults out.old) (K.faults out.new))
         (K.took out.old) (K.took out.new) result }
-    ensures words { result ≡ Answer.BadWords → ⊥ }
+    ensures ends { can_end demo_work result ≡ true }
     ensures asked { AsksPrefix (S.sees shelf.old) (S.sees shelf.new) (stimulus.now ∷ []) }
 {
     let Ok(profile) = demo_profile(alloc) else {

@@ -1,10 +1,12 @@
 //! The command `record`.
-ghost use Rattle.std.specs.Prelude.{◌≡◌, ◌≤◌, ◌∷◌, [], IsSome, IfSome};
+ghost use Rattle.std.specs.Prelude.{◌≡◌, ◌≤◌, ◌∷◌, [], IsSome, IfSome, true};
 ghost use Rattle.det_edges.specs.Count.{Rose};
 ghost use Rattle.det_edges.specs.Shelf.{AsksPrefix};
 ghost use Rattle.manifest.specs.Limits.{IsWorkers};
+ghost use Rattle.cli_answers.specs.Ends.{can_end};
 ghost use Rattle.cli_answers.specs.Outcome.{Meets, Tells, told};
-ghost use Rattle.cmd_record.specs.Outcomes.{good_by_kind, record_outcome};
+ghost use Rattle.cmd_setup.specs.Setup.{setup_of};
+ghost use Rattle.cmd_record.specs.Outcomes.{good_by_kind, record_names, record_outcome, record_work};
 
 use crate::over_stimulus::record_job;
 use cli_answers::Answer;
@@ -50,7 +52,7 @@ where
     ensures meets { Meets (good_by_kind kind profile.now (told (S.sees shelf.old) stimulus.now)) (IsSome ((S.sees shelf.old).holds stimulus.now))
         (Rose (S.sees shelf.old).faults (S.sees shelf.new).faults) (Rose (K.faults out.old) (K.faults out.new))
         (K.took out.old) (K.took out.new) result }
-    ensures words { result ≡ Answer.BadWords → ⊥ }
+    ensures ends { can_end record_work result ≡ true }
     ensures asked { AsksPrefix (S.sees shelf.old) (S.sees shelf.new) (stimulus.now ∷ []) }
 {
     match kind {
@@ -81,11 +83,13 @@ pub fn record_stimulus<R: Threads + Sync, S: Shelf, K: Sink, G: Gate + Send + Sy
 ) -> Answer
     requires workers { IfSome workers IsWorkers }
     ensures meets { Meets (record_outcome (told (S.sees shelf.old) manifest.now) (told (S.sees shelf.old) stimulus.now) seed)
-        (Tells (S.sees shelf.old) (manifest.now ∷ stimulus.now ∷ []))
+        (Tells (S.sees shelf.old) (record_names manifest.now stimulus.now (setup_of (told (S.sees shelf.old) manifest.now))))
         (Rose (S.sees shelf.old).faults (S.sees shelf.new).faults) (Rose (K.faults out.old) (K.faults out.new))
         (K.took out.old) (K.took out.new) result }
-    ensures words { result ≡ Answer.BadWords → ⊥ }
+    ensures ends { can_end record_work result ≡ true }
     ensures asked { AsksPrefix (S.sees shelf.old) (S.sees shelf.new) (manifest.now ∷ stimulus.now ∷ []) }
+    ensures judged { Tells (S.sees shelf.old) (record_names manifest.now stimulus.now (setup_of (told (S.sees shelf.old) manifest.now)))
+        → AsksPrefix (S.sees shelf.old) (S.sees shelf.new) (record_names manifest.now stimulus.now (setup_of (told (S.sees shelf.old) manifest.now))) }
 {
     let setup = match read_setup(alloc, manifest, shelf) {
         Ok(setup) => setup,

@@ -1,9 +1,11 @@
 //! Records a stimulus by a profile, for any job.
-ghost use Rattle.std.specs.Prelude.{◌≡◌, ◌∷◌, [], IsSome};
+ghost use Rattle.std.specs.Prelude.{◌≡◌, ◌∷◌, [], IsSome, None, length, true};
 ghost use Rattle.det_edges.specs.Count.{Rose};
 ghost use Rattle.det_edges.specs.Shelf.{AsksPrefix};
+ghost use Rattle.cli_answers.specs.Ends.{can_end};
 ghost use Rattle.cli_answers.specs.Outcome.{Meets, told};
-ghost use Rattle.cmd_record.specs.Outcomes.{answer_of, recorded_if_good};
+ghost use Rattle.cmd_record.specs.Outcomes.{answer_of, recorded_if_good, demo_work, record_work};
+ghost use Rattle.cli_answers.specs.declared.answer.BadManifest.{BadManifest as Refusal};
 
 use cli_answers::{Answer, BadManifest};
 use crew_recorder::{Workers, record_by_crew};
@@ -18,7 +20,8 @@ use worker_pool::Gate;
 
 /// What a run of the recorder is answered.
 fn answer_of(run: Result<Counts, RecordEnd>) -> Answer
-    ensures { result ≡ answer_of run }
+    ensures is { result ≡ answer_of run }
+    ensures ends { can_end demo_work result ≡ true }
 {
     match run {
         Ok(_) => Answer::Done,
@@ -51,7 +54,9 @@ where
     ensures meets { Meets (recorded_if_good J.meaning profile.now (told (S.sees shelf.old) stimulus.now)) (IsSome ((S.sees shelf.old).holds stimulus.now))
         (Rose (S.sees shelf.old).faults (S.sees shelf.new).faults) (Rose (K.faults out.old) (K.faults out.new))
         (K.took out.old) (K.took out.new) result }
-    ensures words { result ≡ Answer.BadWords → ⊥ }
+    ensures ends { can_end record_work result ≡ true }
+    ensures manifest { (why : Refusal) → result ≡ Answer.BadManifest why
+        → J.meaning.bad_param profile.now.params (length profile.now.events) ≡ None → ⊥ }
     ensures asked { AsksPrefix (S.sees shelf.old) (S.sees shelf.new) (stimulus.now ∷ []) }
 {
     let events = profile.events.len() as u16;

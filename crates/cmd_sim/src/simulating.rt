@@ -1,10 +1,11 @@
 //! The command `sim`.
-ghost use Rattle.std.specs.Prelude.{◌≡◌, ◌≤◌, [], ◌++◌, map, OnOk, IfOk, IfSome};
+ghost use Rattle.std.specs.Prelude.{◌≡◌, ◌≤◌, [], ◌++◌, true, map, OnOk, IfOk, IfSome};
 ghost use Rattle.std.specs.Vec.{vec_len};
 ghost use Rattle.det_edges.specs.Count.{Rose};
 ghost use Rattle.manifest.specs.Limits.{IsWorkers};
 ghost use Rattle.probes.specs.Reports.{reports};
 ghost use Rattle.record_text.specs.Summaries.{summary_lines};
+ghost use Rattle.cli_answers.specs.Ends.{can_end, writes_alone};
 ghost use Rattle.cli_answers.specs.Outcome.{Meets};
 ghost use Rattle.cmd_sim.specs.Sim.{sim_text, sim_outcome};
 
@@ -85,7 +86,7 @@ pub fn sim<R: Threads + Sync, K: Sink, G: Gate + Send + Sync + 'static>(
     requires few { vec_len probes.old ≤ 1024 }
     requires workers { IfSome workers IsWorkers }
     ensures meets { Meets (sim_outcome (map (λ b. life b) probes.old.items) number) (Unit {0}) ⊥ (Rose (K.faults out.old) (K.faults out.new)) (K.took out.old) (K.took out.new) result }
-    ensures words { result ≡ Answer.BadWords → ⊥ }
+    ensures ends { can_end writes_alone result ≡ true }
     ensures gone { result ≡ Answer.Done → probes.new.items ≡ [] }
 {
     let Ok(text) = sim_text(rt, alloc, number, workers.unwrap_or(1), probes, gate) else {
