@@ -1,0 +1,91 @@
+//! The answer of a pass from its blocks.
+ghost use Rattle.std.specs.Prelude.{◌≡◌, IfOk};
+ghost use Rattle.job_trait.specs.Passes.{IsReady, IsAnswer, block_in, blocks_in};
+ghost use Rattle.pass_in_blocks.specs.Answers.{left_by, AreRight};
+ghost use Rattle.pass_in_blocks.specs.Steps.{beside, passed_by, CanJoin, ArePlaces};
+
+use crate::answers::{BlockAnswer, BlockDone, BlockResult};
+use crate::block::{push, run_block};
+use det_values::{Container, OutOfMemory};
+use job_trait::{Job, PassDone, PassOf, PoolFault};
+use std::alloc::Global;
+
+/// The answers of blocks, each in the place of its number. Where there are no results there are no places.
+fn in_places<J: Job>(
+    alloc: Global,
+    pass: &PassOf<J>,
+    mut results: Vec<BlockResult<J::Element, J::Part>>,
+) -> Result<Vec<Option<BlockAnswer<J::Element, J::Part>>>, OutOfMemory>
+    requires right { AreRight (block_in J.meaning pass.now) (blocks_in pass.now) results.items }
+    ensures { IfOk result (λ places. ArePlaces (block_in J.meaning pass.now) places.items) }
+{
+    let mut places = Vec::new(alloc);
+    if results.is_empty() {
+        return Ok(places);
+    }
+    'fill: while places.len() < pass.elements.blocks() {
+        push(&mut places, None)?;
+    }
+    'place: while let Some(BlockResult { block, answer }) = results.pop() {
+        places[block as usize] = Some(answer);
+    }
+    Ok(places)
+}
+
+/// Adds a block to those before it, and answers the part of them all.
+fn join_block<J: Job>(
+    job: &J,
+    elements: &mut Container<J::Element>,
+    draws: &mut Container<u32>,
+    part: J::Part,
+    done: BlockDone<J::Element, J::Part>,
+) -> Result<J::Part, OutOfMemory>
+    requires { CanJoin J.Covers job.now (passed_by elements.old draws.old part) (left_by done) }
+    ensures { IfOk result (λ both. passed_by elements.new draws.new both
+        ≡ beside (J.meaning.joined job.now) (passed_by elements.old draws.old part) (left_by done)) }
+{
+    elements.push_block(done.elements)?;
+    draws.push_block(done.draws)?;
+    job.merge(part, done.part)
+}
+
+/// The answer of a pass from results of its blocks, whichever they are. A block that has no result is run here and
+/// now. The first block that refuses ends it.
+pub fn finish_pass<J: Job>(
+    alloc: Global,
+    pass: &PassOf<J>,
+    results: Vec<BlockResult<J::Element, J::Part>>,
+) -> Result<PassDone<J::Element, J::Part>, PoolFault>
+    requires ready { IsReady J.meaning J.Covers J.Own J.Fit pass.now }
+    requires right { AreRight (block_in J.meaning pass.now) (blocks_in pass.now) results.items }
+    ensures { IsAnswer J.meaning J.Covers J.Own pass.now result }
+{
+    let mut places = in_places(alloc, pass, results)?;
+    let mut elements = Container::with_room(alloc, pass.elements.len())?;
+    let mut draws = Container::with_room(alloc, pass.elements.len())?;
+    let mut part = pass.job.unit(alloc);
+    'join: for b in 0..pass.elements.blocks() {
+        let given = if b < places.len() {
+            places[b].take()
+        } else {
+            None
+        };
+        let answer = match given {
+            Some(answer) => answer,
+            None => run_block(alloc, pass, b as u32)?,
+        };
+        match answer {
+            BlockAnswer::Done(done) => {
+                part = join_block(&*pass.job, &mut elements, &mut draws, part, done)?;
+            }
+            BlockAnswer::Refused { element, code } => {
+                return Err(PoolFault::Refused { element, code });
+            }
+        }
+    }
+    Ok(PassDone {
+        elements,
+        draws,
+        part,
+    })
+}
