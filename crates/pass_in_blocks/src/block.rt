@@ -24,6 +24,7 @@ pub(crate) fn push<T: Drop>(list: &mut Vec<T>, item: T) -> Result<(), OutOfMemor
 }
 
 /// A block that is to be run.
+#[derive(Drop)]
 struct Block<'a, J: Job> {
     pass: &'a PassOf<J>,
     keys: PassKeys,
@@ -91,7 +92,7 @@ pub fn run_block<J: Job>(
     let block = Block {
         pass,
         keys: PassKeys::of(pass.seed, pass.cycle, pass.number),
-        first: block * 64,
+        first: 64 * block,
         elements: pass.elements.block(block as usize),
     };
     let room = block.elements.len();

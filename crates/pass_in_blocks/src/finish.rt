@@ -1,7 +1,7 @@
 //! The answer of a pass from its blocks.
-ghost use Rattle.std.specs.Prelude.{◌≡◌, IfOk};
+ghost use Rattle.std.specs.Prelude.{◌≡◌, ◌<◌, None, replicate, IfOk};
 ghost use Rattle.job_trait.specs.Passes.{IsReady, IsAnswer, block_in, blocks_in};
-ghost use Rattle.pass_in_blocks.specs.Answers.{left_by, AreRight};
+ghost use Rattle.pass_in_blocks.specs.Answers.{left_by, answer_of, AreRight};
 ghost use Rattle.pass_in_blocks.specs.Steps.{beside, passed_by, CanJoin, ArePlaces};
 
 use crate::answers::{BlockAnswer, BlockDone, BlockResult};
@@ -9,6 +9,17 @@ use crate::block::{push, run_block};
 use det_values::{Container, OutOfMemory};
 use job_trait::{Job, PassDone, PassOf, PoolFault};
 use std::alloc::Global;
+
+/// So many empty places.
+fn vacant<T: Drop>(alloc: Global, count: usize) -> Result<Vec<Option<T>>, OutOfMemory>
+    ensures { IfOk result (λ places. places.items ≡ replicate count None) }
+{
+    let mut places = Vec::with_capacity(alloc, count)?;
+    'fill: while places.len() < count {
+        push(&mut places, None)?;
+    }
+    Ok(places)
+}
 
 /// The answers of blocks, each in the place of its number. Where there are no results there are no places.
 fn in_places<J: Job>(
@@ -19,17 +30,36 @@ fn in_places<J: Job>(
     requires right { AreRight (block_in J.meaning pass.now) (blocks_in pass.now) results.items }
     ensures { IfOk result (λ places. ArePlaces (block_in J.meaning pass.now) places.items) }
 {
-    let mut places = Vec::new(alloc);
     if results.is_empty() {
-        return Ok(places);
+        return Ok(Vec::new(alloc));
     }
-    'fill: while places.len() < pass.elements.blocks() {
-        push(&mut places, None)?;
-    }
+    let mut places = vacant(alloc, pass.elements.blocks())?;
     'place: while let Some(BlockResult { block, answer }) = results.pop() {
         places[block as usize] = Some(answer);
     }
     Ok(places)
+}
+
+/// The answer of a block: the one in its place, which is taken out, or else that of running it here and now.
+fn answer_at<J: Job>(
+    alloc: Global,
+    pass: &PassOf<J>,
+    places: &mut Vec<Option<BlockAnswer<J::Element, J::Part>>>,
+    block: u32,
+) -> Result<BlockAnswer<J::Element, J::Part>, OutOfMemory>
+    requires ready { IsReady J.meaning J.Covers J.Own J.Fit pass.now }
+    requires inside { block < blocks_in pass.now }
+    requires places { ArePlaces (block_in J.meaning pass.now) places.old.items }
+    ensures right { IfOk result (λ answer. answer_of answer ≡ block_in J.meaning pass.now block) }
+    ensures left { ArePlaces (block_in J.meaning pass.now) places.new.items }
+{
+    let place = block as usize;
+    if place < places.len() {
+        if let Some(answer) = places[place].take() {
+            return Ok(answer);
+        }
+    }
+    run_block(alloc, pass, block)
 }
 
 /// Adds a block to those before it, and answers the part of them all.
@@ -65,16 +95,7 @@ pub fn finish_pass<J: Job>(
     let mut draws = Container::with_room(alloc, pass.elements.len())?;
     let mut part = pass.job.unit(alloc);
     'join: for b in 0..pass.elements.blocks() {
-        let given = if b < places.len() {
-            places[b].take()
-        } else {
-            None
-        };
-        let answer = match given {
-            Some(answer) => answer,
-            None => run_block(alloc, pass, b as u32)?,
-        };
-        match answer {
+        match answer_at(alloc, pass, &mut places, b as u32)? {
             BlockAnswer::Done(done) => {
                 part = join_block(&*pass.job, &mut elements, &mut draws, part, done)?;
             }
