@@ -2,6 +2,7 @@
 use Rattle.std.proofs.Common.{◌≡◌, ℕ, suc, ◌+◌, ◌-◌, ◌*◌, ◌<◌, ◌≤◌, min, List, [], ◌∷◌, length, take, drop, Result, Ok, Err, IfOk, IfErr, refl, sym, ap, ◌∙◌, subst, arith, length-append, length-take, length-drop}
 use Rattle.std.specs.Arc.{arc_value}
 use Rattle.std.specs.List.{All}
+use Rattle.std.proofs.lemmas.List.{take_all}
 use Rattle.std.proofs.lemmas.List.Elements.{All-nil, All-head, All-tail, All-push, All-append, All-same, All-take, All-drop}
 use Rattle.element_random.specs.Words.{key}
 use Rattle.job_trait.specs.declared.answers.Worked.{Worked}
@@ -13,7 +14,8 @@ use Rattle.job_trait.specs.Meaning.{Meaning}
 use Rattle.job_trait.specs.Laws.{JobLaws}
 use Rattle.job_trait.specs.Pass.{Passed, Refusal, nothing, more, taken, passed}
 use Rattle.job_trait.specs.Passes.{passed_of, IsPass, RefusedBelow, IsReady, IsAnswer, pass_of, block_in, blocks_in}
-use Rattle.pass_in_blocks.specs.Steps.{HasRoom, CanJoin}
+use Rattle.pass_in_blocks.specs.Steps.{beside, HasRoom, CanJoin}
+use Rattle.pass_in_blocks.proofs.Running.{block_done, block_refuses}
 
 -- what n elements leave: as many new elements, each the job's own, as many counts of words, and a part that covers so many
 pub record Sums {S E P : Type 0} (Covers : S → P → ℕ → Type 0) (Own : S → E → Type 0) (j : S) (n : ℕ) (done : Passed E P) : Type 0 where
@@ -158,3 +160,20 @@ module _ {S G E L P : Type 0} (m : Meaning S G E L P) (Covers : S → P → ℕ 
   pub answers : (x : Result (PassDone E P) PoolFault) → IsPass x (pass_of m t) → IsAnswer m Covers Own t x
   answers (Ok d) is = let h = pass_holds d is in record { is = is; own = h.own; many = h.many; drew = h.drew; few_drawn = h.few_drawn; covers = h.covers; element = tt }
   answers (Err f) is = record { is = is; own = tt; many = tt; drew = tt; few_drawn = tt; covers = tt; element = fault_inside f is }
+
+  -- the blocks before number b are done
+  module _ (b : ℕ) (d : Passed E P) (is : passed m (arc_value t.job) (arc_value t.plan) (arc_value t.carry) t.seed t.cycle t.number (take (64 * b) (arc_value t.elements)) ≡ Ok d) where
+    -- and there are no more
+    pub all_answer : (x : PassDone E P) → d ≡ passed_of x → length (arc_value t.elements) ≤ 64 * b → IsAnswer m Covers Own t (Ok x)
+    all_answer x same none_left = answers (Ok x) (ap (passed m job plan carry t.seed t.cycle t.number) (sym (take_all (64 * b) es none_left)) ∙ is ∙ ap Ok same)
+
+    module _ (inside : 64 * b < length (arc_value t.elements)) where
+      -- and block b as well
+      pub next_done : (e both : Passed E P) → block_in m t b ≡ Ok e → both ≡ beside (m.joined (arc_value t.job)) d e
+          → passed m (arc_value t.job) (arc_value t.plan) (arc_value t.carry) t.seed t.cycle t.number (take (64 * (b + 1)) (arc_value t.elements)) ≡ Ok both
+      next_done e both came same = block_done m job plan carry t.seed t.cycle t.number (laws.assoc job) (laws.left_unit job) (laws.right_unit job) es b (omega arith) d is e came ∙ sym (ap Ok same)
+
+      -- and block b refuses
+      pub refusal_answer : (element code : ℕ) → block_in m t b ≡ Err (record { element = element; code = code }) → IsAnswer m Covers Own t (Err (Refused element code))
+      refusal_answer element code came = answers (Err (Refused element code))
+          (block_refuses m job plan carry t.seed t.cycle t.number (laws.assoc job) (laws.left_unit job) (laws.right_unit job) es b (omega arith) d is (record { element = element; code = code }) came)

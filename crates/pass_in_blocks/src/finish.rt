@@ -1,5 +1,5 @@
 //! The answer of a pass from its blocks.
-ghost use Rattle.std.specs.Prelude.{◌≡◌, ◌<◌, None, replicate, IfOk};
+ghost use Rattle.std.specs.Prelude.{◌≡◌, ◌<◌, None, length, replicate, slice_set, IfOk};
 ghost use Rattle.job_trait.specs.Passes.{IsReady, IsAnswer, block_in, blocks_in};
 ghost use Rattle.pass_in_blocks.specs.Answers.{left_by, answer_of, AreRight};
 ghost use Rattle.pass_in_blocks.specs.Steps.{beside, passed_by, CanJoin, ArePlaces};
@@ -21,6 +21,14 @@ fn vacant<T: Drop>(alloc: Global, count: usize) -> Result<Vec<Option<T>>, OutOfM
     Ok(places)
 }
 
+/// Gives a place another content.
+fn put_at<T: Drop>(places: &mut Vec<T>, at: usize, content: T)
+    requires { at < length places.old.items }
+    ensures { places.new.items ≡ slice_set places.old.items at content }
+{
+    places[at] = content;
+}
+
 /// The answers of blocks, each in the place of its number. Where there are no results there are no places.
 fn in_places<J: Job>(
     alloc: Global,
@@ -35,7 +43,7 @@ fn in_places<J: Job>(
     }
     let mut places = vacant(alloc, pass.elements.blocks())?;
     'place: while let Some(BlockResult { block, answer }) = results.pop() {
-        places[block as usize] = Some(answer);
+        put_at(&mut places, block as usize, Some(answer));
     }
     Ok(places)
 }
