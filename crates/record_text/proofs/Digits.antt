@@ -14,11 +14,13 @@ unfolding encode_with
 encode-nil t = refl
 
 -- a piece more
-pub digits_next : (rest piece more mid new whole : List ℕ) → rest ≡ piece ++ more → mid ++ encode_lower rest ≡ whole → new ≡ mid ++ encode_lower piece
+pub digits_next : (rest piece more mid new whole : List ℕ) → rest ≡ piece ++ more → mid ++ encode_lower rest ≡ whole
+    → new ≡ mid ++ encode_lower piece
     → new ++ encode_lower more ≡ whole
 digits_next rest piece more mid new whole parts h e =
     ap (λ (l : List ℕ). l ++ encode_lower more) e ∙ append_assoc mid (encode_lower piece) (encode_lower more)
-    ∙ ap (λ (l : List ℕ). mid ++ l) (sym (encode-append lower_digits piece more)) ∙ ap (λ (l : List ℕ). mid ++ encode_lower l) (sym parts) ∙ h
+    ∙ ap (λ (l : List ℕ). mid ++ l) (sym (encode-append lower_digits piece more)) ∙ ap (λ (l : List ℕ). mid ++ encode_lower l) (sym parts)
+    ∙ h
 
 -- no piece left
 pub digits_done : (rest new whole : List ℕ) → length rest ≡ 0 → new ++ encode_lower rest ≡ whole → new ≡ whole

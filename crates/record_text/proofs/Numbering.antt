@@ -1,5 +1,6 @@
 -- What a loop has appended of numbered things.
-use Rattle.std.proofs.Common.{◌≡◌, ℕ, suc, ◌+◌, ◌<◌, ◌≤◌, List, [], ◌∷◌, ◌++◌, length, drop, get_or, refl, sym, ap, ◌∙◌, append_assoc, drop-cons, arith}
+use Rattle.std.proofs.Common.{◌≡◌, ℕ, suc, ◌+◌, ◌<◌, ◌≤◌, List, [], ◌∷◌, ◌++◌, length, drop, get_or, refl, sym, ap, ◌∙◌, append_assoc}
+use Rattle.std.proofs.Common.{drop-cons, arith}
 use Rattle.std.proofs.lemmas.List.{append-nil, drop_all}
 use Rattle.record_text.specs.Words.{numbered}
 
@@ -20,7 +21,8 @@ module _ {X : Type 0} (text : ℕ → X → List ℕ) where
   pub HasNumbered-begin : (xs : List X) (old : List ℕ) → HasNumbered text xs 0 xs old old
   HasNumbered-begin xs old = record { written = refl; counted = omega arith }
 
-  pub HasNumbered-next : (xs : List X) (i : ℕ) (left more : List X) (old mid new : List ℕ) (x : X) → left ≡ x ∷ more → HasNumbered text xs i left old mid
+  pub HasNumbered-next : (xs : List X) (i : ℕ) (left more : List X) (old mid new : List ℕ) (x : X) → left ≡ x ∷ more
+      → HasNumbered text xs i left old mid
       → new ≡ mid ++ text i x → HasNumbered text xs (i + 1) more old new
   HasNumbered-next xs i left more old mid new x is h e =
       let one : numbered text i left ≡ text i x ++ numbered text (i + 1) more = ap (numbered text i) is ∙ numbered-cons i x more in
@@ -31,18 +33,22 @@ module _ {X : Type 0} (text : ℕ → X → List ℕ) where
       }
 
   -- one more of a slice
-  pub HasNumbered-at : (xs : List X) (i : ℕ) (old mid new : List ℕ) (x : X) → i < length xs → x ≡ get_or xs i x → HasNumbered text xs i (drop i xs) old mid
+  pub HasNumbered-at : (xs : List X) (i : ℕ) (old mid new : List ℕ) (x : X) → i < length xs → x ≡ get_or xs i x
+      → HasNumbered text xs i (drop i xs) old mid
       → new ≡ mid ++ text i x → HasNumbered text xs (i + 1) (drop (i + 1) xs) old new
   HasNumbered-at xs i old mid new x lt is h e =
       let step : suc i ≡ i + 1 = omega arith in
-      let d : drop i xs ≡ x ∷ drop (i + 1) xs = drop-cons xs i x lt ∙ ap (λ (y : X). y ∷ drop (suc i) xs) (sym is) ∙ ap (λ (n : ℕ). x ∷ drop n xs) step in
+      let d : drop i xs ≡ x ∷ drop (i + 1) xs = drop-cons xs i x lt ∙ ap (λ (y : X). y ∷ drop (suc i) xs) (sym is)
+      ∙ ap (λ (n : ℕ). x ∷ drop n xs) step in
       HasNumbered-next xs i (drop i xs) (drop (i + 1) xs) old mid new x d h e
 
-  pub HasNumbered-ends : (xs : List X) (i : ℕ) (left : List X) (old new : List ℕ) → left ≡ [] → HasNumbered text xs i left old new → new ≡ old ++ numbered text 0 xs
+  pub HasNumbered-ends : (xs : List X) (i : ℕ) (left : List X) (old new : List ℕ) → left ≡ [] → HasNumbered text xs i left old new
+      → new ≡ old ++ numbered text 0 xs
   HasNumbered-ends xs i left old new none h =
       let e : numbered text i left ≡ [] = ap (numbered text i) none ∙ numbered-nil i in
       sym (append-nil new) ∙ ap (λ (ys : List ℕ). new ++ ys) (sym e) ∙ h.written
 
-  pub HasNumbered-done : (xs : List X) (i : ℕ) (left : List X) (old new : List ℕ) → length xs ≤ i → HasNumbered text xs i left old new → new ≡ old ++ numbered text 0 xs
+  pub HasNumbered-done : (xs : List X) (i : ℕ) (left : List X) (old new : List ℕ) → length xs ≤ i → HasNumbered text xs i left old new
+      → new ≡ old ++ numbered text 0 xs
   HasNumbered-done xs i [] old new le h = HasNumbered-ends xs i [] old new refl h
   HasNumbered-done xs i (x ∷ left) old new le h = absurd (omega (arith, le, h.counted))

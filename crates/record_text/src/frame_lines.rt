@@ -3,11 +3,14 @@ ghost use Rattle.std.specs.Prelude.{◌≡◌, ◌++◌, OnOk, length};
 ghost use Rattle.std.specs.List.{flat_map};
 ghost use Rattle.det_values.specs.Spelling.{an_element};
 ghost use Rattle.record_text.specs.Words.{numbered};
-ghost use Rattle.record_text.specs.Records.{element_line, draws_text, drawn_line, time_text, run_line, sample_line, phase_word, refused_line, output_line, finished_lines, outcome_lines, run_lines, init_lines, frame_lines};
+ghost use Rattle.record_text.specs.Records.{element_line, draws_text, drawn_line, time_text};
+ghost use Rattle.record_text.specs.Records.{run_line, sample_line, refused_line, output_line};
+ghost use Rattle.record_text.specs.Records.{finished_lines, outcome_lines, run_lines, init_lines};
+ghost use Rattle.record_text.specs.Records.{frame_lines};
 
 use crate::put::{put_hex, put_number, put_number_line, put_signed, put_words};
 use det_values::{
-    Bytes64, DrawnElements, Format, Frame, OutOfMemory, Outcome, Phase, RefusedAt, RunFrame, Sample,
+    Bytes64, DrawnElements, Format, Frame, OutOfMemory, Outcome, RefusedAt, RunFrame, Sample,
 };
 use std::alloc::AllocError;
 
@@ -59,7 +62,8 @@ fn put_drawn_line(
     bytes: &[u8],
     draws: u32,
 ) -> Result<(), AllocError>
-    ensures { OnOk result (out.new.items ≡ out.old.items ++ drawn_line format number (an_element bytes.now draws)) }
+    ensures { OnOk result
+        (out.new.items ≡ out.old.items ++ drawn_line format number (an_element bytes.now draws)) }
 {
     put_words(out, "element ")?;
     put_number(out, number as u64)?;
@@ -75,7 +79,8 @@ fn put_drawn_lines(
     format: Format,
     elements: &DrawnElements,
 ) -> Result<(), AllocError>
-    ensures { OnOk result (out.new.items ≡ out.old.items ++ numbered (drawn_line format) 0 elements.now) }
+    ensures { OnOk result
+        (out.new.items ≡ out.old.items ++ numbered (drawn_line format) 0 elements.now) }
 {
     let mut walk = elements.walk();
     for i in 0..elements.len() {
@@ -128,16 +133,6 @@ fn put_sample_lines(out: &mut Vec<u8>, samples: &[Sample]) -> Result<(), AllocEr
     Ok(())
 }
 
-fn word_of(phase: Phase) -> &'static str
-    ensures { result.now ≡ phase_word phase }
-{
-    match phase {
-        Phase::Prepare => "prepare",
-        Phase::Pool => "pool",
-        Phase::Conclude => "conclude",
-    }
-}
-
 fn put_refused_line(out: &mut Vec<u8>, refused: &RefusedAt) -> Result<(), AllocError>
     ensures { OnOk result (out.new.items ≡ out.old.items ++ refused_line refused.now) }
 {
@@ -148,7 +143,7 @@ fn put_refused_line(out: &mut Vec<u8>, refused: &RefusedAt) -> Result<(), AllocE
         code,
     } = *refused;
     put_words(out, "refused ")?;
-    put_words(out, word_of(phase))?;
+    put_words(out, phase.word())?;
     put_words(out, " ")?;
     put_number(out, pass as u64)?;
     put_words(out, " ")?;
@@ -174,7 +169,8 @@ fn put_finished_lines(
     elements: &DrawnElements,
     output: &[u8],
 ) -> Result<(), AllocError>
-    ensures { OnOk result (out.new.items ≡ out.old.items ++ finished_lines format elements.now output.now) }
+    ensures { OnOk result
+        (out.new.items ≡ out.old.items ++ finished_lines format elements.now output.now) }
 {
     put_number_line(out, "finished", elements.len() as u64)?;
     put_drawn_lines(out, format, elements)?;
@@ -219,8 +215,8 @@ fn put_frame(out: &mut Vec<u8>, format: Format, cycle: u32, frame: &Frame) -> Re
     }
 }
 
-/// Appends the lines of a frame of a record of this format, where a Run is cycle number `cycle`, counted from 1. After
-/// a refusal some of them may stand there.
+/// Appends the lines of a frame of a record of this format, where a Run is cycle number `cycle`,
+/// counted from 1. After a refusal some of them may stand there.
 pub fn put_frame_lines(
     out: &mut Vec<u8>,
     format: Format,

@@ -6,8 +6,8 @@ use crate::put::{put_hex, put_number_line, put_words};
 use det_values::OutOfMemory;
 use std::alloc::AllocError;
 
-/// What is told of a simulated run: its number, its cycles and the refused ones among them, and the length and the
-/// SHA-256 digest of its record.
+/// What is told of a simulated run: its number, its cycles and the refused ones among them, and the
+/// length and the SHA-256 digest of its record.
 #[derive(Clone, Copy, Debug, PartialEq, Eq, Drop)]
 pub struct Summary {
     pub number: u64,
@@ -38,7 +38,8 @@ pub fn put_summary_lines(out: &mut Vec<u8>, summary: &Summary) -> Result<(), Out
     Ok(())
 }
 
-/// Appends the line of a salvaged record of so many cycles. After a refusal a part of it may stand there.
+/// Appends the line of a salvaged record of so many cycles. After a refusal a part of it may stand
+/// there.
 pub fn put_salvaged_line(out: &mut Vec<u8>, cycles: u32) -> Result<(), OutOfMemory>
     ensures { OnOk result (out.new.items ≡ out.old.items ++ salvaged_line cycles) }
 {

@@ -4,7 +4,9 @@ use Rattle.record_text.proofs.Numbering.{HasNumbered-next, HasNumbered-ends, Has
 use Rattle.record_text.proofs.frame_lines.put_drawn_lines.Goals as goal
 
 pub loop-i-preserved : goal.loop-i-preserved
-loop-i-preserved c = HasNumbered-next (drawn_line c.args.format) _ _ _ _ _ _ _ _ c.in-Some.ensures.some c.loop-i.invariant c.in_ok-put_drawn_line-in-Some.ensures
+loop-i-preserved c =
+    HasNumbered-next (drawn_line c.args.format) _ _ _ _ _ _ _ _ c.in-Some.ensures.some c.loop-i.invariant
+    c.in_ok-put_drawn_line-in-Some.ensures
 
 pub returns-in-None : goal.returns-in-None
 returns-in-None c = HasNumbered-ends (drawn_line c.args.format) _ _ _ _ _ c.in-None.ensures.none c.loop-i.invariant
