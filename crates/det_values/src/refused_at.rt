@@ -1,4 +1,7 @@
 //! Where a cycle was refused.
+ghost use Rattle.std.specs.Prelude.{◌≡◌};
+ghost use Rattle.det_values.specs.Values.{phase_word};
+
 use std::marker::Model;
 
 /// A part of a cycle: its sequential begin, the passes of the pool, its sequential end.
@@ -7,6 +10,19 @@ pub enum Phase {
     Prepare,
     Pool,
     Conclude,
+}
+
+impl Phase {
+    /// The phase as texts name it.
+    pub fn word(self) -> &'static str
+        ensures { result.now ≡ phase_word self }
+    {
+        match self {
+            Phase::Prepare => "prepare",
+            Phase::Pool => "pool",
+            Phase::Conclude => "conclude",
+        }
+    }
 }
 
 /// Where a cycle was refused, and the code that the job gave. In the pool the pass is below 8 and the element below

@@ -10,7 +10,7 @@ use Rattle.std.specs.Option.{option_map}
 use Rattle.det_values.specs.declared.frames.RunFrame.{RunFrame}
 use Rattle.probes.specs.declared.probe.Wish.TheVariants.{Stay, Leave}
 use Rattle.probes.specs.Reports.{ProbeLife, leaves, Sees, Report, told_after, bytes_at, bytes_last, leaving, staying, in_turn, joined, reports}
-use Rattle.probes.specs.Partly.{later, partly}
+use Rattle.probes.proofs.Partly.{later, partly}
 
 map-append : {A B : Type 0} (f : A → B) (xs ys : List A) → map f (xs ++ ys) ≡ map f xs ++ map f ys
 map-append f [] ys = refl

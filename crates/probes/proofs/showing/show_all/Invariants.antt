@@ -2,7 +2,7 @@ use Rattle.std.proofs.Common.{◌≡◌, ◌≤◌, ◌+◌, ◌*◌, List, ◌�
 use Rattle.std.specs.Vec.{vec_len}
 use Rattle.det_values.specs.declared.frames.RunFrame.{RunFrame}
 use Rattle.probes.specs.Reports.{reports, joined}
-use Rattle.probes.specs.Partly.{partly}
+use Rattle.probes.proofs.Partly.{partly}
 use Rattle.probes.proofs.showing.show_all.Given as goal
 
 abbrev pub invariant-loop-at : goal.invariant-loop-at
