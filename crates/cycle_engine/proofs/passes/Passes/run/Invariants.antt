@@ -8,8 +8,8 @@ use Rattle.cycle_engine.proofs.passes.Passes.run.Given as goal
 abbrev pub invariant-loop-number : goal.invariant-loop-number
 invariant-loop-number g l = let b = g.J.Job in let job = arc_value l.self.job in let plan = arc_value l.self.plan in record {
   count : l.number-end ≡ b.meaning.passes_of job plan;
-  rest : all_passes b.meaning job plan l.self.seed l.self.cycle (arc_value l.elements) ≡ passes_on b.meaning job plan l.self.seed l.self.cycle (l.number-end - l.number) l.number (Ok (passed_of l.done));
-  many : length l.done.elements ≡ length (arc_value l.elements);
+  rest : all_passes b.meaning job plan l.self.seed l.self.cycle (arc_value l.fn.elements) ≡ passes_on b.meaning job plan l.self.seed l.self.cycle (l.number-end - l.number) l.number (Ok (passed_of l.done));
+  many : length l.done.elements ≡ length (arc_value l.fn.elements);
   own : All (b.Own job) l.done.elements;
   drew : length l.done.draws ≡ length l.done.elements;
   few_drawn : All (λ n. n ≤ l.number * 65535) l.done.draws;
