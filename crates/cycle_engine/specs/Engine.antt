@@ -1,5 +1,5 @@
 -- What an engine keeps, which run it stands in, and what one cycle makes of it.
-use Rattle.std.specs.Prelude.{◌≡◌, ℕ, ◌+◌, List, [], ◌∷◌, ◌++◌, length, Option, None, Some, Result, Bool, true, false}
+use Rattle.std.specs.Prelude.{◌≡◌, ◌≤◌, ℕ, ◌+◌, List, [], ◌∷◌, ◌++◌, length, Option, None, Some, Result, Bool, true, false}
 use Rattle.std.specs.List.{All}
 use Rattle.det_values.specs.Limits.{IsCycleTime}
 use Rattle.det_values.specs.Values.{ProfileValue, SampleValue, EventSpecValue, RefusedAtValue}
@@ -38,6 +38,7 @@ is_terminate (Some Terminate) = true
 -- the fields of an engine fit one another
 pub record Fits {S G E L P : Type 0} (m : Meaning S G E L P) (Own : S → E → Type 0) (job : S) (elements : List E) (client : ClientState) (rings : List Rings) (time : ℕ) : Type 0 where
   pub own : All (Own job) elements
+  pub few : length elements ≤ 65536
   pub events : length rings ≡ m.events job
   pub ready : is_terminate client.last ≡ false → following client.last ≡ Run
   pub timed : client.cycle_time ≡ time
