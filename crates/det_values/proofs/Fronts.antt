@@ -21,8 +21,7 @@ pub same_front : (len : ℕ) (rest behind : List ℕ) (e : DrawnElement) → len
 same_front len rest behind e small h eq =
     let short : length e.bytes ≤ 64 = h.short in
     let q : spelled_u16 len ++ rest ≡ spelled_u16 (length e.bytes) ++ (e.bytes ++ (spelled_u32 e.draws ++ behind)) = eq ∙ parts e behind in
-    let t : to_be_bytes w16 len ≡ to_be_bytes w16 (length e.bytes) = sym (take_two len rest) ∙ ap (take 2) q ∙ take_two (length e.bytes) (e.bytes ++ (spelled_u32 e.draws ++ behind)) in
-    (
+    let t : to_be_bytes w16 len ≡ to_be_bytes w16 (length e.bytes) = sym (take_two len rest) ∙ ap (take 2) q ∙ take_two (length e.bytes) (e.bytes ++ (spelled_u32 e.draws ++ behind)) in (
       sym (from_be_bytes-to_be_bytes_2 len small) ∙ ap (from_be_bytes w16) t ∙ from_be_bytes-to_be_bytes_2 (length e.bytes) (omega arith),
       sym (drop_two len rest) ∙ ap (drop 2) q ∙ drop_two (length e.bytes) (e.bytes ++ (spelled_u32 e.draws ++ behind)),
     )

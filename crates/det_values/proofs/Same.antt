@@ -42,7 +42,7 @@ bytes_decide es fs m n a b v h w k =
     let q = held fs n b w k in
     same_from_decides (pointwise nat_eq a b) (pointwise drawn_eq es fs)
     (Decides-like (pointwise nat_eq a b)
-      (λ s. one_list es fs p.2 q.2 (sym p.0 ∙ s ∙ q.0))
-      (λ s. p.0 ∙ ap spelled_all s ∙ sym q.0)
-      (pointwise_decides Decides-eqb a b))
+    (λ s. one_list es fs p.2 q.2 (sym p.0 ∙ s ∙ q.0))
+    (λ s. p.0 ∙ ap spelled_all s ∙ sym q.0)
+    (pointwise_decides Decides-eqb a b))
     (elements_decide es fs)

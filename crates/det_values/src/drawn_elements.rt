@@ -4,10 +4,10 @@ ghost use Rattle.std.specs.List.{All};
 ghost use Rattle.det_values.specs.Spelling.{an_element, spelled_all, IsDrawn};
 ghost use Rattle.det_values.specs.declared.frames.DrawnElement.{DrawnElement};
 
+use crate::OutOfMemory;
 use crate::put::put_drawn;
 use crate::undraw::undraw_all;
 use crate::walk::Walk;
-use crate::OutOfMemory;
 use std::alloc::Global;
 use std::marker::Model;
 
