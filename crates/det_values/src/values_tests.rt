@@ -92,7 +92,8 @@ fn lists_move_their_items(rt: HostRuntime) -> Result<(), Fail> {
     Ok(())
 }
 
-// So many elements, which drew 0, 1, 2 .. words. Those with even draws have no bytes, the others 64.
+// So many elements, which drew 0, 1, 2 .. words. Those with even draws have no bytes, the others
+// 64.
 fn drawn(alloc: Global, count: u32) -> Result<DrawnElements, OutOfMemory> {
     let mut elements = DrawnElements::new(alloc);
     for draws in 0..count {
