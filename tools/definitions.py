@@ -25,7 +25,7 @@ MOST_LINES = 1900
 MOST_LINES_OF_A_RECORD = 450
 
 HEAD = re.compile(
-    r"^(?P<indent> *)(?:(?:abbrev|unfoldable) )?(?:pub )?(?:(?:record|data) )?(?P<name>«?[A-Za-z_][A-Za-z0-9_'-]*»?)\b.*[:(]"
+    r"^ *(?:(?:abbrev|unfoldable) )?(?:pub )?(?:(?:record|data) )?(?P<name>[^\s:({]+).*[:(]"
 )
 STARTS = ("abbrev ", "unfoldable ", "pub record ", "pub data ", "pub ")
 WORD = re.compile(r"[A-Za-z_][A-Za-z0-9_'-]*(?:\.[A-Za-z_][A-Za-z0-9_'-]*)*")
@@ -130,6 +130,7 @@ def targets(text: str, imports: dict[str, tuple[str, str, str]]) -> list[tuple[s
             if name == "*":
                 name = rest.split(".", 1)[0] if rest else "*"
             found.append((crate, path, name))
+    found += [target for name, target in imports.items() if "◌" in name and name.replace("◌", "") in text]
     return found
 
 

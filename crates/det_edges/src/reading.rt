@@ -52,13 +52,15 @@ pub fn read_limited<S: Slots>(
     requires { slot < (S.sees shelf.old).slots }
     ensures ok { IfOk result (λ bytes. Reads (S.sees shelf.old) (S.sees shelf.new) slot bytes.items
         × IsAtEnd (S.sees shelf.new) slot × (length bytes.items ≤ most)) }
-    // At every answer some bytes were read. They are more than `most` exactly where the answer is TooLong.
+    // At every answer some bytes were read. They are more than `most` exactly where the answer is
+    // TooLong.
     ensures read { (bytes : List ℕ) × Reads (S.sees shelf.old) (S.sees shelf.new) slot bytes
         × (IsErrOf result ReadEnd.TooLong ↔ (most < length bytes)) }
     // At every answer at most one piece of 4,096 bytes was read beyond `most`.
     ensures piece { (bytes : List ℕ) × Reads (S.sees shelf.old) (S.sees shelf.new) slot bytes
         × (length bytes ≤ most + 4096) }
-    ensures cause { IsErrOf result ReadEnd.ReadFault → Rose (S.sees shelf.old).faults (S.sees shelf.new).faults }
+    ensures cause { IsErrOf result ReadEnd.ReadFault
+        → Rose (S.sees shelf.old).faults (S.sees shelf.new).faults }
     ensures counted { (S.sees shelf.old).faults ≤ (S.sees shelf.new).faults }
     ensures stays { S.stays shelf.old shelf.new }
 {

@@ -1,6 +1,6 @@
 -- The derived `==` of values decides whether they are equal.
-use Rattle.std.proofs.Common.{◌≡◌, ℕ, ℤ, Bool, ◌&&◌, List, nat_eq, int_eq, rules, refl, sym, ap, ◌∙◌, arith}
-use Rattle.std.specs.Prelude.{Option, Some, None}
+use Rattle.std.proofs.Common.{◌≡◌, ℕ, Bool, ◌&&◌, nat_eq, rules, refl, sym, ap, ◌∙◌}
+use Rattle.std.specs.Prelude.{Option}
 use Rattle.std.specs.Option.{option_eq}
 use Rattle.std.specs.Bool.{Decides}
 use Rattle.std.specs.Cmp.Lexicographic.{pointwise, pointwise_decides}
@@ -51,7 +51,13 @@ pub event_decides : (a b : EventSpecValue) → Decides (event.eq-value.it a b) (
 event_decides a b = search rules
 
 pub profile_decides : (a b : ProfileValue) → Decides (profile.eq-value.it a b) (a ≡ b)
-profile_decides a b = search (rules, Decides-like, Decides-and, pointwise_decides event_decides a.events b.events, pointwise_decides Decides-int_eq a.params b.params)
+profile_decides a b = search (
+  rules,
+  Decides-like,
+  Decides-and,
+  pointwise_decides event_decides a.events b.events,
+  pointwise_decides Decides-int_eq a.params b.params,
+)
 
 pub outcome_decides : (a b : Outcome) → Decides (outcome.eq-value.it a b) (a ≡ b)
 outcome_decides (Finished e o) (Finished f p) =

@@ -29,7 +29,8 @@ element_decides e f =
     Decides-like (drawn_eq e f)
     (λ h. ap (λ xs. an_element xs e.draws) h.0 ∙ ap (λ n. an_element f.bytes n) h.1)
     (λ s. (ap (λ (x : DrawnElement). x.bytes) s, ap (λ (x : DrawnElement). x.draws) s))
-    (Decides-and (pointwise nat_eq e.bytes f.bytes) (nat_eq e.draws f.draws) (pointwise_decides Decides-eqb e.bytes f.bytes) (Decides-eqb e.draws f.draws))
+    (Decides-and (pointwise nat_eq e.bytes f.bytes) (nat_eq e.draws f.draws) (pointwise_decides Decides-eqb e.bytes f.bytes)
+    (Decides-eqb e.draws f.draws))
 
 pub elements_decide : (es fs : List DrawnElement) → Decides (pointwise drawn_eq es fs) (es ≡ fs)
 elements_decide = pointwise_decides element_decides
@@ -42,7 +43,7 @@ bytes_decide es fs m n a b v h w k =
     let q = held fs n b w k in
     same_from_decides (pointwise nat_eq a b) (pointwise drawn_eq es fs)
     (Decides-like (pointwise nat_eq a b)
-      (λ s. one_list es fs p.2 q.2 (sym p.0 ∙ s ∙ q.0))
-      (λ s. p.0 ∙ ap spelled_all s ∙ sym q.0)
-      (pointwise_decides Decides-eqb a b))
+    (λ s. one_list es fs p.2 q.2 (sym p.0 ∙ s ∙ q.0))
+    (λ s. p.0 ∙ ap spelled_all s ∙ sym q.0)
+    (pointwise_decides Decides-eqb a b))
     (elements_decide es fs)

@@ -14,5 +14,4 @@ pub fn equality()
     ensures runs { (a b : RunFrame) → Decides (⟦<RunFrame as PartialEq>⟧.eq a b) (a ≡ b) }
     ensures frames { (a b : Frame) → Decides (⟦<Frame as PartialEq>⟧.eq a b) (a ≡ b) }
     ensures profiles { (a b : Profile) → Decides (⟦<Profile as PartialEq>⟧.eq a b) (a ≡ b) }
-{
-}
+{}

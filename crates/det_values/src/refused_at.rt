@@ -25,8 +25,8 @@ impl Phase {
     }
 }
 
-/// Where a cycle was refused, and the code that the job gave. In the pool the pass is below 8 and the element below
-/// 65,536; in the other phases both are 0.
+/// Where a cycle was refused, and the code that the job gave. In the pool the pass is below 8 and
+/// the element below 65,536; in the other phases both are 0.
 #[derive(Clone, Copy, Debug, PartialEq, Eq, Drop)]
 pub struct RefusedAt {
     pub phase: Phase,
@@ -41,9 +41,19 @@ impl Model for RefusedAt {
 
     ghost Value = { RefusedAtValue };
 
-    ghost view = { λ r. record { phase = r.phase; pass = r.pass; element = r.element; code = r.code } };
+    ghost view = { λ r. record {
+      phase = r.phase;
+      pass = r.pass;
+      element = r.element;
+      code = r.code;
+    } };
 
     ghost invariant = { λ r. IsPlace r.phase r.pass r.element };
 
-    ghost inverse = { λ v. record { phase = v.phase; pass = v.pass; element = v.element; code = v.code } };
+    ghost inverse = { λ v. record {
+      phase = v.phase;
+      pass = v.pass;
+      element = v.element;
+      code = v.code;
+    } };
 }
