@@ -1,5 +1,5 @@
 -- The guard keeps the laws of a job.
-use Rattle.std.proofs.Common.{◌≡◌, ℕ, ℤ, ◌+◌, ◌*◌, ◌%◌, ◌<◌, ◌≤◌, List, [], ◌∷◌, take, drop, length}
+use Rattle.std.proofs.Common.{◌≡◌, ℕ, ℤ, ◌+◌, ◌*◌, ◌<◌, ◌≤◌, List, [], ◌∷◌, take, drop, length}
 use Rattle.std.proofs.Common.{Option, None, Some, Result, Ok, Err, Bool, true, false, cond, ltb}
 use Rattle.std.proofs.Common.{refl, ap, sym, ◌∙◌, subst, append_assoc, length-append, arith}
 use Rattle.std.specs.Prelude.{nat_le}
@@ -12,7 +12,7 @@ use Rattle.job_trait.specs.declared.answers.Worked.{Worked}
 use Rattle.job_trait.specs.declared.answers.Concluded.{Concluded}
 use Rattle.job_trait.specs.Meaning.{Prepared}
 use Rattle.job_trait.specs.Laws.{JobLaws, CoversBoth}
-use Rattle.job_shared.specs.Samples.{sample_of, IsSample, AreSamples}
+use Rattle.job_shared.specs.Samples.{IsSample, AreSamples}
 use Rattle.job_shared.proofs.Answered.{ok_same}
 use Rattle.job_shared.proofs.Apart.{u16_bytes-apart, u32_bytes-apart, i64_bytes-apart}
 use Rattle.job_shared.proofs.Made.{made_all}

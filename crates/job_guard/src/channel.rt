@@ -74,6 +74,7 @@ fn corrected(alloc: Global, channel: &Channel) -> Result<Worked<Channel, Correct
 }
 
 /// A channel that holds a reading.
+#[inline(always)]
 fn holding(alloc: Global, channel: &Channel, value: i64) -> Worked<Channel, Corrections>
     ensures { result ≡ holding channel.now value }
 {
