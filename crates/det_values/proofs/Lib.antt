@@ -6,3 +6,4 @@ mod Filling
 mod Undrawing
 pub mod Blocking
 mod Growing
+mod Equality

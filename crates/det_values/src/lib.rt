@@ -12,6 +12,7 @@ mod format;
 mod frames;
 mod job_kind;
 mod limited;
+pub mod laws;
 mod lists;
 mod out_of_memory;
 mod profile;
