@@ -38,7 +38,7 @@ fn lines_of(
     let mut stayed = Bytes::new(alloc);
     finish_all(alloc, probes, &mut stayed)?;
     let mut lines = Vec::new(alloc);
-    put_summary_lines(alloc, &mut lines, summary)?;
+    put_summary_lines(&mut lines, summary)?;
     lines.extend_from_slice(left.as_slice())?;
     lines.extend_from_slice(stayed.as_slice())?;
     Ok(lines)

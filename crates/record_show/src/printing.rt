@@ -9,8 +9,8 @@ ghost use Rattle.record_show.specs.Cuts.{Cuts};
 use crate::ends::ShowEnd;
 use det_edges::{Sink, write_all};
 use det_values::{Format, Frame, OutOfMemory};
-use record_text::{put_frame_lines, put_header_lines};
 use record_grammar::Item;
+use record_text::{put_frame_lines, put_header_lines};
 use std::alloc::Global;
 
 /// Where the items of a record are printed.
@@ -65,12 +65,7 @@ impl Printer {
     }
 
     /// Prints the lines of an item. After an error some of them may have been written.
-    pub fn print<K: Sink>(
-        &mut self,
-        alloc: Global,
-        item: &Item,
-        sink: &mut K,
-    ) -> Result<(), ShowEnd>
+    pub fn print<K: Sink>(&mut self, item: &Item, sink: &mut K) -> Result<(), ShowEnd>
         requires few { self.old.cycles < 4294967295 }
         ensures ok { OnOk result (Grew (K.took sink.old) (K.took sink.new) (item_lines self.old.format self.old.cycles (item.now ∷ []))) }
         ensures format { OnOk result (self.new.format ≡ format_behind self.old.format (item.now ∷ [])) }
@@ -79,14 +74,14 @@ impl Printer {
         ensures cause { IsErrOf result ShowEnd.WriteFault → Rose (K.faults sink.old) (K.faults sink.new) }
         ensures counted { K.faults sink.old ≤ K.faults sink.new }
     {
-        if self.put(alloc, item).is_err() {
+        if self.put(item).is_err() {
             return Err(ShowEnd::OutOfMemory);
         }
         write_text(&self.lines, sink)
     }
 
     /// Puts the lines of an item in place of those before.
-    fn put(&mut self, alloc: Global, item: &Item) -> Result<(), OutOfMemory>
+    fn put(&mut self, item: &Item) -> Result<(), OutOfMemory>
         requires few { self.old.cycles < 4294967295 }
         ensures lines { OnOk result (self.new.lines.items ≡ item_lines self.old.format self.old.cycles (item.now ∷ [])) }
         ensures format { self.new.format ≡ format_behind self.old.format (item.now ∷ []) }
@@ -100,7 +95,7 @@ impl Printer {
             }
             Item::Frame(frame) => {
                 self.cycles += cycles_in(frame);
-                put_frame_lines(alloc, &mut self.lines, self.format, self.cycles, frame)
+                put_frame_lines(&mut self.lines, self.format, self.cycles, frame)
             }
         }
     }

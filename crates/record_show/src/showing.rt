@@ -152,7 +152,7 @@ fn take_item<K: Sink>(
     ensures cause { IsErrOf result ShowEnd.WriteFault → Rose (K.faults sink.old) (K.faults sink.new) }
     ensures counted { K.faults sink.old ≤ K.faults sink.new }
 {
-    if let Err(end) = printer.print(alloc, &item, sink) {
+    if let Err(end) = printer.print(&item, sink) {
         return Err(end);
     }
     if let Err(end) = show_item(alloc, &item, probes, left) {
