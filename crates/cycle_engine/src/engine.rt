@@ -110,12 +110,14 @@ impl<J: Job> Engine<J> {
         let _ = client.wait_for_activation(Next::Go(None));
         let _ = client.wait_for_activation(Next::Go(None));
         let begun = job.start(alloc, &mut client)?;
+        let job = shared(alloc, job)?;
+        let elements = shared(alloc, begun.elements)?;
         Ok(Engine {
-            job: shared(alloc, job)?,
+            job,
             format: profile.format,
             cycle_time: profile.cycle_time,
             globals: begun.globals,
-            elements: shared(alloc, begun.elements)?,
+            elements,
             client,
             cache,
         })

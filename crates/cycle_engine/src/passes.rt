@@ -82,7 +82,6 @@ impl<J: Job> Passes<J> {
         ensures few_drawn { IfOk result (λ done. All (λ draws. draws ≤ 65535) done.draws) }
         ensures covers { IfOk result (λ done. J.Covers (arc_value self.now.job) done.part (length done.elements)) }
     {
-        let _passes = self.job.passes(&self.plan);
         let unit = self.job.unit(alloc);
         match self.one(alloc, pool, 0, unit, elements) {
             Ok(done) => Ok(done),
@@ -115,7 +114,6 @@ impl<J: Job> Passes<J> {
         ensures few_drawn { IfOk result (λ next. All (λ draws. draws ≤ (number + 1) * 65535) next.draws) }
         ensures covers { IfOk result (λ next. J.Covers (arc_value self.now.job) next.part (length next.elements)) }
     {
-        let _count = done.elements.len();
         let elements = shared(alloc, done.elements)?;
         match self.one(alloc, pool, number, done.part, elements) {
             Ok(next) => Ok(PassDone {
