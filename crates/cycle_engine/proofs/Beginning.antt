@@ -22,10 +22,12 @@ pub record IsInit (c : State) (its_seed its_time : ℕ) : Type 0 where
   pub cycle_time : c.cycle_time ≡ its_time
   pub own : StandsFor c.own (key c.seed 0 255 0) 0
 
-answered : (before after : State) (r : Activation) (last : Option Activation) → Stepped before (Go None) r after → before.last ≡ last → r ≡ following last
+answered : (before after : State) (r : Activation) (last : Option Activation) → Stepped before (Go None) r after
+    → before.last ≡ last → r ≡ following last
 answered before after r last s e = s.result_is ∙ ap (λ l. next_activation l (Go None)) e
 
-counted : (before after : State) (r a : Activation) → Stepped before (Go None) r after → r ≡ a → after.cycle ≡ before.cycle + (if is_run a then 1 else 0)
+counted : (before after : State) (r a : Activation) → Stepped before (Go None) r after → r ≡ a
+    → after.cycle ≡ before.cycle + (if is_run a then 1 else 0)
 counted before after r a s e = s.cycle ∙ ap (λ x. before.cycle + (if is_run x then 1 else 0)) e
 
 -- three requests bring a new client there
