@@ -2,7 +2,7 @@ use Rattle.std.proofs.Common.{◌≡◌, ℕ, ◌*◌, ◌≤◌, List, [], leng
 use Rattle.std.specs.List.{All}
 use Rattle.std.proofs.lemmas.List.Elements.{All-take, All-drop}
 use Rattle.job_trait.specs.Cycle.{added}
-use Rattle.cycle_engine.proofs.Adding.{same_takes, fits, all_added}
+use Rattle.cycle_engine.proofs.Adding.{same_takes, fits}
 use Rattle.cycle_engine.proofs.sums.sums.Goals as goal
 
 pub block_sums-requires-clause-equal : goal.block_sums-requires-clause-equal
