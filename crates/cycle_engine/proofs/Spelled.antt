@@ -1,5 +1,6 @@
 -- The bytes of elements, one behind another.
-use Rattle.std.proofs.Common.{◌≡◌, ℕ, suc, ◌+◌, ◌*◌, ◌<◌, ◌≤◌, List, [], ◌∷◌, ◌++◌, length, get_or, take, drop, refl, sym, ap, subst, ◌∙◌, arith, append_assoc, append-nil}
+use Rattle.std.proofs.Common.{◌≡◌, ℕ, suc, ◌+◌, ◌*◌, ◌<◌, ◌≤◌, List, [], ◌∷◌, ◌++◌, length, get_or, take, drop}
+use Rattle.std.proofs.Common.{refl, sym, ap, subst, ◌∙◌, arith, append_assoc, append-nil}
 use Rattle.std.specs.List.{All}
 use Rattle.std.proofs.Math.Seq.{take-add}
 use Rattle.std.proofs.lemmas.List.{take_more, take_all, length-take-le}
@@ -36,11 +37,13 @@ module _ {S G E L P : Type 0} (m : Meaning S G E L P) (j : S) where
       let s : shown_with m j (es ++ fs) (ds ++ ns) ≡ a ++ b = shown-append es fs ds ns e in
       record {
         bytes = second.bytes ∙ ap (λ (xs : List ℕ). xs ++ spelled_all b) first.bytes ∙ append_assoc old (spelled_all a) (spelled_all b)
-            ∙ ap (λ (xs : List ℕ). old ++ xs) (sym (flat_map-append spelled_drawn a b)) ∙ ap (λ (xs : List DrawnElement). old ++ spelled_all xs) (sym s);
+            ∙ ap (λ (xs : List ℕ). old ++ xs) (sym (flat_map-append spelled_drawn a b))
+            ∙ ap (λ (xs : List DrawnElement). old ++ spelled_all xs) (sym s);
         fields = subst (λ (xs : List DrawnElement). All IsDrawn xs) (sym s) (All-append IsDrawn a b first.fields second.fields);
       }
 
-  alone : (x : E) (d : ℕ) (old new : List ℕ) → IsDrawn (an_element (m.shown j x) d) → new ≡ old ++ spelled_drawn (an_element (m.shown j x) d)
+  alone : (x : E) (d : ℕ) (old new : List ℕ) → IsDrawn (an_element (m.shown j x) d)
+      → new ≡ old ++ spelled_drawn (an_element (m.shown j x) d)
       → Shown (x ∷ []) (d ∷ []) old new
   alone x d old new fields e = record {
     bytes = e ∙ ap (λ (xs : List ℕ). old ++ xs) (sym (append-nil (spelled_drawn (an_element (m.shown j x) d))));
@@ -55,7 +58,8 @@ module _ {S G E L P : Type 0} (m : Meaning S G E L P) (j : S) where
   one_more es ds i x d old mid new inside drew at with so_far fields e =
       let t : take i es ++ x ∷ [] ≡ take (i + 1) es = ap (λ y. take i es ++ y ∷ []) at ∙ sym (take_more es i x inside) in
       let u : take i ds ++ d ∷ [] ≡ take (i + 1) ds = ap (λ n. take i ds ++ n ∷ []) with ∙ sym (take_more ds i 0 (omega (arith, drew))) in
-      let l : length (take i es) ≡ length (take i ds) = length-take-le i es (omega arith) ∙ sym (length-take-le i ds (omega (arith, drew))) in
+      let l : length (take i es) ≡ length (take i ds) =
+          length-take-le i es (omega arith) ∙ sym (length-take-le i ds (omega (arith, drew))) in
       let s : Shown (take i es ++ x ∷ []) (take i ds ++ d ∷ []) old new = both _ _ _ _ _ _ _ l so_far (alone x d mid new fields e) in
       subst (λ (xs : List E). Shown xs (take (i + 1) ds) old new) t (subst (λ (ns : List ℕ). Shown (take i es ++ x ∷ []) ns old new) u s)
 
@@ -65,15 +69,19 @@ module _ {S G E L P : Type 0} (m : Meaning S G E L P) (j : S) where
       → Shown xs ns mid new → Shown (take (64 * (b + 1)) es) (take (64 * (b + 1)) ds) old new
   block_more es ds b xs ns old mid new inside drew at with so_far next =
       let n : 64 * b + 64 ≡ 64 * (b + 1) = omega arith in
-      let t : take (64 * b) es ++ xs ≡ take (64 * (b + 1)) es = ap (λ (ys : List E). take (64 * b) es ++ ys) at ∙ sym (take-add (64 * b) 64 es) ∙ ap (λ k. take k es) n in
-      let u : take (64 * b) ds ++ ns ≡ take (64 * (b + 1)) ds = ap (λ (ys : List ℕ). take (64 * b) ds ++ ys) with ∙ sym (take-add (64 * b) 64 ds) ∙ ap (λ k. take k ds) n in
-      let l : length (take (64 * b) es) ≡ length (take (64 * b) ds) = length-take-le (64 * b) es (omega arith) ∙ sym (length-take-le (64 * b) ds (omega (arith, drew))) in
+      let t : take (64 * b) es ++ xs ≡ take (64 * (b + 1)) es =
+          ap (λ (ys : List E). take (64 * b) es ++ ys) at ∙ sym (take-add (64 * b) 64 es) ∙ ap (λ k. take k es) n in
+      let u : take (64 * b) ds ++ ns ≡ take (64 * (b + 1)) ds =
+          ap (λ (ys : List ℕ). take (64 * b) ds ++ ys) with ∙ sym (take-add (64 * b) 64 ds) ∙ ap (λ k. take k ds) n in
+      let l : length (take (64 * b) es) ≡ length (take (64 * b) ds) =
+          length-take-le (64 * b) es (omega arith) ∙ sym (length-take-le (64 * b) ds (omega (arith, drew))) in
       let s : Shown (take (64 * b) es ++ xs) (take (64 * b) ds ++ ns) old new = both _ _ _ _ _ _ _ l so_far next in
-      subst (λ (ys : List E). Shown ys (take (64 * (b + 1)) ds) old new) t (subst (λ (ks : List ℕ). Shown (take (64 * b) es ++ xs) ks old new) u s)
+      subst (λ (ys : List E). Shown ys (take (64 * (b + 1)) ds) old new) t
+          (subst (λ (ks : List ℕ). Shown (take (64 * b) es ++ xs) ks old new) u s)
 
   -- all of them
-  pub all_shown : (es : List E) (ds : List ℕ) (n : ℕ) (old new : List ℕ) → length es ≤ n → length ds ≡ length es → Shown (take n es) (take n ds) old new
-      → Shown es ds old new
+  pub all_shown : (es : List E) (ds : List ℕ) (n : ℕ) (old new : List ℕ) → length es ≤ n → length ds ≡ length es
+      → Shown (take n es) (take n ds) old new → Shown es ds old new
   all_shown es ds n old new enough drew s =
       subst (λ (xs : List E). Shown xs ds old new) (take_all n es enough)
           (subst (λ (ns : List ℕ). Shown (take n es) ns old new) (take_all n ds (omega (arith, drew))) s)

@@ -18,31 +18,47 @@ use Rattle.cycle_engine.specs.declared.fault.CycleFault.{CycleFault}
 use Rattle.cycle_engine.specs.declared.fault.CycleFault.TheVariants.{Refused, OutOfMemory}
 use Rattle.cycle_engine.specs.declared.phases.CycleDone.{CycleDone}
 
+-- what the passes of one cycle share
+pub record SharedValue (S L : Type 0) : Type 0 where
+  pub job : S
+  pub plan : L
+  pub seed : ℕ
+  pub cycle : ℕ
+
 -- the passes' answer is the definition's; want of memory is free
-abbrev pub ArePasses : {E P : Type 0} → Result (PassDone E P) CycleFault → Result (Passed E P) RefusedAtValue → Type 0
+abbrev pub ArePasses : {E P : Type 0} → Result (PassDone E P) CycleFault
+    → Result (Passed E P) RefusedAtValue → Type 0
 ArePasses (Ok done) passes = passes ≡ Ok (passed_of done)
 ArePasses (Err (Refused at)) passes = passes ≡ Err at
 ArePasses (Err OutOfMemory) passes = Unit {0}
 
 abbrev pub done_of : {G E : Type 0} → CycleDone G E → ℕ → Done G E
-done_of done seed = record { state = record { globals = done.globals; elements = arc_value done.elements; seed = seed }; shown = done.shown; output = done.output }
+done_of done seed = record {
+  state = record { globals = done.globals; elements = arc_value done.elements; seed = seed };
+  shown = done.shown;
+  output = done.output;
+}
 
--- a cycle's answer, beside which the client is left with a seed, is the definition's; want of memory is free
-abbrev pub IsCycle : {G E : Type 0} → Result (CycleDone G E) CycleFault → ℕ → Result (Done G E) RefusedAtValue → Type 0
+-- a cycle's answer, beside which the client is left with a seed, is the definition's; want of
+-- memory is free
+abbrev pub IsCycle : {G E : Type 0} → Result (CycleDone G E) CycleFault → ℕ
+    → Result (Done G E) RefusedAtValue → Type 0
 IsCycle (Ok done) seed cycle = cycle ≡ Ok (done_of done seed)
 IsCycle (Err (Refused at)) seed cycle = cycle ≡ Err at
 IsCycle (Err OutOfMemory) seed cycle = Unit {0}
 
 -- how the pool's fault in a pass ends a cycle
 abbrev pub PoolEnds : ℕ → PoolFault → CycleFault → Type 0
-PoolEnds pass (pool.Refused element code) (Refused at) = at ≡ refused_in_pool pass (record { element = element; code = code })
+PoolEnds pass (pool.Refused element code) (Refused at) =
+    at ≡ refused_in_pool pass (record { element = element; code = code })
 PoolEnds pass (pool.Refused element code) OutOfMemory = ⊥
 PoolEnds pass pool.OutOfMemory (Refused at) = ⊥
 PoolEnds pass pool.OutOfMemory OutOfMemory = Unit {0}
 
 -- how a job's fault in a phase outside the pool ends a cycle
 abbrev pub JobEnds : Phase → JobFault → CycleFault → Type 0
-JobEnds phase (job.Code code) (Refused at) = at ≡ record { phase = phase; pass = 0; element = 0; code = code }
+JobEnds phase (job.Code code) (Refused at) =
+    at ≡ record { phase = phase; pass = 0; element = 0; code = code }
 JobEnds phase (job.Code code) OutOfMemory = ⊥
 JobEnds phase job.OutOfMemory (Refused at) = ⊥
 JobEnds phase job.OutOfMemory OutOfMemory = Unit {0}

@@ -1,5 +1,6 @@
 //! A job with all that it keeps between cycles.
-ghost use Rattle.std.specs.Prelude.{◌≡◌, ℕ, ◌+◌, ◌<◌, ◌≤◌, List, [], ◌∷◌, ◌++◌, length, map, IfOk, OnOk, OnErr, None, true, false};
+ghost use Rattle.std.specs.Prelude.{◌≡◌, ℕ, ◌+◌, ◌<◌, ◌≤◌, List, [], ◌∷◌, ◌++◌, length, map};
+ghost use Rattle.std.specs.Prelude.{IfOk, OnOk, OnErr, None, true, false};
 ghost use Rattle.std.specs.List.{All};
 ghost use Rattle.std.specs.Arc.{arc_value};
 ghost use Rattle.det_values.specs.Values.{ProfileValue, SampleValue, EventSpecValue};
@@ -11,7 +12,8 @@ ghost use Rattle.event_cache.specs.Windows.{HasSeen, next_windows};
 ghost use Rattle.job_trait.specs.Cycle.{outcome_of, state_after};
 ghost use Rattle.cycle_engine.specs.Answers.{IsCycle};
 ghost use Rattle.cycle_engine.specs.Frames.{frame_of, state_of};
-ghost use Rattle.cycle_engine.specs.Engine.{StandsFor, EngineState, IsAfter, next_cycle, next_frame};
+ghost use Rattle.cycle_engine.specs.Engine.{StandsFor, EngineState, IsAfter};
+ghost use Rattle.cycle_engine.specs.Engine.{next_cycle, next_frame};
 
 use crate::fault::{CycleFault, in_prepare};
 use crate::owners::{again, shared};
@@ -56,7 +58,8 @@ impl<J: Job> Model for Engine<J> {
       stopped = is_terminate e.client.last;
     } };
 
-    ghost invariant = { λ e. Fits J.meaning J.Own (arc_value e.job) (arc_value e.elements) e.client e.cache e.cycle_time };
+    ghost invariant = { λ e.
+      Fits J.meaning J.Own (arc_value e.job) (arc_value e.elements) e.client e.cache e.cycle_time };
 }
 
 /// Lets these samples arrive, and shows them to the next cycle.
@@ -64,9 +67,11 @@ fn feed(cache: &mut EventCache, samples: &[Sample])
     requires { All (λ s. s.event < length cache.old) samples.now }
     ensures count { length cache.new ≡ length cache.old }
     ensures seen { (events : List EventSpecValue) (rounds : List (List SampleValue))
-        → HasSeen cache.old events rounds [] → HasSeen cache.new events (rounds ++ samples.now ∷ []) [] }
+        → HasSeen cache.old events rounds []
+        → HasSeen cache.new events (rounds ++ samples.now ∷ []) [] }
     ensures windows { (events : List EventSpecValue) (rounds : List (List SampleValue))
-        → HasSeen cache.old events rounds [] → windows cache.new ≡ next_windows events (windows cache.old) samples.now }
+        → HasSeen cache.old events rounds []
+        → windows cache.new ≡ next_windows events (windows cache.old) samples.now }
 {
     for sample in samples {
         cache.arrive(*sample);
@@ -110,12 +115,14 @@ impl<J: Job> Engine<J> {
         let _ = client.wait_for_activation(Next::Go(None));
         let _ = client.wait_for_activation(Next::Go(None));
         let begun = job.start(alloc, &mut client)?;
+        let job = shared(alloc, job)?;
+        let elements = shared(alloc, begun.elements)?;
         Ok(Engine {
-            job: shared(alloc, job)?,
+            job,
             format: profile.format,
             cycle_time: profile.cycle_time,
             globals: begun.globals,
-            elements: shared(alloc, begun.elements)?,
+            elements,
             client,
             cache,
         })
@@ -123,7 +130,8 @@ impl<J: Job> Engine<J> {
 
     /// The bytes of the present elements, in order.
     pub fn shown(&self, alloc: Global) -> Result<Elements, OutOfMemory>
-        ensures { IfOk result (λ shown. shown ≡ map (J.meaning.shown self.now.job) self.now.state.elements) }
+        ensures { IfOk result (λ shown.
+            shown ≡ map (J.meaning.shown self.now.job) self.now.state.elements) }
     {
         let mut shown = Elements::new(alloc);
         let mut bytes = Vec::new(alloc);
@@ -181,7 +189,8 @@ impl<J: Job> Engine<J> {
     ) -> Result<Outcome, OutOfMemory>
         requires few { self.old.cycles < 1000000 }
         requires going { self.old.stopped ≡ false }
-        ensures outcome { IfOk result (λ outcome. outcome ≡ outcome_of (next_cycle J.meaning self.old time)) }
+        ensures outcome { IfOk result (λ outcome.
+            outcome ≡ outcome_of (next_cycle J.meaning self.old time)) }
         ensures after { OnOk result (self.new ≡ record self.old {
             state = state_after self.old.state (next_cycle J.meaning self.old time);
             cycles = self.old.cycles + 1 }) }
@@ -213,9 +222,9 @@ impl<J: Job> Engine<J> {
 
     /// Runs the next cycle, its passes on the threads of a pool, and answers its frame.
     ///
-    /// The windows of the cycle hold samples of earlier cycles alone: the input's samples arrive at its end, also where
-    /// it is refused. A refused cycle keeps globals, elements and seed, and counts as a cycle. After OutOfMemory all is as
-    /// before the call, and the input is gone.
+    /// The windows of the cycle hold samples of earlier cycles alone: the input's samples arrive at
+    /// its end, also where it is refused. A refused cycle keeps globals, elements and seed, and
+    /// counts as a cycle. After OutOfMemory all is as before the call, and the input is gone.
     pub fn cycle<P: Pool<J>>(
         &mut self,
         alloc: Global,
@@ -225,9 +234,11 @@ impl<J: Job> Engine<J> {
         requires few { self.old.cycles < 1000000 }
         requires events { All (λ s. s.event < length self.old.rings) input.samples }
         requires going { self.old.stopped ≡ false }
-        ensures frame { IfOk result (λ frame. (profile : ProfileValue) (inputs : List Input) → StandsFor J.meaning profile self.old inputs
+        ensures frame { IfOk result (λ frame. (profile : ProfileValue) (inputs : List Input)
+            → StandsFor J.meaning profile self.old inputs
             → frame ≡ frame_of J.meaning profile inputs (state_of J.meaning profile inputs) input) }
-        ensures stands { OnOk result ((profile : ProfileValue) (inputs : List Input) → StandsFor J.meaning profile self.old inputs
+        ensures stands { OnOk result ((profile : ProfileValue) (inputs : List Input)
+            → StandsFor J.meaning profile self.old inputs
             → StandsFor J.meaning profile self.new (inputs ++ input ∷ [])) }
         ensures outcome { IfOk result (λ frame. frame ≡ next_frame J.meaning self.old input) }
         ensures after { OnOk result (IsAfter J.meaning self.old input self.new) }

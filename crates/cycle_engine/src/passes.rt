@@ -14,6 +14,7 @@ use crate::sums::sums;
 use det_values::Container;
 use job_trait::{Job, PassDone, PassOf, Pool, PoolFault};
 use std::alloc::Global;
+use std::marker::Model;
 use std::sync::Arc;
 
 /// What the passes of one cycle share.
@@ -23,6 +24,23 @@ pub(crate) struct Passes<J: Job> {
     pub(crate) plan: Arc<J::Plan, Global>,
     pub(crate) seed: u64,
     pub(crate) cycle: u32,
+}
+
+impl<J: Job> Model for Passes<J> {
+    ghost use Rattle.std.specs.Prelude.{◌≤◌};
+    ghost use Rattle.std.specs.Arc.{arc_value};
+    ghost use Rattle.cycle_engine.specs.Answers.{SharedValue};
+
+    ghost Value = { SharedValue J J.Plan };
+
+    ghost view = { λ p. record {
+      job = arc_value p.job;
+      plan = arc_value p.plan;
+      seed = p.seed;
+      cycle = p.cycle;
+    } };
+
+    ghost invariant = { λ p. J.Fit (arc_value p.job) (arc_value p.plan) × (p.cycle ≤ 1000000) };
 }
 
 impl<J: Job> Passes<J> {
@@ -35,19 +53,18 @@ impl<J: Job> Passes<J> {
         carry: J::Part,
         elements: Arc<Container<J::Element>, Global>,
     ) -> Result<PassDone<J::Element, J::Part>, PoolFault>
-        requires fit { J.Fit (arc_value self.now.job) (arc_value self.now.plan) }
-        requires cycle { self.now.cycle ≤ 1000000 }
-        requires number { number < J.meaning.passes_of (arc_value self.now.job) (arc_value self.now.plan) }
-        requires carry { CoversSome (J.Covers (arc_value self.now.job)) carry }
+        requires number { number < J.meaning.passes_of self.now.job self.now.plan }
+        requires carry { CoversSome (J.Covers self.now.job) carry }
         requires few { length (arc_value elements) ≤ 65536 }
-        requires own { All (J.Own (arc_value self.now.job)) (arc_value elements) }
-        ensures pass { IsPass result (passed J.meaning (arc_value self.now.job) (arc_value self.now.plan) carry
+        requires own { All (J.Own self.now.job) (arc_value elements) }
+        ensures pass { IsPass result (passed J.meaning self.now.job self.now.plan carry
             self.now.seed self.now.cycle number (arc_value elements)) }
-        ensures own { IfOk result (λ done. All (J.Own (arc_value self.now.job)) done.elements) }
+        ensures own { IfOk result (λ done. All (J.Own self.now.job) done.elements) }
         ensures many { IfOk result (λ done. length done.elements ≡ length (arc_value elements)) }
         ensures drew { IfOk result (λ done. length done.draws ≡ length (arc_value elements)) }
         ensures few_drawn { IfOk result (λ done. All (λ draws. draws ≤ 65535) done.draws) }
-        ensures covers { IfOk result (λ done. J.Covers (arc_value self.now.job) done.part (length (arc_value elements))) }
+        ensures covers { IfOk result (λ done.
+            J.Covers self.now.job done.part (length (arc_value elements))) }
         ensures element { IfErr result (RefusedBelow (length (arc_value elements))) }
     {
         let pass = PassOf {
@@ -70,19 +87,17 @@ impl<J: Job> Passes<J> {
         pool: &mut P,
         elements: Arc<Container<J::Element>, Global>,
     ) -> Result<PassDone<J::Element, J::Part>, CycleFault>
-        requires fit { J.Fit (arc_value self.now.job) (arc_value self.now.plan) }
-        requires cycle { self.now.cycle ≤ 1000000 }
         requires few { length (arc_value elements) ≤ 65536 }
-        requires own { All (J.Own (arc_value self.now.job)) (arc_value elements) }
-        ensures pass { ArePasses result (first_pass J.meaning (arc_value self.now.job) (arc_value self.now.plan)
+        requires own { All (J.Own self.now.job) (arc_value elements) }
+        ensures pass { ArePasses result (first_pass J.meaning self.now.job self.now.plan
             self.now.seed self.now.cycle (arc_value elements)) }
-        ensures own { IfOk result (λ done. All (J.Own (arc_value self.now.job)) done.elements) }
+        ensures own { IfOk result (λ done. All (J.Own self.now.job) done.elements) }
         ensures many { IfOk result (λ done. length done.elements ≡ length (arc_value elements)) }
         ensures drew { IfOk result (λ done. length done.draws ≡ length done.elements) }
         ensures few_drawn { IfOk result (λ done. All (λ draws. draws ≤ 65535) done.draws) }
-        ensures covers { IfOk result (λ done. J.Covers (arc_value self.now.job) done.part (length done.elements)) }
+        ensures covers { IfOk result (λ done.
+            J.Covers self.now.job done.part (length done.elements)) }
     {
-        let _passes = self.job.passes(&self.plan);
         let unit = self.job.unit(alloc);
         match self.one(alloc, pool, 0, unit, elements) {
             Ok(done) => Ok(done),
@@ -90,8 +105,8 @@ impl<J: Job> Passes<J> {
         }
     }
 
-    /// A later pass over the elements of the one before, whose part it carries. The words are added to those drawn
-    /// so far.
+    /// A later pass over the elements of the one before, whose part it carries. The words are
+    /// added to those drawn so far.
     fn next<P: Pool<J>>(
         &self,
         alloc: Global,
@@ -99,23 +114,22 @@ impl<J: Job> Passes<J> {
         number: u8,
         done: PassDone<J::Element, J::Part>,
     ) -> Result<PassDone<J::Element, J::Part>, CycleFault>
-        requires fit { J.Fit (arc_value self.now.job) (arc_value self.now.plan) }
-        requires cycle { self.now.cycle ≤ 1000000 }
-        requires number { number < J.meaning.passes_of (arc_value self.now.job) (arc_value self.now.plan) }
+        requires number { number < J.meaning.passes_of self.now.job self.now.plan }
         requires few_passes { number < 8 }
-        requires own { All (J.Own (arc_value self.now.job)) done.elements }
+        requires own { All (J.Own self.now.job) done.elements }
         requires drew { length done.draws ≡ length done.elements }
         requires few_drawn { All (λ draws. draws ≤ number * 65535) done.draws }
-        requires covers { J.Covers (arc_value self.now.job) done.part (length done.elements) }
-        ensures pass { ArePasses result (next_pass J.meaning (arc_value self.now.job) (arc_value self.now.plan)
+        requires covers { J.Covers self.now.job done.part (length done.elements) }
+        ensures pass { ArePasses result (next_pass J.meaning self.now.job self.now.plan
             self.now.seed self.now.cycle number (passed_of done)) }
-        ensures own { IfOk result (λ next. All (J.Own (arc_value self.now.job)) next.elements) }
+        ensures own { IfOk result (λ next. All (J.Own self.now.job) next.elements) }
         ensures many { IfOk result (λ next. length next.elements ≡ length done.elements) }
         ensures drew { IfOk result (λ next. length next.draws ≡ length next.elements) }
-        ensures few_drawn { IfOk result (λ next. All (λ draws. draws ≤ (number + 1) * 65535) next.draws) }
-        ensures covers { IfOk result (λ next. J.Covers (arc_value self.now.job) next.part (length next.elements)) }
+        ensures few_drawn { IfOk result (λ next.
+            All (λ draws. draws ≤ (number + 1) * 65535) next.draws) }
+        ensures covers { IfOk result (λ next.
+            J.Covers self.now.job next.part (length next.elements)) }
     {
-        let _count = done.elements.len();
         let elements = shared(alloc, done.elements)?;
         match self.one(alloc, pool, number, done.part, elements) {
             Ok(next) => Ok(PassDone {
@@ -134,16 +148,15 @@ impl<J: Job> Passes<J> {
         pool: &mut P,
         elements: Arc<Container<J::Element>, Global>,
     ) -> Result<PassDone<J::Element, J::Part>, CycleFault>
-        requires fit { J.Fit (arc_value self.now.job) (arc_value self.now.plan) }
-        requires cycle { self.now.cycle ≤ 1000000 }
         requires few { length (arc_value elements) ≤ 65536 }
-        requires own { All (J.Own (arc_value self.now.job)) (arc_value elements) }
-        ensures passes { ArePasses result (all_passes J.meaning (arc_value self.now.job) (arc_value self.now.plan)
+        requires own { All (J.Own self.now.job) (arc_value elements) }
+        ensures passes { ArePasses result (all_passes J.meaning self.now.job self.now.plan
             self.now.seed self.now.cycle (arc_value elements)) }
-        ensures own { IfOk result (λ done. All (J.Own (arc_value self.now.job)) done.elements) }
+        ensures own { IfOk result (λ done. All (J.Own self.now.job) done.elements) }
         ensures many { IfOk result (λ done. length done.elements ≡ length (arc_value elements)) }
         ensures drew { IfOk result (λ done. length done.draws ≡ length done.elements) }
-        ensures covers { IfOk result (λ done. J.Covers (arc_value self.now.job) done.part (length done.elements)) }
+        ensures covers { IfOk result (λ done.
+            J.Covers self.now.job done.part (length done.elements)) }
     {
         let mut done = self.first(alloc, pool, elements)?;
         for number in 1..self.job.passes(&self.plan) {

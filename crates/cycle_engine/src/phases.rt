@@ -31,12 +31,11 @@ pub(crate) fn finish<J: Job>(
     globals: &J::Globals,
     last: PassDone<J::Element, J::Part>,
 ) -> Result<CycleDone<J::Globals, J::Element>, CycleFault>
-    requires fit { J.Fit (arc_value passes.now.job) (arc_value passes.now.plan) }
-    requires own { All (J.Own (arc_value passes.now.job)) last.elements }
+    requires own { All (J.Own passes.now.job) last.elements }
     requires drew { length last.draws ≡ length last.elements }
-    requires covers { J.Covers (arc_value passes.now.job) last.part (length last.elements) }
-    ensures cycle { IsCycle result passes.now.seed (concluded J.meaning (arc_value passes.now.job) globals.now
-        (arc_value passes.now.plan) passes.now.seed (passed_of last)) }
+    requires covers { J.Covers passes.now.job last.part (length last.elements) }
+    ensures cycle { IsCycle result passes.now.seed (concluded J.meaning passes.now.job globals.now
+        passes.now.plan passes.now.seed (passed_of last)) }
     ensures elements { IfOk result (λ done. arc_value done.elements ≡ last.elements) }
 {
     let shown = show(alloc, &*passes.job, &last.elements, &last.draws)?;

@@ -17,8 +17,10 @@ fn put_shown<J: Job>(
     out: &mut Vec<u8>,
 ) -> Result<(), OutOfMemory>
     requires { J.Own job.now element.now }
-    ensures ok { OnOk result (out.new.items ≡ out.old.items ++ spelled_drawn (an_element (J.meaning.shown job.now element.now) draws)) }
-    ensures fields { OnOk result (IsDrawn (an_element (J.meaning.shown job.now element.now) draws)) }
+    ensures ok { OnOk result (out.new.items ≡ out.old.items
+        ++ spelled_drawn (an_element (J.meaning.shown job.now element.now) draws)) }
+    ensures fields { OnOk result (
+        IsDrawn (an_element (J.meaning.shown job.now element.now) draws)) }
 {
     let at = out.len();
     out.extend_from_slice(&[0, 0])?;
@@ -38,8 +40,10 @@ fn put_block<J: Job>(
 ) -> Result<(), OutOfMemory>
     requires own { All (J.Own job.now) elements.now }
     requires drew { length draws.now ≡ length elements.now }
-    ensures ok { OnOk result (out.new.items ≡ out.old.items ++ spelled_all (shown_with J.meaning job.now elements.now draws.now)) }
-    ensures fields { OnOk result (All IsDrawn (shown_with J.meaning job.now elements.now draws.now)) }
+    ensures ok { OnOk result (out.new.items ≡ out.old.items
+        ++ spelled_all (shown_with J.meaning job.now elements.now draws.now)) }
+    ensures fields { OnOk result (
+        All IsDrawn (shown_with J.meaning job.now elements.now draws.now)) }
 {
     for i in 0..elements.len() {
         put_shown(job, &elements[i], draws[i], out)?;

@@ -6,7 +6,8 @@ pub returns-in-Ok-clause-drew : goal.returns-in-Ok-clause-drew
 returns-in-Ok-clause-drew g c =
     let same = ap length c.in_ok-elements.ensures in
     let drew = c.in-Ok.ensures.drew ∙ same in
-    ap length c.in_ok-sums-in-Ok.ensures ∙ length-added _ _ (c.requires.drew ∙ sym drew) ∙ c.requires.drew ∙ sym (c.in-Ok.ensures.many ∙ same)
+    ap length c.in_ok-sums-in-Ok.ensures ∙ length-added _ _ (c.requires.drew ∙ sym drew) ∙ c.requires.drew
+    ∙ sym (c.in-Ok.ensures.many ∙ same)
 
 pub returns-in-Ok-clause-few_drawn : goal.returns-in-Ok-clause-few_drawn
 returns-in-Ok-clause-few_drawn g c =

@@ -6,9 +6,10 @@ use Rattle.job_trait.specs.Cycle.{all_passes, passes_on}
 use Rattle.cycle_engine.proofs.passes.Passes.run.Given as goal
 
 abbrev pub invariant-loop-number : goal.invariant-loop-number
-invariant-loop-number g l = let b = g.J.Job in let job = arc_value l.self.job in let plan = arc_value l.self.plan in record {
+invariant-loop-number g l = let b = g.J.Job in let s = l.self in let job = s.job in let plan = s.plan in record {
   count : l.number-end ≡ b.meaning.passes_of job plan;
-  rest : all_passes b.meaning job plan l.self.seed l.self.cycle (arc_value l.fn.elements) ≡ passes_on b.meaning job plan l.self.seed l.self.cycle (l.number-end - l.number) l.number (Ok (passed_of l.done));
+  rest : all_passes b.meaning job plan s.seed s.cycle (arc_value l.fn.elements)
+      ≡ passes_on b.meaning job plan s.seed s.cycle (l.number-end - l.number) l.number (Ok (passed_of l.done));
   many : length l.done.elements ≡ length (arc_value l.fn.elements);
   own : All (b.Own job) l.done.elements;
   drew : length l.done.draws ≡ length l.done.elements;
