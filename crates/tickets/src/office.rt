@@ -6,7 +6,8 @@ use crate::view::{TicketRule, View};
 use atomic_table::{Seat, Table};
 use std::alloc::{AllocError, Global};
 
-/// What the seats of a keeper and of its tickets lie at, and the seat of the keeper that is to come.
+/// What the seats of a keeper and of its tickets lie at, and the seat of the keeper that is to
+/// come.
 #[derive(Drop)]
 pub struct Office<T> {
     pub(crate) table: Table<(), View<T>, (), TicketRule, Global>,
