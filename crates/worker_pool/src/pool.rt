@@ -1,0 +1,78 @@
+//! One pass on threads of its own.
+ghost use Rattle.std.specs.Prelude.{◌≡◌, ◌≤◌};
+ghost use Rattle.std.specs.Arc.{arc_value};
+ghost use Rattle.job_trait.specs.Passes.{IsReady, IsAnswer};
+ghost use Rattle.worker_pool.specs.Crews.{room_name};
+
+use crate::crew::Crew;
+use crate::gate::Gate;
+use crate::room::CrewRoom;
+use job_trait::{Job, PassDone, PassOf, Pool, PoolFault};
+use std::alloc::Global;
+use std::marker::Brand;
+use std::sync::Arc;
+use std::thread::Threads;
+use tickets::Room;
+
+/// Runs one pass with a crew in this room.
+fn run_in_room<J, B, G, R>(
+    rt: &R,
+    alloc: Global,
+    room: CrewRoom<J>,
+    pass: &Arc<PassOf<J>, Global>,
+    workers: u32,
+    gate: &Arc<G, Global>,
+) -> Result<PassDone<J::Element, J::Part>, PoolFault>
+where
+    J: Job + Send + Sync + 'static,
+    J::Globals: Send + 'static,
+    J::Element: Send + Sync + 'static,
+    J::Plan: Send + Sync + 'static,
+    J::Part: Send + Sync + 'static,
+    B: Room + Send + Sync + 'static,
+    G: Gate + Send + Sync + 'static,
+    R: Threads,
+    requires room { room_name room ≡ B.table }
+    requires ready { IsReady J.meaning J.Covers J.Own J.Fit (arc_value pass.now) }
+    requires workers { (1 ≤ workers) × (workers ≤ 64) }
+    ensures { IsAnswer J.meaning J.Covers J.Own (arc_value pass.now) result }
+{
+    let mut crew = Crew::<J, B, G>::start(rt, alloc, room, workers, gate)?;
+    let done = crew.run_pass(alloc, pass);
+    crew.stop(rt);
+    done
+}
+
+/// Runs one pass over all elements on a number of workers, from 1 to 64, on threads of its own.
+///
+/// The refusal of the least element that refuses is answered, with its code. Each worker calls
+/// `gate.enter` once with its number before it looks for its first block. No more threads are
+/// started than there are blocks: a worker that can get none enters on the caller's thread.
+pub fn run_worker_pool<J, G, R>(
+    rt: &R,
+    alloc: Global,
+    pass: &Arc<PassOf<J>, Global>,
+    workers: u32,
+    gate: &Arc<G, Global>,
+) -> Result<PassDone<J::Element, J::Part>, PoolFault>
+where
+    J: Job + Send + Sync + 'static,
+    J::Globals: Send + 'static,
+    J::Element: Send + Sync + 'static,
+    J::Plan: Send + Sync + 'static,
+    J::Part: Send + Sync + 'static,
+    G: Gate + Send + Sync + 'static,
+    R: Threads,
+    requires ready { IsReady J.meaning J.Covers J.Own J.Fit (arc_value pass.now) }
+    requires workers { (1 ≤ workers) × (workers ≤ 64) }
+    ensures { IsAnswer J.meaning J.Covers J.Own (arc_value pass.now) result }
+{
+    let room = CrewRoom::new(alloc)?;
+    let blocks = ((pass.elements.len() + 63) / 64) as u32;
+    let busy = workers.min(blocks.max(1));
+    let done = run_in_room::<J, Brand, G, R>(rt, alloc, room, pass, busy, gate);
+    for worker in busy..workers {
+        gate.enter(worker);
+    }
+    done
+}
