@@ -1,16 +1,17 @@
 -- A worker's last block gets its mark.
-use Rattle.std.proofs.Common.{◌≡◌, ℕ, ◌+◌, ◌<◌, ◌≤◌, List, [], ◌∷◌, ◌++◌, length, map, Option, Some, None, Result, is_err, sym, refl, ap, ◌∙◌, subst, inl, inr, arith, append_assoc, length-append}
+use Rattle.std.proofs.Common.{◌≡◌, ℕ, ◌+◌, ◌<◌, ◌≤◌, List, [], ◌∷◌, ◌++◌, length, map, Result, is_err, sym, refl, ap, ◌∙◌, subst, inl, inr, arith, append_assoc, length-append}
 use mathlib.Core.List.{map-append}
 use Rattle.worker_pool.specs.declared.view.Mark.{Mark}
 use Rattle.worker_pool.specs.declared.view.Mark.TheVariants.{Open, Finished, Reported, Skipped}
 use Rattle.worker_pool.specs.declared.view.PoolEntry.{PoolEntry}
 use Rattle.worker_pool.specs.declared.view.PoolView.{PoolView}
 use Rattle.job_trait.specs.Pass.{Passed, Refusal}
-use Rattle.worker_pool.specs.declared.answers.BlockResult.{BlockResult}
-use Rattle.worker_pool.specs.declared.answers.BlockAnswer.{BlockAnswer}
+use Rattle.pass_in_blocks.specs.declared.answers.BlockResult.{BlockResult}
+use Rattle.pass_in_blocks.specs.declared.answers.BlockAnswer.{BlockAnswer}
+use Rattle.pass_in_blocks.specs.Answers.{answer_of}
 use Rattle.worker_pool.specs.Views.{entry, view, Stands, marked, Below, taken, passed, with_mark}
 use Rattle.worker_pool.specs.Gather.{refuses}
-use Rattle.worker_pool.specs.Results.{Rising, answer_of, shown, IsHonest, Honest, result_at, results_of, Tidy, Works, Ends}
+use Rattle.worker_pool.specs.Results.{Rising, shown, IsHonest, Honest, result_at, results_of, Tidy, Works}
 use Rattle.worker_pool.proofs.Entries.{below_append, below_more}
 use Rattle.worker_pool.proofs.Marks.{here, there}
 
@@ -78,13 +79,6 @@ module _ {E P : Type 0} (block : ℕ → Result (Passed E P) Refusal) where
       let now : answer_of a ≡ block v.seen = right_answer ∙ ap block is in
       subst (λ (ps : List (BlockResult E P)). Works block u ps) (sym pushed)
       (works_more v u k rs (record { block = b; answer = a } ∷ []) h (honest (ap is_err now)) (marked_view v lk u k b h.tidy.below (same ∙ took) is got) ((λ i. (is i, now i) ∷ []) ∙ sym kept))
-
-  -- what the end of a block says
-  pub ends_skipped : (b : ℕ) (v w : PoolView) (x : Option (BlockAnswer E P)) → Ends block b v x w → x ≡ None → w ≡ with_mark b Skipped v
-  ends_skipped b v w x h is = subst (λ (y : Option (BlockAnswer E P)). Ends block b v y w) is h
-
-  pub ends_done : (b : ℕ) (v w : PoolView) (x : Option (BlockAnswer E P)) (a : BlockAnswer E P) → Ends block b v x w → x ≡ Some a → (w ≡ v) × (answer_of a ≡ block b)
-  ends_done b v w x a h is = subst (λ (y : Option (BlockAnswer E P)). Ends block b v y w) is h
 
 pub taken_stands : (v w u : PoolView) (b : ℕ) → b ≡ v.seen → w ≡ taken v → u ≡ w → Stands b Open u.entries
 taken_stands v w u b is took same = subst (λ (x : PoolView). Stands b Open x.entries) (sym (same ∙ took)) (subst (λ (x : ℕ). Stands x Open (v.entries ++ entry v.seen Open ∷ [])) (sym is) (stands_last v.seen Open v.entries))

@@ -10,7 +10,7 @@ use Rattle.worker_pool.specs.declared.view.Mark.{Mark}
 use Rattle.worker_pool.specs.declared.view.Mark.TheVariants.{Open, Finished, Reported, Skipped}
 use Rattle.worker_pool.specs.declared.view.PoolEntry.{PoolEntry}
 use Rattle.worker_pool.specs.declared.view.PoolView.{PoolView}
-use Rattle.worker_pool.specs.Views.{entry, fresh, times, reported, Stands, IsAbove, marked, total, taken, passed, with_mark, kept_half, other_half, joined}
+use Rattle.worker_pool.specs.Views.{entry, fresh, times, reported, Stands, IsAbove, marked, total, taken, passed, with_mark, one_less, newcomer, joined}
 use Rattle.worker_pool.specs.Rule.{PoolState}
 use Rattle.worker_pool.specs.Machine.{Machine, machine, next, claim, finish, look, report, Has, after}
 use Rattle.worker_pool.specs.Moves.{moved, regrouped}
@@ -151,7 +151,7 @@ module _ (blocks : ℕ) (s : PoolState) (id : ℕ) (v : PoolView) (m : Machine) 
     },
   )
 
-  pub splits_no_event : 2 ≤ v.shares → Becomes blocks (regrouped s (set s.views id (kept_half v) ++ other_half v ∷ [])) m
+  pub splits_no_event : 2 ≤ v.shares → Becomes blocks (regrouped s (set s.views id (one_less v) ++ newcomer ∷ [])) m
   splits_no_event two = (
     split_allowed blocks id v two s h.ruled h.seat,
     record {
@@ -159,12 +159,12 @@ module _ (blocks : ℕ) (s : PoolState) (id : ℕ) (v : PoolView) (m : Machine) 
       claimed = h.shows.claimed;
       counted = h.shows.counted;
       marks = λ j u b k at st. ⊎_elim
-          (λ (e : get_elem? (set s.views id (kept_half v)) j ≡ some u). ⊎_elim
-          (λ (x : (j ≡ id) × (kept_half v ≡ u)). h.shows.marks id v b k h.seat (subst (λ (z : PoolView). Stands b k z.entries) (sym x.1) st))
+          (λ (e : get_elem? (set s.views id (one_less v)) j ≡ some u). ⊎_elim
+          (λ (x : (j ≡ id) × (one_less v ≡ u)). h.shows.marks id v b k h.seat (subst (λ (z : PoolView). Stands b k z.entries) (sym x.1) st))
           (λ (x : (j ≢ id) × (get_elem? s.views j ≡ some u)). h.shows.marks j u b k x.1 st)
-          (at_set s.views id j (kept_half v) u e))
-          (λ (e : other_half v ≡ u). absurd (subst (λ (z : PoolView). Stands b k z.entries) (sym e) st))
-          (at_snoc (set s.views id (kept_half v)) (other_half v) u j at);
+          (at_set s.views id j (one_less v) u e))
+          (λ (e : newcomer ≡ u). absurd (subst (λ (z : PoolView). Stands b k z.entries) (sym e) st))
+          (at_snoc (set s.views id (one_less v)) newcomer u j at);
     },
   )
 

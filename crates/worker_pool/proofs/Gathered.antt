@@ -4,11 +4,12 @@ use mathlib.Core.Option.{some}
 use lib.ListN.{get_elem?}
 use Rattle.std.proofs.lemmas.Bool.{lt-ltb, ltb-true}
 use Rattle.job_trait.specs.Meaning.{Meaning}
+use Rattle.job_trait.specs.Passes.{blocks_of}
 use Rattle.job_trait.specs.Pass.{Passed, Refusal, passed, block}
 use Rattle.worker_pool.specs.declared.view.Mark.{Mark}
 use Rattle.worker_pool.specs.declared.view.Mark.TheVariants.{Open, Finished, Reported, Skipped}
 use Rattle.worker_pool.specs.Views.{no_block}
-use Rattle.worker_pool.specs.Machine.{Machine, next, start, Event, Has, Leads, HasEnded, blocks_of}
+use Rattle.worker_pool.specs.Machine.{Machine, next, start, Event, Has, Leads, HasEnded}
 use Rattle.worker_pool.specs.Gather.{refuses, together, gather}
 use Rattle.worker_pool.proofs.InBlocks.{all_done, least_refuses}
 use Rattle.worker_pool.proofs.Schedules.{Kept, run_kept, start_kept, at_inside}

@@ -7,7 +7,7 @@ use Rattle.std.proofs.lemmas.List.{take_all}
 use Rattle.element_random.specs.Words.{key}
 use Rattle.job_trait.specs.Meaning.{Meaning}
 use Rattle.job_trait.specs.Pass.{Passed, Refusal, nothing, more, taken, passed, block}
-use Rattle.worker_pool.specs.Machine.{blocks_of}
+use Rattle.job_trait.specs.Passes.{blocks_of}
 use Rattle.worker_pool.specs.Gather.{beside, refuses, left_by, together}
 
 append_nil : {A : Type 0} (es : List A) → es ++ [] ≡ es

@@ -1,4 +1,3 @@
-mod Assembling
 mod Done
 mod Entries
 mod Events
@@ -7,11 +6,6 @@ mod InBlocks
 mod Kept
 mod MarkKept
 mod Marks
-mod Placing
-mod Pooling
-mod Refusals
-mod Running
+mod Right
 mod Schedules
-mod Settled
 mod Sharing
-mod Sound

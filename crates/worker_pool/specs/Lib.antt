@@ -1,13 +1,11 @@
+pub mod Crews
 pub mod Gather
 pub mod Handles
-pub mod IsPass
 pub mod Machine
+pub mod Messages
 pub mod Moves
-pub mod Pool
 pub mod Results
 pub mod Rule
 pub mod Shown
 pub mod Steps
-pub mod Sums
-pub mod Tasks
 pub mod Views

@@ -1,15 +1,11 @@
 -- The pool as a machine: which blocks are claimed, and what became of them. It knows no workers, so
 -- every schedule of any number of workers is a list of its events.
-use Rattle.std.specs.Prelude.{◌≡◌, ℕ, ◌+◌, ◌/◌, ◌<◌, ◌⊎◌, min, Bool, true, false, cond, ltb, List, [], ◌∷◌, ◌++◌, length, slice_set}
+use Rattle.std.specs.Prelude.{◌≡◌, ℕ, ◌<◌, ◌⊎◌, min, Bool, true, false, cond, ltb, List, [], ◌∷◌, ◌++◌, length, slice_set}
 use mathlib.Core.Option.{some}
 use lib.ListN.{get_elem?}
 use Rattle.worker_pool.specs.declared.view.Mark.{Mark}
 use Rattle.worker_pool.specs.declared.view.Mark.TheVariants.{Open, Finished, Reported, Skipped}
 use Rattle.worker_pool.specs.Views.{no_block}
-
--- the blocks of n elements, 64 to a block
-abbrev pub blocks_of : ℕ → ℕ
-blocks_of n = (n + 63) / 64
 
 -- the mark of each claimed block, and the least block that was reported
 pub record Machine : Type 0 where

@@ -1,16 +1,14 @@
 -- What a worker has done: the marks of its entries, and its results.
-use Rattle.std.specs.Prelude.{◌≡◌, ℕ, ◌+◌, ◌≤◌, ◌⊎◌, true, false, List, [], ◌∷◌, ◌++◌, map, Option, None, Some, Result, Ok, Err}
+use Rattle.std.specs.Prelude.{◌≡◌, ℕ, ◌+◌, ◌≤◌, ◌⊎◌, true, false, List, [], ◌∷◌, ◌++◌, map, Result}
 use Rattle.job_trait.specs.Pass.{Passed, Refusal}
 use Rattle.worker_pool.specs.declared.view.Mark.{Mark}
 use Rattle.worker_pool.specs.declared.view.Mark.TheVariants.{Open, Finished, Reported, Skipped}
 use Rattle.worker_pool.specs.declared.view.PoolEntry.{PoolEntry}
 use Rattle.worker_pool.specs.declared.view.PoolView.{PoolView}
-use Rattle.worker_pool.specs.declared.answers.BlockAnswer.{BlockAnswer}
-use Rattle.worker_pool.specs.declared.answers.BlockAnswer.TheVariants.{Done, Refused}
-use Rattle.worker_pool.specs.declared.answers.BlockResult.{BlockResult}
-use Rattle.worker_pool.specs.Views.{Stands, Below, with_mark}
+use Rattle.pass_in_blocks.specs.declared.answers.BlockResult.{BlockResult}
+use Rattle.pass_in_blocks.specs.Answers.{answer_of}
+use Rattle.worker_pool.specs.Views.{Stands, Below}
 use Rattle.worker_pool.specs.Gather.{refuses}
-use Rattle.worker_pool.specs.IsPass.{passed_of}
 
 -- each block is above those before it, and the first is n or more
 abbrev pub Rising : ℕ → List PoolEntry → Type 0
@@ -22,10 +20,6 @@ abbrev pub Stops : List PoolEntry → Type 0
 Stops es = (b : ℕ) × (Stands b Reported es ⊎ Stands b Skipped es)
 
 module _ {E P : Type 0} where
-  abbrev pub answer_of : BlockAnswer E P → Result (Passed E P) Refusal
-  answer_of (Done done) = Ok (passed_of done)
-  answer_of (Refused element code) = Err (record { element = element; code = code })
-
   abbrev pub shown : BlockResult E P → ℕ × Result (Passed E P) Refusal
   shown r = (r.block, answer_of r.answer)
 
@@ -63,8 +57,3 @@ module _ {E P : Type 0} (block : ℕ → Result (Passed E P) Refusal) where
   pub record Works (v : PoolView) (rs : List (BlockResult E P)) : Type 0 where
     pub tidy : Tidy v
     pub results : map shown rs ≡ results_of v.entries
-
-  -- Block b was Open in the view v and was run. There is an answer, or it was skipped.
-  abbrev pub Ends : ℕ → PoolView → Option (BlockAnswer E P) → PoolView → Type 0
-  Ends b v (Some answer) w = (w ≡ v) × (answer_of answer ≡ block b)
-  Ends b v None w = w ≡ with_mark b Skipped v

@@ -1,6 +1,6 @@
 -- What a worker knows of a pass: an entry for each block that it claimed, the blocks that it has seen, and
 -- its shares of the table.
-use Rattle.std.specs.Prelude.{◌≡◌, ℕ, ◌+◌, ◌-◌, ◌/◌, ◌<◌, ◌≤◌, ◌==◌, min, max, cond, List, [], ◌∷◌, ◌++◌, ◌⊎◌}
+use Rattle.std.specs.Prelude.{◌≡◌, ℕ, ◌+◌, ◌-◌, ◌<◌, ◌≤◌, ◌==◌, min, max, cond, List, [], ◌∷◌, ◌++◌, ◌⊎◌}
 use Rattle.worker_pool.specs.declared.view.Mark.{Mark}
 use Rattle.worker_pool.specs.declared.view.Mark.TheVariants.{Open, Finished, Reported, Skipped}
 use Rattle.worker_pool.specs.declared.view.PoolEntry.{PoolEntry}
@@ -91,12 +91,12 @@ fresh shares = view [] 0 shares
 abbrev pub joined : PoolView → PoolView → PoolView
 joined v w = view (v.entries ++ w.entries) (max v.seen w.seen) (v.shares + w.shares)
 
--- what a seat keeps that is split, and what a new one begins with
-abbrev pub kept_half : PoolView → PoolView
-kept_half v = view v.entries v.seen (v.shares - v.shares / 2)
+-- a seat that gave one of its shares to a new seat, and the new seat
+abbrev pub one_less : PoolView → PoolView
+one_less v = view v.entries v.seen (v.shares - 1)
 
-abbrev pub other_half : PoolView → PoolView
-other_half v = fresh (v.shares / 2)
+abbrev pub newcomer : PoolView
+newcomer = fresh 1
 
 -- what the last seat knows of the whole pass
 pub record Whole (v : PoolView) : Type 0 where

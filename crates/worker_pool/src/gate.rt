@@ -1,13 +1,27 @@
 //! What each worker passes before it looks for its first block.
+use std::hint;
 use std::sync::atomic::{AtomicBool, Ordering};
+use std::thread;
 
-pub trait Gate: Sync {
+/// The looks for work after which an idle thread lets others run between two looks.
+const BUSY_LOOKS: u32 = 1_000;
+
+pub trait Gate: Drop {
     /// Each worker calls it once in a pass, with its number, counted from 0.
     fn enter(&self, worker: u32);
+
+    /// A kept thread calls it where it has found no work, and had found none so often before.
+    fn rest(&self, looks: u32) {
+        if looks < BUSY_LOOKS {
+            hint::spin_loop();
+        } else {
+            thread::yield_now();
+        }
+    }
 }
 
 /// Lets every worker through.
-#[derive(Clone, Copy, Debug)]
+#[derive(Clone, Copy, Debug, Drop)]
 pub struct NoGate;
 
 impl Gate for NoGate {

@@ -3,12 +3,13 @@
 ghost use Rattle.std.specs.Prelude.{◌≡◌, ◌≢◌, ℕ, ◌+◌, ◌<◌, ◌≤◌, List, [], ◌∷◌, ◌++◌, length, min, slice_index, slice_set, Result};
 ghost use mathlib.Core.Option.{some};
 ghost use lib.ListN.{get_elem?};
+ghost use Rattle.job_trait.specs.Passes.{blocks_of};
 ghost use Rattle.job_trait.specs.Pass.{Passed, Refusal, passed as passed_in_order, block};
 ghost use Rattle.worker_pool.specs.Gather.{gather, refuses};
-ghost use Rattle.worker_pool.specs.Machine.{Machine, Event, claim, finish, look, report, Has, after, next, start, Leads, HasEnded, blocks_of};
+ghost use Rattle.worker_pool.specs.Machine.{Machine, Event, claim, finish, look, report, Has, after, next, start, Leads, HasEnded};
 ghost use Rattle.worker_pool.specs.declared.view.Mark.TheVariants.{Open, Finished, Reported, Skipped};
 ghost use Rattle.worker_pool.specs.declared.view.PoolView.{PoolView};
-ghost use Rattle.worker_pool.specs.Views.{Stands, taken, passed, with_mark, kept_half, other_half, joined, fresh};
+ghost use Rattle.worker_pool.specs.Views.{Stands, taken, passed, with_mark, one_less, newcomer, joined, fresh};
 ghost use Rattle.worker_pool.specs.Rule.{PoolState};
 ghost use Rattle.worker_pool.specs.Shown.{At, Becomes};
 ghost use Rattle.worker_pool.specs.Moves.{moved, regrouped};
@@ -41,7 +42,7 @@ pub fn steps_are_events()
         → At blocks s id v m → Becomes blocks (moved s 0 (slice_index s.words 0) id v) m }
     ensures split { (blocks : ℕ) (s : PoolState) (id : ℕ) (v : PoolView) (m : Machine)
         → At blocks s id v m → 2 ≤ v.shares
-        → Becomes blocks (regrouped s (slice_set s.views id (kept_half v) ++ other_half v ∷ [])) m }
+        → Becomes blocks (regrouped s (slice_set s.views id (one_less v) ++ newcomer ∷ [])) m }
     ensures join { (blocks : ℕ) (s : PoolState) (id : ℕ) (v : PoolView) (m : Machine)
         → At blocks s id v m → (other : ℕ) (w : PoolView) → other ≢ id → get_elem? s.views other ≡ some w
         → Becomes blocks (regrouped s (slice_set (slice_set s.views id (joined v w)) other (fresh 0))) m }

@@ -1,7 +1,7 @@
 //! What each step tells the worker that makes it, as the table's steps ask for it.
 ghost use Rattle.std.specs.Prelude.{ℕ};
 ghost use Rattle.worker_pool.specs.Steps.{claims, finishes, looks, reports, tells};
-ghost use Rattle.worker_pool.specs.Views.{kept_half, other_half, joined, fresh};
+ghost use Rattle.worker_pool.specs.Views.{one_less, newcomer, joined, fresh};
 
 use crate::view::PoolView;
 use atomic_table::{Join, Play, Split};
@@ -63,15 +63,16 @@ impl Play<(), PoolView> for Tell {
     ghost then = { tells };
 }
 
-pub struct Halves;
+/// Gives one share to a new seat, and brings two seats together.
+pub struct Shares;
 
-impl Split<PoolView> for Halves {
-    ghost left = { kept_half };
+impl Split<PoolView> for Shares {
+    ghost left = { one_less };
 
-    ghost right = { other_half };
+    ghost right = { λ _. newcomer };
 }
 
-impl Join<PoolView> for Halves {
+impl Join<PoolView> for Shares {
     ghost both = { joined };
 
     ghost spent = { fresh 0 };

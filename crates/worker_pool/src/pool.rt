@@ -1,78 +1,78 @@
-//! A pass on several threads.
-ghost use Rattle.std.specs.Prelude.{◌≡◌, ◌<◌, ◌≤◌, length, IfOk, IfErr};
-ghost use Rattle.std.specs.List.{All};
-ghost use Rattle.job_trait.specs.Laws.{CoversSome};
-ghost use Rattle.job_trait.specs.Pass.{passed};
-ghost use Rattle.worker_pool.specs.IsPass.{passed_of, IsPass, RefusedBelow};
+//! One pass on threads of its own.
+ghost use Rattle.std.specs.Prelude.{◌≡◌, ◌≤◌};
+ghost use Rattle.std.specs.Arc.{arc_value};
+ghost use Rattle.job_trait.specs.Passes.{IsReady, IsAnswer};
+ghost use Rattle.worker_pool.specs.Crews.{room_name};
 
-use crate::answers::{PassDone, PoolFault};
-use crate::divide::{Share, divide};
+use crate::crew::Crew;
 use crate::gate::Gate;
-use crate::gather::gather;
-use crate::plain::run_in_order;
-use crate::seat::PassTable;
-use crate::task::Task;
-use job_trait::Job;
+use crate::room::CrewRoom;
+use job_trait::{Job, PassDone, PassOf, Pool, PoolFault};
 use std::alloc::Global;
+use std::marker::Brand;
+use std::sync::Arc;
 use std::thread::Threads;
+use tickets::Room;
 
-/// Runs one pass over all elements on a number of workers, from 1 to 64.
-///
-/// `carry` is the part of the pass before, or the unit in pass 0. The refusal of the least element that refuses is
-/// answered, with its code. Each worker calls `gate.enter` once with its number before it looks for its first block.
-/// No more threads are started than there are blocks: a worker that can get none enters on the thread of another. Where
-/// one thread is enough, the elements are run on the caller's, in order.
-pub fn run_worker_pool<J: Job, G: Gate, R: Threads + Sync>(
+/// Runs one pass with a crew in this room.
+fn run_in_room<J, B, G, R>(
     rt: &R,
     alloc: Global,
-    job: &J,
-    plan: &J::Plan,
-    carry: &J::Part,
-    pass: u8,
-    elements: &[J::Element],
-    seed: u64,
-    cycle: u32,
+    room: CrewRoom<J>,
+    pass: &Arc<PassOf<J>, Global>,
     workers: u32,
-    gate: &G,
+    gate: &Arc<G, Global>,
 ) -> Result<PassDone<J::Element, J::Part>, PoolFault>
-    requires fit { J.Fit job.now plan.now }
-    requires pass { pass < J.meaning.passes_of job.now plan.now }
-    requires few { length elements.now ≤ 65536 }
-    requires own { All (J.Own job.now) elements.now }
-    requires carry { CoversSome (J.Covers job.now) carry.now }
-    requires cycle { cycle ≤ 1000000 }
+where
+    J: Job + Send + Sync + 'static,
+    J::Globals: Send + 'static,
+    J::Element: Send + Sync + 'static,
+    J::Plan: Send + Sync + 'static,
+    J::Part: Send + Sync + 'static,
+    B: Room + Send + Sync + 'static,
+    G: Gate + Send + Sync + 'static,
+    R: Threads,
+    requires room { room_name room ≡ B.table }
+    requires ready { IsReady J.meaning J.Covers J.Own J.Fit (arc_value pass.now) }
     requires workers { (1 ≤ workers) × (workers ≤ 64) }
-    ensures pass { IsPass result (passed J.meaning job.now plan.now carry.now seed cycle pass elements.now) }
-    ensures own { IfOk result (λ done. All (J.Own job.now) done.elements) }
-    ensures many { IfOk result (λ done. length done.elements ≡ length elements.now) }
-    ensures drew { IfOk result (λ done. length done.draws ≡ length elements.now) }
-    ensures few_drawn { IfOk result (λ done. All (λ draws. draws ≤ 65535) done.draws) }
-    ensures covers { IfOk result (λ done. J.Covers job.now done.part (length elements.now)) }
-    ensures element { IfErr result (RefusedBelow (length elements.now)) }
+    ensures { IsAnswer J.meaning J.Covers J.Own (arc_value pass.now) result }
 {
-    let blocks = ((elements.len() + 63) / 64) as u32;
-    let threads = workers.min(blocks.max(1));
-    if threads == 1 {
-        for worker in 0..workers {
-            gate.enter(worker);
-        }
-        return run_in_order(alloc, job, plan, carry, pass, elements, seed, cycle);
-    }
-    let task = Task {
-        job,
-        plan,
-        carry,
-        pass,
-        elements,
-        seed,
-        cycle,
-    };
-    let (table, seat) = PassTable::new(alloc, blocks)?;
-    let share = divide(rt, alloc, &table, seat, &task, 0, threads, gate);
-    for worker in threads..workers {
+    let mut crew = Crew::<J, B, G>::start(rt, alloc, room, workers, gate)?;
+    let done = crew.run_pass(alloc, pass);
+    crew.stop(rt);
+    done
+}
+
+/// Runs one pass over all elements on a number of workers, from 1 to 64, on threads of its own.
+///
+/// The refusal of the least element that refuses is answered, with its code. Each worker calls
+/// `gate.enter` once with its number before it looks for its first block. No more threads are
+/// started than there are blocks: a worker that can get none enters on the caller's thread.
+pub fn run_worker_pool<J, G, R>(
+    rt: &R,
+    alloc: Global,
+    pass: &Arc<PassOf<J>, Global>,
+    workers: u32,
+    gate: &Arc<G, Global>,
+) -> Result<PassDone<J::Element, J::Part>, PoolFault>
+where
+    J: Job + Send + Sync + 'static,
+    J::Globals: Send + 'static,
+    J::Element: Send + Sync + 'static,
+    J::Plan: Send + Sync + 'static,
+    J::Part: Send + Sync + 'static,
+    G: Gate + Send + Sync + 'static,
+    R: Threads,
+    requires ready { IsReady J.meaning J.Covers J.Own J.Fit (arc_value pass.now) }
+    requires workers { (1 ≤ workers) × (workers ≤ 64) }
+    ensures { IsAnswer J.meaning J.Covers J.Own (arc_value pass.now) result }
+{
+    let room = CrewRoom::new(alloc)?;
+    let blocks = ((pass.elements.len() + 63) / 64) as u32;
+    let busy = workers.min(blocks.max(1));
+    let done = run_in_room::<J, Brand, G, R>(rt, alloc, room, pass, busy, gate);
+    for worker in busy..workers {
         gate.enter(worker);
     }
-    let Share { mut seat, results } = share?;
-    table.tell(&mut seat);
-    gather(alloc, &task, results)
+    done
 }

@@ -1,9 +1,9 @@
 //! How a table begins, and how seats are made, cut and brought together.
 ghost use Rattle.std.specs.Prelude.{◌≡◌, ℕ, ◌+◌, ◌<◌, ◌≤◌, IfOk};
-ghost use Rattle.worker_pool.specs.Views.{kept_half, other_half, joined, fresh, all_shares, Whole};
+ghost use Rattle.worker_pool.specs.Views.{one_less, newcomer, joined, fresh, all_shares, Whole};
 ghost use Rattle.worker_pool.specs.Handles.{view_of, block_count, IsAt, IsSameSeat};
 
-use crate::plays::{Halves, Tell};
+use crate::plays::{Shares, Tell};
 use crate::seat::{PassSeat, PassTable};
 use atomic_table::Table;
 use det_values::OutOfMemory;
@@ -11,7 +11,7 @@ use std::alloc::Global;
 
 impl PassTable {
     /// A table on which nothing is claimed, and the seat with all shares.
-    pub(crate) fn new(alloc: Global, blocks: u32) -> Result<(PassTable, PassSeat), OutOfMemory>
+    pub fn new(alloc: Global, blocks: u32) -> Result<(PassTable, PassSeat), OutOfMemory>
         ensures { IfOk result (λ made.
             (block_count made.0 ≡ blocks) × IsAt made.1 made.0 × (view_of made.1 ≡ fresh all_shares)) }
     {
@@ -21,14 +21,14 @@ impl PassTable {
         Ok((PassTable { table, blocks }, PassSeat { seat, seen: 0 }))
     }
 
-    /// Cuts the shares of a seat in two, for a new seat that has seen nothing.
-    pub(crate) fn split(&self, seat: &mut PassSeat) -> PassSeat
+    /// Gives one of a seat's shares to a new seat that has seen nothing.
+    pub fn split(&self, seat: &mut PassSeat) -> PassSeat
         requires here { IsAt seat.old self.now }
         requires two { 2 ≤ (view_of seat.old).shares }
-        ensures kept { IsSameSeat seat.new seat.old × (view_of seat.new ≡ kept_half (view_of seat.old)) }
-        ensures other { IsAt result self.now × (view_of result ≡ other_half (view_of seat.old)) }
+        ensures kept { IsSameSeat seat.new seat.old × (view_of seat.new ≡ one_less (view_of seat.old)) }
+        ensures other { IsAt result self.now × (view_of result ≡ newcomer) }
     {
-        let other = self.table.shared.split_seat::<Halves>(&mut seat.seat);
+        let other = self.table.shared.split_seat::<Shares>(&mut seat.seat);
         PassSeat {
             seat: other,
             seen: 0,
@@ -36,7 +36,7 @@ impl PassTable {
     }
 
     /// Brings two seats together: one knows what both knew.
-    pub(crate) fn join(&self, seat: &mut PassSeat, other: PassSeat)
+    pub fn join(&self, seat: &mut PassSeat, other: PassSeat)
         requires here { IsAt seat.old self.now }
         requires other { IsAt other self.now }
         ensures { IsSameSeat seat.new seat.old × (view_of seat.new ≡ joined (view_of seat.old) (view_of other)) }
@@ -47,12 +47,12 @@ impl PassTable {
         } = other;
         self.table
             .shared
-            .join_seat::<Halves>(&mut seat.seat, other_seat);
+            .join_seat::<Shares>(&mut seat.seat, other_seat);
         seat.seen = seat.seen.max(other_seen);
     }
 
     /// One load more tells the seat with all shares that it knows the whole pass.
-    pub(crate) fn tell(&self, seat: &mut PassSeat)
+    pub fn tell(&self, seat: &mut PassSeat)
         requires here { IsAt seat.old self.now }
         requires all { (view_of seat.old).shares ≡ all_shares }
         ensures { IsSameSeat seat.new seat.old × (view_of seat.new ≡ view_of seat.old) × Whole (view_of seat.old) }

@@ -1,16 +1,12 @@
-//! A pass that is to be run.
+//! What a crew works at.
+use crate::seat::PassTable;
+use job_trait::{Job, PassOf};
+use std::alloc::Global;
+use std::sync::Arc;
 
-use job_trait::Job;
-
-/// A pass that is to be run: what the workers share.
+/// A pass, and the table on which its blocks are claimed.
 #[derive(Drop)]
-pub(crate) struct Task<'a, J: Job> {
-    pub job: &'a J,
-    pub plan: &'a J::Plan,
-    /// The part of the pass before, or the unit.
-    pub carry: &'a J::Part,
-    pub pass: u8,
-    pub elements: &'a [J::Element],
-    pub seed: u64,
-    pub cycle: u32,
+pub struct Task<J: Job> {
+    pub pass: Arc<PassOf<J>, Global>,
+    pub table: PassTable,
 }

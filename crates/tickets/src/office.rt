@@ -1,0 +1,26 @@
+//! An office, before it has its keeper.
+ghost use Rattle.std.specs.Prelude.{◌≡◌, []};
+ghost use Rattle.tickets.specs.Tickets.{beginning};
+
+use crate::view::{TicketRule, View};
+use atomic_table::{Seat, Table};
+use std::alloc::{AllocError, Global};
+
+/// What the seats of a keeper and of its tickets lie at, and the seat of the keeper that is to
+/// come.
+#[derive(Drop)]
+pub struct Office<T> {
+    pub(crate) table: Table<(), View<T>, (), TicketRule, Global>,
+    pub(crate) seat: Seat<(), View<T>>,
+    ghost sized: { table.shared.table_id.words ≡ 1 },
+    ghost here: { seat.table_id ≡ table.shared.table_id },
+    ghost first: { seat.me ≡ (beginning, []) },
+}
+
+impl<T> Office<T> {
+    pub fn new(alloc: Global) -> Result<Office<T>, AllocError> {
+        let words = Vec::from_elem(alloc, 0u64, 1)?;
+        let (table, seat) = Table::of_words(alloc, words.as_slice(), &())?;
+        Ok(Office { table, seat })
+    }
+}

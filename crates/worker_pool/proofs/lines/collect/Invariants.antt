@@ -1,0 +1,10 @@
+use Rattle.std.proofs.Common.{◌≡◌}
+use Rattle.worker_pool.specs.Messages.{AreOf}
+use Rattle.worker_pool.proofs.lines.collect.Given as goal
+
+abbrev pub invariant-look : goal.invariant-look
+invariant-look g l = record {
+  keeper : l.keeper ≡ l.initial.keeper;
+  table : l.seat.seat.table_id ≡ l.initial.seat.seat.table_id;
+  right : AreOf g.J.Job.meaning l.task l.results.items;
+}

@@ -1,0 +1,94 @@
+//! A crew: threads that are kept from pass to pass.
+ghost use Rattle.std.specs.Prelude.{◌≤◌, length, IfOk};
+ghost use Rattle.std.specs.Arc.{arc_value};
+ghost use Rattle.job_trait.specs.Passes.{IsReady, block_in, blocks_in};
+ghost use Rattle.pass_in_blocks.specs.Answers.{AreRight};
+
+use crate::gate::Gate;
+use crate::line::Line;
+use crate::lines::work_together;
+use crate::seat::PassTable;
+use crate::task::Task;
+use det_values::OutOfMemory;
+use job_trait::{Job, PassDone, PassOf, Pool, PoolFault};
+use pass_in_blocks::{BlockResult, finish_pass};
+use std::alloc::Global;
+use std::marker::Model;
+use std::sync::Arc;
+use std::thread::JoinHandle;
+use tickets::{Keeper, Room};
+
+/// The passes after which no more work is given away.
+const MOST_PASSES: u64 = 1_000_000_000_000;
+
+/// The caller and threads that are kept from pass to pass. Contracts see the number of workers.
+///
+/// An answer rests on no thread: what a kept thread doesn't give in time is run by the caller. A
+/// crew is ended by `stop`.
+#[derive(Drop)]
+pub struct Crew<J: Job, B: Room, G: Gate> {
+    pub(crate) keeper: Keeper<Task<J>, B>,
+    pub(crate) lines: Vec<Line<J, B>>,
+    pub(crate) handles: Vec<JoinHandle<()>>,
+    pub(crate) workers: u32,
+    pub(crate) gate: Arc<G, Global>,
+}
+
+impl<J: Job, B: Room, G: Gate> Model for Crew<J, B, G> {
+    ghost use Rattle.std.specs.Prelude.{ℕ, ◌≤◌, ◌<◌, length};
+
+    ghost Value = { ℕ };
+
+    ghost view = { λ c. c.workers };
+
+    ghost invariant = { λ c. (1 ≤ c.workers) × (c.workers ≤ 64)
+        × (length c.lines.items < c.workers) };
+}
+
+/// The results of a pass in which the first kept threads help. Some may be missing.
+fn shared_pass<J: Job, B: Room, G: Gate>(
+    alloc: Global,
+    keeper: &mut Keeper<Task<J>, B>,
+    lines: &mut [Line<J, B>],
+    pass: &Arc<PassOf<J>, Global>,
+    gate: &G,
+) -> Result<Vec<BlockResult<J::Element, J::Part>>, OutOfMemory>
+    requires few { length lines.old ≤ 63 }
+    requires ready { IsReady J.meaning J.Covers J.Own J.Fit (arc_value pass.now) }
+    ensures { IfOk result (λ results. AreRight (block_in J.meaning (arc_value pass.now))
+        (blocks_in (arc_value pass.now)) results.items) }
+{
+    if keeper.number() >= MOST_PASSES {
+        gate.enter(0);
+        return Ok(Vec::new(alloc));
+    }
+    let blocks = (pass.elements.len() + 63) / 64;
+    let (table, seat) = PassTable::new(alloc, blocks as u32)?;
+    let pass = Arc::try_clone(pass)?;
+    let Ok(task) = Arc::new(alloc, Task { pass, table }) else {
+        return Err(OutOfMemory);
+    };
+    work_together(alloc, keeper, lines, &task, seat, gate)
+}
+
+impl<J: Job, B: Room, G: Gate> Pool<J> for Crew<J, B, G> {
+    fn run_pass(
+        &mut self,
+        alloc: Global,
+        pass: &Arc<PassOf<J>, Global>,
+    ) -> Result<PassDone<J::Element, J::Part>, PoolFault> {
+        let more = ((pass.elements.len() + 63) / 64).saturating_sub(1);
+        let helpers = more.min(self.lines.len());
+        let results = if helpers == 0 {
+            self.gate.enter(0);
+            Vec::new(alloc)
+        } else {
+            let lines = self.lines.as_mut_slice();
+            shared_pass(alloc, &mut self.keeper, &mut lines[..helpers], pass, &*self.gate)?
+        };
+        for worker in helpers as u32 + 1..self.workers {
+            self.gate.enter(worker);
+        }
+        finish_pass(alloc, &**pass, results)
+    }
+}

@@ -1,0 +1,157 @@
+//! The way to one kept thread and back.
+ghost use Rattle.std.specs.Prelude.{◌≡◌, ◌+◌, ◌≤◌, [], ◌∷◌, IfOk};
+ghost use Rattle.std.specs.Arc.{arc_value};
+ghost use Rattle.worker_pool.specs.Handles.{view_of, IsAt, IsSameSeat};
+ghost use Rattle.worker_pool.specs.Messages.{IsTask, IsWork, IsReply, AreOf};
+ghost use Rattle.worker_pool.specs.Views.{IsNew};
+
+use crate::gate::Gate;
+use crate::messages::{Reply, ReplyFits, Work, WorkFits};
+use crate::seat::PassSeat;
+use crate::task::Task;
+use crate::work::work_blocks;
+use det_values::OutOfMemory;
+use job_trait::Job;
+use pass_in_blocks::BlockResult;
+use rtrb::{Consumer, Producer};
+use std::alloc::Global;
+use std::sync::Arc;
+use tickets::{Keeper, Room};
+
+/// The way to one kept thread and back.
+#[derive(Drop)]
+pub struct Line<J: Job, B: Room> {
+    pub(crate) works: Producer<Work<J, B>, Global, WorkFits>,
+    pub(crate) replies: Consumer<Reply<J, B>, Global, ReplyFits>,
+}
+
+/// Does a piece of work. Where memory is short it has no results.
+fn reply_to<J: Job, B: Room>(alloc: Global, work: Work<J, B>) -> Reply<J, B>
+    requires { IsWork J.meaning J.Covers J.Own J.Fit work.ticket.work
+        (arc_value work.task) work.seat }
+    ensures { IsReply J.meaning result.ticket.work result.seat result.results.items }
+{
+    let Work {
+        ticket,
+        task,
+        mut seat,
+    } = work;
+    let results = match work_blocks(alloc, &task.table, &mut seat, &*task.pass) {
+        Ok(found) => found.into_vec(),
+        Err(_) => Vec::new(alloc),
+    };
+    Reply {
+        ticket,
+        seat,
+        results,
+    }
+}
+
+/// What a kept thread does until the other end of its line is gone.
+pub(crate) fn serve<J: Job, B: Room, G: Gate>(
+    alloc: Global,
+    worker: u32,
+    gate: Arc<G, Global>,
+    mut works: Consumer<Work<J, B>, Global, WorkFits>,
+    mut replies: Producer<Reply<J, B>, Global, ReplyFits>,
+) {
+    let mut idle = 0u32;
+    'serve: for _ in 0..u64::MAX {
+        match works.pop() {
+            Ok(work) => {
+                gate.enter(worker);
+                let _ = replies.push(reply_to(alloc, work));
+                idle = 0;
+            }
+            Err(_) => {
+                if works.is_abandoned() {
+                    return;
+                }
+                gate.rest(idle);
+                idle = idle.saturating_add(1);
+            }
+        }
+    }
+}
+
+/// Gives a task to a kept thread, with one of the seat's shares, and says whether it was given.
+pub(crate) fn give<J: Job, B: Room>(
+    keeper: &mut Keeper<Task<J>, B>,
+    line: &mut Line<J, B>,
+    task: &Arc<Task<J>, Global>,
+    seat: &mut PassSeat,
+) -> bool
+    requires announced { keeper.old.work ≡ arc_value task.now ∷ [] }
+    requires task { IsTask J.meaning J.Covers J.Own J.Fit (arc_value task.now) }
+    requires here { IsAt seat.old (arc_value task.now).table }
+    requires new { IsNew (view_of seat.old) }
+    requires two { 2 ≤ (view_of seat.old).shares }
+    ensures same { keeper.new ≡ keeper.old }
+    ensures seat { IsSameSeat seat.new seat.old }
+    ensures new { IsNew (view_of seat.new) }
+    ensures shares { (view_of seat.old).shares ≤ (view_of seat.new).shares + 1 }
+{
+    let Ok(theirs) = Arc::try_clone(task) else {
+        return false;
+    };
+    let ticket = keeper.ticket();
+    let newcomer = task.table.split(seat);
+    let work = Work {
+        ticket,
+        task: theirs,
+        seat: newcomer,
+    };
+    line.works.push(work).is_ok()
+}
+
+/// The results of a reply to the task that was announced last. Its seat is joined to the caller's.
+fn results_of<J: Job, B: Room>(
+    keeper: &mut Keeper<Task<J>, B>,
+    task: &Task<J>,
+    seat: &mut PassSeat,
+    reply: Reply<J, B>,
+) -> Vec<BlockResult<J::Element, J::Part>>
+    requires announced { keeper.old.work ≡ task.now ∷ [] }
+    requires present { reply.ticket.number ≡ keeper.old.number }
+    requires reply { IsReply J.meaning reply.ticket.work reply.seat reply.results.items }
+    requires here { IsAt seat.old task.now.table }
+    ensures same { keeper.new ≡ keeper.old }
+    ensures seat { IsSameSeat seat.new seat.old }
+    ensures right { AreOf J.meaning task.now result.items }
+{
+    let Reply {
+        ticket,
+        seat: other,
+        results,
+    } = reply;
+    keeper.check(ticket);
+    task.table.join(seat, other);
+    results
+}
+
+/// Adds the results of a kept thread that has replied to the task announced last, and says whether
+/// it has. A reply to an earlier task is thrown away.
+pub(crate) fn take_reply<J: Job, B: Room>(
+    keeper: &mut Keeper<Task<J>, B>,
+    line: &mut Line<J, B>,
+    task: &Task<J>,
+    seat: &mut PassSeat,
+    results: &mut Vec<BlockResult<J::Element, J::Part>>,
+) -> Result<bool, OutOfMemory>
+    requires announced { keeper.old.work ≡ task.now ∷ [] }
+    requires here { IsAt seat.old task.now.table }
+    requires right { AreOf J.meaning task.now results.old.items }
+    ensures same { keeper.new ≡ keeper.old }
+    ensures seat { IsSameSeat seat.new seat.old }
+    ensures right { IfOk result (λ came. AreOf J.meaning task.now results.new.items) }
+{
+    let Ok(reply) = line.replies.pop() else {
+        return Ok(false);
+    };
+    if reply.ticket.number() != keeper.number() {
+        return Ok(false);
+    }
+    let mut found = results_of(keeper, task, seat, reply);
+    results.append(&mut found)?;
+    Ok(true)
+}

@@ -1,0 +1,142 @@
+//! A task for all kept threads of a crew, and their replies.
+ghost use Rattle.std.specs.Prelude.{◌≡◌, ◌+◌, ◌<◌, ◌≤◌, ◌^◌, [], ◌∷◌, length, IfOk};
+ghost use Rattle.std.specs.Arc.{arc_value};
+ghost use Rattle.worker_pool.specs.Handles.{view_of, IsAt, IsSameSeat};
+ghost use Rattle.worker_pool.specs.Messages.{IsTask, AreOf};
+ghost use Rattle.worker_pool.specs.Views.{IsNew, fresh, all_shares};
+
+use crate::gate::Gate;
+use crate::line::{Line, give, take_reply};
+use crate::seat::PassSeat;
+use crate::task::Task;
+use crate::work::work_blocks;
+use det_values::OutOfMemory;
+use job_trait::Job;
+use pass_in_blocks::BlockResult;
+use std::alloc::Global;
+use std::hint;
+use std::slice;
+use std::sync::Arc;
+use std::thread;
+use tickets::{Keeper, Room};
+
+/// The looks for replies after which the caller runs the missing blocks itself: so many, and so many
+/// more for each element.
+const LEAST_LOOKS: u64 = 20_000;
+
+const LOOKS_AN_ELEMENT: u64 = 100;
+
+/// The looks after which the caller lets other threads run between two looks.
+const BUSY_LOOKS: u64 = 2_000;
+
+/// Gives the task to each kept thread, and says to how many. One that can't take it enters here.
+fn give_all<J: Job, B: Room, G: Gate>(
+    keeper: &mut Keeper<Task<J>, B>,
+    lines: &mut [Line<J, B>],
+    task: &Arc<Task<J>, Global>,
+    seat: &mut PassSeat,
+    gate: &G,
+) -> u32
+    requires few { length lines.old ≤ 63 }
+    requires announced { keeper.old.work ≡ arc_value task.now ∷ [] }
+    requires task { IsTask J.meaning J.Covers J.Own J.Fit (arc_value task.now) }
+    requires here { IsAt seat.old (arc_value task.now).table }
+    requires fresh { view_of seat.old ≡ fresh all_shares }
+    ensures same { keeper.new ≡ keeper.old }
+    ensures seat { IsSameSeat seat.new seat.old }
+    ensures new { IsNew (view_of seat.new) }
+{
+    let mut given = 0u32;
+    let mut worker = 1u32;
+    'each: for line in lines {
+        if give(keeper, line, task, seat) {
+            given += 1;
+        } else {
+            gate.enter(worker);
+        }
+        worker += 1;
+    }
+    given
+}
+
+/// Looks once for the reply of each kept thread, and says how many came.
+fn take_replies<J: Job, B: Room>(
+    keeper: &mut Keeper<Task<J>, B>,
+    lines: &mut [Line<J, B>],
+    task: &Task<J>,
+    seat: &mut PassSeat,
+    results: &mut Vec<BlockResult<J::Element, J::Part>>,
+) -> Result<u32, OutOfMemory>
+    requires announced { keeper.old.work ≡ task.now ∷ [] }
+    requires here { IsAt seat.old task.now.table }
+    requires right { AreOf J.meaning task.now results.old.items }
+    ensures same { keeper.new ≡ keeper.old }
+    ensures seat { IsSameSeat seat.new seat.old }
+    ensures right { IfOk result (λ came. AreOf J.meaning task.now results.new.items) }
+{
+    let mut came = 0u32;
+    'each: for line in lines {
+        if take_reply(keeper, line, task, seat, results)? {
+            came = came.saturating_add(1);
+        }
+    }
+    Ok(came)
+}
+
+/// Adds the results that come while blocks are missing. It looks for them a bounded number of times.
+fn collect<J: Job, B: Room>(
+    keeper: &mut Keeper<Task<J>, B>,
+    lines: &mut [Line<J, B>],
+    task: &Task<J>,
+    seat: &mut PassSeat,
+    results: &mut Vec<BlockResult<J::Element, J::Part>>,
+    given: u32,
+) -> Result<(), OutOfMemory>
+    requires announced { keeper.old.work ≡ task.now ∷ [] }
+    requires here { IsAt seat.old task.now.table }
+    requires right { AreOf J.meaning task.now results.old.items }
+    ensures right { IfOk result (λ done. AreOf J.meaning task.now results.new.items) }
+{
+    let blocks = task.table.blocks() as usize;
+    let most = LEAST_LOOKS + LOOKS_AN_ELEMENT * task.pass.elements.len() as u64;
+    let mut missing = given;
+    'look: for look in 0..most {
+        if missing == 0 || results.len() >= blocks {
+            break;
+        }
+        let came = take_replies(keeper, lines, task, seat, results)?;
+        missing = missing.saturating_sub(came);
+        if look < BUSY_LOOKS {
+            hint::spin_loop();
+        } else {
+            thread::yield_now();
+        }
+    }
+    Ok(())
+}
+
+/// The results of a task, by the caller and the kept threads. Some may be missing.
+pub(crate) fn work_together<J: Job, B: Room, G: Gate>(
+    alloc: Global,
+    keeper: &mut Keeper<Task<J>, B>,
+    lines: &mut [Line<J, B>],
+    task: &Arc<Task<J>, Global>,
+    mut seat: PassSeat,
+    gate: &G,
+) -> Result<Vec<BlockResult<J::Element, J::Part>>, OutOfMemory>
+    requires room { keeper.old.number < 2 ^ 63 }
+    requires few { length lines.old ≤ 63 }
+    requires task { IsTask J.meaning J.Covers J.Own J.Fit (arc_value task.now) }
+    requires here { IsAt seat (arc_value task.now).table }
+    requires fresh { view_of seat ≡ fresh all_shares }
+    ensures right { IfOk result (λ results.
+        AreOf J.meaning (arc_value task.now) results.items) }
+{
+    keeper.announce(slice::from_ref(&**task));
+    let given = give_all(keeper, lines, task, &mut seat, gate);
+    gate.enter(0);
+    let found = work_blocks(alloc, &task.table, &mut seat, &*task.pass)?;
+    let mut results = found.into_vec();
+    collect(keeper, lines, &**task, &mut seat, &mut results, given)?;
+    Ok(results)
+}

@@ -1,0 +1,46 @@
+//! What goes to a kept thread, and what comes back.
+use crate::seat::PassSeat;
+use crate::task::Task;
+use job_trait::Job;
+use pass_in_blocks::BlockResult;
+use rtrb::Protocol;
+use std::alloc::Global;
+use std::sync::Arc;
+use tickets::{Room, Ticket};
+
+/// A task, a seat at its table, and a ticket for it.
+#[derive(Drop)]
+pub struct Work<J: Job, B: Room> {
+    pub ticket: Ticket<Task<J>, B>,
+    pub task: Arc<Task<J>, Global>,
+    pub seat: PassSeat,
+}
+
+/// A ticket that came back, with the seat and the results of the blocks that were claimed with it.
+#[derive(Drop)]
+pub struct Reply<J: Job, B: Room> {
+    pub ticket: Ticket<Task<J>, B>,
+    pub seat: PassSeat,
+    pub results: Vec<BlockResult<J::Element, J::Part>>,
+}
+
+/// What is handed to a kept thread belongs together.
+pub struct WorkFits;
+
+impl<J: Job, B: Room> Protocol<Work<J, B>> for WorkFits {
+    ghost use Rattle.std.specs.Arc.{arc_value};
+    ghost use Rattle.worker_pool.specs.Messages.{IsWork};
+
+    ghost allows = { λ _ work. IsWork J.meaning J.Covers J.Own J.Fit work.ticket.work
+        (arc_value work.task) work.seat };
+}
+
+/// What comes back is right for the task that the ticket is for.
+pub struct ReplyFits;
+
+impl<J: Job, B: Room> Protocol<Reply<J, B>> for ReplyFits {
+    ghost use Rattle.worker_pool.specs.Messages.{IsReply};
+
+    ghost allows = { λ _ reply.
+        IsReply J.meaning reply.ticket.work reply.seat reply.results.items };
+}

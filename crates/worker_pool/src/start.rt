@@ -1,0 +1,147 @@
+//! How a crew begins and ends.
+ghost use Rattle.std.specs.Prelude.{◌≡◌, ◌≤◌, ◌<◌, [], length, IfOk};
+ghost use Rattle.worker_pool.specs.Crews.{room_name};
+
+use crate::crew::Crew;
+use crate::gate::Gate;
+use crate::line::{Line, serve};
+use crate::messages::{ReplyFits, WorkFits};
+use crate::room::CrewRoom;
+use det_values::OutOfMemory;
+use job_trait::Job;
+use rtrb::RingBuffer;
+use std::alloc::Global;
+use std::sync::Arc;
+use std::thread;
+use std::thread::{JoinHandle, Threads};
+use tickets::{Keeper, Room};
+
+/// A kept thread that was started.
+#[derive(Drop)]
+struct Started<J: Job, B: Room> {
+    line: Line<J, B>,
+    handle: JoinHandle<()>,
+}
+
+/// Starts one kept thread. There is none where no thread can be had.
+fn start_thread<J, B, G, R>(
+    rt: &R,
+    alloc: Global,
+    worker: u32,
+    gate: &Arc<G, Global>,
+) -> Result<Option<Started<J, B>>, OutOfMemory>
+where
+    J: Job + Send + Sync + 'static,
+    J::Globals: Send + 'static,
+    J::Element: Send + Sync + 'static,
+    J::Plan: Send + Sync + 'static,
+    J::Part: Send + Sync + 'static,
+    B: Room + Send + Sync + 'static,
+    G: Gate + Send + Sync + 'static,
+    R: Threads,
+{
+    let gate = Arc::try_clone(gate)?;
+    let (works, theirs) = RingBuffer::with_protocol::<Global, WorkFits>(alloc, 1)?;
+    let (back, replies) = RingBuffer::with_protocol::<Global, ReplyFits>(alloc, 2)?;
+    let thread = move || serve::<J, B, G>(alloc, worker, gate, theirs, back);
+    let Ok(handle) = thread::spawn(rt, thread) else {
+        return Ok(None);
+    };
+    let line = Line::<J, B> { works, replies };
+    Ok(Some(Started { line, handle }))
+}
+
+/// Starts a kept thread for each worker but the caller, as long as threads can be had.
+fn start_threads<J, B, G, R>(
+    rt: &R,
+    alloc: Global,
+    workers: u32,
+    gate: &Arc<G, Global>,
+    lines: &mut Vec<Line<J, B>>,
+    handles: &mut Vec<JoinHandle<()>>,
+) -> Result<(), OutOfMemory>
+where
+    J: Job + Send + Sync + 'static,
+    J::Globals: Send + 'static,
+    J::Element: Send + Sync + 'static,
+    J::Plan: Send + Sync + 'static,
+    J::Part: Send + Sync + 'static,
+    B: Room + Send + Sync + 'static,
+    G: Gate + Send + Sync + 'static,
+    R: Threads,
+    requires none { lines.old.items ≡ [] }
+    requires some { 1 ≤ workers }
+    ensures { length lines.new.items < workers }
+{
+    'start: for worker in 1..workers {
+        let Some(started) = start_thread(rt, alloc, worker, gate)? else {
+            break;
+        };
+        let Started { line, handle } = started;
+        if handles.push(handle).is_err() || lines.push(line).is_err() {
+            return Err(OutOfMemory);
+        }
+    }
+    Ok(())
+}
+
+impl<J, B, G> Crew<J, B, G>
+where
+    J: Job + Send + Sync + 'static,
+    J::Globals: Send + 'static,
+    J::Element: Send + Sync + 'static,
+    J::Plan: Send + Sync + 'static,
+    J::Part: Send + Sync + 'static,
+    B: Room + Send + Sync + 'static,
+    G: Gate + Send + Sync + 'static,
+{
+    /// A crew of so many workers: the caller, and a kept thread for each of the others. Where
+    /// threads can't be had there are fewer, and no answer changes.
+    pub fn start<R: Threads>(
+        rt: &R,
+        alloc: Global,
+        room: CrewRoom<J>,
+        workers: u32,
+        gate: &Arc<G, Global>,
+    ) -> Result<Crew<J, B, G>, OutOfMemory>
+        requires room { room_name room ≡ B.table }
+        requires workers { (1 ≤ workers) × (workers ≤ 64) }
+        ensures { IfOk result (λ crew. crew ≡ workers) }
+    {
+        let more = workers as usize - 1;
+        let mut lines = Vec::with_capacity(alloc, more)?;
+        let mut handles = Vec::with_capacity(alloc, more)?;
+        let gate = Arc::try_clone(gate)?;
+        let begun = start_threads(rt, alloc, workers, &gate, &mut lines, &mut handles);
+        let crew = Crew {
+            keeper: Keeper::of(room.office),
+            lines,
+            handles,
+            workers,
+            gate,
+        };
+        match begun {
+            Ok(()) => Ok(crew),
+            Err(fault) => {
+                crew.stop(rt);
+                Err(fault)
+            }
+        }
+    }
+
+    /// Ends the crew. None of its threads is left running.
+    pub fn stop<R: Threads>(self, rt: &R) {
+        let Crew {
+            keeper: _,
+            lines,
+            handles,
+            workers: _,
+            gate: _,
+        } = self;
+        // A thread ends when its line is gone.
+        drop(lines);
+        for handle in handles {
+            handle.join(rt);
+        }
+    }
+}
