@@ -33,7 +33,8 @@ short_phase Prepare = omega arith
 short_phase Pool = omega arith
 short_phase Conclude = omega arith
 
-pub refusal_short : (seen : ℕ) (at : RefusedAtValue) → seen < 2 ^ 64 → at.pass < 2 ^ 64 → at.element < 2 ^ 64 → at.code < 2 ^ 64 → length (refusal_text seen (Some at)) ≤ 256
+pub refusal_short : (seen : ℕ) (at : RefusedAtValue) → seen < 2 ^ 64 → at.pass < 2 ^ 64 → at.element < 2 ^ 64 → at.code < 2 ^ 64
+    → length (refusal_text seen (Some at)) ≤ 256
 refusal_short seen at s p e c =
     let a : length (decimal seen) ≤ 20 = short_number seen s in
     let b : length (decimal at.pass) ≤ 20 = short_number at.pass p in

@@ -5,7 +5,8 @@ use Rattle.det_values.specs.Values.{RefusedAtValue, phase_word}
 
 -- finished and refused runs
 abbrev pub count_text : ℕ → ℕ → List ℕ
-count_text finished refused = codes "count " ++ (decimal finished ++ (codes " " ++ (decimal refused ++ codes "\n")))
+count_text finished refused =
+    codes "count " ++ (decimal finished ++ (codes " " ++ (decimal refused ++ codes "\n")))
 
 -- the greatest gap in nanoseconds, if there is one
 abbrev pub gap_text : Option ℕ → List ℕ
@@ -14,10 +15,13 @@ gap_text None = codes "gap none\n"
 
 -- runs, and refused ones among them
 abbrev pub limit_text : ℕ → ℕ → List ℕ
-limit_text runs refused = codes "limit " ++ (decimal runs ++ (codes " " ++ (decimal refused ++ codes "\n")))
+limit_text runs refused =
+    codes "limit " ++ (decimal runs ++ (codes " " ++ (decimal refused ++ codes "\n")))
 
 -- how many runs were seen, and where the last one of them was refused, if it was
 abbrev pub refusal_text : ℕ → Option RefusedAtValue → List ℕ
 refusal_text runs None = codes "refusal none\n"
 refusal_text runs (Some at) =
-    codes "refusal " ++ (decimal runs ++ (codes " " ++ (phase_word at.phase ++ (codes " " ++ (decimal at.pass ++ (codes " " ++ (decimal at.element ++ (codes " " ++ (decimal at.code ++ codes "\n")))))))))
+    codes "refusal " ++ (decimal runs ++ (codes " " ++ (phase_word at.phase ++ (codes " "
+    ++ (decimal at.pass ++ (codes " " ++ (decimal at.element ++ (codes " "
+    ++ (decimal at.code ++ codes "\n")))))))))

@@ -62,7 +62,9 @@ fn refusal_at(
     element: u32,
     code: u32,
 ) -> Result<Bytes, OutOfMemory>
-    ensures bytes { IfOk result (λ bytes. bytes ≡ refusal_text seen (Some (record { phase = phase; pass = pass; element = element; code = code }))) }
+    ensures bytes { IfOk result
+        (λ bytes. bytes ≡ refusal_text seen
+        (Some (record { phase = phase; pass = pass; element = element; code = code }))) }
     ensures short { IfOk result (λ bytes. length bytes ≤ 256) }
 {
     let phase = phase.word();

@@ -28,7 +28,8 @@ pub struct Printer {
 pub fn write_text<K: Sink>(bytes: &[u8], sink: &mut K) -> Result<(), ShowEnd>
     ensures ok { OnOk result (Grew (K.took sink.old) (K.took sink.new) bytes.now) }
     ensures err { IfErr result (λ end. Cuts end (K.took sink.old) (K.took sink.new) bytes.now) }
-    ensures cause { IsErrOf result ShowEnd.WriteFault → Rose (K.faults sink.old) (K.faults sink.new) }
+    ensures cause { IsErrOf result ShowEnd.WriteFault
+        → Rose (K.faults sink.old) (K.faults sink.new) }
     ensures counted { K.faults sink.old ≤ K.faults sink.new }
 {
     match write_all(sink, bytes) {
@@ -67,11 +68,17 @@ impl Printer {
     /// Prints the lines of an item. After an error some of them may have been written.
     pub fn print<K: Sink>(&mut self, item: &Item, sink: &mut K) -> Result<(), ShowEnd>
         requires few { self.old.cycles < 4294967295 }
-        ensures ok { OnOk result (Grew (K.took sink.old) (K.took sink.new) (item_lines self.old.format self.old.cycles (item.now ∷ []))) }
-        ensures format { OnOk result (self.new.format ≡ format_behind self.old.format (item.now ∷ [])) }
+        ensures ok { OnOk result
+            (Grew (K.took sink.old) (K.took sink.new)
+            (item_lines self.old.format self.old.cycles (item.now ∷ []))) }
+        ensures format { OnOk result
+            (self.new.format ≡ format_behind self.old.format (item.now ∷ [])) }
         ensures cycles { OnOk result (self.new.cycles ≡ self.old.cycles + length (run_in item.now)) }
-        ensures err { IfErr result (λ end. Cuts end (K.took sink.old) (K.took sink.new) (item_lines self.old.format self.old.cycles (item.now ∷ []))) }
-        ensures cause { IsErrOf result ShowEnd.WriteFault → Rose (K.faults sink.old) (K.faults sink.new) }
+        ensures err { IfErr result
+            (λ end. Cuts end (K.took sink.old) (K.took sink.new)
+            (item_lines self.old.format self.old.cycles (item.now ∷ []))) }
+        ensures cause { IsErrOf result ShowEnd.WriteFault
+            → Rose (K.faults sink.old) (K.faults sink.new) }
         ensures counted { K.faults sink.old ≤ K.faults sink.new }
     {
         if self.put(item).is_err() {
@@ -83,7 +90,8 @@ impl Printer {
     /// Puts the lines of an item in place of those before.
     fn put(&mut self, item: &Item) -> Result<(), OutOfMemory>
         requires few { self.old.cycles < 4294967295 }
-        ensures lines { OnOk result (self.new.lines.items ≡ item_lines self.old.format self.old.cycles (item.now ∷ [])) }
+        ensures lines { OnOk result
+            (self.new.lines.items ≡ item_lines self.old.format self.old.cycles (item.now ∷ [])) }
         ensures format { self.new.format ≡ format_behind self.old.format (item.now ∷ []) }
         ensures cycles { self.new.cycles ≡ self.old.cycles + length (run_in item.now) }
     {
