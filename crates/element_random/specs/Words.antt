@@ -4,6 +4,7 @@ use Rattle.std.specs.Prelude.{◌≡◌, ℕ, zero, suc, ◌+◌, ◌-◌, ◌*�
 use Rattle.rand_core.specs.Steps.{first_words}
 use Rattle.rand_xoshiro.specs.SplitMix64.{mix_u64}
 use Rattle.rand_xoshiro.specs.Xoshiro256.{next_state, plus_plus}
+use Rattle.element_random.specs.declared.PassKeys.{PassKeys}
 
 -- the first output of SplitMix64 started at x
 unfoldable pub mixed : ℕ → ℕ
@@ -12,6 +13,11 @@ mixed x = (mix_u64 x).0
 -- the key of a seed, a cycle, a pass and an element
 unfoldable pub key : ℕ → ℕ → ℕ → ℕ → ℕ
 key seed cycle pass element = mixed (bit_xor (mixed (bit_xor (mixed seed) cycle)) (pass * 2 ^ 32 + element))
+
+-- what the keys of a pass share: the seed and the cycle, mixed, and the pass
+pub record AreKeysOf (keys : PassKeys) (seed cycle pass : ℕ) : Type 0 where
+  pub shared : keys.shared ≡ mixed (bit_xor (mixed seed) cycle)
+  pub of_pass : keys.pass ≡ pass
 
 -- the state of xoshiro256++ after n outputs, which begins as the first four outputs of SplitMix64 from the key
 unfoldable pub state_at : ℕ → ℕ → List ℕ

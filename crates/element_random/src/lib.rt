@@ -5,7 +5,7 @@
 #![tactic(auto)]
 
 ghost use Rattle.std.specs.Prelude.{◌≡◌, ℕ, ◌+◌, ◌-◌, ◌^◌, min};
-ghost use Rattle.element_random.specs.Words.{mixed, key, word, StandsFor};
+ghost use Rattle.element_random.specs.Words.{mixed, key, word, AreKeysOf, StandsFor};
 
 use rand_core::SeedableRng;
 use rand_core::utils::NextWord;
@@ -19,14 +19,42 @@ fn mix(start: u64) -> u64
     SplitMix64::seed_from_u64(start).next_word()
 }
 
+/// What the keys of one pass have in common.
+#[derive(Clone, Copy, Debug)]
+pub struct PassKeys {
+    shared: u64,
+    pass: u8,
+}
+
+impl PassKeys {
+    /// The keys of one pass of one cycle under a seed.
+    pub fn of(seed: u64, cycle: u32, pass: u8) -> PassKeys
+        ensures { AreKeysOf result seed cycle pass }
+    {
+        PassKeys {
+            shared: mix(mix(seed) ^ u64::from(cycle)),
+            pass,
+        }
+    }
+
+    /// The key of one element.
+    #[inline(always)]
+    pub fn key(&self, element: u32) -> u64
+        ensures { (seed cycle pass : ℕ) → AreKeysOf self.now seed cycle pass
+            → result ≡ key seed cycle pass element }
+    {
+        let place = u64::from(self.pass) * 4_294_967_296 + u64::from(element);
+        mix(self.shared ^ place)
+    }
+}
+
 /// The key of one element in one pass of one cycle under a seed.
 ///
 /// A client's own stream has the pass 255 and the element 0, which no pass over elements has.
 pub fn key(seed: u64, cycle: u32, pass: u8, element: u32) -> u64
     ensures { result ≡ key seed cycle pass element }
 {
-    let place = u64::from(pass) * 4_294_967_296 + u64::from(element);
-    mix(mix(mix(seed) ^ u64::from(cycle)) ^ place)
+    PassKeys::of(seed, cycle, pass).key(element)
 }
 
 /// The stream of the random words of one key.

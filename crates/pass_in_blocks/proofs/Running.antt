@@ -1,0 +1,116 @@
+-- Elements are run one after another, in portions.
+use Rattle.std.proofs.Common.{◌≡◌, ℕ, ◌+◌, ◌*◌, ◌≤◌, List, [], ◌∷◌, ◌++◌, length, take, drop, Result, Ok, Err, append_assoc}
+use Rattle.std.proofs.Common.{sym, refl, ap, ◌∙◌, arith, length-take, take-add}
+use Rattle.std.proofs.lemmas.List.{take-append-drop}
+use Rattle.std.specs.Arc.{arc_value}
+use Rattle.element_random.specs.Words.{key}
+use Rattle.job_trait.specs.declared.answers.Worked.{Worked}
+use Rattle.job_trait.specs.declared.pass.PassOf.{PassOf}
+use Rattle.job_trait.specs.Meaning.{Meaning}
+use Rattle.job_trait.specs.Laws.{JobLaws}
+use Rattle.job_trait.specs.Pass.{Passed, Refusal, more}
+use Rattle.job_trait.specs.Passes.{pass_of, block_in}
+use Rattle.pass_in_blocks.specs.Steps.{passed_by, beside, none_in, added_to, first_in}
+
+append_nil : {A : Type 0} (es : List A) → es ++ [] ≡ es
+append_nil [] = refl
+append_nil (e ∷ es) = ap (λ (r : List _). e ∷ r) (append_nil es)
+
+three : {A : Type 0} (es fs gs : List A) → (es ++ fs) ++ gs ≡ es ++ (fs ++ gs)
+three es fs gs = simp append_assoc
+
+-- an answer after what is done
+abbrev onto : {E P : Type 0} → (P → P → P) → Passed E P → Result (Passed E P) Refusal → Result (Passed E P) Refusal
+onto join d (Ok e) = Ok (beside join d e)
+onto join d (Err r) = Err r
+
+module _ {S G E L P : Type 0} (m : Meaning S G E L P) (t : PassOf S G E L P) where
+  abbrev from : ℕ → List E → Passed E P → Result (Passed E P) Refusal
+  from = added_to m t
+
+  abbrev none : Passed E P
+  none = none_in m t
+
+  abbrev gives : E → ℕ → Result (Worked E P) ℕ
+  gives e i = m.worked (arc_value t.job) (arc_value t.plan) (arc_value t.carry) t.number e (key t.seed t.cycle t.number i)
+
+  abbrev drew : ℕ → E → ℕ
+  drew i e = m.drawn (arc_value t.job) (arc_value t.plan) (arc_value t.carry) t.number e (key t.seed t.cycle t.number i)
+
+  abbrev with_one : Passed E P → Worked E P → ℕ → Passed E P
+  with_one = more m (arc_value t.job) (arc_value t.plan) (arc_value t.carry) t.seed t.cycle t.number
+
+  -- the answer of element i and those after it, by what the job gives for the element
+  abbrev on_from : ℕ → E → List E → Passed E P → Result (Worked E P) ℕ → Result (Passed E P) Refusal
+  on_from i e es d r = elim r [
+    | Ok w ↦ from (i + 1) es (with_one d w (drew i e))
+    | Err c ↦ Err (record { element = i; code = c })
+  ]
+
+  -- the answer of further elements
+  abbrev on_with : ℕ → List E → Result (Passed E P) Refusal → Result (Passed E P) Refusal
+  on_with i es (Ok d) = from i es d
+  on_with i es (Err r) = Err r
+
+  through : (i n : ℕ) (es fs : List E) (d : Passed E P) → n ≡ i + length es → from i (es ++ fs) d ≡ on_with n fs (from i es d)
+  through i n [] fs d is = ap (λ (k : ℕ). from k fs d) (omega arith)
+  through i n (e ∷ es) fs d is =
+      elim (gives e i) as (λ r. on_from i e (es ++ fs) d r ≡ on_with n fs (on_from i e es d r)) [
+        | Ok w ↦ through (i + 1) n es fs (with_one d w (drew i e)) (omega arith)
+        | Err c ↦ refl
+      ]
+
+  -- the first k elements, and w more
+  module _ (i n : ℕ) (es : List E) (d : Passed E P) (k w : ℕ) (next : n ≡ i + k) (inside : k ≤ length es) where
+    split : from i (take (k + w) es) d ≡ on_with n (take w (drop k es)) (from i (take k es) d)
+    split = ap (λ (fs : List E). from i fs d) (take-add k w es)
+        ∙ through i n (take k es) (take w (drop k es)) d (omega (arith, length-take k es))
+
+    -- all of them are done
+    pub goes_on : (a b : Passed E P) → added_to m t i (take k es) d ≡ Ok a → added_to m t n (take w (drop k es)) a ≡ Ok b
+        → added_to m t i (take (k + w) es) d ≡ Ok b
+    goes_on a b is came = split ∙ ap (on_with n (take w (drop k es))) is ∙ came
+
+    -- one of the w more refuses, so all are refused
+    pub stops : (a : Passed E P) (r : Refusal) → added_to m t i (take k es) d ≡ Ok a → added_to m t n (take w (drop k es)) a ≡ Err r
+        → added_to m t i es d ≡ Err r
+    stops a r is came = ap (λ (fs : List E). from i fs d) (sym (take-append-drop (k + w) es))
+        ∙ through i (i + length (take (k + w) es)) (take (k + w) es) (drop (k + w) es) d refl
+        ∙ ap (on_with (i + length (take (k + w) es)) (drop (k + w) es)) (split ∙ ap (on_with n (take w (drop k es))) is ∙ came)
+
+  module _ {Covers : S → P → ℕ → Type 0} {Own : S → E → Type 0} {Fit : S → L → Type 0} (laws : JobLaws m Covers Own Fit) where
+    abbrev join : P → P → P
+    join = m.joined (arc_value t.job)
+
+    onto_twice : (d e : Passed E P) (a : Result (Passed E P) Refusal) → onto join d (onto join e a) ≡ onto join (beside join d e) a
+    onto_twice d e (Err r) = refl
+    onto_twice d e (Ok f) = λ k. Ok (passed_by (sym (three d.elements e.elements f.elements) k) (sym (three d.draws e.draws f.draws) k)
+        (sym (laws.assoc (arc_value t.job) d.part e.part f.part) k))
+
+    -- what is done before stands before what is done from nothing
+    from_nothing : (i : ℕ) (es : List E) (d : Passed E P) → from i es d ≡ onto join d (from i es none)
+    from_nothing i [] d =
+        λ k. Ok (passed_by (sym (append_nil d.elements) k) (sym (append_nil d.draws) k) (sym (laws.right_unit (arc_value t.job) d.part) k))
+    from_nothing i (e ∷ es) d =
+        elim (gives e i) as (λ r. on_from i e es d r ≡ onto join d (on_from i e es none r)) [
+          | Ok w ↦ let one : Passed E P = with_one none w (drew i e) in
+              from_nothing (i + 1) es (with_one d w (drew i e))
+              ∙ (λ k. onto join (passed_by (d.elements ++ w.element ∷ []) (d.draws ++ drew i e ∷ [])
+              (join d.part (sym (laws.left_unit (arc_value t.job) w.part) k))) (from (i + 1) es none))
+              ∙ sym (onto_twice d one (from (i + 1) es none)) ∙ sym (ap (onto join d) (from_nothing (i + 1) es one))
+          | Err c ↦ refl
+        ]
+
+    -- the blocks before number b are done, and block b
+    module _ (b : ℕ) (inside : 64 * b ≤ length (arc_value t.elements)) (d : Passed E P) (is : first_in m t (64 * b) ≡ Ok d) where
+      after : from (64 * b) (take 64 (drop (64 * b) (arc_value t.elements))) d ≡ onto join d (block_in m t b)
+      after = from_nothing (64 * b) (take 64 (drop (64 * b) (arc_value t.elements))) d
+
+      pub block_done : (e : Passed E P) → block_in m t b ≡ Ok e → first_in m t (64 * (b + 1)) ≡ Ok (beside (m.joined (arc_value t.job)) d e)
+      block_done e came = ap (first_in m t) (omega arith)
+          ∙ goes_on 0 (64 * b) (arc_value t.elements) none (64 * b) 64 (omega arith) inside d (beside join d e) is
+          (after ∙ ap (onto join d) came)
+
+      pub block_refuses : (r : Refusal) → block_in m t b ≡ Err r → pass_of m t ≡ Err r
+      block_refuses r came =
+          stops 0 (64 * b) (arc_value t.elements) none (64 * b) 64 (omega arith) inside d r is (after ∙ ap (onto join d) came)

@@ -1,0 +1,199 @@
+-- What the laws of a job say of the answers of its blocks and passes.
+use Rattle.std.proofs.Common.{◌≡◌, ℕ, suc, ◌+◌, ◌-◌, ◌*◌, ◌<◌, ◌≤◌, min, List, [], ◌∷◌, length, take, drop, Result, Ok, Err}
+use Rattle.std.proofs.Common.{refl, sym, ap, ◌∙◌, subst, arith, length-append, length-take, length-drop}
+use Rattle.std.specs.Arc.{arc_value}
+use Rattle.std.specs.List.{All}
+use Rattle.std.proofs.lemmas.List.{take_all}
+use Rattle.std.proofs.lemmas.List.Elements.{All-nil, All-head, All-tail, All-push, All-same, All-take, All-drop}
+use Rattle.element_random.specs.Words.{key}
+use Rattle.job_trait.specs.declared.answers.Worked.{Worked}
+use Rattle.job_trait.specs.declared.pass.PassOf.{PassOf}
+use Rattle.job_trait.specs.declared.pass.PassDone.{PassDone}
+use Rattle.job_trait.specs.declared.pass.PoolFault.{PoolFault}
+use Rattle.job_trait.specs.declared.pass.PoolFault.TheVariants.{Refused, OutOfMemory}
+use Rattle.job_trait.specs.Meaning.{Meaning}
+use Rattle.job_trait.specs.Laws.{JobLaws}
+use Rattle.job_trait.specs.Pass.{Passed, Refusal, more}
+use Rattle.job_trait.specs.Passes.{passed_of, IsPass, RefusedBelow, IsReady, IsAnswer, pass_of, block_in}
+use Rattle.pass_in_blocks.specs.Steps.{beside, HasRoom, CanJoin, none_in, added_to, first_in}
+use Rattle.pass_in_blocks.proofs.Running.{block_done, block_refuses}
+
+-- what n elements leave: as many new elements, each the job's own, as many counts of words, and a part that covers so many
+pub record Sums {S E P : Type 0} (Covers : S → P → ℕ → Type 0) (Own : S → E → Type 0) (j : S) (n : ℕ) (done : Passed E P) : Type 0 where
+  pub own : All (Own j) done.elements
+  pub many : length done.elements ≡ n
+  pub drew : length done.draws ≡ n
+  pub few_drawn : All (λ d. d ≤ 65535) done.draws
+  pub covers : Covers j done.part n
+
+module _ {E P : Type 0} where
+  same_done : (x y : Passed E P) → ◌≡◌ {A = Result (Passed E P) Refusal} (Ok x) (Ok y) → x ≡ y
+  same_done x y q = cc
+
+  same_refusal : (x y : Refusal) → ◌≡◌ {A = Result (Passed E P) Refusal} (Err x) (Err y) → x ≡ y
+  same_refusal x y q = cc
+
+module _ {S G E L P : Type 0} {m : Meaning S G E L P} {Covers : S → P → ℕ → Type 0} {Own : S → E → Type 0} {Fit : S → L → Type 0}
+    (laws : JobLaws m Covers Own Fit) (t : PassOf S G E L P) (ready : IsReady m Covers Own Fit t) where
+  abbrev job : S
+  job = arc_value t.job
+
+  abbrev plan : L
+  plan = arc_value t.plan
+
+  abbrev carry : P
+  carry = arc_value t.carry
+
+  abbrev es : List E
+  es = arc_value t.elements
+
+  abbrev from : ℕ → List E → Passed E P → Result (Passed E P) Refusal
+  from = added_to m t
+
+  abbrev none : Passed E P
+  none = none_in m t
+
+  abbrev Holds : ℕ → Passed E P → Type 0
+  Holds = Sums Covers Own (arc_value t.job)
+
+  abbrev gives : E → ℕ → Result (Worked E P) ℕ
+  gives e i = m.worked job plan carry t.number e (key t.seed t.cycle t.number i)
+
+  abbrev drew : ℕ → E → ℕ
+  drew i e = m.drawn job plan carry t.number e (key t.seed t.cycle t.number i)
+
+  abbrev with_one : Passed E P → Worked E P → ℕ → Passed E P
+  with_one = more m job plan carry t.seed t.cycle t.number
+
+  none_holds : Holds 0 none
+  none_holds = record {
+    own = All-nil (Own job);
+    many = refl;
+    drew = refl;
+    few_drawn = All-nil (λ (d : ℕ). d ≤ 65535);
+    covers = laws.covers_unit job;
+  }
+
+  one_more : (n i : ℕ) (d : Passed E P) (e : E) (w : Worked E P) → Holds n d → Own job e → n + 1 ≤ 65536 → gives e i ≡ Ok w
+      → Holds (n + 1) (with_one d w (drew i e))
+  one_more n i d e w h own small came = let k = key t.seed t.cycle t.number i in record {
+    own = All-push (Own job) d.elements w.element h.own
+        (laws.own_run job plan carry t.number e k w ready.fit own ready.below ready.carried came);
+    many = length-append d.elements (w.element ∷ []) ∙ ap (λ l. l + 1) h.many;
+    drew = length-append d.draws (_ ∷ []) ∙ ap (λ l. l + 1) h.drew;
+    few_drawn = All-push (λ l. l ≤ 65535) d.draws _ h.few_drawn (laws.drawn_few job plan carry t.number e k);
+    covers = laws.covers_joined job d.part w.part n 1 h.covers
+        (laws.covers_run job plan carry t.number e k w ready.fit own ready.below ready.carried came) small;
+  }
+
+  -- the answer of element i and those after it, by what the job gives for the element
+  abbrev on_from : ℕ → E → List E → Passed E P → Result (Worked E P) ℕ → Result (Passed E P) Refusal
+  on_from i x xs d r = elim r [
+    | Ok w ↦ from (i + 1) xs (with_one d w (drew i x))
+    | Err c ↦ Err (record { element = i; code = c })
+  ]
+
+  -- further elements
+  taken_holds : (n i : ℕ) (xs : List E) (d e : Passed E P) → Holds n d → All (Own job) xs → n + length xs ≤ 65536
+      → from i xs d ≡ Ok e → Holds (n + length xs) e
+  taken_holds n i [] d e h own small is = subst (λ (k : ℕ). Holds k e) (omega arith) (subst (Holds n) (same_done d e is) h)
+  taken_holds n i (x ∷ xs) d e h own small is =
+      (elim (gives x i) as (λ r. gives x i ≡ r → on_from i x xs d r ≡ Ok e → Holds (n + suc (length xs)) e) [
+        | Ok w ↦ λ came q. subst (λ (k : ℕ). Holds k e) (omega arith)
+            (taken_holds (n + 1) (i + 1) xs (with_one d w (drew i x)) e
+            (one_more n i d x w h (All-head (Own job) x xs own) (omega arith) came)
+            (All-tail (Own job) x xs own) (omega arith) q)
+        | Err c ↦ λ came q. absurd (cc)
+      ]) refl is
+
+  -- an element that refuses is one of those taken
+  refused_inside : (i : ℕ) (xs : List E) (d : Passed E P) (r : Refusal) → from i xs d ≡ Err r → r.element < i + length xs
+  refused_inside i [] d r is = absurd (cc)
+  refused_inside i (x ∷ xs) d r is =
+      (elim (gives x i) as (λ a. on_from i x xs d a ≡ Err r → r.element < i + suc (length xs)) [
+        | Ok w ↦ λ q. let ih = refused_inside (i + 1) xs (with_one d w (drew i x)) r q in omega arith
+        | Err c ↦ λ q.
+            let number : i ≡ r.element = ap (λ (y : Refusal). y.element) (same_refusal (record { element = i; code = c }) r q) in
+            omega arith
+      ]) is
+
+  -- the first k elements of some from number i on
+  first_hold : (i k : ℕ) (xs : List E) (d : Passed E P) → All (Own job) xs → k ≤ length xs → length xs ≤ 65536
+      → from i (take k xs) none ≡ Ok d → Holds k d
+  first_hold i k xs d own inside small is = subst (λ (n : ℕ). Holds n d) (omega (arith, length-take k xs))
+      (taken_holds 0 i (take k xs) none d none_holds (All-take (Own job) k xs own) (omega (arith, length-take k xs)) is)
+
+  -- block b
+  abbrev of_block : ℕ → List E
+  of_block b = take 64 (drop (64 * b) es)
+
+  own_block : (b : ℕ) → All (Own job) (of_block b)
+  own_block b = All-take (Own job) 64 (drop (64 * b) es) (All-drop (Own job) (64 * b) es ready.own)
+
+  block_size : (b : ℕ) → length (of_block b) ≡ min 64 (length es - 64 * b)
+  block_size b = omega (arith, length-take 64 (drop (64 * b) es), length-drop (64 * b) es)
+
+  block_holds : (b : ℕ) (d : Passed E P) → block_in m t b ≡ Ok d → Holds (length (of_block b)) d
+  block_holds b d is = let f = ready.few in let size = block_size b in
+      subst (λ (k : ℕ). Holds k d) (omega arith) (taken_holds 0 (64 * b) (of_block b) none d none_holds (own_block b) (omega arith) is)
+
+  module _ (b k : ℕ) (xs : List E) (is_block : xs ≡ take 64 (drop (64 * b) (arc_value t.elements))) (inside : k < length xs) where
+    pub in_pass : 64 * b + k < 65536
+    in_pass = let f = ready.few in let size = block_size b in let same = ap length is_block in omega arith
+
+    -- the first k elements of a block leave room for another
+    pub has_room : (d : Passed E P) → added_to m t (64 * b) (take k xs) (none_in m t) ≡ Ok d → HasRoom Covers t d.part
+    has_room d is = let size = block_size b in let same = ap length is_block in
+        let own = All-same (Own job) xs _ is_block (own_block b) in
+        (k, omega arith, (first_hold (64 * b) k xs d own (omega arith) (omega arith) is).covers)
+
+  -- an answer is right in each of its facts, once it is that of the pass
+  pass_holds : (d : PassDone E P) → pass_of m t ≡ Ok (passed_of d) → Holds (length es) (passed_of d)
+  pass_holds d is = let f = ready.few in
+      subst (λ (k : ℕ). Holds k (passed_of d)) (omega arith) (taken_holds 0 0 es none (passed_of d) none_holds ready.own (omega arith) is)
+
+  fault_inside : (f : PoolFault) → IsPass {E = E} {P = P} (Err f) (pass_of m t) → RefusedBelow (length es) f
+  fault_inside (Refused element code) h =
+      let lt = refused_inside 0 es none (record { element = element; code = code }) h in omega arith
+  fault_inside OutOfMemory h = tt
+
+  answers : (x : Result (PassDone E P) PoolFault) → IsPass x (pass_of m t) → IsAnswer m Covers Own t x
+  answers (Ok d) is = let h = pass_holds d is in
+      record { is = is; own = h.own; many = h.many; drew = h.drew; few_drawn = h.few_drawn; covers = h.covers; element = tt }
+  answers (Err f) is =
+      record { is = is; own = tt; many = tt; drew = tt; few_drawn = tt; covers = tt; element = fault_inside f is }
+
+  -- the blocks before number b are done
+  module _ (b : ℕ) (d : Passed E P) (is : first_in m t (64 * b) ≡ Ok d) where
+    -- and there are no more
+    pub all_answer : (x : PassDone E P) → d ≡ passed_of x → length (arc_value t.elements) ≤ 64 * b → IsAnswer m Covers Own t (Ok x)
+    all_answer x same none_left =
+        answers (Ok x) (ap (λ (xs : List E). from 0 xs none) (sym (take_all (64 * b) es none_left)) ∙ is ∙ ap Ok same)
+
+    module _ (inside : 64 * b < length (arc_value t.elements)) where
+      -- and block b as well
+      pub next_done : (e both : Passed E P) → block_in m t b ≡ Ok e → both ≡ beside (m.joined (arc_value t.job)) d e
+          → first_in m t (64 * (b + 1)) ≡ Ok both
+      next_done e both came same = block_done m t laws b (omega arith) d is e came ∙ sym (ap Ok same)
+
+      -- and block b refuses
+      pub refusal_answer : (element code : ℕ) → block_in m t b ≡ Err (record { element = element; code = code })
+          → IsAnswer m Covers Own t (Err (Refused element code))
+      refusal_answer element code came = answers (Err (Refused element code))
+          (block_refuses m t laws b (omega arith) d is (record { element = element; code = code }) came)
+
+      -- and block b is to join them
+      pub can_join : (e : Passed E P) → block_in m t b ≡ Ok e → CanJoin Covers (arc_value t.job) d e
+      can_join e came =
+          let h = first_hold 0 (64 * b) es d ready.own (omega arith) ready.few is in let p = h.many in
+          let g = block_holds b e came in let q = g.many in
+          let f = ready.few in let size = block_size b in
+          record {
+            whole = (b, p);
+            level = h.drew ∙ sym p;
+            some = omega arith;
+            few = omega arith;
+            next_level = g.drew ∙ sym q;
+            room = omega arith;
+            covers = (64 * b, length (of_block b), omega arith, h.covers, g.covers);
+          }

@@ -1,0 +1,29 @@
+-- What blocks answer.
+use Rattle.std.specs.Prelude.{◌≡◌, ℕ, ◌<◌, List, Result, Ok, Err}
+use Rattle.std.specs.List.{All}
+use Rattle.job_trait.specs.Pass.{Passed, Refusal}
+use Rattle.pass_in_blocks.specs.declared.answers.BlockDone.{BlockDone}
+use Rattle.pass_in_blocks.specs.declared.answers.BlockAnswer.{BlockAnswer}
+use Rattle.pass_in_blocks.specs.declared.answers.BlockAnswer.TheVariants.{Done, Refused}
+use Rattle.pass_in_blocks.specs.declared.answers.BlockResult.{BlockResult}
+
+module _ {E P : Type 0} where
+  abbrev pub left_by : BlockDone E P → Passed E P
+  left_by done = record {
+    elements = done.elements.items;
+    draws = done.draws.items;
+    part = done.part;
+  }
+
+  abbrev pub answer_of : BlockAnswer E P → Result (Passed E P) Refusal
+  answer_of (Done done) = Ok (left_by done)
+  answer_of (Refused element code) = Err (record { element = element; code = code })
+
+  -- beside what each block gives, and their number
+  module _ (block : ℕ → Result (Passed E P) Refusal) (blocks : ℕ) where
+    -- a result is that of a block of the pass
+    abbrev pub IsRight : BlockResult E P → Type 0
+    IsRight r = (r.block < blocks) × (answer_of r.answer ≡ block r.block)
+
+    abbrev pub AreRight : List (BlockResult E P) → Type 0
+    AreRight rs = All IsRight rs

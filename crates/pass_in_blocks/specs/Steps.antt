@@ -1,0 +1,80 @@
+-- How a block is run element by element, and a pass is joined block by block.
+use Rattle.std.specs.Prelude.{◌≡◌, ℕ, ◌+◌, ◌*◌, ◌≤◌, ◌<◌, List, ◌++◌, length, take, slice_index_or}
+use Rattle.std.specs.Prelude.{Option, None, Some, Result, Ok, Err}
+use Rattle.std.specs.Arc.{arc_value}
+use Rattle.element_random.specs.declared.PassKeys.{PassKeys}
+use Rattle.element_random.specs.Words.{AreKeysOf}
+use Rattle.job_trait.specs.Meaning.{Meaning}
+use Rattle.job_trait.specs.Laws.{CoverTogether}
+use Rattle.job_trait.specs.Pass.{Passed, Refusal, nothing, taken}
+use Rattle.job_trait.specs.declared.pass.PassOf.{PassOf}
+use Rattle.job_trait.specs.declared.pass.PoolFault.{PoolFault}
+use Rattle.job_trait.specs.declared.pass.PoolFault.TheVariants.{Refused, OutOfMemory}
+use Rattle.pass_in_blocks.specs.declared.answers.BlockAnswer.{BlockAnswer}
+use Rattle.pass_in_blocks.specs.Answers.{answer_of}
+
+module _ {E P : Type 0} where
+  -- elements, counts of words and a part as one value
+  abbrev pub passed_by : List E → List ℕ → P → Passed E P
+  passed_by es ds part = record { elements = es; draws = ds; part = part }
+
+  -- the lists with the part are what is meant; want of memory is free
+  abbrev pub IsAdded : Result P PoolFault → List E → List ℕ → Result (Passed E P) Refusal → Type 0
+  IsAdded (Ok part) es ds meant = meant ≡ Ok (passed_by es ds part)
+  IsAdded (Err (Refused element code)) es ds meant =
+      meant ≡ Err (record { element = element; code = code })
+  IsAdded (Err OutOfMemory) es ds meant = Unit {0}
+
+  -- what two neighbours give together
+  abbrev pub beside : (P → P → P) → Passed E P → Passed E P → Passed E P
+  beside join done next = record {
+    elements = done.elements ++ next.elements;
+    draws = done.draws ++ next.draws;
+    part = join done.part next.part;
+  }
+
+  -- beside what each block gives
+  module _ (block : ℕ → Result (Passed E P) Refusal) where
+    -- what stands in the place of block b is its answer
+    abbrev pub IsPlace : ℕ → Option (BlockAnswer E P) → Type 0
+    IsPlace b (Some answer) = answer_of answer ≡ block b
+    IsPlace b None = Unit {0}
+
+    abbrev pub ArePlaces : List (Option (BlockAnswer E P)) → Type 0
+    ArePlaces places =
+        (b : ℕ) (d : Option (BlockAnswer E P)) → b < length places
+        → IsPlace b (slice_index_or places b d)
+
+module _ {S G E L P : Type 0} where
+  abbrev pub HasKeys : PassOf S G E L P → PassKeys → Type 0
+  HasKeys t keys = AreKeysOf keys t.seed t.cycle t.number
+
+  -- the part comes from so few elements that another can be joined to it
+  abbrev pub HasRoom : (S → P → ℕ → Type 0) → PassOf S G E L P → P → Type 0
+  HasRoom Covers t part = (n : ℕ) × (n < 65536) × Covers (arc_value t.job) part n
+
+  -- what stands before any element
+  abbrev pub none_in : Meaning S G E L P → PassOf S G E L P → Passed E P
+  none_in m t =
+      nothing m (arc_value t.job) (arc_value t.plan) (arc_value t.carry) t.seed t.cycle t.number
+
+  -- elements from number i on, added to what is done
+  abbrev pub added_to : Meaning S G E L P → PassOf S G E L P → ℕ → List E → Passed E P
+      → Result (Passed E P) Refusal
+  added_to m t =
+      taken m (arc_value t.job) (arc_value t.plan) (arc_value t.carry) t.seed t.cycle t.number
+
+  -- what the first n elements give
+  abbrev pub first_in : Meaning S G E L P → PassOf S G E L P → ℕ → Result (Passed E P) Refusal
+  first_in m t n = added_to m t 0 (take n (arc_value t.elements)) (none_in m t)
+
+-- a block can be added to those before it
+pub record CanJoin {S E P : Type 0} (Covers : S → P → ℕ → Type 0) (j : S)
+    (done next : Passed E P) : Type 0 where
+  pub whole : (n : ℕ) × (length done.elements ≡ 64 * n)
+  pub level : length done.draws ≡ length done.elements
+  pub some : 0 < length next.elements
+  pub few : length next.elements ≤ 64
+  pub next_level : length next.draws ≡ length next.elements
+  pub room : length done.elements + length next.elements ≤ 65536
+  pub covers : CoverTogether (Covers j) done.part next.part

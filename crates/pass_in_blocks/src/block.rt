@@ -1,0 +1,119 @@
+//! One block is run.
+ghost use Rattle.std.specs.Prelude.{◌≡◌, ◌+◌, ◌<◌, ◌++◌, ◌∷◌, [], length, take, drop, IfOk, OnOk};
+ghost use Rattle.std.specs.Arc.{arc_value};
+ghost use Rattle.std.specs.List.{All};
+ghost use Rattle.job_trait.specs.Passes.{IsReady, block_in, blocks_in};
+ghost use Rattle.pass_in_blocks.specs.Answers.{answer_of};
+ghost use Rattle.pass_in_blocks.specs.Steps.{HasKeys, HasRoom, passed_by, added_to, IsAdded};
+
+use crate::answers::{BlockAnswer, BlockDone};
+use det_values::OutOfMemory;
+use element_random::{ElementRandom, PassKeys};
+use job_trait::{Job, JobFault, PassOf, PoolFault};
+use std::alloc::Global;
+
+/// Adds an item at the end of a list.
+#[inline(always)]
+pub(crate) fn push<T: Drop>(list: &mut Vec<T>, item: T) -> Result<(), OutOfMemory>
+    ensures { OnOk result (list.new.items ≡ list.old.items ++ item ∷ []) }
+{
+    match list.push(item) {
+        Ok(()) => Ok(()),
+        Err(_) => Err(OutOfMemory),
+    }
+}
+
+/// A block that is to be run.
+#[derive(Drop)]
+struct Block<'a, J: Job> {
+    pass: &'a PassOf<J>,
+    keys: PassKeys,
+    /// The number of its first element.
+    first: u32,
+    elements: &'a [J::Element],
+}
+
+impl<'a, J: Job> Block<'a, J> {
+    /// Runs its element `k` with random words of its own, adds what it gives to the lists, and answers
+    /// the part. It is the body of the loop that time is spent in, so it is inlined there.
+    #[inline(always)]
+    fn step(
+        &self,
+        alloc: Global,
+        k: usize,
+        elements: &mut Vec<J::Element>,
+        draws: &mut Vec<u32>,
+        part: J::Part,
+    ) -> Result<J::Part, PoolFault>
+        requires ready { IsReady J.meaning J.Covers J.Own J.Fit self.now.pass.now }
+        requires keys { HasKeys self.now.pass.now self.now.keys }
+        requires own { All (J.Own (arc_value self.now.pass.now.job)) self.now.elements.now }
+        requires inside { k < length self.now.elements.now }
+        requires few { self.now.first + k < 65536 }
+        requires room { HasRoom J.Covers self.now.pass.now part }
+        ensures { IsAdded result elements.new.items draws.new.items
+            (added_to J.meaning self.now.pass.now (self.now.first + k)
+            (take 1 (drop k self.now.elements.now))
+            (passed_by elements.old.items draws.old.items part)) }
+    {
+        let pass = self.pass;
+        let i = self.first + k as u32;
+        let mut random = ElementRandom::at(self.keys.key(i));
+        match pass.job.run(
+            alloc,
+            &*pass.plan,
+            &*pass.carry,
+            pass.number,
+            &self.elements[k],
+            &mut random,
+        ) {
+            Ok(worked) => {
+                push(elements, worked.element)?;
+                push(draws, random.draws() as u32)?;
+                Ok(pass.job.merge(part, worked.part)?)
+            }
+            Err(fault) => match fault {
+                JobFault::Code(code) => Err(PoolFault::Refused { element: i, code }),
+                JobFault::OutOfMemory => Err(PoolFault::OutOfMemory),
+            },
+        }
+    }
+}
+
+/// Runs the elements of a block one after another. A refusal ends it.
+pub fn run_block<J: Job>(
+    alloc: Global,
+    pass: &PassOf<J>,
+    block: u32,
+) -> Result<BlockAnswer<J::Element, J::Part>, OutOfMemory>
+    requires ready { IsReady J.meaning J.Covers J.Own J.Fit pass.now }
+    requires inside { block < blocks_in pass.now }
+    ensures { IfOk result (λ answer. answer_of answer ≡ block_in J.meaning pass.now block) }
+{
+    let block = Block {
+        pass,
+        keys: PassKeys::of(pass.seed, pass.cycle, pass.number),
+        first: 64 * block,
+        elements: pass.elements.block(block as usize),
+    };
+    let room = block.elements.len();
+    let mut elements = Vec::with_capacity(alloc, room)?;
+    let mut draws = Vec::with_capacity(alloc, room)?;
+    let mut part = pass.job.unit(alloc);
+    'run: for k in 0..room {
+        match block.step(alloc, k, &mut elements, &mut draws, part) {
+            Ok(more) => part = more,
+            Err(fault) => match fault {
+                PoolFault::Refused { element, code } => {
+                    return Ok(BlockAnswer::Refused { element, code });
+                }
+                PoolFault::OutOfMemory => return Err(OutOfMemory),
+            },
+        }
+    }
+    Ok(BlockAnswer::Done(BlockDone {
+        elements,
+        draws,
+        part,
+    }))
+}
