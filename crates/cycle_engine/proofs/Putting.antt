@@ -16,8 +16,8 @@ put_is old one two three last shown at n draws a e1 e2 en e3 e4 =
     let d : drop (at + 2) two ≡ shown = ap (λ (k : ℕ). drop k two) l ∙ ap (drop (length one)) e2 ∙ drop-append_seam one shown in
     let m : n ≡ length shown = omega (arith, en, l, ap length e2, length-append one shown) in
     let f : three ≡ old ++ (spelled_u16 (length shown) ++ shown) =
-        e3 ∙ ap (λ (xs : List ℕ). xs ++ (spelled_u16 n ++ drop (at + 2) two)) t ∙ ap (λ (xs : List ℕ). old ++ (spelled_u16 n ++ xs)) d
-        ∙ ap (λ (k : ℕ). old ++ (spelled_u16 k ++ shown)) m in
+    e3 ∙ ap (λ (xs : List ℕ). xs ++ (spelled_u16 n ++ drop (at + 2) two)) t ∙ ap (λ (xs : List ℕ). old ++ (spelled_u16 n ++ xs)) d
+    ∙ ap (λ (k : ℕ). old ++ (spelled_u16 k ++ shown)) m in
     e4 ∙ ap (λ (xs : List ℕ). xs ++ spelled_u32 draws) f ∙ append_assoc old (spelled_u16 (length shown) ++ shown) (spelled_u32 draws)
     ∙ ap (λ (xs : List ℕ). old ++ xs) (append_assoc (spelled_u16 (length shown)) shown (spelled_u32 draws))
 

@@ -59,7 +59,7 @@ module _ {S G E L P : Type 0} (m : Meaning S G E L P) (j : S) where
       let t : take i es ++ x ∷ [] ≡ take (i + 1) es = ap (λ y. take i es ++ y ∷ []) at ∙ sym (take_more es i x inside) in
       let u : take i ds ++ d ∷ [] ≡ take (i + 1) ds = ap (λ n. take i ds ++ n ∷ []) with ∙ sym (take_more ds i 0 (omega (arith, drew))) in
       let l : length (take i es) ≡ length (take i ds) =
-          length-take-le i es (omega arith) ∙ sym (length-take-le i ds (omega (arith, drew))) in
+      length-take-le i es (omega arith) ∙ sym (length-take-le i ds (omega (arith, drew))) in
       let s : Shown (take i es ++ x ∷ []) (take i ds ++ d ∷ []) old new = both _ _ _ _ _ _ _ l so_far (alone x d mid new fields e) in
       subst (λ (xs : List E). Shown xs (take (i + 1) ds) old new) t (subst (λ (ns : List ℕ). Shown (take i es ++ x ∷ []) ns old new) u s)
 
@@ -70,21 +70,21 @@ module _ {S G E L P : Type 0} (m : Meaning S G E L P) (j : S) where
   block_more es ds b xs ns old mid new inside drew at with so_far next =
       let n : 64 * b + 64 ≡ 64 * (b + 1) = omega arith in
       let t : take (64 * b) es ++ xs ≡ take (64 * (b + 1)) es =
-          ap (λ (ys : List E). take (64 * b) es ++ ys) at ∙ sym (take-add (64 * b) 64 es) ∙ ap (λ k. take k es) n in
+      ap (λ (ys : List E). take (64 * b) es ++ ys) at ∙ sym (take-add (64 * b) 64 es) ∙ ap (λ k. take k es) n in
       let u : take (64 * b) ds ++ ns ≡ take (64 * (b + 1)) ds =
-          ap (λ (ys : List ℕ). take (64 * b) ds ++ ys) with ∙ sym (take-add (64 * b) 64 ds) ∙ ap (λ k. take k ds) n in
+      ap (λ (ys : List ℕ). take (64 * b) ds ++ ys) with ∙ sym (take-add (64 * b) 64 ds) ∙ ap (λ k. take k ds) n in
       let l : length (take (64 * b) es) ≡ length (take (64 * b) ds) =
-          length-take-le (64 * b) es (omega arith) ∙ sym (length-take-le (64 * b) ds (omega (arith, drew))) in
+      length-take-le (64 * b) es (omega arith) ∙ sym (length-take-le (64 * b) ds (omega (arith, drew))) in
       let s : Shown (take (64 * b) es ++ xs) (take (64 * b) ds ++ ns) old new = both _ _ _ _ _ _ _ l so_far next in
       subst (λ (ys : List E). Shown ys (take (64 * (b + 1)) ds) old new) t
-          (subst (λ (ks : List ℕ). Shown (take (64 * b) es ++ xs) ks old new) u s)
+      (subst (λ (ks : List ℕ). Shown (take (64 * b) es ++ xs) ks old new) u s)
 
   -- all of them
   pub all_shown : (es : List E) (ds : List ℕ) (n : ℕ) (old new : List ℕ) → length es ≤ n → length ds ≡ length es
       → Shown (take n es) (take n ds) old new → Shown es ds old new
   all_shown es ds n old new enough drew s =
       subst (λ (xs : List E). Shown xs ds old new) (take_all n es enough)
-          (subst (λ (ns : List ℕ). Shown (take n es) ns old new) (take_all n ds (omega (arith, drew))) s)
+      (subst (λ (ns : List ℕ). Shown (take n es) ns old new) (take_all n ds (omega (arith, drew))) s)
 
   pub length-shown : (es : List E) (ds : List ℕ) → length ds ≡ length es → length (shown_with m j es ds) ≡ length es
   length-shown [] ds e = refl

@@ -34,7 +34,7 @@ module _ {S G E L P : Type 0} (m : Meaning S G E L P) (profile : ProfileValue) w
   abbrev pub cycle_of : List CycleInput → State G E → CycleInput → Result (Done G E) RefusedAtValue
   cycle_of before state input =
       cycled m job_of state (windows_after profile.events (samples_of before)) (length before + 1)
-          input.time (next_time profile.cycle_time input.time)
+      input.time (next_time profile.cycle_time input.time)
 
   -- its frame, as far as the profile's format keeps it
   abbrev pub frame_of : List CycleInput → State G E → CycleInput → RunFrame

@@ -19,11 +19,11 @@ use crate::fault::{CycleFault, in_prepare};
 use crate::owners::{again, shared};
 use crate::passes::Passes;
 use crate::phases::{CycleDone, finish};
+use det_client::{Client, Next};
 use det_values::{
     Bytes64, Container, CycleInput, Elements, Format, Frame, OutOfMemory, Outcome, Profile,
     RunFrame, Sample, as_format,
 };
-use det_client::{Client, Next};
 use event_cache::EventCache;
 use job_trait::{Job, Pool};
 use std::alloc::Global;
@@ -59,7 +59,7 @@ impl<J: Job> Model for Engine<J> {
     } };
 
     ghost invariant = { λ e.
-      Fits J.meaning J.Own (arc_value e.job) (arc_value e.elements) e.client e.cache e.cycle_time };
+        Fits J.meaning J.Own (arc_value e.job) (arc_value e.elements) e.client e.cache e.cycle_time };
 }
 
 /// Lets these samples arrive, and shows them to the next cycle.
@@ -154,8 +154,9 @@ impl<J: Job> Engine<J> {
         requires going { self.old.stopped ≡ false }
         ensures cycle { IsCycle result self.new.state.seed (next_cycle J.meaning self.old time) }
         ensures kept { self.new ≡ record self.old {
-            state = record self.old.state { seed = self.new.state.seed };
-            cycles = self.old.cycles + 1 } }
+          state = record self.old.state { seed = self.new.state.seed };
+          cycles = self.old.cycles + 1;
+        } }
         ensures own { IfOk result (λ done. All (J.Own self.old.job) (arc_value done.elements)) }
         ensures few { IfOk result (λ done. length (arc_value done.elements) ≤ 65536) }
     {
@@ -192,8 +193,9 @@ impl<J: Job> Engine<J> {
         ensures outcome { IfOk result (λ outcome.
             outcome ≡ outcome_of (next_cycle J.meaning self.old time)) }
         ensures after { OnOk result (self.new ≡ record self.old {
-            state = state_after self.old.state (next_cycle J.meaning self.old time);
-            cycles = self.old.cycles + 1 }) }
+          state = state_after self.old.state (next_cycle J.meaning self.old time);
+          cycles = self.old.cycles + 1;
+        }) }
         ensures kept { OnErr result (self.new ≡ self.old) }
     {
         let seed = self.client.seed();

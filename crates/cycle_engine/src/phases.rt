@@ -39,7 +39,10 @@ pub(crate) fn finish<J: Job>(
     ensures elements { IfOk result (λ done. arc_value done.elements ≡ last.elements) }
 {
     let shown = show(alloc, &*passes.job, &last.elements, &last.draws)?;
-    match passes.job.conclude(alloc, globals, &*passes.plan, last.part) {
+    match passes
+        .job
+        .conclude(alloc, globals, &*passes.plan, last.part)
+    {
         Ok(concluded) => Ok(CycleDone {
             globals: concluded.globals,
             elements: shared(alloc, last.elements)?,

@@ -10,7 +10,7 @@ pub invariant_of-result : goal.invariant_of-result
 invariant_of-result g c =
     let laws = g.met.J.Job.laws in
     let init = comes-to-init _ _ _ _ _ _ _ _ c.new-client.ensures.life c.set_random_seed.ensures.same
-        c.wait_for_activation.ensures.step c.wait_for_activation-2.ensures.step c.wait_for_activation-3.ensures.step in
+    c.wait_for_activation.ensures.step c.wait_for_activation-2.ensures.step c.wait_for_activation-3.ensures.step in
     record {
       own = all_own g.J.Job.Own _ _ _ _ c.in_ok-job.ensures c.in_ok-elements.ensures c.in_ok-begun.ensures.own;
       few = omega (arith, ap length c.in_ok-elements.ensures, c.in_ok-begun.ensures.few);
@@ -25,7 +25,7 @@ invariant_of-result g c =
 pub returns-clause-stands : goal.returns-clause-stands
 returns-clause-stands g c =
     let init = comes-to-init _ _ _ _ _ _ _ _ c.new-client.ensures.life c.set_random_seed.ensures.same
-        c.wait_for_activation.ensures.step c.wait_for_activation-2.ensures.step c.wait_for_activation-3.ensures.step in
+    c.wait_for_activation.ensures.step c.wait_for_activation-2.ensures.step c.wait_for_activation-3.ensures.step in
     let AreEvents : List EventSpecValue → Type 0 = λ events. HasSeen c.in_ok-cache.cache events [] [] in
     record {
       job = c.in_ok-job.ensures ∙ c.requires.made;
