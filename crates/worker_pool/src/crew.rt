@@ -1,7 +1,7 @@
 //! A crew: threads that are kept from pass to pass.
-ghost use Rattle.std.specs.Prelude.{◌≤◌, length, IfOk};
+ghost use Rattle.std.specs.Prelude.{◌+◌, ◌<◌, ◌≤◌, ◌^◌, length, IfOk};
 ghost use Rattle.std.specs.Arc.{arc_value};
-ghost use Rattle.job_trait.specs.Passes.{IsReady, block_in, blocks_in};
+ghost use Rattle.job_trait.specs.Passes.{IsReady, IsAnswer, block_in, blocks_in};
 ghost use Rattle.pass_in_blocks.specs.Answers.{AreRight};
 
 use crate::gate::Gate;
@@ -45,7 +45,7 @@ impl<J: Job, B: Room, G: Gate> Model for Crew<J, B, G> {
         × (length c.lines.items < c.workers) };
 }
 
-/// The results of a pass in which the first kept threads help. Some may be missing.
+/// The results of a pass by the caller and these kept threads. Some may be missing.
 fn shared_pass<J: Job, B: Room, G: Gate>(
     alloc: Global,
     keeper: &mut Keeper<Task<J>, B>,
@@ -54,14 +54,11 @@ fn shared_pass<J: Job, B: Room, G: Gate>(
     gate: &G,
 ) -> Result<Vec<BlockResult<J::Element, J::Part>>, OutOfMemory>
     requires few { length lines.old ≤ 63 }
+    requires room { keeper.old.number < 2 ^ 63 }
     requires ready { IsReady J.meaning J.Covers J.Own J.Fit (arc_value pass.now) }
     ensures { IfOk result (λ results. AreRight (block_in J.meaning (arc_value pass.now))
         (blocks_in (arc_value pass.now)) results.items) }
 {
-    if keeper.number() >= MOST_PASSES {
-        gate.enter(0);
-        return Ok(Vec::new(alloc));
-    }
     let blocks = (pass.elements.len() + 63) / 64;
     let (table, seat) = PassTable::new(alloc, blocks as u32)?;
     let pass = Arc::try_clone(pass)?;
@@ -71,24 +68,49 @@ fn shared_pass<J: Job, B: Room, G: Gate>(
     work_together(alloc, keeper, lines, &task, seat, gate)
 }
 
+/// A pass by the caller and the kept threads. No more of these get work than there are blocks beside
+/// the caller's first one, and where none gets any the caller has no table.
+fn crew_pass<J: Job, B: Room, G: Gate>(
+    alloc: Global,
+    keeper: &mut Keeper<Task<J>, B>,
+    lines: &mut [Line<J, B>],
+    pass: &Arc<PassOf<J>, Global>,
+    workers: u32,
+    gate: &G,
+) -> Result<PassDone<J::Element, J::Part>, PoolFault>
+    requires few { length lines.old < workers }
+    requires workers { workers ≤ 64 }
+    requires ready { IsReady J.meaning J.Covers J.Own J.Fit (arc_value pass.now) }
+    ensures { IsAnswer J.meaning J.Covers J.Own (arc_value pass.now) result }
+{
+    let more = ((pass.elements.len() + 63) / 64).saturating_sub(1);
+    let helpers = more.min(lines.len());
+    if helpers == 0 || keeper.number() >= MOST_PASSES {
+        for worker in 0..workers {
+            gate.enter(worker);
+        }
+        return finish_pass(alloc, &**pass, Vec::new(alloc));
+    }
+    let results = shared_pass(alloc, keeper, &mut lines[..helpers], pass, gate)?;
+    for worker in helpers as u32 + 1..workers {
+        gate.enter(worker);
+    }
+    finish_pass(alloc, &**pass, results)
+}
+
 impl<J: Job, B: Room, G: Gate> Pool<J> for Crew<J, B, G> {
     fn run_pass(
         &mut self,
         alloc: Global,
         pass: &Arc<PassOf<J>, Global>,
     ) -> Result<PassDone<J::Element, J::Part>, PoolFault> {
-        let more = ((pass.elements.len() + 63) / 64).saturating_sub(1);
-        let helpers = more.min(self.lines.len());
-        let results = if helpers == 0 {
-            self.gate.enter(0);
-            Vec::new(alloc)
-        } else {
-            let lines = self.lines.as_mut_slice();
-            shared_pass(alloc, &mut self.keeper, &mut lines[..helpers], pass, &*self.gate)?
-        };
-        for worker in helpers as u32 + 1..self.workers {
-            self.gate.enter(worker);
-        }
-        finish_pass(alloc, &**pass, results)
+        crew_pass(
+            alloc,
+            &mut self.keeper,
+            self.lines.as_mut_slice(),
+            pass,
+            self.workers,
+            &*self.gate,
+        )
     }
 }
