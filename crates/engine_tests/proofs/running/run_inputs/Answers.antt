@@ -17,8 +17,8 @@ pub cycle-requires-clause-events : goal.cycle-requires-clause-events
 cycle-requires-clause-events g c =
     let Known : CycleInput → Type 0 = λ x. All (λ s. s.event < length c.loop-input.engine.rings) x.samples in
     subst Known (sym c.in_ok-copy.ensures)
-        (known g.J.Job.meaning c.args.profile.now c.args.inputs.now c.loop-input.input-index c.input-item.result c.loop-input-test.true
-            c.input-item.is c.loop-input.engine c.loop-input.invariant.stands c.requires.known)
+    (known g.J.Job.meaning c.args.profile.now c.args.inputs.now c.loop-input.input-index c.input-item.result c.loop-input-test.true
+    c.input-item.is c.loop-input.engine c.loop-input.invariant.stands c.requires.known)
 
 pub loop-input-preserved : goal.loop-input-preserved
 loop-input-preserved g c =
