@@ -31,7 +31,8 @@ impl Gate for NoGate {
 /// The turns for which a worker waits for the other.
 const MOST_TURNS: u32 = 100_000_000;
 
-/// Holds the workers 0 and 1 until each has seen the other come, for a while at most. It is made for tests.
+/// Holds the workers 0 and 1 until each has seen the other come, for a while at most. It is made
+/// for tests.
 #[derive(Drop)]
 pub struct MeetGate {
     first_came: AtomicBool,

@@ -20,8 +20,8 @@ use std::sync::Arc;
 use std::thread;
 use tickets::{Keeper, Room};
 
-/// The looks for replies after which the caller runs the missing blocks itself: so many, and so many
-/// more for each element.
+/// The looks for replies after which the caller runs the missing blocks itself: so many, and so
+/// many more for each element.
 const LEAST_LOOKS: u64 = 20_000;
 
 const LOOKS_AN_ELEMENT: u64 = 100;
@@ -83,7 +83,8 @@ fn take_replies<J: Job, B: Room>(
     Ok(came)
 }
 
-/// Adds the results that come while blocks are missing. It looks for them a bounded number of times.
+/// Adds the results that come while blocks are missing. It looks for them a bounded number of
+/// times.
 fn collect<J: Job, B: Room>(
     keeper: &mut Keeper<Task<J>, B>,
     lines: &mut [Line<J, B>],

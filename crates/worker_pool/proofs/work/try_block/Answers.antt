@@ -10,7 +10,8 @@ returns-in_default-clause-works g c =
     works_passed (block_in g.J.Job.meaning c.args.pass.now) (view_of c.args.seat.now) _ _ c.requires.so_far c.in_default.ensures.answer.1
 
 pub look-requires-clause-open : goal.look-requires-clause-open
-look-requires-clause-open g c = let a = c.in-Some.ensures.answer in taken_stands (view_of c.args.seat.now) (view_of c.claim.new.seat) _ _ a.0 a.2 refl
+look-requires-clause-open g c = let a = c.in-Some.ensures.answer in taken_stands (view_of c.args.seat.now)
+    (view_of c.claim.new.seat) _ _ a.0 a.2 refl
 
 pub returns-then-look-clause-works : goal.returns-then-look-clause-works
 returns-then-look-clause-works g c =
