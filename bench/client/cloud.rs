@@ -4,7 +4,7 @@ use crate::cache::EventCache;
 use crate::client::Client;
 use crate::common::spelling::put;
 use crate::common::MOST_VALUE;
-use crate::frames::Bytes64;
+use crate::container::Container;
 use crate::job::{
     no_more, towards, whole_param, BadParam, Code, Concluded, Job, Started, Worked, WorkedBy,
 };
@@ -126,7 +126,7 @@ impl Job for Cloud {
     fn prepare(
         &self,
         _globals: &u32,
-        _elements: &[Particle],
+        _elements: &Container<Particle>,
         cache: &EventCache,
         client: &mut Client,
     ) -> Result<Target, Code> {
@@ -181,12 +181,12 @@ impl Job for Cloud {
 
     /// Number and coordinates, 20 bytes.
     #[inline]
-    fn element_bytes(&self, element: &Particle) -> Bytes64 {
+    fn put_element(&self, element: &Particle, out: &mut Vec<u8>) {
         let mut bytes = [0; 20];
         bytes[..4].copy_from_slice(&element.number.to_be_bytes());
         bytes[4..12].copy_from_slice(&element.x.to_be_bytes());
         bytes[12..].copy_from_slice(&element.y.to_be_bytes());
-        Bytes64::of(bytes, 20)
+        put(bytes, out);
     }
 
     fn conclude(

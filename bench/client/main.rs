@@ -9,6 +9,7 @@ mod client;
 mod cloud;
 #[path = "../common/mod.rs"]
 mod common;
+mod container;
 mod encode;
 mod engine;
 mod frames;

@@ -1,43 +1,42 @@
-//! One pass over the elements, on one thread or on several.
+//! One pass over the elements, on one thread or on several that are kept over the whole run.
 
 use crate::common::random_words::Streams;
+use crate::container::{Container, BLOCK};
 use crate::job::Job;
 use crate::random::ElementRandom;
-use std::ops::Range;
+use std::hint;
 use std::sync::atomic::{AtomicUsize, Ordering};
-use std::thread;
+use std::sync::mpsc::{sync_channel, Receiver, SyncSender};
+use std::sync::Arc;
+use std::thread::{self, JoinHandle};
 
-/// The elements that a worker claims at a time.
-const BLOCK: usize = 64;
+/// The looks for a message before a thread waits for it.
+const LOOKS: usize = 20_000;
 
-/// What a pass is run with.
-pub struct Task<'a, J: Job> {
-    pub job: &'a J,
-    pub plan: &'a J::Plan,
-    pub carry: &'a J::Part,
-    pub pass: u8,
-    pub elements: &'a [J::Element],
+/// A pass that is to be run, by whoever claims its blocks.
+pub struct PassOf<J: Job> {
+    pub job: Arc<J>,
+    pub plan: Arc<J::Plan>,
+    /// The part of the pass before, or the unit.
+    pub carry: Arc<J::Part>,
+    pub number: u8,
+    pub elements: Arc<Container<J::Element>>,
     pub streams: Streams,
+    /// The block that is claimed next.
+    pub next: AtomicUsize,
 }
 
-/// New elements, and the words that each drew.
-pub struct Moved<E> {
-    pub elements: Vec<E>,
-    pub draws: Vec<u32>,
-}
-
-impl<E> Moved<E> {
-    fn with_capacity(capacity: usize) -> Moved<E> {
-        Moved {
-            elements: Vec::with_capacity(capacity),
-            draws: Vec::with_capacity(capacity),
-        }
-    }
+/// What a block leaves: its new elements, the words that each drew, and its parts joined.
+pub struct BlockDone<E, P> {
+    elements: Vec<E>,
+    draws: Vec<u32>,
+    part: P,
 }
 
 /// What a pass leaves.
 pub struct PassDone<E, P> {
-    pub moved: Moved<E>,
+    pub elements: Container<E>,
+    pub draws: Container<u32>,
     pub part: P,
 }
 
@@ -48,149 +47,152 @@ pub struct Refusal {
 }
 
 pub type PassResult<J> = Result<PassDone<<J as Job>::Element, <J as Job>::Part>, Refusal>;
+type BlockOf<J> = BlockDone<<J as Job>::Element, <J as Job>::Part>;
+type BlocksOf<J> = Result<Vec<(usize, BlockOf<J>)>, Refusal>;
 
-impl<J: Job> Task<'_, J> {
+impl<J: Job> PassOf<J> {
     fn blocks(&self) -> usize {
-        self.elements.len().div_ceil(BLOCK)
+        self.elements.blocks().len()
     }
 
-    fn range_of(&self, block: usize) -> Range<usize> {
-        let begin = block * BLOCK;
-        begin..self.elements.len().min(begin + BLOCK)
-    }
-
-    /// Runs some elements in order, and adds what becomes of them. Answers their part.
-    fn run_range(
-        &self,
-        range: Range<usize>,
-        moved: &mut Moved<J::Element>,
-    ) -> Result<J::Part, Refusal> {
+    /// Runs the elements of a block in order.
+    fn run_block(&self, number: usize) -> Result<BlockOf<J>, Refusal> {
+        let block = &self.elements.blocks()[number];
+        let mut elements = Vec::with_capacity(block.len());
+        let mut draws = Vec::with_capacity(block.len());
         let mut part = self.job.unit();
-        for (element, value) in (range.start as u32..).zip(&self.elements[range]) {
-            let words = self.streams.element(u64::from(self.pass), element);
+        for (element, value) in ((number * BLOCK) as u32..).zip(block) {
+            let words = self.streams.element(u64::from(self.number), element);
             let mut random = ElementRandom::new(words);
             let worked = self
                 .job
-                .run(self.plan, self.carry, self.pass, value, &mut random)
+                .run(&self.plan, &self.carry, self.number, value, &mut random)
                 .map_err(|code| Refusal { element, code })?;
-            moved.elements.push(worked.element);
-            moved.draws.push(random.draws());
+            elements.push(worked.element);
+            draws.push(random.draws());
             part = self.job.merge(part, worked.part);
         }
-        Ok(part)
+        Ok(BlockDone {
+            elements,
+            draws,
+            part,
+        })
     }
-}
 
-fn run_in_order<J: Job>(task: &Task<J>) -> PassResult<J> {
-    let count = task.elements.len();
-    let mut moved = Moved::with_capacity(count);
-    let part = task.run_range(0..count, &mut moved)?;
-    Ok(PassDone { moved, part })
-}
-
-/// The blocks that one worker ran, in order, and what became of their elements.
-struct Share<E, P> {
-    moved: Moved<E>,
-    parts: Vec<(usize, P)>,
-}
-
-type ShareOf<J> = Share<<J as Job>::Element, <J as Job>::Part>;
-
-/// Claims and runs blocks until none is left. After a refusal no more are claimed: every block before the refused one
-/// was claimed before it, so the least refusal is found.
-fn work<J: Job>(
-    task: &Task<J>,
-    next: &AtomicUsize,
-    capacity: usize,
-) -> Result<ShareOf<J>, Refusal> {
-    let mut share = Share {
-        moved: Moved::with_capacity(capacity),
-        parts: Vec::with_capacity(capacity.div_ceil(BLOCK)),
-    };
-    loop {
-        let block = next.fetch_add(1, Ordering::Relaxed);
-        if block >= task.blocks() {
-            return Ok(share);
-        }
-        match task.run_range(task.range_of(block), &mut share.moved) {
-            Ok(part) => share.parts.push((block, part)),
-            Err(refusal) => {
-                next.fetch_max(task.blocks(), Ordering::Relaxed);
-                return Err(refusal);
+    /// Claims and runs blocks until none is left. After a refusal no more are claimed: every block before the refused
+    /// one was claimed before it, so the least refusal is found.
+    fn work(&self) -> BlocksOf<J> {
+        let mut done = Vec::new();
+        loop {
+            let number = self.next.fetch_add(1, Ordering::Relaxed);
+            if number >= self.blocks() {
+                return Ok(done);
+            }
+            match self.run_block(number) {
+                Ok(block) => done.push((number, block)),
+                Err(refusal) => {
+                    self.next.fetch_max(self.blocks(), Ordering::Relaxed);
+                    return Err(refusal);
+                }
             }
         }
     }
-}
 
-/// What each worker ran. The caller's thread is one of them.
-fn work_side_by_side<J: Job>(task: &Task<J>, threads: usize) -> Vec<Result<ShareOf<J>, Refusal>> {
-    let next = AtomicUsize::new(0);
-    let capacity = task.blocks().div_ceil(threads) * BLOCK;
-    thread::scope(|scope| {
-        let work = || work(task, &next, capacity);
-        let others: Vec<_> = (1..threads).map(|_| scope.spawn(work)).collect();
-        let mut shares = Vec::with_capacity(threads);
-        shares.push(work());
-        shares.extend(
-            others
-                .into_iter()
-                .map(|other| other.join().expect("a worker panicked")),
-        );
-        shares
-    })
-}
-
-/// The shares, or the refusal of the least element.
-fn all_shares<J: Job>(
-    results: Vec<Result<ShareOf<J>, Refusal>>,
-) -> Result<Vec<ShareOf<J>>, Refusal> {
-    let refusals = results.iter().filter_map(|result| result.as_ref().err());
-    if let Some(&least) = refusals.min_by_key(|refusal| refusal.element) {
-        return Err(least);
-    }
-    results.into_iter().collect()
-}
-
-/// The number of the share in which each block is.
-fn owners<E, P>(shares: &[Share<E, P>], blocks: usize) -> Vec<usize> {
-    let mut owners = vec![0; blocks];
-    for (owner, share) in shares.iter().enumerate() {
-        for (block, _) in &share.parts {
-            owners[*block] = owner;
+    /// All blocks together, in their order. Elements and draws are moved block by block.
+    fn gather(&self, shares: Vec<Vec<(usize, BlockOf<J>)>>) -> PassDone<J::Element, J::Part> {
+        let mut places: Vec<Option<BlockOf<J>>> = Vec::new();
+        places.resize_with(self.blocks(), || None);
+        for (number, block) in shares.into_iter().flatten() {
+            places[number] = Some(block);
+        }
+        let mut elements = Container::with_room(self.elements.len());
+        let mut draws = Container::with_room(self.elements.len());
+        let mut part = self.job.unit();
+        for block in places {
+            let block = block.expect("each block was run");
+            elements.push_block(block.elements);
+            draws.push_block(block.draws);
+            part = self.job.merge(part, block.part);
+        }
+        PassDone {
+            elements,
+            draws,
+            part,
         }
     }
-    owners
 }
 
-/// All shares together, in the order of their blocks.
-fn gather<J: Job>(task: &Task<J>, shares: Vec<ShareOf<J>>) -> PassDone<J::Element, J::Part> {
-    let owners = owners(&shares, task.blocks());
-    let mut shares: Vec<_> = shares
-        .into_iter()
-        .map(|Share { moved, parts }| {
-            let Moved { elements, draws } = moved;
-            (elements.into_iter(), draws.into_iter(), parts.into_iter())
-        })
-        .collect();
-    let mut moved = Moved::with_capacity(task.elements.len());
-    let mut all = task.job.unit();
-    for (block, owner) in owners.into_iter().enumerate() {
-        let (elements, draws, parts) = &mut shares[owner];
-        let count = task.range_of(block).len();
-        moved.elements.extend(elements.take(count));
-        moved.draws.extend(draws.take(count));
-        let (_, part) = parts.next().expect("each block has an owner");
-        all = task.job.merge(all, part);
+/// A message, looked for a while and then waited for.
+fn received<T>(messages: &Receiver<T>) -> Option<T> {
+    for _ in 0..LOOKS {
+        if let Ok(message) = messages.try_recv() {
+            return Some(message);
+        }
+        hint::spin_loop();
     }
-    PassDone { moved, part: all }
+    messages.recv().ok()
 }
 
-/// Runs one pass on a number of workers. No more threads are used than there are blocks.
-pub fn run_pass<J: Job>(task: &Task<J>, workers: usize) -> PassResult<J> {
-    let threads = workers.min(task.blocks());
-    if threads <= 1 {
-        return run_in_order(task);
+/// A thread that runs what it is given until the other end is gone.
+struct Kept<J: Job> {
+    passes: SyncSender<Arc<PassOf<J>>>,
+    shares: Receiver<BlocksOf<J>>,
+    thread: JoinHandle<()>,
+}
+
+impl<J: Job + 'static> Kept<J> {
+    fn start() -> Kept<J> {
+        let (passes, taken) = sync_channel::<Arc<PassOf<J>>>(1);
+        let (given, shares) = sync_channel(1);
+        let thread = thread::spawn(move || {
+            while let Some(pass) = received(&taken) {
+                if given.send(pass.work()).is_err() {
+                    return;
+                }
+            }
+        });
+        Kept {
+            passes,
+            shares,
+            thread,
+        }
     }
-    let shares = all_shares::<J>(work_side_by_side(task, threads))?;
-    Ok(gather(task, shares))
+}
+
+/// The threads of a run. The caller's is one of the workers.
+pub struct Crew<J: Job> {
+    kept: Vec<Kept<J>>,
+}
+
+impl<J: Job + 'static> Crew<J> {
+    pub fn start(workers: usize) -> Crew<J> {
+        Crew {
+            kept: (1..workers).map(|_| Kept::start()).collect(),
+        }
+    }
+
+    /// Runs one pass. No more threads are used than there are blocks.
+    pub fn run_pass(&mut self, pass: &Arc<PassOf<J>>) -> PassResult<J> {
+        let others = self.kept.len().min(pass.blocks().saturating_sub(1));
+        for kept in &self.kept[..others] {
+            kept.passes.send(Arc::clone(pass)).expect("a worker ended");
+        }
+        let mut results = vec![pass.work()];
+        for kept in &self.kept[..others] {
+            results.push(received(&kept.shares).expect("a worker ended"));
+        }
+        let refusals = results.iter().filter_map(|result| result.as_ref().err());
+        if let Some(&least) = refusals.min_by_key(|refusal| refusal.element) {
+            return Err(least);
+        }
+        Ok(pass.gather(results.into_iter().flatten().collect()))
+    }
+
+    /// Ends the threads.
+    pub fn stop(self) {
+        for kept in self.kept {
+            drop(kept.passes);
+            kept.thread.join().expect("a worker panicked");
+        }
+    }
 }

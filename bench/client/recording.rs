@@ -8,6 +8,7 @@ use crate::encode::encode_frame;
 use crate::engine::Engine;
 use crate::frames::Frame;
 use crate::job::Job;
+use crate::pool::Crew;
 use crate::probes::{all_probes, Probe};
 use std::fs::File;
 use std::io::{self, BufReader, Write};
@@ -18,14 +19,14 @@ const PIECE: usize = 4_096;
 /// An engine, and where its frames go.
 struct Recording<J: Job, W> {
     engine: Engine<J>,
-    workers: usize,
+    crew: Crew<J>,
     out: W,
     /// The frame that is written.
     bytes: Vec<u8>,
     probes: Vec<Box<dyn Probe>>,
 }
 
-impl<J: Job, W: Write> Recording<J, W> {
+impl<J: Job + 'static, W: Write> Recording<J, W> {
     /// Writes the header and the frames before the first cycle.
     fn begin(&mut self, profile: &Profile) -> io::Result<()> {
         put_header(J::NUMBER, profile, &mut self.bytes);
@@ -49,13 +50,13 @@ impl<J: Job, W: Write> Recording<J, W> {
 
     /// Runs the next cycle, and writes its frame.
     fn run(&mut self, input: Input) -> io::Result<()> {
-        let run = self.engine.cycle(input, self.workers);
+        let run = self.engine.cycle(&mut self.crew, input);
         self.write(&Frame::Run(run))
     }
 }
 
 /// Records a stimulus. Answers the number of its bad line, where it has one.
-pub fn record<J: Job>(
+pub fn record<J: Job + 'static>(
     profile: &Profile,
     workers: usize,
     stimulus: File,
@@ -65,7 +66,7 @@ pub fn record<J: Job>(
     let job = J::make(&profile.params, events)?;
     let mut recording = Recording {
         engine: Engine::start(job, profile),
-        workers,
+        crew: Crew::start(workers),
         out,
         bytes: Vec::new(),
         probes: all_probes(),
@@ -81,5 +82,6 @@ pub fn record<J: Job>(
         return Ok(Some(line));
     }
     recording.write(&Frame::Terminate)?;
+    recording.crew.stop();
     Ok(None)
 }

@@ -1,11 +1,16 @@
 -- What `needs` gives by its manifest.
-use Rattle.std.specs.Prelude.{ℕ, List, Result, Ok, Err}
+use Rattle.std.specs.Prelude.{ℕ, true, List, Result, Ok, Err}
 use Rattle.manifest.specs.Values.{ManifestValue}
 use Rattle.cli_answers.specs.declared.answer.BadManifest.{BadManifest}
 use Rattle.cli_answers.specs.declared.answer.Answer.TheVariants as answers
+use Rattle.cli_answers.specs.Ends.{Work, writes_alone}
 use Rattle.cli_answers.specs.Outcome.{Outcome, text_outcome, refusal}
 use Rattle.cmd_setup.specs.Setup.{setup_of}
 use Rattle.cmd_needs.specs.Lines.{needs_lines}
+
+-- it reads a manifest
+abbrev pub needs_work : Work
+needs_work = record writes_alone { manifest = true }
 
 -- the lines of the manifest, or its refusal
 abbrev pub needs_from : Result ManifestValue BadManifest → Outcome

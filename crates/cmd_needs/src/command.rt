@@ -1,10 +1,11 @@
 //! The command `needs`.
-ghost use Rattle.std.specs.Prelude.{◌≡◌, ◌∷◌, [], IfOk, IsSome};
+ghost use Rattle.std.specs.Prelude.{◌≡◌, ◌∷◌, [], true, IfOk, IsSome};
 ghost use Rattle.det_edges.specs.Count.{Rose};
 ghost use Rattle.det_edges.specs.Shelf.{Asks};
+ghost use Rattle.cli_answers.specs.Ends.{can_end};
 ghost use Rattle.cli_answers.specs.Outcome.{Meets, told};
 ghost use Rattle.cmd_needs.specs.Lines.{needs_lines};
-ghost use Rattle.cmd_needs.specs.Needs.{needs_outcome};
+ghost use Rattle.cmd_needs.specs.Needs.{needs_outcome, needs_work};
 
 use crate::lines::put_needs_lines;
 use cli_answers::Answer;
@@ -30,7 +31,7 @@ pub fn needs<S: Shelf, K: Sink>(alloc: Global, name: &str, shelf: &mut S, out: &
     ensures meets { Meets (needs_outcome (told (S.sees shelf.old) name.now)) (IsSome ((S.sees shelf.old).holds name.now))
         (Rose (S.sees shelf.old).faults (S.sees shelf.new).faults) (Rose (K.faults out.old) (K.faults out.new))
         (K.took out.old) (K.took out.new) result }
-    ensures words { result ≡ Answer.BadWords → ⊥ }
+    ensures ends { can_end needs_work result ≡ true }
     ensures asked { Asks (S.sees shelf.old) (S.sees shelf.new) (name.now ∷ []) }
 {
     let manifest = match read_setup(alloc, name, shelf) {

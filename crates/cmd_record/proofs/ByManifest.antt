@@ -3,7 +3,8 @@ use Rattle.std.proofs.Common.{◌≡◌, ℕ, List, [], ◌∷◌, length, refl,
 use Rattle.std.specs.Prelude.{Option, Some, None, Result, Ok, Err, IsSome}
 use Rattle.std.specs.Option.{unwrap_or}
 use Rattle.det_values.specs.Values.{ProfileValue}
-use Rattle.det_edges.specs.Shelf.{ShelfState}
+use Rattle.det_edges.specs.Shelf.{ShelfState, Asks, AsksPrefix}
+use Rattle.det_edges.proofs.Opening.{asks-all, asks-prefix-none, asks-then-prefix}
 use Rattle.det_values.specs.declared.job_kind.JobKind.{JobKind}
 use Rattle.det_values.specs.declared.job_kind.JobKind.TheVariants.{Bank, Cloud, Guard}
 use Rattle.job_bank.specs.Meaning as bank
@@ -14,12 +15,13 @@ use Rattle.manifest.specs.Profiles.{profile_of}
 use Rattle.manifest.specs.Meaning.{manifest_of}
 use Rattle.manifest.specs.declared.fault.ManifestFault.{ManifestFault}
 use Rattle.cli_answers.specs.declared.answer.Answer.{Answer}
+use Rattle.cli_answers.specs.declared.answer.BadManifest.{BadManifest}
 use Rattle.cli_answers.specs.Outcome.{Meets, Tells, told}
 use Rattle.cmd_setup.specs.declared.setup.SetupEnd.{SetupEnd}
 use Rattle.cmd_setup.specs.declared.setup.SetupEnd.TheVariants as ends
 use Rattle.cmd_setup.specs.Setup.{bad_param, unless_bad, setup_from, setup_of, IfBad, answer_of}
 use Rattle.cmd_setup.proofs.Ending.{meets-end}
-use Rattle.cmd_record.specs.Outcomes.{recorded_if_good, demo_profile, demo_outcome, good_by_kind, recorded_by_kind, recorded_by, record_outcome}
+use Rattle.cmd_record.specs.Outcomes.{recorded_if_good, demo_profile, demo_outcome, good_by_kind, recorded_by_kind, recorded_by, record_names, record_outcome}
 use Rattle.cmd_record.proofs.Recorded.{if-good}
 
 -- the first of some told names, and the second
@@ -55,33 +57,59 @@ by-setup bytes text seed m is =
     ap (recorded_by seed text) is ∙ sym (kind-good m.kind (profile_of m seed) text (setup-good (manifest_of bytes) m is))
 
 module _ (first : ShelfState) (name stimulus : List ℕ) where
-  -- the same, where the manifest and the stimulus are told
-  pub by-told : (mid : ShelfState) (seed : Option ℕ) (m : ManifestValue) (kind : JobKind) (p : ProfileValue) → mid.holds ≡ first.holds
-      → (IsSome (first.holds name) → setup_of (told first name) ≡ Ok m) → kind ≡ m.kind → p ≡ profile_of m (unwrap_or seed 0)
-      → Tells first (name ∷ stimulus ∷ [])
-      → record_outcome (told first name) (told first stimulus) seed ≡ good_by_kind kind p (told mid stimulus)
-  by-told mid seed m kind p holds is same profile tells =
-      by-setup (told first name) (told first stimulus) (unwrap_or seed 0) m (is (tells-first first name (stimulus ∷ []) tells))
-      ∙ ap (λ k. good_by_kind k (profile_of m (unwrap_or seed 0)) (told first stimulus)) (sym same)
-      ∙ ap (λ q. good_by_kind kind q (told first stimulus)) (sym profile)
-      ∙ ap (λ h. good_by_kind kind p (unwrap_or (h stimulus) [])) (sym holds)
+  -- the names that are opened, by what the manifest is
+  abbrev names : Result ManifestValue BadManifest → List (List ℕ)
+  names read = record_names name stimulus read
 
-  -- the stimulus is told behind the manifest
-  pub still-told : (mid : ShelfState) → mid.holds ≡ first.holds → Tells first (name ∷ stimulus ∷ []) → IsSome (mid.holds stimulus)
-  still-told mid holds tells = subst (λ h. IsSome (h stimulus)) (sym holds) (tells-second first name stimulus [] tells)
+  -- the manifest is always among them
+  pub tells-manifest : (read : Result ManifestValue BadManifest) → Tells first (names read) → IsSome (first.holds name)
+  tells-manifest (Ok m) tells = tells-first first name (stimulus ∷ []) tells
+  tells-manifest (Err why) tells = tells-first first name [] tells
+
+  -- what was asked for where the manifest was read alone
+  pub asked-manifest : (last : ShelfState) (read : Result ManifestValue BadManifest) → Asks first last (name ∷ []) → AsksPrefix first last (names read)
+  asked-manifest last (Ok m) asked = asks-then-prefix first last last (name ∷ []) (stimulus ∷ []) asked (asks-prefix-none last last (stimulus ∷ []) refl)
+  asked-manifest last (Err why) asked = asks-all first last (name ∷ []) asked
+
+  module _ (m : ManifestValue) (is : IsSome (first.holds name) → setup_of (told first name) ≡ Ok m) where
+    -- where the manifest is told it is this one
+    pub is-told : Tells first (names (setup_of (told first name))) → setup_of (told first name) ≡ Ok m
+    is-told tells = is (tells-manifest (setup_of (told first name)) tells)
+
+    -- so both names are opened
+    pub tells-both : Tells first (names (setup_of (told first name))) → Tells first (name ∷ stimulus ∷ [])
+    tells-both tells = subst (λ r. Tells first (names r)) (is-told tells) tells
+
+    pub asked-both : (last : ShelfState) → AsksPrefix first last (name ∷ stimulus ∷ []) → Tells first (names (setup_of (told first name)))
+        → AsksPrefix first last (names (setup_of (told first name)))
+    asked-both last asked tells = subst (λ r. AsksPrefix first last (names r)) (sym (is-told tells)) asked
+
+    -- the same outcome, where the manifest and the stimulus are told
+    pub by-told : (mid : ShelfState) (seed : Option ℕ) (kind : JobKind) (p : ProfileValue) → mid.holds ≡ first.holds
+        → kind ≡ m.kind → p ≡ profile_of m (unwrap_or seed 0) → Tells first (names (setup_of (told first name)))
+        → record_outcome (told first name) (told first stimulus) seed ≡ good_by_kind kind p (told mid stimulus)
+    by-told mid seed kind p holds same profile tells =
+        by-setup (told first name) (told first stimulus) (unwrap_or seed 0) m (is-told tells)
+        ∙ ap (λ k. good_by_kind k (profile_of m (unwrap_or seed 0)) (told first stimulus)) (sym same)
+        ∙ ap (λ q. good_by_kind kind q (told first stimulus)) (sym profile)
+        ∙ ap (λ h. good_by_kind kind p (unwrap_or (h stimulus) [])) (sym holds)
+
+    -- the stimulus is told behind the manifest
+    pub still-told : (mid : ShelfState) → mid.holds ≡ first.holds → Tells first (names (setup_of (told first name))) → IsSome (mid.holds stimulus)
+    still-told mid holds tells = subst (λ h. IsSome (h stimulus)) (sym holds) (tells-second first name stimulus [] (tells-both tells))
 
   bad-told : (end : SetupEnd) → IfBad end (λ why. IsSome (first.holds name) → setup_of (told first name) ≡ Err why)
-      → IfBad end (λ why. Tells first (name ∷ stimulus ∷ []) → setup_of (told first name) ≡ Err why)
-  bad-told (ends.BadManifest why) bad = λ tells. bad (tells-first first name (stimulus ∷ []) tells)
+      → IfBad end (λ why. Tells first (names (setup_of (told first name))) → setup_of (told first name) ≡ Err why)
+  bad-told (ends.BadManifest why) bad = λ tells. bad (tells-manifest (setup_of (told first name)) tells)
   bad-told ends.ReadFault bad = bad
   bad-told ends.OutOfMemory bad = bad
 
   -- a manifest that is refused, or couldn't be read
   pub met-end : (seed : Option ℕ) (rose failed : Type 0) (before : List ℕ → Type 0) (end : SetupEnd) (answer : Answer) → answer ≡ answer_of end
       → IfBad end (λ why. IsSome (first.holds name) → setup_of (told first name) ≡ Err why) → (end ≡ ends.ReadFault → rose)
-      → Meets (record_outcome (told first name) (told first stimulus) seed) (Tells first (name ∷ stimulus ∷ [])) rose failed before before answer
+      → Meets (record_outcome (told first name) (told first stimulus) seed) (Tells first (names (setup_of (told first name)))) rose failed before before answer
   met-end seed rose failed before end answer is bad read =
       let wanted = recorded_by (unwrap_or seed 0) (told first stimulus) in
-      let tells = Tells first (name ∷ stimulus ∷ []) in
+      let tells = Tells first (names (setup_of (told first name))) in
       subst (λ a. Meets (wanted (setup_of (told first name))) tells rose failed before before a) (sym is)
       (meets-end wanted (λ why. refl) (told first name) tells rose failed before end (bad-told end bad) read)

@@ -1,5 +1,5 @@
 -- What `demo` and `record` give.
-use Rattle.std.specs.Prelude.{ℕ, pos, List, [], ◌∷◌, length, codes, Option, Some, None, Result, Ok, Err}
+use Rattle.std.specs.Prelude.{ℕ, pos, true, List, [], ◌∷◌, length, codes, Option, Some, None, Result, Ok, Err}
 use Rattle.std.specs.Option.{unwrap_or}
 use Rattle.det_values.specs.Values.{ProfileValue}
 use Rattle.det_values.specs.declared.format.Format.TheVariants.{Two}
@@ -21,8 +21,16 @@ use Rattle.cli_answers.specs.declared.answer.BadManifest.{BadManifest}
 use Rattle.cli_answers.specs.declared.answer.BadManifest.TheVariants.{Parameter}
 use Rattle.cli_answers.specs.declared.answer.Answer.{Answer}
 use Rattle.cli_answers.specs.declared.answer.Answer.TheVariants as answers
+use Rattle.cli_answers.specs.Ends.{Work, writes_alone}
 use Rattle.cli_answers.specs.Outcome.{Outcome, refusal}
 use Rattle.cmd_setup.specs.Setup.{setup_of}
+
+-- `demo` reads a stimulus, `record` a manifest besides
+abbrev pub demo_work : Work
+demo_work = record writes_alone { stimulus = true }
+
+abbrev pub record_work : Work
+record_work = record demo_work { manifest = true }
 
 -- what a stimulus that ends like this is answered
 abbrev pub answer_to : Ending → Answer
@@ -82,6 +90,11 @@ good_by_kind Guard profile text = recorded_if_good guard.meaning profile text
 abbrev pub recorded_by : ℕ → List ℕ → Result ManifestValue BadManifest → Outcome
 recorded_by seed stimulus (Ok m) = recorded_by_kind m.kind (profile_of m seed) stimulus
 recorded_by seed stimulus (Err why) = refusal (answers.BadManifest why)
+
+-- the names that `record` opens: of a manifest that is refused it opens no stimulus
+abbrev pub record_names : (manifest stimulus : List ℕ) → Result ManifestValue BadManifest → List (List ℕ)
+record_names manifest stimulus (Ok m) = manifest ∷ stimulus ∷ []
+record_names manifest stimulus (Err why) = manifest ∷ []
 
 -- what `record` gives of a manifest and a stimulus, with the seed 0 where none is given
 abbrev pub record_outcome : (manifest stimulus : List ℕ) → Option ℕ → Outcome

@@ -1,16 +1,19 @@
 //! The command `demo`.
-ghost use Rattle.std.specs.Prelude.{◌≡◌, ◌∷◌, [], IfOk};
+ghost use Rattle.std.specs.Prelude.{◌≡◌, ◌∷◌, [], IfOk, true};
 ghost use Rattle.det_edges.specs.Count.{Rose};
 ghost use Rattle.det_edges.specs.Shelf.{AsksPrefix};
+ghost use Rattle.cli_answers.specs.Ends.{can_end};
 ghost use Rattle.cli_answers.specs.Outcome.{Meets, Tells, told};
-ghost use Rattle.cmd_record.specs.Outcomes.{demo_outcome, demo_profile};
+ghost use Rattle.cmd_record.specs.Outcomes.{demo_outcome, demo_profile, demo_work};
 
 use crate::over_stimulus::record_job;
-use job_bank::Bank;
 use cli_answers::Answer;
+use crew_recorder::Workers;
 use det_edges::{Shelf, Sink};
 use det_values::{EventName, EventSpec, Events, Format, JobKind, OutOfMemory, Params, Policy, Profile};
+use job_bank::Bank;
 use std::alloc::Global;
+use std::sync::Arc;
 use std::thread::Threads;
 use worker_pool::Gate;
 
@@ -53,22 +56,23 @@ fn demo_profile(alloc: Global) -> Result<Profile, OutOfMemory>
 }
 
 /// Writes the record of the built-in profile over the stimulus of this name.
-pub fn demo<R: Threads + Sync, S: Shelf, K: Sink, G: Gate>(
+pub fn demo<R: Threads + Sync, S: Shelf, K: Sink, G: Gate + Send + Sync + 'static>(
     rt: &R,
     alloc: Global,
     stimulus: &str,
     shelf: &mut S,
     out: &mut K,
-    gate: &G,
+    gate: &Arc<G, Global>,
 ) -> Answer
     ensures meets { Meets (demo_outcome (told (S.sees shelf.old) stimulus.now)) (Tells (S.sees shelf.old) (stimulus.now ∷ []))
         (Rose (S.sees shelf.old).faults (S.sees shelf.new).faults) (Rose (K.faults out.old) (K.faults out.new))
         (K.took out.old) (K.took out.new) result }
-    ensures words { result ≡ Answer.BadWords → ⊥ }
+    ensures ends { can_end demo_work result ≡ true }
     ensures asked { AsksPrefix (S.sees shelf.old) (S.sees shelf.new) (stimulus.now ∷ []) }
 {
     let Ok(profile) = demo_profile(alloc) else {
         return Answer::OutOfMemory;
     };
-    record_job::<Bank, S, K, R, G>(rt, alloc, &profile, stimulus, 1, shelf, out, gate)
+    let workers = Workers { rt, count: 1, gate };
+    record_job::<Bank, S, K, R, G>(alloc, &workers, &profile, stimulus, shelf, out)
 }

@@ -1,20 +1,24 @@
 //! The command `record`.
-ghost use Rattle.std.specs.Prelude.{◌≡◌, ◌≤◌, ◌∷◌, [], IsSome, IfSome};
+ghost use Rattle.std.specs.Prelude.{◌≡◌, ◌≤◌, ◌∷◌, [], IsSome, IfSome, true};
 ghost use Rattle.det_edges.specs.Count.{Rose};
 ghost use Rattle.det_edges.specs.Shelf.{AsksPrefix};
 ghost use Rattle.manifest.specs.Limits.{IsWorkers};
+ghost use Rattle.cli_answers.specs.Ends.{can_end};
 ghost use Rattle.cli_answers.specs.Outcome.{Meets, Tells, told};
-ghost use Rattle.cmd_record.specs.Outcomes.{good_by_kind, record_outcome};
+ghost use Rattle.cmd_setup.specs.Setup.{setup_of};
+ghost use Rattle.cmd_record.specs.Outcomes.{good_by_kind, record_names, record_outcome, record_work};
 
 use crate::over_stimulus::record_job;
+use cli_answers::Answer;
+use cmd_setup::read_setup;
+use crew_recorder::Workers;
+use det_edges::{Shelf, Sink};
+use det_values::{JobKind, Profile};
 use job_bank::Bank;
 use job_cloud::Cloud;
 use job_guard::Guard;
-use cli_answers::Answer;
-use det_edges::{Shelf, Sink};
-use det_values::{JobKind, Profile};
-use cmd_setup::read_setup;
 use std::alloc::Global;
+use std::sync::Arc;
 use std::thread::Threads;
 use worker_pool::Gate;
 
@@ -31,40 +35,42 @@ fn workers_or(given: Option<u32>, own: u32) -> u32
 }
 
 /// Records the stimulus under a name with the job of a kind.
-fn record_kind<R: Threads + Sync, S: Shelf, K: Sink, G: Gate>(
-    rt: &R,
+fn record_kind<R, S, K, G>(
     alloc: Global,
+    workers: &Workers<'_, R, G>,
     kind: JobKind,
     profile: &Profile,
     stimulus: &str,
-    workers: u32,
     shelf: &mut S,
     out: &mut K,
-    gate: &G,
 ) -> Answer
-    requires workers { IsWorkers workers }
+where
+    R: Threads + Sync,
+    S: Shelf,
+    K: Sink,
+    G: Gate + Send + Sync + 'static,
     ensures meets { Meets (good_by_kind kind profile.now (told (S.sees shelf.old) stimulus.now)) (IsSome ((S.sees shelf.old).holds stimulus.now))
         (Rose (S.sees shelf.old).faults (S.sees shelf.new).faults) (Rose (K.faults out.old) (K.faults out.new))
         (K.took out.old) (K.took out.new) result }
-    ensures words { result ≡ Answer.BadWords → ⊥ }
+    ensures ends { can_end record_work result ≡ true }
     ensures asked { AsksPrefix (S.sees shelf.old) (S.sees shelf.new) (stimulus.now ∷ []) }
 {
     match kind {
-        JobKind::Bank => record_job::<Bank, S, K, R, G>(
-            rt, alloc, profile, stimulus, workers, shelf, out, gate,
-        ),
-        JobKind::Cloud => record_job::<Cloud, S, K, R, G>(
-            rt, alloc, profile, stimulus, workers, shelf, out, gate,
-        ),
-        JobKind::Guard => record_job::<Guard, S, K, R, G>(
-            rt, alloc, profile, stimulus, workers, shelf, out, gate,
-        ),
+        JobKind::Bank => {
+            record_job::<Bank, S, K, R, G>(alloc, workers, profile, stimulus, shelf, out)
+        }
+        JobKind::Cloud => {
+            record_job::<Cloud, S, K, R, G>(alloc, workers, profile, stimulus, shelf, out)
+        }
+        JobKind::Guard => {
+            record_job::<Guard, S, K, R, G>(alloc, workers, profile, stimulus, shelf, out)
+        }
     }
 }
 
 /// Writes the record of a manifest's profile over a stimulus. The seed is 0, and the number of workers the manifest's,
 /// where none is given. The manifest is read and judged before the stimulus is opened.
-pub fn record_stimulus<R: Threads + Sync, S: Shelf, K: Sink, G: Gate>(
+pub fn record_stimulus<R: Threads + Sync, S: Shelf, K: Sink, G: Gate + Send + Sync + 'static>(
     rt: &R,
     alloc: Global,
     manifest: &str,
@@ -73,15 +79,17 @@ pub fn record_stimulus<R: Threads + Sync, S: Shelf, K: Sink, G: Gate>(
     workers: Option<u32>,
     shelf: &mut S,
     out: &mut K,
-    gate: &G,
+    gate: &Arc<G, Global>,
 ) -> Answer
     requires workers { IfSome workers IsWorkers }
     ensures meets { Meets (record_outcome (told (S.sees shelf.old) manifest.now) (told (S.sees shelf.old) stimulus.now) seed)
-        (Tells (S.sees shelf.old) (manifest.now ∷ stimulus.now ∷ []))
+        (Tells (S.sees shelf.old) (record_names manifest.now stimulus.now (setup_of (told (S.sees shelf.old) manifest.now))))
         (Rose (S.sees shelf.old).faults (S.sees shelf.new).faults) (Rose (K.faults out.old) (K.faults out.new))
         (K.took out.old) (K.took out.new) result }
-    ensures words { result ≡ Answer.BadWords → ⊥ }
+    ensures ends { can_end record_work result ≡ true }
     ensures asked { AsksPrefix (S.sees shelf.old) (S.sees shelf.new) (manifest.now ∷ stimulus.now ∷ []) }
+    ensures judged { Tells (S.sees shelf.old) (record_names manifest.now stimulus.now (setup_of (told (S.sees shelf.old) manifest.now)))
+        → AsksPrefix (S.sees shelf.old) (S.sees shelf.new) (record_names manifest.now stimulus.now (setup_of (told (S.sees shelf.old) manifest.now))) }
 {
     let setup = match read_setup(alloc, manifest, shelf) {
         Ok(setup) => setup,
@@ -90,16 +98,10 @@ pub fn record_stimulus<R: Threads + Sync, S: Shelf, K: Sink, G: Gate>(
     let Ok(profile) = setup.profile(alloc, seed.unwrap_or(0)) else {
         return Answer::OutOfMemory;
     };
-    let workers = workers_or(workers, setup.workers());
-    record_kind(
+    let workers = Workers {
         rt,
-        alloc,
-        setup.kind(),
-        &profile,
-        stimulus,
-        workers,
-        shelf,
-        out,
+        count: workers_or(workers, setup.workers()),
         gate,
-    )
+    };
+    record_kind(alloc, &workers, setup.kind(), &profile, stimulus, shelf, out)
 }

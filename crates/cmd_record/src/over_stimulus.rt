@@ -1,23 +1,27 @@
 //! Records a stimulus by a profile, for any job.
-ghost use Rattle.std.specs.Prelude.{◌≡◌, ◌≤◌, ◌∷◌, [], IsSome};
+ghost use Rattle.std.specs.Prelude.{◌≡◌, ◌∷◌, [], IsSome, None, length, true};
 ghost use Rattle.det_edges.specs.Count.{Rose};
 ghost use Rattle.det_edges.specs.Shelf.{AsksPrefix};
+ghost use Rattle.cli_answers.specs.Ends.{can_end};
 ghost use Rattle.cli_answers.specs.Outcome.{Meets, told};
-ghost use Rattle.cmd_record.specs.Outcomes.{answer_of, recorded_if_good};
+ghost use Rattle.cmd_record.specs.Outcomes.{answer_of, recorded_if_good, demo_work, record_work};
+ghost use Rattle.cli_answers.specs.declared.answer.BadManifest.{BadManifest as Refusal};
 
-use cycle_engine::Engine;
 use cli_answers::{Answer, BadManifest};
+use crew_recorder::{Workers, record_by_crew};
+use cycle_engine::Engine;
 use det_edges::{Shelf, Sink};
 use det_values::{Bytes, Profile};
 use job_trait::Job;
-use recorder::{Counts, RecordEnd, record_run};
+use recorder::{Counts, RecordEnd};
 use std::alloc::Global;
 use std::thread::Threads;
 use worker_pool::Gate;
 
 /// What a run of the recorder is answered.
 fn answer_of(run: Result<Counts, RecordEnd>) -> Answer
-    ensures { result ≡ answer_of run }
+    ensures is { result ≡ answer_of run }
+    ensures ends { can_end demo_work result ≡ true }
 {
     match run {
         Ok(_) => Answer::Done,
@@ -29,21 +33,30 @@ fn answer_of(run: Result<Counts, RecordEnd>) -> Answer
 }
 
 /// Records the stimulus under a name. A parameter that the job refuses is answered before the name is opened.
-pub(crate) fn record_job<J: Job, S: Shelf, K: Sink, R: Threads + Sync, G: Gate>(
-    rt: &R,
+pub(crate) fn record_job<J, S, K, R, G>(
     alloc: Global,
+    workers: &Workers<'_, R, G>,
     profile: &Profile,
     stimulus: &str,
-    workers: u32,
     shelf: &mut S,
     out: &mut K,
-    gate: &G,
 ) -> Answer
-    requires workers { (1 ≤ workers) × (workers ≤ 64) }
+where
+    J: Job + Send + Sync + 'static,
+    J::Globals: Send + 'static,
+    J::Element: Send + Sync + 'static,
+    J::Plan: Send + Sync + 'static,
+    J::Part: Send + Sync + 'static,
+    S: Shelf,
+    K: Sink,
+    R: Threads,
+    G: Gate + Send + Sync + 'static,
     ensures meets { Meets (recorded_if_good J.meaning profile.now (told (S.sees shelf.old) stimulus.now)) (IsSome ((S.sees shelf.old).holds stimulus.now))
         (Rose (S.sees shelf.old).faults (S.sees shelf.new).faults) (Rose (K.faults out.old) (K.faults out.new))
         (K.took out.old) (K.took out.new) result }
-    ensures words { result ≡ Answer.BadWords → ⊥ }
+    ensures ends { can_end record_work result ≡ true }
+    ensures manifest { (why : Refusal) → result ≡ Answer.BadManifest why
+        → J.meaning.bad_param profile.now.params (length profile.now.events) ≡ None → ⊥ }
     ensures asked { AsksPrefix (S.sees shelf.old) (S.sees shelf.new) (stimulus.now ∷ []) }
 {
     let events = profile.events.len() as u16;
@@ -59,16 +72,14 @@ pub(crate) fn record_job<J: Job, S: Shelf, K: Sink, R: Threads + Sync, G: Gate>(
     };
     let mut probes = Vec::new(alloc);
     let mut left = Bytes::new(alloc);
-    let run = record_run(
-        rt,
+    let run = record_by_crew(
         alloc,
+        workers,
         &mut engine,
         profile,
         shelf,
         slot,
         out,
-        workers,
-        gate,
         &mut probes,
         &mut left,
     );

@@ -4,6 +4,7 @@ use cli_answers::{Answer, BadManifest};
 use det_edges::{FailList, MemFile, MemFiles, MemShelf, MemSink};
 use det_values::OutOfMemory;
 use std::alloc::{AllocError, Global};
+use std::sync::Arc;
 use std::test::Fail;
 use std::thread::Threads;
 use worker_pool::NoGate;
@@ -68,7 +69,8 @@ fn demo_over<R: Threads + Sync>(
 ) -> Result<Ran, NoMemory> {
     let mut shelf = shelf(alloc, b"", stimulus)?;
     let mut out = MemSink::new(alloc, room, 10, FailList::new(alloc))?;
-    let answer = demo(rt, alloc, "s", &mut shelf, &mut out, &NoGate);
+    let gate = Arc::new(alloc, NoGate).map_err(|_| NoMemory)?;
+    let answer = demo(rt, alloc, "s", &mut shelf, &mut out, &gate);
     Ok(Ran { answer, out })
 }
 
@@ -81,8 +83,9 @@ fn record_over<R: Threads + Sync>(
 ) -> Result<Ran, NoMemory> {
     let mut shelf = shelf(alloc, manifest, stimulus)?;
     let mut out = MemSink::new(alloc, 400, 10, FailList::new(alloc))?;
+    let gate = Arc::new(alloc, NoGate).map_err(|_| NoMemory)?;
     let answer = record_stimulus(
-        rt, alloc, "m", "s", seed, None, &mut shelf, &mut out, &NoGate,
+        rt, alloc, "m", "s", seed, None, &mut shelf, &mut out, &gate,
     );
     Ok(Ran { answer, out })
 }

@@ -1,5 +1,5 @@
 -- What `show` gives by the bytes of a record: its text, and whether it is whole.
-use Rattle.std.specs.Prelude.{ℕ, List, Option, Some, None, Result, Ok, Err}
+use Rattle.std.specs.Prelude.{ℕ, true, List, Option, Some, None, Result, Ok, Err}
 use Rattle.record_grammar.specs.declared.fault.RecordFault.{RecordFault}
 use Rattle.record_grammar.specs.Record.{fault}
 use Rattle.probes.specs.Reports.{ProbeLife}
@@ -9,7 +9,12 @@ use Rattle.record_show.specs.declared.ends.ShowEnd.TheVariants as ends
 use Rattle.record_show.specs.Text.{text_of}
 use Rattle.cli_answers.specs.declared.answer.Answer.{Answer}
 use Rattle.cli_answers.specs.declared.answer.Answer.TheVariants.{Done, BadRecord, ReadFault, WriteFault, OutOfMemory}
+use Rattle.cli_answers.specs.Ends.{Work, writes_alone}
 use Rattle.cli_answers.specs.Outcome.{Outcome}
+
+-- it reads a record
+abbrev pub show_work : Work
+show_work = record writes_alone { recorded = true }
 
 -- a record without a fault is done
 abbrev pub by_fault : Option RecordFault → Answer

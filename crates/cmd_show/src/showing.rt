@@ -1,10 +1,11 @@
 //! The command `show`.
-ghost use Rattle.std.specs.Prelude.{◌≡◌, ℕ, ◌<◌, ◌≤◌, List, ◌∷◌, [], map, Some};
+ghost use Rattle.std.specs.Prelude.{◌≡◌, ℕ, ◌<◌, ◌≤◌, List, ◌∷◌, [], true, map, Some};
 ghost use Rattle.std.specs.Vec.{vec_len};
 ghost use Rattle.det_edges.specs.Count.{Rose};
 ghost use Rattle.det_edges.specs.Shelf.{AsksPrefix};
+ghost use Rattle.cli_answers.specs.Ends.{can_end};
 ghost use Rattle.cli_answers.specs.Outcome.{Meets, Tells, told};
-ghost use Rattle.cmd_show.specs.Show.{show_outcome, answer_of};
+ghost use Rattle.cmd_show.specs.Show.{show_outcome, show_work, answer_of};
 
 use cli_answers::Answer;
 use det_edges::{Shelf, Sink, Slots};
@@ -17,7 +18,7 @@ use std::alloc::Global;
 /// What the command answers. The one record that it reads is copy 0.
 fn answer_of(shown: Result<Shown, ShowEnd>) -> Answer
     ensures is { result ≡ answer_of shown }
-    ensures words { result ≡ Answer.BadWords → ⊥ }
+    ensures ends { can_end show_work result ≡ true }
 {
     match shown {
         Ok(_) => Answer::Done,
@@ -40,7 +41,7 @@ fn show_slot<S: Slots, K: Sink>(
     requires slot { slot < (S.sees shelf.old).slots }
     ensures meets { (bytes : List ℕ) → Meets (show_outcome (map (λ b. life b) probes.old.items) bytes) ((S.sees shelf.old).left slot ≡ Some bytes)
         (Rose (S.sees shelf.old).faults (S.sees shelf.new).faults) (Rose (K.faults out.old) (K.faults out.new)) (K.took out.old) (K.took out.new) result }
-    ensures words { result ≡ Answer.BadWords → ⊥ }
+    ensures ends { can_end show_work result ≡ true }
     ensures asked { (S.sees shelf.new).asked ≡ (S.sees shelf.old).asked }
     ensures gone { result ≡ Answer.Done → probes.new.items ≡ [] }
 {
@@ -62,7 +63,7 @@ pub fn show<S: Shelf, K: Sink>(
     requires { vec_len probes.old ≤ 1024 }
     ensures meets { Meets (show_outcome (map (λ b. life b) probes.old.items) (told (S.sees shelf.old) recorded.now)) (Tells (S.sees shelf.old) (recorded.now ∷ []))
         (Rose (S.sees shelf.old).faults (S.sees shelf.new).faults) (Rose (K.faults out.old) (K.faults out.new)) (K.took out.old) (K.took out.new) result }
-    ensures words { result ≡ Answer.BadWords → ⊥ }
+    ensures ends { can_end show_work result ≡ true }
     ensures asked { AsksPrefix (S.sees shelf.old) (S.sees shelf.new) (recorded.now ∷ []) }
     ensures gone { result ≡ Answer.Done → probes.new.items ≡ [] }
 {

@@ -1,11 +1,11 @@
 //! A job run over a text in memory.
 ghost use Rattle.std.specs.Prelude.{◌≡◌, ◌≤◌, [], ◌++◌, map, length, None, Ok, OnOk, IfOk, IfErr};
 ghost use Rattle.std.specs.Vec.{vec_len};
-ghost use Rattle.manifest.specs.Limits.{IsWorkers};
 ghost use Rattle.stimulus.specs.Reading.{Terminated, ending};
 ghost use Rattle.probes.specs.Reports.{reports};
 ghost use Rattle.cmd_sim.specs.Sim.{runs_over, summary_over};
 
+use crew_recorder::{Workers, record_by_crew};
 use cycle_engine::Engine;
 use det_edges::TextShelf;
 use det_values::{Bytes, OutOfMemory, Profile};
@@ -13,7 +13,7 @@ use record_text::Summary;
 use job_trait::Job;
 use probes::Probe;
 use record_reader::DigestSink;
-use recorder::{Counts, RecordEnd, record_run};
+use recorder::{Counts, RecordEnd};
 use std::alloc::Global;
 use std::thread::Threads;
 use worker_pool::Gate;
@@ -31,20 +31,25 @@ fn counts_of(run: Result<Counts, RecordEnd>) -> Result<Counts, OutOfMemory>
 
 /// Runs a job over a whole stimulus, and sums up the record without keeping it. Reports of probes that leave are
 /// appended to `left`.
-pub(crate) fn run_over<J: Job, R: Threads + Sync, G: Gate>(
-    rt: &R,
+pub(crate) fn run_over<J, R, G>(
     alloc: Global,
+    workers: &Workers<'_, R, G>,
     number: u64,
     profile: &Profile,
     text: Bytes,
-    workers: u32,
     probes: &mut Vec<Box<dyn Probe>>,
     left: &mut Bytes,
-    gate: &G,
 ) -> Result<Summary, OutOfMemory>
+where
+    J: Job + Send + Sync + 'static,
+    J::Globals: Send + 'static,
+    J::Element: Send + Sync + 'static,
+    J::Plan: Send + Sync + 'static,
+    J::Part: Send + Sync + 'static,
+    R: Threads,
+    G: Gate + Send + Sync + 'static,
     requires good { J.meaning.bad_param profile.now.params (length profile.now.events) ≡ None }
     requires whole { ending (length profile.now.events) text ≡ Terminated }
-    requires workers { IsWorkers workers }
     requires few { vec_len probes.old ≤ 1024 }
     requires empty { left.old ≡ [] }
     ensures summary { IfOk result (λ summary. summary ≡ summary_over J.meaning profile.now text number) }
@@ -58,16 +63,14 @@ pub(crate) fn run_over<J: Job, R: Threads + Sync, G: Gate>(
     let mut engine = Engine::start(alloc, job, profile)?;
     let mut shelf = TextShelf::new(text);
     let mut sink = DigestSink::new();
-    let run = record_run(
-        rt,
+    let run = record_by_crew(
         alloc,
+        workers,
         &mut engine,
         profile,
         &mut shelf,
         0,
         &mut sink,
-        workers,
-        gate,
         probes,
         left,
     );

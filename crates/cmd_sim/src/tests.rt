@@ -4,6 +4,7 @@ use cli_answers::Answer;
 use det_edges::{FailList, MemSink};
 use probes::{CountProbe, FirstRefusalProbe, GapProbe, Probe};
 use std::alloc::Global;
+use std::sync::Arc;
 use std::test::Fail;
 use std::thread::Threads;
 use worker_pool::NoGate;
@@ -27,7 +28,8 @@ fn seven<R: Threads + Sync>(rt: &R, alloc: Global, room: usize) -> Result<Ran, F
     probes.push(Box::new(alloc, GapProbe::new())?)?;
     probes.push(Box::new(alloc, FirstRefusalProbe::new())?)?;
     let mut out = MemSink::new(alloc, room, 10, FailList::new(alloc))?;
-    let answer = sim(rt, alloc, 7, None, &mut out, &mut probes, &NoGate);
+    let gate = Arc::new(alloc, NoGate)?;
+    let answer = sim(rt, alloc, 7, None, &mut out, &mut probes, &gate);
     Ok(Ran { answer, out })
 }
 

@@ -1,6 +1,7 @@
 -- How an engine begins: its client comes to Init, and its job starts.
-use Rattle.std.proofs.Common.{◌≡◌, ℕ, ℤ, ◌+◌, ◌^◌, ◌<◌, ◌≤◌, List, length, sym, ap, ◌∙◌, arith}
+use Rattle.std.proofs.Common.{◌≡◌, ℕ, ℤ, ◌+◌, ◌^◌, ◌<◌, ◌≤◌, List, length, sym, ap, subst, ◌∙◌, arith}
 use Rattle.std.specs.Prelude.{None, Some, Option, [], if◌then◌else◌}
+use Rattle.std.specs.List.{All}
 use Rattle.det_values.specs.Values.{ProfileValue, EventSpecValue}
 use Rattle.event_cache.specs.Rings.{Rings}
 use Rattle.job_trait.specs.Meaning.{Meaning, Begun}
@@ -21,10 +22,12 @@ pub record IsInit (c : State) (its_seed its_time : ℕ) : Type 0 where
   pub cycle_time : c.cycle_time ≡ its_time
   pub own : StandsFor c.own (key c.seed 0 255 0) 0
 
-answered : (before after : State) (r : Activation) (last : Option Activation) → Stepped before (Go None) r after → before.last ≡ last → r ≡ following last
+answered : (before after : State) (r : Activation) (last : Option Activation) → Stepped before (Go None) r after
+    → before.last ≡ last → r ≡ following last
 answered before after r last s e = s.result_is ∙ ap (λ l. next_activation l (Go None)) e
 
-counted : (before after : State) (r a : Activation) → Stepped before (Go None) r after → r ≡ a → after.cycle ≡ before.cycle + (if is_run a then 1 else 0)
+counted : (before after : State) (r a : Activation) → Stepped before (Go None) r after → r ≡ a
+    → after.cycle ≡ before.cycle + (if is_run a then 1 else 0)
 counted before after r a s e = s.cycle ∙ ap (λ x. before.cycle + (if is_run x then 1 else 0)) e
 
 -- three requests bring a new client there
@@ -59,7 +62,15 @@ module _ {S G E L P : Type 0} (m : Meaning S G E L P) (profile : ProfileValue) w
       n ∙ sym (ap m.events made ∙ law profile.params (length profile.events) (omega arith))
 
   -- what a job begins with is the state before the first cycle
-  pub begins-run : (job : S) (seed : ℕ) (begun : Begun G E) → job ≡ job_of m profile → seed ≡ profile.seed → m.started job seed ≡ begun
-      → begun_state begun ≡ state_of m profile []
+  pub begins-run : (job : S) (seed : ℕ) (begun : Begun G E) (elements : List E) → job ≡ job_of m profile → seed ≡ profile.seed
+      → m.started job seed ≡ begun → elements ≡ begun.elements
+      → begun_state (record { globals = begun.globals; elements = elements; seed = begun.seed }) ≡ state_of m profile []
   unfolding state_behind
-  begins-run job seed begun made same gives = ap begun_state (sym gives ∙ ap (λ j. m.started j seed) made ∙ ap (m.started (job_of m profile)) same)
+  begins-run job seed begun elements made same gives held =
+      (λ i. begun_state (record { globals = begun.globals; elements = held i; seed = begun.seed }))
+      ∙ ap begun_state (sym gives ∙ ap (λ j. m.started j seed) made ∙ ap (m.started (job_of m profile)) same)
+
+-- the same of equals
+pub all_own : {S E : Type 0} (Own : S → E → Type 0) (j k : S) (es fs : List E) → k ≡ j → fs ≡ es → All (Own j) es → All (Own k) fs
+all_own {S} {E} Own j k es fs job elements own =
+    subst (λ (l : S). All (Own l) fs) (sym job) (subst (λ (xs : List E). All (Own j) xs) (sym elements) own)

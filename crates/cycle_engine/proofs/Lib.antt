@@ -1,3 +1,5 @@
 mod Adding
 mod Beginning
+mod Putting
+mod Spelled
 pub mod Standing

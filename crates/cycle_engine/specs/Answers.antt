@@ -1,5 +1,6 @@
 -- How the answers of a cycle's phases follow from the definition of a cycle.
 use Rattle.std.specs.Prelude.{◌≡◌, ℕ, Result, Ok, Err, IsErr}
+use Rattle.std.specs.Arc.{arc_value}
 use Rattle.det_values.specs.Values.{RefusedAtValue}
 use Rattle.det_values.specs.declared.out_of_memory.OutOfMemory.{OutOfMemory as NoMemory}
 use Rattle.det_values.specs.declared.frames.Outcome.{Outcome}
@@ -9,39 +10,55 @@ use Rattle.job_trait.specs.declared.answers.JobFault.{JobFault}
 use Rattle.job_trait.specs.declared.answers.JobFault.TheVariants as job
 use Rattle.job_trait.specs.Pass.{Passed}
 use Rattle.job_trait.specs.Cycle.{Done, refused_in_pool}
-use Rattle.worker_pool.specs.declared.answers.PassDone.{PassDone}
-use Rattle.worker_pool.specs.declared.answers.PoolFault.{PoolFault}
-use Rattle.worker_pool.specs.declared.answers.PoolFault.TheVariants as pool
-use Rattle.worker_pool.specs.IsPass.{passed_of}
+use Rattle.job_trait.specs.declared.pass.PassDone.{PassDone}
+use Rattle.job_trait.specs.declared.pass.PoolFault.{PoolFault}
+use Rattle.job_trait.specs.declared.pass.PoolFault.TheVariants as pool
+use Rattle.job_trait.specs.Passes.{passed_of}
 use Rattle.cycle_engine.specs.declared.fault.CycleFault.{CycleFault}
 use Rattle.cycle_engine.specs.declared.fault.CycleFault.TheVariants.{Refused, OutOfMemory}
 use Rattle.cycle_engine.specs.declared.phases.CycleDone.{CycleDone}
 
+-- what the passes of one cycle share
+pub record SharedValue (S L : Type 0) : Type 0 where
+  pub job : S
+  pub plan : L
+  pub seed : ℕ
+  pub cycle : ℕ
+
 -- the passes' answer is the definition's; want of memory is free
-abbrev pub ArePasses : {E P : Type 0} → Result (PassDone E P) CycleFault → Result (Passed E P) RefusedAtValue → Type 0
+abbrev pub ArePasses : {E P : Type 0} → Result (PassDone E P) CycleFault
+    → Result (Passed E P) RefusedAtValue → Type 0
 ArePasses (Ok done) passes = passes ≡ Ok (passed_of done)
 ArePasses (Err (Refused at)) passes = passes ≡ Err at
 ArePasses (Err OutOfMemory) passes = Unit {0}
 
 abbrev pub done_of : {G E : Type 0} → CycleDone G E → ℕ → Done G E
-done_of done seed = record { state = record { globals = done.globals; elements = done.elements; seed = seed }; shown = done.shown; output = done.output }
+done_of done seed = record {
+  state = record { globals = done.globals; elements = arc_value done.elements; seed = seed };
+  shown = done.shown;
+  output = done.output;
+}
 
--- a cycle's answer, beside which the client is left with a seed, is the definition's; want of memory is free
-abbrev pub IsCycle : {G E : Type 0} → Result (CycleDone G E) CycleFault → ℕ → Result (Done G E) RefusedAtValue → Type 0
+-- a cycle's answer, beside which the client is left with a seed, is the definition's; want of
+-- memory is free
+abbrev pub IsCycle : {G E : Type 0} → Result (CycleDone G E) CycleFault → ℕ
+    → Result (Done G E) RefusedAtValue → Type 0
 IsCycle (Ok done) seed cycle = cycle ≡ Ok (done_of done seed)
 IsCycle (Err (Refused at)) seed cycle = cycle ≡ Err at
 IsCycle (Err OutOfMemory) seed cycle = Unit {0}
 
 -- how the pool's fault in a pass ends a cycle
 abbrev pub PoolEnds : ℕ → PoolFault → CycleFault → Type 0
-PoolEnds pass (pool.Refused element code) (Refused at) = at ≡ refused_in_pool pass (record { element = element; code = code })
+PoolEnds pass (pool.Refused element code) (Refused at) =
+    at ≡ refused_in_pool pass (record { element = element; code = code })
 PoolEnds pass (pool.Refused element code) OutOfMemory = ⊥
 PoolEnds pass pool.OutOfMemory (Refused at) = ⊥
 PoolEnds pass pool.OutOfMemory OutOfMemory = Unit {0}
 
 -- how a job's fault in a phase outside the pool ends a cycle
 abbrev pub JobEnds : Phase → JobFault → CycleFault → Type 0
-JobEnds phase (job.Code code) (Refused at) = at ≡ record { phase = phase; pass = 0; element = 0; code = code }
+JobEnds phase (job.Code code) (Refused at) =
+    at ≡ record { phase = phase; pass = 0; element = 0; code = code }
 JobEnds phase (job.Code code) OutOfMemory = ⊥
 JobEnds phase job.OutOfMemory (Refused at) = ⊥
 JobEnds phase job.OutOfMemory OutOfMemory = Unit {0}

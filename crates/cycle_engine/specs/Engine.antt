@@ -1,5 +1,6 @@
 -- What an engine keeps, which run it stands in, and what one cycle makes of it.
-use Rattle.std.specs.Prelude.{◌≡◌, ℕ, ◌+◌, List, [], ◌∷◌, ◌++◌, length, Option, None, Some, Result, Bool, true, false}
+use Rattle.std.specs.Prelude.{◌≡◌, ◌≤◌, ℕ, ◌+◌, List, [], ◌∷◌, ◌++◌, length}
+use Rattle.std.specs.Prelude.{Option, None, Some, Result, Bool, true, false}
 use Rattle.std.specs.List.{All}
 use Rattle.det_values.specs.Limits.{IsCycleTime}
 use Rattle.det_values.specs.Values.{ProfileValue, SampleValue, EventSpecValue, RefusedAtValue}
@@ -8,7 +9,9 @@ use Rattle.det_values.specs.declared.format.Format.{Format}
 use Rattle.det_values.specs.declared.frames.CycleInput.{CycleInput}
 use Rattle.det_values.specs.declared.frames.RunFrame.{RunFrame}
 use Rattle.det_client.specs.declared.activation.Activation.{Activation}
-use Rattle.det_client.specs.declared.activation.Activation.TheVariants.{RegisterServices, ServiceDiscovery, Init, Run, Terminate}
+use Rattle.det_client.specs.declared.activation.Activation.TheVariants.{RegisterServices}
+use Rattle.det_client.specs.declared.activation.Activation.TheVariants.{ServiceDiscovery, Init}
+use Rattle.det_client.specs.declared.activation.Activation.TheVariants.{Run, Terminate}
 use Rattle.det_client.specs.Life.{following}
 use Rattle.det_client.specs.State.{State as ClientState, next_time}
 use Rattle.event_cache.specs.Rings.{Rings, windows}
@@ -36,15 +39,18 @@ is_terminate (Some Run) = false
 is_terminate (Some Terminate) = true
 
 -- the fields of an engine fit one another
-pub record Fits {S G E L P : Type 0} (m : Meaning S G E L P) (Own : S → E → Type 0) (job : S) (elements : List E) (client : ClientState) (rings : List Rings) (time : ℕ) : Type 0 where
+pub record Fits {S G E L P : Type 0} (m : Meaning S G E L P) (Own : S → E → Type 0) (job : S)
+    (elements : List E) (client : ClientState) (rings : List Rings) (time : ℕ) : Type 0 where
   pub own : All (Own job) elements
+  pub few : length elements ≤ 65536
   pub events : length rings ≡ m.events job
   pub ready : is_terminate client.last ≡ false → following client.last ≡ Run
   pub timed : client.cycle_time ≡ time
   pub in_limits : IsCycleTime time
 
 -- An engine stands in the run of a profile, after the cycles of these inputs.
-pub record StandsFor {S G E L P : Type 0} (m : Meaning S G E L P) (profile : ProfileValue) (engine : EngineState S G E) (inputs : List CycleInput) : Type 0 where
+pub record StandsFor {S G E L P : Type 0} (m : Meaning S G E L P) (profile : ProfileValue)
+    (engine : EngineState S G E) (inputs : List CycleInput) : Type 0 where
   pub job : engine.job ≡ job_of m profile
   pub format : engine.format ≡ profile.format
   pub cycle_time : engine.cycle_time ≡ profile.cycle_time
@@ -55,14 +61,20 @@ pub record StandsFor {S G E L P : Type 0} (m : Meaning S G E L P) (profile : Pro
 module _ {S G E L P : Type 0} (m : Meaning S G E L P) where
   -- the next cycle of an engine, at this time
   abbrev pub next_cycle : EngineState S G E → Option ℕ → Result (Done G E) RefusedAtValue
-  next_cycle e time = cycled m e.job e.state (windows e.rings) (e.cycles + 1) time (next_time e.cycle_time time)
+  next_cycle e time =
+      cycled m e.job e.state (windows e.rings) (e.cycles + 1) time (next_time e.cycle_time time)
 
   -- its frame, as far as the engine's format keeps it
   abbrev pub next_frame : EngineState S G E → CycleInput → RunFrame
-  next_frame e input = record { input = input; outcome = outcome_in_format e.format (outcome_of (next_cycle e input.time)) }
+  next_frame e input = record {
+    input = input;
+    outcome = outcome_in_format e.format (outcome_of (next_cycle e input.time));
+  }
 
-  -- An engine after its next cycle, whose samples arrived at the end of it. What a refused cycle leaves is the old state.
-  pub record IsAfter (old : EngineState S G E) (input : CycleInput) (new : EngineState S G E) : Type 0 where
+  -- An engine after its next cycle, whose samples arrived at the end of it. What a refused cycle
+  -- leaves is the old state.
+  pub record IsAfter (old : EngineState S G E) (input : CycleInput)
+      (new : EngineState S G E) : Type 0 where
     pub job : new.job ≡ old.job
     pub format : new.format ≡ old.format
     pub cycle_time : new.cycle_time ≡ old.cycle_time
@@ -70,6 +82,8 @@ module _ {S G E L P : Type 0} (m : Meaning S G E L P) where
     pub cycles : new.cycles ≡ old.cycles + 1
     pub going : new.stopped ≡ false
     pub rings : (events : List EventSpecValue) (rounds : List (List SampleValue))
-        → HasSeen old.rings events rounds [] → HasSeen new.rings events (rounds ++ input.samples ∷ []) []
+        → HasSeen old.rings events rounds []
+        → HasSeen new.rings events (rounds ++ input.samples ∷ []) []
     pub windows : (events : List EventSpecValue) (rounds : List (List SampleValue))
-        → HasSeen old.rings events rounds [] → windows new.rings ≡ next_windows events (windows old.rings) input.samples
+        → HasSeen old.rings events rounds []
+        → windows new.rings ≡ next_windows events (windows old.rings) input.samples

@@ -1,11 +1,13 @@
--- The frames of a run: what a client of a profile does, given the inputs of its cycles. No worker stands here.
+-- The frames of a run: what a client of a profile does, given the inputs of its cycles. No worker
+-- stands here.
 use Rattle.std.specs.Prelude.{ℕ, ◌+◌, List, [], ◌∷◌, ◌++◌, length, map, Result, Bool, if◌then◌else◌}
 use Rattle.det_values.specs.Values.{ProfileValue, SampleValue, RefusedAtValue}
 use Rattle.det_values.specs.Frames.{outcome_in_format}
 use Rattle.det_values.specs.declared.frames.CycleInput.{CycleInput}
 use Rattle.det_values.specs.declared.frames.RunFrame.{RunFrame}
 use Rattle.det_values.specs.declared.frames.Frame.{Frame}
-use Rattle.det_values.specs.declared.frames.Frame.TheVariants.{Register, Discover, Init, Run, Terminate}
+use Rattle.det_values.specs.declared.frames.Frame.TheVariants.{Register, Discover, Init}
+use Rattle.det_values.specs.declared.frames.Frame.TheVariants.{Run, Terminate}
 use Rattle.det_client.specs.State.{next_time}
 use Rattle.event_cache.specs.Windows.{windows_after}
 use Rattle.job_trait.specs.Meaning.{Meaning, Begun}
@@ -27,25 +29,32 @@ module _ {S G E L P : Type 0} (m : Meaning S G E L P) (profile : ProfileValue) w
   abbrev pub first_state : State G E
   first_state = begun_state (m.started job_of profile.seed)
 
-  -- The cycle of a state and an input, after the inputs of all earlier cycles: its windows hold samples of those alone.
+  -- The cycle of a state and an input, after the inputs of all earlier cycles: its windows hold
+  -- samples of those alone.
   abbrev pub cycle_of : List CycleInput → State G E → CycleInput → Result (Done G E) RefusedAtValue
   cycle_of before state input =
-      cycled m job_of state (windows_after profile.events (samples_of before)) (length before + 1) input.time (next_time profile.cycle_time input.time)
+      cycled m job_of state (windows_after profile.events (samples_of before)) (length before + 1)
+      input.time (next_time profile.cycle_time input.time)
 
   -- its frame, as far as the profile's format keeps it
   abbrev pub frame_of : List CycleInput → State G E → CycleInput → RunFrame
-  frame_of before state input = record { input = input; outcome = outcome_in_format profile.format (outcome_of (cycle_of before state input)) }
+  frame_of before state input = record {
+    input = input;
+    outcome = outcome_in_format profile.format (outcome_of (cycle_of before state input));
+  }
 
   -- the state after these inputs, which come after others
   unfoldable pub state_behind : List CycleInput → State G E → List CycleInput → State G E
   state_behind before state [] = state
-  state_behind before state (input ∷ inputs) = state_behind (before ++ input ∷ []) (state_after state (cycle_of before state input)) inputs
+  state_behind before state (input ∷ inputs) =
+      state_behind (before ++ input ∷ []) (state_after state (cycle_of before state input)) inputs
 
   -- the frames of these inputs, which come after others
   unfoldable pub runs_behind : List CycleInput → State G E → List CycleInput → List RunFrame
   runs_behind before state [] = []
   runs_behind before state (input ∷ inputs) =
-      frame_of before state input ∷ runs_behind (before ++ input ∷ []) (state_after state (cycle_of before state input)) inputs
+      frame_of before state input
+      ∷ runs_behind (before ++ input ∷ []) (state_after state (cycle_of before state input)) inputs
 
   -- the state after the cycles of these inputs, and the frames of those cycles
   abbrev pub state_of : List CycleInput → State G E
@@ -60,4 +69,6 @@ module _ {S G E L P : Type 0} (m : Meaning S G E L P) (profile : ProfileValue) w
 
   -- the frames of the whole run, with Terminate where it is ended
   abbrev pub frames : List CycleInput → Bool → List Frame
-  frames inputs ended = (Register ∷ Discover ∷ Init init_of ∷ map (λ run. Run run) (runs inputs)) ++ (if ended then Terminate ∷ [] else [])
+  frames inputs ended =
+      (Register ∷ Discover ∷ Init init_of ∷ map (λ run. Run run) (runs inputs))
+      ++ (if ended then Terminate ∷ [] else [])

@@ -1,6 +1,8 @@
 //! A job with all that it keeps between cycles.
-ghost use Rattle.std.specs.Prelude.{◌≡◌, ℕ, ◌+◌, ◌<◌, ◌≤◌, List, [], ◌∷◌, ◌++◌, length, map, IfOk, OnOk, OnErr, None, true, false};
+ghost use Rattle.std.specs.Prelude.{◌≡◌, ℕ, ◌+◌, ◌<◌, ◌≤◌, List, [], ◌∷◌, ◌++◌, length, map};
+ghost use Rattle.std.specs.Prelude.{IfOk, OnOk, OnErr, None, true, false};
 ghost use Rattle.std.specs.List.{All};
+ghost use Rattle.std.specs.Arc.{arc_value};
 ghost use Rattle.det_values.specs.Values.{ProfileValue, SampleValue, EventSpecValue};
 ghost use Rattle.det_values.specs.declared.frames.CycleInput.{CycleInput as Input};
 ghost use Rattle.det_values.specs.declared.frames.RunFrame.{RunFrame as Run};
@@ -8,47 +10,56 @@ ghost use Rattle.det_values.specs.Frames.{outcome_in_format};
 ghost use Rattle.event_cache.specs.Rings.{windows};
 ghost use Rattle.event_cache.specs.Windows.{HasSeen, next_windows};
 ghost use Rattle.job_trait.specs.Cycle.{outcome_of, state_after};
+ghost use Rattle.cycle_engine.specs.Answers.{IsCycle};
 ghost use Rattle.cycle_engine.specs.Frames.{frame_of, state_of};
-ghost use Rattle.cycle_engine.specs.Engine.{StandsFor, EngineState, IsAfter, next_cycle, next_frame};
+ghost use Rattle.cycle_engine.specs.Engine.{StandsFor, EngineState, IsAfter};
+ghost use Rattle.cycle_engine.specs.Engine.{next_cycle, next_frame};
 
-use crate::phases::run_phases;
-use det_values::{Bytes64, Container, CycleInput, Elements, Format, Frame, OutOfMemory, Outcome, Profile, RunFrame, Sample, as_format};
+use crate::fault::{CycleFault, in_prepare};
+use crate::owners::{again, shared};
+use crate::passes::Passes;
+use crate::phases::{CycleDone, finish};
 use det_client::{Client, Next};
+use det_values::{
+    Bytes64, Container, CycleInput, Elements, Format, Frame, OutOfMemory, Outcome, Profile,
+    RunFrame, Sample, as_format,
+};
 use event_cache::EventCache;
-use job_trait::Job;
+use job_trait::{Job, Pool};
 use std::alloc::Global;
 use std::marker::Model;
-use std::thread::Threads;
-use worker_pool::Gate;
+use std::sync::Arc;
 
 /// A job with all that it keeps between cycles.
 #[derive(Drop)]
 pub struct Engine<J: Job> {
-    job: J,
+    job: Arc<J, Global>,
     format: Format,
     cycle_time: u64,
     globals: J::Globals,
-    elements: Container<J::Element>,
+    elements: Arc<Container<J::Element>, Global>,
     client: Client,
     cache: EventCache,
 }
 
 impl<J: Job> Model for Engine<J> {
+    ghost use Rattle.std.specs.Arc.{arc_value};
     ghost use Rattle.cycle_engine.specs.Engine.{EngineState, Fits, is_terminate};
 
     ghost Value = { EngineState J J.Globals J.Element };
 
     ghost view = { λ e. record {
-      job = e.job;
+      job = arc_value e.job;
       format = e.format;
-      state = record { globals = e.globals; elements = e.elements; seed = e.client.seed };
+      state = record { globals = e.globals; elements = arc_value e.elements; seed = e.client.seed };
       cycles = e.client.cycle;
       cycle_time = e.cycle_time;
       rings = e.cache;
       stopped = is_terminate e.client.last;
     } };
 
-    ghost invariant = { λ e. Fits J.meaning J.Own e.job e.elements e.client e.cache e.cycle_time };
+    ghost invariant = { λ e.
+        Fits J.meaning J.Own (arc_value e.job) (arc_value e.elements) e.client e.cache e.cycle_time };
 }
 
 /// Lets these samples arrive, and shows them to the next cycle.
@@ -56,9 +67,11 @@ fn feed(cache: &mut EventCache, samples: &[Sample])
     requires { All (λ s. s.event < length cache.old) samples.now }
     ensures count { length cache.new ≡ length cache.old }
     ensures seen { (events : List EventSpecValue) (rounds : List (List SampleValue))
-        → HasSeen cache.old events rounds [] → HasSeen cache.new events (rounds ++ samples.now ∷ []) [] }
+        → HasSeen cache.old events rounds []
+        → HasSeen cache.new events (rounds ++ samples.now ∷ []) [] }
     ensures windows { (events : List EventSpecValue) (rounds : List (List SampleValue))
-        → HasSeen cache.old events rounds [] → windows cache.new ≡ next_windows events (windows cache.old) samples.now }
+        → HasSeen cache.old events rounds []
+        → windows cache.new ≡ next_windows events (windows cache.old) samples.now }
 {
     for sample in samples {
         cache.arrive(*sample);
@@ -102,12 +115,14 @@ impl<J: Job> Engine<J> {
         let _ = client.wait_for_activation(Next::Go(None));
         let _ = client.wait_for_activation(Next::Go(None));
         let begun = job.start(alloc, &mut client)?;
+        let job = shared(alloc, job)?;
+        let elements = shared(alloc, begun.elements)?;
         Ok(Engine {
             job,
             format: profile.format,
             cycle_time: profile.cycle_time,
             globals: begun.globals,
-            elements: begun.elements,
+            elements,
             client,
             cache,
         })
@@ -115,45 +130,77 @@ impl<J: Job> Engine<J> {
 
     /// The bytes of the present elements, in order.
     pub fn shown(&self, alloc: Global) -> Result<Elements, OutOfMemory>
-        ensures { IfOk result (λ shown. shown ≡ map (J.meaning.shown self.now.job) self.now.state.elements) }
+        ensures { IfOk result (λ shown.
+            shown ≡ map (J.meaning.shown self.now.job) self.now.state.elements) }
     {
         let mut shown = Elements::new(alloc);
-        for element in self.elements.as_slice() {
-            shown.push(self.job.element_bytes(element))?;
+        let mut bytes = Vec::new(alloc);
+        for i in 0..self.elements.len() {
+            bytes.clear();
+            self.job.put_element(self.elements.item(i), &mut bytes)?;
+            shown.push(Bytes64::of(bytes.as_slice()))?;
         }
         Ok(shown)
     }
 
-    /// Runs the phases of the next cycle on a number of workers. The windows stay.
-    fn advance<G: Gate, R: Threads + Sync>(
+    /// Runs the phases of the next cycle. The windows, globals and elements stay.
+    fn run_phases<P: Pool<J>>(
         &mut self,
-        rt: &R,
         alloc: Global,
+        pool: &mut P,
         time: Option<u64>,
-        workers: u32,
-        gate: &G,
+    ) -> Result<CycleDone<J::Globals, J::Element>, CycleFault>
+        requires few { self.old.cycles < 1000000 }
+        requires going { self.old.stopped ≡ false }
+        ensures cycle { IsCycle result self.new.state.seed (next_cycle J.meaning self.old time) }
+        ensures kept { self.new ≡ record self.old {
+          state = record self.old.state { seed = self.new.state.seed };
+          cycles = self.old.cycles + 1;
+        } }
+        ensures own { IfOk result (λ done. All (J.Own self.old.job) (arc_value done.elements)) }
+        ensures few { IfOk result (λ done. length (arc_value done.elements) ≤ 65536) }
+    {
+        let _ = self.client.wait_for_activation(Next::Go(time));
+        let plan = match self.job.prepare(
+            alloc,
+            &self.globals,
+            &*self.elements,
+            &self.cache,
+            &mut self.client,
+        ) {
+            Ok(plan) => plan,
+            Err(fault) => return Err(in_prepare(fault)),
+        };
+        let passes = Passes {
+            job: again(&self.job)?,
+            plan: shared(alloc, plan)?,
+            seed: self.client.seed(),
+            cycle: self.client.cycle(),
+        };
+        let last = passes.run(alloc, pool, again(&self.elements)?)?;
+        finish(alloc, &passes, &self.globals, last)
+    }
+
+    /// Runs the next cycle. The windows stay.
+    fn advance<P: Pool<J>>(
+        &mut self,
+        alloc: Global,
+        pool: &mut P,
+        time: Option<u64>,
     ) -> Result<Outcome, OutOfMemory>
         requires few { self.old.cycles < 1000000 }
-        requires workers { (1 ≤ workers) × (workers ≤ 64) }
         requires going { self.old.stopped ≡ false }
-        ensures outcome { IfOk result (λ outcome. outcome ≡ outcome_of (next_cycle J.meaning self.old time)) }
-        ensures after { OnOk result (self.new ≡ record self.old { state = state_after self.old.state (next_cycle J.meaning self.old time); cycles = self.old.cycles + 1 }) }
+        ensures outcome { IfOk result (λ outcome.
+            outcome ≡ outcome_of (next_cycle J.meaning self.old time)) }
+        ensures after { OnOk result (self.new ≡ record self.old {
+          state = state_after self.old.state (next_cycle J.meaning self.old time);
+          cycles = self.old.cycles + 1;
+        }) }
         ensures kept { OnErr result (self.new ≡ self.old) }
     {
         let seed = self.client.seed();
         let cycles = self.client.cycle();
-        let _ = self.client.wait_for_activation(Next::Go(time));
-        match run_phases(
-            rt,
-            alloc,
-            &self.job,
-            &self.globals,
-            self.elements.as_slice(),
-            &self.cache,
-            &mut self.client,
-            workers,
-            gate,
-        ) {
+        match self.run_phases(alloc, pool, time) {
             Ok(done) => {
                 self.globals = done.globals;
                 self.elements = done.elements;
@@ -175,35 +222,33 @@ impl<J: Job> Engine<J> {
         }
     }
 
-    /// Runs the next cycle on a number of workers, from 1 to 64, and answers its frame.
+    /// Runs the next cycle, its passes on the threads of a pool, and answers its frame.
     ///
-    /// The windows of the cycle hold samples of earlier cycles alone: the input's samples arrive at its end, also where
-    /// it is refused. A refused cycle keeps globals, elements and seed, and counts as a cycle. After OutOfMemory all is as
-    /// before the call. Each worker passes the gate once in a pass.
-    pub fn cycle<G: Gate, R: Threads + Sync>(
+    /// The windows of the cycle hold samples of earlier cycles alone: the input's samples arrive at
+    /// its end, also where it is refused. A refused cycle keeps globals, elements and seed, and
+    /// counts as a cycle. After OutOfMemory all is as before the call, and the input is gone.
+    pub fn cycle<P: Pool<J>>(
         &mut self,
-        rt: &R,
         alloc: Global,
-        input: &CycleInput,
-        workers: u32,
-        gate: &G,
+        pool: &mut P,
+        input: CycleInput,
     ) -> Result<RunFrame, OutOfMemory>
         requires few { self.old.cycles < 1000000 }
-        requires events { All (λ s. s.event < length self.old.rings) input.now.samples }
-        requires workers { (1 ≤ workers) × (workers ≤ 64) }
+        requires events { All (λ s. s.event < length self.old.rings) input.samples }
         requires going { self.old.stopped ≡ false }
-        ensures frame { IfOk result (λ frame. (profile : ProfileValue) (inputs : List Input) → StandsFor J.meaning profile self.old inputs
-            → frame ≡ frame_of J.meaning profile inputs (state_of J.meaning profile inputs) input.now) }
-        ensures stands { OnOk result ((profile : ProfileValue) (inputs : List Input) → StandsFor J.meaning profile self.old inputs
-            → StandsFor J.meaning profile self.new (inputs ++ input.now ∷ [])) }
-        ensures outcome { IfOk result (λ frame. frame ≡ next_frame J.meaning self.old input.now) }
-        ensures after { OnOk result (IsAfter J.meaning self.old input.now self.new) }
+        ensures frame { IfOk result (λ frame. (profile : ProfileValue) (inputs : List Input)
+            → StandsFor J.meaning profile self.old inputs
+            → frame ≡ frame_of J.meaning profile inputs (state_of J.meaning profile inputs) input) }
+        ensures stands { OnOk result ((profile : ProfileValue) (inputs : List Input)
+            → StandsFor J.meaning profile self.old inputs
+            → StandsFor J.meaning profile self.new (inputs ++ input ∷ [])) }
+        ensures outcome { IfOk result (λ frame. frame ≡ next_frame J.meaning self.old input) }
+        ensures after { OnOk result (IsAfter J.meaning self.old input self.new) }
         ensures kept { OnErr result (self.new ≡ self.old) }
     {
-        let copy = input.copied(alloc)?;
-        let outcome = self.advance(rt, alloc, input.time, workers, gate)?;
+        let outcome = self.advance(alloc, pool, input.time)?;
         feed(&mut self.cache, input.samples.as_slice());
-        Ok(framed(self.format, copy, outcome))
+        Ok(framed(self.format, input, outcome))
     }
 
     /// Brings the activation that ends the run. It takes no memory.

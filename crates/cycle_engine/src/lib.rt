@@ -1,9 +1,12 @@
-//! One whole cycle of a job after another, from its start to its end.
+//! One whole cycle of a job after another, from its start to its end, over any pool.
 #![tactic(auto)]
 
 mod engine;
 mod fault;
+mod owners;
 mod passes;
 mod phases;
+mod showing;
+mod sums;
 
 pub use engine::Engine;

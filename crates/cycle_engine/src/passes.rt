@@ -1,135 +1,167 @@
 //! The passes of one cycle.
-ghost use Rattle.std.specs.Prelude.{◌≡◌, ℕ, ◌+◌, ◌*◌, ◌<◌, ◌≤◌, length, IfOk};
+ghost use Rattle.std.specs.Prelude.{◌≡◌, ℕ, ◌+◌, ◌*◌, ◌<◌, ◌≤◌, length, IfOk, IfErr};
 ghost use Rattle.std.specs.List.{All};
-ghost use Rattle.job_trait.specs.Cycle.{added, first_pass, next_pass, all_passes};
-ghost use Rattle.worker_pool.specs.IsPass.{passed_of};
+ghost use Rattle.std.specs.Arc.{arc_value};
+ghost use Rattle.job_trait.specs.Cycle.{first_pass, next_pass, all_passes};
+ghost use Rattle.job_trait.specs.Laws.{CoversSome};
+ghost use Rattle.job_trait.specs.Pass.{passed};
+ghost use Rattle.job_trait.specs.Passes.{passed_of, IsPass, RefusedBelow};
 ghost use Rattle.cycle_engine.specs.Answers.{ArePasses};
 
 use crate::fault::{CycleFault, in_pool};
-use det_values::{Container, OutOfMemory};
-use job_trait::Job;
+use crate::owners::{again, shared};
+use crate::sums::sums;
+use det_values::Container;
+use job_trait::{Job, PassDone, PassOf, Pool, PoolFault};
 use std::alloc::Global;
-use std::thread::Threads;
-use worker_pool::{Gate, PassDone, run_worker_pool};
+use std::marker::Model;
+use std::sync::Arc;
 
-/// The sums of two lists, number by number.
-fn sums(alloc: Global, left: &[u32], right: &[u32]) -> Result<Container<u32>, OutOfMemory>
-    requires few { length left.now ≤ 65536 }
-    requires equal { length left.now ≡ length right.now }
-    requires left { All (λ n. n ≤ 458745) left.now }
-    requires right { All (λ n. n ≤ 65535) right.now }
-    ensures { IfOk result (λ sums. sums ≡ added left.now right.now) }
-{
-    let mut sums = Container::from_vec(Vec::with_capacity(alloc, left.len())?);
-    for i in 0..left.len() {
-        sums.push(left[i] + right[i])?;
-    }
-    Ok(sums)
+/// What the passes of one cycle share.
+#[derive(Drop)]
+pub(crate) struct Passes<J: Job> {
+    pub(crate) job: Arc<J, Global>,
+    pub(crate) plan: Arc<J::Plan, Global>,
+    pub(crate) seed: u64,
+    pub(crate) cycle: u32,
 }
 
-/// Pass 0, which carries the unit.
-fn first<J: Job, G: Gate, R: Threads + Sync>(
-    rt: &R,
-    alloc: Global,
-    job: &J,
-    plan: &J::Plan,
-    elements: &[J::Element],
-    seed: u64,
-    cycle: u32,
-    workers: u32,
-    gate: &G,
-) -> Result<PassDone<J::Element, J::Part>, CycleFault>
-    requires fit { J.Fit job.now plan.now }
-    requires few { length elements.now ≤ 65536 }
-    requires own { All (J.Own job.now) elements.now }
-    requires cycle { cycle ≤ 1000000 }
-    requires workers { (1 ≤ workers) × (workers ≤ 64) }
-    ensures pass { ArePasses result (first_pass J.meaning job.now plan.now seed cycle elements.now) }
-    ensures own { IfOk result (λ done. All (J.Own job.now) done.elements) }
-    ensures many { IfOk result (λ done. length done.elements ≡ length elements.now) }
-    ensures drew { IfOk result (λ done. (length done.draws ≡ length elements.now) × All (λ n. n ≤ 65535) done.draws) }
-    ensures covers { IfOk result (λ done. J.Covers job.now done.part (length elements.now)) }
-{
-    let carry = job.unit(alloc);
-    match run_worker_pool(
-        rt, alloc, job, plan, &carry, 0, elements, seed, cycle, workers, gate,
-    ) {
-        Ok(done) => Ok(done),
-        Err(fault) => Err(in_pool(0, fault)),
-    }
+impl<J: Job> Model for Passes<J> {
+    ghost use Rattle.std.specs.Prelude.{◌≤◌};
+    ghost use Rattle.std.specs.Arc.{arc_value};
+    ghost use Rattle.cycle_engine.specs.Answers.{SharedValue};
+
+    ghost Value = { SharedValue J J.Plan };
+
+    ghost view = { λ p. record {
+      job = arc_value p.job;
+      plan = arc_value p.plan;
+      seed = p.seed;
+      cycle = p.cycle;
+    } };
+
+    ghost invariant = { λ p. J.Fit (arc_value p.job) (arc_value p.plan) × (p.cycle ≤ 1000000) };
 }
 
-/// A later pass over the elements of the one before, whose part it carries. The words are added to those drawn so far.
-fn next<J: Job, G: Gate, R: Threads + Sync>(
-    rt: &R,
-    alloc: Global,
-    job: &J,
-    plan: &J::Plan,
-    done: &PassDone<J::Element, J::Part>,
-    pass: u8,
-    seed: u64,
-    cycle: u32,
-    workers: u32,
-    gate: &G,
-) -> Result<PassDone<J::Element, J::Part>, CycleFault>
-    requires fit { J.Fit job.now plan.now }
-    requires pass { pass < J.meaning.passes_of job.now plan.now }
-    requires few_passes { pass < 8 }
-    requires own { All (J.Own job.now) done.now.elements }
-    requires drew { (length done.now.draws ≡ length done.now.elements) × All (λ n. n ≤ pass * 65535) done.now.draws }
-    requires covers { J.Covers job.now done.now.part (length done.now.elements) }
-    requires cycle { cycle ≤ 1000000 }
-    requires workers { (1 ≤ workers) × (workers ≤ 64) }
-    ensures pass { ArePasses result (next_pass J.meaning job.now plan.now seed cycle pass (passed_of done.now)) }
-    ensures own { IfOk result (λ next. All (J.Own job.now) next.elements) }
-    ensures many { IfOk result (λ next. length next.elements ≡ length done.now.elements) }
-    ensures drew { IfOk result (λ next. (length next.draws ≡ length next.elements) × All (λ n. n ≤ (pass + 1) * 65535) next.draws) }
-    ensures covers { IfOk result (λ next. J.Covers job.now next.part (length next.elements)) }
-{
-    let elements = done.elements.as_slice();
-    match run_worker_pool(
-        rt, alloc, job, plan, &done.part, pass, elements, seed, cycle, workers, gate,
-    ) {
-        Ok(next) => {
-            let draws = sums(alloc, done.draws.as_slice(), next.draws.as_slice())?;
-            Ok(PassDone {
-                elements: next.elements,
-                part: next.part,
-                draws,
-            })
+impl<J: Job> Passes<J> {
+    /// One pass, whose data the pool may hold as long as it likes.
+    fn one<P: Pool<J>>(
+        &self,
+        alloc: Global,
+        pool: &mut P,
+        number: u8,
+        carry: J::Part,
+        elements: Arc<Container<J::Element>, Global>,
+    ) -> Result<PassDone<J::Element, J::Part>, PoolFault>
+        requires number { number < J.meaning.passes_of self.now.job self.now.plan }
+        requires carry { CoversSome (J.Covers self.now.job) carry }
+        requires few { length (arc_value elements) ≤ 65536 }
+        requires own { All (J.Own self.now.job) (arc_value elements) }
+        ensures pass { IsPass result (passed J.meaning self.now.job self.now.plan carry
+            self.now.seed self.now.cycle number (arc_value elements)) }
+        ensures own { IfOk result (λ done. All (J.Own self.now.job) done.elements) }
+        ensures many { IfOk result (λ done. length done.elements ≡ length (arc_value elements)) }
+        ensures drew { IfOk result (λ done. length done.draws ≡ length (arc_value elements)) }
+        ensures few_drawn { IfOk result (λ done. All (λ draws. draws ≤ 65535) done.draws) }
+        ensures covers { IfOk result (λ done.
+            J.Covers self.now.job done.part (length (arc_value elements))) }
+        ensures element { IfErr result (RefusedBelow (length (arc_value elements))) }
+    {
+        let pass = PassOf {
+            job: again(&self.job)?,
+            plan: again(&self.plan)?,
+            carry: shared(alloc, carry)?,
+            number,
+            elements,
+            seed: self.seed,
+            cycle: self.cycle,
+        };
+        let pass = shared(alloc, pass)?;
+        pool.run_pass(alloc, &pass)
+    }
+
+    /// Pass 0, which carries the unit.
+    fn first<P: Pool<J>>(
+        &self,
+        alloc: Global,
+        pool: &mut P,
+        elements: Arc<Container<J::Element>, Global>,
+    ) -> Result<PassDone<J::Element, J::Part>, CycleFault>
+        requires few { length (arc_value elements) ≤ 65536 }
+        requires own { All (J.Own self.now.job) (arc_value elements) }
+        ensures pass { ArePasses result (first_pass J.meaning self.now.job self.now.plan
+            self.now.seed self.now.cycle (arc_value elements)) }
+        ensures own { IfOk result (λ done. All (J.Own self.now.job) done.elements) }
+        ensures many { IfOk result (λ done. length done.elements ≡ length (arc_value elements)) }
+        ensures drew { IfOk result (λ done. length done.draws ≡ length done.elements) }
+        ensures few_drawn { IfOk result (λ done. All (λ draws. draws ≤ 65535) done.draws) }
+        ensures covers { IfOk result (λ done.
+            J.Covers self.now.job done.part (length done.elements)) }
+    {
+        let unit = self.job.unit(alloc);
+        match self.one(alloc, pool, 0, unit, elements) {
+            Ok(done) => Ok(done),
+            Err(fault) => Err(in_pool(0, fault)),
         }
-        Err(fault) => Err(in_pool(pass, fault)),
     }
-}
 
-/// All passes of a plan. The draws of an element are those of all passes together.
-pub(crate) fn run_passes<J: Job, G: Gate, R: Threads + Sync>(
-    rt: &R,
-    alloc: Global,
-    job: &J,
-    plan: &J::Plan,
-    elements: &[J::Element],
-    seed: u64,
-    cycle: u32,
-    workers: u32,
-    gate: &G,
-) -> Result<PassDone<J::Element, J::Part>, CycleFault>
-    requires fit { J.Fit job.now plan.now }
-    requires few { length elements.now ≤ 65536 }
-    requires own { All (J.Own job.now) elements.now }
-    requires cycle { cycle ≤ 1000000 }
-    requires workers { (1 ≤ workers) × (workers ≤ 64) }
-    ensures passes { ArePasses result (all_passes J.meaning job.now plan.now seed cycle elements.now) }
-    ensures own { IfOk result (λ done. All (J.Own job.now) done.elements) }
-    ensures many { IfOk result (λ done. length done.elements ≡ length elements.now) }
-    ensures drew { IfOk result (λ done. length done.draws ≡ length done.elements) }
-    ensures covers { IfOk result (λ done. J.Covers job.now done.part (length elements.now)) }
-{
-    let mut done = first(rt, alloc, job, plan, elements, seed, cycle, workers, gate)?;
-    for pass in 1..job.passes(plan) {
-        done = next(
-            rt, alloc, job, plan, &done, pass, seed, cycle, workers, gate,
-        )?;
+    /// A later pass over the elements of the one before, whose part it carries. The words are
+    /// added to those drawn so far.
+    fn next<P: Pool<J>>(
+        &self,
+        alloc: Global,
+        pool: &mut P,
+        number: u8,
+        done: PassDone<J::Element, J::Part>,
+    ) -> Result<PassDone<J::Element, J::Part>, CycleFault>
+        requires number { number < J.meaning.passes_of self.now.job self.now.plan }
+        requires few_passes { number < 8 }
+        requires own { All (J.Own self.now.job) done.elements }
+        requires drew { length done.draws ≡ length done.elements }
+        requires few_drawn { All (λ draws. draws ≤ number * 65535) done.draws }
+        requires covers { J.Covers self.now.job done.part (length done.elements) }
+        ensures pass { ArePasses result (next_pass J.meaning self.now.job self.now.plan
+            self.now.seed self.now.cycle number (passed_of done)) }
+        ensures own { IfOk result (λ next. All (J.Own self.now.job) next.elements) }
+        ensures many { IfOk result (λ next. length next.elements ≡ length done.elements) }
+        ensures drew { IfOk result (λ next. length next.draws ≡ length next.elements) }
+        ensures few_drawn { IfOk result (λ next.
+            All (λ draws. draws ≤ (number + 1) * 65535) next.draws) }
+        ensures covers { IfOk result (λ next.
+            J.Covers self.now.job next.part (length next.elements)) }
+    {
+        let elements = shared(alloc, done.elements)?;
+        match self.one(alloc, pool, number, done.part, elements) {
+            Ok(next) => Ok(PassDone {
+                elements: next.elements,
+                draws: sums(alloc, &done.draws, &next.draws)?,
+                part: next.part,
+            }),
+            Err(fault) => Err(in_pool(number, fault)),
+        }
     }
-    Ok(done)
+
+    /// All passes of the plan. The draws of an element are those of all passes together.
+    pub(crate) fn run<P: Pool<J>>(
+        &self,
+        alloc: Global,
+        pool: &mut P,
+        elements: Arc<Container<J::Element>, Global>,
+    ) -> Result<PassDone<J::Element, J::Part>, CycleFault>
+        requires few { length (arc_value elements) ≤ 65536 }
+        requires own { All (J.Own self.now.job) (arc_value elements) }
+        ensures passes { ArePasses result (all_passes J.meaning self.now.job self.now.plan
+            self.now.seed self.now.cycle (arc_value elements)) }
+        ensures own { IfOk result (λ done. All (J.Own self.now.job) done.elements) }
+        ensures many { IfOk result (λ done. length done.elements ≡ length (arc_value elements)) }
+        ensures drew { IfOk result (λ done. length done.draws ≡ length done.elements) }
+        ensures covers { IfOk result (λ done.
+            J.Covers self.now.job done.part (length done.elements)) }
+    {
+        let mut done = self.first(alloc, pool, elements)?;
+        for number in 1..self.job.passes(&self.plan) {
+            done = self.next(alloc, pool, number, done)?;
+        }
+        Ok(done)
+    }
 }

@@ -6,6 +6,7 @@ use det_cli::{Status, top};
 use probes::{CountProbe, FirstRefusalProbe, GapProbe, Probe};
 use std::env;
 use std::process::ExitCode;
+use std::sync::Arc;
 use worker_pool::NoGate;
 
 fn main(rt: HostRuntime) -> ExitCode {
@@ -34,6 +35,9 @@ fn main(rt: HostRuntime) -> ExitCode {
     if probes.push(count).is_err() || probes.push(gap).is_err() || probes.push(refusal).is_err() {
         return no_memory;
     }
+    let Ok(gate) = Arc::new(alloc, NoGate) else {
+        return no_memory;
+    };
     let mut shelf = DirShelf::new(&rt, alloc);
     let mut out = StdSink::new(rt.stdout());
     let mut err = StdSink::new(rt.stderr());
@@ -45,7 +49,7 @@ fn main(rt: HostRuntime) -> ExitCode {
         &mut out,
         &mut err,
         &mut probes,
-        &NoGate,
+        &gate,
     );
     ExitCode::from(status.number())
 }

@@ -4,9 +4,11 @@ use Rattle.cli_answers.specs.declared.answer.Answer.TheVariants.{BadWords}
 use Rattle.cli_answers.specs.Outcome.{Outcome, text_outcome, refusal}
 use Rattle.cli_words.specs.Words.{Command, demo, «record», replay, check, compare, show, needs, sim, salvage, upgrade, vote, chain, help, version, command_of, names}
 use Rattle.probes.specs.Reports.{ProbeLife}
-use Rattle.cmd_record.specs.Outcomes.{demo_outcome, record_outcome}
-use Rattle.cmd_needs.specs.Needs.{needs_outcome}
-use Rattle.cmd_show.specs.Show.{show_outcome}
+use Rattle.cli_answers.specs.Ends.{Work, writes_alone}
+use Rattle.cmd_setup.specs.Setup.{setup_of}
+use Rattle.cmd_record.specs.Outcomes.{demo_outcome, demo_work, record_outcome, record_names, record_work}
+use Rattle.cmd_needs.specs.Needs.{needs_outcome, needs_work}
+use Rattle.cmd_show.specs.Show.{show_outcome, show_work}
 use Rattle.cmd_sim.specs.Sim.{sim_outcome}
 use Rattle.det_cli.specs.Texts.{usage_text, version_text}
 
@@ -38,6 +40,19 @@ names_in None = []
 
 abbrev pub names_of : List (List ℕ) → List (List ℕ)
 names_of words = names_in (command_in words)
+
+-- the names that a command opens where these are the bytes under each name: a manifest that is refused is the last of them
+abbrev pub opened : Option Command → (List ℕ → List ℕ) → List (List ℕ)
+opened (Some («record» manifest stimulus seed workers)) holds = record_names manifest stimulus (setup_of (holds manifest))
+opened command holds = names_in command
+
+-- what a command reads and does
+abbrev pub work_of : Command → Work
+work_of (demo stimulus) = demo_work
+work_of («record» manifest stimulus seed workers) = record_work
+work_of (show recorded) = show_work
+work_of (needs manifest) = needs_work
+work_of other = writes_alone
 
 -- the commands that show runs to the probes
 abbrev pub shows_runs : Option Command → Bool

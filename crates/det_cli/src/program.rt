@@ -1,16 +1,16 @@
 //! The whole program.
-ghost use Rattle.std.specs.Prelude.{◌≡◌, ◌≤◌, ◌↔◌, ◌⊎◌, [], true, false, Some, None, OnErr, map};
+ghost use Rattle.std.specs.Prelude.{◌≡◌, ◌≤◌, [], true, false, Some, map};
 ghost use Rattle.std.specs.Vec.{vec_len};
 ghost use Rattle.det_edges.specs.Count.{Rose};
-ghost use Rattle.det_edges.specs.Sink.{Grew, GrewByPrefix};
 ghost use Rattle.det_edges.specs.Shelf.{AsksPrefix};
-ghost use Rattle.cli_answers.specs.Answers.{status_of, err_line};
+ghost use Rattle.cli_answers.specs.Ends.{can_end, writes_alone};
 ghost use Rattle.cli_answers.specs.Outcome.{Meets, text_outcome, Tells, told};
 ghost use Rattle.cli_words.specs.Texts.{texts};
 ghost use Rattle.cli_words.specs.Told.{told_of, told_by};
 ghost use Rattle.cli_words.specs.Words.{command_seen};
 ghost use Rattle.cli_words.specs.Ranges.{IsInRange};
-ghost use Rattle.det_cli.specs.Outcome.{built, command_in, names_in, names_of, shows_runs, outcome_of, outcome};
+ghost use Rattle.det_cli.specs.Outcome.{built, command_in, names_in, opened, shows_runs, outcome_of};
+ghost use Rattle.det_cli.specs.Promise.{Ends, Runs, IsPromised};
 
 use crate::texts::{USAGE, VERSION};
 use cli_answers::{Answer, Status};
@@ -23,6 +23,7 @@ use cli_words::laws::ranges;
 use cli_words::{Command, Told, read_words};
 use probes::Probe;
 use std::alloc::Global;
+use std::sync::Arc;
 use std::thread::Threads;
 use worker_pool::Gate;
 
@@ -30,8 +31,7 @@ use worker_pool::Gate;
 ///
 /// `record`, `demo` and `sim` run their cycles on real threads, each of which passes the gate. `show` and `sim` show the
 /// runs that they read or make to the probes, at most 1,024.
-#[tactic(auto, using(cli_answers::proofs::Meeting::met))]
-pub fn top<R: Threads + Sync, S: Shelf, K: Sink, E: Sink, G: Gate>(
+pub fn top<R: Threads + Sync, S: Shelf, K: Sink, E: Sink, G: Gate + Send + Sync + 'static>(
     rt: &R,
     alloc: Global,
     words: &[String],
@@ -39,48 +39,13 @@ pub fn top<R: Threads + Sync, S: Shelf, K: Sink, E: Sink, G: Gate>(
     out: &mut K,
     err: &mut E,
     probes: &mut Vec<Box<dyn Probe>>,
-    gate: &G,
+    gate: &Arc<G, Global>,
 ) -> Status
     requires { vec_len probes.old ≤ 1024 }
-    // Where no count of faults rose, and the shelf tells the bytes under the command's names, status and bytes are
-    // those of the outcome, or memory could not be had.
-    ensures unfailed { ¬ Rose (S.sees shelf.old).faults (S.sees shelf.new).faults → ¬ Rose (K.faults out.old) (K.faults out.new)
-        → Tells (S.sees shelf.old) (names_of (texts words.now)) → (result ≡ Status.OutOfMemory)
-        ⊎ ((result ≡ status_of (outcome (texts words.now) (told (S.sees shelf.old)) (map (λ b. life b) probes.old.items)).answer)
-        × Grew (K.took out.old) (K.took out.new) (outcome (texts words.now) (told (S.sees shelf.old)) (map (λ b. life b) probes.old.items)).bytes) }
-    // At every answer `out` took a prefix of the outcome's bytes.
-    ensures part { Tells (S.sees shelf.old) (names_of (texts words.now))
-        → GrewByPrefix (K.took out.old) (K.took out.new) (outcome (texts words.now) (told (S.sees shelf.old)) (map (λ b. life b) probes.old.items)).bytes }
-    // Done comes only where the outcome is Done and `out` took all of its bytes.
-    ensures done { Tells (S.sees shelf.old) (names_of (texts words.now)) → result ≡ Status.Done
-        → (status_of (outcome (texts words.now) (told (S.sees shelf.old)) (map (λ b. life b) probes.old.items)).answer ≡ Status.Done)
-        × Grew (K.took out.old) (K.took out.new) (outcome (texts words.now) (told (S.sees shelf.old)) (map (λ b. life b) probes.old.items)).bytes }
-
-    // The causes of the other answers.
-    ensures bad_words { (result ≡ Status.BadWords) ↔ (command_in (texts words.now) ≡ None) }
-    ensures bad_manifest { Tells (S.sees shelf.old) (names_of (texts words.now)) → result ≡ Status.BadManifest
-        → (status_of (outcome (texts words.now) (told (S.sees shelf.old)) (map (λ b. life b) probes.old.items)).answer ≡ Status.BadManifest)
-        × Grew (K.took out.old) (K.took out.new) (outcome (texts words.now) (told (S.sees shelf.old)) (map (λ b. life b) probes.old.items)).bytes }
-    ensures bad_stimulus { Tells (S.sees shelf.old) (names_of (texts words.now)) → result ≡ Status.BadStimulus
-        → (status_of (outcome (texts words.now) (told (S.sees shelf.old)) (map (λ b. life b) probes.old.items)).answer ≡ Status.BadStimulus)
-        × Grew (K.took out.old) (K.took out.new) (outcome (texts words.now) (told (S.sees shelf.old)) (map (λ b. life b) probes.old.items)).bytes }
-    ensures bad_record { Tells (S.sees shelf.old) (names_of (texts words.now)) → result ≡ Status.BadRecord
-        → (status_of (outcome (texts words.now) (told (S.sees shelf.old)) (map (λ b. life b) probes.old.items)).answer ≡ Status.BadRecord)
-        × Grew (K.took out.old) (K.took out.new) (outcome (texts words.now) (told (S.sees shelf.old)) (map (λ b. life b) probes.old.items)).bytes }
-    ensures read_fault { result ≡ Status.ReadFault → Rose (S.sees shelf.old).faults (S.sees shelf.new).faults }
-    ensures write_fault { result ≡ Status.WriteFault → Rose (K.faults out.old) (K.faults out.new) }
-    ensures asked { AsksPrefix (S.sees shelf.old) (S.sees shelf.new) (names_of (texts words.now)) }
-
-    // A command that shows no runs leaves the probes. One that shows them has taken all out where it is done.
-    ensures left { shows_runs (command_in (texts words.now)) ≡ false → map (λ b. life b) probes.new.items ≡ map (λ b. life b) probes.old.items }
-    ensures gone { shows_runs (command_in (texts words.now)) ≡ true → result ≡ Status.Done → probes.new.items ≡ [] }
-
-    // `err` took a prefix of the one line of the answer, and all of it where its count of faults didn't rise.
-    ensures line { (answer : Answer) × (result ≡ status_of answer)
-        × (Tells (S.sees shelf.old) (names_of (texts words.now)) → (answer ≡ Answer.ReadFault) ⊎ ((answer ≡ Answer.WriteFault)
-        ⊎ ((answer ≡ Answer.OutOfMemory) ⊎ (answer ≡ (outcome (texts words.now) (told (S.sees shelf.old)) (map (λ b. life b) probes.old.items)).answer))))
-        × GrewByPrefix (E.took err.old) (E.took err.new) (err_line answer)
-        × (¬ Rose (E.faults err.old) (E.faults err.new) → Grew (E.took err.old) (E.took err.new) (err_line answer)) }
+    ensures { IsPromised (texts words.now) (S.sees shelf.old) (S.sees shelf.new)
+        (Rose (K.faults out.old) (K.faults out.new)) (K.took out.old) (K.took out.new)
+        (Rose (E.faults err.old) (E.faults err.new)) (E.took err.old) (E.took err.new)
+        (map (λ b. life b) probes.old.items) (map (λ b. life b) probes.new.items) result }
 {
     let answer = run(rt, alloc, words, shelf, out, probes, gate);
     let line = answer.line();
@@ -88,23 +53,19 @@ pub fn top<R: Threads + Sync, S: Shelf, K: Sink, E: Sink, G: Gate>(
     answer.status()
 }
 
-fn run<R: Threads + Sync, S: Shelf, K: Sink, G: Gate>(
+fn run<R: Threads + Sync, S: Shelf, K: Sink, G: Gate + Send + Sync + 'static>(
     rt: &R,
     alloc: Global,
     words: &[String],
     shelf: &mut S,
     out: &mut K,
     probes: &mut Vec<Box<dyn Probe>>,
-    gate: &G,
+    gate: &Arc<G, Global>,
 ) -> Answer
     requires { vec_len probes.old ≤ 1024 }
-    ensures meets { Meets (outcome (texts words.now) (told (S.sees shelf.old)) (map (λ b. life b) probes.old.items)) (Tells (S.sees shelf.old) (names_of (texts words.now)))
-        (Rose (S.sees shelf.old).faults (S.sees shelf.new).faults) (Rose (K.faults out.old) (K.faults out.new))
-        (K.took out.old) (K.took out.new) result }
-    ensures bad_words { (result ≡ Answer.BadWords) ↔ (command_in (texts words.now) ≡ None) }
-    ensures asked { AsksPrefix (S.sees shelf.old) (S.sees shelf.new) (names_of (texts words.now)) }
-    ensures left { shows_runs (command_in (texts words.now)) ≡ false → map (λ b. life b) probes.new.items ≡ map (λ b. life b) probes.old.items }
-    ensures gone { shows_runs (command_in (texts words.now)) ≡ true → result ≡ Answer.Done → probes.new.items ≡ [] }
+    ensures { Runs (command_in (texts words.now)) (S.sees shelf.old) (S.sees shelf.new)
+        (Rose (K.faults out.old) (K.faults out.new)) (K.took out.old) (K.took out.new)
+        (map (λ b. life b) probes.old.items) (map (λ b. life b) probes.new.items) result }
 {
     match read_words(words) {
         Some(words_told) => run_told(rt, alloc, words, &words_told, shelf, out, probes, gate),
@@ -113,7 +74,7 @@ fn run<R: Threads + Sync, S: Shelf, K: Sink, G: Gate>(
 }
 
 /// Runs what the words tell.
-fn run_told<R: Threads + Sync, S: Shelf, K: Sink, G: Gate>(
+fn run_told<R: Threads + Sync, S: Shelf, K: Sink, G: Gate + Send + Sync + 'static>(
     rt: &R,
     alloc: Global,
     words: &[String],
@@ -121,17 +82,13 @@ fn run_told<R: Threads + Sync, S: Shelf, K: Sink, G: Gate>(
     shelf: &mut S,
     out: &mut K,
     probes: &mut Vec<Box<dyn Probe>>,
-    gate: &G,
+    gate: &Arc<G, Global>,
 ) -> Answer
     requires few { vec_len probes.old ≤ 1024 }
     requires told { Some (told_of words_told.now) ≡ told_by (texts words.now) }
-    ensures meets { Meets (outcome (texts words.now) (told (S.sees shelf.old)) (map (λ b. life b) probes.old.items)) (Tells (S.sees shelf.old) (names_of (texts words.now)))
-        (Rose (S.sees shelf.old).faults (S.sees shelf.new).faults) (Rose (K.faults out.old) (K.faults out.new))
-        (K.took out.old) (K.took out.new) result }
-    ensures bad_words { (result ≡ Answer.BadWords) ↔ (command_in (texts words.now) ≡ None) }
-    ensures asked { AsksPrefix (S.sees shelf.old) (S.sees shelf.new) (names_of (texts words.now)) }
-    ensures left { shows_runs (command_in (texts words.now)) ≡ false → map (λ b. life b) probes.new.items ≡ map (λ b. life b) probes.old.items }
-    ensures gone { shows_runs (command_in (texts words.now)) ≡ true → result ≡ Answer.Done → probes.new.items ≡ [] }
+    ensures { Runs (command_in (texts words.now)) (S.sees shelf.old) (S.sees shelf.new)
+        (Rose (K.faults out.old) (K.faults out.new)) (K.took out.old) (K.took out.new)
+        (map (λ b. life b) probes.old.items) (map (λ b. life b) probes.new.items) result }
 {
     ranges();
     match words_told.command() {
@@ -140,25 +97,32 @@ fn run_told<R: Threads + Sync, S: Shelf, K: Sink, G: Gate>(
     }
 }
 
-fn run_command<R: Threads + Sync, S: Shelf, K: Sink, G: Gate>(
+fn run_command<R: Threads + Sync, S: Shelf, K: Sink, G: Gate + Send + Sync + 'static>(
     rt: &R,
     alloc: Global,
     command: Command<'_>,
     shelf: &mut S,
     out: &mut K,
     probes: &mut Vec<Box<dyn Probe>>,
-    gate: &G,
+    gate: &Arc<G, Global>,
 ) -> Answer
     requires few { vec_len probes.old ≤ 1024 }
     requires range { IsInRange (command_seen command) }
-    ensures meets { Meets (outcome_of (built (command_seen command.entry)) (told (S.sees shelf.old)) (map (λ b. life b) probes.old.items))
-        (Tells (S.sees shelf.old) (names_in (built (command_seen command.entry))))
+    ensures meets { Meets (outcome_of (built (command_seen command.entry)) (told (S.sees shelf.old))
+        (map (λ b. life b) probes.old.items))
+        (Tells (S.sees shelf.old) (opened (built (command_seen command.entry)) (told (S.sees shelf.old))))
         (Rose (S.sees shelf.old).faults (S.sees shelf.new).faults) (Rose (K.faults out.old) (K.faults out.new))
         (K.took out.old) (K.took out.new) result }
-    ensures bad_words { (result ≡ Answer.BadWords) ↔ (built (command_seen command.entry) ≡ None) }
-    ensures asked { AsksPrefix (S.sees shelf.old) (S.sees shelf.new) (names_in (built (command_seen command.entry))) }
-    ensures left { shows_runs (built (command_seen command.entry)) ≡ false → map (λ b. life b) probes.new.items ≡ map (λ b. life b) probes.old.items }
-    ensures gone { shows_runs (built (command_seen command.entry)) ≡ true → result ≡ Answer.Done → probes.new.items ≡ [] }
+    ensures ends { Ends (built (command_seen command.entry)) result }
+    ensures asked { AsksPrefix (S.sees shelf.old) (S.sees shelf.new)
+        (names_in (built (command_seen command.entry))) }
+    ensures needed { Tells (S.sees shelf.old) (opened (built (command_seen command.entry)) (told (S.sees shelf.old)))
+        → AsksPrefix (S.sees shelf.old) (S.sees shelf.new)
+        (opened (built (command_seen command.entry)) (told (S.sees shelf.old))) }
+    ensures left { shows_runs (built (command_seen command.entry)) ≡ false
+        → map (λ b. life b) probes.new.items ≡ map (λ b. life b) probes.old.items }
+    ensures gone { shows_runs (built (command_seen command.entry)) ≡ true → result ≡ Answer.Done
+        → map (λ b. life b) probes.new.items ≡ [] }
 {
     match command {
         Command::Demo { stimulus } => demo(rt, alloc, stimulus, shelf, out, gate),
@@ -189,7 +153,7 @@ fn run_command<R: Threads + Sync, S: Shelf, K: Sink, G: Gate>(
 /// Writes a text.
 fn print<K: Sink>(text: &str, out: &mut K) -> Answer
     ensures meets { Meets (text_outcome text.now) (Unit {0}) ⊥ (Rose (K.faults out.old) (K.faults out.new)) (K.took out.old) (K.took out.new) result }
-    ensures words { result ≡ Answer.BadWords → ⊥ }
+    ensures ends { can_end writes_alone result ≡ true }
 {
     match write_all(out, text.as_bytes()) {
         Ok(()) => Answer::Done,

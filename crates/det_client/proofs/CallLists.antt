@@ -1,6 +1,7 @@
 -- What a further call does to the list that a client comes from.
-use Rattle.std.proofs.Common.{◌≡◌, ℕ, zero, suc, ◌+◌, List, [], ◌∷◌, ◌++◌, None, Bool, true, false, cond, refl, sym, ap, ◌∙◌, append_assoc, arith, replicate, append-nil}
-use Rattle.element_random.specs.Words.{Place, StandsFor, key}
+use Rattle.std.proofs.Common.{◌≡◌, ℕ, zero, suc, ◌+◌, List, [], ◌∷◌, ◌++◌, None, Bool, true, false, cond, refl, sym, ap, ◌∙◌, append_assoc}
+use Rattle.std.proofs.Common.{arith, replicate, append-nil}
+use Rattle.element_random.specs.Words.{StandsFor, key}
 use Rattle.det_client.specs.declared.activation.Activation.{Activation}
 use Rattle.det_client.specs.declared.activation.Activation.TheVariants.{RegisterServices, ServiceDiscovery, Init, Run, Terminate}
 use Rattle.det_client.specs.declared.activation.Next.{Next}
@@ -11,6 +12,7 @@ use Rattle.det_client.specs.Step.{Stepped}
 use Rattle.det_client.specs.Calls.{Call, requests, seed_after, seed_of, drawn_after, drawn_of, ComesFrom, resuming}
 use Rattle.det_client.specs.Calls.Call.{waits, reseeds, draws}
 use Rattle.det_client.proofs.RequestLists.{answered_step, life_step}
+use Rattle.det_client.proofs.OwnStreams.{equal_places}
 
 requests-append : (xs ys : List Call) → requests (xs ++ ys) ≡ requests xs ++ requests ys
 requests-append [] ys = refl
@@ -57,15 +59,18 @@ append-none : (xs : List Next) → xs ++ [] ≡ xs
 append-none xs = append-nil xs
 
 module _ {before after : State} {t : ℕ} (calls : List Call) (comes : ComesFrom before t calls) where
-  pub comes_reseeded : (seed : ℕ) → SameButSeed before after → after.seed ≡ seed → OwnAt after 0 → ComesFrom after t (calls ++ reseeds seed ∷ [])
+  pub comes_reseeded : (seed : ℕ) → SameButSeed before after → after.seed ≡ seed → OwnAt after 0 →
+      ComesFrom after t (calls ++ reseeds seed ∷ [])
   comes_reseeded seed same is own = record {
     cycle_time = same.cycle_time ∙ comes.cycle_time;
-    life = same_life before after (requests calls) _ same (requests-append calls (reseeds seed ∷ []) ∙ append-none (requests calls)) comes.life;
+    life = same_life before after (requests calls) _ same
+        (requests-append calls (reseeds seed ∷ []) ∙ append-none (requests calls)) comes.life;
     seed = is ∙ sym (seed_after-append 0 calls (reseeds seed ∷ []));
     own = rw (drawn_after-append [] 0 calls (reseeds seed ∷ [])) own;
   }
 
-  pub comes_drawn : SameButSeed before after → after.seed ≡ before.seed → ((k n : ℕ) → StandsFor before.own k n → StandsFor after.own k (n + 1)) → ComesFrom after t (calls ++ draws ∷ [])
+  pub comes_drawn : SameButSeed before after → after.seed ≡ before.seed →
+      ((k n : ℕ) → StandsFor before.own k n → StandsFor after.own k (n + 1)) → ComesFrom after t (calls ++ draws ∷ [])
   comes_drawn same is goes_on = record {
     cycle_time = same.cycle_time ∙ comes.cycle_time;
     life = same_life before after (requests calls) _ same (requests-append calls (draws ∷ []) ∙ append-none (requests calls)) comes.life;
@@ -73,7 +78,8 @@ module _ {before after : State} {t : ℕ} (calls : List Call) (comes : ComesFrom
     own = rw (drawn_after-append [] 0 calls (draws ∷ []), is, same.cycle) (goes_on (own_key before) (drawn_of calls) comes.own);
   }
 
-  own_step : (next : Next) (result : Activation) (n : ℕ) (b : Bool) → Stepped before next result after → begins result ≡ b → OwnAt before n → OwnAt after (cond b 0 n)
+  own_step : (next : Next) (result : Activation) (n : ℕ) (b : Bool) → Stepped before next result after → begins result ≡ b →
+      OwnAt before n → OwnAt after (cond b 0 n)
   own_step next result n true s h own = s.begun h
   own_step next result n false s h own =
       let stays : after.cycle ≡ before.cycle = s.cycle ∙ ap (λ r. before.cycle + cond r 1 0) (begins_runs result h) ∙ omega arith in
@@ -88,11 +94,13 @@ module _ {before after : State} {t : ℕ} (calls : List Call) (comes : ComesFrom
         life = rw e (life_step s (requests calls) comes.life);
         seed = s.seed ∙ comes.seed ∙ sym (seed_after-append 0 calls (waits next ∷ []));
         own = rw (drawn_after-append [] 0 calls (waits next ∷ []))
-            (own_step next result (drawn_of calls) (begins (answer given)) s (ap begins (answered_step s (requests calls) comes.life)) comes.own);
+            (own_step next result (drawn_of calls) (begins (answer given)) s
+            (ap begins (answered_step s (requests calls) comes.life)) comes.own);
       }
 
 -- a client behind so many cycles, which was then given a seed
-pub comes_resumed : (seed cycle : ℕ) (s : State) → s.seed ≡ seed → OwnAt s 0 → Life s (replicate (3 + cycle) (Go None)) → ComesFrom s s.cycle_time (resuming seed cycle)
+pub comes_resumed : (seed cycle : ℕ) (s : State) → s.seed ≡ seed → OwnAt s 0 → Life s (replicate (3 + cycle) (Go None)) →
+    ComesFrom s s.cycle_time (resuming seed cycle)
 comes_resumed seed cycle s is own life =
     let before : List Call = replicate (3 + cycle) (waits (Go None)) in
     let e : requests (before ++ reseeds seed ∷ []) ≡ replicate (3 + cycle) (Go None) =
@@ -103,9 +111,6 @@ comes_resumed seed cycle s is own life =
       seed = is ∙ sym (seed_after-append 0 before (reseeds seed ∷ []));
       own = rw (drawn_after-append [] 0 before (reseeds seed ∷ [])) own;
     }
-
-equal_places : (p q : Place) (k n : ℕ) → StandsFor p k n → StandsFor q k n → p ≡ q
-equal_places p q k n x y = λ i. record { state = (x.state ∙ sym y.state) i; draws = (x.draws ∙ sym y.draws) i }
 
 -- two clients that come from new ones of one cycle time by the same calls are equal
 pub equal_clients : (a b : State) (t : ℕ) (calls : List Call) → ComesFrom a t calls → ComesFrom b t calls → a ≡ b

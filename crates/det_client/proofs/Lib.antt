@@ -1,2 +1,3 @@
 pub mod RequestLists
 pub mod CallLists
+pub mod OwnStreams

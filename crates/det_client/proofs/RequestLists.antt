@@ -1,5 +1,6 @@
 -- What a further request does to the list that a client stands for.
-use Rattle.std.proofs.Common.{◌≡◌, ℕ, zero, suc, ◌+◌, List, [], ◌∷◌, ◌++◌, length, Option, None, Some, Bool, true, false, cond, ◌||◌, refl, sym, ap, ◌∙◌, append_assoc, length-append, add_assoc, arith, replicate, append-nil, eqb}
+use Rattle.std.proofs.Common.{◌≡◌, ℕ, zero, suc, ◌+◌, List, [], ◌∷◌, ◌++◌, length, Option, None, Some, Bool, true, false, cond, ◌||◌, refl}
+use Rattle.std.proofs.Common.{sym, ap, ◌∙◌, append_assoc, length-append, add_assoc, arith, replicate, append-nil, eqb}
 use Rattle.std.proofs.lemmas.List.{length-replicate}
 use Rattle.std.proofs.lemmas.Bool.Decides.{nat_tests}
 use Rattle.det_client.specs.declared.activation.Activation.{Activation}
@@ -8,7 +9,8 @@ use Rattle.det_client.specs.declared.activation.Next.{Next}
 use Rattle.det_client.specs.declared.activation.Next.TheVariants.{Go, Stop}
 use Rattle.det_client.specs.State.{State}
 use Rattle.det_client.specs.Step.{Stepped}
-use Rattle.det_client.specs.Life.{Life, is_stop, stopped, activation, answer, is_run, runs_after, cycle_of, last_of, go_time, last_time, following, next_activation}
+use Rattle.det_client.specs.Life.{Life, is_stop, stopped, activation, answer, is_run, runs_after, cycle_of, last_of, go_time, last_time}
+use Rattle.det_client.specs.Life.{following, next_activation}
 
 stopped-snoc_go : (xs : List Next) (t : Option ℕ) → stopped (xs ++ Go t ∷ []) ≡ stopped xs
 stopped-snoc_go [] t = refl
@@ -52,12 +54,15 @@ last_time-snoc [] x = refl
 last_time-snoc (y ∷ []) x = refl
 last_time-snoc (y ∷ z ∷ zs) x = last_time-snoc (z ∷ zs) x
 
-runs_after-snoc : (before xs : List Next) (x : Next) → runs_after before (xs ++ x ∷ []) ≡ runs_after before xs + cond (is_run (answer ((before ++ xs) ++ x ∷ []))) 1 0
+runs_after-snoc : (before xs : List Next) (x : Next) →
+    runs_after before (xs ++ x ∷ []) ≡ runs_after before xs + cond (is_run (answer ((before ++ xs) ++ x ∷ []))) 1 0
 runs_after-snoc before [] x = rw append-nil (omega arith)
 runs_after-snoc before (y ∷ xs) x =
     ap (λ n. cond (is_run (answer (before ++ y ∷ []))) 1 0 + n)
-    (runs_after-snoc (before ++ y ∷ []) xs x ∙ ap (λ b. runs_after (before ++ y ∷ []) xs + cond (is_run (answer (b ++ x ∷ []))) 1 0) (append_assoc before (y ∷ []) xs))
-    ∙ sym (add_assoc (cond (is_run (answer (before ++ y ∷ []))) 1 0) (runs_after (before ++ y ∷ []) xs) (cond (is_run (answer ((before ++ y ∷ xs) ++ x ∷ []))) 1 0))
+    (runs_after-snoc (before ++ y ∷ []) xs x
+    ∙ ap (λ b. runs_after (before ++ y ∷ []) xs + cond (is_run (answer (b ++ x ∷ []))) 1 0) (append_assoc before (y ∷ []) xs))
+    ∙ sym (add_assoc (cond (is_run (answer (before ++ y ∷ []))) 1 0) (runs_after (before ++ y ∷ []) xs)
+    (cond (is_run (answer ((before ++ y ∷ xs) ++ x ∷ []))) 1 0))
 
 stopped-replicate : (n : ℕ) → stopped (replicate n (Go None)) ≡ false
 stopped-replicate zero = refl
@@ -94,23 +99,29 @@ cond_none true t = refl
 cond_none false t = refl
 
 -- a client that was given `Go(None)` three times and c times more
-pub resumed_life : (c : ℕ) (s : State) → s.last ≡ Some (cond (eqb c 0) Init Run) → s.cycle ≡ c → s.time ≡ None → Life s (replicate (3 + c) (Go None))
+pub resumed_life : (c : ℕ) (s : State) → s.last ≡ Some (cond (eqb c 0) Init Run) → s.cycle ≡ c → s.time ≡ None →
+    Life s (replicate (3 + c) (Go None))
 resumed_life c s last cycle time =
     let e : 3 + c ≡ suc (suc (suc c)) = omega arith in
     let n = suc (suc (suc c)) in
     rw e (record {
       last = last ∙ ap Some (resumed_last c ∙ sym (answer-replicate n));
       cycle = cycle ∙ sym (cycle_of-replicate c);
-      time = time ∙ sym (ap (λ t. cond (is_run (answer (replicate n (Go None)))) t None) (last_time-replicate n) ∙ cond_none (is_run (answer (replicate n (Go None)))) None);
+      time = time
+          ∙ sym (ap (λ t. cond (is_run (answer (replicate n (Go None)))) t None) (last_time-replicate n)
+          ∙ cond_none (is_run (answer (replicate n (Go None)))) None);
     })
 
-module _ {before after : State} {next : Next} {result : Activation} (s : Stepped before next result after) (given : List Next) (life : Life before given) where
+module _ {before after : State} {next : Next} {result : Activation}
+    (s : Stepped before next result after) (given : List Next) (life : Life before given) where
   pub answered_step : result ≡ answer (given ++ next ∷ [])
   answered_step = s.result_is ∙ ap (λ l. next_activation l next) life.last ∙ sym (answer-snoc given next)
 
   pub life_step : Life after (given ++ next ∷ [])
   life_step = record {
     last = s.last ∙ ap Some answered_step ∙ sym (last_of-snoc given next);
-    cycle = s.cycle ∙ ap (λ n. n + cond (is_run result) 1 0) life.cycle ∙ ap (λ a. cycle_of given + cond (is_run a) 1 0) answered_step ∙ sym (runs_after-snoc [] given next);
-    time = s.time ∙ ap (λ a. cond (is_run a) (go_time next) None) answered_step ∙ ap (λ t. cond (is_run (answer (given ++ next ∷ []))) t None) (sym (last_time-snoc given next));
+    cycle = s.cycle ∙ ap (λ n. n + cond (is_run result) 1 0) life.cycle ∙ ap (λ a. cycle_of given + cond (is_run a) 1 0) answered_step
+        ∙ sym (runs_after-snoc [] given next);
+    time = s.time ∙ ap (λ a. cond (is_run a) (go_time next) None) answered_step
+        ∙ ap (λ t. cond (is_run (answer (given ++ next ∷ []))) t None) (sym (last_time-snoc given next));
   }

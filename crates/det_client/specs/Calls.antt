@@ -1,4 +1,5 @@
--- What a list of calls makes of a client: the requests that it was given, its seed, and how far its own stream is.
+-- What a list of calls makes of a client: the requests that it was given, its seed, and how far its
+-- own stream is.
 use Rattle.std.specs.Prelude.{◌≡◌, ℕ, ◌+◌, List, [], ◌∷◌, ◌++◌, None, if◌then◌else◌, replicate}
 use Rattle.element_random.specs.Words.{key, word}
 use Rattle.det_client.specs.declared.activation.Next.{Next}
@@ -6,7 +7,8 @@ use Rattle.det_client.specs.declared.activation.Next.TheVariants.{Go}
 use Rattle.det_client.specs.State.{State, OwnAt}
 use Rattle.det_client.specs.Life.{Life, answer, cycle_of, begins}
 
--- a call that changes a client: one for an activation, one that sets the seed, one that draws a word
+-- a call that changes a client: one for an activation, one that sets the seed, one that draws a
+-- word
 pub data Call : Type 0 where
   waits : Next → Call
   reseeds : ℕ → Call
@@ -30,12 +32,13 @@ seed_after seed (draws ∷ calls) = seed_after seed calls
 abbrev pub seed_of : List Call → ℕ
 seed_of calls = seed_after 0 calls
 
--- The number of words drawn since the own stream began anew, where these calls follow `given` requests and `drawn`
--- words. An answer Init or Run and a new seed begin it anew.
+-- The number of words drawn since the own stream began anew, where these calls follow `given`
+-- requests and `drawn` words. An answer Init or Run and a new seed begin it anew.
 abbrev pub drawn_after : List Next → ℕ → List Call → ℕ
 drawn_after given drawn [] = drawn
 drawn_after given drawn (waits next ∷ calls) =
-    drawn_after (given ++ next ∷ []) (if begins (answer (given ++ next ∷ [])) then 0 else drawn) calls
+    drawn_after (given ++ next ∷ [])
+    (if begins (answer (given ++ next ∷ [])) then 0 else drawn) calls
 drawn_after given drawn (reseeds seed ∷ calls) = drawn_after given 0 calls
 drawn_after given drawn (draws ∷ calls) = drawn_after given (drawn + 1) calls
 

@@ -1,8 +1,12 @@
--- The activations that answer a list of requests, after the activation sequence of the deterministic client of the
--- AUTOSAR Adaptive Platform. That a stop ends the sequence at any point is this project's own rule.
-use Rattle.std.specs.Prelude.{◌≡◌, ℕ, zero, suc, ◌+◌, List, [], ◌∷◌, ◌++◌, Option, None, Some, Bool, true, false, if◌then◌else◌, ◌||◌, length}
+-- The activations that answer a list of requests, after the activation sequence of the
+-- deterministic client of the AUTOSAR Adaptive Platform. That a stop ends the sequence at any point
+-- is this project's own rule.
+use Rattle.std.specs.Prelude.{◌≡◌, ℕ, zero, suc, ◌+◌, List, [], ◌∷◌, ◌++◌, Option, None, Some, Bool}
+use Rattle.std.specs.Prelude.{true, false, if◌then◌else◌, ◌||◌, length}
 use Rattle.det_client.specs.declared.activation.Activation.{Activation}
-use Rattle.det_client.specs.declared.activation.Activation.TheVariants.{RegisterServices, ServiceDiscovery, Init, Run, Terminate}
+use Rattle.det_client.specs.declared.activation.Activation.TheVariants.{RegisterServices}
+use Rattle.det_client.specs.declared.activation.Activation.TheVariants.{ServiceDiscovery, Init, Run}
+use Rattle.det_client.specs.declared.activation.Activation.TheVariants.{Terminate}
 use Rattle.det_client.specs.declared.activation.Next.{Next}
 use Rattle.det_client.specs.declared.activation.Next.TheVariants.{Go, Stop}
 use Rattle.det_client.specs.State.{State}

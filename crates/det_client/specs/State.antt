@@ -1,9 +1,10 @@
 -- What a client keeps.
 use Rattle.std.specs.Prelude.{◌≡◌, ℕ, ◌+◌, ◌-◌, ◌^◌, Option, None, Some, if◌then◌else◌, nat_le}
-use Rattle.element_random.specs.Words.{Place, StandsFor, key}
+use Rattle.element_random.specs.Words.{Place, StandsFor, key, state_at}
 use Rattle.det_client.specs.declared.activation.Activation.{Activation}
 
--- the last activation, the time of the cycle that it began, the number of that cycle, and the own stream
+-- the last activation, the time of the cycle that it began, the number of that cycle, and the own
+-- stream
 pub record State : Type 0 where
   pub cycle_time : ℕ
   pub last : Option Activation
@@ -15,7 +16,17 @@ pub record State : Type 0 where
 -- a time plus the cycle time, where the time is known and the sum is a u64
 abbrev pub next_time : ℕ → Option ℕ → Option ℕ
 next_time cycle_time None = None
-next_time cycle_time (Some t) = if nat_le (t + cycle_time) (2 ^ 64 - 1) then Some (t + cycle_time) else None
+next_time cycle_time (Some t) =
+    if nat_le (t + cycle_time) (2 ^ 64 - 1) then Some (t + cycle_time) else None
+
+-- the stream of a key at its beginning
+abbrev pub beginning : ℕ → Place
+beginning k = record { state = state_at k 0; draws = 0 }
+
+-- the own stream in a cycle under a seed, which is at its beginning before a word is drawn
+abbrev pub own_place : Option Place → ℕ → ℕ → Place
+own_place None seed cycle = beginning (key seed cycle 255 0)
+own_place (Some place) seed cycle = place
 
 -- the key of a client's own stream
 abbrev pub own_key : State → ℕ

@@ -6,7 +6,8 @@ use Rattle.det_client.specs.State.{State, OwnAt}
 use Rattle.det_client.specs.Life.{next_activation, is_run, go_time, begins}
 
 -- the client before a request, and its answer, and the client after it
-pub record Stepped (before : State) (next : Next) (result : Activation) (after : State) : Type 0 where
+pub record Stepped
+    (before : State) (next : Next) (result : Activation) (after : State) : Type 0 where
   pub result_is : result ≡ next_activation before.last next
   pub cycle_time : after.cycle_time ≡ before.cycle_time
   pub seed : after.seed ≡ before.seed

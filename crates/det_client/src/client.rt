@@ -1,8 +1,10 @@
 //! The client.
 
-ghost use Rattle.std.specs.Prelude.{◌≡◌, ℕ, ◌+◌, ◌^◌, ◌<◌, ◌≤◌, List, [], ◌∷◌, ◌++◌, None, Some, IfOk, OnErr, MatchResult, false, ◌==◌, if◌then◌else◌, replicate};
+ghost use Rattle.std.specs.Prelude.{◌≡◌, ℕ, ◌+◌, ◌^◌, ◌<◌, ◌≤◌, List, [], ◌∷◌, ◌++◌, None, Some};
+ghost use Rattle.std.specs.Prelude.{IfOk, OnErr, MatchResult, false, ◌==◌, if◌then◌else◌};
+ghost use Rattle.std.specs.Prelude.{replicate};
 ghost use Rattle.element_random.specs.Words.{key, word, StandsFor};
-ghost use Rattle.det_client.specs.State.{next_time, OwnAt, SameButSeed};
+ghost use Rattle.det_client.specs.State.{next_time, OwnAt, SameButSeed, own_place};
 ghost use Rattle.det_client.specs.Life.{Life, answer, cycle_of, time_of, is_stop};
 ghost use Rattle.det_client.specs.Step.{Stepped};
 ghost use Rattle.det_client.specs.Calls.{Call, ComesFrom, seed_of, own_word, resuming};
@@ -27,15 +29,23 @@ pub struct Client {
     time: Option<u64>,
     seed: u64,
     cycle: u32,
-    own: ElementRandom,
+    /// None before the first word is drawn.
+    own: Option<ElementRandom>,
 }
 
 impl Model for Client {
-    ghost use Rattle.det_client.specs.State.{State};
+    ghost use Rattle.det_client.specs.State.{State, own_place};
 
     ghost Value = { State };
 
-    ghost view = { λ c. record { cycle_time = c.cycle_time; last = c.last; time = c.time; seed = c.seed; cycle = c.cycle; own = c.own } };
+    ghost view = { λ c. record {
+      cycle_time = c.cycle_time;
+      last = c.last;
+      time = c.time;
+      seed = c.seed;
+      cycle = c.cycle;
+      own = own_place c.own c.seed c.cycle;
+    } };
 }
 
 /// The client's own stream in a cycle, at its beginning.
@@ -43,6 +53,16 @@ fn own_stream(seed: u64, cycle: u32) -> ElementRandom
     ensures { StandsFor result (key seed cycle 255 0) 0 }
 {
     ElementRandom::at(key(seed, cycle, 255, 0))
+}
+
+/// The own stream in a cycle, seeded where no word was drawn.
+fn begun_stream(own: Option<ElementRandom>, seed: u64, cycle: u32) -> ElementRandom
+    ensures { (k n : ℕ) → StandsFor (own_place own seed cycle) k n → StandsFor result k n }
+{
+    match own {
+        Some(own) => own,
+        None => own_stream(seed, cycle),
+    }
 }
 
 impl Client {
@@ -62,12 +82,12 @@ impl Client {
             time: None,
             seed: 0,
             cycle: 0,
-            own: own_stream(0, 0),
+            own: None,
         }
     }
 
-    /// A client between two activations: the one that comes from a new client by three requests without a time, as
-    /// many more as there were cycles, and then this seed.
+    /// A client between two activations: the one that comes from a new client by three requests
+    /// without a time, as many more as there were cycles, and then this seed.
     pub fn resumed(cycle_time: u64, seed: u64, cycle: u32) -> Client
         requires some_time { 1 ≤ cycle_time }
         requires short { cycle_time < 2 ^ 63 }
@@ -92,7 +112,64 @@ impl Client {
             time: None,
             seed,
             cycle,
-            own: own_stream(seed, cycle),
+            own: None,
+        }
+    }
+
+    /// The client of which `cycle_time`, `last`, `time`, `seed`, `cycle` and `own` told these.
+    pub fn of_parts(
+        cycle_time: u64,
+        last: Option<Activation>,
+        time: Option<u64>,
+        seed: u64,
+        cycle: u32,
+        own: ElementRandom,
+    ) -> Client
+        ensures cycle_time { result.cycle_time ≡ cycle_time }
+        ensures last { result.last ≡ last }
+        ensures time { result.time ≡ time }
+        ensures seed { result.seed ≡ seed }
+        ensures cycle { result.cycle ≡ cycle }
+        ensures own { result.own ≡ own }
+    {
+        Client {
+            cycle_time,
+            last,
+            time,
+            seed,
+            cycle,
+            own: Some(own),
+        }
+    }
+
+    /// The last answer.
+    pub fn last(&self) -> Option<Activation>
+        ensures { result ≡ self.now.last }
+    {
+        self.last
+    }
+
+    /// The time of the present cycle, in nanoseconds.
+    pub fn time(&self) -> Option<u64>
+        ensures { result ≡ self.now.time }
+    {
+        self.time
+    }
+
+    /// The time from one cycle to the next, in nanoseconds.
+    pub fn cycle_time(&self) -> u64
+        ensures { result ≡ self.now.cycle_time }
+    {
+        self.cycle_time
+    }
+
+    /// The own stream, as it stands.
+    pub fn own(&self) -> ElementRandom
+        ensures { (k n : ℕ) → StandsFor self.now.own k n → result ≡ self.now.own }
+    {
+        match &self.own {
+            Some(own) => ElementRandom::of_parts(own.state(), own.draws()),
+            None => own_stream(self.seed, self.cycle),
         }
     }
 
@@ -107,9 +184,9 @@ impl Client {
             Activation::Run => {
                 self.cycle += 1;
                 self.time = next.time();
-                self.own = own_stream(self.seed, self.cycle);
+                self.own = None;
             }
-            Activation::Init => self.own = own_stream(self.seed, self.cycle),
+            Activation::Init => self.own = None,
             _ => (),
         }
         activation
@@ -118,8 +195,10 @@ impl Client {
     /// Answers what to do next. After a stop, now or earlier, it is to end.
     pub fn wait_for_activation(&mut self, next: Next) -> Activation
         requires { is_stop next ≡ false → self.old.cycle < MOST_CYCLES }
-        ensures answer { (given : List Next) → Life self.old given → result ≡ answer (given ++ next ∷ []) }
-        ensures life { (given : List Next) → Life self.old given → Life self.new (given ++ next ∷ []) }
+        ensures answer { (given : List Next) → Life self.old given
+            → result ≡ answer (given ++ next ∷ []) }
+        ensures life { (given : List Next) → Life self.old given
+            → Life self.new (given ++ next ∷ []) }
         ensures calls { (t : ℕ) (calls : List Call) → ComesFrom self.old t calls
             → ComesFrom self.new t (calls ++ waits next ∷ []) }
         ensures step { Stepped self.old next result self.new }
@@ -140,7 +219,9 @@ impl Client {
     /// The time of the next cycle, in nanoseconds.
     pub fn get_next_activation_time(&self) -> Result<u64, NotAvailable>
         ensures life { (given : List Next) → Life self.now given
-            → MatchResult result (λ t. next_time self.now.cycle_time (time_of given) ≡ Some t) (λ _. next_time self.now.cycle_time (time_of given) ≡ None) }
+            → MatchResult result
+            (λ t. next_time self.now.cycle_time (time_of given) ≡ Some t)
+            (λ _. next_time self.now.cycle_time (time_of given) ≡ None) }
         ensures known { IfOk result (λ t. next_time self.now.cycle_time self.now.time ≡ Some t) }
         ensures unknown { OnErr result (next_time self.now.cycle_time self.now.time ≡ None) }
     {
@@ -148,7 +229,8 @@ impl Client {
         time.checked_add(self.cycle_time).ok_or(NotAvailable)
     }
 
-    /// Sets the seed of the random words inside and outside the pool, and begins the own stream anew.
+    /// Sets the seed of the random words inside and outside the pool, and begins the own stream
+    /// anew.
     pub fn set_random_seed(&mut self, seed: u64)
         ensures calls { (t : ℕ) (calls : List Call) → ComesFrom self.old t calls
             → ComesFrom self.new t (calls ++ reseeds seed ∷ []) }
@@ -156,26 +238,32 @@ impl Client {
         ensures same { SameButSeed self.old self.new }
         ensures own { OwnAt self.new 0 }
     {
+        self.own = None;
         self.seed = seed;
-        self.own = own_stream(seed, self.cycle);
     }
 
     /// Draws the next word of the own stream.
     pub fn get_random(&mut self) -> u64
-        ensures own_word { (t : ℕ) (calls : List Call) → ComesFrom self.old t calls → result ≡ own_word calls }
+        ensures own_word { (t : ℕ) (calls : List Call) → ComesFrom self.old t calls
+            → result ≡ own_word calls }
         ensures calls { (t : ℕ) (calls : List Call) → ComesFrom self.old t calls
             → ComesFrom self.new t (calls ++ draws ∷ []) }
         ensures word { (k n : ℕ) → StandsFor self.old.own k n → result ≡ word k n }
-        ensures goes_on { (k n : ℕ) → StandsFor self.old.own k n → StandsFor self.new.own k (n + 1) }
+        ensures goes_on { (k n : ℕ) → StandsFor self.old.own k n
+            → StandsFor self.new.own k (n + 1) }
         ensures seed { self.new.seed ≡ self.old.seed }
         ensures same { SameButSeed self.old self.new }
     {
-        self.own.get_random()
+        let mut own = begun_stream(self.own.take(), self.seed, self.cycle);
+        let word = own.get_random();
+        self.own = Some(own);
+        word
     }
 
     /// The present seed.
     pub fn seed(&self) -> u64
-        ensures calls { (t : ℕ) (calls : List Call) → ComesFrom self.now t calls → result ≡ seed_of calls }
+        ensures calls { (t : ℕ) (calls : List Call) → ComesFrom self.now t calls
+            → result ≡ seed_of calls }
         ensures seed { result ≡ self.now.seed }
     {
         self.seed

@@ -1,8 +1,9 @@
-//! The deterministic client of one process: which activation comes next, the times of a cycle, the seed, and the
-//! client's own random words.
+//! The deterministic client of one process: which activation comes next, the times of a cycle, the
+//! seed, and the client's own random words.
 //!
-//! It is asked for one activation after another and keeps a state. Its contracts speak of the whole list of calls
-//! that were made on it, so two clients that were given the same calls give the same answers.
+//! It is asked for one activation after another and keeps a state. Its contracts speak of the whole
+//! list of calls that were made on it, so two clients that were given the same calls give the same
+//! answers.
 #![tactic(auto)]
 
 mod activation;

@@ -70,3 +70,30 @@ fn resumed(rt: HostRuntime) {
     assert_eq!(rt; client.get_random(), 0xd5fc6adf45ad30c3);
     assert_eq!(rt; client.get_random(), 0x2e206bd1059a7d80);
 }
+
+#[test]
+fn parts_go_on(rt: HostRuntime) {
+    let mut client = Client::resumed(1, 7, 0);
+    let begun = parts_of(&client);
+    assert_eq!(rt; client.get_random(), 0x0df0671027caefe0);
+    let mut again = parts_of(&client);
+    assert_eq!(rt; again.get_random(), 0x9f6868052c473bf8);
+    assert_eq!(rt; begun.last(), Some(Activation::Init));
+    assert_eq!(rt; begun.own().get_random(), 0x0df0671027caefe0);
+    assert_eq!(rt;
+        again.wait_for_activation(Next::Go(Some(5))),
+        Activation::Run
+    );
+    assert_eq!(rt; parts_of(&again).get_next_activation_time(), Ok(6));
+}
+
+fn parts_of(client: &Client) -> Client {
+    Client::of_parts(
+        client.cycle_time(),
+        client.last(),
+        client.time(),
+        client.seed(),
+        client.cycle(),
+        client.own(),
+    )
+}

@@ -6,7 +6,8 @@ use Rattle.std.specs.List.{between}
 use Rattle.std.proofs.lemmas.Slice.{between_to_end}
 use Rattle.det_edges.specs.Prefix.{IsPrefix, IsProperPrefix}
 use Rattle.det_edges.specs.Sink.{Grew, Same, GrewByPrefix, GrewShort}
-use Rattle.det_edges.proofs.Prefixes.{prefix-none, prefix-same, prefix-take, prefix-then, prefix-behind, proper-prefix, proper-take, proper-then, proper-behind, prefix-then-proper}
+use Rattle.det_edges.proofs.Prefixes.{prefix-none, prefix-same, prefix-take, prefix-then, prefix-behind, proper-prefix, proper-take}
+use Rattle.det_edges.proofs.Prefixes.{proper-then, proper-behind, prefix-then-proper}
 
 -- what stays grew by nothing
 pub grew-none : (took : List ℕ → Type 0) → Grew took took []
@@ -57,15 +58,18 @@ pub part-of : {before after : List ℕ → Type 0} (bytes : List ℕ) (d : ℕ) 
 part-of bytes d p = (take d bytes, prefix-take d bytes, p)
 
 -- growth by a prefix of a prefix is growth by a prefix of the whole
-pub part-wider : (before after : List ℕ → Type 0) (bytes all : List ℕ) → GrewByPrefix before after bytes → IsPrefix bytes all → GrewByPrefix before after all
+pub part-wider : (before after : List ℕ → Type 0) (bytes all : List ℕ) → GrewByPrefix before after bytes → IsPrefix bytes all
+    → GrewByPrefix before after all
 part-wider before after bytes all p q = (p.0, prefix-then p.0 bytes all p.1 q, p.2)
 
 -- growth by some bytes and then by a prefix of others is growth by a prefix of both in a row
-pub grew-then-part : (before mid after : List ℕ → Type 0) (a b : List ℕ) → Grew before mid a → GrewByPrefix mid after b → GrewByPrefix before after (a ++ b)
+pub grew-then-part : (before mid after : List ℕ → Type 0) (a b : List ℕ) → Grew before mid a → GrewByPrefix mid after b
+    → GrewByPrefix before after (a ++ b)
 grew-then-part before mid after a b p q = (a ++ q.0, prefix-behind a q.0 b q.1, grew-then p q.2)
 
 -- what grew by a prefix and then stayed grew by a prefix
-pub part-then-same : (before mid after : List ℕ → Type 0) (bytes : List ℕ) → GrewByPrefix before mid bytes → Same mid after → GrewByPrefix before after bytes
+pub part-then-same : (before mid after : List ℕ → Type 0) (bytes : List ℕ) → GrewByPrefix before mid bytes → Same mid after
+    → GrewByPrefix before after bytes
 part-then-same before mid after bytes p q = (p.0, p.1, grew-same p.2 q)
 
 -- growth by a proper prefix is growth by a prefix
@@ -73,21 +77,26 @@ pub short-part : (before after : List ℕ → Type 0) (bytes : List ℕ) → Gre
 short-part before after bytes p = (p.0, proper-prefix p.0 bytes p.1, p.2)
 
 -- growth by fewer than all bytes is growth by a proper prefix
-pub short-of : {before after : List ℕ → Type 0} (bytes : List ℕ) (d : ℕ) → d < length bytes → Grew before after (take d bytes) → GrewShort before after bytes
+pub short-of : {before after : List ℕ → Type 0} (bytes : List ℕ) (d : ℕ) → d < length bytes → Grew before after (take d bytes)
+    → GrewShort before after bytes
 short-of bytes d lt p = (take d bytes, proper-take d bytes lt, p)
 
 -- growth by a proper prefix of a prefix is growth by a proper prefix of the whole
-pub short-wider : (before after : List ℕ → Type 0) (bytes all : List ℕ) → GrewShort before after bytes → IsPrefix bytes all → GrewShort before after all
+pub short-wider : (before after : List ℕ → Type 0) (bytes all : List ℕ) → GrewShort before after bytes → IsPrefix bytes all
+    → GrewShort before after all
 short-wider before after bytes all p q = (p.0, proper-then p.0 bytes all p.1 q, p.2)
 
 -- growth by a prefix of a proper prefix is growth by a proper prefix of the whole
-pub part-short : (before after : List ℕ → Type 0) (bytes all : List ℕ) → GrewByPrefix before after bytes → IsProperPrefix bytes all → GrewShort before after all
+pub part-short : (before after : List ℕ → Type 0) (bytes all : List ℕ) → GrewByPrefix before after bytes → IsProperPrefix bytes all
+    → GrewShort before after all
 part-short before after bytes all p q = (p.0, prefix-then-proper p.0 bytes all p.1 q, p.2)
 
 -- growth by some bytes and then by a proper prefix of others is growth by a proper prefix of both in a row
-pub grew-then-short : (before mid after : List ℕ → Type 0) (a b : List ℕ) → Grew before mid a → GrewShort mid after b → GrewShort before after (a ++ b)
+pub grew-then-short : (before mid after : List ℕ → Type 0) (a b : List ℕ) → Grew before mid a → GrewShort mid after b
+    → GrewShort before after (a ++ b)
 grew-then-short before mid after a b p q = (a ++ q.0, proper-behind a q.0 b q.1, grew-then p q.2)
 
 -- the first d bytes and then n of those after them are the first d + n bytes
-pub grew-next : {before mid after : List ℕ → Type 0} (bytes : List ℕ) (d n : ℕ) → Grew before mid (take d bytes) → Grew mid after (take n (between d (length bytes) bytes)) → Grew before after (take (d + n) bytes)
+pub grew-next : {before mid after : List ℕ → Type 0} (bytes : List ℕ) (d n : ℕ) → Grew before mid (take d bytes)
+    → Grew mid after (take n (between d (length bytes) bytes)) → Grew before after (take (d + n) bytes)
 grew-next bytes d n p q = rw take-add (grew-then p (let r = rw (between_to_end bytes d (length bytes) (omega arith)) at q in r))

@@ -1,5 +1,6 @@
 -- What the calls of a shelf in memory, and of one over a text, do to what it shows.
-use Rattle.std.proofs.Common.{◌≡◌, ◌≢◌, ◌<◌, ◌+◌, ℕ, zero, suc, List, [], ◌∷◌, ◌++◌, length, take, drop, set, map, get_or, refl, sym, ◌∙◌, ap, arith, length-append, string_bytes}
+use Rattle.std.proofs.Common.{◌≡◌, ◌≢◌, ◌<◌, ◌+◌, ℕ, zero, suc, List, [], ◌∷◌, ◌++◌, length, take, drop, set, map, get_or, refl, sym, ◌∙◌}
+use Rattle.std.proofs.Common.{ap, arith, length-append, string_bytes}
 use Rattle.std.specs.Prelude.{Bool, true, false, Some, IfSome, min, unwrap_or}
 use Rattle.std.specs.List.{slice_get}
 use Rattle.std.specs.Option.{option_map}
@@ -36,7 +37,8 @@ slice_get-before [] x (suc k) ne = refl
 slice_get-before (y ∷ ys) x zero ne = refl
 slice_get-before (y ∷ ys) x (suc k) ne = slice_get-before ys x k (λ e. ne (ap suc e))
 
-slice_get-map-at : {X Y : Type 0} (f : X → Y) (xs : List X) (i : ℕ) (x : X) → i < length xs → x ≡ get_or xs i x → slice_get (map f xs) i ≡ Some (f x)
+slice_get-map-at : {X Y : Type 0} (f : X → Y) (xs : List X) (i : ℕ) (x : X) → i < length xs → x ≡ get_or xs i x
+    → slice_get (map f xs) i ≡ Some (f x)
 slice_get-map-at f xs i x h e = slice_get-map f xs i ∙ ap (option_map f) (slice_get-get_or xs i x h ∙ ap Some (sym e))
 
 length-none : (xs : List ℕ) → length xs ≡ 0 → xs ≡ []
@@ -44,7 +46,8 @@ length-none [] h = refl
 length-none (x ∷ xs) h = absurd (omega arith)
 
 -- a slot over one text gives the front of what it has left
-pub one_slot-reads : (bytes front : List ℕ) (at n slot : ℕ) → slot < 1 → front ≡ take n (drop at bytes) → Reads (one_slot (drop at bytes)) (one_slot (drop (at + n) bytes)) slot front
+pub one_slot-reads : (bytes front : List ℕ) (at n slot : ℕ) → slot < 1 → front ≡ take n (drop at bytes)
+    → Reads (one_slot (drop at bytes)) (one_slot (drop (at + n) bytes)) slot front
 one_slot-reads bytes front at n zero h e = record {
   slots = refl;
   holds = refl;
@@ -64,9 +67,11 @@ pub places-rest : (files : List MemFile) (places : List Place) (slot : ℕ) (p :
 places-rest files places slot p h e = rw (slice_get-map-at (rest_of files) places slot p h e) refl
 
 -- a slot whose place goes on by n bytes gives them
-pub places-read : (files : List MemFile) (places : List Place) (told : Bool) (asked : List ℕ) (faults after slot n : ℕ) (p : Place) (front : List ℕ)
+pub places-read : (files : List MemFile) (places : List Place) (told : Bool) (asked : List ℕ) (faults after slot n : ℕ) (p : Place)
+    (front : List ℕ)
     → slot < length places → p ≡ get_or places slot p → front ≡ take n (rest_of files p)
-    → Reads (state_of files places told asked faults) (state_of files (set places slot (record { file = p.file; at = p.at + n })) told asked after) slot front
+    → Reads (state_of files places told asked faults)
+    (state_of files (set places slot (record { file = p.file; at = p.at + n })) told asked after) slot front
 places-read files places told asked faults after slot n p front h e f =
     let q : Place = record { file = p.file; at = p.at + n } in
     let found : slice_get (map (rest_of files) places) slot ≡ Some (front ++ drop n (rest_of files p)) =
@@ -85,17 +90,20 @@ places-read files places told asked faults after slot n p front h e f =
 -- a read that gives nothing where there was room for some finds nothing left
 pub places-end : (files : List MemFile) (places : List Place) (slot n most room : ℕ) (p : Place)
     → slot < length places → p ≡ get_or places slot p → n ≡ min (min room most) (length (rest_of files p)) → 0 < most
-    → n ≡ 0 → 0 < room → IfSome (slice_get (map (rest_of files) (set places slot (record { file = p.file; at = p.at + n }))) slot) (λ rest. rest ≡ [])
+    → n ≡ 0 → 0 < room → IfSome (slice_get (map (rest_of files) (set places slot (record { file = p.file; at = p.at + n }))) slot)
+    (λ rest. rest ≡ [])
 places-end files places slot n most room p h e c m z r =
     let q : Place = record { file = p.file; at = p.at + n } in
     let none : length (rest_of files p) ≡ 0 = omega arith in
     let next : rest_of files q ≡ drop n (rest_of files p) = sym (drop-drop n p.at _) in
     let moved : slice_get (map (rest_of files) (set places slot q)) slot ≡ Some (rest_of files q) =
-    rw map-set (slice_get-set-same (map (rest_of files) places) slot (rest_of files q) _ (slice_get-map-at (rest_of files) places slot p h e)) in
+    rw map-set (slice_get-set-same (map (rest_of files) places) slot (rest_of files q) _
+    (slice_get-map-at (rest_of files) places slot p h e)) in
     rw (moved, next) (length-none _ (simp length-drop (omega (arith, simp length-drop at none))))
 
 -- the file found has the name
-named : (files : List MemFile) (name : List ℕ) (file : ℕ) → index_of files name ≡ Some file → (file < length files) × (get_or (names_of files) file [] ≡ name)
+named : (files : List MemFile) (name : List ℕ) (file : ℕ) → index_of files name ≡ Some file
+    → (file < length files) × (get_or (names_of files) file [] ≡ name)
 named [] name file e = cc
 named (f ∷ fs) name file e =
     let found = position-Some (λ (f : MemFile). bytes_eq (string_bytes f.name) name) (f ∷ fs) file f e in
@@ -110,24 +118,28 @@ asked-found files places more true asked faults after file name e = record {
       let whole : map (λ i. get_or (names_of files) i []) (asked ++ file ∷ []) ≡ all = same_Some _ _ h in (
         map (λ i. get_or (names_of files) i []) asked,
         refl,
-        sym (map-append (λ i. get_or (names_of files) i []) asked (file ∷ []) ∙ ap (λ n. map (λ i. get_or (names_of files) i []) asked ++ n ∷ []) last) ∙ whole,
+        sym (map-append (λ i. get_or (names_of files) i []) asked (file ∷ [])
+            ∙ ap (λ n. map (λ i. get_or (names_of files) i []) asked ++ n ∷ []) last) ∙ whole,
       );
 }
 asked-found files places more false asked faults after file name e = record { told = λ all h. cc }
 
 -- a name whose file was found is asked for
-pub places-asked : (files names : List MemFile) (places more : List Place) (told : Bool) (asked later : List ℕ) (faults after file : ℕ) (name : List ℕ)
+pub places-asked : (files names : List MemFile) (places more : List Place) (told : Bool) (asked later : List ℕ) (faults after file : ℕ)
+    (name : List ℕ)
     → names ≡ files → Some file ≡ index_of names name → later ≡ asked ++ file ∷ []
     → Asks (state_of files places told asked faults) (state_of files more told later after) (name ∷ [])
 places-asked files names places more told asked later faults after file name n e l =
     rw l (asked-found files places more told asked faults after file name (let h = rw n at e in sym h))
 
-opened-found : (files : List MemFile) (places : List Place) (told : Bool) (asked later : List ℕ) (faults after slot : ℕ) (p : Place) (name : List ℕ)
+opened-found : (files : List MemFile) (places : List Place) (told : Bool) (asked later : List ℕ) (faults after slot : ℕ) (p : Place)
+    (name : List ℕ)
     → index_of files name ≡ Some p.file → slot ≡ length places → p.at ≡ 0
     → Opens (state_of files places told asked faults) (state_of files (places ++ p ∷ []) told later after) name slot
 opened-found files places told asked later faults after slot p name e s z =
     let same : rest_of files p ≡ get_or (texts_of files) p.file [] = rw z refl in
-    let grown : map (rest_of files) (places ++ p ∷ []) ≡ map (rest_of files) places ++ rest_of files p ∷ [] = map-append (rest_of files) places (p ∷ []) in
+    let grown : map (rest_of files) (places ++ p ∷ []) ≡ map (rest_of files) places ++ rest_of files p ∷ [] =
+    map-append (rest_of files) places (p ∷ []) in
     let count : length (map (rest_of files) places) ≡ length places = length-map places (rest_of files) in
     record {
       number = s;
@@ -137,7 +149,8 @@ opened-found files places told asked later faults after slot p name e s z =
     }
 
 -- a new place at the beginning of the file found opens it
-pub places-opened : (files names : List MemFile) (places more : List Place) (told : Bool) (asked later : List ℕ) (faults after slot : ℕ) (p : Place) (name : List ℕ)
+pub places-opened : (files names : List MemFile) (places more : List Place) (told : Bool) (asked later : List ℕ) (faults after slot : ℕ)
+    (p : Place) (name : List ℕ)
     → names ≡ files → Some p.file ≡ index_of names name → slot ≡ length places → p.at ≡ 0 → more ≡ places ++ p ∷ []
     → Opens (state_of files places told asked faults) (state_of files more told later after) name slot
 places-opened files names places more told asked later faults after slot p name n e s z m =

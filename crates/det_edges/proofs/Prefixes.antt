@@ -1,5 +1,6 @@
 -- Prefixes of lists.
-use Rattle.std.proofs.Common.{◌≡◌, ◌≢◌, ℕ, ◌<◌, ◌≤◌, List, [], ◌∷◌, ◌++◌, length, take, drop, append_assoc, length-append, length-drop, arith, refl, sym, ap, ◌∙◌}
+use Rattle.std.proofs.Common.{◌≡◌, ◌≢◌, ℕ, ◌<◌, ◌≤◌, List, [], ◌∷◌, ◌++◌, length, take, drop, append_assoc, length-append, length-drop}
+use Rattle.std.proofs.Common.{arith, refl, sym, ap, ◌∙◌}
 use Rattle.std.proofs.lemmas.List.{append-nil, take-append-drop}
 use Rattle.det_edges.specs.Prefix.{IsPrefix, IsProperPrefix}
 
@@ -41,7 +42,8 @@ length-none (x ∷ xs) h = absurd (omega arith)
 
 -- a proper prefix is shorter than the list
 pub proper-length : {X : Type 0} (a b : List X) → IsProperPrefix a b → length a < length b
-proper-length a b p = rw (← p.1) (let n = length-append a p.0 in let some : (length p.0 ≡ 0 → ⊥) = (λ z. p.2 (length-none p.0 z)) in omega arith)
+proper-length a b p = rw (← p.1) (let n = length-append a p.0 in let some : (length p.0 ≡ 0 → ⊥) =
+    (λ z. p.2 (length-none p.0 z)) in omega arith)
 
 -- a proper prefix isn't the whole list
 pub proper-differs : {X : Type 0} (a b : List X) → IsProperPrefix a b → a ≢ b
@@ -53,7 +55,12 @@ proper-of a b p ne = (p.0, p.1, λ none. ne (sym (append-nil a) ∙ ap (λ l. a 
 
 -- the first n items of more than n are a proper prefix
 pub proper-take : {X : Type 0} (n : ℕ) (all : List X) → n < length all → IsProperPrefix (take n all) all
-proper-take n all h = (drop n all, take-append-drop n all, λ none. let z : length (drop n all) ≡ 0 = ap length none in let k = length-drop n all in omega arith)
+proper-take n all h = (
+  drop n all,
+  take-append-drop n all,
+  λ none. let z : length (drop n all) ≡ 0 = ap length none in let k =
+      length-drop n all in omega arith,
+)
 
 -- a proper prefix of a prefix is a proper prefix
 pub proper-then : {X : Type 0} (a b c : List X) → IsProperPrefix a b → IsPrefix b c → IsProperPrefix a c

@@ -1,5 +1,7 @@
 -- What a shelf in memory holds and shows, and when its next call fails.
-use Rattle.std.specs.Prelude.{◌≡◌, ℕ, ◌+◌, List, [], map, length, drop, Bool, cond, nat_eq, not, ◌||◌, ◌&&◌, is_some, Option, Some, None, string_bytes, unwrap_or, slice_get, slice_index_or, position}
+use Rattle.std.specs.Prelude.{◌≡◌, ℕ, ◌+◌, List, [], map, length, drop, Bool, cond, nat_eq, not}
+use Rattle.std.specs.Prelude.{◌||◌, ◌&&◌, is_some, Option, Some, None, string_bytes, unwrap_or}
+use Rattle.std.specs.Prelude.{slice_get, slice_index_or, position}
 use Rattle.std.specs.Option.{option_map}
 use Rattle.std.specs.Str.{bytes_eq}
 use Rattle.det_edges.specs.Shelf.{ShelfState}
@@ -20,14 +22,16 @@ texts_of files = map (λ file. file.bytes.items) files
 
 -- the bytes of the first file with a name
 abbrev pub bytes_under : List MemFile → List ℕ → Option (List ℕ)
-bytes_under files name = option_map (λ i. slice_index_or (texts_of files) i []) (index_of files name)
+bytes_under files name = option_map (λ i. slice_index_or (texts_of files) i [])
+    (index_of files name)
 
 -- what a place in the files has left
 abbrev pub rest_of : List MemFile → Place → List ℕ
 rest_of files p = drop p.at (slice_index_or (texts_of files) p.file [])
 
 abbrev pub asked_in : Bool → List MemFile → List ℕ → Option (List (List ℕ))
-asked_in told files asked = cond told (Some (map (λ i. slice_index_or (names_of files) i []) asked)) None
+asked_in told files asked = cond told (Some (map (λ i. slice_index_or (names_of files) i []) asked))
+    None
 
 abbrev pub state_of : List MemFile → List Place → Bool → List ℕ → ℕ → ShelfState
 state_of files places told asked faults = record {
@@ -78,9 +82,11 @@ pub record IsNewMemShelf (s : MemShelf) (made_of : MemShelfSetup) : Type 0 where
 
 -- an open of this name finds room and a file, whether or not it is to fail
 abbrev pub has_room_for : MemShelf → List ℕ → Bool
-has_room_for s name = not (nat_eq (opened_of s) (setup_of s).opens) && is_some (bytes_under (setup_of s).files name)
+has_room_for s name = not (nat_eq (opened_of s) (setup_of s).opens)
+    && is_some (bytes_under (setup_of s).files name)
 
--- an open of this name fails as the next call: its number is listed, its name is unknown, or there is no room
+-- an open of this name fails as the next call: its number is listed, its name is unknown, or there
+-- is no room
 abbrev pub open_fails : MemShelf → List ℕ → Bool
 open_fails s name = is_listed (setup_of s).fails (calls_of s + 1) || not (has_room_for s name)
 

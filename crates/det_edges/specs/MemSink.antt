@@ -1,5 +1,6 @@
 -- What a sink in memory keeps, and when its next call fails.
-use Rattle.std.specs.Prelude.{◌≡◌, ℕ, ◌+◌, ◌-◌, List, [], min, length, Bool, nat_eq, not, ◌||◌, ◌&&◌}
+use Rattle.std.specs.Prelude.{◌≡◌, ℕ, ◌+◌, ◌-◌, List, [], min, length, Bool, nat_eq, not, ◌||◌}
+use Rattle.std.specs.Prelude.{◌&&◌}
 use Rattle.det_edges.specs.PlannedCalls.{is_listed}
 use Rattle.det_edges.specs.declared.mem_sink.MemSink.{MemSink}
 
@@ -37,7 +38,8 @@ pub record IsNewMemSink (s : MemSink) (made_of : MemSinkSetup) : Type 0 where
   pub faults : sink_faults s ≡ 0
   pub bytes : sink_bytes s ≡ []
 
--- the next write fails at this piece: its number is listed, or the piece has bytes and there is no room
+-- the next write fails at this piece: its number is listed, or the piece has bytes and there is no
+-- room
 abbrev pub write_fails : MemSink → List ℕ → Bool
 write_fails s piece =
     is_listed (sink_setup s).fails (sink_calls s + 1)

@@ -2,7 +2,8 @@
 use Rattle.std.specs.Prelude.{ℕ, List, ◌++◌}
 use Rattle.det_edges.specs.Prefix.{IsPrefix, IsProperPrefix}
 
--- what was taken grew by these bytes: each list that was taken before is taken now with the bytes after it
+-- what was taken grew by these bytes: each list that was taken before is taken now with the bytes
+-- after it
 pub record Grew (before after : List ℕ → Type 0) (bytes : List ℕ) : Type 0 where
   pub each : (m : List ℕ) → before m → after (m ++ bytes)
 
@@ -17,4 +18,5 @@ GrewByPrefix before after bytes = (front : List ℕ) × IsPrefix front bytes × 
 
 -- what was taken grew by a prefix of these bytes, and not by all of them
 abbrev pub GrewShort : (List ℕ → Type 0) → (List ℕ → Type 0) → List ℕ → Type 0
-GrewShort before after bytes = (front : List ℕ) × IsProperPrefix front bytes × Grew before after front
+GrewShort before after bytes = (front : List ℕ) × IsProperPrefix front bytes
+    × Grew before after front

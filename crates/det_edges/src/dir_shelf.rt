@@ -5,8 +5,8 @@ use std::fs;
 use std::io::Read;
 use std::rt::Files;
 
-/// Opens files by their paths. It tells neither bytes nor names. Each failure of the system is a fault, and so is want of
-/// memory for one more slot.
+/// Opens files by their paths. It tells neither bytes nor names. Each failure of the system is a
+/// fault, and so is want of memory for one more slot.
 #[derive(Drop)]
 pub struct DirShelf<R: Files> {
     rt: R,

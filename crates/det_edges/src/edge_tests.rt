@@ -1,8 +1,9 @@
 //! Tests of shelves and sinks.
 use crate::{
-    Bytes, DirShelf, FailList, MemFile, MemFiles, MemShelf, MemSink, OutOfMemory, ReadEnd, Shelf,
-    ShelfFailed, Sink, SinkFailed, Slots, StdSink, TextShelf, read_limited, write_all,
+    DirShelf, FailList, MemFile, MemFiles, MemShelf, MemSink, ReadEnd, Shelf, ShelfFailed, Sink,
+    SinkFailed, Slots, StdSink, TextShelf, read_limited, write_all,
 };
+use det_values::{Bytes, OutOfMemory};
 use std::alloc::Global;
 use std::fs;
 use std::io::{self, Write};

@@ -1,4 +1,5 @@
-//! The edges at which bytes come in and go out: shelves with slots that are read, and sinks that are written.
+//! The edges at which bytes come in and go out: shelves with slots that are read, and sinks that
+//! are written.
 #![tactic(auto)]
 
 mod copying;

@@ -29,8 +29,9 @@ impl MemFile {
 /// Files. Of those with equal names the first counts.
 pub type MemFiles = Limited<MemFile, 1048576>;
 
-/// A shelf over files in memory, for tests. It tells everything, but the names asked for only until one was unknown or
-/// there was no room for it. All its room is taken when it is made: `open_input` and `read` take no memory.
+/// A shelf over files in memory, for tests. It tells everything, but the names asked for only until
+/// one was unknown or there was no room for it. All its room is taken when it is made: `open_input`
+/// and `read` take no memory.
 #[derive(Drop)]
 pub struct MemShelf {
     files: MemFiles,
@@ -70,8 +71,8 @@ impl MemShelf {
     ghost use Rattle.std.specs.Prelude.{◌≡◌, ◌≤◌, ◌<◌, ◌^◌, ◌-◌, IfOk};
     ghost use Rattle.det_edges.specs.MemShelf.{IsNewMemShelf};
 
-    /// A shelf over these files with room for `opens` calls of `open_input`. The calls of `open_input` and `read`, counted
-    /// together, fail where their number is listed.
+    /// A shelf over these files with room for `opens` calls of `open_input`. The calls of
+    /// `open_input` and `read`, counted together, fail where their number is listed.
     pub fn new(
         alloc: Global,
         files: MemFiles,
@@ -120,7 +121,8 @@ impl Slots for MemShelf {
     ghost use Rattle.det_edges.specs.Count.{Rose, next_count};
     ghost use Rattle.det_edges.specs.Shelf.{Reads, moved, IsAtEnd};
     ghost use Rattle.det_edges.specs.PlannedCalls.{is_listed};
-    ghost use Rattle.det_edges.specs.MemShelf.{mem_shelf_state, setup_of, calls_of, opened_of, rest_in};
+    ghost use Rattle.det_edges.specs.MemShelf.{mem_shelf_state, setup_of, calls_of, opened_of};
+    ghost use Rattle.det_edges.specs.MemShelf.{rest_in};
 
     ghost sees = { mem_shelf_state };
 
@@ -133,15 +135,20 @@ impl Slots for MemShelf {
     fn read(&mut self, slot: u32, buf: &mut [u8]) -> Result<usize, ShelfFailed>
         requires { slot < (mem_shelf_state self.old).slots }
         ensures within { IfOk result (λ n. n ≤ length buf.old) }
-        ensures reads { Reads (mem_shelf_state self.old) (mem_shelf_state self.new) slot (moved result buf.new) }
-        ensures end { IfOk result (λ n. n ≡ 0 → 0 < length buf.old → IsAtEnd (mem_shelf_state self.new) slot) }
-        ensures cause { OnErr result (Rose (mem_shelf_state self.old).faults (mem_shelf_state self.new).faults) }
+        ensures reads { Reads (mem_shelf_state self.old) (mem_shelf_state self.new) slot
+            (moved result buf.new) }
+        ensures end { IfOk result (λ n. n ≡ 0 → 0 < length buf.old
+            → IsAtEnd (mem_shelf_state self.new) slot) }
+        ensures cause { OnErr result
+            (Rose (mem_shelf_state self.old).faults (mem_shelf_state self.new).faults) }
         ensures counted { (mem_shelf_state self.old).faults ≤ (mem_shelf_state self.new).faults }
         ensures stays { Unit {0} }
 
-        ensures fails { is_err result ≡ is_listed (setup_of self.old).fails (calls_of self.old + 1) }
+        ensures fails { is_err result
+            ≡ is_listed (setup_of self.old).fails (calls_of self.old + 1) }
         ensures amount { IfOk result (λ n.
-            n ≡ min (min (length buf.old) (setup_of self.old).most) (length (rest_in self.old slot))) }
+            n ≡ min (min (length buf.old) (setup_of self.old).most)
+            (length (rest_in self.old slot))) }
         ensures setup { setup_of self.new ≡ setup_of self.old }
         ensures calls { calls_of self.new ≡ next_count (calls_of self.old) }
         ensures opened { opened_of self.new ≡ opened_of self.old }
@@ -162,18 +169,23 @@ impl Slots for MemShelf {
 }
 
 impl Shelf for MemShelf {
-    ghost use Rattle.std.specs.Prelude.{◌≡◌, ◌<◌, ◌≤◌, ◌∷◌, ◌+◌, ◌&&◌, [], min, is_some, IfOk, OnErr};
+    ghost use Rattle.std.specs.Prelude.{◌≡◌, ◌<◌, ◌≤◌, ◌∷◌, ◌+◌, ◌&&◌, [], min, is_some, IfOk};
+    ghost use Rattle.std.specs.Prelude.{OnErr};
     ghost use Rattle.std.specs.Result.{is_err};
     ghost use Rattle.det_edges.specs.Count.{Rose, next_count};
     ghost use Rattle.det_edges.specs.Shelf.{Opens, SlotsStay, Asks};
-    ghost use Rattle.det_edges.specs.MemShelf.{mem_shelf_state, setup_of, calls_of, opened_of, open_fails, has_room_for};
+    ghost use Rattle.det_edges.specs.MemShelf.{mem_shelf_state, setup_of, calls_of, opened_of};
+    ghost use Rattle.det_edges.specs.MemShelf.{open_fails, has_room_for};
 
     fn open_input(&mut self, name: &str) -> Result<u32, ShelfFailed>
-        ensures opens { IfOk result (Opens (mem_shelf_state self.old) (mem_shelf_state self.new) name.now) }
-        ensures slots { OnErr result (SlotsStay (mem_shelf_state self.old) (mem_shelf_state self.new)) }
+        ensures opens { IfOk result (Opens (mem_shelf_state self.old) (mem_shelf_state self.new)
+            name.now) }
+        ensures slots { OnErr result
+            (SlotsStay (mem_shelf_state self.old) (mem_shelf_state self.new)) }
         ensures holds { (mem_shelf_state self.new).holds ≡ (mem_shelf_state self.old).holds }
         ensures asked { Asks (mem_shelf_state self.old) (mem_shelf_state self.new) (name.now ∷ []) }
-        ensures cause { OnErr result (Rose (mem_shelf_state self.old).faults (mem_shelf_state self.new).faults) }
+        ensures cause { OnErr result
+            (Rose (mem_shelf_state self.old).faults (mem_shelf_state self.new).faults) }
         ensures counted { (mem_shelf_state self.old).faults ≤ (mem_shelf_state self.new).faults }
         ensures stays { Unit {0} }
 
@@ -182,7 +194,8 @@ impl Shelf for MemShelf {
             ≡ (is_some (mem_shelf_state self.old).asked && has_room_for self.old name.now) }
         ensures setup { setup_of self.new ≡ setup_of self.old }
         ensures calls { calls_of self.new ≡ next_count (calls_of self.old) }
-        ensures opened { opened_of self.new ≡ min (opened_of self.old + 1) (setup_of self.old).opens }
+        ensures opened { opened_of self.new
+            ≡ min (opened_of self.old + 1) (setup_of self.old).opens }
     {
         let is_listed = self.calls.next_fails();
         if self.opened == self.opens {

@@ -6,7 +6,8 @@ use crate::{FailList, Sink, SinkFailed};
 use det_values::OutOfMemory;
 use std::alloc::Global;
 
-/// A sink that keeps what it takes, for tests. All its room is taken when it is made: `write` takes no memory.
+/// A sink that keeps what it takes, for tests. All its room is taken when it is made: `write` takes
+/// no memory.
 #[derive(Drop)]
 pub struct MemSink {
     bytes: Vec<u8>,
@@ -23,8 +24,8 @@ impl MemSink {
     ghost use Rattle.std.specs.Prelude.{◌≡◌, ◌<◌, IfOk};
     ghost use Rattle.det_edges.specs.MemSink.{sink_bytes, IsNewMemSink};
 
-    /// A sink with room for `room` bytes that takes at most `most` of them in a write. Its writes, counted from 1, fail where
-    /// their number is listed.
+    /// A sink with room for `room` bytes that takes at most `most` of them in a write. Its writes,
+    /// counted from 1, fail where their number is listed.
     pub fn new(
         alloc: Global,
         room: usize,
@@ -32,7 +33,8 @@ impl MemSink {
         fails: FailList,
     ) -> Result<MemSink, OutOfMemory>
         requires { 0 < most }
-        ensures { IfOk result (λ sink. IsNewMemSink sink (record { room = room; most = most; fails = fails })) }
+        ensures { IfOk result (λ sink. IsNewMemSink sink
+            (record { room = room; most = most; fails = fails })) }
     {
         Ok(MemSink {
             bytes: Vec::with_capacity(alloc, room)?,
@@ -56,7 +58,8 @@ impl Sink for MemSink {
     ghost use Rattle.std.specs.Result.{is_err};
     ghost use Rattle.det_edges.specs.Count.{Rose, next_count};
     ghost use Rattle.det_edges.specs.Sink.{Grew, Same};
-    ghost use Rattle.det_edges.specs.MemSink.{SinkTook, sink_faults, sink_setup, sink_calls, write_fails, amount_taken};
+    ghost use Rattle.det_edges.specs.MemSink.{SinkTook, sink_faults, sink_setup, sink_calls};
+    ghost use Rattle.det_edges.specs.MemSink.{write_fails, amount_taken};
 
     ghost took = { SinkTook };
 
@@ -65,7 +68,8 @@ impl Sink for MemSink {
     fn write(&mut self, piece: &[u8]) -> Result<usize, SinkFailed>
         ensures within { IfOk result (λ n. n ≤ length piece.now) }
         ensures some { IfOk result (λ n. 0 < length piece.now → 0 < n) }
-        ensures taken { IfOk result (λ n. Grew (SinkTook self.old) (SinkTook self.new) (take n piece.now)) }
+        ensures taken { IfOk result (λ n. Grew (SinkTook self.old) (SinkTook self.new)
+            (take n piece.now)) }
         ensures none { OnErr result (Same (SinkTook self.old) (SinkTook self.new)) }
         ensures cause { OnErr result (Rose (sink_faults self.old) (sink_faults self.new)) }
         ensures counted { sink_faults self.old ≤ sink_faults self.new }

@@ -1,5 +1,5 @@
 //! Reads what a slot has left into memory, up to a limit.
-ghost use Rattle.std.specs.Prelude.{ℕ, ◌<◌, ◌≤◌, ◌↔◌, List, length, IfOk, IsErrOf};
+ghost use Rattle.std.specs.Prelude.{ℕ, ◌<◌, ◌≤◌, ◌↔◌, ◌+◌, List, length, IfOk, IsErrOf};
 ghost use Rattle.det_edges.specs.Count.{Rose};
 ghost use Rattle.det_edges.specs.Shelf.{Reads, IsAtEnd};
 
@@ -41,8 +41,8 @@ impl From<AllocError> for ReadEnd {
 
 const PIECE: usize = 4096;
 
-/// Reads what is left of a slot, where that is at most `most` bytes. Each byte is read once. At most one piece is read
-/// beyond `most`, and nothing beyond `most` is kept.
+/// Reads what is left of a slot, where that is at most `most` bytes. Each byte is read once, and
+/// nothing beyond `most` is kept.
 pub fn read_limited<S: Slots>(
     alloc: Global,
     shelf: &mut S,
@@ -52,10 +52,15 @@ pub fn read_limited<S: Slots>(
     requires { slot < (S.sees shelf.old).slots }
     ensures ok { IfOk result (λ bytes. Reads (S.sees shelf.old) (S.sees shelf.new) slot bytes.items
         × IsAtEnd (S.sees shelf.new) slot × (length bytes.items ≤ most)) }
-    // At every answer some bytes were read. They are more than `most` exactly where the answer is TooLong.
+    // At every answer some bytes were read. They are more than `most` exactly where the answer is
+    // TooLong.
     ensures read { (bytes : List ℕ) × Reads (S.sees shelf.old) (S.sees shelf.new) slot bytes
         × (IsErrOf result ReadEnd.TooLong ↔ (most < length bytes)) }
-    ensures cause { IsErrOf result ReadEnd.ReadFault → Rose (S.sees shelf.old).faults (S.sees shelf.new).faults }
+    // At every answer at most one piece of 4,096 bytes was read beyond `most`.
+    ensures piece { (bytes : List ℕ) × Reads (S.sees shelf.old) (S.sees shelf.new) slot bytes
+        × (length bytes ≤ most + 4096) }
+    ensures cause { IsErrOf result ReadEnd.ReadFault
+        → Rose (S.sees shelf.old).faults (S.sees shelf.new).faults }
     ensures counted { (S.sees shelf.old).faults ≤ (S.sees shelf.new).faults }
     ensures stays { S.stays shelf.old shelf.new }
 {

@@ -7,13 +7,15 @@ use crate::{ShelfFailed, Slots};
 
 /// Slots that are given by name.
 pub trait Shelf: Slots {
-    /// Opens what is under a name and answers its slot. A name that is opened twice has two slots, each read by itself.
+    /// Opens what is under a name and answers its slot. A name that is opened twice has two slots,
+    /// each read by itself.
     fn open_input(&mut self, name: &str) -> Result<u32, ShelfFailed>
         ensures opens { IfOk result (Opens (Self.sees self.old) (Self.sees self.new) name.now) }
         ensures slots { OnErr result (SlotsStay (Self.sees self.old) (Self.sees self.new)) }
         ensures holds { (Self.sees self.new).holds ≡ (Self.sees self.old).holds }
         ensures asked { Asks (Self.sees self.old) (Self.sees self.new) (name.now ∷ []) }
-        ensures cause { OnErr result (Rose (Self.sees self.old).faults (Self.sees self.new).faults) }
+        ensures cause { OnErr result
+            (Rose (Self.sees self.old).faults (Self.sees self.new).faults) }
         ensures counted { (Self.sees self.old).faults ≤ (Self.sees self.new).faults }
         ensures stays { Self.stays self.old self.new };
 }

@@ -7,14 +7,16 @@ use crate::SinkFailed;
 
 /// Takes bytes piece by piece.
 ///
-/// `took` says of which lists of bytes the sink counts as having taken exactly them: of the one list kept where the sink
-/// keeps its bytes, and of none where it tells nothing. `faults` counts how often it failed.
+/// `took` says of which lists of bytes the sink counts as having taken exactly them: of the one
+/// list kept where the sink keeps its bytes, and of none where it tells nothing. `faults` counts
+/// how often it failed.
 pub trait Sink {
     ghost took: { Self → List ℕ → Type 0 };
 
     ghost faults: { Self → ℕ };
 
-    /// Takes bytes from the beginning of the piece and answers how many: at least one, unless the piece is empty.
+    /// Takes bytes from the beginning of the piece and answers how many: at least one, unless the
+    /// piece is empty.
     fn write(&mut self, piece: &[u8]) -> Result<usize, SinkFailed>
         ensures within { IfOk result (λ n. n ≤ length piece.now) }
         ensures some { IfOk result (λ n. 0 < length piece.now → 0 < n) }

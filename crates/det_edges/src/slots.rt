@@ -5,17 +5,20 @@ ghost use Rattle.det_edges.specs.Shelf.{ShelfState, Reads, moved, IsAtEnd};
 
 use crate::ShelfFailed;
 
-/// Where bytes come from: slots, numbered from 0, each of which is read once from its beginning to its end.
+/// Where bytes come from: slots, numbered from 0, each of which is read once from its beginning to
+/// its end.
 ///
-/// `sees` is what contracts see of a state: the slots given, the count of faults, and, where they are told, the bytes
-/// under names, the names asked for and the bytes that slots have left. `stays` relates two states between which
-/// only calls of this trait and of `Shelf` lie: a shelf over another object says in it what they leave unchanged.
+/// `sees` is what contracts see of a state: the slots given, the count of faults, and, where they
+/// are told, the bytes under names, the names asked for and the bytes that slots have left. `stays`
+/// relates two states between which only calls of this trait and of `Shelf` lie: a shelf over
+/// another object says in it what they leave unchanged.
 pub trait Slots {
     ghost sees: { Self → ShelfState };
 
     ghost stays: { Self → Self → Type 0 };
 
-    /// Moves the next bytes that a slot has left into the beginning of the buffer and answers how many.
+    /// Moves the next bytes that a slot has left into the beginning of the buffer and answers how
+    /// many.
     fn read(&mut self, slot: u32, buf: &mut [u8]) -> Result<usize, ShelfFailed>
         requires { slot < (sees self.old).slots }
         ensures within { IfOk result (λ n. n ≤ length buf.old) }

@@ -2,8 +2,8 @@
 use crate::{Sink, SinkFailed};
 use std::io::Write;
 
-/// Writes to a writer. It tells no bytes. Each failure of the writer is a fault, and so is a write that takes nothing of a
-/// piece that isn't empty.
+/// Writes to a writer. It tells no bytes. Each failure of the writer is a fault, and so is a write
+/// that takes nothing of a piece that isn't empty.
 #[derive(Drop)]
 pub struct StdSink<W> {
     writer: W,

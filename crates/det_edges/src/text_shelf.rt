@@ -26,7 +26,8 @@ impl TextShelf {
 }
 
 impl Slots for TextShelf {
-    ghost use Rattle.std.specs.Prelude.{◌≡◌, ◌<◌, ◌≤◌, length, min, unwrap_or, [], IsOk, IfOk, OnErr};
+    ghost use Rattle.std.specs.Prelude.{◌≡◌, ◌<◌, ◌≤◌, length, min, unwrap_or, [], IsOk, IfOk};
+    ghost use Rattle.std.specs.Prelude.{OnErr};
     ghost use Rattle.det_edges.specs.Count.{Rose};
     ghost use Rattle.det_edges.specs.Shelf.{Reads, moved, IsAtEnd};
     ghost use Rattle.det_edges.specs.TextShelf.{text_shelf_state};
@@ -42,15 +43,19 @@ impl Slots for TextShelf {
     fn read(&mut self, slot: u32, buf: &mut [u8]) -> Result<usize, ShelfFailed>
         requires { slot < (text_shelf_state self.old).slots }
         ensures within { IfOk result (λ n. n ≤ length buf.old) }
-        ensures reads { Reads (text_shelf_state self.old) (text_shelf_state self.new) slot (moved result buf.new) }
-        ensures end { IfOk result (λ n. n ≡ 0 → 0 < length buf.old → IsAtEnd (text_shelf_state self.new) slot) }
-        ensures cause { OnErr result (Rose (text_shelf_state self.old).faults (text_shelf_state self.new).faults) }
+        ensures reads { Reads (text_shelf_state self.old) (text_shelf_state self.new) slot
+            (moved result buf.new) }
+        ensures end { IfOk result (λ n. n ≡ 0 → 0 < length buf.old
+            → IsAtEnd (text_shelf_state self.new) slot) }
+        ensures cause { OnErr result
+            (Rose (text_shelf_state self.old).faults (text_shelf_state self.new).faults) }
         ensures counted { (text_shelf_state self.old).faults ≤ (text_shelf_state self.new).faults }
         ensures stays { Unit {0} }
 
         ensures never_fails { IsOk result }
         ensures amount { IfOk result (λ n.
-            n ≡ min (length buf.old) (length (unwrap_or ((text_shelf_state self.old).left slot) []))) }
+            n ≡ min (length buf.old)
+            (length (unwrap_or ((text_shelf_state self.old).left slot) []))) }
     {
         let _ = slot;
         let rest = &self.bytes.as_slice()[self.at..];

@@ -1,5 +1,6 @@
--- The blocks of a list.
-use Rattle.std.proofs.Common.{◌≡◌, ℕ, zero, suc, ◌+◌, ◌*◌, ◌/◌, ◌%◌, ◌<◌, ◌≤◌, List, [], ◌∷◌, ◌++◌, length, take, drop, get_or, ◌-◌, refl, sym, ap, ◌∙◌, arith, length-append, length-drop, take-add}
+-- What the blocks of a container hold: the length, the block and the element at a number.
+use Rattle.std.proofs.Common.{◌≡◌, ℕ, zero, suc, ◌+◌, ◌*◌, ◌/◌, ◌%◌, ◌<◌, ◌≤◌, List, [], ◌∷◌, ◌++◌, length, take, drop, get_or, ◌-◌, refl}
+use Rattle.std.proofs.Common.{sym, ap, ◌∙◌, arith, length-append, length-drop}
 use Rattle.std.specs.declared.vec.Vec.{Vec}
 use Rattle.std.specs.Vec.{vec_len}
 use Rattle.std.proofs.Math.Seq.{take-append_seam, drop-append-add}
@@ -17,7 +18,8 @@ module _ {E : Type 0} where
   before-last (b ∷ []) zero h lt = omega (arith, h.0, length-append b [])
   before-last (b ∷ []) (suc q) h lt = absurd (omega arith)
   before-last (b ∷ c ∷ bs) zero h lt = omega (arith, h.0, length-append b (joined (c ∷ bs)))
-  before-last (b ∷ c ∷ bs) (suc q) h lt = let i : 64 * q < length (joined (c ∷ bs)) = before-last (c ∷ bs) q h.1 (omega arith) in omega (arith, h.0, length-append b (joined (c ∷ bs)))
+  before-last (b ∷ c ∷ bs) (suc q) h lt = let i : 64 * q < length (joined (c ∷ bs)) =
+      before-last (c ∷ bs) q h.1 (omega arith) in omega (arith, h.0, length-append b (joined (c ∷ bs)))
 
   pub in_blocks : (bs : List (List E)) (q : ℕ) → AreBlocks bs → 64 * q < length (joined bs) → q < length bs
   in_blocks bs q h lt = omega (arith, length-joined bs h)
@@ -30,14 +32,21 @@ module _ {E : Type 0} where
   block_is (b ∷ c ∷ bs) zero h lt = sym (ap (λ (n : ℕ). take n (b ++ joined (c ∷ bs))) (sym h.0) ∙ take-append_seam b (joined (c ∷ bs)))
   block_is (b ∷ c ∷ bs) (suc q) h lt =
       let n : 64 * suc q ≡ length b + 64 * q = omega (arith, h.0) in
-      block_is (c ∷ bs) q h.1 (omega arith) ∙ ap (take 64) (sym (drop-append-add b (joined (c ∷ bs)) (64 * q)) ∙ ap (λ (k : ℕ). drop k (b ++ joined (c ∷ bs))) (sym n))
+      block_is (c ∷ bs) q h.1 (omega arith) ∙ ap (take 64)
+      (sym (drop-append-add b (joined (c ∷ bs)) (64 * q)) ∙ ap (λ (k : ℕ). drop k (b ++ joined (c ∷ bs))) (sym n))
 
   pub in_block : (bs : List (List E)) (i : ℕ) → AreBlocks bs → i < length (joined bs) → i % 64 < length (get_or bs (i / 64) [])
   in_block bs i h lt =
       let q : i / 64 < length bs = in_blocks bs (i / 64) h (omega arith) in
-      omega (arith, ap length (block_is bs (i / 64) h q), length-take 64 (drop (64 * (i / 64)) (joined bs)), length-drop (64 * (i / 64)) (joined bs))
+      omega (
+        arith,
+        ap length (block_is bs (i / 64) h q),
+        length-take 64 (drop (64 * (i / 64)) (joined bs)),
+        length-drop (64 * (i / 64)) (joined bs),
+      )
 
-  pub element_is : (bs : List (List E)) (i : ℕ) (d : E) → AreBlocks bs → i < length (joined bs) → get_or (get_or bs (i / 64) []) (i % 64) d ≡ get_or (joined bs) i d
+  pub element_is : (bs : List (List E)) (i : ℕ) (d : E) → AreBlocks bs → i < length (joined bs)
+      → get_or (get_or bs (i / 64) []) (i % 64) d ≡ get_or (joined bs) i d
   element_is bs i d h lt =
       let q : i / 64 < length bs = in_blocks bs (i / 64) h (omega arith) in
       let n : 64 * (i / 64) + i % 64 ≡ i = omega arith in
@@ -47,50 +56,58 @@ module _ {E : Type 0} where
       ∙ ap (λ (k : ℕ). get_or (joined bs) k d) n
 
   -- a block, as code reads it
-  pub held_at : {Z : Type 0} (vs : List (Vec E Z)) (i : ℕ) (v : Vec E Z) → i < length vs → v ≡ get_or vs i v → v.items ≡ get_or (held_by vs) i []
+  pub held_at : {Z : Type 0} (vs : List (Vec E Z)) (i : ℕ) (v : Vec E Z) → i < length vs → v ≡ get_or vs i v
+      → v.items ≡ get_or (held_by vs) i []
   held_at {Z} vs i v lt e = ap (λ (w : Vec E Z). w.items) e ∙ sym (get_or-map (λ (w : Vec E Z). w.items) vs i v [] lt)
 
   pub count_is : {Z : Type 0} (v : Vec (Vec E Z) Z) (n : ℕ) → n ≡ vec_len v → n ≡ length (held_by v.items)
   count_is {Z} v n e = e ∙ v.ok.0 ∙ sym (length-map v.items (λ (w : Vec E Z). w.items))
 
-  pub held_block : {Z : Type 0} (vs : List (Vec E Z)) (q : ℕ) (v : Vec E Z) → AreBlocks (held_by vs) → 64 * q < length (joined (held_by vs)) → v ≡ get_or vs q v → v.items ≡ take 64 (drop (64 * q) (joined (held_by vs)))
+  pub held_block : {Z : Type 0} (vs : List (Vec E Z)) (q : ℕ) (v : Vec E Z) → AreBlocks (held_by vs) → 64 * q < length (joined (held_by vs))
+      → v ≡ get_or vs q v → v.items ≡ take 64 (drop (64 * q) (joined (held_by vs)))
   held_block {Z} vs q v h lt e =
       let k : q < length (held_by vs) = in_blocks (held_by vs) q h lt in
       held_at vs q v (omega (arith, k, length-map vs (λ (w : Vec E Z). w.items))) e ∙ block_is (held_by vs) q h k
 
-  pub held_room : {Z : Type 0} (vs : List (Vec E Z)) (i : ℕ) (v : Vec E Z) → AreBlocks (held_by vs) → i < length (joined (held_by vs)) → v ≡ get_or vs (i / 64) v → i % 64 < vec_len v
+  pub held_room : {Z : Type 0} (vs : List (Vec E Z)) (i : ℕ) (v : Vec E Z) → AreBlocks (held_by vs) → i < length (joined (held_by vs))
+      → v ≡ get_or vs (i / 64) v → i % 64 < vec_len v
   held_room {Z} vs i v h lt e =
       let k : i / 64 < length (held_by vs) = in_blocks (held_by vs) (i / 64) h (omega arith) in
-      let w : v.items ≡ get_or (held_by vs) (i / 64) [] = held_at vs (i / 64) v (omega (arith, k, length-map vs (λ (u : Vec E Z). u.items))) e in
+      let w : v.items ≡ get_or (held_by vs) (i / 64) [] =
+      held_at vs (i / 64) v (omega (arith, k, length-map vs (λ (u : Vec E Z). u.items))) e in
       omega (arith, v.ok.0, ap length w, in_block (held_by vs) i h lt)
 
-  pub held_element : {Z : Type 0} (vs : List (Vec E Z)) (i : ℕ) (v : Vec E Z) (x : E) → AreBlocks (held_by vs) → i < length (joined (held_by vs)) → v ≡ get_or vs (i / 64) v → x ≡ get_or v.items (i % 64) x → x ≡ get_or (joined (held_by vs)) i x
+  pub held_element : {Z : Type 0} (vs : List (Vec E Z)) (i : ℕ) (v : Vec E Z) (x : E) → AreBlocks (held_by vs)
+      → i < length (joined (held_by vs)) → v ≡ get_or vs (i / 64) v → x ≡ get_or v.items (i % 64) x → x ≡ get_or (joined (held_by vs)) i x
   held_element {Z} vs i v x h lt e f =
       let k : i / 64 < length (held_by vs) = in_blocks (held_by vs) (i / 64) h (omega arith) in
-      let w : v.items ≡ get_or (held_by vs) (i / 64) [] = held_at vs (i / 64) v (omega (arith, k, length-map vs (λ (u : Vec E Z). u.items))) e in
+      let w : v.items ≡ get_or (held_by vs) (i / 64) [] =
+      held_at vs (i / 64) v (omega (arith, k, length-map vs (λ (u : Vec E Z). u.items))) e in
       f ∙ ap (λ (ys : List E). get_or ys (i % 64) x) w ∙ element_is (held_by vs) i x h lt
 
-  -- one more block of a list that is gone through in order
-  pub next_block : (xs all new block : List E) (b : ℕ) → all ≡ take (64 * b) xs → block ≡ take 64 (drop (64 * b) xs) → new ≡ all ++ block → new ≡ take (64 * (b + 1)) xs
-  next_block xs all new block b h k e =
-      let n : 64 * (b + 1) ≡ 64 * b + 64 = omega arith in
-      e ∙ ap (λ (ys : List E). ys ++ block) h ∙ ap (λ (ys : List E). take (64 * b) xs ++ ys) k ∙ sym (take-add (64 * b) 64 xs) ∙ ap (λ (m : ℕ). take m xs) (sym n)
-
   -- the length, by the number of blocks and the last of them
-  pub length-by_last : (bs : List (List E)) (k : ℕ) → AreBlocks bs → suc k ≡ length bs → length (joined bs) ≡ 64 * k + length (get_or bs k [])
+  pub length-by_last : (bs : List (List E)) (k : ℕ) → AreBlocks bs → suc k ≡ length bs
+      → length (joined bs) ≡ 64 * k + length (get_or bs k [])
   length-by_last [] k h l = absurd (omega arith)
   length-by_last (b ∷ []) zero h l = omega (arith, length-append b [])
   length-by_last (b ∷ []) (suc k) h l = absurd (omega arith)
   length-by_last (b ∷ c ∷ bs) zero h l = absurd (omega arith)
-  length-by_last (b ∷ c ∷ bs) (suc k) h l = omega (arith, h.0, length-append b (joined (c ∷ bs)), length-by_last (c ∷ bs) k h.1 (omega arith))
+  length-by_last (b ∷ c ∷ bs) (suc k) h l = omega (
+    arith,
+    h.0,
+    length-append b (joined (c ∷ bs)),
+    length-by_last (c ∷ bs) k h.1 (omega arith),
+  )
 
-  pub held_length : {Z : Type 0} (vs : List (Vec E Z)) (n : ℕ) (v : Vec E Z) → n ≡ length vs → 0 < n → AreBlocks (held_by vs) → v ≡ get_or vs (n - 1) v → length (joined (held_by vs)) ≡ 64 * (n - 1) + length v.items
+  pub held_length : {Z : Type 0} (vs : List (Vec E Z)) (n : ℕ) (v : Vec E Z) → n ≡ length vs → 0 < n → AreBlocks (held_by vs)
+      → v ≡ get_or vs (n - 1) v → length (joined (held_by vs)) ≡ 64 * (n - 1) + length v.items
   held_length {Z} vs n v l lt h at =
       let m : length (held_by vs) ≡ n = length-map vs (λ (u : Vec E Z). u.items) ∙ sym l in
       let b : v.items ≡ get_or (held_by vs) (n - 1) [] = held_at vs (n - 1) v (omega (arith, l)) at in
       omega (arith, length-by_last (held_by vs) (n - 1) h (omega (arith, m)), ap length b)
 
-  pub held_before : {Z : Type 0} (vs : List (Vec E Z)) (n : ℕ) → n ≡ length vs → 0 < n → AreBlocks (held_by vs) → 64 * (n - 1) < length (joined (held_by vs))
+  pub held_before : {Z : Type 0} (vs : List (Vec E Z)) (n : ℕ) → n ≡ length vs → 0 < n → AreBlocks (held_by vs)
+      → 64 * (n - 1) < length (joined (held_by vs))
   held_before {Z} vs n l lt h = before-last (held_by vs) (n - 1) h (omega (arith, l, length-map vs (λ (u : Vec E Z). u.items)))
 
   pub none_held : {Z : Type 0} (vs : List (Vec E Z)) → length vs ≡ 0 → length (joined (held_by vs)) ≡ 0

@@ -1,5 +1,6 @@
--- What is spelled is read again.
-use Rattle.std.proofs.Common.{◌≡◌, ℕ, zero, suc, ◌+◌, ◌<◌, ◌≤◌, List, [], ◌∷◌, ◌++◌, length, take, drop, refl, sym, ap, subst, ◌∙◌, append_assoc, arith, length-append}
+-- The elements that are read in the bytes of a `DrawnElements` are those that were spelled there.
+use Rattle.std.proofs.Common.{◌≡◌, ℕ, zero, suc, ◌+◌, ◌<◌, ◌≤◌, List, [], ◌∷◌, ◌++◌, length, take, drop, refl, sym, ap, subst, ◌∙◌}
+use Rattle.std.proofs.Common.{append_assoc, arith, length-append}
 use Rattle.std.specs.List.{All}
 use Rattle.std.specs.Int.{w16, w32, to_be_bytes, from_be_bytes}
 use Rattle.std.proofs.Math.Seq.{take-append_seam, drop-append_seam}
@@ -8,7 +9,8 @@ use Rattle.std.proofs.lemmas.List.Concat.{flat_map-append}
 use Rattle.std.proofs.lemmas.List.Elements.{All-nil, All-cons, All-head, All-tail}
 use Rattle.std.proofs.lemmas.Nat.{from_be_bytes-to_be_bytes_2, from_be_bytes-to_be_bytes_4}
 use Rattle.det_values.specs.declared.frames.DrawnElement.{DrawnElement}
-use Rattle.det_values.specs.Spelling.{spelled_u16, spelled_u32, an_element, spelled_drawn, IsDrawn, spelled_all, first_length, first_of, behind_first, elements_in, IsFlat}
+use Rattle.det_values.specs.Spelling.{spelled_u16, spelled_u32, an_element, spelled_drawn, IsDrawn, spelled_all, first_length, first_of}
+use Rattle.det_values.specs.Spelling.{behind_first, elements_in, IsFlat}
 
 pub take_two : (n : ℕ) (rest : List ℕ) → take 2 (spelled_u16 n ++ rest) ≡ to_be_bytes w16 n
 unfolding spelled_u16
@@ -27,27 +29,35 @@ unfolding spelled_u32
 drop_four n rest = refl
 
 -- the parts of a spelled element, in front of other bytes
-pub parts : (e : DrawnElement) (rest : List ℕ) → spelled_drawn e ++ rest ≡ spelled_u16 (length e.bytes) ++ (e.bytes ++ (spelled_u32 e.draws ++ rest))
+pub parts : (e : DrawnElement) (rest : List ℕ) → spelled_drawn e ++ rest ≡ spelled_u16 (length e.bytes)
+    ++ (e.bytes ++ (spelled_u32 e.draws ++ rest))
 unfolding spelled_drawn
-parts e rest = append_assoc (spelled_u16 (length e.bytes)) (e.bytes ++ spelled_u32 e.draws) rest ∙ ap (λ (xs : List ℕ). spelled_u16 (length e.bytes) ++ xs) (append_assoc e.bytes (spelled_u32 e.draws) rest)
+parts e rest = append_assoc (spelled_u16 (length e.bytes)) (e.bytes ++ spelled_u32 e.draws) rest
+    ∙ ap (λ (xs : List ℕ). spelled_u16 (length e.bytes) ++ xs) (append_assoc e.bytes (spelled_u32 e.draws) rest)
 
 len_is : (e : DrawnElement) (rest : List ℕ) → IsDrawn e → first_length (spelled_drawn e ++ rest) ≡ length e.bytes
 len_is e rest h =
     let short : length e.bytes ≤ 64 = h.short in
-    ap first_length (parts e rest) ∙ ap (from_be_bytes w16) (take_two (length e.bytes) (e.bytes ++ (spelled_u32 e.draws ++ rest))) ∙ from_be_bytes-to_be_bytes_2 (length e.bytes) (omega arith)
+    ap first_length (parts e rest) ∙ ap (from_be_bytes w16) (take_two (length e.bytes) (e.bytes ++ (spelled_u32 e.draws ++ rest)))
+    ∙ from_be_bytes-to_be_bytes_2 (length e.bytes) (omega arith)
 
 behind_length : (e : DrawnElement) (rest : List ℕ) → drop 2 (spelled_drawn e ++ rest) ≡ e.bytes ++ (spelled_u32 e.draws ++ rest)
 behind_length e rest = ap (drop 2) (parts e rest) ∙ drop_two (length e.bytes) (e.bytes ++ (spelled_u32 e.draws ++ rest))
 
-behind_bytes : (e : DrawnElement) (rest : List ℕ) → IsDrawn e → drop (first_length (spelled_drawn e ++ rest)) (drop 2 (spelled_drawn e ++ rest)) ≡ spelled_u32 e.draws ++ rest
+behind_bytes : (e : DrawnElement) (rest : List ℕ) → IsDrawn e
+    → drop (first_length (spelled_drawn e ++ rest)) (drop 2 (spelled_drawn e ++ rest)) ≡ spelled_u32 e.draws ++ rest
 behind_bytes e rest h = rw (len_is e rest h, behind_length e rest) (drop-append_seam e.bytes (spelled_u32 e.draws ++ rest))
 
 pub first_is : (e : DrawnElement) (rest : List ℕ) → IsDrawn e → first_of (spelled_drawn e ++ rest) ≡ e
 first_is e rest h =
-    let b : take (first_length (spelled_drawn e ++ rest)) (drop 2 (spelled_drawn e ++ rest)) ≡ e.bytes = rw (len_is e rest h, behind_length e rest) (take-append_seam e.bytes (spelled_u32 e.draws ++ rest)) in
+    let b : take (first_length (spelled_drawn e ++ rest)) (drop 2 (spelled_drawn e ++ rest)) ≡ e.bytes =
+    rw (len_is e rest h, behind_length e rest) (take-append_seam e.bytes (spelled_u32 e.draws ++ rest)) in
     let d : from_be_bytes w32 (take 4 (drop (first_length (spelled_drawn e ++ rest)) (drop 2 (spelled_drawn e ++ rest)))) ≡ e.draws =
-    ap (λ (xs : List ℕ). from_be_bytes w32 (take 4 xs)) (behind_bytes e rest h) ∙ ap (from_be_bytes w32) (take_four e.draws rest) ∙ from_be_bytes-to_be_bytes_4 e.draws h.draws in
-    ap (λ (xs : List ℕ). an_element xs (from_be_bytes w32 (take 4 (drop (first_length (spelled_drawn e ++ rest)) (drop 2 (spelled_drawn e ++ rest)))))) b ∙ ap (λ (n : ℕ). an_element e.bytes n) d
+    ap (λ (xs : List ℕ). from_be_bytes w32 (take 4 xs)) (behind_bytes e rest h) ∙ ap (from_be_bytes w32) (take_four e.draws rest)
+    ∙ from_be_bytes-to_be_bytes_4 e.draws h.draws in
+    ap (λ (xs : List ℕ). an_element xs (from_be_bytes w32
+    (take 4 (drop (first_length (spelled_drawn e ++ rest)) (drop 2 (spelled_drawn e ++ rest)))))) b
+    ∙ ap (λ (n : ℕ). an_element e.bytes n) d
 
 pub behind_is : (e : DrawnElement) (rest : List ℕ) → IsDrawn e → behind_first (spelled_drawn e ++ rest) ≡ rest
 behind_is e rest h = ap (drop 4) (behind_bytes e rest h) ∙ drop_four e.draws rest
@@ -57,10 +67,12 @@ pub read_again : (es : List DrawnElement) (rest : List ℕ) → All IsDrawn es �
 unfolding elements_in
 read_again [] rest h = refl
 read_again (e ∷ es) rest h =
-    let a : spelled_all (e ∷ es) ++ rest ≡ spelled_drawn e ++ (spelled_all es ++ rest) = append_assoc (spelled_drawn e) (spelled_all es) rest in
+    let a : spelled_all (e ∷ es) ++ rest ≡ spelled_drawn e ++ (spelled_all es ++ rest) =
+    append_assoc (spelled_drawn e) (spelled_all es) rest in
     let i : IsDrawn e = All-head IsDrawn e es h in
     let f : first_of (spelled_all (e ∷ es) ++ rest) ≡ e = ap first_of a ∙ first_is e (spelled_all es ++ rest) i in
-    let b : behind_first (spelled_all (e ∷ es) ++ rest) ≡ spelled_all es ++ rest = ap behind_first a ∙ behind_is e (spelled_all es ++ rest) i in
+    let b : behind_first (spelled_all (e ∷ es) ++ rest) ≡ spelled_all es ++ rest = ap behind_first a
+    ∙ behind_is e (spelled_all es ++ rest) i in
     ap (λ (x : DrawnElement). x ∷ elements_in (length es) (behind_first (spelled_all (e ∷ es) ++ rest))) f
     ∙ ap (λ (xs : List ℕ). e ∷ elements_in (length es) xs) b
     ∙ ap (λ (xs : List DrawnElement). e ∷ xs) (read_again es rest (All-tail IsDrawn e es h))
@@ -76,17 +88,25 @@ pub record Holds (es : List DrawnElement) (count : ℕ) (bytes : List ℕ) : Typ
   pub view : elements_in count bytes ≡ es
   pub flat : IsFlat count bytes
 
-pub holds : (es : List DrawnElement) (count : ℕ) (bytes : List ℕ) → bytes ≡ spelled_all es → count ≡ length es → All IsDrawn es → count ≤ 65536 → Holds es count bytes
+pub holds : (es : List DrawnElement) (count : ℕ) (bytes : List ℕ) → bytes ≡ spelled_all es → count ≡ length es → All IsDrawn es
+    → count ≤ 65536 → Holds es count bytes
 holds es count bytes spelling counted fields few =
-    let v : elements_in count bytes ≡ es = rw (spelling, counted) (ap (elements_in (length es)) (sym (append-nil (spelled_all es))) ∙ read_again es [] fields) in
+    let v : elements_in count bytes ≡ es = rw (spelling, counted)
+    (ap (elements_in (length es)) (sym (append-nil (spelled_all es))) ∙ read_again es [] fields) in
     record {
       view = v;
       flat = record { spelling = spelling ∙ ap spelled_all (sym v); fields = subst (All IsDrawn) (sym v) fields; few = few };
     }
 
 -- a flat list with that view
-pub held : (es : List DrawnElement) (count : ℕ) (bytes : List ℕ) → elements_in count bytes ≡ es → IsFlat count bytes → (bytes ≡ spelled_all es) × (count ≡ length es) × All IsDrawn es
-held es count bytes v h = (h.spelling ∙ ap spelled_all v, sym (length-elements_in count bytes) ∙ ap length v, subst (All IsDrawn) v h.fields)
+pub held : (es : List DrawnElement) (count : ℕ) (bytes : List ℕ) → elements_in count bytes ≡ es → IsFlat count bytes
+    → (bytes ≡ spelled_all es) × (count ≡ length es) × All IsDrawn es
+held es count bytes v h = (
+  h.spelling ∙ ap spelled_all v,
+  sym (length-elements_in count bytes)
+      ∙ ap length v,
+  subst (All IsDrawn) v h.fields,
+)
 
 pub nothing_holds : (bytes : List ℕ) → bytes ≡ [] → Holds [] 0 bytes
 nothing_holds bytes e = holds [] 0 bytes e refl (All-nil IsDrawn) (omega arith)
@@ -95,13 +115,11 @@ All-both : (es fs : List DrawnElement) → All IsDrawn es → All IsDrawn fs →
 All-both [] fs h k = k
 All-both (e ∷ es) fs h k = All-cons IsDrawn e (es ++ fs) (All-head IsDrawn e es h) (All-both es fs (All-tail IsDrawn e es h) k)
 
-pub appended : (es fs : List DrawnElement) (m n : ℕ) (a b bytes : List ℕ) → elements_in m a ≡ es → IsFlat m a → elements_in n b ≡ fs → IsFlat n b → length es + length fs ≤ 65536 → bytes ≡ a ++ b → Holds (es ++ fs) (m + n) bytes
-appended es fs m n a b bytes v h w k few e =
-    let p = held es m a v h in
-    let q = held fs n b w k in
-    holds (es ++ fs) (m + n) bytes (e ∙ ap (λ (xs : List ℕ). xs ++ b) p.0 ∙ ap (λ (xs : List ℕ). spelled_all es ++ xs) q.0 ∙ sym (flat_map-append spelled_drawn es fs)) (omega (arith, p.1, q.1, length-append es fs)) (All-both es fs p.2 q.2) (omega (arith, p.1, q.1))
-
-pub pushed : (es : List DrawnElement) (m : ℕ) (a bytes : List ℕ) (e : DrawnElement) → elements_in m a ≡ es → IsFlat m a → IsDrawn e → length es < 65536 → bytes ≡ a ++ spelled_drawn e → Holds (es ++ e ∷ []) (m + 1) bytes
+pub pushed : (es : List DrawnElement) (m : ℕ) (a bytes : List ℕ) (e : DrawnElement) → elements_in m a ≡ es → IsFlat m a → IsDrawn e
+    → length es < 65536 → bytes ≡ a ++ spelled_drawn e → Holds (es ++ e ∷ []) (m + 1) bytes
 pushed es m a bytes e v h i few eq =
     let p = held es m a v h in
-    holds (es ++ e ∷ []) (m + 1) bytes (eq ∙ ap (λ (xs : List ℕ). xs ++ spelled_drawn e) p.0 ∙ ap (λ (xs : List ℕ). spelled_all es ++ xs) (sym (append-nil (spelled_drawn e))) ∙ sym (flat_map-append spelled_drawn es (e ∷ []))) (omega (arith, p.1, length-append es (e ∷ []))) (All-both es (e ∷ []) p.2 (All-cons IsDrawn e [] i (All-nil IsDrawn))) (omega (arith, p.1))
+    holds (es ++ e ∷ []) (m + 1) bytes (eq ∙ ap (λ (xs : List ℕ). xs ++ spelled_drawn e) p.0
+    ∙ ap (λ (xs : List ℕ). spelled_all es ++ xs) (sym (append-nil (spelled_drawn e))) ∙ sym (flat_map-append spelled_drawn es (e ∷ [])))
+    (omega (arith, p.1, length-append es (e ∷ []))) (All-both es (e ∷ []) p.2 (All-cons IsDrawn e [] i (All-nil IsDrawn)))
+    (omega (arith, p.1))

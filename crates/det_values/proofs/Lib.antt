@@ -1,8 +1,9 @@
-pub mod FlatReading
+mod FlatReading
 mod Fronts
-pub mod Same
-pub mod Walking
+mod Same
+mod Walking
 mod Filling
 mod Undrawing
-pub mod Blocking
+mod Blocking
 mod Growing
+mod Equality

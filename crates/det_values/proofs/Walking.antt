@@ -1,10 +1,11 @@
--- One element taken from the front of a flat list.
+-- A walk over a `DrawnElements`: its next element, and its end.
 use Rattle.std.proofs.Common.{◌≡◌, ℕ, zero, suc, ◌-◌, ◌<◌, ◌≤◌, List, [], ◌∷◌, ◌++◌, length, refl, sym, ap, subst, ◌∙◌, arith}
 use Rattle.std.specs.List.{All}
 use Rattle.std.proofs.lemmas.List.{nil_from_length}
 use Rattle.std.proofs.lemmas.List.Elements.{All-head, All-tail}
 use Rattle.det_values.specs.declared.frames.DrawnElement.{DrawnElement}
-use Rattle.det_values.specs.Spelling.{spelled_drawn, spelled_all, IsDrawn, IsFlat, elements_in, first_of, behind_first, BeginsWith, BeginsWithNone}
+use Rattle.det_values.specs.Spelling.{spelled_drawn, spelled_all, IsDrawn, IsFlat, elements_in, first_of, behind_first, BeginsWith}
+use Rattle.det_values.specs.Spelling.{BeginsWithNone}
 use Rattle.det_values.proofs.FlatReading.{first_is, behind_is, length-elements_in}
 
 pub walk_ended : (es : List DrawnElement) (n : ℕ) (bytes : List ℕ) → elements_in n bytes ≡ es → n ≡ 0 → es ≡ []
@@ -18,11 +19,13 @@ one_more : (n : ℕ) (bytes : List ℕ) → elements_in (suc n) bytes ≡ first_
 unfolding elements_in
 one_more n bytes = refl
 
-taken : (n : ℕ) (bytes rest : List ℕ) (e : DrawnElement) → IsFlat (suc n) bytes → BeginsWith e rest bytes → Taken (elements_in (suc n) bytes) n e rest
+taken : (n : ℕ) (bytes rest : List ℕ) (e : DrawnElement) → IsFlat (suc n) bytes → BeginsWith e rest bytes
+    → Taken (elements_in (suc n) bytes) n e rest
 taken n bytes rest e h b =
     let f : first_of bytes ≡ e = ap first_of b.spelling ∙ first_is e rest b.fields in
     let r : behind_first bytes ≡ rest = ap behind_first b.spelling ∙ behind_is e rest b.fields in
-    let parts : elements_in (suc n) bytes ≡ e ∷ elements_in n rest = one_more n bytes ∙ ap (λ (x : DrawnElement). x ∷ elements_in n (behind_first bytes)) f ∙ ap (λ (xs : List ℕ). e ∷ elements_in n xs) r in
+    let parts : elements_in (suc n) bytes ≡ e ∷ elements_in n rest = one_more n bytes
+    ∙ ap (λ (x : DrawnElement). x ∷ elements_in n (behind_first bytes)) f ∙ ap (λ (xs : List ℕ). e ∷ elements_in n xs) r in
     let s : bytes ≡ spelled_drawn e ++ spelled_all (elements_in n rest) = h.spelling ∙ ap spelled_all parts in
     let few : suc n ≤ 65536 = h.few in
     record {
@@ -34,7 +37,8 @@ taken n bytes rest e h b =
       };
     }
 
-pub walk_next : (es : List DrawnElement) (n : ℕ) (bytes rest : List ℕ) (e : DrawnElement) → elements_in n bytes ≡ es → IsFlat n bytes → 0 < n → BeginsWith e rest bytes → Taken es (n - 1) e rest
+pub walk_next : (es : List DrawnElement) (n : ℕ) (bytes rest : List ℕ) (e : DrawnElement) → elements_in n bytes ≡ es → IsFlat n bytes
+    → 0 < n → BeginsWith e rest bytes → Taken es (n - 1) e rest
 walk_next es zero bytes rest e v h lt b = absurd (omega arith)
 walk_next es (suc n) bytes rest e v h lt b =
     let k : suc n - 1 ≡ n = omega arith in

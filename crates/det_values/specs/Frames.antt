@@ -6,7 +6,8 @@ use Rattle.det_values.specs.declared.frames.DrawnElement.{DrawnElement}
 use Rattle.det_values.specs.declared.frames.Outcome.{Outcome}
 use Rattle.det_values.specs.declared.frames.Outcome.TheVariants.{Finished, Refused}
 use Rattle.det_values.specs.declared.frames.Frame.{Frame}
-use Rattle.det_values.specs.declared.frames.Frame.TheVariants.{Register, Discover, Init, Run, Terminate}
+use Rattle.det_values.specs.declared.frames.Frame.TheVariants.{Register, Discover, Init, Run}
+use Rattle.det_values.specs.declared.frames.Frame.TheVariants.{Terminate}
 
 -- an element as if it had drawn nothing
 abbrev pub undrawn : DrawnElement → DrawnElement
@@ -22,7 +23,10 @@ outcome_in_format One (Refused at) = Refused at
 outcome_in_format Two outcome = outcome
 
 abbrev pub in_format : Format → Frame → Frame
-in_format format (Run r) = Run (record { input = r.input; outcome = outcome_in_format format r.outcome })
+in_format format (Run r) = Run (record {
+  input = r.input;
+  outcome = outcome_in_format format r.outcome;
+})
 in_format format Register = Register
 in_format format Discover = Discover
 in_format format (Init elements) = Init elements

@@ -1,5 +1,6 @@
 -- The ranges of the values that clients exchange and that records hold.
-use Rattle.std.specs.Prelude.{◌≡◌, ℕ, ℤ, ◌^◌, ◌<◌, ◌≤◌, ◌≤ℤ◌, pos, negsuc, Bool, ◌&&◌, ◌||◌, ◌==◌, nat_le, List, length}
+use Rattle.std.specs.Prelude.{◌≡◌, ℕ, ℤ, ◌^◌, ◌<◌, ◌≤◌, ◌≤ℤ◌, pos, negsuc, Bool, ◌&&◌, ◌||◌, ◌==◌}
+use Rattle.std.specs.Prelude.{nat_le, List, length}
 use Rattle.std.specs.List.{list_all, All}
 use Rattle.det_values.specs.declared.format.Format.{Format}
 use Rattle.det_values.specs.declared.format.Format.TheVariants as formats
@@ -26,7 +27,8 @@ may_stand_in_name b = ((nat_le 97 b && nat_le b 122) || (nat_le 48 b && nat_le b
 
 -- 1 to 32 such bytes
 abbrev pub is_event_name : List ℕ → Bool
-is_event_name bytes = (nat_le 1 (length bytes) && nat_le (length bytes) 32) && list_all may_stand_in_name bytes
+is_event_name bytes = (nat_le 1 (length bytes) && nat_le (length bytes) 32)
+    && list_all may_stand_in_name bytes
 
 -- in the pool a pass below 8 and an element below 65,536; elsewhere both are 0
 abbrev pub IsPlace : Phase → ℕ → ℕ → Type 0

@@ -1,5 +1,6 @@
 -- The record's spelling of elements with their draws, and the elements that stand in bytes.
-use Rattle.std.specs.Prelude.{◌≡◌, ℕ, zero, suc, ◌^◌, ◌<◌, ◌≤◌, List, [], ◌∷◌, ◌++◌, length, take, drop}
+use Rattle.std.specs.Prelude.{◌≡◌, ℕ, zero, suc, ◌^◌, ◌<◌, ◌≤◌, List, [], ◌∷◌, ◌++◌, length, take}
+use Rattle.std.specs.Prelude.{drop}
 use Rattle.std.specs.List.{flat_map, All}
 use Rattle.std.specs.Int.{w16, w32, to_be_bytes, from_be_bytes}
 use Rattle.det_values.specs.declared.frames.DrawnElement.{DrawnElement}
@@ -21,26 +22,32 @@ an_element bytes draws = record { bytes = bytes; draws = draws }
 unfoldable pub spelled_drawn : DrawnElement → List ℕ
 spelled_drawn e = spelled_u16 (length e.bytes) ++ (e.bytes ++ spelled_u32 e.draws)
 
+-- an element that a finished cycle can have
 pub record IsDrawn (e : DrawnElement) : Type 0 where
   pub short : length e.bytes ≤ 64
   pub bytes : AreBytes e.bytes
   pub draws : e.draws < 2 ^ 32
 
+-- elements one behind another
 abbrev pub spelled_all : List DrawnElement → List ℕ
 spelled_all es = flat_map spelled_drawn es
 
 -- ---- the same, read
 
+-- the length of the first element's bytes
 abbrev pub first_length : List ℕ → ℕ
 first_length bytes = from_be_bytes w16 (take 2 bytes)
 
+-- the first element
 abbrev pub first_of : List ℕ → DrawnElement
-first_of bytes = an_element (take (first_length bytes) (drop 2 bytes)) (from_be_bytes w32 (take 4 (drop (first_length bytes) (drop 2 bytes))))
+first_of bytes = an_element (take (first_length bytes) (drop 2 bytes))
+    (from_be_bytes w32 (take 4 (drop (first_length bytes) (drop 2 bytes))))
 
+-- what stands behind the first element
 abbrev pub behind_first : List ℕ → List ℕ
 behind_first bytes = drop 4 (drop (first_length bytes) (drop 2 bytes))
 
--- so many elements, read from the front of the bytes
+-- so many elements, read one after another from the front of the bytes
 unfoldable pub elements_in : ℕ → List ℕ → List DrawnElement
 elements_in zero bytes = []
 elements_in (suc n) bytes = first_of bytes ∷ elements_in n (behind_first bytes)
@@ -61,6 +68,7 @@ pub record BeginsWith (e : DrawnElement) (rest bytes : List ℕ) : Type 0 where
   pub fields : IsDrawn e
   pub spelling : bytes ≡ spelled_drawn e ++ rest
 
+-- the bytes begin with no element
 abbrev pub BeginsWithNone : List ℕ → Type 0
 BeginsWithNone bytes = (e : DrawnElement) (rest : List ℕ) → BeginsWith e rest bytes → ⊥
 
@@ -70,5 +78,6 @@ pub record FirstAt (bytes : List ℕ) (at end : ℕ) : Type 0 where
   pub begins : BeginsWith element (drop end bytes) (drop at bytes)
   pub within : end ≤ length bytes
 
+-- no element stands in the bytes from this index on
 abbrev pub NoneAt : List ℕ → ℕ → Type 0
 NoneAt bytes at = BeginsWithNone (drop at bytes)

@@ -1,8 +1,9 @@
 -- What contracts see of the values that have ranges of their own: their fields, without the ranges.
-use Rattle.std.specs.Prelude.{ℕ, ℤ, List}
+use Rattle.std.specs.Prelude.{ℕ, ℤ, List, codes}
 use Rattle.det_values.specs.declared.format.Format.{Format}
 use Rattle.det_values.specs.declared.event.Policy.{Policy}
 use Rattle.det_values.specs.declared.refused_at.Phase.{Phase}
+use Rattle.det_values.specs.declared.refused_at.Phase.TheVariants.{Prepare, Pool, Conclude}
 
 pub record SampleValue : Type 0 where
   pub event : ℕ
@@ -26,3 +27,9 @@ pub record ProfileValue : Type 0 where
   pub cycle_time : ℕ
   pub params : List ℤ
   pub events : List EventSpecValue
+
+-- a phase as texts name it
+abbrev pub phase_word : Phase → List ℕ
+phase_word Prepare = codes "prepare"
+phase_word Pool = codes "pool"
+phase_word Conclude = codes "conclude"

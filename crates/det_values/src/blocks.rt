@@ -1,4 +1,4 @@
-//! An element added to the blocks of a container.
+//! Items added to the blocks of a container.
 ghost use Rattle.std.specs.Prelude.{◌≡◌, ◌++◌, ◌∷◌, [], OnOk, OnErr};
 ghost use Rattle.std.specs.Bool.{OnTrue, OnFalse};
 ghost use Rattle.det_values.specs.Blocks.{joined, AreBlocks, HasRoom, AreFull, held_by};
@@ -35,8 +35,10 @@ pub(crate) fn add_to_last<E: Drop>(blocks: &mut Vec<Vec<E>>, item: E) -> Result<
     requires blocks { AreBlocks (held_by blocks.old.items) }
     requires room { HasRoom (held_by blocks.old.items) }
     ensures blocks { AreBlocks (held_by blocks.new.items) }
-    ensures ok { OnOk result (joined (held_by blocks.new.items) ≡ joined (held_by blocks.old.items) ++ item ∷ []) }
-    ensures err { OnErr result (joined (held_by blocks.new.items) ≡ joined (held_by blocks.old.items)) }
+    ensures ok { OnOk result (joined (held_by blocks.new.items) ≡ joined (held_by blocks.old.items)
+        ++ item ∷ []) }
+    ensures err { OnErr result (joined (held_by blocks.new.items)
+        ≡ joined (held_by blocks.old.items)) }
 {
     let count = blocks.len();
     let last = &mut blocks[count - 1];
@@ -55,8 +57,10 @@ pub(crate) fn add_block<E: Drop>(
     requires blocks { AreBlocks (held_by blocks.old.items) }
     requires full { AreFull (held_by blocks.old.items) }
     ensures blocks { AreBlocks (held_by blocks.new.items) }
-    ensures ok { OnOk result (joined (held_by blocks.new.items) ≡ joined (held_by blocks.old.items) ++ item ∷ []) }
-    ensures err { OnErr result (joined (held_by blocks.new.items) ≡ joined (held_by blocks.old.items)) }
+    ensures ok { OnOk result (joined (held_by blocks.new.items) ≡ joined (held_by blocks.old.items)
+        ++ item ∷ []) }
+    ensures err { OnErr result (joined (held_by blocks.new.items)
+        ≡ joined (held_by blocks.old.items)) }
 {
     let mut block = Vec::new(alloc);
     if !pushed(&mut block, item) {

@@ -1,5 +1,6 @@
 //! A list in blocks that are moved and never copied.
-ghost use Rattle.std.specs.Prelude.{◌≡◌, ℕ, ◌≤◌, ◌<◌, ◌+◌, ◌*◌, ◌++◌, ◌∷◌, [], length, take, drop, slice_index_or, OnOk, OnErr, IfOk};
+ghost use Rattle.std.specs.Prelude.{◌≡◌, ℕ, ◌≤◌, ◌<◌, ◌+◌, ◌*◌, ◌++◌, ◌∷◌, [], length, take, drop};
+ghost use Rattle.std.specs.Prelude.{slice_index_or, OnOk, OnErr, IfOk, IsTrue, ◌↔◌};
 ghost use Rattle.det_values.specs.Blocks.{joined, AreBlocks, held_by};
 
 use crate::OutOfMemory;
@@ -7,8 +8,8 @@ use crate::blocks::{add_block, add_to_last, has_room, pushed};
 use std::alloc::Global;
 use std::marker::Model;
 
-/// The elements of a job, or one value for each of them: at most 65,536, in blocks of 64, of which the last one may be
-/// shorter. Blocks are what the workers of a pass claim and give.
+/// The elements of a job, or one value for each of them: at most 65,536, in blocks of 64, of which
+/// the last one may be shorter. Blocks are what the workers of a pass claim and give.
 #[derive(Debug, Drop)]
 pub struct Container<E> {
     blocks: Vec<Vec<E>>,
@@ -22,7 +23,8 @@ impl<E> Model for Container<E> {
 
     ghost view = { λ c. joined (held_by c.blocks.items) };
 
-    ghost invariant = { λ c. AreBlocks (held_by c.blocks.items) × (length (joined (held_by c.blocks.items)) ≤ 65536) };
+    ghost invariant = { λ c. AreBlocks (held_by c.blocks.items)
+        × (length (joined (held_by c.blocks.items)) ≤ 65536) };
 }
 
 impl<E> Container<E> {
@@ -55,6 +57,13 @@ impl<E> Container<E> {
             return 0;
         }
         64 * (count - 1) + self.blocks[count - 1].len()
+    }
+
+    /// Whether there is no element.
+    pub fn is_empty(&self) -> bool
+        ensures { IsTrue result ↔ (length self.now ≡ 0) }
+    {
+        self.len() == 0
     }
 
     /// The element at an index, counted from 0.

@@ -4,16 +4,18 @@ ghost use Rattle.std.specs.List.{All};
 ghost use Rattle.det_values.specs.Spelling.{an_element, spelled_all, IsDrawn};
 ghost use Rattle.det_values.specs.declared.frames.DrawnElement.{DrawnElement};
 
+use crate::OutOfMemory;
 use crate::put::put_drawn;
 use crate::undraw::undraw_all;
 use crate::walk::Walk;
-use crate::OutOfMemory;
 use std::alloc::Global;
 use std::marker::Model;
 
-/// The bytes and draws of each element of a finished cycle: at most 65,536 elements of at most 64 bytes each.
+/// The bytes and draws of each element of a finished cycle: at most 65,536 elements of at most 64
+/// bytes each.
 ///
-/// They are held as format Two of a record spells them, one behind another, so that a frame is encoded by one copy.
+/// They are held as format Two of a record spells them, one behind another, so that a frame is
+/// encoded by one copy.
 #[derive(Debug, Drop)]
 pub struct DrawnElements {
     bytes: Vec<u8>,
@@ -80,8 +82,10 @@ impl DrawnElements {
     /// So many elements that were spelled one behind another. The bytes are moved and not copied.
     pub fn from_spelled(bytes: Vec<u8>, count: u32) -> DrawnElements
         requires few { count ≤ 65536 }
-        requires spelled { (es : List DrawnElement) × (bytes.items ≡ spelled_all es) × (length es ≡ count) × All IsDrawn es }
-        ensures { (es : List DrawnElement) → bytes.items ≡ spelled_all es → length es ≡ count → All IsDrawn es → result ≡ es }
+        requires spelled { (es : List DrawnElement) × (bytes.items ≡ spelled_all es)
+            × (length es ≡ count) × All IsDrawn es }
+        ensures { (es : List DrawnElement) → bytes.items ≡ spelled_all es → length es ≡ count
+            → All IsDrawn es → result ≡ es }
     {
         DrawnElements { bytes, count }
     }

@@ -3,7 +3,8 @@ use crate::EventName;
 use std::alloc::AllocError;
 use std::marker::Model;
 
-/// Which samples a cycle's window of an event holds: the last ones of all earlier cycles, or those of the cycle just before.
+/// Which samples a cycle's window of an event holds: the last ones of all earlier cycles, or those
+/// of the cycle just before.
 #[derive(Clone, Copy, Debug, PartialEq, Eq, Drop)]
 pub enum Policy {
     Last,

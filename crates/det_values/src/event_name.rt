@@ -1,5 +1,6 @@
 //! Names of events.
-ghost use Rattle.std.specs.Prelude.{◌≡◌, ◌<◌, ◌≤◌, length, IfSome, IfNone, true, false, slice_index_or};
+ghost use Rattle.std.specs.Prelude.{◌≡◌, ◌<◌, ◌≤◌, length, IfSome, IfNone, true, false};
+ghost use Rattle.std.specs.Prelude.{slice_index_or};
 ghost use Rattle.std.specs.List.{list_all};
 ghost use Rattle.det_values.specs.Limits.{is_event_name, may_stand_in_name};
 
@@ -46,7 +47,8 @@ fn is_name(bytes: &[u8]) -> bool
 impl EventName {
     /// These bytes as a name. None where they are no name.
     pub fn of(bytes: &[u8]) -> Option<EventName>
-        ensures some { IfSome result (λ name. (is_event_name bytes.now ≡ true) × (name ≡ bytes.now)) }
+        ensures some { IfSome result (λ name. (is_event_name bytes.now ≡ true)
+            × (name ≡ bytes.now)) }
         ensures none { IfNone result (is_event_name bytes.now ≡ false) }
     {
         if !is_name(bytes) {

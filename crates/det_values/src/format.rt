@@ -11,7 +11,8 @@ pub enum Format {
     Two,
 }
 
-/// Leaves of a frame what a format keeps: One knows no draws, so it makes all of them 0; Two changes nothing.
+/// Leaves of a frame what a format keeps: One knows no draws, so it makes all of them 0; Two
+/// changes nothing.
 pub fn as_format(format: Format, frame: &mut Frame)
     ensures { frame.new ≡ in_format format frame.old }
 {

@@ -1,10 +1,11 @@
 //! What a run does, frame by frame.
 ghost use Rattle.std.specs.Prelude.{◌≡◌, IfOk};
 
-use crate::{Bytes, Bytes64, Elements, DrawnElements, OutOfMemory, RefusedAt, Samples};
+use crate::{Bytes, Bytes64, DrawnElements, Elements, OutOfMemory, RefusedAt, Samples};
 use std::alloc::Global;
 
-/// What one cycle is given: its time in nanoseconds, if there is one, and the samples that arrive in it.
+/// What one cycle is given: its time in nanoseconds, if there is one, and the samples that arrive
+/// in it.
 #[derive(Debug, PartialEq, Drop)]
 pub struct CycleInput {
     pub time: Option<u64>,

@@ -11,6 +11,7 @@ mod first;
 mod format;
 mod frames;
 mod job_kind;
+pub mod laws;
 mod limited;
 mod lists;
 mod out_of_memory;

@@ -2,8 +2,9 @@
 use crate::{Events, Format, Params};
 use std::marker::Model;
 
-/// What a client and its job are made from. The cycle time is in nanoseconds, 1 to 2^63 - 1. In the format One every
-/// event has the policy Last. The job's number may be one that no shipped job has, and two events may have one name.
+/// What a client and its job are made from. The cycle time is in nanoseconds, 1 to 2^63 - 1. In the
+/// format One every event has the policy Last. The job's number may be one that no shipped job has,
+/// and two events may have one name.
 #[derive(Debug, PartialEq, Drop)]
 pub struct Profile {
     pub format: Format,
@@ -20,9 +21,23 @@ impl Model for Profile {
 
     ghost Value = { ProfileValue };
 
-    ghost view = { λ p. record { format = p.format; job = p.job; seed = p.seed; cycle_time = p.cycle_time; params = p.params; events = p.events } };
+    ghost view = { λ p. record {
+      format = p.format;
+      job = p.job;
+      seed = p.seed;
+      cycle_time = p.cycle_time;
+      params = p.params;
+      events = p.events;
+    } };
 
     ghost invariant = { λ p. IsCycleTime p.cycle_time × KnowsPolicies p.format p.events };
 
-    ghost inverse = { λ v. record { format = v.format; job = v.job; seed = v.seed; cycle_time = v.cycle_time; params = v.params; events = v.events } };
+    ghost inverse = { λ v. record {
+      format = v.format;
+      job = v.job;
+      seed = v.seed;
+      cycle_time = v.cycle_time;
+      params = v.params;
+      events = v.events;
+    } };
 }

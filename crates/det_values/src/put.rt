@@ -1,10 +1,12 @@
-//! Numbers and elements, appended.
+//! Numbers, bytes and elements appended to bytes, as the record spells them.
 ghost use Rattle.std.specs.Prelude.{◌≡◌, ◌≤◌, ◌+◌, ◌++◌, ◌∷◌, [], length, take, drop, OnOk, OnErr};
-ghost use Rattle.det_values.specs.Spelling.{spelled_u16, spelled_u32, AreBytes, an_element, spelled_drawn, IsDrawn, Grows};
+ghost use Rattle.det_values.specs.Spelling.{spelled_u16, spelled_u32, AreBytes, an_element};
+ghost use Rattle.det_values.specs.Spelling.{spelled_drawn, IsDrawn, Grows};
 
 use crate::OutOfMemory;
 use std::alloc::AllocError;
 
+/// Appends a number of two bytes, the high one first.
 #[tactic(auto, unfolding(crate::specs::Spelling::spelled_u16))]
 pub fn put_u16(out: &mut Vec<u8>, n: u16) -> Result<(), AllocError>
     ensures ok { OnOk result (out.new.items ≡ out.old.items ++ spelled_u16 n) }
@@ -13,6 +15,7 @@ pub fn put_u16(out: &mut Vec<u8>, n: u16) -> Result<(), AllocError>
     out.extend_from_slice(&n.to_be_bytes())
 }
 
+/// Appends a number of four bytes, the highest first.
 #[tactic(auto, unfolding(crate::specs::Spelling::spelled_u32))]
 pub fn put_u32(out: &mut Vec<u8>, n: u32) -> Result<(), AllocError>
     ensures ok { OnOk result (out.new.items ≡ out.old.items ++ spelled_u32 n) }
@@ -21,7 +24,7 @@ pub fn put_u32(out: &mut Vec<u8>, n: u32) -> Result<(), AllocError>
     out.extend_from_slice(&n.to_be_bytes())
 }
 
-/// Bytes without their length.
+/// Appends bytes without their length.
 pub fn put_slice(out: &mut Vec<u8>, bytes: &[u8]) -> Result<(), AllocError>
     ensures ok { OnOk result (out.new.items ≡ out.old.items ++ bytes.now) }
     ensures grows { Grows out.old.items out.new.items }
@@ -33,7 +36,8 @@ pub fn put_slice(out: &mut Vec<u8>, bytes: &[u8]) -> Result<(), AllocError>
 #[tactic(auto, unfolding(crate::specs::Spelling::spelled_drawn))]
 fn put_parts(out: &mut Vec<u8>, bytes: &[u8], draws: u32) -> Result<(), AllocError>
     requires { length bytes.now ≤ 64 }
-    ensures ok { OnOk result (out.new.items ≡ out.old.items ++ spelled_drawn (an_element bytes.now draws)) }
+    ensures ok { OnOk result (out.new.items ≡ out.old.items
+        ++ spelled_drawn (an_element bytes.now draws)) }
     ensures grows { Grows out.old.items out.new.items }
     ensures fields { AreBytes bytes.now }
 {
@@ -43,10 +47,11 @@ fn put_parts(out: &mut Vec<u8>, bytes: &[u8], draws: u32) -> Result<(), AllocErr
     Ok(())
 }
 
-/// An element with its draws. A refused call leaves `out` as it was.
+/// Appends an element with its draws. A refused call leaves `out` as it was.
 pub fn put_drawn(out: &mut Vec<u8>, bytes: &[u8], draws: u32) -> Result<(), OutOfMemory>
     requires { length bytes.now ≤ 64 }
-    ensures ok { OnOk result (out.new.items ≡ out.old.items ++ spelled_drawn (an_element bytes.now draws)) }
+    ensures ok { OnOk result (out.new.items ≡ out.old.items
+        ++ spelled_drawn (an_element bytes.now draws)) }
     ensures err { OnErr result (out.new.items ≡ out.old.items) }
     ensures fields { IsDrawn (an_element bytes.now draws) }
 {
@@ -63,7 +68,8 @@ pub fn put_drawn(out: &mut Vec<u8>, bytes: &[u8], draws: u32) -> Result<(), OutO
 /// Writes a number over the two bytes at an index.
 pub fn fill_u16(out: &mut Vec<u8>, at: usize, n: u16)
     requires { at + 2 ≤ length out.old.items }
-    ensures { out.new.items ≡ take at out.old.items ++ (spelled_u16 n ++ drop (at + 2) out.old.items) }
+    ensures { out.new.items ≡ take at out.old.items
+        ++ (spelled_u16 n ++ drop (at + 2) out.old.items) }
 {
     let bytes = n.to_be_bytes();
     out[at] = bytes[0];

@@ -1,4 +1,7 @@
 //! Where a cycle was refused.
+ghost use Rattle.std.specs.Prelude.{◌≡◌};
+ghost use Rattle.det_values.specs.Values.{phase_word};
+
 use std::marker::Model;
 
 /// A part of a cycle: its sequential begin, the passes of the pool, its sequential end.
@@ -9,8 +12,21 @@ pub enum Phase {
     Conclude,
 }
 
-/// Where a cycle was refused, and the code that the job gave. In the pool the pass is below 8 and the element below
-/// 65,536; in the other phases both are 0.
+impl Phase {
+    /// The phase as texts name it.
+    pub fn word(self) -> &'static str
+        ensures { result.now ≡ phase_word self }
+    {
+        match self {
+            Phase::Prepare => "prepare",
+            Phase::Pool => "pool",
+            Phase::Conclude => "conclude",
+        }
+    }
+}
+
+/// Where a cycle was refused, and the code that the job gave. In the pool the pass is below 8 and
+/// the element below 65,536; in the other phases both are 0.
 #[derive(Clone, Copy, Debug, PartialEq, Eq, Drop)]
 pub struct RefusedAt {
     pub phase: Phase,
@@ -25,9 +41,19 @@ impl Model for RefusedAt {
 
     ghost Value = { RefusedAtValue };
 
-    ghost view = { λ r. record { phase = r.phase; pass = r.pass; element = r.element; code = r.code } };
+    ghost view = { λ r. record {
+      phase = r.phase;
+      pass = r.pass;
+      element = r.element;
+      code = r.code;
+    } };
 
     ghost invariant = { λ r. IsPlace r.phase r.pass r.element };
 
-    ghost inverse = { λ v. record { phase = v.phase; pass = v.pass; element = v.element; code = v.code } };
+    ghost inverse = { λ v. record {
+      phase = v.phase;
+      pass = v.pass;
+      element = v.element;
+      code = v.code;
+    } };
 }

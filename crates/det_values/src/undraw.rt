@@ -1,5 +1,6 @@
 //! Draws made 0 in place.
-ghost use Rattle.std.specs.Prelude.{◌≡◌, ◌≤◌, ◌+◌, ◌++◌, ◌∷◌, [], length, take, drop, IfSome, IfNone};
+ghost use Rattle.std.specs.Prelude.{◌≡◌, ◌≤◌, ◌+◌, ◌++◌, ◌∷◌, [], length, take, drop, IfSome};
+ghost use Rattle.std.specs.Prelude.{IfNone};
 ghost use Rattle.det_values.specs.Spelling.{elements_in, spelled_all, IsFlat, FirstAt, NoneAt};
 ghost use Rattle.det_values.specs.Frames.{all_undrawn};
 

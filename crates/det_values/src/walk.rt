@@ -1,11 +1,11 @@
-//! The elements of a flat list, one after another.
+//! The elements of a finished cycle, one after another.
 ghost use Rattle.std.specs.Prelude.{◌≡◌, ◌≤◌, ◌∷◌, [], length, IfSome, IfNone};
 ghost use Rattle.det_values.specs.Spelling.{an_element};
 
 use crate::first::first_in;
 use std::marker::Model;
 
-/// The elements that are left.
+/// The elements of a `DrawnElements` that were not taken yet.
 #[derive(Drop)]
 pub struct Walk<'a> {
     pub(crate) rest: &'a [u8],

@@ -1,5 +1,6 @@
 -- The state that a key is given is never all zero, so it is the first four outputs of SplitMix64.
-use Rattle.std.proofs.Common.{◌≡◌, ℕ, ◌*◌, ◌/◌, ◌%◌, ◌^◌, ◌<◌, List, [], ◌∷◌, ◌++◌, Bool, true, false, cond, eqb, ◌&&◌, refl, sym, ap, ◌∙◌, arith}
+use Rattle.std.proofs.Common.{◌≡◌, ℕ, ◌*◌, ◌/◌, ◌%◌, ◌^◌, ◌<◌, List, [], ◌∷◌, ◌++◌, Bool, true, false, cond, eqb, ◌&&◌, refl, sym, ap, ◌∙◌}
+use Rattle.std.proofs.Common.{arith}
 use lib.Bits.{bit_xor, xor_assoc, xor_self, xor_zero_l, xor_zero_r, xor_lt}
 use Rattle.std.specs.Int.{w64, to_le_bytes}
 use Rattle.std.proofs.lemmas.Nat.{mul-mod_first, mul-mod_second, from_le_bytes-to_le_bytes_8}
@@ -10,13 +11,15 @@ use Rattle.rand_core.specs.Steps.{first_words, word_bytes, stream_of, u32_at, u6
 use Rattle.rand_xoshiro.specs.SplitMix64.{fold_mul, next_state, mix_u64, splitmix_seed}
 use Rattle.rand_xoshiro.specs.Xoshiro256.{of_seed, zero_seed_state}
 
-xor-eq : (a b : ℕ) → bit_xor a b ≡ 0 → a ≡ b
+pub xor-eq : (a b : ℕ) → bit_xor a b ≡ 0 → a ≡ b
 xor-eq a b h = sym (xor_zero_r a) ∙ ap (bit_xor a) (sym (xor_self b)) ∙ sym (xor_assoc a b b) ∙ ap (λ x. bit_xor x b) h ∙ xor_zero_l b
 
 -- a factor with an inverse loses nothing
 zero_factor : (y m inverse : ℕ) → m * inverse % 2 ^ 64 ≡ 1 → y < 2 ^ 64 → y * m % 2 ^ 64 ≡ 0 → y ≡ 0
 zero_factor y m inverse one below h =
-    let a : y * (m * inverse) % 2 ^ 64 ≡ 0 = ap (λ x. x % 2 ^ 64) (sym (mul_assoc y m inverse)) ∙ sym (mul-mod_first (y * m) inverse (2 ^ 64)) ∙ ap (λ x. x * inverse % 2 ^ 64) h ∙ omega arith in
+    let a : y * (m * inverse) % 2 ^ 64 ≡ 0 =
+    ap (λ x. x % 2 ^ 64) (sym (mul_assoc y m inverse)) ∙ sym (mul-mod_first (y * m) inverse (2 ^ 64))
+    ∙ ap (λ x. x * inverse % 2 ^ 64) h ∙ omega arith in
     let b : y * (m * inverse) % 2 ^ 64 ≡ y * 1 % 2 ^ 64 = sym (mul-mod_second y (m * inverse) (2 ^ 64)) ∙ ap (λ x. y * x % 2 ^ 64) one in
     let c : y * 1 % 2 ^ 64 ≡ 0 = sym b ∙ a in
     omega arith
@@ -55,11 +58,11 @@ not_both_zero k h g =
     let c : next_state 0 ≡ 0 = ap next_state (sym a) ∙ b in
     omega arith
 
-the_bytes : (n : ℕ) → n < 2 ^ 64 → u64_at (to_le_bytes w64 n) 0 ≡ n
+pub the_bytes : (n : ℕ) → n < 2 ^ 64 → u64_at (to_le_bytes w64 n) 0 ≡ n
 unfolding u32_at
 the_bytes n h = let e = from_le_bytes-to_le_bytes_8 n h in omega (arith, e)
 
-is_zero : (a : ℕ) → eqb a 0 ≡ true → a ≡ 0
+pub is_zero : (a : ℕ) → eqb a 0 ≡ true → a ≡ 0
 is_zero a h = grind (arith, nat_tests)
 
 not_all : (a b c d : Bool) (x y : List ℕ) → (a ≡ true → b ≡ true → ⊥) → cond (((a && b) && c) && d) x y ≡ y
@@ -79,7 +82,7 @@ unfolding u32_at
 four_words a b c d ha hb hc hd h =
     chosen _ _ _ _ a b c d zero_seed_state (the_bytes a ha) (the_bytes b hb) (the_bytes c hc) (the_bytes d hd) h
 
-output-below : (k : ℕ) → (mix_u64 k).0 < 2 ^ 64
+pub output-below : (k : ℕ) → (mix_u64 k).0 < 2 ^ 64
 output-below k =
     let z : ℕ = fold_mul (fold_mul (next_state k) 30 0xbf58476d1ce4e5b9) 27 0x94d049bb133111eb in
     let h : z < 2 ^ 64 = omega arith in
@@ -91,4 +94,5 @@ seeded k =
     let a : ℕ = next_state k in
     let b : ℕ = next_state a in
     let c : ℕ = next_state b in
-    four_words (mix_u64 k).0 (mix_u64 a).0 (mix_u64 b).0 (mix_u64 c).0 (output-below k) (output-below a) (output-below b) (output-below c) (not_both_zero k)
+    four_words (mix_u64 k).0 (mix_u64 a).0 (mix_u64 b).0 (mix_u64 c).0
+    (output-below k) (output-below a) (output-below b) (output-below c) (not_both_zero k)

@@ -7,7 +7,8 @@ use mir.Val.{to_z, of_z, SFits}
 use Rattle.job_shared.proofs.Ranges.{wide_fits}
 
 -- what the machine computes is the sum
-pub sum_computed : (left right : ℤ) (a b : ℕ) → a + b ≤ 65536 → neg_ℤ (pos (a * 1000000000000)) ≤ℤ left → left ≤ℤ pos (a * 1000000000000) → neg_ℤ (pos (b * 1000000000000)) ≤ℤ right → right ≤ℤ pos (b * 1000000000000) →
+pub sum_computed : (left right : ℤ) (a b : ℕ) → a + b ≤ 65536 → neg_ℤ (pos (a * 1000000000000)) ≤ℤ left → left ≤ℤ pos (a * 1000000000000) →
+    neg_ℤ (pos (b * 1000000000000)) ≤ℤ right → right ≤ℤ pos (b * 1000000000000) →
     to_z w64 (of_z w64 (to_z w64 (of_z w64 left) +ℤ to_z w64 (of_z w64 right))) ≡ left +ℤ right
 sum_computed left right a b few l0 l1 r0 r1 =
     let fl : SFits w64 left = wide_fits left (omega (arith, ints)) (omega (arith, ints)) in

@@ -1,12 +1,14 @@
--- The filter bank: a first-order low-pass filter per channel, which moves a level towards the newest sample of the
--- channel's event.
-use Rattle.std.specs.Prelude.{ℕ, ℤ, pos, ◌%◌, ◌+ℤ◌, List, ◌++◌, length, map, Option, None, Some, Ok, not, if◌then◌else◌, nat_lt, nat_le}
+-- The filter bank: a first-order low-pass filter per channel, which moves a level towards the
+-- newest sample of the channel's event.
+use Rattle.std.specs.Prelude.{ℕ, ℤ, pos, ◌%◌, ◌+ℤ◌, List, ◌++◌, length, map, Option, None, Some, Ok}
+use Rattle.std.specs.Prelude.{not, if◌then◌else◌, nat_lt, nat_le}
 use Rattle.std.proofs.Common.{lit≤}
 use Rattle.std.specs.List.{range_with_len}
 use Rattle.std.specs.Int.{int_min, int_max}
 use Rattle.job_trait.specs.declared.answers.Worked.{Worked}
 use Rattle.job_trait.specs.Meaning.{Meaning, Begun}
-use Rattle.job_shared.specs.Params.{is_param, natural_param, few_events, natural_most, events_few}
+use Rattle.job_shared.specs.Params.{is_param, natural_param, few_events}
+use Rattle.job_shared.proofs.Clamps.{natural_most, events_few}
 use Rattle.job_shared.specs.Samples.{all_newest, sample_of}
 use Rattle.job_shared.specs.Bytes.{u16_bytes, i64_bytes}
 use Rattle.job_shared.specs.Filter.{towards}
@@ -93,7 +95,8 @@ meaning = record {
   made = made;
   events = λ j. j.events;
   started = started;
-  prepared = λ j globals es windows seed cycle time next. Ok (record { plan = all_newest windows; seed = seed });
+  prepared = λ j globals es windows seed cycle time next.
+      Ok (record { plan = all_newest windows; seed = seed });
   passes_of = λ j plan. 1;
   unit_part = λ j. None;
   worked = λ j plan carry pass e key. Ok (worked j plan e);

@@ -21,7 +21,9 @@ impl Bank {
 
     /// The bank of these parameters: channels, 1 to 65,536, and shift, 0 to 16.
     pub(crate) fn of_params(params: &[i64], events: u16) -> Result<Bank, BadParam>
-        ensures { MatchResult result (λ job. (bad_param params.now events ≡ None) × (job ≡ made params.now events)) (λ bad. bad_param params.now events ≡ Some bad.index) }
+        ensures { MatchResult result
+            (λ job. (bad_param params.now events ≡ None) × (job ≡ made params.now events))
+            (λ bad. bad_param params.now events ≡ Some bad.index) }
     {
         let channels = natural_param(params, 0, 1, 65536)?;
         let shift = natural_param(params, 1, 0, 16)?;

@@ -1,15 +1,16 @@
 //! Channels, and their levels.
 
-ghost use Rattle.std.specs.Prelude.{◌≡◌, ◌≤◌, IfOk, length};
+ghost use Rattle.std.specs.Prelude.{◌≡◌, ◌≤◌, ◌++◌, IfOk, OnOk, length};
 ghost use Rattle.std.specs.List.{All};
 ghost use Rattle.det_values.specs.Limits.{IsSampleValue};
+ghost use Rattle.det_values.specs.Spelling.{Grows};
 ghost use Rattle.job_shared.specs.Samples.{IsSample};
 ghost use Rattle.job_bank.specs.Meaning.{level_after, first_channels, shown};
 ghost use Rattle.job_bank.specs.Ranges.{Own};
 
 use crate::Bank;
+use det_values::{Container, OutOfMemory};
 use job_shared::towards;
-use det_values::{Bytes64, Container, OutOfMemory};
 use std::alloc::Global;
 
 /// A channel: its event and its level, from -10^12 to 10^12.
@@ -39,23 +40,28 @@ pub(crate) fn first_channels(alloc: Global, bank: &Bank) -> Result<Container<Cha
     ensures own { IfOk result (All (Own bank.now)) }
     ensures few { IfOk result (λ channels. length channels ≤ 65536) }
 {
-    let mut channels = Container::new(alloc);
+    let mut channels = Container::with_room(alloc, bank.channels as usize)?;
     for i in 0..bank.channels {
-        channels.push(Channel {
-            event: bank.event_of(i),
-            level: 0,
-        })?;
+        let event = bank.event_of(i);
+        channels.push(alloc, Channel { event, level: 0 })?;
     }
     Ok(channels)
 }
 
-/// The level, and before it the event where there are several.
-pub(crate) fn element_bytes(bank: &Bank, channel: &Channel) -> Bytes64
-    ensures { result ≡ shown bank.now channel.now }
+/// Appends the level, and before it the event where there are several: 8 or 10 bytes.
+#[inline(always)]
+pub(crate) fn put_channel(
+    bank: &Bank,
+    channel: &Channel,
+    out: &mut Vec<u8>,
+) -> Result<(), OutOfMemory>
+    ensures ok { OnOk result (out.new.items ≡ out.old.items ++ shown bank.now channel.now) }
+    ensures grows { Grows out.old.items out.new.items }
 {
     let mut bytes = [0; 10];
     bytes[..2].copy_from_slice(&channel.event.to_be_bytes());
     bytes[2..].copy_from_slice(&channel.level.to_be_bytes());
-    let length = if bank.events >= 2 { 10 } else { 8 };
-    Bytes64::of(&bytes[10 - length..])
+    let skipped = if bank.events >= 2 { 0 } else { 2 };
+    out.extend_from_slice(&bytes[skipped..])?;
+    Ok(())
 }

@@ -1,13 +1,13 @@
 //! The bank as a job.
 
-use crate::channel::{element_bytes, first_channels, level_after};
+use crate::channel::{first_channels, level_after, put_channel};
 use crate::summary::{joined, output, summary_of};
 use crate::{Bank, Channel, Summary};
-use job_shared::{NewestSamples, newest_samples, sample_of};
-use det_values::{Bytes64, OutOfMemory, Params};
 use det_client::Client;
+use det_values::{Container, OutOfMemory, Params};
 use element_random::ElementRandom;
 use event_cache::EventCache;
+use job_shared::{NewestSamples, newest_samples, sample_of};
 use job_trait::{BadParam, Concluded, Job, JobFault, Started, Worked};
 use std::alloc::Global;
 
@@ -59,7 +59,7 @@ impl Job for Bank {
         &self,
         alloc: Global,
         _globals: &NoGlobals,
-        _elements: &[Channel],
+        _elements: &Container<Channel>,
         cache: &EventCache,
         _client: &mut Client,
     ) -> Result<NewestSamples, JobFault> {
@@ -102,8 +102,9 @@ impl Job for Bank {
         Ok(joined(left, right))
     }
 
-    fn element_bytes(&self, element: &Channel) -> Bytes64 {
-        element_bytes(self, element)
+    #[inline(always)]
+    fn put_element(&self, element: &Channel, out: &mut Vec<u8>) -> Result<(), OutOfMemory> {
+        put_channel(self, element, out)
     }
 
     fn conclude(

@@ -11,7 +11,8 @@ landing_here : (spread key i tries : ℕ) → lands spread (try_of spread key (2
 unfolding landing_from
 landing_here spread key i tries h = rw h refl
 
-landing_later : (spread key i tries : ℕ) → lands spread (try_of spread key (2 * i)) ≡ false → landing_from spread key i (suc tries) ≡ landing_from spread key (i + 1) tries
+landing_later : (spread key i tries : ℕ) → lands spread (try_of spread key (2 * i)) ≡ false →
+    landing_from spread key i (suc tries) ≡ landing_from spread key (i + 1) tries
 unfolding landing_from
 landing_later spread key i tries h = rw h refl
 
@@ -20,12 +21,14 @@ unfolding landing_from
 landing_none spread key i = refl
 
 -- the same with 8 tries in all
-pub landed : (spread key i : ℕ) (o : Option ℕ) → i < 8 → o ≡ landing_from spread key i (8 - i) → lands spread (try_of spread key (2 * i)) ≡ true → o ≡ Some i
+pub landed : (spread key i : ℕ) (o : Option ℕ) → i < 8 → o ≡ landing_from spread key i (8 - i) →
+    lands spread (try_of spread key (2 * i)) ≡ true → o ≡ Some i
 landed spread key i o h e l =
     let left : 8 - i ≡ suc (7 - i) = omega arith in
     e ∙ ap (landing_from spread key i) left ∙ landing_here spread key i (7 - i) l
 
-pub missed : (spread key i : ℕ) (o : Option ℕ) → i < 8 → o ≡ landing_from spread key i (8 - i) → lands spread (try_of spread key (2 * i)) ≡ false → o ≡ landing_from spread key (i + 1) (8 - (i + 1))
+pub missed : (spread key i : ℕ) (o : Option ℕ) → i < 8 → o ≡ landing_from spread key i (8 - i) →
+    lands spread (try_of spread key (2 * i)) ≡ false → o ≡ landing_from spread key (i + 1) (8 - (i + 1))
 missed spread key i o h e l =
     let left : 8 - i ≡ suc (8 - (i + 1)) = omega arith in
     e ∙ ap (landing_from spread key i) left ∙ landing_later spread key i (8 - (i + 1)) l
@@ -36,7 +39,8 @@ never spread key i o h e =
     e ∙ ap (landing_from spread key i) left ∙ landing_none spread key i
 
 -- what the machine computes is the test
-pub circle_computed : (a b r : ℤ) → pos 0 ≤ℤ a → a ≤ℤ pos 1000000000000 → pos 0 ≤ℤ b → b ≤ℤ pos 1000000000000 → pos 0 ≤ℤ r → r ≤ℤ pos 1000000000000
+pub circle_computed : (a b r : ℤ) → pos 0 ≤ℤ a → a ≤ℤ pos 1000000000000 → pos 0 ≤ℤ b → b ≤ℤ pos 1000000000000 → pos 0 ≤ℤ r →
+    r ≤ℤ pos 1000000000000
     → int_le (to_z w64 (of_z w64 (to_z w64 (of_z w64 a) +ℤ to_z w64 (of_z w64 b)))) (to_z w64 (of_z w64 r)) ≡ int_le (a +ℤ b) r
 circle_computed a b r a0 a1 b0 b1 r0 r1 =
     let fa : SFits w64 a = wide_fits a (omega (arith, ints)) (omega (arith, ints)) in

@@ -6,5 +6,6 @@ use Rattle.job_cloud.specs.declared.particle.Particle.{Particle}
 use Rattle.job_cloud.specs.declared.best.Best.{Best}
 use Rattle.job_cloud.specs.Meaning.{pulled}
 
-pub pulled_to : (best : Best) (e : Particle) (w : ℕ) → nat_eq (w % 8) 0 ≡ false → pulled (Some best) e w ≡ record { number = e.number; x = towards e.x best.x 3; y = towards e.y best.y 3 }
+pub pulled_to : (best : Best) (e : Particle) (w : ℕ) → nat_eq (w % 8) 0 ≡ false →
+    pulled (Some best) e w ≡ record { number = e.number; x = towards e.x best.x 3; y = towards e.y best.y 3 }
 pulled_to best e w h = rw h refl

@@ -1,5 +1,7 @@
 -- The particle cloud: a random search around a target, after the manner of particle swarms.
-use Rattle.std.specs.Prelude.{ℕ, ℤ, pos, negsuc, ◌+◌, ◌%◌, ◌+ℤ◌, ◌-ℤ◌, List, ◌++◌, length, map, min, Option, None, Some, Result, Ok, Err, Bool, false, ◌&&◌, ◌||◌, not, ◌==◌, if◌then◌else◌, nat_lt, int_lt, unsigned_abs, unwrap_or}
+use Rattle.std.specs.Prelude.{ℕ, ℤ, pos, negsuc, ◌+◌, ◌%◌, ◌+ℤ◌, ◌-ℤ◌, List, ◌++◌, length, map, min}
+use Rattle.std.specs.Prelude.{Option, None, Some, Result, Ok, Err, Bool, false, ◌&&◌, ◌||◌, not}
+use Rattle.std.specs.Prelude.{◌==◌, if◌then◌else◌, nat_lt, int_lt, unsigned_abs, unwrap_or}
 use Rattle.std.proofs.Common.{lit≤}
 use Rattle.std.specs.List.{range_with_len}
 use Rattle.std.specs.Int.{int_min, int_max}
@@ -7,7 +9,8 @@ use Rattle.element_random.specs.Words.{key, word}
 use Rattle.job_trait.specs.declared.answers.Worked.{Worked}
 use Rattle.job_trait.specs.declared.answers.Concluded.{Concluded}
 use Rattle.job_trait.specs.Meaning.{Meaning, Begun, Prepared}
-use Rattle.job_shared.specs.Params.{is_param, natural_param, few_events, natural_least, natural_most, events_few}
+use Rattle.job_shared.specs.Params.{is_param, natural_param, few_events}
+use Rattle.job_shared.proofs.Clamps.{natural_least, natural_most, events_few}
 use Rattle.job_shared.specs.Samples.{newest}
 use Rattle.job_shared.specs.Bytes.{u32_bytes, u64_bytes, i64_bytes}
 use Rattle.job_shared.specs.Filter.{towards}
@@ -19,7 +22,8 @@ use Rattle.job_cloud.specs.declared.job.Finished.{Finished}
 use Rattle.job_cloud.specs.declared.steps.Step.{Step}
 use Rattle.job_cloud.specs.Steps.{landing, step_of, words_drawn}
 
--- parameters: 0 particles, 1 to 65,536; 1 spread, 1 to 1,000,000; 2 reseed, 0 to 1,000,000; 3 far, 0 to 4 * 10^12
+-- parameters: 0 particles, 1 to 65,536; 1 spread, 1 to 1,000,000; 2 reseed, 0 to 1,000,000; 3 far,
+-- 0 to 4 * 10^12
 abbrev pub bad_param : List ℤ → ℕ → Option ℕ
 bad_param ps events =
     if not (is_param ps 0 (pos 1) (pos 65536)) then Some 0
@@ -49,7 +53,11 @@ abbrev pub first_particles : Cloud → List Particle
 first_particles j = map first_particle (range_with_len 0 j.particles)
 
 abbrev pub started : Cloud → ℕ → Begun Finished Particle
-started j seed = record { globals = record { cycles = 0 }; elements = first_particles j; seed = seed }
+started j seed = record {
+  globals = record { cycles = 0 };
+  elements = first_particles j;
+  seed = seed;
+}
 
 -- a negative sample of event 2 refuses the cycle
 abbrev pub is_held : Option ℤ → Bool
@@ -65,7 +73,10 @@ abbrev pub seed_of : Cloud → ℕ → ℕ → ℕ
 seed_of j seed cycle = if reseeds j cycle then word (key seed cycle 255 0) 0 else seed
 
 abbrev pub target_of : List (List ℤ) → Target
-target_of windows = record { tx = unwrap_or (newest windows 0) (pos 0); ty = unwrap_or (newest windows 1) (pos 0) }
+target_of windows = record {
+  tx = unwrap_or (newest windows 0) (pos 0);
+  ty = unwrap_or (newest windows 1) (pos 0);
+}
 
 abbrev pub prepared : Cloud → List (List ℤ) → ℕ → ℕ → Result (Prepared Target) ℕ
 prepared j windows seed cycle =
@@ -82,7 +93,8 @@ moved z by = int_max (negsuc 999999999999) (int_min (pos 1000000000000) (z +ℤ 
 abbrev pub stepped : Particle → Step → Particle
 stepped e s = record { number = e.number; x = moved e.x s.dx; y = moved e.y s.dy }
 
--- an eighth of the way to the best particle; where there is none, and for every eighth word, no way at all
+-- an eighth of the way to the best particle; where there is none, and for every eighth word, no way
+-- at all
 abbrev pub pulled : Option Best → Particle → ℕ → Particle
 pulled None e w = e
 pulled (Some best) e w =
@@ -91,10 +103,17 @@ pulled (Some best) e w =
 
 -- a particle after a pass, by the key of its words
 abbrev pub after_pass : Cloud → Option Best → ℕ → Particle → ℕ → Particle
-after_pass j carry pass e k = if pass == 0 then stepped e (step_of j.spread k (landing j.spread k)) else pulled carry e (word k 0)
+after_pass j carry pass e k =
+    if pass == 0 then stepped e (step_of j.spread k (landing j.spread k))
+    else pulled carry e (word k 0)
 
 abbrev pub best_of : Target → Particle → Best
-best_of target e = record { distance = distance target e.x e.y; number = e.number; x = e.x; y = e.y }
+best_of target e = record {
+  distance = distance target e.x e.y;
+  number = e.number;
+  x = e.x;
+  y = e.y;
+}
 
 abbrev pub placed : Target → Particle → Worked Particle (Option Best)
 placed target e = record { element = e; part = Some (best_of target e) }
@@ -104,7 +123,9 @@ drawn j pass k = if pass == 0 then words_drawn (landing j.spread k) else 1
 
 -- nearer to the target, or as near and of a lesser number
 abbrev pub is_better : Best → Best → Bool
-is_better best other = nat_lt best.distance other.distance || ((best.distance == other.distance) && nat_lt best.number other.number)
+is_better best other =
+    nat_lt best.distance other.distance
+    || ((best.distance == other.distance) && nat_lt best.number other.number)
 
 -- the left one where neither is better
 abbrev pub better : Best → Best → Best
@@ -125,7 +146,8 @@ one_more g = min (g.cycles + 1) 4294967295
 
 abbrev pub best_bytes : Option Best → List ℕ
 best_bytes None = u32_bytes 0 ++ i64_bytes (pos 0) ++ i64_bytes (pos 0) ++ u64_bytes 0
-best_bytes (Some best) = u32_bytes best.number ++ i64_bytes best.x ++ i64_bytes best.y ++ u64_bytes best.distance
+best_bytes (Some best) =
+    u32_bytes best.number ++ i64_bytes best.x ++ i64_bytes best.y ++ u64_bytes best.distance
 
 abbrev pub output : Option Best → ℕ → List ℕ
 output part finished = best_bytes part ++ u32_bytes finished

@@ -1,5 +1,7 @@
--- Random steps inside a circle, by rejection: tries are drawn from the square around it until one lands inside.
-use Rattle.std.specs.Prelude.{ℕ, ℤ, zero, suc, pos, ◌+◌, ◌*◌, ◌%◌, ◌≤◌, ◌+ℤ◌, ◌-ℤ◌, ◌*ℤ◌, Bool, Option, None, Some, if◌then◌else◌, int_le, unsigned_abs}
+-- Random steps inside a circle, by rejection: tries are drawn from the square around it until one
+-- lands inside.
+use Rattle.std.specs.Prelude.{ℕ, ℤ, zero, suc, pos, ◌+◌, ◌*◌, ◌%◌, ◌≤◌, ◌+ℤ◌, ◌-ℤ◌, ◌*ℤ◌, Bool}
+use Rattle.std.specs.Prelude.{Option, None, Some, if◌then◌else◌, int_le, unsigned_abs}
 use Rattle.element_random.specs.Words.{word}
 use Rattle.job_cloud.specs.declared.steps.Step.{Step}
 
@@ -9,7 +11,10 @@ offset spread w = pos (w % (2 * spread + 1)) -ℤ pos spread
 
 -- the try that begins with word number n of a key
 abbrev pub try_of : ℕ → ℕ → ℕ → Step
-try_of spread key n = record { dx = offset spread (word key n); dy = offset spread (word key (n + 1)) }
+try_of spread key n = record {
+  dx = offset spread (word key n);
+  dy = offset spread (word key (n + 1));
+}
 
 -- a step ends inside the circle
 abbrev pub lands : ℕ → Step → Bool
@@ -18,7 +23,9 @@ lands spread s = int_le (s.dx *ℤ s.dx +ℤ s.dy *ℤ s.dy) (pos spread *ℤ po
 -- the first that lands of so many tries, of which the first has the number i; none where none lands
 unfoldable pub landing_from : ℕ → ℕ → ℕ → ℕ → Option ℕ
 landing_from spread key i zero = None
-landing_from spread key i (suc tries) = if lands spread (try_of spread key (2 * i)) then Some i else landing_from spread key (i + 1) tries
+landing_from spread key i (suc tries) =
+    if lands spread (try_of spread key (2 * i)) then Some i
+    else landing_from spread key (i + 1) tries
 
 -- the first that lands of 8 tries
 abbrev pub landing : ℕ → ℕ → Option ℕ

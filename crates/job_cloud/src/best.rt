@@ -1,6 +1,6 @@
 //! The particle that stands nearest to the target.
 
-ghost use Rattle.std.specs.Prelude.{◌≡◌, IfOk};
+ghost use Rattle.std.specs.Prelude.{◌≡◌, [], IfOk};
 ghost use Rattle.job_trait.specs.Laws.{CoverTogether, CoversBoth};
 ghost use Rattle.job_cloud.specs.Meaning.{best_of, is_better, joined, is_far, output};
 ghost use Rattle.job_cloud.specs.Ranges.{IsPlace, IsBestOf, IsPartOf};
@@ -74,8 +74,15 @@ pub(crate) fn is_far(far: u64, part: Option<Best>) -> bool
     }
 }
 
-/// The best particle's number, coordinates and distance, all 0 where there is none, and the number of finished cycles:
-/// 32 bytes.
+/// No bytes yet, and room for those of an output.
+fn room(alloc: Global) -> Result<Bytes, OutOfMemory>
+    ensures { IfOk result (λ bytes. bytes ≡ []) }
+{
+    Ok(Bytes::from_vec(Vec::with_capacity(alloc, 32)?))
+}
+
+/// The best particle's number, coordinates and distance, all 0 where there is none, and the number
+/// of finished cycles: 32 bytes.
 pub(crate) fn output(alloc: Global, part: Option<Best>, finished: u32) -> Result<Bytes, OutOfMemory>
     ensures { IfOk result (λ bytes. bytes ≡ output part finished) }
 {
@@ -88,7 +95,7 @@ pub(crate) fn output(alloc: Global, part: Option<Best>, finished: u32) -> Result
             y: 0,
         },
     };
-    let mut bytes = Bytes::new(alloc);
+    let mut bytes = room(alloc)?;
     bytes.extend_from_slice(&best.number.to_be_bytes())?;
     bytes.extend_from_slice(&best.x.to_be_bytes())?;
     bytes.extend_from_slice(&best.y.to_be_bytes())?;

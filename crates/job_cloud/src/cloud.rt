@@ -22,10 +22,12 @@ pub struct Cloud {
 impl Cloud {
     ghost use Rattle.job_cloud.specs.Meaning.{bad_param, made, reseeds};
 
-    /// The cloud of these parameters: particles, 1 to 65,536, spread, 1 to 1,000,000, reseed, 0 to 1,000,000, and far,
-    /// 0 to 4,000,000,000,000.
+    /// The cloud of these parameters: particles, 1 to 65,536, spread, 1 to 1,000,000, reseed, 0 to
+    /// 1,000,000, and far, 0 to 4,000,000,000,000.
     pub(crate) fn of_params(params: &[i64], events: u16) -> Result<Cloud, BadParam>
-        ensures { MatchResult result (λ job. (bad_param params.now events ≡ None) × (job ≡ made params.now events)) (λ bad. bad_param params.now events ≡ Some bad.index) }
+        ensures { MatchResult result
+            (λ job. (bad_param params.now events ≡ None) × (job ≡ made params.now events))
+            (λ bad. bad_param params.now events ≡ Some bad.index) }
     {
         let particles = natural_param(params, 0, 1, 65536)?;
         let spread = natural_param(params, 1, 1, 1_000_000)?;

@@ -11,14 +11,14 @@ ghost use Rattle.job_cloud.specs.Steps.{landing, step_of, words_drawn};
 ghost use Rattle.job_cloud.specs.Ranges.{IsPlace, Own, IsPartOf};
 
 use crate::best::{best_of, is_far, joined, output};
-use crate::particle::{element_bytes, first_particles, moved};
+use crate::particle::{first_particles, moved, put_particle};
 use crate::steps::random_step;
 use crate::{Best, Cloud, Particle, Target};
-use job_shared::{newest, towards};
-use det_values::{Bytes64, OutOfMemory, Params};
 use det_client::Client;
+use det_values::{Container, OutOfMemory, Params};
 use element_random::ElementRandom;
 use event_cache::EventCache;
+use job_shared::{newest, towards};
 use job_trait::{BadParam, Concluded, Job, JobFault, Started, Worked};
 use std::alloc::Global;
 
@@ -64,8 +64,12 @@ fn reseed(cloud: &Cloud, client: &mut Client)
 /// A particle after a random step.
 fn stepped(cloud: &Cloud, particle: &Particle, random: &mut ElementRandom) -> Particle
     requires { Own cloud.now particle.now }
-    ensures particle { (key : ℕ) → StandsFor random.old key 0 → result ≡ stepped particle.now (step_of cloud.now.spread key (landing cloud.now.spread key)) }
-    ensures draws { (key : ℕ) → StandsFor random.old key 0 → random.new.draws ≡ words_drawn (landing cloud.now.spread key) }
+    ensures particle { let spread = cloud.now.spread in
+        (key : ℕ) → StandsFor random.old key 0
+        → result ≡ stepped particle.now (step_of spread key (landing spread key)) }
+    ensures draws { let spread = cloud.now.spread in
+        (key : ℕ) → StandsFor random.old key 0
+        → random.new.draws ≡ words_drawn (landing spread key) }
     ensures own { Own cloud.now result }
 {
     let step = random_step(cloud.spread, random);
@@ -85,7 +89,8 @@ fn pulled(
 ) -> Particle
     requires own { Own cloud.now particle.now }
     requires carry { CoversSome IsPartOf carry }
-    ensures particle { (key : ℕ) → StandsFor random.old key 0 → result ≡ pulled carry particle.now (word key 0) }
+    ensures particle { (key : ℕ) → StandsFor random.old key 0
+        → result ≡ pulled carry particle.now (word key 0) }
     ensures draws { (key : ℕ) → StandsFor random.old key 0 → random.new.draws ≡ 1 }
     ensures own { Own cloud.now result }
 {
@@ -149,7 +154,7 @@ impl Job for Cloud {
         &self,
         _alloc: Global,
         _globals: &Finished,
-        _elements: &[Particle],
+        _elements: &Container<Particle>,
         cache: &EventCache,
         client: &mut Client,
     ) -> Result<Target, JobFault> {
@@ -194,8 +199,9 @@ impl Job for Cloud {
         Ok(joined(left, right))
     }
 
-    fn element_bytes(&self, element: &Particle) -> Bytes64 {
-        element_bytes(element)
+    #[inline(always)]
+    fn put_element(&self, element: &Particle, out: &mut Vec<u8>) -> Result<(), OutOfMemory> {
+        put_particle(element, out)
     }
 
     fn conclude(

@@ -1,13 +1,14 @@
 //! Particles, and where they stand.
 
-ghost use Rattle.std.specs.Prelude.{◌≡◌, ◌<◌, ◌≤◌, IfOk, length};
+ghost use Rattle.std.specs.Prelude.{◌≡◌, ◌<◌, ◌≤◌, ◌++◌, IfOk, OnOk, length};
 ghost use Rattle.std.specs.List.{All};
 ghost use Rattle.det_values.specs.Limits.{IsSampleValue};
+ghost use Rattle.det_values.specs.Spelling.{Grows};
 ghost use Rattle.job_cloud.specs.Meaning.{first_particles, distance, moved, shown};
 ghost use Rattle.job_cloud.specs.Ranges.{Own, IsPlace};
 
 use crate::Cloud;
-use det_values::{Bytes64, Container, OutOfMemory};
+use det_values::{Container, OutOfMemory};
 use std::alloc::Global;
 
 /// A particle: its number, and its coordinates, from -10^12 to 10^12.
@@ -34,9 +35,9 @@ pub(crate) fn first_particles(
     ensures own { IfOk result (All (Own cloud.now)) }
     ensures few { IfOk result (λ particles. length particles ≤ 65536) }
 {
-    let mut particles = Container::new(alloc);
+    let mut particles = Container::with_room(alloc, cloud.particles as usize)?;
     for number in 0..cloud.particles {
-        particles.push(Particle { number, x: 0, y: 0 })?;
+        particles.push(alloc, Particle { number, x: 0, y: 0 })?;
     }
     Ok(particles)
 }
@@ -61,13 +62,24 @@ pub(crate) fn moved(coordinate: i64, by: i64) -> i64
     (coordinate + by).clamp(-1_000_000_000_000, 1_000_000_000_000)
 }
 
-/// Number and coordinates, 20 bytes.
-pub(crate) fn element_bytes(particle: &Particle) -> Bytes64
+/// Number and coordinates.
+#[inline(always)]
+fn bytes_of(particle: &Particle) -> [u8; 20]
     ensures { result ≡ shown particle.now }
 {
     let mut bytes = [0; 20];
     bytes[..4].copy_from_slice(&particle.number.to_be_bytes());
     bytes[4..12].copy_from_slice(&particle.x.to_be_bytes());
     bytes[12..].copy_from_slice(&particle.y.to_be_bytes());
-    Bytes64::of(&bytes)
+    bytes
+}
+
+/// Appends number and coordinates.
+#[inline(always)]
+pub(crate) fn put_particle(particle: &Particle, out: &mut Vec<u8>) -> Result<(), OutOfMemory>
+    ensures ok { OnOk result (out.new.items ≡ out.old.items ++ shown particle.now) }
+    ensures grows { Grows out.old.items out.new.items }
+{
+    out.extend_from_slice(&bytes_of(particle))?;
+    Ok(())
 }

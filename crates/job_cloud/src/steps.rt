@@ -2,7 +2,8 @@
 
 ghost use Rattle.std.specs.Prelude.{◌≡◌, ℕ, ℤ, ◌+◌, ◌*◌, ◌≤◌, ◌*ℤ◌, ◌≤ℤ◌, pos, unsigned_abs};
 ghost use Rattle.element_random.specs.Words.{StandsFor, word};
-ghost use Rattle.job_cloud.specs.Steps.{offset, lands, try_of, step_of, landing, words_drawn, IsStep};
+ghost use Rattle.job_cloud.specs.Steps.{offset, lands, try_of, step_of, landing, words_drawn};
+ghost use Rattle.job_cloud.specs.Steps.{IsStep};
 
 use element_random::ElementRandom;
 
@@ -59,8 +60,10 @@ fn try_once(spread: u32, random: &mut ElementRandom) -> Step
 /// The first of at most 8 tries that ends inside the circle; no step where none does.
 pub(crate) fn random_step(spread: u32, random: &mut ElementRandom) -> Step
     requires { spread ≤ 1000000 }
-    ensures step { (key : ℕ) → StandsFor random.old key 0 → result ≡ step_of spread key (landing spread key) }
-    ensures draws { (key : ℕ) → StandsFor random.old key 0 → random.new.draws ≡ words_drawn (landing spread key) }
+    ensures step { (key : ℕ) → StandsFor random.old key 0
+        → result ≡ step_of spread key (landing spread key) }
+    ensures draws { (key : ℕ) → StandsFor random.old key 0
+        → random.new.draws ≡ words_drawn (landing spread key) }
     ensures limits { IsStep result }
 {
     for _ in 0..8u32 {

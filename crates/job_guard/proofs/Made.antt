@@ -1,5 +1,6 @@
 -- Good parameters, and when two guards are the same.
-use Rattle.std.proofs.Common.{◌≡◌, ◌≤◌, ◌<◌, ℕ, ℤ, List, pos, negsuc, Bool, true, false, not, cond, Option, Some, None, length, ap, ◌∙◌, arith}
+use Rattle.std.proofs.Common.{◌≡◌, ◌≤◌, ◌<◌, ℕ, ℤ, List, pos, negsuc, Bool, true, false, not, cond, Option, Some, None, length, ap, ◌∙◌}
+use Rattle.std.proofs.Common.{arith}
 use Rattle.std.proofs.Props.{props}
 use mathlib.Core.HLevel.{is_prop→PathP}
 use Rattle.std.specs.Prelude.{nat_lt}
@@ -17,7 +18,8 @@ pub record AreGood (ps : List ℤ) : Type 0 where
   pub most : is_param ps 4 (pos 0) (pos 65536) ≡ true
 
 last_by : (a b c d e f : Bool) → a ≡ true → b ≡ true → c ≡ true → d ≡ true → e ≡ true
-    → cond {A = Option ℕ} (not a) (Some 0) (cond (not b) (Some 1) (cond (not c) (Some 2) (cond (not d) (Some 3) (cond (not e) (Some 4) (cond f (Some 5) None))))) ≡ cond f (Some 5) None
+    → cond {A = Option ℕ} (not a) (Some 0) (cond (not b) (Some 1)
+    (cond (not c) (Some 2) (cond (not d) (Some 3) (cond (not e) (Some 4) (cond f (Some 5) None))))) ≡ cond f (Some 5) None
 last_by a b c d e f p q r s t = rw (p, q, r, s, t)
 
 last : (ps : List ℤ) (events : ℕ) → AreGood ps → bad_param ps events ≡ cond (nat_lt 5 (length ps)) (Some 5) None
@@ -36,11 +38,23 @@ surplus_bad ps events h many =
 le-prop : (n m : ℕ) → IsProp (n ≤ m)
 le-prop n m = hlevel props
 
-pub same_guard : (a b : Guard) → a.channels ≡ b.channels → a.bounds ≡ b.bounds → a.limit ≡ b.limit → a.most ≡ b.most → a.events ≡ b.events → a ≡ b
+pub same_guard : (a b : Guard) → a.channels ≡ b.channels → a.bounds ≡ b.bounds → a.limit ≡ b.limit → a.most ≡ b.most →
+    a.events ≡ b.events → a ≡ b
 same_guard a b c r l m e =
     let few = is_prop→PathP (λ i. c i ≤ 65536) (λ i. le-prop (c i) 65536) a.few b.few in
     let positive = is_prop→PathP (λ i. 1 ≤ l i) (λ i. le-prop 1 (l i)) a.positive b.positive in
     let small = is_prop→PathP (λ i. l i ≤ 1000) (λ i. le-prop (l i) 1000) a.small b.small in
     let bounded = is_prop→PathP (λ i. m i ≤ 65536) (λ i. le-prop (m i) 65536) a.bounded b.bounded in
     let short = is_prop→PathP (λ i. e i ≤ 65535) (λ i. le-prop (e i) 65535) a.short b.short in
-    λ i. record { channels = c i; bounds = r i; limit = l i; most = m i; events = e i; few = few i; positive = positive i; small = small i; bounded = bounded i; short = short i }
+    λ i. record {
+      channels = c i;
+      bounds = r i;
+      limit = l i;
+      most = m i;
+      events = e i;
+      few = few i;
+      positive = positive i;
+      small = small i;
+      bounded = bounded i;
+      short = short i;
+    }

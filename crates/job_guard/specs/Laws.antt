@@ -1,6 +1,8 @@
 -- The guard keeps the laws of a job.
-use Rattle.std.proofs.Common.{◌≡◌, ℕ, ℤ, ◌+◌, ◌*◌, ◌%◌, ◌<◌, ◌≤◌, List, [], ◌∷◌, take, drop, length, Option, None, Some, Result, Ok, Err, Bool, true, false, cond, ltb, refl, ap, sym, subst, append_assoc, length-append, arith}
-use Rattle.std.specs.Prelude.{nat_eq, nat_le}
+use Rattle.std.proofs.Common.{◌≡◌, ℕ, ℤ, ◌+◌, ◌*◌, ◌<◌, ◌≤◌, List, [], ◌∷◌, take, drop, length}
+use Rattle.std.proofs.Common.{Option, None, Some, Result, Ok, Err, Bool, true, false, cond, ltb}
+use Rattle.std.proofs.Common.{refl, ap, sym, ◌∙◌, subst, append_assoc, length-append, arith}
+use Rattle.std.specs.Prelude.{nat_le}
 use Rattle.std.specs.List.{All}
 use Rattle.std.proofs.lemmas.List.{append-nil}
 use Rattle.std.proofs.lemmas.List.FromFn.{length-map-range_with_len}
@@ -10,7 +12,7 @@ use Rattle.job_trait.specs.declared.answers.Worked.{Worked}
 use Rattle.job_trait.specs.declared.answers.Concluded.{Concluded}
 use Rattle.job_trait.specs.Meaning.{Prepared}
 use Rattle.job_trait.specs.Laws.{JobLaws, CoversBoth}
-use Rattle.job_shared.specs.Samples.{sample_of, IsSample, AreSamples}
+use Rattle.job_shared.specs.Samples.{IsSample, AreSamples}
 use Rattle.job_shared.proofs.Answered.{ok_same}
 use Rattle.job_shared.proofs.Apart.{u16_bytes-apart, u32_bytes-apart, i64_bytes-apart}
 use Rattle.job_shared.proofs.Made.{made_all}
@@ -20,52 +22,76 @@ use Rattle.job_guard.specs.declared.channel.Channel.{Channel}
 use Rattle.job_guard.specs.declared.job.Total.{Total}
 use Rattle.job_guard.specs.declared.job.Plan.{Plan}
 use Rattle.job_guard.specs.Bounds.{contains}
-use Rattle.job_guard.specs.Meaning.{meaning, first_channel, first_channels, reading, judged, joined, number_bytes, next_bytes, output, total_after, shown}
+use Rattle.job_guard.specs.Meaning.{meaning, first_channel, first_channels, event_of, reading}
+use Rattle.job_guard.specs.Meaning.{judged, joined, number_bytes, next_bytes, output, total_after}
+use Rattle.job_guard.specs.Meaning.{shown}
 use Rattle.job_guard.specs.Ranges.{Own, Fit, IsPartOf, Covers}
 
 -- what holds of each answer of a choice holds of the answer
-chosen : (P : Worked Channel (List ℕ) → Type 0) (b c : Bool) (x y w : Worked Channel (List ℕ)) → P x → (c ≡ false → P y)
-    → ◌≡◌ {A = Result (Worked Channel (List ℕ)) ℕ} (cond b (Ok x) (cond c (Err 1) (Ok y))) (Ok w) → P w
+chosen : (P : Worked Channel (List ℕ) → Type 0) (b c : Bool) (x y w : Worked Channel (List ℕ)) →
+    P x → (c ≡ false → P y)
+    → ◌≡◌ {A = Result (Worked Channel (List ℕ)) ℕ} (cond b (Ok x) (cond c (Err 1) (Ok y))) (Ok w)
+    → P w
 chosen P true c x y w px py h = subst P (ok_same x w h) px
 chosen P false true x y w px py h = cc
 chosen P false false x y w px py h = subst P (ok_same y w h) (py refl)
 
-part_judged : (j : Guard) (e : Channel) (r : Option ℤ) (w : Worked Channel (List ℕ)) → judged j e r ≡ Ok w → IsPartOf w.part 1
-part_judged j e None w h = subst (λ (x : Worked Channel (List ℕ)). IsPartOf x.part 1) (ok_same _ w h) (record { most = omega arith; few = omega arith })
+part_judged : (j : Guard) (e : Channel) (r : Option ℤ) (w : Worked Channel (List ℕ)) →
+    judged j e r ≡ Ok w → IsPartOf w.part 1
+part_judged j e None w h =
+    subst (λ (x : Worked Channel (List ℕ)). IsPartOf x.part 1) (ok_same _ w h)
+    (record { most = omega arith; few = omega arith })
 part_judged j e (Some v) w h =
-    chosen (λ x. IsPartOf x.part 1) (contains j.bounds v) (nat_le j.limit (e.streak + 1)) _ _ w (record { most = omega arith; few = omega arith }) (λ _. record { most = omega arith; few = omega arith }) h
+    chosen (λ x. IsPartOf x.part 1) (contains j.bounds v) (nat_le j.limit (e.streak + 1)) _ _ w
+    (record { most = omega arith; few = omega arith })
+    (λ _. record { most = omega arith; few = omega arith }) h
 
-own_judged : (j : Guard) (e : Channel) (r : Option ℤ) (w : Worked Channel (List ℕ)) → IsSample r → Own j e → judged j e r ≡ Ok w → Own j w.element
-own_judged j e None w ok own h = subst (λ (x : Worked Channel (List ℕ)). Own j x.element) (ok_same _ w h) own
+own_judged : (j : Guard) (e : Channel) (r : Option ℤ) (w : Worked Channel (List ℕ)) → IsSample r →
+    Own j e → judged j e r ≡ Ok w → Own j w.element
+own_judged j e None w ok own h =
+    subst (λ (x : Worked Channel (List ℕ)). Own j x.element) (ok_same _ w h) own
 own_judged j e (Some v) w ok own h =
     let positive : 1 ≤ j.limit = j.positive in
     chosen (λ x. Own j x.element) (contains j.bounds v) (nat_le j.limit (e.streak + 1)) _ _ w
-    (record { number = own.number; held = ok; streak = omega arith })
-    (λ below. record { number = own.number; held = own.held; streak = grind (arith, nat_tests, below) })
+    (record { number = own.number; event = own.event; held = ok; streak = omega arith })
+    (λ below. record {
+      number = own.number;
+      event = own.event;
+      held = own.held;
+      streak = grind (arith, nat_tests, below);
+    })
     h
 
-reading_by : (b : Bool) (samples : List (Option ℤ)) (event : ℕ) → IsSample (sample_of samples event) → IsSample (cond b None (sample_of samples event))
-reading_by true samples event h = tt
-reading_by false samples event h = h
+pub reading_ok : (j : Guard) (samples : List (Option ℤ)) (e : Channel) →
+    AreSamples j.events samples → IsSample (reading samples e)
+reading_ok j samples e fit = sample_ok j.events samples e.event fit
 
-pub reading_ok : (j : Guard) (samples : List (Option ℤ)) (e : Channel) → AreSamples j.events samples → IsSample (reading j samples e)
-reading_ok j samples e fit = reading_by (nat_eq j.events 0) samples (e.number % j.events) (sample_ok j.events samples (e.number % j.events) fit)
-
-own_first : (j : Guard) (i : ℕ) → i < j.channels → Own j (first_channel i)
-own_first j i h = let positive : 1 ≤ j.limit = j.positive in record { number = h; held = (omega (arith, ints), omega (arith, ints)); streak = omega arith }
+own_first : (j : Guard) (i : ℕ) → i < j.channels → Own j (first_channel j i)
+own_first j i h = let positive : 1 ≤ j.limit = j.positive in
+    record {
+      number = h;
+      event = refl;
+      held = (omega (arith, ints), omega (arith, ints));
+      streak = omega arith;
+    }
 
 pub own_all_first : (j : Guard) → All (Own j) (first_channels j)
-own_all_first j = made_all (Own j) first_channel j.channels (own_first j)
+own_all_first j = made_all (Own j) (first_channel j) j.channels (own_first j)
 
 few_first : (j : Guard) → length (first_channels j) ≤ 65536
-few_first j = rw (length-map-range_with_len first_channel 0 j.channels) j.few
+few_first j = rw (length-map-range_with_len (first_channel j) 0 j.channels) j.few
 
-part_joined : (left right : List ℕ) (a b : ℕ) → IsPartOf left a → IsPartOf right b → a + b ≤ 65536 → IsPartOf (joined left right) (a + b)
-part_joined left right a b h k few = let x = h.most in let y = k.most in record { most = omega (arith, length-append left right); few = few }
+part_joined : (left right : List ℕ) (a b : ℕ) → IsPartOf left a → IsPartOf right b →
+    a + b ≤ 65536 → IsPartOf (joined left right) (a + b)
+part_joined left right a b h k few = let x = h.most in let y = k.most in
+    record { most = omega (arith, length-append left right); few = few }
 
-pub parts_joined : (left right whole : List ℕ) → whole ≡ joined left right → CoversBoth IsPartOf left right whole
+pub parts_joined : (left right whole : List ℕ) → whole ≡ joined left right →
+    CoversBoth IsPartOf left right whole
 parts_joined left right whole e a b n sum few h k =
-    subst (λ (m : ℕ). IsPartOf whole m) (sym sum) (subst (λ (p : List ℕ). IsPartOf p (a + b)) (sym e) (part_joined left right a b h k (omega arith)))
+    subst (λ (m : ℕ). IsPartOf whole m) (sym sum)
+    (subst (λ (p : List ℕ). IsPartOf p (a + b)) (sym e)
+    (part_joined left right a b h k (omega arith)))
 
 pub length-number_bytes : (ns : List ℕ) → length (number_bytes ns) ≡ 4 * length ns
 length-number_bytes [] = refl
@@ -75,29 +101,40 @@ length-next_bytes : (next : Option ℕ) → length (next_bytes next) ≤ 9
 length-next_bytes None = omega arith
 length-next_bytes (Some t) = omega arith
 
-length-output : (total : ℕ) (part : List ℕ) (next : Option ℕ) → length part ≤ 65536 → length (output total part next) ≤ 1048576
+length-output : (total : ℕ) (part : List ℕ) (next : Option ℕ) → length part ≤ 65536 →
+    length (output total part next) ≤ 1048576
 length-output total part next few =
     let numbers = length-number_bytes part in
     let last = length-next_bytes next in
     omega (arith, length-append (number_bytes part) (next_bytes next))
 
-output_by : (b : Bool) (j : Guard) (g : Total) (plan : Plan) (part : List ℕ) (d : Concluded Total) → b ≡ ltb j.most (length part)
-    → ◌≡◌ {A = Result (Concluded Total) ℕ} (cond b (Err 2) (Ok (record { globals = record { corrections = total_after g part }; output = output (total_after g part) part plan.next }))) (Ok d)
+output_by : (b : Bool) (j : Guard) (g : Total) (plan : Plan) (part : List ℕ) (d : Concluded Total) →
+    b ≡ ltb j.most (length part)
+    → ◌≡◌ {A = Result (Concluded Total) ℕ} (cond b (Err 2)
+    (Ok (record {
+      globals = record { corrections = total_after g part };
+      output = output (total_after g part) part plan.next;
+    }))) (Ok d)
     → length d.output ≤ 1048576
 output_by true j g plan part d e h = cc
 output_by false j g plan part d e h =
     let most : j.most ≤ 65536 = j.bounded in
-    subst (λ (x : Concluded Total). length x.output ≤ 1048576) (ok_same _ d h) (length-output (total_after g part) part plan.next (grind (arith, nat_tests)))
+    subst (λ (x : Concluded Total). length x.output ≤ 1048576) (ok_same _ d h)
+    (length-output (total_after g part) part plan.next (grind (arith, nat_tests)))
 
 apart : (j : Guard) (a b : Channel) → Own j a → Own j b → shown a ≡ shown b → a ≡ b
 apart j a b p q e =
     let few : j.channels ≤ 65536 = j.few in
     let small : j.limit ≤ 1000 = j.small in
     let m = p.number in let n = q.number in let s = p.streak in let t = q.streak in
-    let number : a.number ≡ b.number = u32_bytes-apart a.number b.number (omega arith) (omega arith) (ap (take 4) e) in
-    let held : a.held ≡ b.held = i64_bytes-apart a.held b.held p.held q.held (ap (λ xs. take 8 (drop 4 xs)) e) in
-    let streak : a.streak ≡ b.streak = u16_bytes-apart a.streak b.streak (omega arith) (omega arith) (ap (drop 12) e) in
-    λ i. record { number = number i; held = held i; streak = streak i }
+    let number : a.number ≡ b.number =
+    u32_bytes-apart a.number b.number (omega arith) (omega arith) (ap (take 4) e) in
+    let event : a.event ≡ b.event = p.event ∙ ap (event_of j) number ∙ sym q.event in
+    let held : a.held ≡ b.held =
+    i64_bytes-apart a.held b.held p.held q.held (ap (λ xs. take 8 (drop 4 xs)) e) in
+    let streak : a.streak ≡ b.streak =
+    u16_bytes-apart a.streak b.streak (omega arith) (omega arith) (ap (drop 12) e) in
+    λ i. record { number = number i; event = event i; held = held i; streak = streak i }
 
 pub guard_laws : JobLaws meaning Covers Own Fit
 guard_laws = record {
@@ -107,14 +144,19 @@ guard_laws = record {
   right_unit = λ j p. append-nil p;
   covers_few = λ j p n h. h.few;
   covers_unit = λ j. record { most = omega arith; few = omega arith };
-  covers_run = λ j plan carry pass e key w fit own below carried h. part_judged j e (reading j plan.samples e) w h;
+  covers_run = λ j plan carry pass e key w fit own below carried h. part_judged j e
+      (reading plan.samples e) w h;
   covers_joined = λ j left right a b h k few. part_joined left right a b h k few;
-  own_run = λ j plan carry pass e key w fit own below carried h. own_judged j e (reading j plan.samples e) w (reading_ok j plan.samples e fit) own h;
+  own_run = λ j plan carry pass e key w fit own below carried h. own_judged j e
+      (reading plan.samples e) w (reading_ok j plan.samples e fit) own h;
   own_started = λ j seed. own_all_first j;
-  fit_prepared = λ j globals es windows seed cycle time next p own few ws h. subst (λ (x : Prepared Plan). Fit j x.plan) (ok_same _ _ h) (newest_are_samples j.events windows ws);
+  fit_prepared = λ j globals es windows seed cycle time next p own few ws h. subst
+      (λ (x : Prepared Plan). Fit j x.plan) (ok_same _ _ h)
+      (newest_are_samples j.events windows ws);
   shown_few = λ j e own. omega arith;
   shown_apart = λ j a b p q e. apart j a b p q e;
-  output_few = λ j globals plan part d h. output_by (ltb j.most (length part)) j globals plan part d refl h;
+  output_few = λ j globals plan part d h. output_by (ltb j.most (length part)) j globals plan part d
+      refl h;
   few_started = λ j seed. few_first j;
   fit_passes = λ j plan fit. (omega arith, omega arith);
   drawn_few = λ j plan carry pass e key. omega arith;

@@ -1,13 +1,15 @@
 -- The guard's own channels and fit plans, and what a part covers.
-use Rattle.std.specs.Prelude.{ℕ, ◌<◌, ◌≤◌, List, length}
+use Rattle.std.specs.Prelude.{◌≡◌, ℕ, ◌<◌, ◌≤◌, List, length}
 use Rattle.det_values.specs.Limits.{IsSampleValue}
 use Rattle.job_shared.specs.Samples.{AreSamples}
 use Rattle.job_guard.specs.declared.guard.Guard.{Guard}
 use Rattle.job_guard.specs.declared.channel.Channel.{Channel}
 use Rattle.job_guard.specs.declared.job.Plan.{Plan}
+use Rattle.job_guard.specs.Meaning.{event_of}
 
 pub record Own (j : Guard) (e : Channel) : Type 0 where
   pub number : e.number < j.channels
+  pub event : e.event ≡ event_of j e.number
   pub held : IsSampleValue e.held
   pub streak : e.streak < j.limit
 

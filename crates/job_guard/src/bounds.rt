@@ -33,8 +33,10 @@ impl Bounds {
 /// Parameter 2, the upper bound: from the lower one to 10^12.
 pub(crate) fn high_param(params: &[i64], low: i64) -> Result<i64, BadParam>
     requires { low ≡ param params.now 1 }
-    ensures ok { IfOk result (λ z. (is_param params.now 2 (param params.now 1) (pos 1000000000000) ≡ true) × (z ≡ param params.now 2)) }
-    ensures err { IfErr result (λ bad. (is_param params.now 2 (param params.now 1) (pos 1000000000000) ≡ false) × (bad.index ≡ 2)) }
+    ensures ok { let good = is_param params.now 2 (param params.now 1) (pos 1000000000000) in
+        IfOk result (λ z. (good ≡ true) × (z ≡ param params.now 2)) }
+    ensures err { let good = is_param params.now 2 (param params.now 1) (pos 1000000000000) in
+        IfErr result (λ bad. (good ≡ false) × (bad.index ≡ 2)) }
 {
     whole_param(params, 2, low, 1_000_000_000_000)
 }

@@ -1,22 +1,25 @@
 //! Channels, and what a sample makes of them.
 
-ghost use Rattle.std.specs.Prelude.{◌≡◌, ◌≤◌, IfOk, length};
+ghost use Rattle.std.specs.Prelude.{◌≡◌, ◌≤◌, ◌++◌, IfOk, OnOk, length};
 ghost use Rattle.std.specs.List.{All};
+ghost use Rattle.det_values.specs.Spelling.{Grows};
 ghost use Rattle.job_shared.specs.Samples.{IsSample};
 ghost use Rattle.job_trait.specs.Meaning.{Agrees};
-ghost use Rattle.job_guard.specs.Meaning.{first_channels, reading, corrected, judged, shown};
+ghost use Rattle.job_guard.specs.Meaning.{first_channels, reading, corrected, holding, judged, shown};
 ghost use Rattle.job_guard.specs.Ranges.{Own, IsPartOf};
 
 use crate::{Corrections, Guard};
+use det_values::{Container, OutOfMemory};
 use job_shared::{NewestSamples, sample_of};
-use det_values::{Bytes64, Container, OutOfMemory};
 use job_trait::{JobFault, Worked};
 use std::alloc::Global;
 
-/// A channel: its number, the value that it holds, from -10^12 to 10^12, and how often in a row it was corrected.
+/// A channel: its number and its event, the value that it holds, from -10^12 to 10^12, and how
+/// often in a row it was corrected.
 #[derive(Clone, Copy, Debug, PartialEq, Eq, Drop)]
 pub struct Channel {
     pub(crate) number: u32,
+    pub(crate) event: u16,
     pub(crate) held: i64,
     pub(crate) streak: u16,
 }
@@ -30,27 +33,26 @@ pub(crate) fn first_channels(
     ensures own { IfOk result (All (Own guard.now)) }
     ensures few { IfOk result (λ channels. length channels ≤ 65536) }
 {
-    let mut channels = Container::new(alloc);
+    let mut channels = Container::with_room(alloc, guard.channels as usize)?;
     for number in 0..guard.channels {
-        channels.push(Channel {
+        let event = guard.event_of(number);
+        let channel = Channel {
             number,
+            event,
             held: 0,
             streak: 0,
-        })?;
+        };
+        channels.push(alloc, channel)?;
     }
     Ok(channels)
 }
 
 /// What a channel reads: the newest sample of its event.
 #[inline(always)]
-pub(crate) fn reading(guard: &Guard, samples: &NewestSamples, channel: &Channel) -> Option<i64>
-    ensures { result ≡ reading guard.now samples.now channel.now }
+pub(crate) fn reading(samples: &NewestSamples, channel: &Channel) -> Option<i64>
+    ensures { result ≡ reading samples.now channel.now }
 {
-    if guard.events == 0 {
-        None
-    } else {
-        sample_of(samples, channel.number % u32::from(guard.events))
-    }
+    sample_of(samples, u32::from(channel.event))
 }
 
 /// A channel that goes on holding its value.
@@ -63,6 +65,7 @@ fn corrected(alloc: Global, channel: &Channel) -> Result<Worked<Channel, Correct
     Ok(Worked {
         element: Channel {
             number: channel.number,
+            event: channel.event,
             held: channel.held,
             streak: channel.streak + 1,
         },
@@ -70,7 +73,24 @@ fn corrected(alloc: Global, channel: &Channel) -> Result<Worked<Channel, Correct
     })
 }
 
-/// A channel after a reading. It refuses with code 1 where it would have to be corrected once too often.
+/// A channel that holds a reading.
+#[inline(always)]
+fn holding(alloc: Global, channel: &Channel, value: i64) -> Worked<Channel, Corrections>
+    ensures { result ≡ holding channel.now value }
+{
+    Worked {
+        element: Channel {
+            number: channel.number,
+            event: channel.event,
+            held: value,
+            streak: 0,
+        },
+        part: Corrections::new(alloc),
+    }
+}
+
+/// A channel after a reading. It refuses with code 1 where it would have to be corrected once too
+/// often.
 #[inline(always)]
 pub(crate) fn judged(
     alloc: Global,
@@ -91,14 +111,7 @@ pub(crate) fn judged(
         }),
         Some(value) => {
             if guard.bounds.contains(value) {
-                Ok(Worked {
-                    element: Channel {
-                        number: channel.number,
-                        held: value,
-                        streak: 0,
-                    },
-                    part: Corrections::new(alloc),
-                })
+                Ok(holding(alloc, channel, value))
             } else if channel.streak + 1 >= guard.limit {
                 Err(JobFault::Code(1))
             } else {
@@ -108,13 +121,24 @@ pub(crate) fn judged(
     }
 }
 
-/// Number, held value and streak, 14 bytes.
-pub(crate) fn element_bytes(channel: &Channel) -> Bytes64
+/// Number, held value and streak.
+#[inline(always)]
+fn bytes_of(channel: &Channel) -> [u8; 14]
     ensures { result ≡ shown channel.now }
 {
     let mut bytes = [0; 14];
     bytes[..4].copy_from_slice(&channel.number.to_be_bytes());
     bytes[4..12].copy_from_slice(&channel.held.to_be_bytes());
     bytes[12..].copy_from_slice(&channel.streak.to_be_bytes());
-    Bytes64::of(&bytes)
+    bytes
+}
+
+/// Appends number, held value and streak. The event follows from the number.
+#[inline(always)]
+pub(crate) fn put_channel(channel: &Channel, out: &mut Vec<u8>) -> Result<(), OutOfMemory>
+    ensures ok { OnOk result (out.new.items ≡ out.old.items ++ shown channel.now) }
+    ensures grows { Grows out.old.items out.new.items }
+{
+    out.extend_from_slice(&bytes_of(channel))?;
+    Ok(())
 }

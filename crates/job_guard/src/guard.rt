@@ -22,12 +22,14 @@ pub struct Guard {
 }
 
 impl Guard {
-    ghost use Rattle.job_guard.specs.Meaning.{bad_param, made};
+    ghost use Rattle.job_guard.specs.Meaning.{bad_param, made, event_of};
 
-    /// The guard of these parameters: channels, 1 to 65,536, low, -10^12 to 10^12, high, low to 10^12, limit, 1 to
-    /// 1,000, and most, 0 to 65,536.
+    /// The guard of these parameters: channels, 1 to 65,536, low, -10^12 to 10^12, high, low to
+    /// 10^12, limit, 1 to 1,000, and most, 0 to 65,536.
     pub(crate) fn of_params(params: &[i64], events: u16) -> Result<Guard, BadParam>
-        ensures { MatchResult result (λ job. (bad_param params.now events ≡ None) × (job ≡ made params.now events)) (λ bad. bad_param params.now events ≡ Some bad.index) }
+        ensures { MatchResult result
+            (λ job. (bad_param params.now events ≡ None) × (job ≡ made params.now events))
+            (λ bad. bad_param params.now events ≡ Some bad.index) }
     {
         let channels = natural_param(params, 0, 1, 65536)?;
         let low = whole_param(params, 1, -1_000_000_000_000, 1_000_000_000_000)?;
@@ -42,5 +44,16 @@ impl Guard {
             most,
             events,
         })
+    }
+
+    /// The event of a channel; 0 where there are none.
+    pub(crate) fn event_of(&self, channel: u32) -> u16
+        ensures { result ≡ event_of self.now channel }
+    {
+        if self.events == 0 {
+            0
+        } else {
+            (channel % u32::from(self.events)) as u16
+        }
     }
 }

@@ -6,14 +6,14 @@ ghost use Rattle.job_trait.specs.Laws.{CoverTogether, CoversBoth};
 ghost use Rattle.job_guard.specs.Meaning.{joined};
 ghost use Rattle.job_guard.specs.Ranges.{IsPartOf};
 
-use crate::channel::{element_bytes, first_channels, judged, reading};
+use crate::channel::{first_channels, judged, put_channel, reading};
 use crate::report::output;
 use crate::{Channel, Guard};
-use job_shared::{NewestSamples, newest_samples};
-use det_values::{Bytes64, Container, OutOfMemory, Params};
 use det_client::Client;
+use det_values::{Container, Limited, OutOfMemory, Params};
 use element_random::ElementRandom;
 use event_cache::EventCache;
+use job_shared::{NewestSamples, newest_samples};
 use job_trait::{BadParam, Concluded, Job, JobFault, Started, Worked};
 use std::alloc::Global;
 
@@ -23,7 +23,8 @@ pub struct Total {
     pub(crate) corrections: u64,
 }
 
-/// What a cycle is judged by: the newest sample of each event, and the next activation time, where it is available.
+/// What a cycle is judged by: the newest sample of each event, and the next activation time, where
+/// it is available.
 #[derive(Debug, Drop)]
 pub struct Plan {
     pub(crate) samples: NewestSamples,
@@ -31,7 +32,7 @@ pub struct Plan {
 }
 
 /// The numbers of corrected channels, in order.
-pub type Corrections = Container<u32>;
+pub type Corrections = Limited<u32, 65536>;
 
 /// The corrections of two neighbouring parts, the left ones first.
 #[inline(always)]
@@ -93,7 +94,7 @@ impl Job for Guard {
         &self,
         alloc: Global,
         _globals: &Total,
-        _elements: &[Channel],
+        _elements: &Container<Channel>,
         cache: &EventCache,
         client: &mut Client,
     ) -> Result<Plan, JobFault> {
@@ -121,7 +122,7 @@ impl Job for Guard {
         element: &Channel,
         _random: &mut ElementRandom,
     ) -> Result<Worked<Channel, Corrections>, JobFault> {
-        let value = reading(self, &plan.samples, element);
+        let value = reading(&plan.samples, element);
         judged(alloc, self, element, value)
     }
 
@@ -130,8 +131,9 @@ impl Job for Guard {
         joined(left, right)
     }
 
-    fn element_bytes(&self, element: &Channel) -> Bytes64 {
-        element_bytes(element)
+    #[inline(always)]
+    fn put_element(&self, element: &Channel, out: &mut Vec<u8>) -> Result<(), OutOfMemory> {
+        put_channel(element, out)
     }
 
     fn conclude(

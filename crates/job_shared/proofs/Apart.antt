@@ -18,5 +18,7 @@ pub i64_bytes-apart : (a b : ℤ) → IsSampleValue a → IsSampleValue b → i6
 i64_bytes-apart a b h k e =
     let f : SFits w64 a = sample_fits a h in
     let g : SFits w64 b = sample_fits b k in
-    let same : of_z w64 a ≡ of_z w64 b = sym (from_be_bytes-to_be_bytes_8 (of_z w64 a) (of_z-below a f)) ∙ ap (from_be_bytes w64) e ∙ from_be_bytes-to_be_bytes_8 (of_z w64 b) (of_z-below b g) in
+    let same : of_z w64 a ≡ of_z w64 b =
+    sym (from_be_bytes-to_be_bytes_8 (of_z w64 a) (of_z-below a f)) ∙ ap (from_be_bytes w64) e
+    ∙ from_be_bytes-to_be_bytes_8 (of_z w64 b) (of_z-below b g) in
     sym (to_z-of_z w64 a f) ∙ ap (to_z w64) same ∙ to_z-of_z w64 b g

@@ -13,15 +13,18 @@ shr_between : (d : ℤ) (k : ℕ) → ((pos 0 ≤ℤ int_shr d k) × (int_shr d 
 shr_between (pos n) k = let h : n / 2 ^ k ≤ n = div-le_self n (2 ^ k) in inl (omega (arith, ints), omega (arith, ints))
 shr_between (negsuc n) k = let h : n / 2 ^ k ≤ n = div-le_self n (2 ^ k) in inr (omega (arith, ints), omega (arith, ints))
 
-between : (t l d s : ℤ) → IsSampleValue t → IsSampleValue l → d ≡ t -ℤ l → ((pos 0 ≤ℤ s) × (s ≤ℤ d)) ⊎ ((d ≤ℤ s) × (s ≤ℤ negsuc 0)) → IsSampleValue (l +ℤ s)
+between : (t l d s : ℤ) → IsSampleValue t → IsSampleValue l → d ≡ t -ℤ l → ((pos 0 ≤ℤ s) × (s ≤ℤ d)) ⊎ ((d ≤ℤ s) × (s ≤ℤ negsuc 0)) →
+    IsSampleValue (l +ℤ s)
 between t l d s ht hl e (inl h) = let a = ht.0 in let b = ht.1 in let x = hl.0 in let y = hl.1 in (omega (arith, ints), omega (arith, ints))
 between t l d s ht hl e (inr h) = let a = ht.0 in let b = ht.1 in let x = hl.0 in let y = hl.1 in (omega (arith, ints), omega (arith, ints))
 
-pub towards_in_range : (value target : ℤ) (shift : ℕ) → IsSampleValue value → IsSampleValue target → IsSampleValue (towards value target shift)
+pub towards_in_range : (value target : ℤ) (shift : ℕ) → IsSampleValue value → IsSampleValue target →
+    IsSampleValue (towards value target shift)
 towards_in_range l t k hl ht = between t l (t -ℤ l) (int_shr (t -ℤ l) k) ht hl refl (shr_between (t -ℤ l) k)
 
 difference_fits : (t l : ℤ) → IsSampleValue t → IsSampleValue l → SFits w64 (t -ℤ l)
-difference_fits t l h k = let a = h.0 in let b = h.1 in let x = k.0 in let y = k.1 in wide_fits (t -ℤ l) (omega (arith, ints)) (omega (arith, ints))
+difference_fits t l h k = let a = h.0 in let b = h.1 in let x = k.0 in let y = k.1 in
+    wide_fits (t -ℤ l) (omega (arith, ints)) (omega (arith, ints))
 
 shr_fits : (d : ℤ) (k : ℕ) → SFits w64 d → SFits w64 (int_shr d k)
 shr_fits (pos n) k f = let h : n / 2 ^ k ≤ n = div-le_self n (2 ^ k) in let g : n < 2 ^ 63 = f.sfits in record { sfits = omega arith }
@@ -29,11 +32,18 @@ shr_fits (negsuc n) k f = let h : n / 2 ^ k ≤ n = div-le_self n (2 ^ k) in let
 
 -- what the machine computes is the step
 pub towards_computed : (l t : ℤ) (k : ℕ) → IsSampleValue l → IsSampleValue t →
-    to_z w64 (of_z w64 (to_z w64 (of_z w64 l) +ℤ to_z w64 (of_z w64 (int_shr (to_z w64 (of_z w64 (to_z w64 (of_z w64 t) -ℤ to_z w64 (of_z w64 l)))) k)))) ≡ towards l t k
+    to_z w64 (of_z w64 (to_z w64 (of_z w64 l) +ℤ to_z w64
+    (of_z w64 (int_shr (to_z w64 (of_z w64 (to_z w64 (of_z w64 t) -ℤ to_z w64 (of_z w64 l)))) k)))) ≡ towards l t k
 towards_computed l t k hl ht =
     let ft : SFits w64 t = sample_fits t ht in
     let fl : SFits w64 l = sample_fits l hl in
     let fd : SFits w64 (t -ℤ l) = difference_fits t l ht hl in
     let fs : SFits w64 (int_shr (t -ℤ l) k) = shr_fits (t -ℤ l) k fd in
     let fn : SFits w64 (l +ℤ int_shr (t -ℤ l) k) = sample_fits _ (towards_in_range l t k hl ht) in
-    rw (to_z-of_z w64 t ft, to_z-of_z w64 l fl, to_z-of_z w64 (t -ℤ l) fd, to_z-of_z w64 (int_shr (t -ℤ l) k) fs, to_z-of_z w64 (l +ℤ int_shr (t -ℤ l) k) fn) refl
+    rw (
+      to_z-of_z w64 t ft,
+      to_z-of_z w64 l fl,
+      to_z-of_z w64 (t -ℤ l) fd,
+      to_z-of_z w64 (int_shr (t -ℤ l) k) fs,
+      to_z-of_z w64 (l +ℤ int_shr (t -ℤ l) k) fn,
+    ) refl

@@ -4,7 +4,8 @@ ghost use Rattle.std.specs.Prelude.{◌≡◌, ◌≤◌};
 ghost use Rattle.det_values.specs.Limits.{IsSampleValue};
 ghost use Rattle.job_shared.specs.Filter.{towards};
 
-/// A value that moves towards a target: by the difference divided by 2 to the power of `shift`, rounded down.
+/// A value that moves towards a target: by the difference divided by 2 to the power of `shift`,
+/// rounded down.
 pub fn towards(value: i64, target: i64, shift: u32) -> i64
     requires value { IsSampleValue value }
     requires target { IsSampleValue target }

@@ -1,14 +1,17 @@
 //! Parameters, each judged in its place.
 
-ghost use Rattle.std.specs.Prelude.{◌≡◌, ◌<◌, ◌≤◌, ◌^◌, length, pos, true, false, MatchResult, IfOk, OnOk, IfErr};
+ghost use Rattle.std.specs.Prelude.{◌≡◌, ◌<◌, ◌≤◌, ◌^◌, length, pos, true, false, MatchResult};
+ghost use Rattle.std.specs.Prelude.{IfOk, OnOk, IfErr};
 ghost use Rattle.job_shared.specs.Params.{param, is_param, natural_param};
 
 use job_trait::BadParam;
 
 /// The parameter at an index, where it is there and from `low` to `high`.
 pub fn whole_param(params: &[i64], index: u8, low: i64, high: i64) -> Result<i64, BadParam>
-    ensures ok { IfOk result (λ z. (is_param params.now index low high ≡ true) × (z ≡ param params.now index)) }
-    ensures err { IfErr result (λ bad. (is_param params.now index low high ≡ false) × (bad.index ≡ index)) }
+    ensures ok { IfOk result (λ z. (is_param params.now index low high ≡ true)
+        × (z ≡ param params.now index)) }
+    ensures err { IfErr result (λ bad. (is_param params.now index low high ≡ false)
+        × (bad.index ≡ index)) }
 {
     let place = usize::from(index);
     if place < params.len() && low <= params[place] && params[place] <= high {
@@ -22,8 +25,10 @@ pub fn whole_param(params: &[i64], index: u8, low: i64, high: i64) -> Result<i64
 pub fn wide_param(params: &[i64], index: u8, low: u64, high: u64) -> Result<u64, BadParam>
     requires order { low ≤ high }
     requires fits { high < 2 ^ 63 }
-    ensures ok { IfOk result (λ n. (is_param params.now index (pos low) (pos high) ≡ true) × (n ≡ natural_param params.now index low high)) }
-    ensures err { IfErr result (λ bad. (is_param params.now index (pos low) (pos high) ≡ false) × (bad.index ≡ index)) }
+    ensures ok { IfOk result (λ n. (is_param params.now index (pos low) (pos high) ≡ true)
+        × (n ≡ natural_param params.now index low high)) }
+    ensures err { IfErr result (λ bad. (is_param params.now index (pos low) (pos high) ≡ false)
+        × (bad.index ≡ index)) }
     ensures range { IfOk result (λ n. n ≤ high) }
 {
     let number = whole_param(params, index, low as i64, high as i64)?;
@@ -32,8 +37,10 @@ pub fn wide_param(params: &[i64], index: u8, low: u64, high: u64) -> Result<u64,
 
 /// The same among small natural numbers.
 pub fn natural_param(params: &[i64], index: u8, low: u32, high: u32) -> Result<u32, BadParam>
-    ensures ok { IfOk result (λ n. (is_param params.now index (pos low) (pos high) ≡ true) × (n ≡ natural_param params.now index low high)) }
-    ensures err { IfErr result (λ bad. (is_param params.now index (pos low) (pos high) ≡ false) × (bad.index ≡ index)) }
+    ensures ok { IfOk result (λ n. (is_param params.now index (pos low) (pos high) ≡ true)
+        × (n ≡ natural_param params.now index low high)) }
+    ensures err { IfErr result (λ bad. (is_param params.now index (pos low) (pos high) ≡ false)
+        × (bad.index ≡ index)) }
     ensures range { IfOk result (λ n. (low ≤ n) × (n ≤ high)) }
 {
     let number = whole_param(params, index, i64::from(low), i64::from(high))?;

@@ -26,7 +26,8 @@ pub fn newest(cache: &EventCache, event: u16) -> Option<i64>
 /// The newest sample of each event.
 pub fn newest_samples(alloc: Global, cache: &EventCache) -> Result<NewestSamples, OutOfMemory>
     ensures samples { IfOk result (λ samples. samples ≡ all_newest (windows cache.now)) }
-    ensures limits { (events : ℕ) → length (windows cache.now) ≡ events → IfOk result (AreSamples events) }
+    ensures limits { (events : ℕ) → length (windows cache.now) ≡ events
+        → IfOk result (AreSamples events) }
 {
     let mut samples = NewestSamples::from_vec(Vec::with_capacity(alloc, cache.events() as usize)?);
     for event in 0..cache.events() {

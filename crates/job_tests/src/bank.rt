@@ -1,8 +1,8 @@
 //! The filter bank.
 
 use crate::trial::{Round, bad_index, told, untimed};
-use shipped_jobs::Bank;
 use det_values::Sample;
+use shipped_jobs::Bank;
 use std::test::Fail;
 
 #[test]

@@ -1,9 +1,9 @@
-//! The particle cloud. The positions, draws and seeds were computed from the definitions of the words and of the cloud,
-//! by a program that shares nothing with this one.
+//! The particle cloud. The positions, draws and seeds were computed from the definitions of the
+//! words and of the cloud, by a program that shares nothing with this one.
 
 use crate::trial::{bad_index, told, untimed};
-use shipped_jobs::Cloud;
 use det_values::Sample;
+use shipped_jobs::Cloud;
 use std::test::Fail;
 
 #[test]
@@ -47,8 +47,9 @@ fn one_particle_steps_at_random(rt: HostRuntime) -> Result<(), Fail> {
     Ok(())
 }
 
-/// Several particles are equally near in cycles 1, 2 and 4, one finds no step in cycle 3 and draws 17 words, one stays
-/// in the pull of cycle 1, and the seed is drawn anew in cycles 2 and 4. The best of cycle 2 is as far as allowed.
+/// Several particles are equally near in cycles 1, 2 and 4, one finds no step in cycle 3 and draws
+/// 17 words, one stays in the pull of cycle 1, and the seed is drawn anew in cycles 2 and 4. The
+/// best of cycle 2 is as far as allowed.
 #[test]
 fn four_particles_follow_the_best(rt: HostRuntime) -> Result<(), Fail> {
     let target = [
@@ -88,7 +89,8 @@ fn four_particles_follow_the_best(rt: HostRuntime) -> Result<(), Fail> {
     Ok(())
 }
 
-/// A best particle that is too far refuses the cycle with code 2, a negative third event with code 1, and 0 doesn't.
+/// A best particle that is too far refuses the cycle with code 2, a negative third event with code
+/// 1, and 0 doesn't.
 #[test]
 fn cloud_codes(rt: HostRuntime) -> Result<(), Fail> {
     let rounds = [

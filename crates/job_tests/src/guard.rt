@@ -1,8 +1,8 @@
 //! The guard.
 
 use crate::trial::{Round, bad_index, told, untimed};
-use shipped_jobs::Guard;
 use det_values::Sample;
+use shipped_jobs::Guard;
 use std::test::Fail;
 
 #[test]
@@ -31,8 +31,8 @@ fn the_least_bad_parameter_is_named(rt: HostRuntime) -> Result<(), Fail> {
     Ok(())
 }
 
-/// The third sample out of range in a row refuses. With room for one correction each cycle with two is refused, and no
-/// streak grows.
+/// The third sample out of range in a row refuses. With room for one correction each cycle with two
+/// is refused, and no streak grows.
 #[test]
 fn guard_limits(rt: HostRuntime) -> Result<(), Fail> {
     let rounds = [
@@ -85,17 +85,21 @@ fn ends_of_the_range_are_held(rt: HostRuntime) -> Result<(), Fail> {
     let text = told::<Guard>(rt.alloc(), &[3, -5, 5, 1000, 65536], 2, 0, &rounds)?;
     assert_eq!(rt;
         text.as_str(),
-        "0000000000000000000000000000 0\n0000000100000000000000000000 0\n0000000200000000000000000000 0\n\
+        "0000000000000000000000000000 0\n0000000100000000000000000000 0\n\
+        0000000200000000000000000000 0\n\
         output 00000000000000000000000000\n\
-        0000000000000000000000000001 0\n0000000100000000000000050000 0\n0000000200000000000000000001 0\n\
+        0000000000000000000000000001 0\n0000000100000000000000050000 0\n\
+        0000000200000000000000000001 0\n\
         output 000000000000000200000002000000000000000200\n\
-        00000000fffffffffffffffb0000 0\n0000000100000000000000050001 0\n00000002fffffffffffffffb0000 0\n\
+        00000000fffffffffffffffb0000 0\n0000000100000000000000050001 0\n\
+        00000002fffffffffffffffb0000 0\n\
         output 0000000000000003000000010000000100\n"
     );
     Ok(())
 }
 
-/// Of a hundred channels the channels 3 and 70 are out of range in cycle 2. Cycle 3 runs from the state before it.
+/// Of a hundred channels the channels 3 and 70 are out of range in cycle 2. Cycle 3 runs from the
+/// state before it.
 #[test]
 fn after_refusal(rt: HostRuntime) -> Result<(), Fail> {
     let rounds = [

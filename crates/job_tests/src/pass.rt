@@ -6,8 +6,8 @@ ghost use Rattle.job_trait.specs.Laws.{CoversSome};
 ghost use Rattle.det_client.specs.State.{OwnAt};
 ghost use Rattle.event_cache.specs.Rings.{windows};
 
-use det_values::{Bytes, Container, OutOfMemory};
 use det_client::{Activation, Client};
+use det_values::{Bytes, Container, OutOfMemory};
 use element_random::{ElementRandom, key};
 use event_cache::EventCache;
 use job_trait::{BadParam, Job, JobFault};
@@ -73,7 +73,7 @@ fn run_pass<J: Job>(
     plan: &J::Plan,
     carry: &J::Part,
     place: Place,
-    elements: &[J::Element],
+    elements: &Container<J::Element>,
     draws: &mut [u64],
 ) -> Result<Passed<J::Element, J::Part>, Refused>
     requires fit { J.Fit job.now plan.now }
@@ -91,7 +91,7 @@ fn run_pass<J: Job>(
     'run: for i in 0..elements.len() {
         let number = i as u32;
         let mut random = ElementRandom::at(key(place.seed, place.cycle, pass, number));
-        let worked = match job.run(alloc, plan, carry, pass, &elements[i], &mut random) {
+        let worked = match job.run(alloc, plan, carry, pass, elements.item(i), &mut random) {
             Ok(worked) => worked,
             Err(JobFault::Code(code)) => {
                 return Err(Refused::Pool {
@@ -102,7 +102,7 @@ fn run_pass<J: Job>(
             }
             Err(JobFault::OutOfMemory) => return Err(Refused::OutOfMemory),
         };
-        next.push(worked.element)?;
+        next.push(alloc, worked.element)?;
         part = job.merge(part, worked.part)?;
         if let Some(sum) = draws.get_mut(i) {
             *sum = sum.saturating_add(random.draws());
@@ -121,7 +121,7 @@ fn run_passes<J: Job>(
     plan: &J::Plan,
     seed: u64,
     cycle: u32,
-    elements: &[J::Element],
+    elements: &Container<J::Element>,
     draws: &mut [u64],
 ) -> Result<Passed<J::Element, J::Part>, Refused>
     requires fit { J.Fit job.now plan.now }
@@ -141,8 +141,7 @@ fn run_passes<J: Job>(
     let mut done = run_pass(alloc, job, plan, &unit, first, elements, draws)?;
     'passes: for pass in 1..passes {
         let place = Place { seed, cycle, pass };
-        let before = done.elements.as_slice();
-        done = run_pass(alloc, job, plan, &done.part, place, before, draws)?;
+        done = run_pass(alloc, job, plan, &done.part, place, &done.elements, draws)?;
     }
     Ok(done)
 }
@@ -152,11 +151,10 @@ pub fn run_cycle<J: Job>(
     alloc: Global,
     job: &J,
     globals: &J::Globals,
-    elements: &[J::Element],
+    elements: &Container<J::Element>,
     cache: &EventCache,
     client: &mut Client,
 ) -> Result<Cycled<J::Globals, J::Element>, Refused>
-    requires few { length elements.now ≤ 65536 }
     requires own { All (J.Own job.now) elements.now }
     requires events { length (windows cache.now) ≡ J.meaning.events job.now }
     requires running { client.old.last ≡ Some Activation.Run }

@@ -5,8 +5,8 @@ ghost use Rattle.std.specs.List.{All};
 ghost use Rattle.event_cache.specs.Rings.{windows};
 
 use crate::pass::{Cycled, Refused, run_cycle};
-use det_values::{Container, EventName, EventSpec, Events, OutOfMemory, Params, Policy, Sample};
 use det_client::{Client, Next};
+use det_values::{Container, EventName, EventSpec, Events, OutOfMemory, Params, Policy, Sample};
 use event_cache::EventCache;
 use job_trait::{BadParam, Job, Started};
 use std::alloc::{AllocError, Global};
@@ -14,7 +14,8 @@ use std::alloc::{AllocError, Global};
 /// The cycle time of each trial, in nanoseconds.
 pub const CYCLE_TIME: u64 = 10;
 
-/// One cycle of a trial: its time, and the samples that arrive in it, which the cycles after it see.
+/// One cycle of a trial: its time, and the samples that arrive in it, which the cycles after it
+/// see.
 #[derive(Clone, Copy, Debug, Drop)]
 pub struct Round<'a> {
     pub time: Option<u64>,
@@ -90,17 +91,19 @@ fn tell_finished<J: Job>(
     text: &mut String,
     job: &J,
     done: &Cycled<J::Globals, J::Element>,
-) -> Result<(), AllocError>
+) -> Result<(), Refused>
     requires own { All (J.Own job.now) done.now.elements }
 {
     'elements: for i in 0..done.elements.len() {
-        let bytes = job.element_bytes(done.elements.item(i));
+        let mut bytes = Vec::new(alloc);
+        job.put_element(done.elements.item(i), &mut bytes)?;
         let shown = hex::encode(alloc, bytes.as_slice())?;
         let draws = done.draws.get(i).copied().unwrap_or(0);
         writeln!(text, "{shown} {draws}")?;
     }
     let output = hex::encode(alloc, done.output.as_slice())?;
-    writeln!(text, "output {output}")
+    writeln!(text, "output {output}")?;
+    Ok(())
 }
 
 /// Adds a line for a cycle that isn't finished.
@@ -134,7 +137,7 @@ fn told_of<J: Job>(
     kept: Kept<J::Globals, J::Element>,
     cycled: Result<Cycled<J::Globals, J::Element>, Refused>,
     seed: u64,
-) -> Result<Kept<J::Globals, J::Element>, AllocError>
+) -> Result<Kept<J::Globals, J::Element>, Refused>
     requires kept { All (J.Own job.now) kept.elements }
     requires cycled { IfOk cycled (λ done. All (J.Own job.now) done.elements) }
     ensures own { IfOk result (λ kept. All (J.Own job.now) kept.elements) }
@@ -166,8 +169,9 @@ fn turn(cache: &mut EventCache)
     cache.turn();
 }
 
-/// Tells what the cycles of a job show: for each finished one a line for each element, with the words that it drew, the
-/// output, and the seed where it is a new one; for each refused one where and why.
+/// Tells what the cycles of a job show: for each finished one a line for each element, with the
+/// words that it drew, the output, and the seed where it is a new one; for each refused one where
+/// and why.
 pub fn told<J: Job>(
     alloc: Global,
     params: &[i64],
@@ -194,7 +198,7 @@ pub fn told<J: Job>(
         turn(&mut cache);
         let mut client = Client::resumed(CYCLE_TIME, kept.seed, i as u32);
         let _ = client.wait_for_activation(Next::Go(rounds[i].time));
-        let present = kept.elements.as_slice();
+        let present = &kept.elements;
         let cycled = run_cycle(alloc, &job, &kept.globals, present, &cache, &mut client);
         kept = told_of(alloc, &mut text, &job, kept, cycled, client.seed())?;
         arrive_all(&mut cache, rounds[i].samples);

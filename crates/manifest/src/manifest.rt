@@ -35,13 +35,25 @@ impl Model for Manifest {
 
     ghost Value = { ManifestValue };
 
-    ghost view = { λ m. record { kind = m.kind; cycle_time = m.cycle_time; workers = m.workers; params = m.params; events = m.events; platform = m.platform; init_needs = m.init_needs; run_needs = m.run_needs } };
+    ghost view = { λ m. record {
+      kind = m.kind;
+      cycle_time = m.cycle_time;
+      workers = m.workers;
+      params = m.params;
+      events = m.events;
+      platform = m.platform;
+      init_needs = m.init_needs;
+      run_needs = m.run_needs;
+    } };
 
-    ghost invariant = { λ m. IsCycleTime m.cycle_time × IsWorkers m.workers × All IsEvent m.events × (first_duplicate m.events ≡ None) × ForSome m.init_needs IsNeeds × ForSome m.run_needs IsNeeds };
+    ghost invariant = { λ m. IsCycleTime m.cycle_time × IsWorkers m.workers
+        × All IsEvent m.events × (first_duplicate m.events ≡ None)
+        × ForSome m.init_needs IsNeeds × ForSome m.run_needs IsNeeds };
 }
 
 impl Manifest {
-    /// The profile of a client with this seed. Its format is Two, its cycle time is from 1 to 2^63 - 1 nanoseconds.
+    /// The profile of a client with this seed. Its format is Two, its cycle time is from 1 to
+    /// 2^63 - 1 nanoseconds.
     pub fn profile(&self, alloc: Global, seed: u64) -> Result<Profile, OutOfMemory>
         ensures profile { IfOk result (λ p. p ≡ profile_of self.now seed) }
         ensures cycle_time { IsCycleTime self.now.cycle_time }
@@ -68,6 +80,30 @@ impl Manifest {
         ensures { result ≡ self.now.kind }
     {
         self.kind
+    }
+
+    /// The time from one cycle to the next, in nanoseconds.
+    pub fn cycle_time(&self) -> u64
+        ensures value { result ≡ self.now.cycle_time }
+        ensures range { IsCycleTime result }
+    {
+        self.cycle_time
+    }
+
+    /// The parameters of the job.
+    pub fn params(&self) -> &Params
+        ensures { result.now ≡ self.now.params }
+    {
+        &self.params
+    }
+
+    /// The events.
+    pub fn events(&self) -> &Events
+        ensures value { result.now ≡ self.now.events }
+        ensures range { All IsEvent result.now }
+        ensures distinct { first_duplicate result.now ≡ None }
+    {
+        &self.events
     }
 
     /// The number of workers.

@@ -9,7 +9,8 @@ use Rattle.pass_in_blocks.specs.Steps.{IsPlace, ArePlaces}
 
 -- one place has another content
 module _ {E P : Type 0} (block : ℕ → Result (Passed E P) Refusal) (places : List (Option (BlockAnswer E P))) (b : ℕ) where
-  pub placed : ArePlaces block places → b < length places → (x : Option (BlockAnswer E P)) → IsPlace block b x → ArePlaces block (slice_set places b x)
+  pub placed : ArePlaces block places → b < length places → (x : Option (BlockAnswer E P)) → IsPlace block b x
+      → ArePlaces block (slice_set places b x)
   placed here inside x is k d lt = dite (ℕ_discrete k b)
       (λ e. subst (λ (n : ℕ). IsPlace block n (slice_index_or (slice_set places b x) n d)) (sym e)
       (subst (IsPlace block b) (sym (get_or-set_same places b x d inside)) is))

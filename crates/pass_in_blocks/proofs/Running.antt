@@ -108,7 +108,8 @@ module _ {S G E L P : Type 0} (m : Meaning S G E L P) (t : PassOf S G E L P) whe
 
       pub block_done : (e : Passed E P) → block_in m t b ≡ Ok e → first_in m t (64 * (b + 1)) ≡ Ok (beside (m.joined (arc_value t.job)) d e)
       block_done e came = ap (first_in m t) (omega arith)
-          ∙ goes_on 0 (64 * b) (arc_value t.elements) none (64 * b) 64 (omega arith) inside d (beside join d e) is (after ∙ ap (onto join d) came)
+          ∙ goes_on 0 (64 * b) (arc_value t.elements) none (64 * b) 64 (omega arith) inside d (beside join d e) is
+          (after ∙ ap (onto join d) came)
 
       pub block_refuses : (r : Refusal) → block_in m t b ≡ Err r → pass_of m t ≡ Err r
       block_refuses r came =

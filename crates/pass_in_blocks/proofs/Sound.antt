@@ -77,7 +77,8 @@ module _ {S G E L P : Type 0} {m : Meaning S G E L P} {Covers : S → P → ℕ 
   one_more : (n i : ℕ) (d : Passed E P) (e : E) (w : Worked E P) → Holds n d → Own job e → n + 1 ≤ 65536 → gives e i ≡ Ok w
       → Holds (n + 1) (with_one d w (drew i e))
   one_more n i d e w h own small came = let k = key t.seed t.cycle t.number i in record {
-    own = All-push (Own job) d.elements w.element h.own (laws.own_run job plan carry t.number e k w ready.fit own ready.below ready.carried came);
+    own = All-push (Own job) d.elements w.element h.own
+        (laws.own_run job plan carry t.number e k w ready.fit own ready.below ready.carried came);
     many = length-append d.elements (w.element ∷ []) ∙ ap (λ l. l + 1) h.many;
     drew = length-append d.draws (_ ∷ []) ∙ ap (λ l. l + 1) h.drew;
     few_drawn = All-push (λ l. l ≤ 65535) d.draws _ h.few_drawn (laws.drawn_few job plan carry t.number e k);
@@ -99,7 +100,8 @@ module _ {S G E L P : Type 0} {m : Meaning S G E L P} {Covers : S → P → ℕ 
   taken_holds n i (x ∷ xs) d e h own small is =
       (elim (gives x i) as (λ r. gives x i ≡ r → on_from i x xs d r ≡ Ok e → Holds (n + suc (length xs)) e) [
         | Ok w ↦ λ came q. subst (λ (k : ℕ). Holds k e) (omega arith)
-            (taken_holds (n + 1) (i + 1) xs (with_one d w (drew i x)) e (one_more n i d x w h (All-head (Own job) x xs own) (omega arith) came)
+            (taken_holds (n + 1) (i + 1) xs (with_one d w (drew i x)) e
+            (one_more n i d x w h (All-head (Own job) x xs own) (omega arith) came)
             (All-tail (Own job) x xs own) (omega arith) q)
         | Err c ↦ λ came q. absurd (cc)
       ]) refl is
@@ -142,7 +144,8 @@ module _ {S G E L P : Type 0} {m : Meaning S G E L P} {Covers : S → P → ℕ 
     -- the first k elements of a block leave room for another
     pub has_room : (d : Passed E P) → added_to m t (64 * b) (take k xs) (none_in m t) ≡ Ok d → HasRoom Covers t d.part
     has_room d is = let size = block_size b in let same = ap length is_block in
-        (k, omega arith, (first_hold (64 * b) k xs d (All-same (Own job) xs _ is_block (own_block b)) (omega arith) (omega arith) is).covers)
+        let own = All-same (Own job) xs _ is_block (own_block b) in
+        (k, omega arith, (first_hold (64 * b) k xs d own (omega arith) (omega arith) is).covers)
 
   -- an answer is right in each of its facts, once it is that of the pass
   pass_holds : (d : PassDone E P) → pass_of m t ≡ Ok (passed_of d) → Holds (length es) (passed_of d)

@@ -9,13 +9,17 @@ use Rattle.pass_in_blocks.specs.declared.answers.BlockResult.{BlockResult}
 
 module _ {E P : Type 0} where
   abbrev pub left_by : BlockDone E P → Passed E P
-  left_by done = record { elements = done.elements.items; draws = done.draws.items; part = done.part }
+  left_by done = record {
+    elements = done.elements.items;
+    draws = done.draws.items;
+    part = done.part;
+  }
 
   abbrev pub answer_of : BlockAnswer E P → Result (Passed E P) Refusal
   answer_of (Done done) = Ok (left_by done)
   answer_of (Refused element code) = Err (record { element = element; code = code })
 
-  -- of a pass of so many blocks, beside what each of them gives
+  -- beside what each block gives, and their number
   module _ (block : ℕ → Result (Passed E P) Refusal) (blocks : ℕ) where
     -- a result is that of a block of the pass
     abbrev pub IsRight : BlockResult E P → Type 0

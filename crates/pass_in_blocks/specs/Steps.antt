@@ -21,7 +21,8 @@ module _ {E P : Type 0} where
   -- the lists with the part are what is meant; want of memory is free
   abbrev pub IsAdded : Result P PoolFault → List E → List ℕ → Result (Passed E P) Refusal → Type 0
   IsAdded (Ok part) es ds meant = meant ≡ Ok (passed_by es ds part)
-  IsAdded (Err (Refused element code)) es ds meant = meant ≡ Err (record { element = element; code = code })
+  IsAdded (Err (Refused element code)) es ds meant =
+      meant ≡ Err (record { element = element; code = code })
   IsAdded (Err OutOfMemory) es ds meant = Unit {0}
 
   -- what two neighbours give together
@@ -41,7 +42,8 @@ module _ {E P : Type 0} where
 
     abbrev pub ArePlaces : List (Option (BlockAnswer E P)) → Type 0
     ArePlaces places =
-        (b : ℕ) (d : Option (BlockAnswer E P)) → b < length places → IsPlace b (slice_index_or places b d)
+        (b : ℕ) (d : Option (BlockAnswer E P)) → b < length places
+        → IsPlace b (slice_index_or places b d)
 
 module _ {S G E L P : Type 0} where
   abbrev pub HasKeys : PassOf S G E L P → PassKeys → Type 0

@@ -34,8 +34,8 @@ struct Block<'a, J: Job> {
 }
 
 impl<'a, J: Job> Block<'a, J> {
-    /// Runs its element `k` with random words of its own, adds what it gives to the lists, and answers the part. It is
-    /// the body of the loop that time is spent in, so it is inlined there.
+    /// Runs its element `k` with random words of its own, adds what it gives to the lists, and answers
+    /// the part. It is the body of the loop that time is spent in, so it is inlined there.
     #[inline(always)]
     fn step(
         &self,
@@ -52,7 +52,8 @@ impl<'a, J: Job> Block<'a, J> {
         requires few { self.now.first + k < 65536 }
         requires room { HasRoom J.Covers self.now.pass.now part }
         ensures { IsAdded result elements.new.items draws.new.items
-            (added_to J.meaning self.now.pass.now (self.now.first + k) (take 1 (drop k self.now.elements.now))
+            (added_to J.meaning self.now.pass.now (self.now.first + k)
+            (take 1 (drop k self.now.elements.now))
             (passed_by elements.old.items draws.old.items part)) }
     {
         let pass = self.pass;

@@ -29,7 +29,8 @@ fn put_at<T: Drop>(places: &mut Vec<T>, at: usize, content: T)
     places[at] = content;
 }
 
-/// The answers of blocks, each in the place of its number. Where there are no results there are no places.
+/// The answers of blocks, each in the place of its number. Where there are no results there are no
+/// places.
 fn in_places<J: Job>(
     alloc: Global,
     pass: &PassOf<J>,
@@ -48,7 +49,8 @@ fn in_places<J: Job>(
     Ok(places)
 }
 
-/// The answer of a block: the one in its place, which is taken out, or else that of running it here and now.
+/// The answer of a block: the one in its place, which is taken out, or else that of running it here
+/// and now.
 fn answer_at<J: Job>(
     alloc: Global,
     pass: &PassOf<J>,
@@ -80,15 +82,16 @@ fn join_block<J: Job>(
 ) -> Result<J::Part, OutOfMemory>
     requires { CanJoin J.Covers job.now (passed_by elements.old draws.old part) (left_by done) }
     ensures { IfOk result (λ both. passed_by elements.new draws.new both
-        ≡ beside (J.meaning.joined job.now) (passed_by elements.old draws.old part) (left_by done)) }
+        ≡ beside (J.meaning.joined job.now) (passed_by elements.old draws.old part)
+        (left_by done)) }
 {
     elements.push_block(done.elements)?;
     draws.push_block(done.draws)?;
     job.merge(part, done.part)
 }
 
-/// The answer of a pass from results of its blocks, whichever they are. A block that has no result is run here and
-/// now. The first block that refuses ends it.
+/// The answer of a pass from results of its blocks, whichever they are and in whatever order. A block
+/// that has no result is run here and now. The first block that refuses ends it.
 pub fn finish_pass<J: Job>(
     alloc: Global,
     pass: &PassOf<J>,

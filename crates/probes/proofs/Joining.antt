@@ -1,6 +1,8 @@
 -- Reports, while a run is being shown.
-use Rattle.std.proofs.Common.{◌≡◌, ◌≤◌, ◌<◌, ℕ, suc, ◌+◌, List, [], ◌∷◌, ◌++◌, length, take, drop, set, get_or, map, refl, sym, ap, subst, ◌∙◌, arith, append_assoc, nat_eq}
-use Rattle.std.proofs.lemmas.List.{append-nil, take-map, drop-map, map-set, take_more, take_more_set, drop-set-lt, take-set, drop_all, take_all, take_at, drop_at, length-take}
+use Rattle.std.proofs.Common.{◌≡◌, ◌≤◌, ◌<◌, ℕ, suc, ◌+◌, List, [], ◌∷◌, ◌++◌, length, take, drop, set, get_or, map, refl, sym, ap, subst}
+use Rattle.std.proofs.Common.{◌∙◌, arith, append_assoc, nat_eq}
+use Rattle.std.proofs.lemmas.List.{append-nil, take-map, drop-map, map-set, take_more, take_more_set, drop-set-lt, take-set, drop_all}
+use Rattle.std.proofs.lemmas.List.{take_all, take_at, drop_at, length-take}
 use Rattle.std.proofs.Math.Seq.{drop-cons}
 use Rattle.std.proofs.Math.ListN.{get_or-map, length-map}
 use Rattle.std.proofs.lemmas.Bool.Decides.{nat_tests}
@@ -9,8 +11,9 @@ use Rattle.std.specs.Prelude.{Option, Some, None, Bool, true, false, if◌then�
 use Rattle.std.specs.Option.{option_map}
 use Rattle.det_values.specs.declared.frames.RunFrame.{RunFrame}
 use Rattle.probes.specs.declared.probe.Wish.TheVariants.{Stay, Leave}
-use Rattle.probes.specs.Reports.{ProbeLife, leaves, Sees, Report, told_after, bytes_at, bytes_last, leaving, staying, in_turn, joined, reports}
-use Rattle.probes.specs.Partly.{later, partly}
+use Rattle.probes.specs.Reports.{ProbeLife, leaves, Sees, Report, told_after, bytes_at, bytes_last, leaving, staying, in_turn, joined}
+use Rattle.probes.specs.Reports.{reports}
+use Rattle.probes.proofs.Partly.{later, partly}
 
 map-append : {A B : Type 0} (f : A → B) (xs ys : List A) → map f (xs ++ ys) ≡ map f xs ++ map f ys
 map-append f [] ys = refl
@@ -19,12 +22,14 @@ map-append f (x ∷ xs) ys = ap (λ rest. f x ∷ rest) (map-append f xs ys)
 leaving-append : (k : ℕ) (xs ys : List Report) → leaving k (xs ++ ys) ≡ leaving k xs ++ leaving k ys
 unfolding leaving
 leaving-append k [] ys = refl
-leaving-append k (x ∷ xs) ys = ap (λ rest. bytes_at k x ++ rest) (leaving-append k xs ys) ∙ sym (append_assoc (bytes_at k x) (leaving k xs) (leaving k ys))
+leaving-append k (x ∷ xs) ys = ap (λ rest. bytes_at k x ++ rest) (leaving-append k xs ys)
+    ∙ sym (append_assoc (bytes_at k x) (leaving k xs) (leaving k ys))
 
 staying-append : (xs ys : List Report) → staying (xs ++ ys) ≡ staying xs ++ staying ys
 unfolding staying
 staying-append [] ys = refl
-staying-append (x ∷ xs) ys = ap (λ rest. bytes_last x ++ rest) (staying-append xs ys) ∙ sym (append_assoc (bytes_last x) (staying xs) (staying ys))
+staying-append (x ∷ xs) ys = ap (λ rest. bytes_last x ++ rest) (staying-append xs ys)
+    ∙ sym (append_assoc (bytes_last x) (staying xs) (staying ys))
 
 -- one that leaves at the first run, among others
 gone : List ℕ → Report
@@ -43,11 +48,13 @@ later-first : (bytes : List ℕ) (before : Option ℕ) → bytes_at 0 (later (re
 later-first bytes (Some n) = if-false (nat_eq (n + 1) 0) bytes (grind (arith, nat_tests))
 later-first bytes None = refl
 
-later-at : (k : ℕ) (bytes : List ℕ) (before : Option ℕ) → bytes_at (k + 1) (later (record { bytes = bytes; before = before })) ≡ bytes_at k (record { bytes = bytes; before = before })
+later-at : (k : ℕ) (bytes : List ℕ) (before : Option ℕ)
+    → bytes_at (k + 1) (later (record { bytes = bytes; before = before })) ≡ bytes_at k (record { bytes = bytes; before = before })
 later-at k bytes (Some n) = ap (λ b. if b then bytes else []) (let e : nat_eq (n + 1) (k + 1) ≡ nat_eq n k = grind (arith, nat_tests) in e)
 later-at k bytes None = refl
 
-later-last : (bytes : List ℕ) (before : Option ℕ) → bytes_last (later (record { bytes = bytes; before = before })) ≡ bytes_last (record { bytes = bytes; before = before })
+later-last : (bytes : List ℕ) (before : Option ℕ)
+    → bytes_last (later (record { bytes = bytes; before = before })) ≡ bytes_last (record { bytes = bytes; before = before })
 later-last bytes (Some n) = refl
 later-last bytes None = refl
 
@@ -59,12 +66,14 @@ later_never (r ∷ rs) = ap (λ xs. xs ++ leaving 0 (map later rs)) (later-first
 later_leaving : (k : ℕ) (rs : List Report) → leaving (k + 1) (map later rs) ≡ leaving k rs
 unfolding leaving
 later_leaving k [] = refl
-later_leaving k (r ∷ rs) = ap (λ xs. xs ++ leaving (k + 1) (map later rs)) (later-at k r.bytes r.before) ∙ ap (λ xs. bytes_at k r ++ xs) (later_leaving k rs)
+later_leaving k (r ∷ rs) = ap (λ xs. xs ++ leaving (k + 1) (map later rs)) (later-at k r.bytes r.before)
+    ∙ ap (λ xs. bytes_at k r ++ xs) (later_leaving k rs)
 
 later_staying : (rs : List Report) → staying (map later rs) ≡ staying rs
 unfolding staying
 later_staying [] = refl
-later_staying (r ∷ rs) = ap (λ xs. xs ++ staying (map later rs)) (later-last r.bytes r.before) ∙ ap (λ xs. bytes_last r ++ xs) (later_staying rs)
+later_staying (r ∷ rs) = ap (λ xs. xs ++ staying (map later rs)) (later-last r.bytes r.before)
+    ∙ ap (λ xs. bytes_last r ++ xs) (later_staying rs)
 
 later_in_turn : (k : ℕ) (runs : List RunFrame) (rs : List Report) → in_turn (k + 1) runs (map later rs) ≡ in_turn k runs rs
 unfolding in_turn
@@ -72,7 +81,8 @@ later_in_turn k [] rs = refl
 later_in_turn k (run ∷ runs) rs = rw (later_leaving k rs, later_in_turn (k + 1) runs rs) refl
 
 -- no report of one that is gone comes later
-gone_in_turn : (k : ℕ) (runs : List RunFrame) (xs ys : List Report) (bytes : List ℕ) → in_turn (k + 1) runs (xs ++ gone bytes ∷ ys) ≡ in_turn (k + 1) runs (xs ++ ys)
+gone_in_turn : (k : ℕ) (runs : List RunFrame) (xs ys : List Report) (bytes : List ℕ)
+    → in_turn (k + 1) runs (xs ++ gone bytes ∷ ys) ≡ in_turn (k + 1) runs (xs ++ ys)
 unfolding in_turn leaving gone
 gone_in_turn k [] xs ys bytes = refl
 gone_in_turn k (run ∷ runs) xs ys bytes =
@@ -80,7 +90,8 @@ gone_in_turn k (run ∷ runs) xs ys bytes =
     leaving-append (k + 1) xs (gone bytes ∷ ys)
     ∙ ap (λ rest. leaving (k + 1) xs ++ (rest ++ leaving (k + 1) ys)) (if-false (nat_eq 0 (k + 1)) bytes (grind (arith, nat_tests)))
     ∙ sym (leaving-append (k + 1) xs ys) in
-    ap (λ rest. rest ++ in_turn (k + 1 + 1) runs (xs ++ gone bytes ∷ ys)) here ∙ ap (λ rest. leaving (k + 1) (xs ++ ys) ++ rest) (gone_in_turn (k + 1) runs xs ys bytes)
+    ap (λ rest. rest ++ in_turn (k + 1 + 1) runs (xs ++ gone bytes ∷ ys)) here
+    ∙ ap (λ rest. leaving (k + 1) (xs ++ ys) ++ rest) (gone_in_turn (k + 1) runs xs ys bytes)
 
 gone_joined : (run : RunFrame) (runs : List RunFrame) (xs ys : List Report) (bytes : List ℕ)
     → joined (run ∷ runs) (map later xs ++ gone bytes ∷ ys) ≡ bytes ++ joined (run ∷ runs) (map later xs ++ ys)
@@ -90,7 +101,8 @@ gone_joined run runs xs ys bytes =
     leaving-append 0 (map later xs) (gone bytes ∷ ys)
     ∙ ap (λ rest. rest ++ (bytes ++ leaving 0 ys)) (later_never xs)
     ∙ ap (λ rest. bytes ++ rest) (ap (λ rest. rest ++ leaving 0 ys) (sym (later_never xs)) ∙ sym (leaving-append 0 (map later xs) ys)) in
-    let others : in_turn (0 + 1) runs (map later xs ++ gone bytes ∷ ys) ≡ in_turn (0 + 1) runs (map later xs ++ ys) = gone_in_turn 0 runs (map later xs) ys bytes in
+    let others : in_turn (0 + 1) runs (map later xs ++ gone bytes ∷ ys) ≡ in_turn (0 + 1) runs (map later xs ++ ys) =
+    gone_in_turn 0 runs (map later xs) ys bytes in
     let last : staying (map later xs ++ gone bytes ∷ ys) ≡ staying (map later xs ++ ys) =
     staying-append (map later xs) (gone bytes ∷ ys) ∙ sym (staying-append (map later xs) ys) in
     rw (first, others, last) (simp append_assoc)
@@ -99,15 +111,18 @@ all_later : (run : RunFrame) (runs : List RunFrame) (xs : List Report) → joine
 unfolding in_turn
 all_later run runs xs = rw (append-nil (map later xs), later_never xs, later_in_turn 0 runs xs, later_staying xs) refl
 
-pub partly_none : (run : RunFrame) (runs : List RunFrame) (ps : List ProbeLife) → joined (run ∷ runs) (partly run runs 0 ps) ≡ reports ps (run ∷ runs)
+pub partly_none : (run : RunFrame) (runs : List RunFrame) (ps : List ProbeLife)
+    → joined (run ∷ runs) (partly run runs 0 ps) ≡ reports ps (run ∷ runs)
 unfolding partly reports
 partly_none run runs ps = refl
 
 report-is : (a b : Report) → a.bytes ≡ b.bytes → a.before ≡ b.before → a ≡ b
-report-is a b p q = ap (λ bytes. record { bytes = bytes; before = a.before }) p ∙ ap (λ before. record { bytes = b.bytes; before = before }) q
+report-is a b p q = ap (λ bytes. record { bytes = bytes; before = a.before }) p
+    ∙ ap (λ before. record { bytes = b.bytes; before = before }) q
 
 -- numbers from 1 and from 0
-same_before : (a b : Option ℕ) → option_map (λ n. n + 1) a ≡ option_map (λ n. n + 1) (option_map (λ n. n + 1) b) → a ≡ option_map (λ n. n + 1) b
+same_before : (a b : Option ℕ) → option_map (λ n. n + 1) a ≡ option_map (λ n. n + 1) (option_map (λ n. n + 1) b)
+    → a ≡ option_map (λ n. n + 1) b
 same_before None None e = refl
 same_before None (Some m) e = cc
 same_before (Some n) None e = cc
@@ -121,19 +136,24 @@ never_before : (a : Option ℕ) → option_map (λ n. n + 1) a ≡ None → a �
 never_before None e = refl
 never_before (Some n) e = cc
 
-pub partly_stay : (run : RunFrame) (runs : List RunFrame) (at : ℕ) (ps : List ProbeLife) (d p : ProbeLife) → at < length ps → Sees Stay (get_or ps at d) p run
+pub partly_stay : (run : RunFrame) (runs : List RunFrame) (at : ℕ) (ps : List ProbeLife) (d p : ProbeLife) → at < length ps
+    → Sees Stay (get_or ps at d) p run
     → partly run runs (at + 1) (set ps at p) ≡ partly run runs at ps
 unfolding partly
 partly_stay run runs at ps d p lt sees =
     let front : take (at + 1) (set ps at p) ≡ take at ps ++ p ∷ [] = take_more_set ps at p lt in
     let back : drop (at + 1) (set ps at p) ≡ drop (at + 1) ps = drop-set-lt (at + 1) ps at p (omega arith) in
-    let old : drop at ps ≡ get_or ps at d ∷ drop (at + 1) ps = drop-cons ps at d lt ∙ ap (λ n. get_or ps at d ∷ drop n ps) (let e : suc at ≡ at + 1 = omega arith in e) in
-    let one : later (told_after runs p) ≡ told_after (run ∷ runs) (get_or ps at d) = report-is _ _ (sym (sees runs).0) (sym (same_before _ _ (sees runs).1)) in
+    let old : drop at ps ≡ get_or ps at d ∷ drop (at + 1) ps = drop-cons ps at d lt
+    ∙ ap (λ n. get_or ps at d ∷ drop n ps) (let e : suc at ≡ at + 1 = omega arith in e) in
+    let one : later (told_after runs p) ≡ told_after (run ∷ runs) (get_or ps at d) =
+    report-is _ _ (sym (sees runs).0) (sym (same_before _ _ (sees runs).1)) in
     ap (λ xs. map later (map (told_after runs) xs) ++ map (told_after (run ∷ runs)) (drop (at + 1) (set ps at p))) front
     ∙ ap (λ xs. map later (map (told_after runs) (take at ps ++ p ∷ [])) ++ map (told_after (run ∷ runs)) xs) back
     ∙ ap (λ xs. map later xs ++ map (told_after (run ∷ runs)) (drop (at + 1) ps)) (map-append (told_after runs) (take at ps) (p ∷ []))
-    ∙ ap (λ xs. xs ++ map (told_after (run ∷ runs)) (drop (at + 1) ps)) (map-append later (map (told_after runs) (take at ps)) (told_after runs p ∷ []))
-    ∙ append_assoc (map later (map (told_after runs) (take at ps))) (later (told_after runs p) ∷ []) (map (told_after (run ∷ runs)) (drop (at + 1) ps))
+    ∙ ap (λ xs. xs ++ map (told_after (run ∷ runs)) (drop (at + 1) ps))
+    (map-append later (map (told_after runs) (take at ps)) (told_after runs p ∷ []))
+    ∙ append_assoc (map later (map (told_after runs) (take at ps))) (later (told_after runs p) ∷ [])
+    (map (told_after (run ∷ runs)) (drop (at + 1) ps))
     ∙ ap (λ x. map later (map (told_after runs) (take at ps)) ++ x ∷ map (told_after (run ∷ runs)) (drop (at + 1) ps)) one
     ∙ ap (λ xs. map later (map (told_after runs) (take at ps)) ++ map (told_after (run ∷ runs)) xs) (sym old)
 
@@ -146,21 +166,31 @@ remove-set at ps p =
 length-front : (at : ℕ) (ps : List ProbeLife) → at < length ps → length (take at ps) ≡ at
 length-front at ps lt = let k = length-take at ps in omega arith
 
-pub partly_leave : (run : RunFrame) (runs : List RunFrame) (at : ℕ) (ps : List ProbeLife) (d p : ProbeLife) → at < length ps → Sees Leave (get_or ps at d) p run
+pub partly_leave : (run : RunFrame) (runs : List RunFrame) (at : ℕ) (ps : List ProbeLife) (d p : ProbeLife) → at < length ps
+    → Sees Leave (get_or ps at d) p run
     → joined (run ∷ runs) (partly run runs at ps) ≡ p.report_after [] ++ joined (run ∷ runs) (partly run runs at (remove (set ps at p) at))
 unfolding partly gone
 partly_leave run runs at ps d p lt sees =
-    let old : drop at ps ≡ get_or ps at d ∷ drop (at + 1) ps = drop-cons ps at d lt ∙ ap (λ n. get_or ps at d ∷ drop n ps) (let e : suc at ≡ at + 1 = omega arith in e) in
-    let one : told_after (run ∷ runs) (get_or ps at d) ≡ gone (p.report_after []) = report-is _ _ (sees runs).0 (none_before _ (sees runs).1) in
-    let front : take at (remove (set ps at p) at) ≡ take at ps = ap (take at) (remove-set at ps p) ∙ take_at (take at ps) (drop (at + 1) ps) at (length-front at ps lt) in
-    let back : drop at (remove (set ps at p) at) ≡ drop (at + 1) ps = ap (drop at) (remove-set at ps p) ∙ drop_at (take at ps) (drop (at + 1) ps) at (length-front at ps lt) in
+    let old : drop at ps ≡ get_or ps at d ∷ drop (at + 1) ps = drop-cons ps at d lt
+    ∙ ap (λ n. get_or ps at d ∷ drop n ps) (let e : suc at ≡ at + 1 = omega arith in e) in
+    let one : told_after (run ∷ runs) (get_or ps at d) ≡ gone (p.report_after []) =
+    report-is _ _ (sees runs).0 (none_before _ (sees runs).1) in
+    let front : take at (remove (set ps at p) at) ≡ take at ps = ap (take at) (remove-set at ps p)
+    ∙ take_at (take at ps) (drop (at + 1) ps) at (length-front at ps lt) in
+    let back : drop at (remove (set ps at p) at) ≡ drop (at + 1) ps = ap (drop at) (remove-set at ps p)
+    ∙ drop_at (take at ps) (drop (at + 1) ps) at (length-front at ps lt) in
     ap (λ xs. joined (run ∷ runs) (map later (map (told_after runs) (take at ps)) ++ map (told_after (run ∷ runs)) xs)) old
-    ∙ ap (λ x. joined (run ∷ runs) (map later (map (told_after runs) (take at ps)) ++ x ∷ map (told_after (run ∷ runs)) (drop (at + 1) ps))) one
+    ∙ ap (λ x. joined (run ∷ runs) (map later (map (told_after runs) (take at ps)) ++ x ∷ map (told_after (run ∷ runs)) (drop (at + 1) ps)))
+    one
     ∙ gone_joined run runs (map (told_after runs) (take at ps)) (map (told_after (run ∷ runs)) (drop (at + 1) ps)) (p.report_after [])
-    ∙ ap (λ xs. p.report_after [] ++ joined (run ∷ runs) (map later (map (told_after runs) xs) ++ map (told_after (run ∷ runs)) (drop (at + 1) ps))) (sym front)
-    ∙ ap (λ xs. p.report_after [] ++ joined (run ∷ runs) (map later (map (told_after runs) (take at (remove (set ps at p) at))) ++ map (told_after (run ∷ runs)) xs)) (sym back)
+    ∙ ap (λ xs. p.report_after []
+    ++ joined (run ∷ runs) (map later (map (told_after runs) xs) ++ map (told_after (run ∷ runs)) (drop (at + 1) ps))) (sym front)
+    ∙ ap (λ xs. p.report_after []
+    ++ joined (run ∷ runs) (map later (map (told_after runs) (take at (remove (set ps at p) at))) ++ map (told_after (run ∷ runs)) xs))
+    (sym back)
 
-pub partly_all : (run : RunFrame) (runs : List RunFrame) (at : ℕ) (ps : List ProbeLife) → length ps ≤ at → joined (run ∷ runs) (partly run runs at ps) ≡ reports ps runs
+pub partly_all : (run : RunFrame) (runs : List RunFrame) (at : ℕ) (ps : List ProbeLife) → length ps ≤ at
+    → joined (run ∷ runs) (partly run runs at ps) ≡ reports ps runs
 unfolding partly reports
 partly_all run runs at ps h =
     ap (λ xs. joined (run ∷ runs) (map later (map (told_after runs) (take at ps)) ++ map (told_after (run ∷ runs)) xs)) (drop_all at ps h)
@@ -168,20 +198,27 @@ partly_all run runs at ps h =
     ∙ ap (λ xs. joined runs (map (told_after runs) xs)) (take_all at ps h)
 
 pub map-remove : {X : Type 0} (f : X → ProbeLife) (xs : List X) (i : ℕ) → map f (remove xs i) ≡ remove (map f xs) i
-map-remove f xs i = map-append f (take i xs) (drop (suc i) xs) ∙ ap (λ ys. ys ++ map f (drop (suc i) xs)) (sym (take-map f i xs)) ∙ ap (λ ys. take i (map f xs) ++ ys) (sym (drop-map f (suc i) xs))
+map-remove f xs i = map-append f (take i xs) (drop (suc i) xs) ∙ ap (λ ys. ys ++ map f (drop (suc i) xs)) (sym (take-map f i xs))
+    ∙ ap (λ ys. take i (map f xs) ++ ys) (sym (drop-map f (suc i) xs))
 
-pub stay-step : {X : Type 0} (f : X → ProbeLife) (run : RunFrame) (runs : List RunFrame) (at : ℕ) (items items' : List X) (b x : X) → at < length items → b ≡ get_or items at b → items' ≡ set items at x
+pub stay-step : {X : Type 0} (f : X → ProbeLife) (run : RunFrame) (runs : List RunFrame) (at : ℕ) (items items' : List X) (b x : X)
+    → at < length items → b ≡ get_or items at b → items' ≡ set items at x
     → Sees Stay (f b) (f x) run → partly run runs (at + 1) (map f items') ≡ partly run runs at (map f items)
 stay-step f run runs at items items' b x lt read is sees =
     ap (λ xs. partly run runs (at + 1) (map f xs)) is ∙ ap (partly run runs (at + 1)) (map-set f items at x)
-    ∙ partly_stay run runs at (map f items) (f b) (f x) (let k : length (map f items) ≡ length items = simp length-map in omega arith) (subst (λ p. Sees Stay p (f x) run) (ap f read ∙ sym (get_or-map f items at b)) sees)
+    ∙ partly_stay run runs at (map f items) (f b) (f x) (let k : length (map f items) ≡ length items = simp length-map in omega arith)
+    (subst (λ p. Sees Stay p (f x) run) (ap f read ∙ sym (get_or-map f items at b)) sees)
 
-pub leave-step : {X : Type 0} (f : X → ProbeLife) (run : RunFrame) (runs : List RunFrame) (at : ℕ) (items items' : List X) (b x : X) → at < length items → b ≡ get_or items at b → items' ≡ remove (set items at x) at
+pub leave-step : {X : Type 0} (f : X → ProbeLife) (run : RunFrame) (runs : List RunFrame) (at : ℕ) (items items' : List X) (b x : X)
+    → at < length items → b ≡ get_or items at b → items' ≡ remove (set items at x) at
     → Sees Leave (f b) (f x) run
-    → joined (run ∷ runs) (partly run runs at (map f items)) ≡ (f x).report_after [] ++ joined (run ∷ runs) (partly run runs at (map f items'))
+    → joined (run ∷ runs) (partly run runs at (map f items)) ≡ (f x).report_after []
+    ++ joined (run ∷ runs) (partly run runs at (map f items'))
 leave-step f run runs at items items' b x lt read is sees =
-    partly_leave run runs at (map f items) (f b) (f x) (let k : length (map f items) ≡ length items = simp length-map in omega arith) (subst (λ p. Sees Leave p (f x) run) (ap f read ∙ sym (get_or-map f items at b)) sees)
-    ∙ ap (λ xs. (f x).report_after [] ++ joined (run ∷ runs) (partly run runs at xs)) (ap (λ ys. remove ys at) (sym (map-set f items at x)) ∙ sym (map-remove f (set items at x) at) ∙ ap (map f) (sym is))
+    partly_leave run runs at (map f items) (f b) (f x) (let k : length (map f items) ≡ length items = simp length-map in omega arith)
+    (subst (λ p. Sees Leave p (f x) run) (ap f read ∙ sym (get_or-map f items at b)) sees)
+    ∙ ap (λ xs. (f x).report_after [] ++ joined (run ∷ runs) (partly run runs at xs))
+    (ap (λ ys. remove ys at) (sym (map-set f items at x)) ∙ sym (map-remove f (set items at x) at) ∙ ap (map f) (sym is))
 
 last-by : (bytes : List ℕ) (before : Option ℕ) → before ≡ None → bytes_last (record { bytes = bytes; before = before }) ≡ bytes
 last-by bytes (Some n) h = cc
@@ -190,19 +227,22 @@ last-by bytes None h = refl
 last-stays : (p : ProbeLife) → leaves p [] ≡ None → bytes_last (told_after [] p) ≡ p.report_after []
 last-stays p h = last-by (p.report_after []) (p.runs_before []) (never_before (p.runs_before []) h)
 
-pub one-more-staying : {X : Type 0} (f : X → ProbeLife) (items : List X) (i : ℕ) (d : X) → i < length items → leaves (f (get_or items i d)) [] ≡ None
+pub one-more-staying : {X : Type 0} (f : X → ProbeLife) (items : List X) (i : ℕ) (d : X) → i < length items
+    → leaves (f (get_or items i d)) [] ≡ None
     → reports (map f (take (i + 1) items)) [] ≡ reports (map f (take i items)) [] ++ (f (get_or items i d)).report_after []
 unfolding reports in_turn staying
 one-more-staying f items i d lt here =
     ap (λ xs. staying (map (told_after []) xs)) (ap (map f) (take_more items i d lt) ∙ map-append f (take i items) (get_or items i d ∷ []))
     ∙ ap staying (map-append (told_after []) (map f (take i items)) (f (get_or items i d) ∷ []))
     ∙ staying-append (map (told_after []) (map f (take i items))) (told_after [] (f (get_or items i d)) ∷ [])
-    ∙ ap (λ xs. staying (map (told_after []) (map f (take i items))) ++ xs) (append-nil (bytes_last (told_after [] (f (get_or items i d)))) ∙ last-stays (f (get_or items i d)) here)
+    ∙ ap (λ xs. staying (map (told_after []) (map f (take i items))) ++ xs)
+    (append-nil (bytes_last (told_after [] (f (get_or items i d)))) ∙ last-stays (f (get_or items i d)) here)
 
 pub join-left : (before now report rest : List ℕ) → now ≡ before ++ report → before ++ (report ++ rest) ≡ now ++ rest
 join-left before now report rest e = sym (append_assoc before report rest) ∙ ap (λ xs. xs ++ rest) (sym e)
 
-pub staying-step : {X : Type 0} (f : X → ProbeLife) (items : List X) (i : ℕ) (b : X) (before mid now report : List ℕ) → i < length items → b ≡ get_or items i b → leaves (f b) [] ≡ None → report ≡ (f b).report_after []
+pub staying-step : {X : Type 0} (f : X → ProbeLife) (items : List X) (i : ℕ) (b : X) (before mid now report : List ℕ) → i < length items
+    → b ≡ get_or items i b → leaves (f b) [] ≡ None → report ≡ (f b).report_after []
     → mid ≡ before ++ reports (map f (take i items)) [] → now ≡ mid ++ report → now ≡ before ++ reports (map f (take (i + 1) items)) []
 staying-step f items i b before mid now report lt read here is done grew =
     grew ∙ ap (λ xs. xs ++ report) done ∙ append_assoc before (reports (map f (take i items)) []) report

@@ -2,3 +2,4 @@ pub mod Joining
 pub mod Lengths
 pub mod Lives
 pub mod Shown
+pub mod Partly

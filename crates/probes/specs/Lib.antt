@@ -2,4 +2,3 @@ pub mod Reports
 pub mod Shows
 pub mod Texts
 pub mod Shipped
-pub mod Partly

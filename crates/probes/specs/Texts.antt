@@ -1,13 +1,12 @@
 -- The lines that the shipped probes say, with numbers as `Display` writes them.
 use Rattle.std.specs.Prelude.{ℕ, List, ◌++◌, Option, Some, None, codes}
 use Rattle.std.specs.Fmt.{decimal}
-use Rattle.det_values.specs.Values.{RefusedAtValue}
-use Rattle.det_values.specs.declared.refused_at.Phase.{Phase}
-use Rattle.det_values.specs.declared.refused_at.Phase.TheVariants.{Prepare, Pool, Conclude}
+use Rattle.det_values.specs.Values.{RefusedAtValue, phase_word}
 
 -- finished and refused runs
 abbrev pub count_text : ℕ → ℕ → List ℕ
-count_text finished refused = codes "count " ++ (decimal finished ++ (codes " " ++ (decimal refused ++ codes "\n")))
+count_text finished refused =
+    codes "count " ++ (decimal finished ++ (codes " " ++ (decimal refused ++ codes "\n")))
 
 -- the greatest gap in nanoseconds, if there is one
 abbrev pub gap_text : Option ℕ → List ℕ
@@ -16,15 +15,13 @@ gap_text None = codes "gap none\n"
 
 -- runs, and refused ones among them
 abbrev pub limit_text : ℕ → ℕ → List ℕ
-limit_text runs refused = codes "limit " ++ (decimal runs ++ (codes " " ++ (decimal refused ++ codes "\n")))
-
-abbrev pub phase_text : Phase → List ℕ
-phase_text Prepare = codes "prepare"
-phase_text Pool = codes "pool"
-phase_text Conclude = codes "conclude"
+limit_text runs refused =
+    codes "limit " ++ (decimal runs ++ (codes " " ++ (decimal refused ++ codes "\n")))
 
 -- how many runs were seen, and where the last one of them was refused, if it was
 abbrev pub refusal_text : ℕ → Option RefusedAtValue → List ℕ
 refusal_text runs None = codes "refusal none\n"
 refusal_text runs (Some at) =
-    codes "refusal " ++ (decimal runs ++ (codes " " ++ (phase_text at.phase ++ (codes " " ++ (decimal at.pass ++ (codes " " ++ (decimal at.element ++ (codes " " ++ (decimal at.code ++ codes "\n")))))))))
+    codes "refusal " ++ (decimal runs ++ (codes " " ++ (phase_word at.phase ++ (codes " "
+    ++ (decimal at.pass ++ (codes " " ++ (decimal at.element ++ (codes " "
+    ++ (decimal at.code ++ codes "\n")))))))))

@@ -1,7 +1,7 @@
 //! The lines that the shipped probes say.
 ghost use Rattle.std.specs.Prelude.{◌≡◌, ◌≤◌, length, IfOk, Some};
 ghost use Rattle.std.specs.String.{string_bytes};
-ghost use Rattle.probes.specs.Texts.{count_text, gap_text, limit_text, phase_text, refusal_text};
+ghost use Rattle.probes.specs.Texts.{count_text, gap_text, limit_text, refusal_text};
 
 use det_values::{Bytes, OutOfMemory, Phase, RefusedAt};
 use std::alloc::Global;
@@ -54,16 +54,6 @@ pub fn limit_line(alloc: Global, seen: u32, refused: u32) -> Result<Bytes, OutOf
     Ok(bytes_of(text))
 }
 
-fn phase_word(phase: Phase) -> &'static str
-    ensures { result.now ≡ phase_text phase }
-{
-    match phase {
-        Phase::Prepare => "prepare",
-        Phase::Pool => "pool",
-        Phase::Conclude => "conclude",
-    }
-}
-
 fn refusal_at(
     alloc: Global,
     seen: u32,
@@ -72,10 +62,12 @@ fn refusal_at(
     element: u32,
     code: u32,
 ) -> Result<Bytes, OutOfMemory>
-    ensures bytes { IfOk result (λ bytes. bytes ≡ refusal_text seen (Some (record { phase = phase; pass = pass; element = element; code = code }))) }
+    ensures bytes { IfOk result
+        (λ bytes. bytes ≡ refusal_text seen
+        (Some (record { phase = phase; pass = pass; element = element; code = code }))) }
     ensures short { IfOk result (λ bytes. length bytes ≤ 256) }
 {
-    let phase = phase_word(phase);
+    let phase = phase.word();
     let text = format!(in alloc; "refusal {seen} {phase} {pass} {element} {code}\n")?;
     Ok(bytes_of(text))
 }

@@ -8,6 +8,7 @@ use det_values::OutOfMemory;
 use det_cli::top;
 use probes::{CountProbe, FirstRefusalProbe, GapProbe, Probe};
 use std::alloc::{AllocError, Global};
+use std::sync::Arc;
 use std::thread::Threads;
 use worker_pool::{Gate, NoGate};
 
@@ -63,14 +64,14 @@ fn shelf_of(alloc: Global, files: &[(&str, &[u8])], edges: Edges) -> Result<MemS
 }
 
 /// Runs the words of a line over these files, with these probes and this gate.
-pub fn run_with<R: Threads + Sync, G: Gate>(
+pub fn run_with<R: Threads + Sync, G: Gate + Send + Sync + 'static>(
     rt: &R,
     alloc: Global,
     line: &str,
     files: &[(&str, &[u8])],
     edges: Edges,
     probes: &mut Vec<Box<dyn Probe>>,
-    gate: &G,
+    gate: &Arc<G, Global>,
 ) -> Result<Ran, NoMemory>
     requires { vec_len probes.old ≤ 1024 }
 {
@@ -107,7 +108,8 @@ pub fn run<R: Threads + Sync>(
     probes.push(probe).map_err(|_| NoMemory)?;
     let probe = Box::new(alloc, FirstRefusalProbe::new()).map_err(|_| NoMemory)?;
     probes.push(probe).map_err(|_| NoMemory)?;
-    run_with(rt, alloc, line, files, edges, &mut probes, &NoGate)
+    let gate = Arc::new(alloc, NoGate).map_err(|_| NoMemory)?;
+    run_with(rt, alloc, line, files, edges, &mut probes, &gate)
 }
 
 /// Runs the words of a line over a manifest `m` and a stimulus `s`, where nothing fails and there is room for a record.

@@ -3,6 +3,7 @@ use probes::Probe;
 use program_runs::{Edges, Ran, run, run_with};
 use std::alloc::Global;
 use std::test::*;
+use std::sync::Arc;
 use std::thread::Threads;
 use worker_pool::{Gate, MeetGate};
 
@@ -47,7 +48,11 @@ fn many_particles_draw_the_same_words_whatever_the_workers(rt: HostRuntime) -> R
 }
 
 /// The summary of a simulated run by two workers, which pass a gate. No probe reports.
-fn sim_through<R: Threads + Sync, G: Gate>(rt: &R, alloc: Global, gate: &G) -> Result<Ran, Fail> {
+fn sim_through<R: Threads + Sync, G: Gate + Send + Sync + 'static>(
+    rt: &R,
+    alloc: Global,
+    gate: &Arc<G, Global>,
+) -> Result<Ran, Fail> {
     let mut probes: Vec<Box<dyn Probe>> = Vec::new(alloc);
     let line = "sim 7 --workers 2";
     let edges = Edges::calm(300);
@@ -56,7 +61,7 @@ fn sim_through<R: Threads + Sync, G: Gate>(rt: &R, alloc: Global, gate: &G) -> R
 
 #[test]
 fn the_workers_of_a_simulated_run_meet(rt: HostRuntime) -> Result<(), Fail> {
-    let gate = MeetGate::new();
+    let gate = Arc::new(rt.alloc(), MeetGate::new())?;
     let ran = sim_through(&rt, rt.alloc(), &gate)?;
     assert!(rt; gate.met());
     let summary =

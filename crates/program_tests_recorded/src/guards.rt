@@ -5,6 +5,7 @@ use program_runs::{
 };
 use std::alloc::Global;
 use std::test::*;
+use std::sync::Arc;
 use std::thread::Threads;
 use worker_pool::{Gate, MeetGate};
 
@@ -112,12 +113,12 @@ fn where_all_refuse_the_first_is_told(rt: HostRuntime) -> Result<(), Fail> {
 }
 
 /// The record of a manifest over a text by two workers that pass a gate, shown to nobody.
-fn record_through<R: Threads + Sync, G: Gate>(
+fn record_through<R: Threads + Sync, G: Gate + Send + Sync + 'static>(
     rt: &R,
     alloc: Global,
     manifest: &str,
     text: &[u8],
-    gate: &G,
+    gate: &Arc<G, Global>,
 ) -> Result<Ran, Fail> {
     let files = [("m", manifest.as_bytes()), ("s", text)];
     let mut probes: Vec<Box<dyn Probe>> = Vec::new(alloc);
@@ -136,7 +137,7 @@ fn record_through<R: Threads + Sync, G: Gate>(
 #[test]
 fn the_workers_of_a_run_meet(rt: HostRuntime) -> Result<(), Fail> {
     let manifest = guard_manifest(rt.alloc())?;
-    let gate = MeetGate::new();
+    let gate = Arc::new(rt.alloc(), MeetGate::new())?;
     let ran = record_through(&rt, rt.alloc(), manifest.as_str(), guard_stimulus(), &gate)?;
     assert!(rt; gate.met());
     let digest = "9d8db4b1a7ae3efccaa45c075129c2dbbdf74f6d99e832096b1883c53b97ec7b";

@@ -10,6 +10,7 @@ use program_runs::{
 };
 use std::alloc::Global;
 use std::test::*;
+use std::sync::Arc;
 use std::thread::Threads;
 use worker_pool::NoGate;
 
@@ -65,7 +66,8 @@ fn shown_to<R: Threads + Sync>(
     let made = guard_record(rt, alloc)?;
     let files = [("m", made.out.bytes())];
     let edges = Edges::calm(20_000);
-    Ok(run_with(rt, alloc, "show m", &files, edges, probes, &NoGate)?)
+    let gate = Arc::new(alloc, NoGate)?;
+    Ok(run_with(rt, alloc, "show m", &files, edges, probes, &gate)?)
 }
 
 #[test]

@@ -4,7 +4,7 @@ use Rattle.std.proofs.lemmas.List.{append-nil, take_all, take_more}
 use Rattle.std.proofs.lemmas.List.Elements.{All-push, All-nil}
 use Rattle.std.proofs.lemmas.Grind.{flat_map-append}
 use Rattle.std.specs.List.{flat_map, All}
-use Rattle.record_codec.specs.Appending.{Grows}
+use Rattle.det_values.specs.Spelling.{Grows}
 
 -- the spellings of the first i items were appended, and these items are in their ranges
 pub record HasPut {X : Type 0} (f : X → List ℕ) (P : X → Type 0) (xs : List X) (i : ℕ) (old new : List ℕ) : Type 0 where

@@ -1,5 +1,5 @@
 -- An item is its first bytes, and then what they ask for.
-use Rattle.std.proofs.Common.{◌≡◌, ℕ, zero, suc, Bool, true, false, cond, eqb, ltb, List, [], ◌∷◌, ◌++◌, length, refl, sym, ap, ◌∙◌}
+use Rattle.std.proofs.Common.{◌≡◌, ℕ, suc, Bool, true, false, cond, eqb, ltb, List, [], ◌∷◌, length, refl, sym, ◌∙◌}
 use Rattle.det_values.specs.declared.format.Format.{Format}
 use Rattle.det_values.specs.declared.frames.CycleInput.{CycleInput}
 use Rattle.det_values.specs.declared.frames.Frame.{Frame}
@@ -16,7 +16,8 @@ use Rattle.record_grammar.specs.Numbers.{number}
 use Rattle.record_grammar.specs.Grammar.{profile_at, input_at, refused_at, tag_reason, init_from, finished_from, init_at, finished_at, run_at, tagged_at, frame_at, item_at}
 use Rattle.record_grammar.proofs.Steady.{IsSteady, steady_same, steady_give, steady_refuse, steady_then, steady_if, steady_wider, by_first, steady_first}
 use Rattle.record_grammar.proofs.SteadyFields.{number_steady, profile_steady, input_steady, refused_steady, init_from_steady, finished_from_steady, framed_steady}
-use Rattle.record_codec.specs.Resuming.{BegunValue, ready, init_of, run_of, begun_run, refused_tag, begun_tagged, begun_at, framed, go_on}
+use Rattle.record_grammar.specs.Laws.{tag_reason_at}
+use Rattle.record_codec.specs.Resuming.{BegunValue, ready, init_of, run_of, begun_run, begun_tagged, begun_at, framed, go_on}
 
 pub bind_bind : {A B C : Type 0} (r : Read A) (f : A × List ℕ → Read B) (g : B × List ℕ → Read C) → ((r >>= f) >>= g) ≡ (r >>= λ x. f x >>= g)
 bind_bind (Got x) f g = refl
@@ -60,7 +61,7 @@ one_frame f b tag why = steady_if 1 (eqb b tag) (λ bytes. ready_frame (f, bytes
 
 tagged_steady : (place : Place) (b : ℕ) → IsSteady 1 (behind_tag place b)
 unfolding begun_tagged
-tagged_steady places.Header b = steady_refuse (refused_tag places.Header b)
+tagged_steady places.Header b = steady_refuse (tag_reason_at places.Header b)
 tagged_steady (places.Register layout) b = one_frame frames.Register b 1 (tag_reason b)
 tagged_steady (places.Discover layout) b = one_frame frames.Discover b 2 (tag_reason b)
 tagged_steady (places.Init layout) b =

@@ -1,23 +1,14 @@
 -- Flat elements, spelled in a format.
-use Rattle.std.proofs.Common.{◌≡◌, ℕ, suc, ◌+◌, ◌<◌, ◌≤◌, List, [], ◌∷◌, ◌++◌, length, refl, sym, ap, ◌∙◌, append_assoc, arith, length-append}
+use Rattle.std.proofs.Common.{◌≡◌, ℕ, ◌+◌, ◌≤◌, List, [], ◌∷◌, ◌++◌, length, refl, sym, ap, ◌∙◌, append_assoc, arith, length-append}
 use Rattle.std.specs.List.{flat_map, All}
 use Rattle.std.proofs.lemmas.List.{append-nil}
 use Rattle.std.proofs.lemmas.List.Concat.{flat_map-append}
 use Rattle.std.proofs.lemmas.List.Elements.{All-nil, All-cons, All-head, All-tail}
 use Rattle.det_values.specs.declared.format.Format.{Format}
-use Rattle.det_values.specs.declared.format.Format.TheVariants.{One, Two}
+use Rattle.det_values.specs.declared.format.Format.TheVariants.{One}
 use Rattle.det_values.specs.declared.frames.DrawnElement.{DrawnElement}
 use Rattle.det_values.specs.Spelling as flat
-use Rattle.record_grammar.specs.Spelling.{spelled_u16, spelled_u32, spelled_element, spelled_drawn, IsDrawn, MayDraw}
-use Rattle.record_codec.specs.Appending.{Grows}
-
-one_same : (e : DrawnElement) → flat.spelled_drawn e ≡ spelled_drawn Two e
-unfolding flat.spelled_drawn flat.spelled_u16 flat.spelled_u32 spelled_u16 spelled_u32
-one_same e = sym (append_assoc (spelled_u16 (length e.bytes)) e.bytes (spelled_u32 e.draws))
-
-pub all_same : (es : List DrawnElement) → flat.spelled_all es ≡ flat_map (spelled_drawn Two) es
-all_same [] = refl
-all_same (e ∷ es) = ap (λ (xs : List ℕ). xs ++ flat.spelled_all es) (one_same e) ∙ ap (λ (xs : List ℕ). spelled_drawn Two e ++ xs) (all_same es)
+use Rattle.record_grammar.specs.Spelling.{spelled_u16, spelled_element, spelled_drawn, IsDrawn, MayDraw}
 
 pub in_ranges : (format : Format) (es : List DrawnElement) → All flat.IsDrawn es → All (λ e. MayDraw format e.draws) es → All (IsDrawn format) es
 in_ranges format [] h k = All-nil (IsDrawn format)

@@ -1,15 +1,15 @@
 -- What a decoder's answer leaves of it.
-use Rattle.std.proofs.Common.{◌≡◌, ℕ, zero, suc, ◌+◌, ◌-◌, ◌<◌, ◌≤◌, Bool, true, false, List, [], ◌∷◌, ◌++◌, length, drop, Option, Some, None, Result, Ok, Err, refl, sym, ap, subst, ◌∙◌, arith, length-drop, length-append, append_assoc}
+use Rattle.std.proofs.Common.{◌≡◌, ℕ, ◌+◌, ◌-◌, ◌<◌, ◌≤◌, true, false, List, [], ◌∷◌, ◌++◌, length, drop, Option, Some, None, Result, Ok, Err, refl, sym, ap, subst, ◌∙◌, arith, length-drop, length-append, append_assoc}
 use Rattle.std.proofs.lemmas.List.{append-nil, drop-drop}
 use Rattle.record_grammar.specs.declared.fault.Reason.{Reason}
 use Rattle.record_grammar.specs.declared.fault.RecordFault.{RecordFault}
 use Rattle.record_grammar.specs.declared.place.Place.{Place}
 use Rattle.record_grammar.specs.declared.place.Place.TheVariants as places
 use Rattle.record_grammar.specs.declared.item.Item.{Item}
-use Rattle.record_grammar.specs.Read.{Read, Got, More, Bad}
+use Rattle.record_grammar.specs.Read.{Got, More, Bad}
 use Rattle.record_grammar.specs.Grammar.{item_at, init_from, finished_from}
 use Rattle.record_grammar.specs.Places.{after, CanFollow, may_come}
-use Rattle.record_grammar.specs.Record.{items, fault, fault_from, fault_so_far, ending_at, early}
+use Rattle.record_grammar.specs.Record.{fault, fault_from, ending_at, early}
 use Rattle.record_grammar.specs.Leads.{Leads}
 use Rattle.record_grammar.proofs.Steady.{IsSteady}
 use Rattle.record_grammar.proofs.SteadyFields.{item_steady, framed_steady, init_from_steady, finished_from_steady}

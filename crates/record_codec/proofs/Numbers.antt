@@ -1,5 +1,5 @@
 -- The numbers that begin with given bytes.
-use Rattle.std.proofs.Common.{◌≡◌, ℕ, zero, suc, ◌+◌, ◌*◌, ◌-◌, ◌^◌, ◌<◌, ◌≤◌, List, [], ◌∷◌, ◌++◌, length, get_or, drop, Bool, true, false, cond, if◌then◌else◌, refl, sym, ap, subst, ◌∙◌, arith, lit<, add-one, drop-cons, length-drop}
+use Rattle.std.proofs.Common.{◌≡◌, ℕ, zero, suc, ◌+◌, ◌*◌, ◌-◌, ◌^◌, ◌<◌, ◌≤◌, List, [], ◌∷◌, length, get_or, drop, Bool, true, false, cond, if◌then◌else◌, refl, sym, ap, subst, ◌∙◌, arith, lit<, add-one, drop-cons, length-drop}
 use Rattle.std.proofs.lemmas.List.{nil_from_length}
 use Rattle.record_grammar.specs.declared.limits.Limits.{Limits}
 use Rattle.record_grammar.specs.declared.fault.Reason.TheVariants.{Range}

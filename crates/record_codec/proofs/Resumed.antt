@@ -1,5 +1,5 @@
 -- Reading on is reading from the beginning.
-use Rattle.std.proofs.Common.{◌≡◌, ℕ, zero, suc, ◌+◌, ◌-◌, ◌<◌, ◌≤◌, List, [], ◌∷◌, ◌++◌, length, take, drop, Result, Ok, Err, refl, sym, ap, subst, ◌∙◌, arith, length-drop}
+use Rattle.std.proofs.Common.{◌≡◌, ℕ, ◌+◌, ◌-◌, ◌<◌, ◌≤◌, List, [], ◌++◌, length, drop, Err, refl, sym, ap, ◌∙◌, arith, length-drop}
 use Rattle.std.proofs.lemmas.List.{append-nil, drop-drop}
 use Rattle.det_values.specs.declared.format.Format.{Format}
 use Rattle.det_values.specs.declared.frames.CycleInput.{CycleInput}
@@ -10,18 +10,16 @@ use Rattle.det_values.specs.declared.frames.Frame.TheVariants as frames
 use Rattle.record_grammar.specs.declared.place.Place.{Place}
 use Rattle.record_grammar.specs.declared.item.Item.{Item}
 use Rattle.record_grammar.specs.declared.item.Item.TheVariants as items
-use Rattle.record_grammar.specs.Read.{Read, Got, More, Bad, ◌>>=◌, many, with_front}
+use Rattle.record_grammar.specs.Read.{Read, Got, ◌>>=◌, many, with_front}
 use Rattle.record_grammar.specs.Grammar.{element_at, drawn_at, string_at, init_from, finished_from}
-use Rattle.record_grammar.proofs.Steady.{IsSteady}
 use Rattle.record_grammar.proofs.SteadyFields.{string_steady}
 use Rattle.record_codec.specs.declared.stop.Stop.{Stop}
 use Rattle.record_codec.specs.declared.stop.Stop.TheVariants as stops
 use Rattle.record_codec.specs.declared.partial.InitSoFar.{InitSoFar}
 use Rattle.record_codec.specs.declared.partial.RunSoFar.{RunSoFar}
-use Rattle.record_codec.specs.declared.partial.Partial.{Partial}
 use Rattle.record_codec.specs.declared.partial.Partial.TheVariants as partials
 use Rattle.record_codec.specs.Gives.{Stops}
-use Rattle.record_codec.specs.Resuming.{framed, resume, Resumes, AnswersBy}
+use Rattle.record_codec.specs.Resuming.{framed, Resumes, AnswersBy}
 use Rattle.record_codec.proofs.Many.{many_stops, many_done, Continues}
 
 pub stops_then : {A B : Type 0} (stop : Stop) (r : Read A) (f : A × List ℕ → Read B) → Stops stop r → Stops stop (r >>= f)

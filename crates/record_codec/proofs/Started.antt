@@ -1,16 +1,15 @@
 -- Reading an item from its beginning.
-use Rattle.std.proofs.Common.{◌≡◌, ℕ, zero, suc, ◌+◌, ◌-◌, ◌<◌, ◌≤◌, List, [], ◌∷◌, ◌++◌, length, drop, Result, Ok, Err, refl, sym, ap, subst, ◌∙◌, arith, length-drop}
+use Rattle.std.proofs.Common.{◌≡◌, ℕ, ◌+◌, ◌-◌, ◌≤◌, List, [], ◌++◌, length, drop, Result, Ok, Err, refl, sym, ap, subst, ◌∙◌, arith, length-drop}
 use Rattle.std.proofs.lemmas.List.{append-nil, drop-drop}
 use Rattle.record_grammar.specs.declared.place.Place.{Place}
 use Rattle.record_grammar.specs.declared.item.Item.{Item}
-use Rattle.record_grammar.specs.Read.{Read, Got, More, Bad, ◌>>=◌}
+use Rattle.record_grammar.specs.Read.{Read, Got, ◌>>=◌}
 use Rattle.record_grammar.specs.Grammar.{item_at}
-use Rattle.record_grammar.proofs.Steady.{IsSteady}
 use Rattle.record_codec.specs.declared.stop.Stop.{Stop}
 use Rattle.record_codec.specs.declared.partial.Partial.{Partial}
 use Rattle.record_codec.specs.declared.partial.Partial.TheVariants as partials
 use Rattle.record_codec.specs.Gives.{Stops}
-use Rattle.record_codec.specs.Resuming.{BegunValue, begun_at, go_on, resume, Resumes, AnswersBy}
+use Rattle.record_codec.specs.Resuming.{BegunValue, begun_at, go_on, resume, AnswersBy}
 use Rattle.record_codec.proofs.Begins.{begun_steady, begun_goes_on}
 use Rattle.record_codec.proofs.Resumed.{stops_then}
 

@@ -1,5 +1,5 @@
 -- Numbers all of whose bytes are there.
-use Rattle.std.proofs.Common.{◌≡◌, ℕ, zero, suc, ◌+◌, ◌*◌, ◌-◌, ◌^◌, ◌<◌, ◌≤◌, List, [], ◌∷◌, ◌++◌, length, take, drop, get_or, Bool, true, false, cond, refl, sym, ap, ◌∙◌, arith, length-drop}
+use Rattle.std.proofs.Common.{◌≡◌, ℕ, zero, suc, ◌+◌, ◌*◌, ◌-◌, ◌<◌, ◌≤◌, List, [], ◌∷◌, length, take, drop, get_or, Bool, true, cond, refl, sym, ap, ◌∙◌, arith, length-drop}
 use Rattle.std.proofs.lemmas.List.{take_all}
 use Rattle.std.proofs.lemmas.Bool.Decides.{nat_tests}
 use Rattle.std.specs.Int.{w16, w32, w64, from_be_bytes}
@@ -8,7 +8,7 @@ use Rattle.record_grammar.specs.declared.limits.Limits.TheVariants.{Between, Aro
 use Rattle.record_grammar.specs.declared.fault.Reason.TheVariants.{Range}
 use Rattle.record_grammar.specs.Read.{Read, Got, Bad}
 use Rattle.record_grammar.specs.Numbers.{lowest, highest, can_be, number_from, IsWithin}
-use Rattle.record_codec.proofs.Numbers.{highest-mono, lowest-le-highest}
+use Rattle.record_codec.proofs.Numbers.{highest-mono}
 
 -- the number whose first bytes are those of v, and whose others are the first of these
 unfoldable pub value : ℕ → ℕ → List ℕ → ℕ

@@ -1,4 +1,3 @@
-pub mod Appending
 pub mod Gives
 pub mod Policies
 pub mod Resuming

@@ -1,11 +1,10 @@
 -- What a decoder keeps of an item of which bytes were read already.
-use Rattle.std.specs.Prelude.{◌≡◌, ℕ, ◌+◌, List, [], ◌∷◌, ◌++◌, length, drop, Result, Ok, Err, ◌==◌, nat_lt, if◌then◌else◌}
+use Rattle.std.specs.Prelude.{◌≡◌, ℕ, List, [], ◌∷◌, ◌++◌, length, drop, Result, Ok, Err, ◌==◌, nat_lt, if◌then◌else◌}
 use Rattle.det_values.specs.declared.format.Format.{Format}
 use Rattle.det_values.specs.declared.frames.CycleInput.{CycleInput}
 use Rattle.det_values.specs.declared.frames.DrawnElement.{DrawnElement}
 use Rattle.det_values.specs.declared.frames.Frame.{Frame}
 use Rattle.det_values.specs.declared.frames.Frame.TheVariants as frames
-use Rattle.record_grammar.specs.declared.fault.Reason.{Reason}
 use Rattle.record_grammar.specs.declared.fault.Reason.TheVariants.{TooMany, Trailing}
 use Rattle.record_grammar.specs.declared.place.Layout.{Layout}
 use Rattle.record_grammar.specs.declared.place.Place.{Place}
@@ -15,6 +14,7 @@ use Rattle.record_grammar.specs.declared.item.Item.TheVariants as items
 use Rattle.record_grammar.specs.Read.{Read, Got, More, Bad, ◌>>=◌}
 use Rattle.record_grammar.specs.Numbers.{number}
 use Rattle.record_grammar.specs.Grammar.{profile_at, input_at, refused_at, tag_reason, init_from, finished_from, item_at}
+use Rattle.record_grammar.specs.Laws.{tag_reason_at}
 use Rattle.record_codec.specs.declared.stop.Stop.{Stop}
 use Rattle.record_codec.specs.declared.partial.Partial.{Partial}
 use Rattle.record_codec.specs.declared.partial.Partial.TheVariants as partials
@@ -41,19 +41,13 @@ begun_run layout bytes = do
   if flag.0 == 0 then (number 4 0 65536 flag.1 >>= λ n. Got (run_of layout.format input.0 [] n.0, n.1))
       else (refused_at input.0 flag.1 >>= λ f. Got (ready (items.Frame f.0), f.1))
 
--- what a tag is refused for in a place where it may not stand
-abbrev pub refused_tag : Place → ℕ → Reason
-refused_tag places.End b = Trailing
-refused_tag (places.Runs layout before) b = if b == 4 then TooMany else tag_reason b
-refused_tag place b = tag_reason b
-
 -- behind a tag, with so many bytes from the tag on
 unfoldable pub begun_tagged : Place → ℕ → List ℕ → ℕ → Read BegunValue
-begun_tagged places.Header b bytes left = Bad (refused_tag places.Header b) left
-begun_tagged (places.Register layout) b bytes left = if b == 1 then Got (ready (items.Frame frames.Register), bytes) else Bad (refused_tag (places.Register layout) b) left
-begun_tagged (places.Discover layout) b bytes left = if b == 2 then Got (ready (items.Frame frames.Discover), bytes) else Bad (refused_tag (places.Discover layout) b) left
+begun_tagged places.Header b bytes left = Bad (tag_reason_at places.Header b) left
+begun_tagged (places.Register layout) b bytes left = if b == 1 then Got (ready (items.Frame frames.Register), bytes) else Bad (tag_reason_at (places.Register layout) b) left
+begun_tagged (places.Discover layout) b bytes left = if b == 2 then Got (ready (items.Frame frames.Discover), bytes) else Bad (tag_reason_at (places.Discover layout) b) left
 begun_tagged (places.Init layout) b bytes left =
-    if b == 3 then (number 4 0 65536 bytes >>= λ n. Got (init_of [] n.0, n.1)) else Bad (refused_tag (places.Init layout) b) left
+    if b == 3 then (number 4 0 65536 bytes >>= λ n. Got (init_of [] n.0, n.1)) else Bad (tag_reason_at (places.Init layout) b) left
 begun_tagged (places.Runs layout before) b bytes left =
     if b == 4 then (if nat_lt before 1000000 then begun_run layout bytes else Bad TooMany left)
     else if b == 5 then Got (ready (items.Frame frames.Terminate), bytes) else Bad (tag_reason b) left

@@ -37,13 +37,13 @@ pub record StandsFor (d : Decoder) (bytes : List ℕ) (given : List Item) : Type
   pub leads : Leads places.Header bytes given d.place rest
   pub stands : Stands d.fault d bytes rest
 
--- nothing was fed since the last answer that no whole item is left, or since a fault was found
-abbrev pub IsSettled : Decoder → Type 0
-IsSettled d = d.settled ≡ true
-
 -- the fault that was answered
 abbrev pub told : Decoder → Option RecordFault
 told d = d.fault
+
+-- a fault was answered, or nothing was fed since the last answer that no whole item is left
+abbrev pub IsSettled : Decoder → Type 0
+IsSettled d = told d ≡ None → d.settled ≡ true
 
 -- how many items may still come
 abbrev pub room : Decoder → ℕ
@@ -65,11 +65,11 @@ NextIs (Ok None) d bytes given = StandsFor d bytes given × (items bytes ≡ giv
 NextIs (Err (errors.Fault f)) d bytes given = StandsFor d bytes given × (items bytes ≡ given) × (fault_so_far bytes ≡ Some f)
 NextIs (Err errors.OutOfMemory) d bytes given = StandsFor d bytes given
 
--- what an answer leaves: a fault that was answered is told, and a decoder that needs more bytes is settled
+-- what an answer leaves: a fault that was answered is told, and a decoder without a whole item is settled
 abbrev pub Leaves : Result (Option Item) DecodeError → Decoder → Type 0
 Leaves (Ok (Some item)) d = told d ≡ None
 Leaves (Ok None) d = (told d ≡ None) × IsSettled d
-Leaves (Err (errors.Fault f)) d = told d ≡ Some f
+Leaves (Err (errors.Fault f)) d = (told d ≡ Some f) × IsSettled d
 Leaves (Err errors.OutOfMemory) d = told d ≡ None
 
 abbrev pub FinishIs : Result (Unit {0}) RecordFault → List ℕ → Type 0

@@ -1,7 +1,8 @@
 //! The first bytes of an item, up to its elements.
 ghost use Rattle.std.specs.Prelude.{◌≡◌};
 ghost use Rattle.record_codec.specs.Gives.{Gives};
-ghost use Rattle.record_codec.specs.Resuming.{begun_view, begun_at, begun_tagged, begun_run, refused_tag};
+ghost use Rattle.record_codec.specs.Resuming.{begun_view, begun_at, begun_tagged, begun_run};
+ghost use Rattle.record_grammar.specs.Laws.{tag_reason_at};
 
 use crate::header::profile;
 use crate::input::{input, refused_run};
@@ -44,7 +45,7 @@ fn begin_run(alloc: Global, layout: Layout, bytes: &[u8]) -> Result<(Begun, &[u8
 
 /// What a tag is refused for that may not stand in a place.
 fn reason_of(place: Place, tag: u8) -> Reason
-    ensures { result ≡ refused_tag place tag }
+    ensures { result ≡ tag_reason_at place tag }
 {
     match (place, tag) {
         (Place::End, _) => Reason::Trailing,

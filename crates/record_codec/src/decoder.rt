@@ -25,7 +25,7 @@ pub struct Decoder {
     place: Place,
     partial: Partial,
     fault: Option<RecordFault>,
-    /// Nothing was fed since `next` answered that it needs more, or a fault.
+    /// Nothing was fed since `next` answered that it needs more, or found a fault.
     settled: bool,
     ghost in_range: { read ≤ vec_len pending },
     ghost countable: { before + vec_len pending < 2 ^ 64 },
@@ -111,11 +111,12 @@ impl Decoder {
         ensures told { told self.new ≡ told self.old }
         ensures room { room self.new ≡ room self.old }
         ensures feedable { OnOk result (told self.old ≡ None → feedable self.new + length piece.now ≡ feedable self.old) }
+        ensures refused { OnErr result (feedable self.new ≡ feedable self.old) }
+        ensures settled { OnErr result (IsSettled self.old → IsSettled self.new) }
     {
         if let Some(_) = self.fault {
             return Ok(());
         }
-        self.settled = false;
         let read = self.read;
         drop_front(&mut self.pending, read);
         self.before += read as u64;
@@ -124,12 +125,15 @@ impl Decoder {
             return Err(OutOfMemory);
         }
         match self.pending.extend_from_slice(piece) {
-            Ok(()) => Ok(()),
+            Ok(()) => {
+                self.settled = false;
+                Ok(())
+            }
             Err(_) => Err(OutOfMemory),
         }
     }
 
-    /// What the record lacks, if no more bytes come. For Truncated the offset is the number of bytes fed.
+    /// What the record lacks, if no more bytes come; after a fault that fault again. For Truncated the offset is the number of bytes fed.
     pub fn finish(&self) -> Result<(), RecordFault>
         requires { IsSettled self.now }
         ensures { (bytes : List ℕ) (given : List Item) → StandsFor self.now bytes given → FinishIs result bytes }

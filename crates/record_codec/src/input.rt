@@ -6,7 +6,9 @@ ghost use Rattle.record_codec.specs.Gives.{Gives, Stops, Pushed};
 
 use crate::number::{sample_value, u8_at, u16_at, u32_at, u64_at};
 use crate::stop::Stop;
-use det_values::{CycleInput, Frame, Limited, Outcome, Phase, RefusedAt, RunFrame, Sample, Samples};
+use det_values::{
+    CycleInput, Frame, Limited, Outcome, Phase, RefusedAt, RunFrame, Sample, Samples,
+};
 use std::alloc::Global;
 
 const MAX_SAMPLES: u32 = 4_096;

@@ -22,5 +22,5 @@ pub use decoder::Decoder;
 pub use encode::{encode_frame, encode_header};
 pub use record_grammar::{Item, Layout, Limits, Place, Reason, RecordFault};
 
-
-
+#[cfg(test)]
+mod tests;

@@ -2,7 +2,7 @@
 ghost use Rattle.std.specs.Prelude.{◌≡◌, ◌+◌, ◌≤◌, ◌<◌, ◌^◌, length};
 
 use crate::stop::Stop;
-use det_values::{CycleInput, Elements, DrawnElements, Format};
+use det_values::{CycleInput, DrawnElements, Elements, Format};
 use record_grammar::Item;
 
 /// The elements of an Init frame so far, and how many are left.

@@ -1,27 +1,12 @@
 //! Numbers and elements, appended.
 ghost use Rattle.std.specs.Prelude.{◌≡◌, ◌++◌, ◌∷◌, [], OnOk, FitsSigned};
 ghost use Rattle.std.specs.Int.{w64};
-ghost use Rattle.record_grammar.specs.Spelling.{spelled_u16, spelled_u32, spelled_u64, spelled_signed, AreBytes, spelled_element, IsElement};
-ghost use Rattle.record_codec.specs.Appending.{Grows};
+ghost use Rattle.record_grammar.specs.Spelling.{spelled_u64, spelled_signed, spelled_element, IsElement};
+ghost use Rattle.det_values.specs.Spelling.{Grows};
 
 use det_values::Bytes64;
+use det_values::put::{put_slice, put_u16};
 use std::alloc::AllocError;
-
-#[tactic(auto, unfolding(record_grammar::specs::Spelling::spelled_u16))]
-pub fn put_u16(out: &mut Vec<u8>, n: u16) -> Result<(), AllocError>
-    ensures ok { OnOk result (out.new.items ≡ out.old.items ++ spelled_u16 n) }
-    ensures grows { Grows out.old.items out.new.items }
-{
-    out.extend_from_slice(&n.to_be_bytes())
-}
-
-#[tactic(auto, unfolding(record_grammar::specs::Spelling::spelled_u32))]
-pub fn put_u32(out: &mut Vec<u8>, n: u32) -> Result<(), AllocError>
-    ensures ok { OnOk result (out.new.items ≡ out.old.items ++ spelled_u32 n) }
-    ensures grows { Grows out.old.items out.new.items }
-{
-    out.extend_from_slice(&n.to_be_bytes())
-}
 
 #[tactic(auto, unfolding(record_grammar::specs::Spelling::spelled_u64))]
 pub fn put_u64(out: &mut Vec<u8>, n: u64) -> Result<(), AllocError>
@@ -48,15 +33,6 @@ pub fn put_u8(out: &mut Vec<u8>, n: u8) -> Result<(), AllocError>
 {
     out.push(n)?;
     Ok(())
-}
-
-/// Bytes without their length.
-pub fn put_slice(out: &mut Vec<u8>, bytes: &[u8]) -> Result<(), AllocError>
-    ensures ok { OnOk result (out.new.items ≡ out.old.items ++ bytes.now) }
-    ensures grows { Grows out.old.items out.new.items }
-    ensures fields { AreBytes bytes.now }
-{
-    out.extend_from_slice(bytes)
 }
 
 /// An element, its length before it.

@@ -2,11 +2,14 @@
 ghost use Rattle.std.specs.Prelude.{◌≡◌, ◌<◌, ◌≤◌, ◌++◌, length, OnOk};
 ghost use Rattle.std.specs.List.{flat_map, All};
 ghost use Rattle.record_grammar.specs.Spelling.{spelled_element, IsElement, spelled_drawn, MayDraw, IsDrawn, spelled_time, IsTime, spelled_sample, IsSample, spelled_input, IsInput, phase_number, spelled_refusal, IsRefusal, AreBytes, spelled_finished, spelled_outcome, MayDrawAll, IsOutcome, spelled_frame, CanSpell, IsFrame};
-ghost use Rattle.record_codec.specs.Appending.{Grows};
+ghost use Rattle.det_values.specs.Spelling.{Grows};
 ghost use Rattle.det_values.specs.declared.format.Format.TheVariants.{One};
 
-use crate::put::{put_element, put_i64, put_slice, put_u8, put_u16, put_u32, put_u64};
-use det_values::{Bytes64, CycleInput, DrawnElements, Format, Frame, Outcome, Phase, RefusedAt, Sample};
+use crate::put::{put_element, put_i64, put_u8, put_u64};
+use det_values::put::{put_slice, put_u16, put_u32};
+use det_values::{
+    Bytes64, CycleInput, DrawnElements, Format, Frame, Outcome, Phase, RefusedAt, Sample,
+};
 use std::alloc::AllocError;
 
 fn put_elements(out: &mut Vec<u8>, elements: &[Bytes64]) -> Result<(), AllocError>

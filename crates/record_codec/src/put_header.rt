@@ -4,9 +4,10 @@ ghost use Rattle.std.specs.Int.{w64};
 ghost use Rattle.std.specs.List.{flat_map, All};
 ghost use Rattle.det_values.specs.Limits.{IsCycleTime, KnowsPolicies};
 ghost use Rattle.record_grammar.specs.Spelling.{spelled_signed, spelled_params, version, policy_number, spelled_policy, spelled_event, IsEvent, spelled_events, magic, spelled_numbers, spelled_header, IsHeader};
-ghost use Rattle.record_codec.specs.Appending.{Grows};
+ghost use Rattle.det_values.specs.Spelling.{Grows};
 
-use crate::put::{put_i64, put_slice, put_u8, put_u16, put_u64};
+use crate::put::{put_i64, put_u8, put_u64};
+use det_values::put::{put_slice, put_u16};
 use det_values::{EventSpec, Events, Format, Params, Policy, Profile};
 use std::alloc::AllocError;
 

@@ -1,5 +1,7 @@
 use super::*;
-use det_values::{Bytes64, CycleInput, DrawnElement, Elements, EventName, EventSpec, Format, Frame, Limited, Outcome, Policy, Profile, RunFrame, Sample};
+use det_values::{
+    Bytes64, Elements, EventName, EventSpec, Format, Frame, Limited, Policy, Profile,
+};
 use std::alloc::Global;
 use std::test::*;
 

@@ -1,16 +1,13 @@
 -- The items that were read, and the rest, are all of the bytes.
-use Rattle.std.proofs.Common.{◌≡◌, ℕ, zero, suc, ◌+◌, ◌-◌, ◌<◌, ◌≤◌, Bool, true, false, cond, eqb, ltb, List, [], ◌∷◌, ◌++◌, length, drop, Option, Some, None, refl, sym, ap, subst, ◌∙◌, arith, length-drop, length-append}
+use Rattle.std.proofs.Common.{◌≡◌, ℕ, suc, ◌+◌, ◌-◌, ◌<◌, ◌≤◌, Bool, true, false, cond, eqb, ltb, List, [], ◌∷◌, ◌++◌, length, Some, None, refl, sym, ap, subst, ◌∙◌, arith, length-drop}
 use Rattle.std.proofs.lemmas.List.{append-nil}
 use Rattle.std.proofs.lemmas.Bool.{ltb-true}
 use Rattle.det_values.specs.declared.frames.CycleInput.{CycleInput}
-use Rattle.det_values.specs.declared.frames.DrawnElement.{DrawnElement}
 use Rattle.det_values.specs.declared.frames.Frame.{Frame}
 use Rattle.det_values.specs.declared.frames.Frame.TheVariants as frames
-use Rattle.det_values.specs.declared.format.Format.{Format}
 use Rattle.det_values.specs.Values.{ProfileValue}
 use Rattle.record_grammar.specs.declared.fault.Reason.{Reason}
 use Rattle.record_grammar.specs.declared.fault.Reason.TheVariants.{Magic, TooMany}
-use Rattle.record_grammar.specs.declared.fault.RecordFault.{RecordFault}
 use Rattle.record_grammar.specs.declared.place.Layout.{Layout}
 use Rattle.record_grammar.specs.declared.place.Place.{Place}
 use Rattle.record_grammar.specs.declared.place.Place.TheVariants as places
@@ -20,9 +17,9 @@ use Rattle.record_grammar.specs.Read.{Read, Got, More, Bad, ◌>>=◌, many, wit
 use Rattle.record_grammar.specs.Numbers.{number}
 use Rattle.record_grammar.specs.Grammar.{exactly_at, magic_at, profile_at, element_at, drawn_at, string_at, input_at, refusal_at, init_from, finished_from, init_at, finished_at, refused_at, run_at, tag_reason, tagged_at, frame_at, item_at}
 use Rattle.record_grammar.specs.Places.{after, CanFollow, may_come}
-use Rattle.record_grammar.specs.Record.{Decoded, Ending, whole, early, faulty, ending_at, decoded, decoded_all, with_next, items as items_in, fault, fault_from, fault_so_far, fault_so_far_from}
+use Rattle.record_grammar.specs.Record.{Decoded, faulty, ending_at, decoded, decoded_all, with_next, items as items_in, fault, fault_from, fault_so_far, fault_so_far_from}
 use Rattle.record_grammar.specs.Leads.{Leads}
-use Rattle.det_values.specs.declared.frames.Outcome.TheVariants.{Finished, Refused}
+use Rattle.det_values.specs.declared.frames.Outcome.TheVariants.{Refused}
 use Rattle.record_grammar.proofs.Steady.{IsSteady, bind_got, by_first, got, got_is, steady_give, steady_then}
 use Rattle.record_grammar.proofs.SteadyFields.{exactly_steady, finished, behind_magic, behind_magic_steady, profile_is, tagged_steady, frame_same, item_steady}
 

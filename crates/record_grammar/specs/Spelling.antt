@@ -2,7 +2,7 @@
 -- two's complement.
 use Rattle.std.specs.Prelude.{◌≡◌, ℕ, ◌^◌, ◌<◌, ◌≤◌, ℤ, List, [], ◌∷◌, ◌++◌, length, map, Option, Some, None, codes, true, FitsSigned}
 use Rattle.std.specs.List.{flat_map, All}
-use Rattle.std.specs.Int.{w16, w32, w64, cast_unsigned, to_be_bytes}
+use Rattle.std.specs.Int.{w64, cast_unsigned, to_be_bytes}
 use Rattle.det_values.specs.declared.format.Format.{Format}
 use Rattle.det_values.specs.declared.format.Format.TheVariants.{One, Two}
 use Rattle.det_values.specs.declared.event.Policy.{Policy}
@@ -17,20 +17,14 @@ use Rattle.det_values.specs.declared.frames.RunFrame.{RunFrame}
 use Rattle.det_values.specs.declared.frames.Frame.{Frame}
 use Rattle.det_values.specs.declared.frames.Frame.TheVariants.{Register, Discover, Init, Run, Terminate}
 use Rattle.det_values.specs.Values.{SampleValue, EventSpecValue, RefusedAtValue, ProfileValue}
+use Rattle.det_values.specs.Spelling as flat
+pub use Rattle.det_values.specs.Spelling.{AreBytes}
+unfoldable pub use Rattle.det_values.specs.Spelling.{spelled_u16, spelled_u32}
 use Rattle.det_values.specs.Limits.{IsSampleValue, IsCapacity, IsCycleTime, is_event_name, IsPlace, KnowsPolicies}
-
-abbrev pub AreBytes : List ℕ → Type 0
-AreBytes bytes = All (λ b. b < 256) bytes
 
 -- at most so many bytes
 abbrev pub IsString : ℕ → List ℕ → Type 0
 IsString most bytes = (length bytes ≤ most) × AreBytes bytes
-
-unfoldable pub spelled_u16 : ℕ → List ℕ
-spelled_u16 n = to_be_bytes w16 n
-
-unfoldable pub spelled_u32 : ℕ → List ℕ
-spelled_u32 n = to_be_bytes w32 n
 
 unfoldable pub spelled_u64 : ℕ → List ℕ
 spelled_u64 n = to_be_bytes w64 n
@@ -96,7 +90,7 @@ IsElement bytes = IsString 64 bytes
 -- format 1 doesn't spell the draws
 abbrev pub spelled_drawn : Format → DrawnElement → List ℕ
 spelled_drawn One e = spelled_element e.bytes
-spelled_drawn Two e = spelled_element e.bytes ++ spelled_u32 e.draws
+spelled_drawn Two e = flat.spelled_drawn e
 
 abbrev pub MayDraw : Format → ℕ → Type 0
 MayDraw One draws = draws ≡ 0

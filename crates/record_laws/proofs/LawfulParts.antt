@@ -1,5 +1,5 @@
 -- The parts of frames are read lawfully.
-use Rattle.std.proofs.Common.{◌≡◌, ℕ, zero, suc, ◌-◌, ◌<◌, ◌≤◌, ℤ, pos, Bool, false, cond, eqb, List, [], ◌∷◌, ◌++◌, length, Option, Some, None, refl, sym, ap, subst, ◌∙◌, arith, lit≤, lit<}
+use Rattle.std.proofs.Common.{◌≡◌, ℕ, zero, suc, ◌-◌, ◌<◌, ◌≤◌, ℤ, pos, Bool, false, cond, eqb, List, [], ◌∷◌, ◌++◌, length, Option, Some, None, refl, sym, ap, subst, ◌∙◌, append_assoc, arith, lit≤, lit<}
 use Rattle.std.specs.List.{flat_map, All}
 use Rattle.std.proofs.lemmas.Bool.Decides.{nat_tests}
 use Rattle.std.proofs.lemmas.Int.{ints}
@@ -12,6 +12,7 @@ use Rattle.det_values.specs.declared.frames.CycleInput.{CycleInput}
 use Rattle.det_values.specs.declared.frames.DrawnElement.{DrawnElement}
 use Rattle.det_values.specs.Values.{SampleValue, RefusedAtValue}
 use Rattle.det_values.specs.Limits.{IsSampleValue, IsPlace}
+use Rattle.det_values.specs.Spelling as flat
 use Rattle.record_grammar.specs.Read.{Read, Got, ◌>>=◌, many}
 use Rattle.record_grammar.specs.Numbers.{number}
 use Rattle.record_grammar.specs.Grammar.{element_at, drawn_at, time_at, sample_value_at, sample_at, samples_at, input_at, phase_of, most_pass, most_element, refusal_at}
@@ -31,16 +32,21 @@ element_lawful = string_lawful 2 64 spelled_u16 (u16_lawful 0 64 (lit≤ tt) (li
 abbrev pub a_drawn : List ℕ → ℕ → DrawnElement
 a_drawn bytes draws = record { bytes = bytes; draws = draws }
 
+in_two : (d : DrawnElement) → IsDrawn Two d → IsDrawn Two d × (spelled_drawn Two d ≡ spelled_element d.bytes ++ spelled_u32 d.draws)
+unfolding flat.spelled_drawn
+in_two d h = (h, sym (append_assoc (spelled_u16 (length d.bytes)) d.bytes (spelled_u32 d.draws)))
+
 pub drawn_lawful : (format : Format) → IsLawful (IsDrawn format) (spelled_drawn format) (drawn_at format)
 unfolding drawn_at
 drawn_lawful One =
     lawful_map IsElement spelled_element element_at (IsDrawn One) (λ d. d.bytes) (λ e. a_drawn e 0)
     (λ d h. (h.0, ap (a_drawn d.bytes) h.2)) (λ e h. ((h, lit< tt, refl), refl)) element_lawful
 drawn_lawful Two =
-    lawful_then IsElement spelled_element element_at (IsDrawn Two) (λ d. d.bytes) (λ d. spelled_u32 d.draws) (λ e bytes. number 4 0 4294967295 bytes >>= λ d. Got (a_drawn e d.0, d.1))
+    lawful_values (IsDrawn Two) (IsDrawn Two) (λ d. spelled_element d.bytes ++ spelled_u32 d.draws) (spelled_drawn Two) (drawn_at Two) (λ d h. h) in_two
+    (lawful_then IsElement spelled_element element_at (IsDrawn Two) (λ d. d.bytes) (λ d. spelled_u32 d.draws) (λ e bytes. number 4 0 4294967295 bytes >>= λ d. Got (a_drawn e d.0, d.1))
     (λ d h. h.0) (λ e h. (a_drawn e 0, (h, lit< tt, tt), refl)) element_lawful
     (λ e he. lawful_map (IsFrom 0 4294967295) spelled_u32 (number 4 0 4294967295) (λ d. IsDrawn Two d × (d.bytes ≡ e)) (λ d. d.draws) (a_drawn e)
-    (λ d h. ((omega arith, omega (arith, h.0.1)), ap (λ (b : List ℕ). a_drawn b d.draws) h.1)) (λ n h. (((he, omega (arith, h.1), tt), refl), refl)) (u32_lawful 0 4294967295 (lit≤ tt) (lit≤ tt)))
+    (λ d h. ((omega arith, omega (arith, h.0.1)), ap (λ (b : List ℕ). a_drawn b d.draws) h.1)) (λ n h. (((he, omega (arith, h.1), tt), refl), refl)) (u32_lawful 0 4294967295 (lit≤ tt) (lit≤ tt))))
 
 pub some_drawn : (format : Format) → (d : DrawnElement) × IsDrawn format d
 some_drawn One = (a_drawn [] 0, (no_bytes 64, lit< tt, refl))

@@ -37,7 +37,7 @@ read_none P read h = subst P (sym (append-nil read)) h
 pub stopped : (error : DecodeError) (end : ReaderEnd) (mid : Decoder) (old new : RecordReader) (at_end : Type 0) (read : List ℕ) (given : List Item)
     → Leaves (Err error) mid → NextIs (Err error) mid read given → StoppedIs error old new end → ItemIs (Err end) new at_end read given
 stopped (errors.Fault f) end mid old new at_end read given leaves next is =
-    subst (λ (e : ReaderEnd). ItemIs (Err e) new at_end read given) (sym is.answer) (found_in mid f at_end read given leaves next, is.told)
+    subst (λ (e : ReaderEnd). ItemIs (Err e) new at_end read given) (sym is.answer) (found_in mid f at_end read given leaves.0 next, is.told)
 stopped errors.OutOfMemory end mid old new at_end read given leaves next is = subst (λ (e : ReaderEnd). ItemIs (Err e) new at_end read given) (sym is.0) tt
 
 -- the slot has no more bytes, and its record isn't whole

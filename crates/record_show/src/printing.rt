@@ -9,8 +9,8 @@ ghost use Rattle.record_show.specs.Cuts.{Cuts};
 use crate::ends::ShowEnd;
 use det_edges::{Sink, write_all};
 use det_values::{Format, Frame, OutOfMemory};
-use record_text::{put_frame_lines, put_header_lines};
 use record_grammar::Item;
+use record_text::{put_frame_lines, put_header_lines};
 use std::alloc::Global;
 
 /// Where the items of a record are printed.
@@ -28,7 +28,8 @@ pub struct Printer {
 pub fn write_text<K: Sink>(bytes: &[u8], sink: &mut K) -> Result<(), ShowEnd>
     ensures ok { OnOk result (Grew (K.took sink.old) (K.took sink.new) bytes.now) }
     ensures err { IfErr result (λ end. Cuts end (K.took sink.old) (K.took sink.new) bytes.now) }
-    ensures cause { IsErrOf result ShowEnd.WriteFault → Rose (K.faults sink.old) (K.faults sink.new) }
+    ensures cause { IsErrOf result ShowEnd.WriteFault
+        → Rose (K.faults sink.old) (K.faults sink.new) }
     ensures counted { K.faults sink.old ≤ K.faults sink.new }
 {
     match write_all(sink, bytes) {
@@ -65,30 +66,32 @@ impl Printer {
     }
 
     /// Prints the lines of an item. After an error some of them may have been written.
-    pub fn print<K: Sink>(
-        &mut self,
-        alloc: Global,
-        item: &Item,
-        sink: &mut K,
-    ) -> Result<(), ShowEnd>
+    pub fn print<K: Sink>(&mut self, item: &Item, sink: &mut K) -> Result<(), ShowEnd>
         requires few { self.old.cycles < 4294967295 }
-        ensures ok { OnOk result (Grew (K.took sink.old) (K.took sink.new) (item_lines self.old.format self.old.cycles (item.now ∷ []))) }
-        ensures format { OnOk result (self.new.format ≡ format_behind self.old.format (item.now ∷ [])) }
+        ensures ok { OnOk result
+            (Grew (K.took sink.old) (K.took sink.new)
+            (item_lines self.old.format self.old.cycles (item.now ∷ []))) }
+        ensures format { OnOk result
+            (self.new.format ≡ format_behind self.old.format (item.now ∷ [])) }
         ensures cycles { OnOk result (self.new.cycles ≡ self.old.cycles + length (run_in item.now)) }
-        ensures err { IfErr result (λ end. Cuts end (K.took sink.old) (K.took sink.new) (item_lines self.old.format self.old.cycles (item.now ∷ []))) }
-        ensures cause { IsErrOf result ShowEnd.WriteFault → Rose (K.faults sink.old) (K.faults sink.new) }
+        ensures err { IfErr result
+            (λ end. Cuts end (K.took sink.old) (K.took sink.new)
+            (item_lines self.old.format self.old.cycles (item.now ∷ []))) }
+        ensures cause { IsErrOf result ShowEnd.WriteFault
+            → Rose (K.faults sink.old) (K.faults sink.new) }
         ensures counted { K.faults sink.old ≤ K.faults sink.new }
     {
-        if self.put(alloc, item).is_err() {
+        if self.put(item).is_err() {
             return Err(ShowEnd::OutOfMemory);
         }
         write_text(&self.lines, sink)
     }
 
     /// Puts the lines of an item in place of those before.
-    fn put(&mut self, alloc: Global, item: &Item) -> Result<(), OutOfMemory>
+    fn put(&mut self, item: &Item) -> Result<(), OutOfMemory>
         requires few { self.old.cycles < 4294967295 }
-        ensures lines { OnOk result (self.new.lines.items ≡ item_lines self.old.format self.old.cycles (item.now ∷ [])) }
+        ensures lines { OnOk result
+            (self.new.lines.items ≡ item_lines self.old.format self.old.cycles (item.now ∷ [])) }
         ensures format { self.new.format ≡ format_behind self.old.format (item.now ∷ []) }
         ensures cycles { self.new.cycles ≡ self.old.cycles + length (run_in item.now) }
     {
@@ -100,7 +103,7 @@ impl Printer {
             }
             Item::Frame(frame) => {
                 self.cycles += cycles_in(frame);
-                put_frame_lines(alloc, &mut self.lines, self.format, self.cycles, frame)
+                put_frame_lines(&mut self.lines, self.format, self.cycles, frame)
             }
         }
     }

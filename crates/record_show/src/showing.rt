@@ -1,5 +1,6 @@
 //! A record, printed and shown to probes as it is read.
-ghost use Rattle.std.specs.Prelude.{◌≡◌, ℕ, ◌<◌, ◌≤◌, ◌+◌, ◌*◌, List, [], ◌∷◌, ◌++◌, map, length, OnOk, IfErr, IfSome, IsErrOf};
+ghost use Rattle.std.specs.Prelude.{◌≡◌, ℕ, ◌<◌, ◌≤◌, ◌+◌, ◌*◌, List, [], ◌∷◌, ◌++◌, map, length};
+ghost use Rattle.std.specs.Prelude.{OnOk, IfErr, IfSome, IsErrOf};
 ghost use Rattle.std.specs.Vec.{vec_len};
 ghost use Rattle.det_edges.specs.Count.{Rose};
 ghost use Rattle.det_edges.specs.Shelf.{Reads, IsAtEnd};
@@ -22,9 +23,9 @@ use record_grammar::Item;
 use record_reader::{ReaderEnd, RecordReader};
 use std::alloc::Global;
 
-/// Prints the record that a reader reads, item by item. Each Run frame is printed and then shown to the probes, which
-/// append to `left` what they report when they leave. Behind a whole record all reports are printed, and no probe is
-/// left.
+/// Prints the record that a reader reads, item by item. Each Run frame is printed and then shown to
+/// the probes, which append to `left` what they report when they leave. Behind a whole record all
+/// reports are printed, and no probe is left.
 pub fn show_run<S: Slots, K: Sink>(
     alloc: Global,
     reader: &mut RecordReader,
@@ -39,16 +40,24 @@ pub fn show_run<S: Slots, K: Sink>(
     requires few { vec_len probes.old ≤ 1024 }
     requires none { left.old ≡ [] }
     ensures told { IfSome ((S.sees shelf.old).left (slot_of reader.old)) (λ record_bytes.
-        Answers result (map (λ b. life b) probes.old.items) record_bytes (K.took sink.old) (K.took sink.new)) }
+        Answers result (map (λ b. life b) probes.old.items) record_bytes (K.took sink.old)
+        (K.took sink.new)) }
     ensures part { IfSome ((S.sees shelf.old).left (slot_of reader.old)) (λ record_bytes.
-        GrewByPrefix (K.took sink.old) (K.took sink.new) (text_of (map (λ b. life b) probes.old.items) record_bytes)) }
-    // The same by the bytes that were read, also where the shelf doesn't tell what the slot has left.
-    ensures run { (read : List ℕ) × Reads (S.sees shelf.old) (S.sees shelf.new) (slot_of reader.old) read
-        × Ended result (map (λ b. life b) probes.old.items) read (IsAtEnd (S.sees shelf.new) (slot_of reader.old)) (K.took sink.old) (K.took sink.new)
-        × OnOk result (left.new ≡ reports (map (λ b. life b) probes.old.items) (runs_in (items_in read))) }
+        GrewByPrefix (K.took sink.old) (K.took sink.new)
+        (text_of (map (λ b. life b) probes.old.items) record_bytes)) }
+    // The same by the bytes that were read, also where the shelf doesn't tell what the slot has
+    // left.
+    ensures run { (read : List ℕ)
+        × Reads (S.sees shelf.old) (S.sees shelf.new) (slot_of reader.old) read
+        × Ended result (map (λ b. life b) probes.old.items) read
+        (IsAtEnd (S.sees shelf.new) (slot_of reader.old)) (K.took sink.old) (K.took sink.new)
+        × OnOk result (left.new ≡
+        reports (map (λ b. life b) probes.old.items) (runs_in (items_in read))) }
     ensures gone { OnOk result (probes.new.items ≡ []) }
-    ensures read_fault { IsErrOf result ShowEnd.ReadFault → Rose (S.sees shelf.old).faults (S.sees shelf.new).faults }
-    ensures write_fault { IsErrOf result ShowEnd.WriteFault → Rose (K.faults sink.old) (K.faults sink.new) }
+    ensures read_fault { IsErrOf result ShowEnd.ReadFault
+        → Rose (S.sees shelf.old).faults (S.sees shelf.new).faults }
+    ensures write_fault { IsErrOf result ShowEnd.WriteFault
+        → Rose (K.faults sink.old) (K.faults sink.new) }
     ensures reads_counted { (S.sees shelf.old).faults ≤ (S.sees shelf.new).faults }
     ensures writes_counted { K.faults sink.old ≤ K.faults sink.new }
     ensures stays { S.stays shelf.old shelf.new }
@@ -68,12 +77,17 @@ fn show_record<S: Slots, K: Sink>(
     requires new { StandsFor reader.old [] [] }
     requires few { vec_len probes.old ≤ 1024 }
     requires none { left.old ≡ [] }
-    ensures run { (read : List ℕ) × Reads (S.sees shelf.old) (S.sees shelf.new) (slot_of reader.old) read
-        × Ended result (map (λ b. life b) probes.old.items) read (IsAtEnd (S.sees shelf.new) (slot_of reader.old)) (K.took sink.old) (K.took sink.new)
-        × OnOk result (left.new ≡ reports (map (λ b. life b) probes.old.items) (runs_in (items_in read))) }
+    ensures run { (read : List ℕ)
+        × Reads (S.sees shelf.old) (S.sees shelf.new) (slot_of reader.old) read
+        × Ended result (map (λ b. life b) probes.old.items) read
+        (IsAtEnd (S.sees shelf.new) (slot_of reader.old)) (K.took sink.old) (K.took sink.new)
+        × OnOk result (left.new ≡
+        reports (map (λ b. life b) probes.old.items) (runs_in (items_in read))) }
     ensures gone { OnOk result (probes.new.items ≡ []) }
-    ensures read_fault { IsErrOf result ShowEnd.ReadFault → Rose (S.sees shelf.old).faults (S.sees shelf.new).faults }
-    ensures write_fault { IsErrOf result ShowEnd.WriteFault → Rose (K.faults sink.old) (K.faults sink.new) }
+    ensures read_fault { IsErrOf result ShowEnd.ReadFault
+        → Rose (S.sees shelf.old).faults (S.sees shelf.new).faults }
+    ensures write_fault { IsErrOf result ShowEnd.WriteFault
+        → Rose (K.faults sink.old) (K.faults sink.new) }
     ensures reads_counted { (S.sees shelf.old).faults ≤ (S.sees shelf.new).faults }
     ensures writes_counted { K.faults sink.old ≤ K.faults sink.new }
     ensures stays { S.stays shelf.old shelf.new }
@@ -100,12 +114,17 @@ fn show_items<S: Slots, K: Sink>(
     requires slot { slot_of reader.old < (S.sees shelf.old).slots }
     requires new { StandsFor reader.old [] [] }
     requires space { length left.old + 256 * vec_len probes.old ≤ 1048576 }
-    ensures items { (read : List ℕ) × Reads (S.sees shelf.old) (S.sees shelf.new) (slot_of reader.old) read
-        × ItemsAre result (map (λ b. life b) probes.old.items) left.old (map (λ b. life b) probes.new.items) left.new read
+    ensures items { (read : List ℕ)
+        × Reads (S.sees shelf.old) (S.sees shelf.new) (slot_of reader.old) read
+        × ItemsAre result (map (λ b. life b) probes.old.items) left.old
+        (map (λ b. life b) probes.new.items) left.new read
         (IsAtEnd (S.sees shelf.new) (slot_of reader.old)) (K.took sink.old) (K.took sink.new) }
-    ensures space { OnOk result (length left.new + 256 * vec_len probes.new ≤ length left.old + 256 * vec_len probes.old) }
-    ensures read_fault { IsErrOf result ShowEnd.ReadFault → Rose (S.sees shelf.old).faults (S.sees shelf.new).faults }
-    ensures write_fault { IsErrOf result ShowEnd.WriteFault → Rose (K.faults sink.old) (K.faults sink.new) }
+    ensures space { OnOk result
+        (length left.new + 256 * vec_len probes.new ≤ length left.old + 256 * vec_len probes.old) }
+    ensures read_fault { IsErrOf result ShowEnd.ReadFault
+        → Rose (S.sees shelf.old).faults (S.sees shelf.new).faults }
+    ensures write_fault { IsErrOf result ShowEnd.WriteFault
+        → Rose (K.faults sink.old) (K.faults sink.new) }
     ensures reads_counted { (S.sees shelf.old).faults ≤ (S.sees shelf.new).faults }
     ensures writes_counted { K.faults sink.old ≤ K.faults sink.new }
     ensures stays { S.stays shelf.old shelf.new }
@@ -143,16 +162,24 @@ fn take_item<K: Sink>(
 ) -> Result<(), ShowEnd>
     requires few { printer.old.cycles < 4294967295 }
     requires space { length left.old + 256 * vec_len probes.old ≤ 1048576 }
-    ensures printed { OnOk result (Grew (K.took sink.old) (K.took sink.new) (item_lines printer.old.format printer.old.cycles (item ∷ []))) }
+    ensures printed { OnOk result
+        (Grew (K.took sink.old) (K.took sink.new)
+        (item_lines printer.old.format printer.old.cycles (item ∷ []))) }
     ensures format { OnOk result (printer.new.format ≡ format_behind printer.old.format (item ∷ [])) }
     ensures cycles { OnOk result (printer.new.cycles ≡ printer.old.cycles + length (run_in item)) }
-    ensures shown { OnOk result (Shows left.old (map (λ b. life b) probes.old.items) left.new (map (λ b. life b) probes.new.items) (run_in item)) }
-    ensures space { OnOk result (length left.new + 256 * vec_len probes.new ≤ length left.old + 256 * vec_len probes.old) }
-    ensures err { IfErr result (λ end. Cuts end (K.took sink.old) (K.took sink.new) (item_lines printer.old.format printer.old.cycles (item ∷ []))) }
-    ensures cause { IsErrOf result ShowEnd.WriteFault → Rose (K.faults sink.old) (K.faults sink.new) }
+    ensures shown { OnOk result
+        (Shows left.old (map (λ b. life b) probes.old.items) left.new
+        (map (λ b. life b) probes.new.items) (run_in item)) }
+    ensures space { OnOk result
+        (length left.new + 256 * vec_len probes.new ≤ length left.old + 256 * vec_len probes.old) }
+    ensures err { IfErr result
+        (λ end. Cuts end (K.took sink.old) (K.took sink.new)
+        (item_lines printer.old.format printer.old.cycles (item ∷ []))) }
+    ensures cause { IsErrOf result ShowEnd.WriteFault
+        → Rose (K.faults sink.old) (K.faults sink.new) }
     ensures counted { K.faults sink.old ≤ K.faults sink.new }
 {
-    if let Err(end) = printer.print(alloc, &item, sink) {
+    if let Err(end) = printer.print(&item, sink) {
         return Err(end);
     }
     if let Err(end) = show_item(alloc, &item, probes, left) {
@@ -169,8 +196,11 @@ fn show_item(
     left: &mut Bytes,
 ) -> Result<(), ShowEnd>
     requires space { length left.old + 256 * vec_len probes.old ≤ 1048576 }
-    ensures shown { OnOk result (Shows left.old (map (λ b. life b) probes.old.items) left.new (map (λ b. life b) probes.new.items) (run_in item.now)) }
-    ensures space { OnOk result (length left.new + 256 * vec_len probes.new ≤ length left.old + 256 * vec_len probes.old) }
+    ensures shown { OnOk result
+        (Shows left.old (map (λ b. life b) probes.old.items) left.new
+        (map (λ b. life b) probes.new.items) (run_in item.now)) }
+    ensures space { OnOk result
+        (length left.new + 256 * vec_len probes.new ≤ length left.old + 256 * vec_len probes.old) }
     ensures err { IfErr result (λ end. end ≡ ShowEnd.OutOfMemory) }
 {
     match item {
@@ -193,11 +223,17 @@ fn print_reports<K: Sink>(
     left: &mut Bytes,
 ) -> Result<(), ShowEnd>
     requires space { length left.old + 256 * vec_len probes.old ≤ 1048576 }
-    ensures ok { OnOk result (Grew (K.took sink.old) (K.took sink.new) (left.old ++ reports (map (λ b. life b) probes.old.items) [])) }
-    ensures left { OnOk result (left.new ≡ left.old ++ reports (map (λ b. life b) probes.old.items) []) }
+    ensures ok { OnOk result
+        (Grew (K.took sink.old) (K.took sink.new)
+        (left.old ++ reports (map (λ b. life b) probes.old.items) [])) }
+    ensures left { OnOk result
+        (left.new ≡ left.old ++ reports (map (λ b. life b) probes.old.items) []) }
     ensures gone { OnOk result (probes.new.items ≡ []) }
-    ensures err { IfErr result (λ end. Cuts end (K.took sink.old) (K.took sink.new) (left.old ++ reports (map (λ b. life b) probes.old.items) [])) }
-    ensures cause { IsErrOf result ShowEnd.WriteFault → Rose (K.faults sink.old) (K.faults sink.new) }
+    ensures err { IfErr result
+        (λ end. Cuts end (K.took sink.old) (K.took sink.new)
+        (left.old ++ reports (map (λ b. life b) probes.old.items) [])) }
+    ensures cause { IsErrOf result ShowEnd.WriteFault
+        → Rose (K.faults sink.old) (K.faults sink.new) }
     ensures counted { K.faults sink.old ≤ K.faults sink.new }
 {
     if finish_all(alloc, probes, left).is_err() {

@@ -16,4 +16,5 @@ fronts_put p old a b c d ea eb ec ed =
     let seed : List ℕ = number_line (codes "seed") p.seed in
     let job : List ℕ = number_line (codes "job") p.job in
     let time : List ℕ = number_line (codes "cycle_time") p.cycle_time in
-    ed ∙ ap (λ (l : List ℕ). l ++ time) (ec ∙ ap (λ (l : List ℕ). l ++ seed) (eb ∙ ap (λ (l : List ℕ). l ++ job) ea)) ∙ four old (format_line p.format) job seed time
+    ed ∙ ap (λ (l : List ℕ). l ++ time) (ec ∙ ap (λ (l : List ℕ). l ++ seed) (eb ∙ ap (λ (l : List ℕ). l ++ job) ea))
+    ∙ four old (format_line p.format) job seed time

@@ -1,3 +1,4 @@
 mod Appending
+mod Digits
 mod Fronts
 mod Numbering

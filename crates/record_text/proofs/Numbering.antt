@@ -1,11 +1,13 @@
 -- What a loop has appended of numbered things.
-use Rattle.std.proofs.Common.{◌≡◌, ℕ, suc, ◌+◌, ◌<◌, ◌≤◌, List, [], ◌∷◌, ◌++◌, length, drop, get_or, refl, sym, ap, ◌∙◌, append_assoc, drop-cons, arith}
+use Rattle.std.proofs.Common.{◌≡◌, ℕ, suc, ◌+◌, ◌<◌, ◌≤◌, List, [], ◌∷◌, ◌++◌, length, drop, get_or, refl, sym, ap, ◌∙◌, append_assoc}
+use Rattle.std.proofs.Common.{drop-cons, arith}
 use Rattle.std.proofs.lemmas.List.{append-nil, drop_all}
 use Rattle.record_text.specs.Words.{numbered}
 
--- the texts of the first i things were appended
-pub record HasNumbered {X : Type 0} (text : ℕ → X → List ℕ) (xs : List X) (i : ℕ) (old new : List ℕ) : Type 0 where
-  pub written : new ++ numbered text i (drop i xs) ≡ old ++ numbered text 0 xs
+-- the texts of the first i things were appended, and these are left
+pub record HasNumbered {X : Type 0} (text : ℕ → X → List ℕ) (xs : List X) (i : ℕ) (left : List X) (old new : List ℕ) : Type 0 where
+  pub written : new ++ numbered text i left ≡ old ++ numbered text 0 xs
+  pub counted : i + length left ≡ length xs
 
 module _ {X : Type 0} (text : ℕ → X → List ℕ) where
   numbered-cons : (i : ℕ) (x : X) (xs : List X) → numbered text i (x ∷ xs) ≡ text i x ++ numbered text (i + 1) xs
@@ -16,18 +18,37 @@ module _ {X : Type 0} (text : ℕ → X → List ℕ) where
   unfolding numbered
   numbered-nil i = refl
 
-  pub HasNumbered-next : (xs : List X) (i : ℕ) (old mid new : List ℕ) (x : X) → i < length xs → x ≡ get_or xs i x → HasNumbered text xs i old mid → new ≡ mid ++ text i x → HasNumbered text xs (i + 1) old new
-  HasNumbered-next xs i old mid new x lt is h e =
-      let rest : List X = drop (i + 1) xs in
-      let step : suc i ≡ i + 1 = omega arith in
-      let d : drop i xs ≡ x ∷ rest = drop-cons xs i x lt ∙ ap (λ (y : X). y ∷ drop (suc i) xs) (sym is) ∙ ap (λ (n : ℕ). x ∷ drop n xs) step in
-      let one : numbered text i (drop i xs) ≡ text i x ++ numbered text (i + 1) rest = ap (numbered text i) d ∙ numbered-cons i x rest in
+  pub HasNumbered-begin : (xs : List X) (old : List ℕ) → HasNumbered text xs 0 xs old old
+  HasNumbered-begin xs old = record { written = refl; counted = omega arith }
+
+  pub HasNumbered-next : (xs : List X) (i : ℕ) (left more : List X) (old mid new : List ℕ) (x : X) → left ≡ x ∷ more
+      → HasNumbered text xs i left old mid
+      → new ≡ mid ++ text i x → HasNumbered text xs (i + 1) more old new
+  HasNumbered-next xs i left more old mid new x is h e =
+      let one : numbered text i left ≡ text i x ++ numbered text (i + 1) more = ap (numbered text i) is ∙ numbered-cons i x more in
       record {
-        written = ap (λ (ys : List ℕ). ys ++ numbered text (i + 1) rest) e ∙ append_assoc mid (text i x) (numbered text (i + 1) rest)
+        written = ap (λ (ys : List ℕ). ys ++ numbered text (i + 1) more) e ∙ append_assoc mid (text i x) (numbered text (i + 1) more)
             ∙ ap (λ (ys : List ℕ). mid ++ ys) (sym one) ∙ h.written;
+        counted = omega (arith, h.counted, ap length is);
       }
 
-  pub HasNumbered-done : (xs : List X) (i : ℕ) (old new : List ℕ) → length xs ≤ i → HasNumbered text xs i old new → new ≡ old ++ numbered text 0 xs
-  HasNumbered-done xs i old new le h =
-      let none : numbered text i (drop i xs) ≡ [] = ap (numbered text i) (drop_all i xs le) ∙ numbered-nil i in
-      sym (append-nil new) ∙ ap (λ (ys : List ℕ). new ++ ys) (sym none) ∙ h.written
+  -- one more of a slice
+  pub HasNumbered-at : (xs : List X) (i : ℕ) (old mid new : List ℕ) (x : X) → i < length xs → x ≡ get_or xs i x
+      → HasNumbered text xs i (drop i xs) old mid
+      → new ≡ mid ++ text i x → HasNumbered text xs (i + 1) (drop (i + 1) xs) old new
+  HasNumbered-at xs i old mid new x lt is h e =
+      let step : suc i ≡ i + 1 = omega arith in
+      let d : drop i xs ≡ x ∷ drop (i + 1) xs = drop-cons xs i x lt ∙ ap (λ (y : X). y ∷ drop (suc i) xs) (sym is)
+      ∙ ap (λ (n : ℕ). x ∷ drop n xs) step in
+      HasNumbered-next xs i (drop i xs) (drop (i + 1) xs) old mid new x d h e
+
+  pub HasNumbered-ends : (xs : List X) (i : ℕ) (left : List X) (old new : List ℕ) → left ≡ [] → HasNumbered text xs i left old new
+      → new ≡ old ++ numbered text 0 xs
+  HasNumbered-ends xs i left old new none h =
+      let e : numbered text i left ≡ [] = ap (numbered text i) none ∙ numbered-nil i in
+      sym (append-nil new) ∙ ap (λ (ys : List ℕ). new ++ ys) (sym e) ∙ h.written
+
+  pub HasNumbered-done : (xs : List X) (i : ℕ) (left : List X) (old new : List ℕ) → length xs ≤ i → HasNumbered text xs i left old new
+      → new ≡ old ++ numbered text 0 xs
+  HasNumbered-done xs i [] old new le h = HasNumbered-ends xs i [] old new refl h
+  HasNumbered-done xs i (x ∷ left) old new le h = absurd (omega (arith, le, h.counted))

@@ -1,47 +1,44 @@
 //! The lines of a frame.
 ghost use Rattle.std.specs.Prelude.{◌≡◌, ◌++◌, OnOk, length};
 ghost use Rattle.std.specs.List.{flat_map};
+ghost use Rattle.det_values.specs.Spelling.{an_element};
 ghost use Rattle.record_text.specs.Words.{numbered};
-ghost use Rattle.record_text.specs.Records.{element_line, draws_text, drawn_line, time_text, run_line, sample_line, phase_word, refused_line, output_line, finished_lines, outcome_lines, run_lines, init_lines, frame_lines};
+ghost use Rattle.record_text.specs.Records.{element_line, draws_text, drawn_line, time_text};
+ghost use Rattle.record_text.specs.Records.{run_line, sample_line, refused_line, output_line};
+ghost use Rattle.record_text.specs.Records.{finished_lines, outcome_lines, run_lines, init_lines};
+ghost use Rattle.record_text.specs.Records.{frame_lines};
 
 use crate::put::{put_hex, put_number, put_number_line, put_signed, put_words};
-use det_values::{Bytes64, DrawnElement, Format, Frame, OutOfMemory, Outcome, Phase, RefusedAt, RunFrame, Sample};
-use std::alloc::{AllocError, Global};
+use det_values::{
+    Bytes64, DrawnElements, Format, Frame, OutOfMemory, Outcome, RefusedAt, RunFrame, Sample,
+};
+use std::alloc::AllocError;
 
-fn put_element_line(
-    alloc: Global,
-    out: &mut Vec<u8>,
-    number: usize,
-    element: &Bytes64,
-) -> Result<(), AllocError>
+fn put_element_line(out: &mut Vec<u8>, number: usize, element: &Bytes64) -> Result<(), AllocError>
     ensures { OnOk result (out.new.items ≡ out.old.items ++ element_line number element.now) }
 {
     put_words(out, "element ")?;
     put_number(out, number as u64)?;
     put_words(out, " ")?;
-    put_hex(alloc, out, element.as_slice())?;
+    put_hex(out, element.as_slice())?;
     put_words(out, "\n")?;
     Ok(())
 }
 
-fn put_element_lines(
-    alloc: Global,
-    out: &mut Vec<u8>,
-    elements: &[Bytes64],
-) -> Result<(), AllocError>
+fn put_element_lines(out: &mut Vec<u8>, elements: &[Bytes64]) -> Result<(), AllocError>
     ensures { OnOk result (out.new.items ≡ out.old.items ++ numbered element_line 0 elements.now) }
 {
     for i in 0..elements.len() {
-        put_element_line(alloc, out, i, &elements[i])?;
+        put_element_line(out, i, &elements[i])?;
     }
     Ok(())
 }
 
-fn put_init_lines(alloc: Global, out: &mut Vec<u8>, elements: &[Bytes64]) -> Result<(), AllocError>
+fn put_init_lines(out: &mut Vec<u8>, elements: &[Bytes64]) -> Result<(), AllocError>
     ensures { OnOk result (out.new.items ≡ out.old.items ++ init_lines elements.now) }
 {
     put_number_line(out, "init", elements.len() as u64)?;
-    put_element_lines(alloc, out, elements)?;
+    put_element_lines(out, elements)?;
     Ok(())
 }
 
@@ -59,33 +56,38 @@ fn put_draws(out: &mut Vec<u8>, format: Format, draws: u32) -> Result<(), AllocE
 }
 
 fn put_drawn_line(
-    alloc: Global,
     out: &mut Vec<u8>,
     format: Format,
     number: usize,
-    element: &DrawnElement,
+    bytes: &[u8],
+    draws: u32,
 ) -> Result<(), AllocError>
-    ensures { OnOk result (out.new.items ≡ out.old.items ++ drawn_line format number element.now) }
+    ensures { OnOk result
+        (out.new.items ≡ out.old.items ++ drawn_line format number (an_element bytes.now draws)) }
 {
     put_words(out, "element ")?;
     put_number(out, number as u64)?;
     put_words(out, " ")?;
-    put_hex(alloc, out, element.bytes.as_slice())?;
-    put_draws(out, format, element.draws)?;
+    put_hex(out, bytes)?;
+    put_draws(out, format, draws)?;
     put_words(out, "\n")?;
     Ok(())
 }
 
 fn put_drawn_lines(
-    alloc: Global,
     out: &mut Vec<u8>,
     format: Format,
-    elements: &[DrawnElement],
+    elements: &DrawnElements,
 ) -> Result<(), AllocError>
-    ensures { OnOk result (out.new.items ≡ out.old.items ++ numbered (drawn_line format) 0 elements.now) }
+    ensures { OnOk result
+        (out.new.items ≡ out.old.items ++ numbered (drawn_line format) 0 elements.now) }
 {
+    let mut walk = elements.walk();
     for i in 0..elements.len() {
-        put_drawn_line(alloc, out, format, i, &elements[i])?;
+        match walk.next() {
+            Some((bytes, draws)) => put_drawn_line(out, format, i, bytes, draws)?,
+            None => return Ok(()),
+        }
     }
     Ok(())
 }
@@ -131,16 +133,6 @@ fn put_sample_lines(out: &mut Vec<u8>, samples: &[Sample]) -> Result<(), AllocEr
     Ok(())
 }
 
-fn word_of(phase: Phase) -> &'static str
-    ensures { result.now ≡ phase_word phase }
-{
-    match phase {
-        Phase::Prepare => "prepare",
-        Phase::Pool => "pool",
-        Phase::Conclude => "conclude",
-    }
-}
-
 fn put_refused_line(out: &mut Vec<u8>, refused: &RefusedAt) -> Result<(), AllocError>
     ensures { OnOk result (out.new.items ≡ out.old.items ++ refused_line refused.now) }
 {
@@ -151,7 +143,7 @@ fn put_refused_line(out: &mut Vec<u8>, refused: &RefusedAt) -> Result<(), AllocE
         code,
     } = *refused;
     put_words(out, "refused ")?;
-    put_words(out, word_of(phase))?;
+    put_words(out, phase.word())?;
     put_words(out, " ")?;
     put_number(out, pass as u64)?;
     put_words(out, " ")?;
@@ -162,48 +154,42 @@ fn put_refused_line(out: &mut Vec<u8>, refused: &RefusedAt) -> Result<(), AllocE
     Ok(())
 }
 
-fn put_output_line(alloc: Global, out: &mut Vec<u8>, output: &[u8]) -> Result<(), AllocError>
+fn put_output_line(out: &mut Vec<u8>, output: &[u8]) -> Result<(), AllocError>
     ensures { OnOk result (out.new.items ≡ out.old.items ++ output_line output.now) }
 {
     put_words(out, "output ")?;
-    put_hex(alloc, out, output)?;
+    put_hex(out, output)?;
     put_words(out, "\n")?;
     Ok(())
 }
 
 fn put_finished_lines(
-    alloc: Global,
     out: &mut Vec<u8>,
     format: Format,
-    elements: &[DrawnElement],
+    elements: &DrawnElements,
     output: &[u8],
 ) -> Result<(), AllocError>
-    ensures { OnOk result (out.new.items ≡ out.old.items ++ finished_lines format elements.now output.now) }
+    ensures { OnOk result
+        (out.new.items ≡ out.old.items ++ finished_lines format elements.now output.now) }
 {
     put_number_line(out, "finished", elements.len() as u64)?;
-    put_drawn_lines(alloc, out, format, elements)?;
-    put_output_line(alloc, out, output)?;
+    put_drawn_lines(out, format, elements)?;
+    put_output_line(out, output)?;
     Ok(())
 }
 
-fn put_outcome_lines(
-    alloc: Global,
-    out: &mut Vec<u8>,
-    format: Format,
-    outcome: &Outcome,
-) -> Result<(), AllocError>
+fn put_outcome_lines(out: &mut Vec<u8>, format: Format, outcome: &Outcome) -> Result<(), AllocError>
     ensures { OnOk result (out.new.items ≡ out.old.items ++ outcome_lines format outcome.now) }
 {
     match outcome {
         Outcome::Finished { elements, output } => {
-            put_finished_lines(alloc, out, format, elements.as_slice(), output.as_slice())
+            put_finished_lines(out, format, elements, output.as_slice())
         }
         Outcome::Refused(refused) => put_refused_line(out, refused),
     }
 }
 
 fn put_run_lines(
-    alloc: Global,
     out: &mut Vec<u8>,
     format: Format,
     cycle: u32,
@@ -213,32 +199,25 @@ fn put_run_lines(
 {
     put_run_line(out, cycle, run.input.time)?;
     put_sample_lines(out, run.input.samples.as_slice())?;
-    put_outcome_lines(alloc, out, format, &run.outcome)?;
+    put_outcome_lines(out, format, &run.outcome)?;
     Ok(())
 }
 
-fn put_frame(
-    alloc: Global,
-    out: &mut Vec<u8>,
-    format: Format,
-    cycle: u32,
-    frame: &Frame,
-) -> Result<(), AllocError>
+fn put_frame(out: &mut Vec<u8>, format: Format, cycle: u32, frame: &Frame) -> Result<(), AllocError>
     ensures { OnOk result (out.new.items ≡ out.old.items ++ frame_lines format cycle frame.now) }
 {
     match frame {
         Frame::Register => put_words(out, "register\n"),
         Frame::Discover => put_words(out, "discover\n"),
-        Frame::Init(elements) => put_init_lines(alloc, out, elements.as_slice()),
-        Frame::Run(run) => put_run_lines(alloc, out, format, cycle, run),
+        Frame::Init(elements) => put_init_lines(out, elements.as_slice()),
+        Frame::Run(run) => put_run_lines(out, format, cycle, run),
         Frame::Terminate => put_words(out, "terminate\n"),
     }
 }
 
-/// Appends the lines of a frame of a record of this format, where a Run is cycle number `cycle`, counted from 1. After
-/// a refusal some of them may stand there.
+/// Appends the lines of a frame of a record of this format, where a Run is cycle number `cycle`,
+/// counted from 1. After a refusal some of them may stand there.
 pub fn put_frame_lines(
-    alloc: Global,
     out: &mut Vec<u8>,
     format: Format,
     cycle: u32,
@@ -246,6 +225,6 @@ pub fn put_frame_lines(
 ) -> Result<(), OutOfMemory>
     ensures { OnOk result (out.new.items ≡ out.old.items ++ frame_lines format cycle frame.now) }
 {
-    put_frame(alloc, out, format, cycle, frame)?;
+    put_frame(out, format, cycle, frame)?;
     Ok(())
 }

@@ -2,7 +2,9 @@
 ghost use Rattle.std.specs.Prelude.{◌≡◌, ◌++◌, OnOk};
 ghost use Rattle.std.specs.List.{flat_map};
 ghost use Rattle.record_text.specs.Words.{numbered};
-ghost use Rattle.record_text.specs.Records.{spaced_param, params_text, params_line, policy_word, policy_text, format_line, event_line, front_lines, header_lines};
+ghost use Rattle.record_text.specs.Records.{spaced_param, params_text, params_line, policy_word};
+ghost use Rattle.record_text.specs.Records.{policy_text, format_line, event_line, front_lines};
+ghost use Rattle.record_text.specs.Records.{header_lines};
 
 use crate::put::{put_number, put_number_line, put_signed, put_words};
 use det_values::{EventSpec, Events, Format, OutOfMemory, Params, Policy, Profile};
@@ -66,7 +68,8 @@ fn put_event_line(
 }
 
 fn put_each_event(out: &mut Vec<u8>, format: Format, events: &[EventSpec]) -> Result<(), AllocError>
-    ensures { OnOk result (out.new.items ≡ out.old.items ++ numbered (event_line format) 0 events.now) }
+    ensures { OnOk result
+        (out.new.items ≡ out.old.items ++ numbered (event_line format) 0 events.now) }
 {
     for i in 0..events.len() {
         put_event_line(out, format, i, &events[i])?;
@@ -75,7 +78,8 @@ fn put_each_event(out: &mut Vec<u8>, format: Format, events: &[EventSpec]) -> Re
 }
 
 fn put_event_lines(out: &mut Vec<u8>, format: Format, events: &Events) -> Result<(), AllocError>
-    ensures { OnOk result (out.new.items ≡ out.old.items ++ numbered (event_line format) 0 events.now) }
+    ensures { OnOk result
+        (out.new.items ≡ out.old.items ++ numbered (event_line format) 0 events.now) }
 {
     put_each_event(out, format, events.as_slice())
 }
@@ -100,8 +104,9 @@ fn put_front_lines(out: &mut Vec<u8>, profile: &Profile) -> Result<(), AllocErro
     Ok(())
 }
 
-/// Appends the lines of a header: its format where that is 2, the job's number, the seed, the cycle time in
-/// nanoseconds, the parameters and the events. After a refusal some of them may stand there.
+/// Appends the lines of a header: its format where that is 2, the job's number, the seed, the cycle
+/// time in nanoseconds, the parameters and the events. After a refusal some of them may stand
+/// there.
 pub fn put_header_lines(out: &mut Vec<u8>, profile: &Profile) -> Result<(), OutOfMemory>
     ensures { OnOk result (out.new.items ≡ out.old.items ++ header_lines profile.now) }
 {

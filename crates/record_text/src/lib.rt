@@ -1,4 +1,5 @@
-//! The texts that a program prints: records and summaries, line by line, and what lines are made of.
+//! The texts that a program prints: records and summaries, line by line, and what lines are made
+//! of.
 //!
 //! Each call appends to a text what stands in `specs/`, as a function of what is printed.
 #![tactic(auto)]

@@ -5,7 +5,7 @@ ghost use Rattle.hex.specs.Hex.{encode_lower};
 ghost use Rattle.record_text.specs.Words.{hex_text, number_line};
 
 use itoa::Buffer;
-use std::alloc::{AllocError, Global};
+use std::alloc::AllocError;
 
 /// Appends words, as they stand.
 pub fn put_words(out: &mut Vec<u8>, words: &str) -> Result<(), AllocError>
@@ -41,20 +41,31 @@ pub fn put_number_line(out: &mut Vec<u8>, word: &str, number: u64) -> Result<(),
     Ok(())
 }
 
-fn put_digits(alloc: Global, out: &mut Vec<u8>, bytes: &[u8]) -> Result<(), AllocError>
+fn put_piece(out: &mut Vec<u8>, piece: &[u8]) -> Result<(), AllocError>
+    requires { length piece.now ≤ 64 }
+    ensures { OnOk result (out.new.items ≡ out.old.items ++ encode_lower piece.now) }
+{
+    let mut digits = [0; 128];
+    let part = &mut digits[..2 * piece.len()];
+    hex::encode_to_slice(piece, part).unwrap();
+    out.extend_from_slice(part)
+}
+
+fn put_digits(out: &mut Vec<u8>, bytes: &[u8]) -> Result<(), AllocError>
     ensures { OnOk result (out.new.items ≡ out.old.items ++ encode_lower bytes.now) }
 {
-    let digits = hex::encode(alloc, bytes)?;
-    put_words(out, digits.as_str())?;
+    for piece in bytes.chunks(64) {
+        put_piece(out, piece)?;
+    }
     Ok(())
 }
 
 /// Appends bytes as hex digits in lower case, and a dash where there is none.
-pub fn put_hex(alloc: Global, out: &mut Vec<u8>, bytes: &[u8]) -> Result<(), AllocError>
+pub fn put_hex(out: &mut Vec<u8>, bytes: &[u8]) -> Result<(), AllocError>
     ensures { OnOk result (out.new.items ≡ out.old.items ++ hex_text bytes.now) }
 {
     match bytes {
         [] => put_words(out, "-"),
-        _ => put_digits(alloc, out, bytes),
+        _ => put_digits(out, bytes),
     }
 }

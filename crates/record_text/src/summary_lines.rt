@@ -4,10 +4,10 @@ ghost use Rattle.record_text.specs.Summaries.{digest_line, summary_lines, salvag
 
 use crate::put::{put_hex, put_number_line, put_words};
 use det_values::OutOfMemory;
-use std::alloc::{AllocError, Global};
+use std::alloc::AllocError;
 
-/// What is told of a simulated run: its number, its cycles and the refused ones among them, and the length and the
-/// SHA-256 digest of its record.
+/// What is told of a simulated run: its number, its cycles and the refused ones among them, and the
+/// length and the SHA-256 digest of its record.
 #[derive(Clone, Copy, Debug, PartialEq, Eq, Drop)]
 pub struct Summary {
     pub number: u64,
@@ -17,32 +17,29 @@ pub struct Summary {
     pub digest: [u8; 32],
 }
 
-fn put_digest_line(alloc: Global, out: &mut Vec<u8>, digest: &[u8]) -> Result<(), AllocError>
+fn put_digest_line(out: &mut Vec<u8>, digest: &[u8]) -> Result<(), AllocError>
     ensures { OnOk result (out.new.items ≡ out.old.items ++ digest_line digest.now) }
 {
     put_words(out, "sha256 ")?;
-    put_hex(alloc, out, digest)?;
+    put_hex(out, digest)?;
     put_words(out, "\n")?;
     Ok(())
 }
 
 /// Appends the lines of a simulated run. After a refusal some of them may stand there.
-pub fn put_summary_lines(
-    alloc: Global,
-    out: &mut Vec<u8>,
-    summary: &Summary,
-) -> Result<(), OutOfMemory>
+pub fn put_summary_lines(out: &mut Vec<u8>, summary: &Summary) -> Result<(), OutOfMemory>
     ensures { OnOk result (out.new.items ≡ out.old.items ++ summary_lines summary.now) }
 {
     put_number_line(out, "sim", summary.number)?;
     put_number_line(out, "cycles", summary.cycles as u64)?;
     put_number_line(out, "refused", summary.refused as u64)?;
     put_number_line(out, "bytes", summary.bytes)?;
-    put_digest_line(alloc, out, &summary.digest)?;
+    put_digest_line(out, &summary.digest)?;
     Ok(())
 }
 
-/// Appends the line of a salvaged record of so many cycles. After a refusal a part of it may stand there.
+/// Appends the line of a salvaged record of so many cycles. After a refusal a part of it may stand
+/// there.
 pub fn put_salvaged_line(out: &mut Vec<u8>, cycles: u32) -> Result<(), OutOfMemory>
     ensures { OnOk result (out.new.items ≡ out.old.items ++ salvaged_line cycles) }
 {

@@ -7,16 +7,15 @@ ghost use Rattle.stimulus.specs.StandsFor.{IsSettled, room};
 ghost use Rattle.stimulus.specs.Reading.{inputs_of};
 ghost use Rattle.recorder.specs.Runs.{end_of, Ran, StandTogether, IsReady, AllRan, Stopped, frames_of};
 
-use crate::block::{Crew, run_block};
+use crate::block::run_block;
 use crate::ends::{Counts, RecordEnd};
 use cycle_engine::Engine;
 use det_edges::Sink;
 use det_values::{Bytes, Profile};
-use job_trait::Job;
+use job_trait::{Job, Pool};
 use probes::Probe;
-use std::thread::Threads;
+use std::alloc::Global;
 use stimulus::{StimError, StimItem, StimReader};
-use worker_pool::Gate;
 
 /// How a run ends that the reader of its stimulus stops.
 fn stimulus_end(error: StimError) -> RecordEnd
@@ -29,8 +28,9 @@ fn stimulus_end(error: StimError) -> RecordEnd
 }
 
 /// Runs the complete blocks that the reader has and didn't give yet.
-pub(crate) fn run_blocks<J: Job, K: Sink, R: Threads + Sync, G: Gate>(
-    crew: &Crew<'_, R, G>,
+pub(crate) fn run_blocks<J: Job, P: Pool<J>, K: Sink>(
+    alloc: Global,
+    pool: &mut P,
     profile: &Profile,
     reader: &mut StimReader,
     engine: &mut Engine<J>,
@@ -70,7 +70,7 @@ pub(crate) fn run_blocks<J: Job, K: Sink, R: Threads + Sync, G: Gate>(
                 StimItem::Terminate => {}
                 StimItem::Cycle(input) => {
                     if let Err(end) = run_block(
-                        crew, profile, &input, engine, buffer, sink, counts, probes, left,
+                        alloc, pool, profile, input, engine, buffer, sink, counts, probes, left,
                     ) {
                         return Err(end);
                     }

@@ -9,23 +9,22 @@ ghost use Rattle.stimulus.specs.Reading.{inputs_of};
 ghost use Rattle.recorder.specs.Runs.{Ran, StandTogether, AllRan, StoppedReading, frames_of};
 
 use crate::all_blocks::run_blocks;
-use crate::block::Crew;
 use crate::ends::{Counts, RecordEnd};
 use cycle_engine::Engine;
 use det_edges::{Sink, Slots};
 use det_values::{Bytes, Profile};
-use job_trait::Job;
+use job_trait::{Job, Pool};
 use probes::Probe;
-use std::thread::Threads;
+use std::alloc::Global;
 use stimulus::StimReader;
-use worker_pool::Gate;
 
 /// The bytes that are read at a time.
 const PIECE: usize = 4096;
 
 /// Reads the text that a slot has left to its end, and runs all of its blocks.
-pub(crate) fn run_pieces<J: Job, S: Slots, K: Sink, R: Threads + Sync, G: Gate>(
-    crew: &Crew<'_, R, G>,
+pub(crate) fn run_pieces<J: Job, P: Pool<J>, S: Slots, K: Sink>(
+    alloc: Global,
+    pool: &mut P,
     profile: &Profile,
     shelf: &mut S,
     slot: u32,
@@ -61,7 +60,7 @@ pub(crate) fn run_pieces<J: Job, S: Slots, K: Sink, R: Threads + Sync, G: Gate>(
     let mut piece = [0; PIECE];
     'pieces: loop {
         if let Err(end) = run_blocks(
-            crew, profile, reader, engine, buffer, sink, counts, probes, left,
+            alloc, pool, profile, reader, engine, buffer, sink, counts, probes, left,
         ) {
             return Err(end);
         }

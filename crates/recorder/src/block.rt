@@ -13,28 +13,16 @@ use crate::frames::{frame_of, refusals, run_in, write_frame};
 use cycle_engine::Engine;
 use det_edges::Sink;
 use det_values::{Bytes, CycleInput, Profile};
-use job_trait::Job;
+use job_trait::{Job, Pool};
 use probes::{Probe, show_all};
 use std::alloc::Global;
-use std::thread::Threads;
-use worker_pool::Gate;
-
-/// What cycles are run with.
-#[derive(Drop)]
-pub(crate) struct Crew<'r, R, G> {
-    pub(crate) rt: &'r R,
-    pub(crate) alloc: Global,
-    pub(crate) workers: u32,
-    pub(crate) gate: &'r G,
-    ghost some: { 1 ≤ workers },
-    ghost few: { workers ≤ 64 },
-}
 
 /// Runs one block, writes its frame, and then shows it to the probes.
-pub(crate) fn run_block<J: Job, K: Sink, R: Threads + Sync, G: Gate>(
-    crew: &Crew<'_, R, G>,
+pub(crate) fn run_block<J: Job, P: Pool<J>, K: Sink>(
+    alloc: Global,
+    pool: &mut P,
     profile: &Profile,
-    input: &CycleInput,
+    input: CycleInput,
     engine: &mut Engine<J>,
     buffer: &mut Vec<u8>,
     sink: &mut K,
@@ -45,23 +33,23 @@ pub(crate) fn run_block<J: Job, K: Sink, R: Threads + Sync, G: Gate>(
     requires stands { (given : List Input) × EngineStands J.meaning profile.now engine.old given }
     requires going { engine.old.stopped ≡ false }
     requires few { engine.old.cycles < 1000000 }
-    requires known { All (λ s. s.event < length profile.now.events) input.now.samples }
+    requires known { All (λ s. s.event < length profile.now.events) input.samples }
     requires low { counts.old.refused ≤ engine.old.cycles }
     requires room { length left.old + 256 * vec_len probes.old ≤ 1048576 }
     ensures ran { OnOk result ((given : List Input) → EngineStands J.meaning profile.now engine.old given
         → Ran J.meaning profile.now given engine.new (K.took sink.old) (K.took sink.new) counts.old counts.new
-        left.old (map (λ b. life b) probes.old.items) left.new (map (λ b. life b) probes.new.items) (input.now ∷ [])) }
+        left.old (map (λ b. life b) probes.old.items) left.new (map (λ b. life b) probes.new.items) (input ∷ [])) }
     ensures going { OnOk result (engine.new.stopped ≡ false) }
     ensures cycles { OnOk result (engine.new.cycles ≡ engine.old.cycles + 1) }
     ensures low { OnOk result (counts.new.refused ≤ counts.old.refused + 1) }
     ensures room { OnOk result (length left.new + 256 * vec_len probes.new ≤ length left.old + 256 * vec_len probes.old) }
     ensures fewer { vec_len probes.new ≤ vec_len probes.old }
     ensures err { IfErr result (λ e. (given : List Input) → EngineStands J.meaning profile.now engine.old given
-        → Cuts e (K.took sink.old) (K.took sink.new) (spelled_runs profile.now.format (runs_after J.meaning profile.now given (input.now ∷ [])))) }
+        → Cuts e (K.took sink.old) (K.took sink.new) (spelled_runs profile.now.format (runs_after J.meaning profile.now given (input ∷ [])))) }
     ensures cause { IsErrOf result RecordEnd.WriteFault → Rose (K.faults sink.old) (K.faults sink.new) }
     ensures counted { K.faults sink.old ≤ K.faults sink.new }
 {
-    let Ok(run) = engine.cycle(crew.rt, crew.alloc, input, crew.workers, crew.gate) else {
+    let Ok(run) = engine.cycle(alloc, pool, input) else {
         return Err(RecordEnd::OutOfMemory);
     };
     let events = profile.events.len() as u16;
@@ -69,7 +57,7 @@ pub(crate) fn run_block<J: Job, K: Sink, R: Threads + Sync, G: Gate>(
     write_frame(profile.format, events, &frame, buffer, sink, counts)?;
     let run = run_in(&frame);
     counts.refused += refusals(run);
-    match show_all(crew.alloc, probes, left, run) {
+    match show_all(alloc, probes, left, run) {
         Ok(()) => Ok(()),
         Err(_) => Err(RecordEnd::OutOfMemory),
     }

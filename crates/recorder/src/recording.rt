@@ -3,30 +3,25 @@ ghost use Rattle.std.specs.Prelude.{◌≡◌, ℕ, ◌<◌, ◌≤◌, ◌+◌,
 ghost use Rattle.std.specs.Vec.{vec_len};
 ghost use Rattle.det_edges.specs.Count.{Rose};
 ghost use Rattle.det_edges.specs.Shelf.{Reads, IsAtEnd};
-ghost use Rattle.det_edges.specs.Sink.{GrewByPrefix};
 ghost use Rattle.cycle_engine.specs.Engine.{StandsFor as EngineStands};
 ghost use Rattle.cycle_engine.specs.Frames.{runs};
 ghost use Rattle.record_grammar.specs.Spelling.{spelled};
 ghost use Rattle.stimulus.specs.Reading.{blocks};
-ghost use Rattle.probes.specs.Reports.{reports};
 ghost use Rattle.probes.specs.Shows.{Shows};
-ghost use Rattle.recorder.specs.Record.{record_of};
-ghost use Rattle.recorder.specs.Ends.{Finishes, Stops, Ended};
+ghost use Rattle.recorder.specs.Ends.{Ended};
+ghost use Rattle.recorder.specs.Recorded.{IsRecorded};
 
 use crate::all_pieces::run_pieces;
-use crate::block::Crew;
 use crate::ends::{Counts, RecordEnd};
 use crate::frames::{write_bytes, write_frame};
 use cycle_engine::Engine;
 use det_edges::{Sink, Slots};
 use det_values::{Bytes, Frame, OutOfMemory, Profile};
-use job_trait::Job;
+use job_trait::{Job, Pool};
 use probes::Probe;
 use record_codec::{encode_frame, encode_header};
 use std::alloc::Global;
-use std::thread::Threads;
 use stimulus::StimReader;
-use worker_pool::Gate;
 
 /// The header, and the frames up to Init.
 fn encode_opening<J: Job>(
@@ -48,8 +43,9 @@ fn encode_opening<J: Job>(
 }
 
 /// The same as `record_run`, without what follows where the shelf tells the text.
-fn run_all<J: Job, S: Slots, K: Sink, R: Threads + Sync, G: Gate>(
-    crew: &Crew<'_, R, G>,
+fn run_all<J: Job, P: Pool<J>, S: Slots, K: Sink>(
+    alloc: Global,
+    pool: &mut P,
     engine: &mut Engine<J>,
     profile: &Profile,
     shelf: &mut S,
@@ -77,14 +73,15 @@ fn run_all<J: Job, S: Slots, K: Sink, R: Threads + Sync, G: Gate>(
         refused: 0,
         bytes: 0,
     };
-    let Ok(mut buffer) = encode_opening(crew.alloc, profile, engine) else {
+    let Ok(mut buffer) = encode_opening(alloc, profile, engine) else {
         return Err(RecordEnd::OutOfMemory);
     };
     write_bytes(&buffer, sink, &mut counts)?;
     let events = profile.events.len() as u16;
-    let mut reader = StimReader::new(crew.alloc, events);
+    let mut reader = StimReader::new(alloc, events);
     run_pieces(
-        crew,
+        alloc,
+        pool,
         profile,
         shelf,
         slot,
@@ -112,41 +109,30 @@ fn run_all<J: Job, S: Slots, K: Sink, R: Threads + Sync, G: Gate>(
     Ok(counts)
 }
 
-/// Runs a job over the stimulus that a slot has left, and writes the record of the profile and of this text.
+/// Runs a job on a pool over the stimulus that a slot has left, and writes the record of the profile and of this text.
 ///
 /// The header and the frames up to Init are written before the first line is judged, then a Run frame for each complete
 /// block, and Terminate once the text was read to its end and is good. Each Run frame is shown to the probes after it
 /// was written; reports of probes that leave are appended to `left`. After an error the engine isn't to be used.
-pub fn record_run<J: Job, S: Slots, K: Sink, R: Threads + Sync, G: Gate>(
-    rt: &R,
+pub fn record_run<J: Job, P: Pool<J>, S: Slots, K: Sink>(
     alloc: Global,
+    pool: &mut P,
     engine: &mut Engine<J>,
     profile: &Profile,
     shelf: &mut S,
     slot: u32,
     sink: &mut K,
-    workers: u32,
-    gate: &G,
     probes: &mut Vec<Box<dyn Probe>>,
     left: &mut Bytes,
 ) -> Result<Counts, RecordEnd>
     requires begun { EngineStands J.meaning profile.now engine.old [] }
     requires going { engine.old.stopped ≡ false }
     requires slot { slot < (S.sees shelf.old).slots }
-    requires workers { (1 ≤ workers) × (workers ≤ 64) }
     requires few { vec_len probes.old ≤ 1024 }
     requires empty { left.old ≡ [] }
-
-    // Of the text, where the shelf tells it: it was recorded whole, or up to its bad line, or in part.
-    ensures ok { IfSome ((S.sees shelf.old).left slot) (λ text. IfOk result (λ counts. Finishes J.meaning profile.now text counts (K.took sink.old) (K.took sink.new))) }
-    ensures stimulus { IfSome ((S.sees shelf.old).left slot) (λ text. (line : ℕ) → result ≡ Err (RecordEnd.Stimulus line) → Stops J.meaning profile.now text line (K.took sink.old) (K.took sink.new)) }
-    ensures part { IfSome ((S.sees shelf.old).left slot) (λ text. GrewByPrefix (K.took sink.old) (K.took sink.new) (record_of J.meaning profile.now text)) }
-    ensures probes { IfSome ((S.sees shelf.old).left slot) (λ text. OnOk result (left.new ++ reports (map (λ b. life b) probes.new.items) [] ≡ reports (map (λ b. life b) probes.old.items) (runs J.meaning profile.now (blocks (length profile.now.events) text)))) }
-
-    // Of what was read, also where the shelf tells nothing.
-    ensures run { (read : List ℕ) × Reads (S.sees shelf.old) (S.sees shelf.new) slot read
-        × Ended J.meaning profile.now result read (IsAtEnd (S.sees shelf.new) slot) (K.took sink.old) (K.took sink.new)
-        × OnOk result (Shows [] (map (λ b. life b) probes.old.items) left.new (map (λ b. life b) probes.new.items) (runs J.meaning profile.now (blocks (length profile.now.events) read))) }
+    ensures recorded { IsRecorded J.meaning profile.now slot (S.sees shelf.old) (S.sees shelf.new)
+        (K.took sink.old) (K.took sink.new) (map (λ b. life b) probes.old.items)
+        (map (λ b. life b) probes.new.items) left.new result }
     ensures fewer { vec_len probes.new ≤ vec_len probes.old }
     ensures read_fault { IsErrOf result RecordEnd.ReadFault → Rose (S.sees shelf.old).faults (S.sees shelf.new).faults }
     ensures write_fault { IsErrOf result RecordEnd.WriteFault → Rose (K.faults sink.old) (K.faults sink.new) }
@@ -154,11 +140,5 @@ pub fn record_run<J: Job, S: Slots, K: Sink, R: Threads + Sync, G: Gate>(
     ensures writes_counted { K.faults sink.old ≤ K.faults sink.new }
     ensures stays { S.stays shelf.old shelf.new }
 {
-    let crew = Crew {
-        rt,
-        alloc,
-        workers,
-        gate,
-    };
-    run_all(&crew, engine, profile, shelf, slot, sink, probes, left)
+    run_all(alloc, pool, engine, profile, shelf, slot, sink, probes, left)
 }

@@ -42,8 +42,10 @@ enum Progress {
 impl StimReader {
     ghost use Rattle.std.specs.Prelude.{ℕ, ◌-◌, List, [], ◌++◌, IsTrue, ◌↔◌, OnOk, OnErr};
     ghost use Rattle.stimulus.specs.declared.item.StimItem.{StimItem};
-    ghost use Rattle.stimulus.specs.StandsFor.{StandsFor, NextIs, FinishIs, IsSettled, Settles, Falls, waiting, room, left};
-    ghost use Rattle.stimulus.specs.Steps.{LineIs, Shrinks, OpenSettles, TookIs, BadIs, IsPastEnd, IsLast};
+    ghost use Rattle.stimulus.specs.StandsFor.{StandsFor, NextIs, FinishIs, IsSettled, Settles};
+    ghost use Rattle.stimulus.specs.StandsFor.{Falls, waiting, room, left};
+    ghost use Rattle.stimulus.specs.Steps.{LineIs, Shrinks, OpenSettles, TookIs, BadIs, IsPastEnd};
+    ghost use Rattle.stimulus.specs.Steps.{IsLast};
 
     /// A reader for a profile with so many events. It takes no memory.
     pub fn new(alloc: Global, events: u16) -> StimReader
@@ -62,34 +64,40 @@ impl StimReader {
         }
     }
 
-    /// Takes the next bytes of the text. A refused call changes nothing. Once a bad line was answered, bytes are
-    /// dropped.
+    /// Takes the next bytes of the text. After a refused call the reader gives and answers what it
+    /// gave and answered before. Once a bad line was answered, bytes are dropped.
     pub fn feed(&mut self, piece: &[u8]) -> Result<(), OutOfMemory>
         ensures events { self.new.events ≡ self.old.events }
-        ensures ok { OnOk result ((bytes : List ℕ) (given : List StimItem) → StandsFor self.old bytes given → StandsFor self.new (bytes ++ piece.now) given) }
-        ensures err { OnErr result ((bytes : List ℕ) (given : List StimItem) → StandsFor self.old bytes given → StandsFor self.new bytes given) }
+        ensures ok { OnOk result ((bytes : List ℕ) (given : List StimItem)
+            → StandsFor self.old bytes given → StandsFor self.new (bytes ++ piece.now) given) }
+        ensures err { OnErr result ((bytes : List ℕ) (given : List StimItem)
+            → StandsFor self.old bytes given → StandsFor self.new bytes given) }
         ensures room { OnOk result (room self.new ≡ room self.old - length piece.now) }
+        ensures settled { OnErr result (IsSettled self.old → IsSettled self.new) }
+        ensures same_room { OnErr result (room self.new ≡ room self.old) }
+        ensures same_waiting { OnErr result (waiting self.new ≡ waiting self.old) }
     {
         if let Some(_) = self.fault {
             return Ok(());
         }
-        self.settled = false;
         let read = self.read;
         self.read = drop_read(&mut self.pending, read);
-        match self.pending.extend_from_slice(piece) {
-            Ok(()) => Ok(()),
-            Err(_) => Err(OutOfMemory),
+        if self.pending.extend_from_slice(piece).is_err() {
+            return Err(OutOfMemory);
         }
+        self.settled = false;
+        Ok(())
     }
 
-    /// The next complete block, or `Terminate`. None where more bytes are needed. A bad line is answered again by
-    /// every later call. After `OutOfMemory` the reader is as before.
+    /// The next complete block, or `Terminate`. None where more bytes are needed. A bad line is
+    /// answered again by every later call. After `OutOfMemory` the reader is as before.
     pub fn next_cycle(&mut self) -> Result<Option<StimItem>, StimError>
         ensures events { self.new.events ≡ self.old.events }
         ensures settles { Settles result self.new }
         ensures falls { Falls result self.old self.new }
         ensures room { room self.new ≤ room self.old }
-        ensures next { (bytes : List ℕ) (given : List StimItem) → StandsFor self.old bytes given → NextIs result self.new bytes given }
+        ensures next { (bytes : List ℕ) (given : List StimItem) → StandsFor self.old bytes given
+            → NextIs result self.new bytes given }
     {
         'each_line: loop {
             match self.read_line() {
@@ -104,7 +112,8 @@ impl StimReader {
     /// Whether the text that was fed is a whole stimulus, if no more bytes come.
     pub fn finish(&self) -> Result<(), StimFault>
         requires { IsSettled self.now }
-        ensures { (bytes : List ℕ) (given : List StimItem) → StandsFor self.now bytes given → FinishIs result self.now.events bytes }
+        ensures { (bytes : List ℕ) (given : List StimItem) → StandsFor self.now bytes given
+            → FinishIs result self.now.events bytes }
     {
         if let Some(fault) = self.fault {
             return Err(fault);
@@ -121,7 +130,8 @@ impl StimReader {
         ensures settles { OpenSettles result self.new }
         ensures shrinks { Shrinks result self.old self.new }
         ensures room { room self.new ≤ room self.old }
-        ensures line { (bytes : List ℕ) (given : List StimItem) → StandsFor self.old bytes given → LineIs result self.new bytes given }
+        ensures line { (bytes : List ℕ) (given : List StimItem) → StandsFor self.old bytes given
+            → LineIs result self.new bytes given }
     {
         if let Some(fault) = self.fault {
             return Err(StimError::Bad(fault));
@@ -229,8 +239,8 @@ fn rest_of(bytes: &[u8], read: usize) -> &[u8]
     bytes.split_at(read).1
 }
 
-/// Removes the first bytes, which were read, once they are no fewer than the others: so no byte is moved twice as
-/// often as one is read. Answers how many of the bytes that stay were read.
+/// Removes the first bytes, which were read, once they are no fewer than the others: so no byte is
+/// moved twice as often as one is read. Answers how many of the bytes that stay were read.
 fn drop_read(bytes: &mut Vec<u8>, read: usize) -> usize
     requires { read ≤ vec_len bytes.old }
     ensures within { result ≤ vec_len bytes.new }

@@ -2,8 +2,10 @@ use Rattle.std.proofs.Common.{[], ◌∷◌, ap, ◌∙◌}
 use Rattle.std.specs.Prelude.{Err}
 use Rattle.det_edges.proofs.Opening.{asks-then-prefix}
 use Rattle.manifest.specs.Profiles.{profile_of}
+use Rattle.cli_answers.specs.Outcome.{told}
+use Rattle.cmd_setup.specs.Setup.{setup_of}
 use Rattle.cmd_record.proofs.Meeting.{rose-later, meets-as}
-use Rattle.cmd_record.proofs.ByManifest.{by-told, still-told, met-end}
+use Rattle.cmd_record.proofs.ByManifest.{by-told, still-told, met-end, asked-manifest, asked-both}
 use Rattle.cmd_record.proofs.by_manifest.record_stimulus.Goals as goal
 
 pub returns-in-Err-clause-meets : goal.returns-in-Err-clause-meets
@@ -11,16 +13,27 @@ returns-in-Err-clause-meets g c =
     met-end (g.S.Slots.sees c.args.shelf.now) c.args.manifest.now c.args.stimulus.now c.args.seed _ _ _ c.in-Err.end c.answer.result c.answer.ensures
     c.in-Err.ensures.refused (λ is. c.in-Err.ensures.cause (ap (λ e. Err e) is))
 
+pub returns-in-Err-clause-judged : goal.returns-in-Err-clause-judged
+returns-in-Err-clause-judged g c = λ tells.
+    let first = g.S.Slots.sees c.args.shelf.now in
+    asked-manifest first c.args.manifest.now c.args.stimulus.now _ (setup_of (told first c.args.manifest.now)) c.read_setup.ensures.asked
+
 pub returns-clause-meets : goal.returns-clause-meets
 returns-clause-meets g c =
     let first = g.S.Slots.sees c.args.shelf.now in
     let mid = g.S.Slots.sees c.read_setup.new.shelf in
+    let is = c.in-Ok.ensures.manifest in
     let profile = c.in-Ok-profile.ensures.profile ∙ ap (profile_of c.in-Ok.setup) c.unwrap_or.ensures in
-    meets-as _ _ _ _ _ _ _ _ _ _ (still-told first c.args.manifest.now c.args.stimulus.now mid c.read_setup.ensures.holds)
-    (by-told first c.args.manifest.now c.args.stimulus.now mid c.args.seed c.in-Ok.setup c.kind.result c.in-Ok-profile.profile
-    c.read_setup.ensures.holds c.in-Ok.ensures.manifest c.kind.ensures profile)
+    meets-as _ _ _ _ _ _ _ _ _ _ (still-told first c.args.manifest.now c.args.stimulus.now c.in-Ok.setup is mid c.read_setup.ensures.holds)
+    (by-told first c.args.manifest.now c.args.stimulus.now c.in-Ok.setup is mid c.args.seed c.kind.result c.in-Ok-profile.profile
+    c.read_setup.ensures.holds c.kind.ensures profile)
     (rose-later _ _ _ c.read_setup.ensures.counted) c.record_kind.ensures.meets
 
 pub returns-clause-asked : goal.returns-clause-asked
 returns-clause-asked g c =
     asks-then-prefix _ _ _ (c.args.manifest.now ∷ []) (c.args.stimulus.now ∷ []) c.read_setup.ensures.asked c.record_kind.ensures.asked
+
+pub returns-clause-judged : goal.returns-clause-judged
+returns-clause-judged g c =
+    asked-both (g.S.Slots.sees c.args.shelf.now) c.args.manifest.now c.args.stimulus.now c.in-Ok.setup c.in-Ok.ensures.manifest _
+    (asks-then-prefix _ _ _ (c.args.manifest.now ∷ []) (c.args.stimulus.now ∷ []) c.read_setup.ensures.asked c.record_kind.ensures.asked)

@@ -23,5 +23,5 @@ returns-in_default-clause-meets g c = meets-read-fault _ _ _ _ _ c.in_default.en
 
 pub returns-clause-asked : goal.returns-clause-asked
 returns-clause-asked g c =
-    let run = c.record_run-run.ensures.run in
+    let run = c.record_by_crew-run.ensures.recorded.run in
     asks-all _ _ (c.args.stimulus.now ∷ []) (asks-then-kept c.in-Ok-open_input.ensures.asked run.1.asked)

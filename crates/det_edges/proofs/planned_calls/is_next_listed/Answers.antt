@@ -13,4 +13,5 @@ beyond fails number below = list_any_none (λ n. nat_eq n number) fails
     (All-from_get_or (λ n. nat_eq n number ≡ false) fails 0 (λ i h. differs _ number (below i)))
 
 pub returns-in-None : goal.returns-in-None
-returns-in-None c = sym (beyond c.args.fails.now (c.args.made + 1) (λ i. let fits = c.type_inv.fails i in let past = c.in-None.ensures in omega (arith, fits, past)))
+returns-in-None c = sym (beyond c.args.fails.now (c.args.made + 1)
+    (λ i. let fits = c.type_inv.fails i in let past = c.in-None.ensures in omega (arith, fits, past)))

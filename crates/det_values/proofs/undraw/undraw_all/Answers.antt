@@ -19,7 +19,9 @@ pub returns : goal.returns
 returns c = undrawing_done _ _ _ _ _ c.loop-test.false c.loop.invariant
 
 pub returns-in-None : goal.returns-in-None
-returns-in-None c = absurd (undrawing_none _ _ _ _ (omega (arith, c.loop-test.true, length-elements_in c.args.count c.args.bytes.now)) c.loop.invariant c.in-None.ensures.none)
+returns-in-None c = absurd (undrawing_none _ _ _ _ (omega (arith, c.loop-test.true, length-elements_in c.args.count c.args.bytes.now))
+    c.loop.invariant c.in-None.ensures.none)
 
 pub loop-preserved : goal.loop-preserved
-loop-preserved c = undrawing_more _ _ _ _ _ _ (omega (arith, c.loop-test.true, length-elements_in c.args.count c.args.bytes.now)) c.loop.invariant c.in-Some.ensures.some c.fill_zero.ensures
+loop-preserved c = undrawing_more _ _ _ _ _ _ (omega (arith, c.loop-test.true, length-elements_in c.args.count c.args.bytes.now))
+    c.loop.invariant c.in-Some.ensures.some c.fill_zero.ensures

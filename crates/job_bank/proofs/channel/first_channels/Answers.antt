@@ -11,10 +11,11 @@ use Rattle.job_bank.proofs.channel.first_channels.Goals as goal
 pub loop-i-preserved : goal.loop-i-preserved
 loop-i-preserved c =
     let bank = c.args.bank.now in
-    let x : Channel = record { event = c.event_of.result; level = pos 0 } in
-    let is : x ≡ first_channel bank c.loop-i.i = ap (λ n. record { event = n; level = pos 0 }) c.event_of.ensures in
+    let x : Channel = record { event = c.event_of-event.result; level = pos 0 } in
+    let is : x ≡ first_channel bank c.loop-i.i = ap (λ n. record { event = n; level = pos 0 }) c.event_of-event.ensures in
     record {
-      so_far = made_more (first_channel bank) c.loop-i.i c.loop-i.channels c.push.new.self x c.loop-i.invariant.so_far is c.in_ok-push.ensures.ok;
+      so_far = made_more (first_channel bank) c.loop-i.i c.loop-i.channels c.push.new.self x c.loop-i.invariant.so_far is
+          c.in_ok-push.ensures.ok;
       end = refl;
     }
 
@@ -22,5 +23,6 @@ pub returns-clause-own : goal.returns-clause-own
 returns-clause-own c =
     let bank = c.args.bank.now in
     let end : c.loop-i.i ≡ bank.channels = omega arith in
-    let all : c.loop-i.channels ≡ first_channels bank = c.loop-i.invariant.so_far.items ∙ ap (λ n. map (first_channel bank) (range_with_len 0 n)) end in
+    let all : c.loop-i.channels ≡ first_channels bank = c.loop-i.invariant.so_far.items
+    ∙ ap (λ n. map (first_channel bank) (range_with_len 0 n)) end in
     All-same (Own bank) c.loop-i.channels (first_channels bank) all (own_all_first bank)

@@ -18,7 +18,11 @@ returns-else-word-eq0-clause-particle c key at =
     let fy : SFits w64 c.towards-else-word-eq0.result = search rules in
     let x : c.towards.result ≡ towards e.x best.x 3 = search (rules, c.towards.ensures.step) in
     let y : c.towards-else-word-eq0.result ≡ towards e.y best.y 3 = search (rules, c.towards-else-word-eq0.ensures.step) in
-    (λ i. record { number = e.number; x = (to_z-of_z w64 c.towards.result fx ∙ x) i; y = (to_z-of_z w64 c.towards-else-word-eq0.result fy ∙ y) i })
+    (λ i. record {
+      number = e.number;
+      x = (to_z-of_z w64 c.towards.result fx ∙ x) i;
+      y = (to_z-of_z w64 c.towards-else-word-eq0.result fy ∙ y) i;
+    })
     ∙ sym (pulled_to best e w other)
     ∙ ap (λ o. pulled o e w) (sym c.in-Some.is)
     ∙ ap (pulled c.args.carry e) (c.get_random-word.ensures.word key 0 at)

@@ -9,7 +9,8 @@ use Rattle.job_cloud.proofs.particle.first_particles.Goals as goal
 
 pub loop-number-preserved : goal.loop-number-preserved
 loop-number-preserved c = record {
-  so_far = made_more first_particle c.loop-number.number c.loop-number.particles c.push.new.self (first_particle c.loop-number.number) c.loop-number.invariant.so_far refl c.in_ok-push.ensures.ok;
+  so_far = made_more first_particle c.loop-number.number c.loop-number.particles c.push.new.self (first_particle c.loop-number.number)
+      c.loop-number.invariant.so_far refl c.in_ok-push.ensures.ok;
   end = refl;
 }
 
@@ -17,5 +18,6 @@ pub returns-clause-own : goal.returns-clause-own
 returns-clause-own c =
     let cloud = c.args.cloud.now in
     let end : c.loop-number.number ≡ cloud.particles = omega arith in
-    let all : c.loop-number.particles ≡ first_particles cloud = c.loop-number.invariant.so_far.items ∙ ap (λ n. map first_particle (range_with_len 0 n)) end in
+    let all : c.loop-number.particles ≡ first_particles cloud = c.loop-number.invariant.so_far.items
+    ∙ ap (λ n. map first_particle (range_with_len 0 n)) end in
     All-same (Own cloud) c.loop-number.particles (first_particles cloud) all (own_all_first cloud)

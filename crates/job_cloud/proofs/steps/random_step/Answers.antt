@@ -13,7 +13,8 @@ here c key at =
 
 pub returns-then-lands-clause-step : goal.returns-then-lands-clause-step
 returns-then-lands-clause-step c key at =
-    c.try_once-step.ensures.step key (2 * c.loop.counter) (c.loop.invariant.reads key at) ∙ ap (step_of c.args.spread key) (sym (here c key at))
+    c.try_once-step.ensures.step key (2 * c.loop.counter) (c.loop.invariant.reads key at)
+    ∙ ap (step_of c.args.spread key) (sym (here c key at))
 
 pub returns-then-lands-clause-draws : goal.returns-then-lands-clause-draws
 returns-then-lands-clause-draws c key at =
@@ -25,7 +26,8 @@ pub loop-preserved : goal.loop-preserved
 loop-preserved c = record {
   reads = λ key at.
       let two : 2 * c.loop.counter + 2 ≡ 2 * (c.loop.counter + 1) = omega arith in
-      subst (λ (n : ℕ). StandsFor c.try_once-step.new.random key n) two (c.try_once-step.ensures.goes_on key (2 * c.loop.counter) (c.loop.invariant.reads key at));
+      subst (λ (n : ℕ). StandsFor c.try_once-step.new.random key n) two
+      (c.try_once-step.ensures.goes_on key (2 * c.loop.counter) (c.loop.invariant.reads key at));
   left = λ key at.
       let is = c.try_once-step.ensures.step key (2 * c.loop.counter) (c.loop.invariant.reads key at) in
       missed c.args.spread key c.loop.counter (landing c.args.spread key) c.loop-test.true (c.loop.invariant.left key at)

@@ -5,6 +5,6 @@ use Rattle.job_guard.proofs.channel.first_channels.Given as goal
 
 abbrev pub invariant-loop-number : goal.invariant-loop-number
 invariant-loop-number l = record {
-  so_far : IsMade first_channel l.number l.channels;
+  so_far : IsMade (first_channel l.guard) l.number l.channels;
   end : l.number-end ≡ l.guard.channels;
 }

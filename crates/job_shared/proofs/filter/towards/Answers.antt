@@ -8,4 +8,5 @@ returns-clause-step c = towards_computed c.args.value c.args.target c.args.shift
 
 pub returns-clause-limits : goal.returns-clause-limits
 returns-clause-limits c =
-    subst IsSampleValue (sym (towards_computed c.args.value c.args.target c.args.shift c.requires.value c.requires.target)) (towards_in_range c.args.value c.args.target c.args.shift c.requires.value c.requires.target)
+    subst IsSampleValue (sym (towards_computed c.args.value c.args.target c.args.shift c.requires.value c.requires.target))
+    (towards_in_range c.args.value c.args.target c.args.shift c.requires.value c.requires.target)

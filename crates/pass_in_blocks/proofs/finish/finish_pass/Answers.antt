@@ -17,13 +17,15 @@ join_block-requires g c =
     let q = c.blocks-b-end.ensures.no_more c.join.b (omega arith) in let e = ap length c.deref-4.ensures in
     let d = passed_by c.join.elements c.join.draws c.join.part in
     subst (λ j. CanJoin g.J.Job.Covers j d (left_by c.in-Done.done)) (sym c.deref-in-Done.ensures)
-    (can_join g.met.J.Job.laws c.args.pass.now c.requires.ready c.join.b d c.join.invariant.done (omega arith) (left_by c.in-Done.done) (search rules))
+    (can_join g.met.J.Job.laws c.args.pass.now c.requires.ready c.join.b d c.join.invariant.done (omega arith)
+    (left_by c.in-Done.done) (search rules))
 
 pub returns-in-Refused : goal.returns-in-Refused
 returns-in-Refused g c =
     let q = c.blocks-b-end.ensures.no_more c.join.b (omega arith) in let e = ap length c.deref-4.ensures in
     let d = passed_by c.join.elements c.join.draws c.join.part in
-    refusal_answer g.met.J.Job.laws c.args.pass.now c.requires.ready c.join.b d c.join.invariant.done (omega arith) c.in-Refused.element c.in-Refused.code (search rules)
+    refusal_answer g.met.J.Job.laws c.args.pass.now c.requires.ready c.join.b d c.join.invariant.done (omega arith)
+    c.in-Refused.element c.in-Refused.code (search rules)
 
 pub join-preserved : goal.join-preserved
 join-preserved g c =
@@ -37,5 +39,6 @@ join-preserved g c =
 
 pub returns : goal.returns
 returns g c = let q = c.blocks-b-end.ensures.enough in let e = ap length c.deref-4.ensures in
-    all_answer g.met.J.Job.laws c.args.pass.now c.requires.ready c.join.b (passed_by c.join.elements c.join.draws c.join.part) c.join.invariant.done
+    let d = passed_by c.join.elements c.join.draws c.join.part in
+    all_answer g.met.J.Job.laws c.args.pass.now c.requires.ready c.join.b d c.join.invariant.done
     (record { elements = c.join.elements; draws = c.join.draws; part = c.join.part }) refl (omega arith)

@@ -1,8 +1,8 @@
-use Rattle.std.proofs.Common.{◌≡◌, ◌-◌, ◌+◌, ◌*◌, ◌≤◌, ◌<◌, length, take, drop, get_or, true, false, arith, rules, length-drop}
+use Rattle.std.proofs.Common.{◌≡◌, ◌-◌, length, drop, get_or, arith, rules, length-drop}
 use Rattle.std.proofs.lemmas.List.{take_all}
 use Rattle.record_grammar.specs.Read.{Got}
 use Rattle.record_grammar.specs.Numbers.{number_from}
-use Rattle.record_codec.proofs.Numbers.{HasRead, HasRead-begin, HasRead-room, HasRead-next, HasRead-bad, HasRead-short, HasRead-done, number_within}
+use Rattle.record_codec.proofs.Numbers.{HasRead-begin, HasRead-room, HasRead-next, HasRead-bad, HasRead-short, HasRead-done, number_within}
 use Rattle.record_codec.proofs.number.number_at.Goals as goal
 
 pub loop-read-init : goal.loop-read-init

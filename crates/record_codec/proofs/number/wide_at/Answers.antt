@@ -1,5 +1,5 @@
-use Rattle.std.proofs.Common.{◌≡◌, ◌≤◌, true, arith, rules, sym, ◌∙◌}
-use Rattle.record_grammar.specs.Numbers.{highest, IsWithin}
+use Rattle.std.proofs.Common.{arith, rules, sym, ◌∙◌}
+use Rattle.record_grammar.specs.Numbers.{highest}
 use Rattle.record_codec.proofs.Numbers.{can_be-within}
 use Rattle.record_codec.proofs.Wide.{wide_8}
 use Rattle.record_codec.proofs.number.wide_at.Goals as goal

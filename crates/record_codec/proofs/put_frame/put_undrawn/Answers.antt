@@ -1,4 +1,3 @@
-use Rattle.std.proofs.Common.{arith}
 use Rattle.record_codec.proofs.Flat.{put_more}
 use Rattle.record_codec.proofs.put_frame.put_undrawn.Goals as goal
 

@@ -1,4 +1,4 @@
-use Rattle.std.proofs.Common.{rules, ◌≡◌, ◌≤◌, ◌<◌, ◌+◌, ◌-◌, [], ◌∷◌, ◌++◌, length, drop, arith, Err, refl, sym, length-append}
+use Rattle.std.proofs.Common.{rules, ◌≡◌, [], ◌∷◌, drop, arith, refl, length-append}
 use Rattle.record_grammar.specs.Read.{Got}
 use Rattle.record_grammar.specs.Grammar.{element_at}
 use Rattle.record_grammar.proofs.SteadyFields.{element_steady}

@@ -1,5 +1,5 @@
-use Rattle.std.proofs.Common.{rules, ◌≡◌, ◌≤◌, ◌+◌, ◌-◌, ℕ, List, [], ◌++◌, length, drop, arith, refl, ap}
-use Rattle.record_grammar.specs.Read.{Got, Read}
+use Rattle.std.proofs.Common.{◌≡◌, ◌≤◌, ◌-◌, length, arith, refl}
+use Rattle.record_grammar.specs.Read.{Got}
 use Rattle.record_grammar.specs.Grammar.{init_from, finished_from, item_at}
 use Rattle.record_codec.specs.Resuming.{begun_at, ready, init_of, run_of, framed}
 use Rattle.record_codec.proofs.Started.{begun_room, start_stops, start_goes_on, start_ready, answers_behind}

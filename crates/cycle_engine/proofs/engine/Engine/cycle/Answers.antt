@@ -5,9 +5,9 @@ use Rattle.cycle_engine.proofs.engine.Engine.cycle.Goals as goal
 
 pub returns-clause-frame : goal.returns-clause-frame
 returns-clause-frame g c profile inputs stands =
-    let outcome : c.framed.result ≡ next_frame g.J.Job.meaning c.args.self.now c.args.input.now = search rules in
-    outcome ∙ frame_is g.J.Job.meaning profile c.args.self.now inputs c.args.input.now stands
+    let outcome : c.framed.result ≡ next_frame g.J.Job.meaning c.args.self.now c.args.input = search rules in
+    outcome ∙ frame_is g.J.Job.meaning profile c.args.self.now inputs c.args.input stands
 
 pub returns-clause-stands : goal.returns-clause-stands
 returns-clause-stands g c profile inputs stands =
-    stands_after g.J.Job.meaning profile c.args.self.now _ inputs c.args.input.now stands (search rules)
+    stands_after g.J.Job.meaning profile c.args.self.now _ inputs c.args.input stands (search rules)

@@ -1,5 +1,5 @@
-use Rattle.std.proofs.Common.{◌≡◌, map, take}
+use Rattle.std.proofs.Common.{◌≡◌, map, take, length}
 use Rattle.cycle_engine.proofs.engine.Engine.shown.Given as goal
 
-abbrev pub invariant-loop-element : goal.invariant-loop-element
-invariant-loop-element g l = l.shown ≡ map (g.J.Job.meaning.shown l.self-inside.job) (take l.element-index l.element-items)
+abbrev pub invariant-loop-i : goal.invariant-loop-i
+invariant-loop-i g l = (length l.shown ≡ l.i) × (l.shown ≡ map (g.J.Job.meaning.shown l.self.job) (take l.i l.self.state.elements))

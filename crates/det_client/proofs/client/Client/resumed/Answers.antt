@@ -8,4 +8,5 @@ pub returns-clause-life : goal.returns-clause-life
 returns-clause-life c = resumed_life _ _ (grind (arith, nat_tests)) refl refl
 
 pub returns-clause-calls : goal.returns-clause-calls
-returns-clause-calls c = comes_resumed _ _ _ refl c.own_stream.ensures (resumed_life _ _ (grind (arith, nat_tests)) refl refl)
+returns-clause-calls c =
+    comes_resumed _ _ _ refl (record { state = refl; draws = refl }) (resumed_life _ _ (grind (arith, nat_tests)) refl refl)

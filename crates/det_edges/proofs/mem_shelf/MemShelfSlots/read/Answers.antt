@@ -3,12 +3,15 @@ use Rattle.det_edges.proofs.Places.{places-read, places-end, places-rest}
 use Rattle.det_edges.proofs.mem_shelf.MemShelfSlots.read.Goals as goal
 
 pub returns-clause-reads : goal.returns-clause-reads
-returns-clause-reads c = places-read c.args.self.now.files c.args.self.now.slots.items c.args.self.now.is_told c.args.self.now.asked.items _ _
-    c.args.slot c.copy_from-n.result c.index-place.result.now _ c.requires c.index-place.ensures (rw c.as_slice.ensures.items at c.copy_from-n.ensures.front)
+returns-clause-reads c = places-read c.args.self.now.files c.args.self.now.slots.items c.args.self.now.is_told c.args.self.now.asked.items _
+    _
+    c.args.slot c.copy_from-n.result c.index-place.result.now _ c.requires c.index-place.ensures
+    (rw c.as_slice.ensures.items at c.copy_from-n.ensures.front)
 
 pub returns-clause-end : goal.returns-clause-end
 returns-clause-end c = places-end c.args.self.now.files c.args.self.now.slots.items c.args.slot c.copy_from-n.result c.args.self.now.most _
-    c.index-place.result.now c.requires c.index-place.ensures (rw c.as_slice.ensures.items at c.copy_from-n.ensures.count) c.args.self.now.moves
+    c.index-place.result.now c.requires c.index-place.ensures (rw c.as_slice.ensures.items at c.copy_from-n.ensures.count)
+    c.args.self.now.moves
 
 pub returns-clause-amount : goal.returns-clause-amount
 returns-clause-amount c =

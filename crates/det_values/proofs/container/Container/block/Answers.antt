@@ -6,10 +6,16 @@ use Rattle.det_values.proofs.container.Container.block.Goals as goal
 
 pub index-requires : goal.index-requires
 index-requires g c =
-    omega (arith, in_blocks (held_by c.self.inside.blocks.items) c.args.number c.self.invariant.0 (omega (arith, c.requires, ap length c.self.view_is)), count_is c.self.inside.blocks (vec_len c.self.inside.blocks) refl)
+    omega (
+      arith,
+      in_blocks (held_by c.self.inside.blocks.items) c.args.number c.self.invariant.0
+          (omega (arith, c.requires, ap length c.self.view_is)),
+      count_is c.self.inside.blocks (vec_len c.self.inside.blocks) refl,
+    )
 
 pub returns : goal.returns
 returns g c =
     c.as_slice.ensures.value
-    ∙ held_block c.self.inside.blocks.items c.args.number c.index.result.now c.self.invariant.0 (omega (arith, c.requires, ap length c.self.view_is)) c.index.ensures
+    ∙ held_block c.self.inside.blocks.items c.args.number c.index.result.now c.self.invariant.0
+    (omega (arith, c.requires, ap length c.self.view_is)) c.index.ensures
     ∙ ap (λ xs. take 64 (drop (64 * c.args.number) xs)) c.self.view_is

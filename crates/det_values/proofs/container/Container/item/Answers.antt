@@ -6,12 +6,23 @@ use Rattle.det_values.proofs.container.Container.item.Goals as goal
 
 pub index-requires : goal.index-requires
 index-requires g c =
-    omega (arith, in_blocks (held_by c.self.inside.blocks.items) (c.args.index / 64) c.self.invariant.0 (omega (arith, c.requires, ap length c.self.view_is)), count_is c.self.inside.blocks (vec_len c.self.inside.blocks) refl)
+    omega (
+      arith,
+      in_blocks (held_by c.self.inside.blocks.items) (c.args.index / 64) c.self.invariant.0
+          (omega (arith, c.requires, ap length c.self.view_is)),
+      count_is c.self.inside.blocks (vec_len c.self.inside.blocks) refl,
+    )
 
 pub index-requires-2 : goal.index-requires-2
-index-requires-2 g c = held_room c.self.inside.blocks.items c.args.index c.index.result.now c.self.invariant.0 (omega (arith, c.requires, ap length c.self.view_is)) c.index.ensures
+index-requires-2 g c =
+    omega (
+      arith,
+      held_room c.self.inside.blocks.items c.args.index c.index.result.now c.self.invariant.0
+          (omega (arith, c.requires, ap length c.self.view_is)) c.index.ensures,
+    )
 
 pub returns : goal.returns
 returns g c =
-    held_element c.self.inside.blocks.items c.args.index c.index.result.now c.index-2.result.now c.self.invariant.0 (omega (arith, c.requires, ap length c.self.view_is)) c.index.ensures c.index-2.ensures
+    held_element c.self.inside.blocks.items c.args.index c.index.result.now c.index-2.result.now c.self.invariant.0
+    (omega (arith, c.requires, ap length c.self.view_is)) c.index.ensures c.index-2.ensures
     ∙ ap (λ xs. get_or xs c.args.index c.index-2.result.now) c.self.view_is

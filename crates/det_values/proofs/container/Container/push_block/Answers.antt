@@ -5,10 +5,20 @@ use Rattle.det_values.proofs.container.Container.push_block.Goals as goal
 
 pub invariant_of-self : goal.invariant_of-self
 invariant_of-self g c =
-    let h = block_behind c.self.inside.blocks.items c.pushed.new.items.items c.args.block c.requires.whole.0 c.self.invariant.0 (ap length c.self.view_is ∙ c.requires.whole.1) c.requires.some c.requires.few c.if-pushed.ensures.yes in
-    (h.blocks, omega (arith, ap length c.self.view_is, c.requires.room, ap length h.elements, length-append (joined (held_by c.self.inside.blocks.items)) c.args.block.items))
+    let h = block_behind c.self.inside.blocks.items c.pushed.new.items.items c.args.block c.requires.whole.0 c.self.invariant.0
+    (ap length c.self.view_is ∙ c.requires.whole.1) c.requires.some c.requires.few c.if-pushed.ensures.yes in (
+      h.blocks,
+      omega (
+        arith,
+        ap length c.self.view_is,
+        c.requires.room,
+        ap length h.elements,
+        length-append (joined (held_by c.self.inside.blocks.items)) c.args.block.items,
+      ),
+    )
 
 pub returns-then-pushed-clause-ok : goal.returns-then-pushed-clause-ok
 returns-then-pushed-clause-ok g c =
-    let h = block_behind c.self.inside.blocks.items c.pushed.new.items.items c.args.block c.requires.whole.0 c.self.invariant.0 (ap length c.self.view_is ∙ c.requires.whole.1) c.requires.some c.requires.few c.if-pushed.ensures.yes in
+    let h = block_behind c.self.inside.blocks.items c.pushed.new.items.items c.args.block c.requires.whole.0 c.self.invariant.0
+    (ap length c.self.view_is ∙ c.requires.whole.1) c.requires.some c.requires.few c.if-pushed.ensures.yes in
     h.elements ∙ ap (λ xs. xs ++ c.args.block.items) c.self.view_is

@@ -12,7 +12,8 @@ pub invariant_of-self : goal.invariant_of-self
 invariant_of-self c = (walk_next _ _ _ _ _ c.self.view_is c.self.invariant (omega (arith, c.if-self-eq0.false)) c.in-Some.ensures.some).flat
 
 pub returns-in-Some-clause-some : goal.returns-in-Some-clause-some
-returns-in-Some-clause-some c = (walk_next _ _ _ _ _ c.self.view_is c.self.invariant (omega (arith, c.if-self-eq0.false)) c.in-Some.ensures.some).parts
+returns-in-Some-clause-some c = (walk_next _ _ _ _ _ c.self.view_is c.self.invariant (omega (arith, c.if-self-eq0.false))
+    c.in-Some.ensures.some).parts
 
 pub returns-in-None-clause-none : goal.returns-in-None-clause-none
 returns-in-None-clause-none c = absurd (walk_goes_on _ _ c.self.invariant (omega (arith, c.if-self-eq0.false)) c.in-None.ensures.none)

@@ -1,9 +1,5 @@
-use Rattle.std.proofs.Common.{rules, ◌≡◌, ◌≤◌, ◌+◌, ◌-◌, List, [], ◌++◌, length, drop, Some, None, Ok, Err, refl, sym, ap, ◌∙◌, arith}
-use Rattle.std.specs.Vec.{vec_len}
-use Rattle.record_codec.specs.declared.stop.Stop.TheVariants as stops
-use Rattle.record_codec.specs.declared.partial.Step.{Step}
-use Rattle.record_codec.specs.StandsFor.{StandsFor, NextIs}
-use Rattle.record_codec.proofs.Next.{unread, answers_at, next_ok, next_falls, next_more, next_bad, next_again, next_memory, bad_fits}
+use Rattle.std.proofs.Common.{rules, ◌≤◌, ◌+◌, ◌-◌, length, drop, refl, ap, ◌∙◌, arith}
+use Rattle.record_codec.proofs.Next.{answers_at, next_ok, next_falls, next_more, next_bad, next_again, next_memory, bad_fits}
 use Rattle.record_codec.proofs.decoder.Decoder.next.Goals as goal
 
 pub returns-in-Some-clause-answer : goal.returns-in-Some-clause-answer

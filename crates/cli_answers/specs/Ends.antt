@@ -1,0 +1,30 @@
+-- With which answers a command ends, by what it reads and does. In each a write can fail and memory be wanting.
+use Rattle.std.specs.Prelude.{Bool, true, false, ◌||◌}
+use Rattle.cli_answers.specs.declared.answer.Answer.{Answer}
+use Rattle.cli_answers.specs.declared.answer.Answer.TheVariants.{Done, Differs, BadWords, BadManifest, BadStimulus, BadRecord, BadProfile, ReadFault, WriteFault, OutOfMemory, NoMajority}
+
+pub record Work : Type 0 where
+  -- it reads a manifest, a stimulus, records
+  pub manifest : Bool
+  pub stimulus : Bool
+  pub recorded : Bool
+  -- it compares what it read, or takes the majority of it
+  pub compares : Bool
+  pub votes : Bool
+
+abbrev pub can_end : Work → Answer → Bool
+can_end work Done = true
+can_end work Differs = work.compares
+can_end work BadWords = false
+can_end work (BadManifest why) = work.manifest
+can_end work (BadStimulus line) = work.stimulus
+can_end work (BadRecord copy fault) = work.recorded
+can_end work BadProfile = work.recorded
+can_end work ReadFault = work.manifest || (work.stimulus || work.recorded)
+can_end work WriteFault = true
+can_end work OutOfMemory = true
+can_end work (NoMajority row) = work.votes
+
+-- a command that writes what it makes of nothing that it reads
+abbrev pub writes_alone : Work
+writes_alone = record { manifest = false; stimulus = false; recorded = false; compares = false; votes = false }

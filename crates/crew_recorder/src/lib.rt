@@ -1,0 +1,8 @@
+//! A stimulus recorded on several threads, which are kept from its first cycle to its last.
+#![tactic(auto)]
+
+mod recording;
+mod workers;
+
+pub use recording::record_by_crew;
+pub use workers::Workers;
