@@ -15,7 +15,7 @@ begins_start blocks =
     let none : List ℕ = replicate (blocks + 1) 0 in
     let size : length none ≡ blocks + 1 = length-replicate (blocks + 1) 0 in
     let other : ((b : ℕ) → get_or (set none 0 no_block) (b + 1) 0 ≡ 0) =
-            λ b. get_or-set_other none 0 (b + 1) no_block 0 (λ e. omega arith) ∙ zeros (blocks + 1) (b + 1) in (
+    λ b. get_or-set_other none 0 (b + 1) no_block 0 (λ e. omega arith) ∙ zeros (blocks + 1) (b + 1) in (
       begins blocks (set none 0 no_block) refl,
       record {
         least = sym (get_or-set_same none 0 no_block 0 (omega arith));

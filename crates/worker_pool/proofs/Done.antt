@@ -62,7 +62,7 @@ module _ {E P : Type 0} (block : ℕ → Result (Passed E P) Refusal) where
 
   works_more : (v w : PoolView) (k : Mark) (rs qs : List (BlockResult E P)) → Works block v rs → IsHonest block k v.seen
       → w ≡ view (v.entries ++ entry v.seen k ∷ []) (v.seen + 1) v.shares → map shown qs ≡ result_at block k v.seen
-          → Works block w (rs ++ qs)
+      → Works block w (rs ++ qs)
   works_more v w k rs qs h honest is results = record {
     tidy = tidy_more v w k h.tidy honest is;
     results = map-append shown rs qs ∙ (λ i. h.results i ++ results i) ∙ ap
@@ -72,8 +72,11 @@ module _ {E P : Type 0} (block : ℕ → Result (Passed E P) Refusal) where
 
   pub works_passed : (v w : PoolView) (rs : List (BlockResult E P)) → Works block v rs → w ≡ passed v → Works block w rs
   works_passed v w rs h is = subst (λ (u : PoolView). Works block u rs) (sym is) (record {
-    tidy = record { honest = h.tidy.honest; below = below_more v.seen (v.seen + 1) v.entries (omega arith) h.tidy.below;
-        rising = h.tidy.rising };
+    tidy = record {
+      honest = h.tidy.honest;
+      below = below_more v.seen (v.seen + 1) v.entries (omega arith) h.tidy.below;
+      rising = h.tidy.rising;
+    };
     results = h.results;
   })
 
@@ -87,12 +90,12 @@ module _ {E P : Type 0} (block : ℕ → Result (Passed E P) Refusal) where
       → b ≡ v.seen → cl ≡ taken v → lk ≡ cl → u ≡ with_mark b k lk
       → answer_of a ≡ block b → qs ≡ rs ++ record { block = b; answer = a } ∷ []
       → (is_err (answer_of a) ≡ refuses block v.seen → IsHonest block k v.seen) → result_at block k v.seen ≡ (v.seen, block v.seen) ∷ []
-          → Works block u qs
+      → Works block u qs
   works_marked k v cl lk u b rs qs a h is took same got right_answer pushed honest kept =
       let now : answer_of a ≡ block v.seen = right_answer ∙ ap block is in
       subst (λ (ps : List (BlockResult E P)). Works block u ps) (sym pushed)
       (works_more v u k rs (record { block = b; answer = a } ∷ []) h (honest (ap is_err now))
-          (marked_view v lk u k b h.tidy.below (same ∙ took) is got) ((λ i. (is i, now i) ∷ []) ∙ sym kept))
+      (marked_view v lk u k b h.tidy.below (same ∙ took) is got) ((λ i. (is i, now i) ∷ []) ∙ sym kept))
 
 pub taken_stands : (v w u : PoolView) (b : ℕ) → b ≡ v.seen → w ≡ taken v → u ≡ w → Stands b Open u.entries
 taken_stands v w u b is took same = subst (λ (x : PoolView). Stands b Open x.entries) (sym (same ∙ took))

@@ -61,10 +61,16 @@ module _ {S G E L P : Type 0} (m : Meaning S G E L P) (j : S) (plan : L) (carry 
   through i n [] fs d is = ap (λ (k : ℕ). from k fs d) (omega arith)
   through i n (e ∷ es) fs d is =
       elim (m.worked j plan carry pass e (key seed cycle pass i)) as (λ r.
-      elim r [ Ok w ↦ from (i + 1) (es ++ fs) (more m j plan carry seed cycle pass d w (drew i e)) | Err c ↦
-          Err (record { element = i; code = c }) ]
-      ≡ on_with n fs (elim r [ Ok w ↦ from (i + 1) es (more m j plan carry seed cycle pass d w (drew i e)) | Err c ↦
-          Err (record { element = i; code = c }) ])) [
+      elim r [
+        | Ok w ↦ from (i + 1) (es ++ fs) (more m j plan carry seed cycle pass d w (drew i e))
+        | Err c ↦
+            Err (record { element = i; code = c })
+      ]
+      ≡ on_with n fs (elim r [
+        | Ok w ↦ from (i + 1) es (more m j plan carry seed cycle pass d w (drew i e))
+        | Err c ↦
+            Err (record { element = i; code = c })
+      ])) [
         | Ok w ↦ through (i + 1) n es fs (more m j plan carry seed cycle pass d w (drew i e)) (omega arith)
         | Err c ↦ refl
       ]
@@ -87,14 +93,20 @@ module _ {S G E L P : Type 0} (m : Meaning S G E L P) (j : S) (plan : L) (carry 
     from_nothing i [] d = λ k. Ok (done (sym (append_nil d.elements) k) (sym (append_nil d.draws) k) (sym (right d.part) k))
     from_nothing i (e ∷ es) d =
         elim (m.worked j plan carry pass e (key seed cycle pass i)) as (λ r.
-        elim r [ Ok w ↦ from (i + 1) es (more m j plan carry seed cycle pass d w (drew i e)) | Err c ↦
-            Err (record { element = i; code = c }) ]
-        ≡ onto join d (elim r [ Ok w ↦ from (i + 1) es (more m j plan carry seed cycle pass none w (drew i e)) | Err c ↦
-            Err (record { element = i; code = c }) ])) [
+        elim r [
+          | Ok w ↦ from (i + 1) es (more m j plan carry seed cycle pass d w (drew i e))
+          | Err c ↦
+              Err (record { element = i; code = c })
+        ]
+        ≡ onto join d (elim r [
+          | Ok w ↦ from (i + 1) es (more m j plan carry seed cycle pass none w (drew i e))
+          | Err c ↦
+              Err (record { element = i; code = c })
+        ])) [
           | Ok w ↦ let one : Passed E P = more m j plan carry seed cycle pass none w (drew i e) in
               from_nothing (i + 1) es (more m j plan carry seed cycle pass d w (drew i e))
               ∙ (λ k. onto join (done (d.elements ++ w.element ∷ []) (d.draws ++ drew i e ∷ []) (join d.part (sym (left w.part) k)))
-                  (from (i + 1) es none))
+              (from (i + 1) es none))
               ∙ sym (onto_twice d one (from (i + 1) es none)) ∙ sym (ap (onto join d) (from_nothing (i + 1) es one))
           | Err c ↦ refl
         ]
@@ -123,7 +135,7 @@ module _ {S G E L P : Type 0} (m : Meaning S G E L P) (j : S) (plan : L) (carry 
           let full : length (take (64 * n) es) ≡ 64 * n = omega (arith, length-take (64 * n) es) in
           ap (λ (k : ℕ). whole (take k es)) (omega arith) ∙ ap whole (take-add (64 * n) 64 es)
           ∙ through 0 (64 * n) (take (64 * n) es) (take 64 (drop (64 * n) es)) none (omega arith)
-              ∙ on_is_then (64 * n) (take 64 (drop (64 * n) es)) (whole (take (64 * n) es))
+          ∙ on_is_then (64 * n) (take 64 (drop (64 * n) es)) (whole (take (64 * n) es))
           ∙ ap (λ (a : Result (Passed E P) Refusal). then join a (at n)) ih
 
       in_blocks : whole es ≡ first (blocks_of (length es))
@@ -145,7 +157,7 @@ module _ {S G E L P : Type 0} (m : Meaning S G E L P) (j : S) (plan : L) (carry 
           (λ e. ap (λ (a : Result (Passed E P) Refusal). then join a (at n)) (first_all n (λ b h. ok b (omega arith)))
           ∙ ap (λ (k : ℕ). onto join (all n) (at k)) e ∙ stops join (all n) (at l) says)
           (λ ne. ap (λ (a : Result (Passed E P) Refusal). then join a (at n)) (first_stops l n (omega arith) says ok)
-              ∙ stays_stopped join (at l) (at n) says)
+          ∙ stays_stopped join (at l) (at n) says)
 
       -- block l is the least that refuses
       pub least_refuses : (l : ℕ) → l < blocks_of (length es) → refuses at l ≡ true → ((b : ℕ) → b < l → refuses at b ≡ false)

@@ -20,7 +20,7 @@ Here = Me (Unit {0}) PoolView
 abbrev pub Turn : ℕ → ℕ → PoolView → PoolView → ℕ → ℕ → ℕ → Type 0
 Turn blocks id v w word found left =
     (s : PoolState) × Ruled blocks s × (get_elem? s.views id ≡ some v)
-        × (slice_index s.words word ≡ found)
+    × (slice_index s.words word ≡ found)
     × Ruled blocks (moved s word left id w)
 
 -- such a step of a seat on a word of its table

@@ -32,17 +32,17 @@ pub fn steps_are_events()
         → At blocks s id v m → (b : ℕ) → Stands b Open v.entries
         → Has m b Open
         × Becomes blocks (moved s 0 (slice_index s.words 0) id (with_mark b Finished v))
-            (after (finish b) m) }
+        (after (finish b) m) }
     ensures look { (blocks : ℕ) (s : PoolState) (id : ℕ) (v : PoolView) (m : Machine)
         → At blocks s id v m → (b : ℕ) → Stands b Open v.entries → slice_index s.words 0 < b
         → Has m b Open
         × Becomes blocks (moved s 0 (slice_index s.words 0) id (with_mark b Skipped v))
-            (after (look b) m) }
+        (after (look b) m) }
     ensures report { (blocks : ℕ) (s : PoolState) (id : ℕ) (v : PoolView) (m : Machine)
         → At blocks s id v m → (b : ℕ) → Stands b Open v.entries
         → Has m b Open
         × Becomes blocks (moved s 0 (min (slice_index s.words 0) b) id (with_mark b Reported v))
-            (after (report b) m) }
+        (after (report b) m) }
     ensures load { (blocks : ℕ) (s : PoolState) (id : ℕ) (v : PoolView) (m : Machine)
         → At blocks s id v m → Becomes blocks (moved s 0 (slice_index s.words 0) id v) m }
     ensures split { (blocks : ℕ) (s : PoolState) (id : ℕ) (v : PoolView) (m : Machine)
@@ -52,7 +52,7 @@ pub fn steps_are_events()
         → At blocks s id v m
         → (other : ℕ) (w : PoolView) → other ≢ id → get_elem? s.views other ≡ some w
         → Becomes blocks
-            (regrouped s (slice_set (slice_set s.views id (joined v w)) other (fresh 0))) m }
+        (regrouped s (slice_set (slice_set s.views id (joined v w)) other (fresh 0))) m }
 {}
 
 /// Whatever events happen and in whatever order, an ended machine gathers what one thread answers
@@ -63,7 +63,7 @@ pub fn any_schedule<J: Job>()
         (events : List Event) (end : Machine) → length elements ≤ 65536
         → let blocks : ℕ = blocks_of (length elements) in
         let answer : ℕ → Result (Passed J.Element J.Part) Refusal =
-            λ b. block J.meaning job plan carry seed cycle pass b elements in
+        λ b. block J.meaning job plan carry seed cycle pass b elements in
         Leads blocks (refuses answer) events start end → HasEnded blocks end
         → gather (J.meaning.joined job) (J.meaning.unit_part job) answer blocks end
         ≡ passed_in_order J.meaning job plan carry seed cycle pass elements }

@@ -28,7 +28,7 @@ mod view;
 mod work;
 
 pub use crew::Crew;
-pub use gate::{Gate, MeetGate, NoGate};
+pub use gate::{Gate, MeetGate, NapGate, NoGate};
 pub use line::Line;
 pub use messages::{Reply, ReplyFits, Work, WorkFits};
 pub use pool::run_worker_pool;

@@ -14,7 +14,7 @@ impl PassTable {
     pub fn new(alloc: Global, blocks: u32) -> Result<(PassTable, PassSeat), OutOfMemory>
         ensures { IfOk result (λ made.
             (block_count made.0 ≡ blocks) × IsAt made.1 made.0
-                × (view_of made.1 ≡ fresh all_shares)) }
+            × (view_of made.1 ≡ fresh all_shares)) }
     {
         let mut words = Vec::from_elem(alloc, 0u64, blocks as usize + 1)?;
         words[0] = u64::MAX;

@@ -51,7 +51,7 @@ impl PassTable {
         ensures seat { IsSameSeat seat.new seat.old }
         ensures answer { MatchOption result
             (Turn B.blocks B.seat (view_of seat.old) (view_of seat.new)
-                ((view_of seat.old).seen + 1) 1 1
+            ((view_of seat.old).seen + 1) 1 1
             × (view_of seat.new ≡ passed (view_of seat.old)))
             (λ b. (b ≡ (view_of seat.old).seen)
             × Turn B.blocks B.seat (view_of seat.old) (view_of seat.new) (b + 1) 0 1
@@ -114,11 +114,11 @@ impl PassTable {
         ensures skipped { IsTrue result
             → (view_of seat.new ≡ with_mark block Skipped (view_of seat.old))
             × ((n : ℕ) × (n < block) × Turn B.blocks B.seat (view_of seat.old)
-                (view_of seat.new) 0 n n) }
+            (view_of seat.new) 0 n n) }
         ensures stays { ¬ IsTrue result → (view_of seat.new ≡ view_of seat.old)
             × (block ≤ least_in (view_of seat.old).entries)
             × ((n : ℕ) × (block ≤ n) × Turn B.blocks B.seat (view_of seat.old)
-                (view_of seat.new) 0 n n) }
+            (view_of seat.new) 0 n n) }
     {
         let least = self.table.shared.load::<Look<B>>(&mut seat.seat, 0);
         least < u64::from(block)
