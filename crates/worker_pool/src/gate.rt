@@ -35,8 +35,8 @@ impl Gate for NoGate {
     fn enter(&self, _worker: u32) {}
 }
 
-/// Lets every worker through. A thread that is idle for a few milliseconds sleeps between its looks,
-/// so an idle crew takes a small part of a processor for each thread.
+/// Lets every worker through. A thread that is idle for a few milliseconds sleeps between its
+/// looks, so an idle crew takes a small part of a processor for each thread.
 #[derive(Drop)]
 pub struct NapGate<R: Clock + Drop> {
     pub clock: R,

@@ -62,7 +62,8 @@ returns-then-refused-clause-stops g c goes =
     let e : view_of c.look.new.seat ≡ view_of c.claim.new.seat = (c.look.ensures.stays (λ t. true≢false (sym t ∙ c.if-look.false))).0 in (
       (view_of c.args.seat.now).seen,
       inl (mark_stands Reported (view_of c.args.seat.now) (view_of c.claim.new.seat)
-          (view_of c.look.new.seat) (view_of c.report.new.seat) c.in-Some.block c.requires.so_far.tidy.below a.0 a.2 e c.report.ensures.view),
+          (view_of c.look.new.seat) (view_of c.report.new.seat) c.in-Some.block c.requires.so_far.tidy.below a.0 a.2 e
+          c.report.ensures.view),
     )
 
 pub returns-else-refused-clause-works : goal.returns-else-refused-clause-works
