@@ -20,7 +20,7 @@ drawn j e = cond (ltb e j.limit) (e % 2) 0
 abbrev pub meaning : Meaning ListJob NoGlobals ℕ NoPlan (List ℕ)
 meaning = record {
   bad_param = λ params events. None;
-  made = λ params events. record { limit = 256; calls = None; events = events };
+  made = λ params events. record { limit = 256; watch = None; events = events };
   events = λ j. j.events;
   started = λ j seed. record { globals = record {}; elements = []; seed = seed };
   prepared = λ j globals es windows seed cycle time next. Ok (record { plan = record {}; seed = seed });

@@ -3,13 +3,15 @@
 ghost use Rattle.std.specs.Prelude.{◌≡◌, ◌≤◌, length, IfOk};
 ghost use Rattle.event_cache.specs.Rings.{windows};
 
-use det_values::{EventName, EventSpec, Events, OutOfMemory, Params, Policy, Sample};
+use crate::owners::shared;
 use det_client::{Client, Next};
+use det_values::{EventName, EventSpec, Events, OutOfMemory, Params, Policy, Sample};
 use event_cache::EventCache;
-use job_trait::{Job, Started};
+use job_trait::{Job, PassOf, PoolFault, Started};
 use std::alloc::Global;
+use std::sync::Arc;
 use std::thread::Threads;
-use worker_pool::{Gate, PoolFault, run_worker_pool};
+use worker_pool::{Gate, run_worker_pool};
 
 /// A cache of one event, whose window holds this sample, where it is there.
 fn cache_with(alloc: Global, sample: Option<Sample>) -> Result<EventCache, OutOfMemory>
@@ -45,16 +47,24 @@ fn params_of(alloc: Global, params: &[i64]) -> Result<Params, OutOfMemory> {
     Ok(list)
 }
 
-/// The number of elements after the first pass of a job of these parameters and one event. A job that can't be made
-/// counts as want of memory.
-pub fn first_pass<J: Job, G: Gate, R: Threads + Sync>(
+/// The number of elements after the first pass of a job of these parameters and one event. A job
+/// that can't be made counts as want of memory.
+pub fn first_pass<J, G, R>(
     rt: &R,
     alloc: Global,
     params: &[i64],
     sample: Option<Sample>,
     workers: u32,
-    gate: &G,
+    gate: &Arc<G, Global>,
 ) -> Result<usize, PoolFault>
+where
+    J: Job + Send + Sync + 'static,
+    J::Globals: Send + 'static,
+    J::Element: Send + Sync + 'static,
+    J::Plan: Send + Sync + 'static,
+    J::Part: Send + Sync + 'static,
+    G: Gate + Send + Sync + 'static,
+    R: Threads,
     requires workers { (1 ≤ workers) × (workers ≤ 64) }
 {
     let params = params_of(alloc, params)?;
@@ -66,14 +76,22 @@ pub fn first_pass<J: Job, G: Gate, R: Threads + Sync>(
     let Started { globals, elements } = job.start(alloc, &mut client)?;
     let mut client = Client::resumed(10, 0, 0);
     let _ = client.wait_for_activation(Next::Go(None));
-    let items = elements.as_slice();
-    let Ok(plan) = job.prepare(alloc, &globals, items, &cache, &mut client) else {
+    let Ok(plan) = job.prepare(alloc, &globals, &elements, &cache, &mut client) else {
         return Err(PoolFault::OutOfMemory);
     };
-    let carry = job.unit(alloc);
-    let seed = client.seed();
-    let done = run_worker_pool(
-        rt, alloc, &job, &plan, &carry, 0, items, seed, 1, workers, gate,
+    let carry = shared(alloc, job.unit(alloc))?;
+    let pass = shared(
+        alloc,
+        PassOf {
+            job: shared(alloc, job)?,
+            plan: shared(alloc, plan)?,
+            carry,
+            number: 0,
+            elements: shared(alloc, elements)?,
+            seed: client.seed(),
+            cycle: 1,
+        },
     )?;
+    let done = run_worker_pool(rt, alloc, &pass, workers, gate)?;
     Ok(done.elements.len())
 }
