@@ -1,5 +1,5 @@
 -- What is known of a manifest that was read from a name whose bytes are told.
-use Rattle.std.proofs.Common.{◌≡◌, ◌<◌, ℕ, List, ◌++◌, length, refl, sym, ap, ◌∙◌, arith, length-append}
+use Rattle.std.proofs.Common.{◌≡◌, ◌<◌, ◌≤◌, ℕ, List, ◌++◌, length, refl, sym, ap, ◌∙◌, arith, length-append}
 use Rattle.std.specs.Prelude.{Result, Ok, Err, IfOk, IfErr, IsSome, false, nat_le}
 use Rattle.std.proofs.lemmas.Bool.{lt-leb}
 use Rattle.det_edges.specs.Shelf.{ShelfState, Reads, Opens}
@@ -10,7 +10,7 @@ use Rattle.cli_answers.specs.Outcome.{told}
 use Rattle.cli_answers.proofs.Telling.{read-part}
 use Rattle.cmd_setup.specs.declared.setup.SetupEnd.{SetupEnd}
 use Rattle.cmd_setup.specs.declared.setup.SetupEnd.TheVariants as ends
-use Rattle.cmd_setup.specs.Setup.{setup_of, IfBad}
+use Rattle.cmd_setup.specs.Setup.{setup_of, IfBad, Takes}
 
 module _ (text all : List ℕ) (tells : Type 0) (same : tells → text ≡ all) where
   -- the manifest of a text is that of the bytes which were told
@@ -39,3 +39,14 @@ told-too-long first mid last name slot text opens reads long tells =
     let t = read-part first mid last name slot text opens reads tells in
     let n : length (text ++ t.0) ≡ length (told first name) = ap length t.1 in
     too-long (told first name) (omega (arith, n, length-append text t.0, long))
+
+pub takes : {first opened last : ShelfState} {name : List ℕ} {slot most : ℕ} {bytes : List ℕ}
+    → Opens first opened name slot → Reads opened last slot bytes → length bytes ≤ most → Takes first last name most
+takes {first} {opened} {last} {name} {slot} {most} {bytes} opens reads few = record {
+  opened = opened;
+  slot = slot;
+  bytes = bytes;
+  opens = opens;
+  reads = reads;
+  few = few;
+}

@@ -1,5 +1,6 @@
 -- The manifest that a text is, where its job takes its parameters.
-use Rattle.std.specs.Prelude.{◌≡◌, ℕ, ℤ, List, length, Option, Some, None, Result, Ok, Err}
+use Rattle.std.specs.Prelude.{◌≡◌, ℕ, ◌≤◌, ℤ, List, length, Option, Some, None, Result, Ok, Err}
+use Rattle.det_edges.specs.Shelf.{ShelfState, Opens, Reads}
 use Rattle.det_values.specs.declared.job_kind.JobKind.{JobKind}
 use Rattle.det_values.specs.declared.job_kind.JobKind.TheVariants.{Bank, Cloud, Guard}
 use Rattle.job_bank.specs.Meaning as bank
@@ -33,7 +34,8 @@ abbrev pub setup_from : Result ManifestValue ManifestFault → Result ManifestVa
 setup_from (Err fault) = Err (Fault fault)
 setup_from (Ok m) = judged m
 
--- the manifest that a text is, or why it is refused: its first fault, else the least parameter that its job refuses
+-- the manifest that a text is, or why it is refused: its first fault, else the least parameter that
+-- its job refuses
 abbrev pub setup_of : List ℕ → Result ManifestValue BadManifest
 setup_of bytes = setup_from (manifest_of bytes)
 
@@ -52,3 +54,12 @@ abbrev pub answer_of : SetupEnd → Answer
 answer_of (ends.BadManifest why) = answers.BadManifest why
 answer_of ends.ReadFault = answers.ReadFault
 answer_of ends.OutOfMemory = answers.OutOfMemory
+
+-- a name was opened, and then at most `most` bytes were taken off its slot and off no other
+pub record Takes (first last : ShelfState) (name : List ℕ) (most : ℕ) : Type 0 where
+  pub opened : ShelfState
+  pub slot : ℕ
+  pub bytes : List ℕ
+  pub opens : Opens first opened name slot
+  pub reads : Reads opened last slot bytes
+  pub few : length bytes ≤ most

@@ -3,11 +3,11 @@ ghost use Rattle.std.specs.Prelude.{◌≡◌, IfOk, IfErr, Ok, Err};
 ghost use Rattle.cmd_setup.specs.Setup.{bad_param, judged, setup_of, IfBad, IsCalm};
 
 use crate::SetupEnd;
+use cli_answers::BadManifest;
+use det_values::{JobKind, Params};
 use job_bank::Bank;
 use job_cloud::Cloud;
 use job_guard::Guard;
-use cli_answers::BadManifest;
-use det_values::{JobKind, Params};
 use job_trait::Job;
 use manifest::{Manifest, ManifestError, read_manifest};
 use std::alloc::Global;
@@ -34,14 +34,13 @@ fn bad_param(kind: JobKind, params: &Params, events: u16) -> Option<u8>
 }
 
 /// The manifest, where its job takes its parameters.
-fn judged(alloc: Global, manifest: Manifest) -> Result<Manifest, SetupEnd>
+fn judged(manifest: Manifest) -> Result<Manifest, SetupEnd>
     ensures manifest { IfOk result (λ m. judged manifest ≡ Ok m) }
     ensures refused { IfErr result (λ e. IfBad e (λ why. judged manifest ≡ Err why)) }
     ensures calm { IfErr result IsCalm }
 {
-    let profile = manifest.profile(alloc, 0)?;
-    let events = profile.events.len() as u16;
-    match bad_param(manifest.kind(), &profile.params, events) {
+    let events = manifest.events().len() as u16;
+    match bad_param(manifest.kind(), manifest.params(), events) {
         None => Ok(manifest),
         Some(index) => Err(SetupEnd::BadManifest(BadManifest::Parameter(index))),
     }
@@ -54,7 +53,7 @@ pub(crate) fn setup_of(alloc: Global, text: &[u8]) -> Result<Manifest, SetupEnd>
     ensures calm { IfErr result IsCalm }
 {
     match read_manifest(alloc, text) {
-        Ok(manifest) => judged(alloc, manifest),
+        Ok(manifest) => judged(manifest),
         Err(ManifestError::Fault(fault)) => {
             Err(SetupEnd::BadManifest(BadManifest::Fault(fault)))
         }

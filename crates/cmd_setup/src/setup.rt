@@ -1,9 +1,11 @@
 //! Reads the manifest under a name of a shelf.
-ghost use Rattle.std.specs.Prelude.{◌≡◌, ◌≤◌, ◌∷◌, [], Ok, Err, IfOk, IfErr, IsSome, IsErrOf};
+ghost use Rattle.std.specs.Prelude.{◌≡◌, ◌≤◌, ◌⊎◌, ◌∷◌, [], true, Ok, Err, IfOk, IfErr, IsSome};
+ghost use Rattle.std.specs.Prelude.{IsErrOf};
 ghost use Rattle.det_edges.specs.Count.{Rose};
-ghost use Rattle.det_edges.specs.Shelf.{Asks};
+ghost use Rattle.det_edges.specs.Shelf.{Asks, SlotsStay};
+ghost use Rattle.cli_answers.specs.Ends.{Work, can_end};
 ghost use Rattle.cli_answers.specs.Outcome.{told};
-ghost use Rattle.cmd_setup.specs.Setup.{setup_of, IfBad, answer_of};
+ghost use Rattle.cmd_setup.specs.Setup.{setup_of, IfBad, answer_of, Takes};
 
 use crate::judging::setup_of;
 use cli_answers::{Answer, BadManifest};
@@ -48,7 +50,8 @@ impl From<ShelfFailed> for SetupEnd {
 impl SetupEnd {
     /// What a command answers that has no manifest.
     pub fn answer(self) -> Answer
-        ensures { result ≡ answer_of self }
+        ensures is { result ≡ answer_of self }
+        ensures ends { (work : Work) → work.manifest ≡ true → can_end work result ≡ true }
     {
         match self {
             SetupEnd::BadManifest(why) => Answer::BadManifest(why),
@@ -60,12 +63,17 @@ impl SetupEnd {
 
 const MOST_BYTES: usize = 65536;
 
-/// Opens a name and reads the manifest under it, where its job takes its parameters. At most one piece is read beyond
-/// the greatest length of a manifest.
+/// Opens a name and reads the manifest under it, where its job takes its parameters. At most one
+/// piece of 4,096 bytes is read beyond the greatest length of a manifest, which is 65,536 bytes.
 pub fn read_setup<S: Shelf>(alloc: Global, name: &str, shelf: &mut S) -> Result<Manifest, SetupEnd>
-    ensures manifest { IfOk result (λ m. IsSome ((S.sees shelf.old).holds name.now) → setup_of (told (S.sees shelf.old) name.now) ≡ Ok m) }
-    ensures refused { IfErr result (λ e. IfBad e (λ why. IsSome ((S.sees shelf.old).holds name.now) → setup_of (told (S.sees shelf.old) name.now) ≡ Err why)) }
-    ensures cause { IsErrOf result SetupEnd.ReadFault → Rose (S.sees shelf.old).faults (S.sees shelf.new).faults }
+    ensures manifest { IfOk result (λ m. IsSome ((S.sees shelf.old).holds name.now)
+        → setup_of (told (S.sees shelf.old) name.now) ≡ Ok m) }
+    ensures refused { IfErr result (λ e. IfBad e (λ why. IsSome ((S.sees shelf.old).holds name.now)
+        → setup_of (told (S.sees shelf.old) name.now) ≡ Err why)) }
+    ensures piece { SlotsStay (S.sees shelf.old) (S.sees shelf.new)
+        ⊎ Takes (S.sees shelf.old) (S.sees shelf.new) name.now 69632 }
+    ensures cause { IsErrOf result SetupEnd.ReadFault
+        → Rose (S.sees shelf.old).faults (S.sees shelf.new).faults }
     ensures counted { (S.sees shelf.old).faults ≤ (S.sees shelf.new).faults }
     ensures holds { (S.sees shelf.new).holds ≡ (S.sees shelf.old).holds }
     ensures asked { Asks (S.sees shelf.old) (S.sees shelf.new) (name.now ∷ []) }

@@ -8,7 +8,8 @@ use Rattle.record_show.specs.declared.ends.ShowEnd.{ShowEnd}
 use Rattle.record_show.specs.declared.ends.ShowEnd.TheVariants as ends
 use Rattle.record_show.specs.Text.{text_of}
 use Rattle.cli_answers.specs.declared.answer.Answer.{Answer}
-use Rattle.cli_answers.specs.declared.answer.Answer.TheVariants.{Done, BadRecord, ReadFault, WriteFault, OutOfMemory}
+use Rattle.cli_answers.specs.declared.answer.Answer.TheVariants.{Done, BadRecord, ReadFault}
+use Rattle.cli_answers.specs.declared.answer.Answer.TheVariants.{WriteFault, OutOfMemory}
 use Rattle.cli_answers.specs.Ends.{Work, writes_alone}
 use Rattle.cli_answers.specs.Outcome.{Outcome}
 
@@ -23,7 +24,10 @@ by_fault (Some f) = BadRecord 0 f
 
 -- the lines of the record's items and, behind a whole record, what the probes report of its runs
 abbrev pub show_outcome : List ProbeLife → List ℕ → Outcome
-show_outcome probes record_bytes = record { answer = by_fault (fault record_bytes); bytes = text_of probes record_bytes }
+show_outcome probes record_bytes = record {
+  answer = by_fault (fault record_bytes);
+  bytes = text_of probes record_bytes;
+}
 
 -- what the command answers by the end of the printing
 abbrev pub answer_of : Result Shown ShowEnd → Answer

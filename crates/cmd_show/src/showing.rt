@@ -39,8 +39,11 @@ fn show_slot<S: Slots, K: Sink>(
 ) -> Answer
     requires few { vec_len probes.old ≤ 1024 }
     requires slot { slot < (S.sees shelf.old).slots }
-    ensures meets { (bytes : List ℕ) → Meets (show_outcome (map (λ b. life b) probes.old.items) bytes) ((S.sees shelf.old).left slot ≡ Some bytes)
-        (Rose (S.sees shelf.old).faults (S.sees shelf.new).faults) (Rose (K.faults out.old) (K.faults out.new)) (K.took out.old) (K.took out.new) result }
+    ensures meets { (bytes : List ℕ)
+        → Meets (show_outcome (map (λ b. life b) probes.old.items) bytes)
+        ((S.sees shelf.old).left slot ≡ Some bytes)
+        (Rose (S.sees shelf.old).faults (S.sees shelf.new).faults)
+        (Rose (K.faults out.old) (K.faults out.new)) (K.took out.old) (K.took out.new) result }
     ensures ends { can_end show_work result ≡ true }
     ensures asked { (S.sees shelf.new).asked ≡ (S.sees shelf.old).asked }
     ensures gone { result ≡ Answer.Done → probes.new.items ≡ [] }
@@ -51,8 +54,8 @@ fn show_slot<S: Slots, K: Sink>(
     answer_of(shown)
 }
 
-/// Prints the record under this name, item by item, and shows its runs to the probes, at most 1,024. What they report is
-/// printed behind a whole record.
+/// Prints the record under this name, item by item, and shows its runs to the probes, at most
+/// 1,024. What they report is printed behind a whole record.
 pub fn show<S: Shelf, K: Sink>(
     alloc: Global,
     recorded: &str,
@@ -61,8 +64,10 @@ pub fn show<S: Shelf, K: Sink>(
     probes: &mut Vec<Box<dyn Probe>>,
 ) -> Answer
     requires { vec_len probes.old ≤ 1024 }
-    ensures meets { Meets (show_outcome (map (λ b. life b) probes.old.items) (told (S.sees shelf.old) recorded.now)) (Tells (S.sees shelf.old) (recorded.now ∷ []))
-        (Rose (S.sees shelf.old).faults (S.sees shelf.new).faults) (Rose (K.faults out.old) (K.faults out.new)) (K.took out.old) (K.took out.new) result }
+    ensures meets { Meets (show_outcome (map (λ b. life b) probes.old.items)
+        (told (S.sees shelf.old) recorded.now)) (Tells (S.sees shelf.old) (recorded.now ∷ []))
+        (Rose (S.sees shelf.old).faults (S.sees shelf.new).faults)
+        (Rose (K.faults out.old) (K.faults out.new)) (K.took out.old) (K.took out.new) result }
     ensures ends { can_end show_work result ≡ true }
     ensures asked { AsksPrefix (S.sees shelf.old) (S.sees shelf.new) (recorded.now ∷ []) }
     ensures gone { result ≡ Answer.Done → probes.new.items ≡ [] }
