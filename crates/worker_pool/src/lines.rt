@@ -18,10 +18,12 @@ use std::sync::Arc;
 use std::{hint, slice, thread};
 use tickets::{Keeper, Room};
 
-/// The looks for replies after which the caller runs the missing blocks itself. When it finds no
-/// more block to claim, each other worker is at one block at most, so the time of a block has to be
-/// enough, however many there are. It takes tens of milliseconds where nothing else runs.
-const MOST_LOOKS: u32 = 400_000;
+/// The looks for replies after which the caller runs the missing blocks itself: so many, and so many
+/// more for each element of the pass. When it finds no more block to claim, each other worker is at
+/// one block at most, so on a machine with a processor for each this is far more than enough, and on
+/// a busy one the caller doesn't wait longer than the pass would take it alone.
+const FIRST_LOOKS: u32 = 20_000;
+const LOOKS_PER_ELEMENT: u32 = 20;
 
 /// The looks after which the caller lets other threads run once.
 const BUSY_LOOKS: u32 = 1_024;
@@ -95,8 +97,9 @@ fn collect<J: Job, B: Room>(
     ensures right { IfOk result (λ done. AreOf J.meaning task.now results.new.items) }
 {
     let blocks = task.table.blocks() as usize;
+    let elements = task.pass.elements.len() as u32;
     let mut missing = given;
-    'look: for look in 0..MOST_LOOKS {
+    'look: for look in 0..FIRST_LOOKS + LOOKS_PER_ELEMENT * elements {
         if missing == 0 || results.len() >= blocks {
             break;
         }
