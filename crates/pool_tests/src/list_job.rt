@@ -14,9 +14,9 @@ use job_trait::{BadParam, Concluded, Job, JobFault, Started, Worked};
 use std::alloc::Global;
 use std::sync::Arc;
 
-/// Elements from `limit` on refuse, with their value as the code. Of the others an odd one becomes a
-/// random byte, for which it draws one word, and an even one stays. `watch` sees each element that
-/// is run, where it is there.
+/// Elements from `limit` on refuse, with their value as the code. Of the others an odd one becomes
+/// a random byte, for which it draws one word, and an even one stays. `watch` sees each element
+/// that is run, where it is there.
 #[derive(Drop)]
 pub struct ListJob {
     pub limit: u32,

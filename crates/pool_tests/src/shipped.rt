@@ -1,11 +1,15 @@
 //! The first pass of a shipped job in a pool.
 
 ghost use Rattle.std.specs.Prelude.{◌≡◌, ◌≤◌, length, IfOk};
+ghost use Rattle.std.specs.Arc.{arc_value};
+ghost use Rattle.std.specs.List.{All};
 ghost use Rattle.event_cache.specs.Rings.{windows};
+ghost use Rattle.job_trait.specs.Laws.{CoversSome};
+ghost use Rattle.job_trait.specs.Passes.{IsReady};
 
 use crate::owners::shared;
 use det_client::{Client, Next};
-use det_values::{EventName, EventSpec, Events, OutOfMemory, Params, Policy, Sample};
+use det_values::{Container, EventName, EventSpec, Events, OutOfMemory, Params, Policy, Sample};
 use event_cache::EventCache;
 use job_trait::{Job, PassOf, PoolFault, Started};
 use std::alloc::Global;
@@ -47,6 +51,35 @@ fn params_of(alloc: Global, params: &[i64]) -> Result<Params, OutOfMemory> {
     Ok(list)
 }
 
+/// Pass 0 of cycle 1.
+fn pass_zero<J: Job>(
+    alloc: Global,
+    job: J,
+    plan: J::Plan,
+    carry: J::Part,
+    elements: Container<J::Element>,
+    seed: u64,
+) -> Result<Arc<PassOf<J>, Global>, OutOfMemory>
+    requires fit { J.Fit job plan }
+    requires carry { CoversSome (J.Covers job) carry }
+    requires own { All (J.Own job) elements }
+    requires few { length elements ≤ 65536 }
+    ensures { IfOk result (λ pass. IsReady J.meaning J.Covers J.Own J.Fit (arc_value pass)) }
+{
+    shared(
+        alloc,
+        PassOf {
+            job: shared(alloc, job)?,
+            plan: shared(alloc, plan)?,
+            carry: shared(alloc, carry)?,
+            number: 0,
+            elements: shared(alloc, elements)?,
+            seed,
+            cycle: 1,
+        },
+    )
+}
+
 /// The number of elements after the first pass of a job of these parameters and one event. A job
 /// that can't be made counts as want of memory.
 pub fn first_pass<J, G, R>(
@@ -79,19 +112,8 @@ where
     let Ok(plan) = job.prepare(alloc, &globals, &elements, &cache, &mut client) else {
         return Err(PoolFault::OutOfMemory);
     };
-    let carry = shared(alloc, job.unit(alloc))?;
-    let pass = shared(
-        alloc,
-        PassOf {
-            job: shared(alloc, job)?,
-            plan: shared(alloc, plan)?,
-            carry,
-            number: 0,
-            elements: shared(alloc, elements)?,
-            seed: client.seed(),
-            cycle: 1,
-        },
-    )?;
+    let carry = job.unit(alloc);
+    let pass = pass_zero(alloc, job, plan, carry, elements, client.seed())?;
     let done = run_worker_pool(rt, alloc, &pass, workers, gate)?;
     Ok(done.elements.len())
 }

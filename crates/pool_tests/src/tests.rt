@@ -159,8 +159,8 @@ fn blocks_are_claimed(rt: HostRuntime) -> Result<(), Fail> {
     Ok(())
 }
 
-/// A kept thread is held at the gate through a whole pass, and let go before the next one. Its reply
-/// to the first pass comes too late, and is no part of the second.
+/// A kept thread is held at the gate through a whole pass, and let go before the next one. Its
+/// reply to the first pass comes too late, and is no part of the second.
 #[test]
 fn a_reply_to_an_earlier_pass_is_thrown_away(rt: HostRuntime) -> Result<(), Fail> {
     let gate = ShutGate {
@@ -189,8 +189,8 @@ fn a_reply_to_an_earlier_pass_is_thrown_away(rt: HostRuntime) -> Result<(), Fail
     Ok(())
 }
 
-/// A kept thread claims a block and is held in it until the caller has given it up and run the block
-/// itself.
+/// A kept thread claims a block and is held in it until the caller has given it up and run the
+/// block itself.
 #[test]
 fn a_block_that_is_given_up_is_run_again(rt: HostRuntime) -> Result<(), Fail> {
     let watch = Arc::new(rt.alloc(), Watch::new())?;
