@@ -9,9 +9,9 @@ ghost use Rattle.cmd_needs.specs.Needs.{needs_outcome, needs_work};
 
 use crate::lines::put_needs_lines;
 use cli_answers::Answer;
+use cmd_setup::read_setup;
 use det_edges::{Shelf, Sink, write_all};
 use det_values::OutOfMemory;
-use cmd_setup::read_setup;
 use manifest::Manifest;
 use std::alloc::Global;
 

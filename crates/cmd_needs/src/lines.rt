@@ -4,8 +4,8 @@ ghost use Rattle.record_text.specs.Words.{number_line};
 ghost use Rattle.cmd_needs.specs.Lines.{job_line, platform_text, platform_line, needs_of, needs_lines};
 
 use det_values::{JobKind, OutOfMemory};
-use record_text::{put_number_line, put_words};
 use manifest::{Manifest, Needs, PlatformName};
+use record_text::{put_number_line, put_words};
 use std::alloc::AllocError;
 
 fn put_job_line(out: &mut Vec<u8>, kind: JobKind) -> Result<(), AllocError>

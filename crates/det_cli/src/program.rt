@@ -14,13 +14,13 @@ ghost use Rattle.det_cli.specs.Promise.{Ends, Runs, IsPromised};
 
 use crate::texts::{USAGE, VERSION};
 use cli_answers::{Answer, Status};
-use det_edges::{Shelf, Sink, write_all};
+use cli_words::laws::ranges;
+use cli_words::{Command, Told, read_words};
 use cmd_needs::needs;
 use cmd_record::{demo, record_stimulus};
 use cmd_show::show;
 use cmd_sim::sim;
-use cli_words::laws::ranges;
-use cli_words::{Command, Told, read_words};
+use det_edges::{Shelf, Sink, write_all};
 use probes::Probe;
 use std::alloc::Global;
 use std::sync::Arc;

@@ -23,6 +23,7 @@ use tickets::{Keeper, Room};
 /// one block at most, so on a machine with a processor for each this is far more than enough, and on
 /// a busy one the caller doesn't wait longer than the pass would take it alone.
 const FIRST_LOOKS: u32 = 20_000;
+
 const LOOKS_PER_ELEMENT: u32 = 20;
 
 /// The looks after which the caller lets other threads run once.
