@@ -12,11 +12,11 @@ covers_run : (j : ListJob) (e k : ℕ) (w : Worked ℕ (List ℕ)) → worked j 
     → Covers j w.part 1
 covers_run j e k w h = elim (ltb e j.limit) as (λ b. cond b
     (Ok (record { element = byte_after e k; part = e ∷ [] })) (Err e) ≡ Ok w → Covers j w.part 1) [
-  | true ↦ λ h. let same : ◌≡◌ {A = Worked ℕ (List ℕ)}
-      (record { element = byte_after e k; part = e ∷ [] }) w = cc in
-      rw (← same) (omega arith, omega arith)
-  | false ↦ λ h. cc
-] h
+      | true ↦ λ h. let same : ◌≡◌ {A = Worked ℕ (List ℕ)}
+          (record { element = byte_after e k; part = e ∷ [] }) w = cc in
+          rw (← same) (omega arith, omega arith)
+      | false ↦ λ h. cc
+    ] h
 
 drawn_few : (j : ListJob) (e : ℕ) → drawn j e ≤ 65535
 drawn_few j e = elim (ltb e j.limit) as (λ b. cond b (e % 2) 0 ≤ 65535) [
@@ -36,8 +36,11 @@ list_laws = record {
   covers_few = λ j part n h. h.1;
   covers_unit = λ j. (omega arith, omega arith);
   covers_run = λ j plan carry pass e key w fit own below carried h. covers_run j e key w h;
-  covers_joined = λ j left right a b l r few. (rw (length-append left right) (let x = l.0 in
-      let y = r.0 in omega arith), few);
+  covers_joined = λ j left right a b l r few. (
+    rw (length-append left right) (let x = l.0 in
+        let y = r.0 in omega arith),
+    few,
+  );
   own_run = λ j plan carry pass e key w fit own below carried h. tt;
   own_started = λ j seed. All-nil (Own j);
   fit_prepared = λ j globals es windows seed cycle time next p own few windowed h. tt;
