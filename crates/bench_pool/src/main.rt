@@ -5,8 +5,8 @@ mod timed;
 
 use crate::timed::timed_passes;
 use anyhow::Context;
-use shipped_jobs::Cloud;
 use det_values::Params;
+use shipped_jobs::Cloud;
 use std::env;
 
 /// A number of particles, of workers, and of passes over them.

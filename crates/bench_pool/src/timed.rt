@@ -1,17 +1,25 @@
 //! Passes of a job, timed.
 
-ghost use Rattle.std.specs.Prelude.{◌≡◌, ◌≤◌, length, IfOk};
+ghost use Rattle.std.specs.Prelude.{◌≡◌, ◌≤◌, length, IfOk, IfSome};
+ghost use Rattle.std.specs.Arc.{arc_value};
+ghost use Rattle.std.specs.List.{All};
 ghost use Rattle.event_cache.specs.Rings.{windows};
+ghost use Rattle.job_trait.specs.Laws.{CoversSome};
+ghost use Rattle.job_trait.specs.Passes.{IsReady};
+ghost use Rattle.worker_pool.specs.Crews.{room_name};
 
 use anyhow::{Context, Result, bail};
-use det_values::{Events, OutOfMemory, Params};
 use det_client::{Client, Next};
+use det_values::{Container, Events, OutOfMemory, Params};
 use event_cache::EventCache;
-use job_trait::{Job, Started};
+use job_trait::{Job, PassOf, Pool, Started};
 use std::alloc::Global;
+use std::marker::Brand;
+use std::sync::Arc;
 use std::thread::Threads;
 use std::time::{Clock, Duration, Instant};
-use worker_pool::{NoGate, run_worker_pool};
+use tickets::Room;
+use worker_pool::{Crew, CrewRoom, NoGate};
 
 /// A cache without events.
 fn no_events(alloc: Global) -> std::result::Result<EventCache, OutOfMemory>
@@ -20,37 +28,135 @@ fn no_events(alloc: Global) -> std::result::Result<EventCache, OutOfMemory>
     EventCache::new(alloc, &Events::new(alloc))
 }
 
-/// The time of so many first passes over the elements that a job of these parameters starts with.
-pub fn timed_passes<J: Job, R: Threads + Sync + Clock>(
+/// A value that can have several owners.
+fn shared<T: Drop>(alloc: Global, value: T) -> std::result::Result<Arc<T, Global>, OutOfMemory>
+    ensures { IfOk result (λ owner. arc_value owner ≡ value) }
+{
+    match Arc::new(alloc, value) {
+        Ok(owner) => Ok(owner),
+        Err(_) => Err(OutOfMemory),
+    }
+}
+
+/// Pass 0 of cycle 1.
+fn pass_zero<J: Job>(
+    alloc: Global,
+    job: J,
+    plan: J::Plan,
+    carry: J::Part,
+    elements: Container<J::Element>,
+    seed: u64,
+) -> std::result::Result<Arc<PassOf<J>, Global>, OutOfMemory>
+    requires fit { J.Fit job plan }
+    requires carry { CoversSome (J.Covers job) carry }
+    requires own { All (J.Own job) elements }
+    requires few { length elements ≤ 65536 }
+    ensures { IfOk result (λ pass. IsReady J.meaning J.Covers J.Own J.Fit (arc_value pass)) }
+{
+    shared(
+        alloc,
+        PassOf {
+            job: shared(alloc, job)?,
+            plan: shared(alloc, plan)?,
+            carry: shared(alloc, carry)?,
+            number: 0,
+            elements: shared(alloc, elements)?,
+            seed,
+            cycle: 1,
+        },
+    )
+}
+
+/// The first pass over the elements that a job of these parameters starts with. None where memory
+/// is short, or the job can't be made or refuses.
+fn first_pass<J: Job>(alloc: Global, params: &Params) -> Option<Arc<PassOf<J>, Global>>
+    ensures { IfSome result (λ pass. IsReady J.meaning J.Covers J.Own J.Fit (arc_value pass)) }
+{
+    let job = J::make(params, 0).ok()?;
+    let cache = no_events(alloc).ok()?;
+    let mut client = Client::resumed(10, 0, 0);
+    let Started { globals, elements } = job.start(alloc, &mut client).ok()?;
+    let mut client = Client::resumed(10, 0, 0);
+    let _ = client.wait_for_activation(Next::Go(None));
+    let plan = job.prepare(alloc, &globals, &elements, &cache, &mut client);
+    let plan = plan.ok()?;
+    let carry = job.unit(alloc);
+    pass_zero(alloc, job, plan, carry, elements, client.seed()).ok()
+}
+
+/// The time of a pass, run so many times in this pool.
+fn timed<J: Job, P: Pool<J>, R: Clock>(
+    rt: &R,
+    alloc: Global,
+    pool: &mut P,
+    pass: &Arc<PassOf<J>, Global>,
+    passes: u32,
+) -> Result<Duration>
+    requires { IsReady J.meaning J.Covers J.Own J.Fit (arc_value pass.now) }
+{
+    let start = Instant::now(rt)?;
+    for _pass in 0..passes {
+        let done = pool.run_pass(alloc, pass);
+        done.ok().context("refused")?;
+    }
+    Ok(start.elapsed(rt)?)
+}
+
+/// The same by a crew in this room.
+fn timed_in_room<J, B, R>(
+    rt: &R,
+    alloc: Global,
+    room: CrewRoom<J>,
+    pass: &Arc<PassOf<J>, Global>,
+    workers: u32,
+    passes: u32,
+) -> Result<Duration>
+where
+    J: Job + Send + Sync + 'static,
+    J::Globals: Send + 'static,
+    J::Element: Send + Sync + 'static,
+    J::Plan: Send + Sync + 'static,
+    J::Part: Send + Sync + 'static,
+    B: Room + Send + Sync + 'static,
+    R: Threads + Clock,
+    requires room { room_name room ≡ B.table }
+    requires ready { IsReady J.meaning J.Covers J.Own J.Fit (arc_value pass.now) }
+    requires workers { (1 ≤ workers) × (workers ≤ 64) }
+{
+    let Ok(gate) = shared(alloc, NoGate) else {
+        bail!("out of memory");
+    };
+    let Ok(mut crew) = Crew::<J, B, NoGate>::start(rt, alloc, room, workers, &gate) else {
+        bail!("out of memory");
+    };
+    let time = timed(rt, alloc, &mut crew, pass, passes);
+    crew.stop(rt);
+    time
+}
+
+/// The time of so many first passes over the elements that a job of these parameters starts with,
+/// by one crew.
+pub fn timed_passes<J, R>(
     rt: &R,
     alloc: Global,
     params: &Params,
     workers: u32,
     passes: u32,
 ) -> Result<Duration>
+where
+    J: Job + Send + Sync + 'static,
+    J::Globals: Send + 'static,
+    J::Element: Send + Sync + 'static,
+    J::Plan: Send + Sync + 'static,
+    J::Part: Send + Sync + 'static,
+    R: Threads + Clock,
     requires workers { (1 ≤ workers) × (workers ≤ 64) }
 {
-    let Ok(job) = J::make(params, 0) else {
-        bail!("bad parameter");
+    let Some(pass) = first_pass::<J>(alloc, params) else {
+        bail!("no pass");
     };
-    let Ok(cache) = no_events(alloc) else {
+    let Ok(room) = CrewRoom::new(alloc) else {
         bail!("out of memory");
     };
-    let mut client = Client::resumed(10, 0, 0);
-    let begun = job.start(alloc, &mut client).ok();
-    let Started { globals, elements } = begun.context("out of memory")?;
-    let mut client = Client::resumed(10, 0, 0);
-    let _ = client.wait_for_activation(Next::Go(None));
-    let items = elements.as_slice();
-    let plan = job.prepare(alloc, &globals, items, &cache, &mut client);
-    let plan = plan.ok().context("refused")?;
-    let carry = job.unit(alloc);
-    let start = Instant::now(rt)?;
-    for _pass in 0..passes {
-        let done = run_worker_pool(
-            rt, alloc, &job, &plan, &carry, 0, items, 0, 1, workers, &NoGate,
-        );
-        done.ok().context("refused")?;
-    }
-    Ok(start.elapsed(rt)?)
+    timed_in_room::<J, Brand, R>(rt, alloc, room, &pass, workers, passes)
 }

@@ -1,6 +1,8 @@
 -- What an answer of a command tells: its exit status, and its line for `err`.
 use Rattle.std.specs.Prelude.{ℕ, List, [], ◌++◌, codes, decimal}
-use Rattle.manifest.specs.declared.fault.ManifestFault.TheVariants.{TooLong, NotToml, Missing, WrongKind, OutOfRange, DuplicateEvent, UnknownJob}
+use Rattle.manifest.specs.declared.fault.ManifestFault.TheVariants.{TooLong, NotToml, Missing, WrongKind, OutOfRange}
+use Rattle.manifest.specs.declared.fault.ManifestFault.TheVariants.{UnknownKey, DuplicateEvent}
+use Rattle.manifest.specs.declared.fault.ManifestFault.TheVariants.{UnknownJob}
 use Rattle.manifest.specs.declared.key.Key.{Key}
 use Rattle.manifest.specs.KeyTexts.{key_text}
 use Rattle.record_grammar.specs.declared.fault.Reason.{Reason}
@@ -40,6 +42,7 @@ bad_manifest_text (Fault NotToml) = codes "bad manifest: not toml"
 bad_manifest_text (Fault (Missing key)) = with_key (codes "bad manifest: missing ") key
 bad_manifest_text (Fault (WrongKind key)) = with_key (codes "bad manifest: wrong kind ") key
 bad_manifest_text (Fault (OutOfRange key)) = with_key (codes "bad manifest: out of range ") key
+bad_manifest_text (Fault (UnknownKey key)) = codes "bad manifest: unknown key"
 bad_manifest_text (Fault (DuplicateEvent number)) = codes "bad manifest: duplicate event " ++ decimal number
 bad_manifest_text (Fault UnknownJob) = codes "bad manifest: unknown job"
 bad_manifest_text (Parameter index) = codes "bad manifest: bad parameter " ++ decimal index

@@ -82,6 +82,7 @@ fn fault_line(fault: ManifestFault) -> Line
         ManifestFault::Missing(key) => key_line("bad manifest: missing ", key),
         ManifestFault::WrongKind(key) => key_line("bad manifest: wrong kind ", key),
         ManifestFault::OutOfRange(key) => key_line("bad manifest: out of range ", key),
+        ManifestFault::UnknownKey(_) => Line::of("bad manifest: unknown key\n"),
         ManifestFault::DuplicateEvent(number) => {
             number_line("bad manifest: duplicate event ", number as u64)
         }

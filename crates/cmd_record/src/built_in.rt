@@ -10,7 +10,9 @@ use crate::over_stimulus::record_job;
 use cli_answers::Answer;
 use crew_recorder::Workers;
 use det_edges::{Shelf, Sink};
-use det_values::{EventName, EventSpec, Events, Format, JobKind, OutOfMemory, Params, Policy, Profile};
+use det_values::{
+    EventName, EventSpec, Events, Format, JobKind, OutOfMemory, Params, Policy, Profile,
+};
 use job_bank::Bank;
 use std::alloc::Global;
 use std::sync::Arc;

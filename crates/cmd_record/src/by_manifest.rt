@@ -103,5 +103,13 @@ pub fn record_stimulus<R: Threads + Sync, S: Shelf, K: Sink, G: Gate + Send + Sy
         count: workers_or(workers, setup.workers()),
         gate,
     };
-    record_kind(alloc, &workers, setup.kind(), &profile, stimulus, shelf, out)
+    record_kind(
+        alloc,
+        &workers,
+        setup.kind(),
+        &profile,
+        stimulus,
+        shelf,
+        out,
+    )
 }

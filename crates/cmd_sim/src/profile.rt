@@ -2,7 +2,9 @@
 ghost use Rattle.std.specs.Prelude.{◌≡◌, IfOk};
 ghost use Rattle.cmd_sim.specs.Sim.{newest_of, sim_params, sim_events, sim_profile};
 
-use det_values::{EventName, EventSpec, Events, Format, JobKind, OutOfMemory, Params, Policy, Profile};
+use det_values::{
+    EventName, EventSpec, Events, Format, JobKind, OutOfMemory, Params, Policy, Profile,
+};
 use std::alloc::Global;
 
 fn newest_of(name: EventName) -> EventSpec

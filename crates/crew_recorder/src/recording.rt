@@ -4,6 +4,7 @@ ghost use Rattle.std.specs.Vec.{vec_len};
 ghost use Rattle.det_edges.specs.Count.{Rose};
 ghost use Rattle.cycle_engine.specs.Engine.{StandsFor as EngineStands};
 ghost use Rattle.recorder.specs.Recorded.{IsRecorded};
+ghost use Rattle.worker_pool.specs.Crews.{room_name};
 
 use crate::Workers;
 use cycle_engine::Engine;
@@ -18,8 +19,8 @@ use std::thread::Threads;
 use tickets::Room;
 use worker_pool::{Crew, CrewRoom, Gate};
 
-/// Records by a crew whose room is `B`. Its threads end before the answer is given.
-fn record_in<J, B, S, K, R, G>(
+/// Records by a crew in this room. Its threads end before the answer is given.
+fn record_in_room<J, B, S, K, R, G>(
     alloc: Global,
     room: CrewRoom<J>,
     workers: &Workers<'_, R, G>,
@@ -42,9 +43,26 @@ where
     K: Sink,
     R: Threads,
     G: Gate + Send + Sync + 'static,
+    requires room { room_name room ≡ B.table }
+    requires begun { EngineStands J.meaning profile.now engine.old [] }
+    requires going { engine.old.stopped ≡ false }
+    requires slot { slot < (S.sees shelf.old).slots }
+    requires few { vec_len probes.old ≤ 1024 }
+    requires empty { left.old ≡ [] }
+    ensures recorded { IsRecorded J.meaning profile.now slot (S.sees shelf.old) (S.sees shelf.new)
+        (K.took sink.old) (K.took sink.new) (map (λ b. life b) probes.old.items)
+        (map (λ b. life b) probes.new.items) left.new result }
+    ensures fewer { vec_len probes.new ≤ vec_len probes.old }
+    ensures read_fault { IsErrOf result RecordEnd.ReadFault
+        → Rose (S.sees shelf.old).faults (S.sees shelf.new).faults }
+    ensures write_fault { IsErrOf result RecordEnd.WriteFault
+        → Rose (K.faults sink.old) (K.faults sink.new) }
+    ensures reads_counted { (S.sees shelf.old).faults ≤ (S.sees shelf.new).faults }
+    ensures writes_counted { K.faults sink.old ≤ K.faults sink.new }
+    ensures stays { S.stays shelf.old shelf.new }
 {
-    let Ok(mut crew) = Crew::<J, B, G>::start(workers.rt, alloc, room, workers.count, workers.gate)
-    else {
+    let started = Crew::<J, B, G>::start(workers.rt, alloc, room, workers.count, workers.gate);
+    let Ok(mut crew) = started else {
         return Err(RecordEnd::OutOfMemory);
     };
     let run = record_run(
@@ -52,4 +70,52 @@ where
     );
     crew.stop(workers.rt);
     run
+}
+
+/// Records a stimulus, as `record_run` does, by a number of workers on threads that are kept from
+/// its first cycle to its last. None of them is left running at any answer.
+pub fn record_by_crew<J, S, K, R, G>(
+    alloc: Global,
+    workers: &Workers<'_, R, G>,
+    engine: &mut Engine<J>,
+    profile: &Profile,
+    shelf: &mut S,
+    slot: u32,
+    sink: &mut K,
+    probes: &mut Vec<Box<dyn Probe>>,
+    left: &mut Bytes,
+) -> Result<Counts, RecordEnd>
+where
+    J: Job + Send + Sync + 'static,
+    J::Globals: Send + 'static,
+    J::Element: Send + Sync + 'static,
+    J::Plan: Send + Sync + 'static,
+    J::Part: Send + Sync + 'static,
+    S: Slots,
+    K: Sink,
+    R: Threads,
+    G: Gate + Send + Sync + 'static,
+    requires begun { EngineStands J.meaning profile.now engine.old [] }
+    requires going { engine.old.stopped ≡ false }
+    requires slot { slot < (S.sees shelf.old).slots }
+    requires few { vec_len probes.old ≤ 1024 }
+    requires empty { left.old ≡ [] }
+    ensures recorded { IsRecorded J.meaning profile.now slot (S.sees shelf.old) (S.sees shelf.new)
+        (K.took sink.old) (K.took sink.new) (map (λ b. life b) probes.old.items)
+        (map (λ b. life b) probes.new.items) left.new result }
+    ensures fewer { vec_len probes.new ≤ vec_len probes.old }
+    ensures read_fault { IsErrOf result RecordEnd.ReadFault
+        → Rose (S.sees shelf.old).faults (S.sees shelf.new).faults }
+    ensures write_fault { IsErrOf result RecordEnd.WriteFault
+        → Rose (K.faults sink.old) (K.faults sink.new) }
+    ensures reads_counted { (S.sees shelf.old).faults ≤ (S.sees shelf.new).faults }
+    ensures writes_counted { K.faults sink.old ≤ K.faults sink.new }
+    ensures stays { S.stays shelf.old shelf.new }
+{
+    let Ok(room) = CrewRoom::<J>::new(alloc) else {
+        return Err(RecordEnd::OutOfMemory);
+    };
+    record_in_room::<J, Brand, S, K, R, G>(
+        alloc, room, workers, engine, profile, shelf, slot, sink, probes, left,
+    )
 }

@@ -59,7 +59,8 @@ impl<J: Job> Model for Engine<J> {
     } };
 
     ghost invariant = { λ e.
-        Fits J.meaning J.Own (arc_value e.job) (arc_value e.elements) e.client e.cache e.cycle_time };
+        Fits J.meaning J.Own (arc_value e.job) (arc_value e.elements)
+        e.client e.cache e.cycle_time };
 }
 
 /// Lets these samples arrive, and shows them to the next cycle.

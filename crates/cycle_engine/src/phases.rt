@@ -38,11 +38,9 @@ pub(crate) fn finish<J: Job>(
         passes.now.plan passes.now.seed (passed_of last)) }
     ensures elements { IfOk result (λ done. arc_value done.elements ≡ last.elements) }
 {
-    let shown = show(alloc, &*passes.job, &last.elements, &last.draws)?;
-    match passes
-        .job
-        .conclude(alloc, globals, &*passes.plan, last.part)
-    {
+    let job = &*passes.job;
+    let shown = show(alloc, job, &last.elements, &last.draws)?;
+    match job.conclude(alloc, globals, &*passes.plan, last.part) {
         Ok(concluded) => Ok(CycleDone {
             globals: concluded.globals,
             elements: shared(alloc, last.elements)?,

@@ -1,8 +1,8 @@
 //! The program `det`: the real shelf, standard output and standard error, the shipped probes, and `top`.
 #![tactic(auto)]
 
-use det_edges::{DirShelf, StdSink};
 use det_cli::{Status, top};
+use det_edges::{DirShelf, StdSink};
 use probes::{CountProbe, FirstRefusalProbe, GapProbe, Probe};
 use std::env;
 use std::process::ExitCode;

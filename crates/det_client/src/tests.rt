@@ -1,3 +1,5 @@
+ghost use Rattle.std.specs.Prelude.{◌≡◌};
+
 use super::*;
 
 #[test]
@@ -87,7 +89,9 @@ fn parts_go_on(rt: HostRuntime) {
     assert_eq!(rt; parts_of(&again).get_next_activation_time(), Ok(6));
 }
 
-fn parts_of(client: &Client) -> Client {
+fn parts_of(client: &Client) -> Client
+    ensures { result.cycle ≡ client.now.cycle }
+{
     Client::of_parts(
         client.cycle_time(),
         client.last(),

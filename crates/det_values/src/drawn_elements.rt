@@ -1,7 +1,7 @@
 //! The elements of a finished cycle.
 ghost use Rattle.std.specs.Prelude.{◌≡◌, ◌≤◌, ◌<◌, List, ◌++◌, ◌∷◌, [], length, OnOk, OnErr};
 ghost use Rattle.std.specs.List.{All};
-ghost use Rattle.det_values.specs.Spelling.{an_element, spelled_all, IsDrawn};
+ghost use Rattle.det_values.specs.Spelling.{an_element, spelled_drawn, spelled_all, IsDrawn};
 ghost use Rattle.det_values.specs.declared.frames.DrawnElement.{DrawnElement};
 
 use crate::OutOfMemory;
@@ -76,6 +76,23 @@ impl DrawnElements {
                 Ok(())
             }
             Err(refused) => Err(refused),
+        }
+    }
+
+    /// Adds an element that is spelled already, by one copy. A refused call changes nothing.
+    pub fn push_spelled(&mut self, spelled: &[u8]) -> Result<(), OutOfMemory>
+        requires room { length self.old < 65536 }
+        requires spelled { (e : DrawnElement) × IsDrawn e × (spelled.now ≡ spelled_drawn e) }
+        ensures ok { OnOk result ((e : DrawnElement) → IsDrawn e → spelled.now ≡ spelled_drawn e
+            → self.new ≡ self.old ++ e ∷ []) }
+        ensures err { OnErr result (self.new ≡ self.old) }
+    {
+        match self.bytes.extend_from_slice(spelled) {
+            Ok(()) => {
+                self.count += 1;
+                Ok(())
+            }
+            Err(_) => Err(OutOfMemory),
         }
     }
 

@@ -24,10 +24,12 @@ module _ {S G E L P : Type 0} (m : Meaning S G E L P) (profile : ProfileValue) (
 
   -- each sample of an input is one of the engine's events
   pub known : (engine : EngineState S G E) → StandsFor m profile engine (take i inputs)
-      → All (λ (x : CycleInput). All (λ s. s.event < length profile.events) x.samples) inputs → All (λ s. s.event < length engine.rings) input.samples
+      → All (λ (x : CycleInput). All (λ s. s.event < length profile.events) x.samples) inputs
+      → All (λ s. s.event < length engine.rings) input.samples
   known engine stands all =
       let Known : ℕ → CycleInput → Type 0 = λ n x. All (λ s. s.event < n) x.samples in
-      let first : Known (length profile.events) (get_or inputs i input) = All-get_or (Known (length profile.events)) inputs i input inside all in
+      let first : Known (length profile.events) (get_or inputs i input) =
+      All-get_or (Known (length profile.events)) inputs i input inside all in
       let second : Known (length profile.events) input = subst (Known (length profile.events)) (sym at) first in
       let InCount : ℕ → Type 0 = λ n. Known n input in
       subst InCount (sym (stands_events m profile engine (take i inputs) stands)) second
@@ -36,7 +38,8 @@ module _ {S G E L P : Type 0} (m : Meaning S G E L P) (profile : ProfileValue) (
   pub one_more : take i inputs ++ input ∷ [] ≡ take (i + 1) inputs
   one_more = ap (λ x. take i inputs ++ x ∷ []) at ∙ sym (take_more inputs i input inside)
 
-  pub stands_more : (engine : EngineState S G E) → StandsFor m profile engine (take i inputs ++ input ∷ []) → StandsFor m profile engine (take (i + 1) inputs)
+  pub stands_more : (engine : EngineState S G E) → StandsFor m profile engine (take i inputs ++ input ∷ [])
+      → StandsFor m profile engine (take (i + 1) inputs)
   stands_more engine stands = let Stands : List CycleInput → Type 0 = StandsFor m profile engine in subst Stands one_more stands
 
   pub runs_more : (done more : List RunFrame) (frame : RunFrame) → more ≡ done ++ frame ∷ [] → done ≡ runs m profile (take i inputs)

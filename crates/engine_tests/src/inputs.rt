@@ -62,7 +62,8 @@ pub fn inputs_of(
     cycles: u32,
 ) -> Result<Vec<CycleInput>, NoRun>
     requires { cycles ≤ 1000 }
-    ensures known { IfOk result (λ inputs. All (λ input. All (λ s. s.event < events) input.samples) inputs.items) }
+    ensures known { IfOk result (λ inputs.
+        All (λ input. All (λ s. s.event < events) input.samples) inputs.items) }
     ensures many { IfOk result (λ inputs. length inputs.items ≡ cycles) }
 {
     let mut inputs = Vec::new(alloc);

@@ -6,10 +6,8 @@ ghost use Rattle.cycle_engine.specs.Frames.{runs};
 use crate::{Arrival, NoRun, inputs_of};
 use cycle_engine::Engine;
 use det_values::{CycleInput, Elements, Profile, RunFrame};
-use job_trait::Job;
+use job_trait::{Job, Pool};
 use std::alloc::Global;
-use std::thread::Threads;
-use worker_pool::NoGate;
 
 /// The bytes of the first elements, the frames of the cycles, and the seed after each of them.
 #[derive(Drop)]
@@ -40,16 +38,15 @@ fn all_are(seeds: &[u64], seed: u64) -> bool {
 }
 
 /// Runs a job of the profile's parameters over these inputs.
-pub fn run_inputs<J: Job, R: Threads + Sync>(
-    rt: &R,
+pub fn run_inputs<J: Job, P: Pool<J>>(
     alloc: Global,
+    pool: &mut P,
     profile: &Profile,
     inputs: &[CycleInput],
-    workers: u32,
 ) -> Result<Ran, NoRun>
     requires few { length inputs.now ≤ 1000000 }
-    requires known { All (λ input. All (λ s. s.event < length profile.now.events) input.samples) inputs.now }
-    requires workers { (1 ≤ workers) × (workers ≤ 64) }
+    requires known { All (λ input.
+        All (λ s. s.event < length profile.now.events) input.samples) inputs.now }
     ensures { IfOk result (λ ran. ran.frames.items ≡ runs J.meaning profile.now inputs.now) }
 {
     let Ok(job) = J::make(&profile.params, profile.events.len() as u16) else {
@@ -60,7 +57,8 @@ pub fn run_inputs<J: Job, R: Threads + Sync>(
     let mut frames = Vec::new(alloc);
     let mut seeds = Vec::new(alloc);
     for input in inputs {
-        let frame = engine.cycle(rt, alloc, input, workers, &NoGate)?;
+        let copy = input.copied(alloc)?;
+        let frame = engine.cycle(alloc, pool, copy)?;
         frames.push(frame).map_err(|_| NoRun::OutOfMemory)?;
         seeds.push(engine.seed()).map_err(|_| NoRun::OutOfMemory)?;
     }
@@ -71,32 +69,30 @@ pub fn run_inputs<J: Job, R: Threads + Sync>(
     })
 }
 
-/// The same over so many cycles, in which these samples arrive. At most 1,000 cycles, and 1 to 64 workers.
-pub fn run<J: Job, R: Threads + Sync>(
-    rt: &R,
+/// The same over so many cycles, at most 1,000, in which these samples arrive.
+pub fn run<J: Job, P: Pool<J>>(
     alloc: Global,
+    pool: &mut P,
     profile: &Profile,
     arrivals: &[Arrival],
     cycles: u32,
-    workers: u32,
 ) -> Result<Ran, NoRun> {
-    if cycles > 1000 || workers == 0 || workers > 64 {
+    if cycles > 1000 {
         return Err(NoRun::BadProfile);
     }
     let inputs = inputs_of(alloc, profile.events.len() as u16, arrivals, cycles)?;
-    run_inputs::<J, R>(rt, alloc, profile, inputs.as_slice(), workers)
+    run_inputs::<J, P>(alloc, pool, profile, inputs.as_slice())
 }
 
 /// The lines of that run.
-pub fn told<J: Job, R: Threads + Sync>(
-    rt: &R,
+pub fn told<J: Job, P: Pool<J>>(
     alloc: Global,
+    pool: &mut P,
     profile: &Profile,
     arrivals: &[Arrival],
     cycles: u32,
-    workers: u32,
 ) -> Result<String, NoRun> {
-    let ran = run::<J, R>(rt, alloc, profile, arrivals, cycles, workers)?;
+    let ran = run::<J, P>(alloc, pool, profile, arrivals, cycles)?;
     let text = ran.text(alloc)?;
     Ok(text)
 }

@@ -1,12 +1,11 @@
 //! Runs as short texts.
 use crate::Ran;
-use det_values::{Bytes64, DrawnElement, Outcome, Phase, RefusedAt};
+use det_values::{Bytes64, DrawnElements, Outcome, Phase, RefusedAt};
 use std::alloc::{AllocError, Global};
 
 /// An element as ` NUMBER:BYTES`, and `+DRAWS` where it drew.
-fn entry(alloc: Global, number: usize, element: &DrawnElement) -> Result<String, AllocError> {
-    let bytes = hex::encode(alloc, element.bytes.as_slice())?;
-    let draws = element.draws;
+fn entry(alloc: Global, number: usize, bytes: &[u8], draws: u32) -> Result<String, AllocError> {
+    let bytes = hex::encode(alloc, bytes)?;
     if draws == 0 {
         format!(in alloc; " {number}:{bytes}")
     } else {
@@ -18,12 +17,16 @@ fn entry(alloc: Global, number: usize, element: &DrawnElement) -> Result<String,
 fn changed(
     alloc: Global,
     first: &[Bytes64],
-    elements: &[DrawnElement],
+    elements: &DrawnElements,
 ) -> Result<String, AllocError> {
     let mut text = String::new(alloc);
-    for (number, (was, is)) in first.iter().zip(elements).enumerate() {
-        if is.draws != 0 || *was != is.bytes {
-            let entry = entry(alloc, number, is)?;
+    let mut walk = elements.walk();
+    for (number, was) in first.iter().enumerate() {
+        let Some((bytes, draws)) = walk.next() else {
+            return Ok(text);
+        };
+        if draws != 0 || was.as_slice() != bytes {
+            let entry = entry(alloc, number, bytes, draws)?;
             text.push_str(entry.as_str())?;
         }
     }
@@ -53,11 +56,23 @@ fn line(alloc: Global, first: &[Bytes64], outcome: &Outcome) -> Result<String, A
     match outcome {
         Outcome::Finished { elements, output } => {
             let output = hex::encode(alloc, output.as_slice())?;
-            let elements = changed(alloc, first, elements.as_slice())?;
+            let elements = changed(alloc, first, elements)?;
             format!(in alloc; "done {output}{elements}")
         }
         Outcome::Refused(at) => refusal(alloc, at),
     }
+}
+
+/// Appends the draws of these elements.
+fn put_draws(draws: &mut Vec<u32>, elements: &DrawnElements) -> Result<(), AllocError> {
+    let mut walk = elements.walk();
+    for _ in 0..elements.len() {
+        let Some((_, drew)) = walk.next() else {
+            return Ok(());
+        };
+        draws.push(drew)?;
+    }
+    Ok(())
 }
 
 impl Ran {
@@ -77,9 +92,7 @@ impl Ran {
         let mut draws = Vec::new(alloc);
         for frame in self.frames.as_slice() {
             if let Outcome::Finished { elements, .. } = &frame.outcome {
-                for element in elements.as_slice() {
-                    draws.push(element.draws)?;
-                }
+                put_draws(&mut draws, elements)?;
             }
         }
         Ok(draws)

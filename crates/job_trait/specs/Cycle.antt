@@ -26,7 +26,8 @@ added [] ys = []
 added (x ∷ xs) [] = []
 added (x ∷ xs) (y ∷ ys) = (x + y) ∷ added xs ys
 
--- where a cycle is refused: by an element in a pass, or outside the pool, where pass and element are 0
+-- where a cycle is refused: by an element in a pass, or outside the pool, where pass and element
+-- are 0
 abbrev pub refused_in_pool : ℕ → Refusal → RefusedAtValue
 refused_in_pool pass r = record { phase = Pool; pass = pass; element = r.element; code = r.code }
 
@@ -37,7 +38,8 @@ abbrev pub refused_in_conclude : ℕ → RefusedAtValue
 refused_in_conclude code = record { phase = Conclude; pass = 0; element = 0; code = code }
 
 -- a pass of that number, its answer changed
-abbrev pub in_pool : {E P : Type 0} → ℕ → (Passed E P → Passed E P) → Result (Passed E P) Refusal → Result (Passed E P) RefusedAtValue
+abbrev pub in_pool : {E P : Type 0} → ℕ → (Passed E P → Passed E P)
+    → Result (Passed E P) Refusal → Result (Passed E P) RefusedAtValue
 in_pool p change (Ok next) = Ok (change next)
 in_pool p change (Err r) = Err (refused_in_pool p r)
 
@@ -48,9 +50,11 @@ module _ {S G E L P : Type 0} (m : Meaning S G E L P) (j : S) where
   shown_with (e ∷ es) [] = []
   shown_with (e ∷ es) (d ∷ ds) = record { bytes = m.shown j e; draws = d } ∷ shown_with es ds
 
-  -- pass number p over the elements of the one before, carrying its part; the words are added to those drawn so far
+  -- pass number p over the elements of the one before, carrying its part; the words are added to
+  -- those drawn so far
   abbrev pub next_pass : L → ℕ → ℕ → ℕ → Passed E P → Result (Passed E P) RefusedAtValue
-  next_pass plan seed cycle p done = in_pool p (λ next. record { elements = next.elements; draws = added done.draws next.draws; part = next.part })
+  next_pass plan seed cycle p done =
+      in_pool p (λ next. record { elements = next.elements; draws = added done.draws next.draws; part = next.part })
       (passed m j plan done.part seed cycle p done.elements)
 
   -- pass 0, which carries the unit

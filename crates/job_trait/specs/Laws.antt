@@ -31,19 +31,26 @@ pub record JobLaws {S G E L P : Type 0} (m : Meaning S G E L P)
   pub covers_few : (j : S) (part : P) (n : ℕ) → Covers j part n → n ≤ 65536
   pub covers_unit : (j : S) → Covers j (m.unit_part j) 0
   pub covers_run : (j : S) (plan : L) (carry : P) (pass : ℕ) (e : E) (key : ℕ) (w : Worked E P) →
-      Fit j plan → Own j e → pass < m.passes_of j plan → CoversSome (Covers j) carry → m.worked j plan carry pass e key ≡ Ok w → Covers j w.part 1
-  pub covers_joined : (j : S) (left right : P) (a b : ℕ) → Covers j left a → Covers j right b → a + b ≤ 65536 → Covers j (m.joined j left right) (a + b)
+      Fit j plan → Own j e → pass < m.passes_of j plan → CoversSome (Covers j) carry
+      → m.worked j plan carry pass e key ≡ Ok w → Covers j w.part 1
+  pub covers_joined : (j : S) (left right : P) (a b : ℕ) → Covers j left a → Covers j right b → a + b ≤ 65536
+      → Covers j (m.joined j left right) (a + b)
   -- what a run gives is the job's own, and so is what the job starts with; what it prepares is fit
   pub own_run : (j : S) (plan : L) (carry : P) (pass : ℕ) (e : E) (key : ℕ) (w : Worked E P) →
-      Fit j plan → Own j e → pass < m.passes_of j plan → CoversSome (Covers j) carry → m.worked j plan carry pass e key ≡ Ok w → Own j w.element
+      Fit j plan → Own j e → pass < m.passes_of j plan → CoversSome (Covers j) carry
+      → m.worked j plan carry pass e key ≡ Ok w → Own j w.element
   pub own_started : (j : S) (seed : ℕ) → All (Own j) (m.started j seed).elements
-  pub fit_prepared : (j : S) (globals : G) (es : List E) (windows : List (List ℤ)) (seed cycle : ℕ) (time next : Option ℕ) (p : Prepared L) →
-      All (Own j) es → length es ≤ 65536 → AreWindows (m.events j) windows → m.prepared j globals es windows seed cycle time next ≡ Ok p → Fit j p.plan
+  pub fit_prepared : (j : S) (globals : G) (es : List E) (windows : List (List ℤ)) (seed cycle : ℕ)
+      (time next : Option ℕ) (p : Prepared L) →
+      All (Own j) es → length es ≤ 65536 → AreWindows (m.events j) windows
+      → m.prepared j globals es windows seed cycle time next ≡ Ok p → Fit j p.plan
   -- the bytes of an element are few, and tell own elements apart
   pub shown_few : (j : S) (e : E) → Own j e → length (m.shown j e) ≤ 64
   pub shown_apart : (j : S) (a b : E) → Own j a → Own j b → m.shown j a ≡ m.shown j b → a ≡ b
   -- limits of outputs, elements, passes and words
-  pub output_few : (j : S) (globals : G) (plan : L) (part : P) (d : Concluded G) → m.concluded j globals plan part ≡ Ok d → length d.output ≤ 1048576
+  pub output_few : (j : S) (globals : G) (plan : L) (part : P) (d : Concluded G)
+      → m.concluded j globals plan part ≡ Ok d → length d.output ≤ 1048576
   pub few_started : (j : S) (seed : ℕ) → length (m.started j seed).elements ≤ 65536
   pub fit_passes : (j : S) (plan : L) → Fit j plan → (1 ≤ m.passes_of j plan) × (m.passes_of j plan ≤ 8)
-  pub drawn_few : (j : S) (plan : L) (carry : P) (pass : ℕ) (e : E) (key : ℕ) → m.drawn j plan carry pass e key ≤ 65535
+  pub drawn_few : (j : S) (plan : L) (carry : P) (pass : ℕ) (e : E) (key : ℕ)
+      → m.drawn j plan carry pass e key ≤ 65535

@@ -16,8 +16,8 @@ pub record Prepared (L : Type 0) : Type 0 where
   pub plan : L
   pub seed : ℕ
 
--- The functions of a job, where `Err` carries the code of a refusal. S is the job's type, G that of its globals,
--- E that of an element, L that of a plan and P that of a part.
+-- The functions of a job, where `Err` carries the code of a refusal. S is the job's type, G that of
+-- its globals, E that of an element, L that of a plan and P that of a part.
 pub record Meaning (S G E L P : Type 0) : Type 0 where
   -- of parameters and a number of events: the least index of a bad parameter
   pub bad_param : List ℤ → ℕ → Option ℕ
@@ -27,8 +27,8 @@ pub record Meaning (S G E L P : Type 0) : Type 0 where
   pub events : S → ℕ
   -- of the seed, the client standing in Init and at the beginning of its own words
   pub started : S → ℕ → Begun G E
-  -- of the globals, the elements, the window of each event, the seed, the number of the cycle, its time and the next
-  -- time, the client standing at the beginning of its own words
+  -- of the globals, the elements, the window of each event, the seed, the number of the cycle, its
+  -- time and the next time, the client standing at the beginning of its own words
   pub prepared : S → G → List E → List (List ℤ) → ℕ → ℕ → Option ℕ → Option ℕ → Result (Prepared L) ℕ
   -- the number of passes
   pub passes_of : S → L → ℕ

@@ -1,5 +1,5 @@
--- One pass over the elements of a container, taken one after another: what RunWorkerPool of the AUTOSAR Adaptive
--- Platform does over a container, whatever its workers do. No worker stands here.
+-- One pass over the elements of a container, taken one after another: what RunWorkerPool of the
+-- AUTOSAR Adaptive Platform does over a container, whatever its workers do. No worker stands here.
 use Rattle.std.specs.Prelude.{ℕ, ◌+◌, ◌*◌, List, [], ◌∷◌, ◌++◌, take, drop, Result, Ok, Err}
 use Rattle.element_random.specs.Words.{key}
 use Rattle.job_trait.specs.declared.answers.Worked.{Worked}
@@ -29,7 +29,8 @@ module _ {S G E L P : Type 0} (m : Meaning S G E L P) (j : S) (plan : L) (carry 
     part = m.joined j done.part w.part;
   }
 
-  -- the elements from number i on, one after another, added to what is done; the first refusal ends it
+  -- the elements from number i on, one after another, added to what is done; the first refusal ends
+  -- it
   abbrev pub taken : ℕ → List E → Passed E P → Result (Passed E P) Refusal
   taken i [] done = Ok done
   taken i (e ∷ es) done =

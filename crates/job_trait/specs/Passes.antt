@@ -31,7 +31,8 @@ RefusedBelow n OutOfMemory = Unit {0}
 module _ {S G E L P : Type 0} where
   -- what the whole pass gives
   abbrev pub pass_of : Meaning S G E L P → PassOf S G E L P → Result (Passed E P) Refusal
-  pass_of m t = passed m (arc_value t.job) (arc_value t.plan) (arc_value t.carry) t.seed t.cycle t.number (arc_value t.elements)
+  pass_of m t =
+      passed m (arc_value t.job) (arc_value t.plan) (arc_value t.carry) t.seed t.cycle t.number (arc_value t.elements)
 
   -- the number of its blocks
   abbrev pub blocks_in : PassOf S G E L P → ℕ
@@ -39,7 +40,8 @@ module _ {S G E L P : Type 0} where
 
   -- what its block b gives
   abbrev pub block_in : Meaning S G E L P → PassOf S G E L P → ℕ → Result (Passed E P) Refusal
-  block_in m t b = block m (arc_value t.job) (arc_value t.plan) (arc_value t.carry) t.seed t.cycle t.number b (arc_value t.elements)
+  block_in m t b =
+      block m (arc_value t.job) (arc_value t.plan) (arc_value t.carry) t.seed t.cycle t.number b (arc_value t.elements)
 
   -- the conditions of a pass
   pub record IsReady (m : Meaning S G E L P) (Covers : S → P → ℕ → Type 0) (Own : S → E → Type 0)

@@ -4,7 +4,8 @@ use det_values::{Bytes, Container, OutOfMemory};
 
 /// A parameter that a job refuses, by its index.
 ///
-/// A missing parameter has the index of the place where it should stand, a surplus one that of the first one too many.
+/// A missing parameter has the index of the place where it should stand, a surplus one that of the
+/// first one too many.
 #[derive(Clone, Copy, Debug, PartialEq, Eq, Drop)]
 pub struct BadParam {
     pub index: u8,

@@ -7,16 +7,18 @@ ghost use Rattle.det_client.specs.State.{next_time, OwnAt, SameButSeed};
 ghost use Rattle.event_cache.specs.Rings.{windows};
 
 use crate::{BadParam, Concluded, JobFault, Started, Worked};
-use det_values::{Container, OutOfMemory, Params};
 use det_client::{Activation, Client};
+use det_values::{Container, OutOfMemory, Params};
 use element_random::ElementRandom;
 use event_cache::EventCache;
 use std::alloc::Global;
 
-/// A cyclic application over a container of elements. A value of it is fixed by its parameters and the number of events.
+/// A cyclic application over a container of elements. A value of it is fixed by its parameters and
+/// the number of events.
 ///
-/// What its calls mean is `meaning`. `Own` says which elements are the job's own, `Fit` which plans are, and `Covers`
-/// from how many elements a part may come. `laws` are proved of these by every implementation.
+/// What its calls mean is `meaning`. `Own` says which elements are the job's own, `Fit` which plans
+/// are, and `Covers` from how many elements a part may come. `laws` are proved of these by every
+/// implementation.
 pub trait Job: Sized + Drop {
     ghost use Rattle.job_trait.specs.Meaning.{Meaning, Agrees, AgreesWithSeed, IfTold};
     ghost use Rattle.job_trait.specs.Laws.{JobLaws, CoversSome, CoverTogether, CoversBoth};
@@ -44,10 +46,12 @@ pub trait Job: Sized + Drop {
 
     /// The job of these parameters. It takes no memory.
     fn make(params: &Params, events: u16) -> Result<Self, BadParam>
-        ensures { MatchResult result (λ job. (meaning.bad_param params.now events ≡ None) × (job ≡ meaning.made params.now events)) (λ bad. meaning.bad_param params.now events ≡ Some bad.index) };
+        ensures { MatchResult result
+            (λ job. (meaning.bad_param params.now events ≡ None) × (job ≡ meaning.made params.now events))
+            (λ bad. meaning.bad_param params.now events ≡ Some bad.index) };
 
-    /// The elements and globals of a new run. The client stands in Init, which belongs to cycle 0; the job may draw
-    /// from it and set its seed.
+    /// The elements and globals of a new run. The client stands in Init, which belongs to cycle 0;
+    /// the job may draw from it and set its seed.
     fn start(
         &self,
         alloc: Global,
@@ -55,12 +59,14 @@ pub trait Job: Sized + Drop {
     ) -> Result<Started<Self::Globals, Self::Element>, OutOfMemory>
         requires init { client.old.last ≡ Some Activation.Init }
         requires beginning { StandsFor client.old.own (key client.old.seed 0 255 0) 0 }
-        ensures gives { IfOk result (λ begun. meaning.started self.now client.old.seed ≡ record { globals = begun.globals; elements = begun.elements; seed = client.new.seed }) }
+        ensures gives { IfOk result (λ begun. meaning.started self.now client.old.seed
+            ≡ record { globals = begun.globals; elements = begun.elements; seed = client.new.seed }) }
         ensures own { IfOk result (λ begun. All (Own self.now) begun.elements) }
         ensures few { IfOk result (λ begun. length begun.elements ≤ 65536) }
         ensures same { SameButSeed client.old client.new };
 
-    /// The sequential begin of a cycle. The client stands in that cycle; the job may draw from it and set its seed.
+    /// The sequential begin of a cycle. The client stands in that cycle; the job may draw from it
+    /// and set its seed.
     fn prepare(
         &self,
         alloc: Global,
@@ -73,7 +79,9 @@ pub trait Job: Sized + Drop {
         requires events { length (windows cache.now) ≡ meaning.events self.now }
         requires running { client.old.last ≡ Some Activation.Run }
         requires beginning { OwnAt client.old 0 }
-        ensures gives { AgreesWithSeed result client.new.seed (meaning.prepared self.now globals.now elements.now (windows cache.now) client.old.seed client.old.cycle client.old.time (next_time client.old.cycle_time client.old.time)) }
+        ensures gives { AgreesWithSeed result client.new.seed
+            (meaning.prepared self.now globals.now elements.now (windows cache.now) client.old.seed
+            client.old.cycle client.old.time (next_time client.old.cycle_time client.old.time)) }
         ensures fit { IfOk result (λ plan. Fit self.now plan) }
         ensures same { SameButSeed client.old client.new };
 
@@ -89,8 +97,8 @@ pub trait Job: Sized + Drop {
         ensures gives { result ≡ meaning.unit_part self.now }
         ensures covers { Covers self.now result 0 };
 
-    /// Runs one element in a pass. `carry` is the part of the pass before, or the unit in the first one. The words are
-    /// the element's own.
+    /// Runs one element in a pass. `carry` is the part of the pass before, or the unit in the first
+    /// one. The words are the element's own.
     fn run(
         &self,
         alloc: Global,
@@ -105,24 +113,23 @@ pub trait Job: Sized + Drop {
         requires pass { pass < meaning.passes_of self.now plan.now }
         requires own { Own self.now element.now }
         requires random { (key : ℕ) × StandsFor random.old key 0 }
-        ensures gives { (key : ℕ) → StandsFor random.old key 0 → Agrees result (meaning.worked self.now plan.now carry.now pass element.now key) }
-        ensures draws { (key : ℕ) → StandsFor random.old key 0 → IfTold result (random.new.draws ≡ meaning.drawn self.now plan.now carry.now pass element.now key) }
+        ensures gives { (key : ℕ) → StandsFor random.old key 0
+            → Agrees result (meaning.worked self.now plan.now carry.now pass element.now key) }
+        ensures draws { (key : ℕ) → StandsFor random.old key 0 → IfTold result
+            (random.new.draws ≡ meaning.drawn self.now plan.now carry.now pass element.now key) }
         ensures own { IfOk result (λ worked. Own self.now worked.element) }
         ensures covers { IfOk result (λ worked. Covers self.now worked.part 1) };
 
-    /// Joins two neighbouring parts, of which `left` comes from the elements before those of `right`.
+    /// Joins two neighbouring parts, of which `left` comes from the elements before those of
+    /// `right`.
     fn merge(&self, left: Self::Part, right: Self::Part) -> Result<Self::Part, OutOfMemory>
         requires { CoverTogether (Covers self.now) left right }
         ensures gives { IfOk result (λ part. part ≡ meaning.joined self.now left right) }
         ensures covers { IfOk result (CoversBoth (Covers self.now) left right) };
 
-    /// Appends an element's bytes in a record, at most 64, which tell the job's own elements apart. A refused call may
-    /// leave some of them.
-    fn put_element(
-        &self,
-        element: &Self::Element,
-        out: &mut Vec<u8>,
-    ) -> Result<(), OutOfMemory>
+    /// Appends an element's bytes in a record, at most 64, which tell the job's own elements apart.
+    /// A refused call may leave some of them.
+    fn put_element(&self, element: &Self::Element, out: &mut Vec<u8>) -> Result<(), OutOfMemory>
         requires { Own self.now element.now }
         ensures ok { OnOk result (out.new.items ≡ out.old.items ++ meaning.shown self.now element.now) }
         ensures short { OnOk result (length (meaning.shown self.now element.now) ≤ 64) }

@@ -20,7 +20,8 @@ pub struct PassOf<J: Job> {
     pub cycle: u32,
 }
 
-/// What a pass leaves: the new elements, the parts joined, and the number of words that each element drew.
+/// What a pass leaves: the new elements, the parts joined, and the number of words that each
+/// element drew.
 #[derive(Drop)]
 pub struct PassDone<E, P> {
     pub elements: Container<E>,

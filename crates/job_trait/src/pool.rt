@@ -9,8 +9,8 @@ pub trait Pool<J: Job> {
     ghost use Rattle.std.specs.Arc.{arc_value};
     ghost use Rattle.job_trait.specs.Passes.{IsReady, IsAnswer};
 
-    /// Runs one pass over all elements. The answer is that of the elements taken one after another, whatever the pool
-    /// does: of several elements that refuse, the least is told.
+    /// Runs one pass over all elements. The answer is that of the elements taken one after another,
+    /// whatever the pool does: of several elements that refuse, the least is told.
     fn run_pass(
         &mut self,
         alloc: Global,

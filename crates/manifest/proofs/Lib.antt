@@ -3,3 +3,4 @@ pub mod Steps
 pub mod NeedKeys
 pub mod Order
 pub mod Texts
+pub mod Unknowns

@@ -1,14 +1,16 @@
 -- A document as a value, and bytes that are no text.
-use Rattle.std.proofs.Common.{◌∙◌, Result, Ok, Err, IfOk, IfErr, ◌≡◌, ◌≤◌, Some, length, subst, le-leb, Bool, true, false, List, ℕ, String, BTreeMap, Global, IsUtf8, refl}
+use Rattle.std.proofs.Common.{◌∙◌, nat_le, None, Result, Ok, Err, IfOk, IfErr, ◌≡◌, ◌≤◌, Some, length, subst, le-leb, Bool, true, false}
+use Rattle.std.proofs.Common.{List, ℕ, String, BTreeMap, Global, IsUtf8, refl}
 use Rattle.std.specs.Str.{is_utf8}
 use Rattle.std.proofs.lemmas.Str.{IsUtf8-from_is_utf8, is_utf8-from_IsUtf8}
-use Rattle.manifest.specs.Judged.{Agrees}
-use Rattle.manifest.specs.Meaning.{manifest_of, manifest_in, document_of, IfFault}
+use Rattle.manifest.specs.Judged.{Agrees, IsParsed, IsDocument}
+use Rattle.manifest.specs.Meaning.{read_by, document_of, IfFault}
 use Rattle.manifest.specs.Values.{ManifestValue}
 use Rattle.manifest.specs.declared.fault.ManifestError.{ManifestError}
 use Rattle.manifest.specs.declared.fault.ManifestError.TheVariants.{Fault, OutOfMemory}
 use Rattle.manifest.specs.declared.fault.ManifestFault.{ManifestFault}
-use Rattle.toml.specs.Data.{table}
+use Rattle.manifest.specs.declared.fault.ManifestFault.TheVariants.{TooLong, NotToml}
+use Rattle.toml.specs.Data.{Data, table}
 use Rattle.toml.specs.View.{view, table_view}
 use Rattle.toml.specs.declared.value.Value.{Value, Table as TableValue}
 use Rattle.toml.proofs.Views.{view-Table}
@@ -38,10 +40,29 @@ agreed_fault (Ok m) said meant same agreed = tt
 agreed_fault (Err (Fault f)) said meant same agreed = same ∙ agreed
 agreed_fault (Err OutOfMemory) said meant same agreed = tt
 
--- what a text says is what its tree says
-pub told : (bytes text : List ℕ) (tree : Value)
-    → length bytes ≤ 65536 → IsUtf8 bytes → text ≡ bytes → document_of text ≡ Some (view tree)
-    → manifest_of bytes ≡ manifest_in (view tree)
-told bytes text tree few utf8 same parsed =
-    let read : document_of bytes ≡ Some (view tree) = subst (λ b. document_of b ≡ Some (view tree)) same parsed in
+-- what a text says is what its tree says, or that it has none
+pub told : (r : Result Value ManifestError) (bytes text : List ℕ)
+    → length bytes ≤ 65536 → IsUtf8 bytes → text ≡ bytes → IsParsed r (document_of text)
+    → IsDocument r bytes
+told (Ok v) bytes text few utf8 same parsed = λ meaning.
+    let read : document_of bytes ≡ Some (view v) = subst (λ b. document_of b ≡ Some (view v)) same parsed in
     rw (le-leb (length bytes) 65536 few, is_text bytes utf8, read)
+told (Err (Fault f)) bytes text few utf8 same parsed = λ meaning.
+    let read : document_of bytes ≡ None = subst (λ b. document_of b ≡ None) same parsed.1 in
+    rw (le-leb (length bytes) 65536 few, is_text bytes utf8, read, parsed.0)
+told (Err OutOfMemory) bytes text few utf8 same parsed = tt
+
+-- bytes that are too many, or no text
+pub too_long : (bytes : List ℕ) → nat_le (length bytes) 65536 ≡ false
+    → (meaning : Data → Result ManifestValue ManifestFault) → read_by meaning bytes ≡ Err TooLong
+too_long bytes long meaning = rw long
+
+pub not_text : (bytes : List ℕ) → length bytes ≤ 65536 → is_utf8 bytes ≡ false
+    → (meaning : Data → Result ManifestValue ManifestFault) → read_by meaning bytes ≡ Err NotToml
+not_text bytes few none meaning = rw (le-leb (length bytes) 65536 few, none)
+
+-- an answer of which nothing was read
+pub unread_fault : (e : ManifestError) (bytes : List ℕ) (meaning : Data → Result ManifestValue ManifestFault)
+    → IsDocument (Err e) bytes → IfFault e (λ f. read_by meaning bytes ≡ Err f)
+unread_fault (Fault f) bytes meaning unread = unread meaning
+unread_fault OutOfMemory bytes meaning unread = tt

@@ -1,9 +1,11 @@
 -- What the readers of single keys, of groups of keys and of the whole answer.
-use Rattle.std.specs.Prelude.{◌≡◌, Option, Some, None, Result, Ok, Err, option_map}
+use Rattle.std.specs.Prelude.{◌≡◌, Option, Some, None, Result, Ok, Err, option_map, List, ℕ}
 use Rattle.std.specs.Borrow.{Bor}
 use Rattle.toml.specs.Data.{Data}
 use Rattle.toml.specs.View.{view}
 use Rattle.toml.specs.declared.value.Value.{Value}
+use Rattle.manifest.specs.Values.{ManifestValue}
+use Rattle.manifest.specs.Meaning.{read_by}
 use Rattle.manifest.specs.declared.key.Key.{Key}
 use Rattle.manifest.specs.declared.key.Key.TheVariants.{InitNeeds, InitNeed, RunNeeds, RunNeed}
 use Rattle.manifest.specs.declared.key.NeedKey.{NeedKey}
@@ -42,6 +44,14 @@ abbrev pub Agrees : {T : Type 0} → Result T ManifestError → Result T Manifes
 Agrees (Ok x) meant = meant ≡ Ok x
 Agrees (Err (Fault fault)) meant = meant ≡ Err fault
 Agrees (Err OutOfMemory) meant = Unit {0}
+
+-- a tree is what a text is read as, whatever trees mean
+abbrev pub IsDocument : Result Value ManifestError → List ℕ → Type 0
+IsDocument (Ok v) bytes =
+    (meaning : Data → Result ManifestValue ManifestFault) → read_by meaning bytes ≡ meaning (view v)
+IsDocument (Err (Fault fault)) bytes =
+    (meaning : Data → Result ManifestValue ManifestFault) → read_by meaning bytes ≡ Err fault
+IsDocument (Err OutOfMemory) bytes = Unit {0}
 
 -- a text is read as its document, where memory may be wanting
 abbrev pub IsParsed : Result Value ManifestError → Option Data → Type 0

@@ -6,4 +6,5 @@ pub mod Limits
 pub mod Meaning
 pub mod Profiles
 pub mod Tree
+pub mod Unknown
 pub mod Values

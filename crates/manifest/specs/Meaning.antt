@@ -1,5 +1,7 @@
 -- The manifest that a text is.
-use Rattle.std.specs.Prelude.{ℕ, zero, suc, ◌+◌, ℤ, nat_le, List, [], ◌∷◌, length, Option, Some, None, Result, Ok, Err, if◌then◌else◌, option_map, codes, bytes_eq}
+use Rattle.std.specs.Prelude.{ℕ, zero, suc, ◌+◌, ℤ, nat_le, Bool, true, List, [], ◌∷◌, length}
+use Rattle.std.specs.Prelude.{Option, Some, None, Result, Ok, Err, if◌then◌else◌, option_map, codes}
+use Rattle.std.specs.Prelude.{bytes_eq}
 use Rattle.std.specs.Str.{is_utf8}
 use Rattle.det_values.specs.Jobs.{kind_of_name}
 use Rattle.det_values.specs.Values.{EventSpecValue}
@@ -11,13 +13,19 @@ use Rattle.toml.specs.Parse.{parse_document}
 use Rattle.manifest.specs.Tree.{count_of, whole_of, number_of, text_of}
 use Rattle.manifest.specs.Keys.{found, keys}
 use Rattle.manifest.specs.Faults.{first_fault, first_duplicate}
+use Rattle.manifest.specs.Unknown.{first_unknown}
 use Rattle.manifest.specs.Values.{ManifestValue}
 use Rattle.manifest.specs.declared.key.NeedKey.{NeedKey}
-use Rattle.manifest.specs.declared.key.NeedKey.TheVariants.{Instructions, SequentialBegin, SequentialEnd, Speedup}
+use Rattle.manifest.specs.declared.key.NeedKey.TheVariants.{Instructions, SequentialBegin}
+use Rattle.manifest.specs.declared.key.NeedKey.TheVariants.{SequentialEnd, Speedup}
 use Rattle.manifest.specs.declared.key.Key.{Key}
-use Rattle.manifest.specs.declared.key.Key.TheVariants.{Job, CycleTime, Workers, Params, Param, Event, EventName, EventCapacity, EventPolicy, Platform, InitNeeds, InitNeed, RunNeeds, RunNeed}
+use Rattle.manifest.specs.declared.key.Key.TheVariants.{Job, CycleTime, Workers, Params, Param}
+use Rattle.manifest.specs.declared.key.Key.TheVariants.{Event, EventName, EventCapacity}
+use Rattle.manifest.specs.declared.key.Key.TheVariants.{EventPolicy, Platform, InitNeeds, InitNeed}
+use Rattle.manifest.specs.declared.key.Key.TheVariants.{RunNeeds, RunNeed}
 use Rattle.manifest.specs.declared.fault.ManifestFault.{ManifestFault}
-use Rattle.manifest.specs.declared.fault.ManifestFault.TheVariants.{TooLong, NotToml, DuplicateEvent, UnknownJob}
+use Rattle.manifest.specs.declared.fault.ManifestFault.TheVariants.{TooLong, NotToml, UnknownKey}
+use Rattle.manifest.specs.declared.fault.ManifestFault.TheVariants.{DuplicateEvent, UnknownJob}
 use Rattle.manifest.specs.declared.fault.ManifestError.{ManifestError}
 use Rattle.manifest.specs.declared.fault.ManifestError.TheVariants.{Fault, OutOfMemory}
 use Rattle.manifest.specs.declared.needs.Needs.{Needs}
@@ -76,7 +84,8 @@ said tree kind = record {
 }
 
 -- a fault where there is one, else the answer
-abbrev pub or_fault : {A : Type 0} → Option ManifestFault → Result A ManifestFault → Result A ManifestFault
+abbrev pub or_fault : {A : Type 0} → Option ManifestFault → Result A ManifestFault →
+    Result A ManifestFault
 or_fault (Some fault) answer = Err fault
 or_fault None answer = answer
 
@@ -84,27 +93,54 @@ abbrev pub with_job : Data → Option JobKind → Result ManifestValue ManifestF
 with_job tree None = Err UnknownJob
 with_job tree (Some kind) = Ok (said tree kind)
 
--- first the keys, then the names of the events, then the name of the job
+-- first the names of the events, then the name of the job
+abbrev pub by_names : Data → Result ManifestValue ManifestFault
+by_names tree =
+    or_fault (option_map DuplicateEvent (first_duplicate (events_of tree)))
+    (with_job tree (kind_of_name (text_of (found tree Job))))
+
+-- first the keys, then the names
 abbrev pub manifest_in : Data → Result ManifestValue ManifestFault
-manifest_in tree =
-    or_fault (first_fault tree (keys tree))
-    (or_fault (option_map DuplicateEvent (first_duplicate (events_of tree)))
-    (with_job tree (kind_of_name (text_of (found tree Job)))))
+manifest_in tree = or_fault (first_fault tree (keys tree)) (by_names tree)
+
+-- the first key that no table knows, where such keys are a fault
+abbrev pub unknown_fault : Bool → Data → Option ManifestFault
+unknown_fault strict tree =
+    if strict then option_map UnknownKey
+    (first_unknown tree (count_of (found tree Event))) else None
+
+-- first the keys of the tables, then a key that no table knows, then the names
+abbrev pub strict_manifest_in : Data → Result ManifestValue ManifestFault
+strict_manifest_in tree =
+    or_fault (first_fault tree (keys tree)) (or_fault (unknown_fault true tree) (by_names tree))
+
+abbrev pub in_document_by : (Data → Result ManifestValue ManifestFault) → Option Data
+    → Result ManifestValue ManifestFault
+in_document_by meaning None = Err NotToml
+in_document_by meaning (Some tree) = meaning tree
 
 abbrev pub in_document : Option Data → Result ManifestValue ManifestFault
-in_document None = Err NotToml
-in_document (Some tree) = manifest_in tree
+in_document document = in_document_by manifest_in document
 
 -- the tree of a document, none where the text is no TOML
 abbrev pub document_of : List ℕ → Option Data
 document_of text = option_map table (parse_document text)
 
+-- what a text is by what its tree is
+abbrev pub read_by : (Data → Result ManifestValue ManifestFault) → List ℕ
+    → Result ManifestValue ManifestFault
+read_by meaning bytes =
+    if nat_le (length bytes) 65536
+    then (if is_utf8 bytes then in_document_by meaning (document_of bytes) else Err NotToml)
+    else Err TooLong
+
 -- the manifest that a text is, or its first fault
 abbrev pub manifest_of : List ℕ → Result ManifestValue ManifestFault
-manifest_of bytes =
-    if nat_le (length bytes) 65536
-    then (if is_utf8 bytes then in_document (document_of bytes) else Err NotToml)
-    else Err TooLong
+manifest_of bytes = read_by manifest_in bytes
+
+-- the same where a key that no table knows is a fault
+abbrev pub strict_manifest_of : List ℕ → Result ManifestValue ManifestFault
+strict_manifest_of bytes = read_by strict_manifest_in bytes
 
 -- a fact of the fault that an error tells; nothing where memory was wanting
 abbrev pub IfFault : ManifestError → (ManifestFault → Type 0) → Type 0

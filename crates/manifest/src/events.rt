@@ -3,8 +3,9 @@ ghost use Rattle.std.specs.Prelude.{◌≡◌, ◌≤◌, length, IfOk, bytes_eq
 ghost use Rattle.std.specs.List.{list_any, All};
 ghost use Rattle.toml.specs.View.{view};
 ghost use Rattle.manifest.specs.Limits.{IsEvent};
-ghost use Rattle.manifest.specs.Keys.{events_keys, event_keys};
+ghost use Rattle.manifest.specs.Keys.{events_keys, event_keys, found};
 ghost use Rattle.manifest.specs.Faults.{first_fault, first_duplicate};
+ghost use Rattle.manifest.specs.Tree.{count_of};
 ghost use Rattle.manifest.specs.Judged.{IsJudged, IsRead};
 ghost use Rattle.manifest.specs.Meaning.{events_of, event_at};
 
@@ -37,6 +38,8 @@ pub(crate) fn read_events(alloc: Global, tree: &Value) -> Result<Events, Manifes
     ensures read { IsRead result (first_fault (view tree.now) (events_keys (view tree.now)))
         (events_of (view tree.now)) }
     ensures range { IfOk result (All IsEvent) }
+    ensures count { IfOk result (λ events.
+        length events ≡ count_of (found (view tree.now) Key.Event)) }
 {
     let count = count(tree.get("event"), Key::Event, 256)?;
     let mut events = Events::new(alloc);

@@ -1,10 +1,11 @@
 //! What can be wrong with a manifest.
-use crate::Key;
+use crate::{Key, UnknownKey};
 use det_values::OutOfMemory;
 use thiserror::Error;
 
-/// The first thing that is wrong with a manifest. Keys are judged in a fixed order, each for being there, for its kind
-/// and for its range; after all keys the names of the events, and last the name of the job.
+/// The first thing that is wrong with a manifest. Keys are judged in a fixed order, each for being
+/// there, for its kind and for its range; after all keys those that no table knows, then the names
+/// of the events, and last the name of the job.
 #[derive(Clone, Copy, Debug, PartialEq, Eq, Drop, Error)]
 pub enum ManifestFault {
     /// It has more than 65,536 bytes.
@@ -22,6 +23,9 @@ pub enum ManifestFault {
     /// A value of its key's kind, but out of the range.
     #[error("out of range {0}")]
     OutOfRange(Key),
+    /// A key that its table doesn't know, where such keys are a fault.
+    #[error("unknown key")]
+    UnknownKey(UnknownKey),
     /// The least number, from 0, of an event whose name an earlier event has.
     #[error("duplicate event {0}")]
     DuplicateEvent(u16),

@@ -1,4 +1,5 @@
-//! Reads a manifest: the TOML text that says from what a client is made, and which resources it needs.
+//! Reads a manifest: the TOML text that says from what a client is made, and which resources it
+//! needs.
 #![tactic(auto)]
 
 mod events;
@@ -13,7 +14,10 @@ mod platform_name;
 mod read;
 mod stage;
 #[cfg(test)]
+mod strict_tests;
+#[cfg(test)]
 mod tests;
+mod unknown;
 
 pub use fault::{ManifestError, ManifestFault};
 pub use key::{Key, NeedKey};
@@ -21,4 +25,5 @@ pub use key_text::KeyText;
 pub use manifest::Manifest;
 pub use needs::Needs;
 pub use platform_name::PlatformName;
-pub use read::read_manifest;
+pub use read::{read_manifest, read_strict_manifest};
+pub use unknown::{KeyTable, UnknownKey};

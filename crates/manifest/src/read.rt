@@ -1,14 +1,18 @@
 //! Reads a manifest from its text.
-ghost use Rattle.std.specs.Prelude.{◌≡◌, ◌||◌, Ok, Err, IfOk, IfErr};
+ghost use Rattle.std.specs.Prelude.{◌≡◌, ◌||◌, Ok, Err, Some, None, IfOk, IfErr, ◌≤◌};
 ghost use Rattle.toml.specs.View.{view};
-ghost use Rattle.manifest.specs.Keys.{has};
-ghost use Rattle.manifest.specs.Judged.{IsParsed, Agrees};
-ghost use Rattle.manifest.specs.Meaning.{manifest_in, manifest_of, document_of, IfFault};
+ghost use Rattle.manifest.specs.Keys.{has, found, keys};
+ghost use Rattle.manifest.specs.Judged.{IsParsed, IsDocument, Agrees};
+ghost use Rattle.manifest.specs.Tree.{count_of};
+ghost use Rattle.manifest.specs.Faults.{first_fault};
+ghost use Rattle.manifest.specs.Meaning.{manifest_of, strict_manifest_of, document_of, IfFault};
+ghost use Rattle.manifest.specs.Meaning.{or_fault, unknown_fault, by_names};
 
 use crate::events::{duplicate_event, read_events};
 use crate::judge::{needed_text, number, platform_name};
 use crate::params::read_params;
 use crate::stage::Stage;
+use crate::unknown::first_unknown;
 use crate::{Key, Manifest, ManifestError, ManifestFault};
 use det_values::JobKind;
 use std::alloc::Global;
@@ -21,9 +25,26 @@ fn has_needs(tree: &Value) -> bool
     tree.get("init_needs").is_some() || tree.get("run_needs").is_some()
 }
 
+/// Refuses a key that no table knows, where such keys are a fault.
+fn refuse_unknown(tree: &Value, count: usize, strict: bool) -> Result<(), ManifestFault>
+    requires count { count ≡ count_of (found (view tree.now) Key.Event) }
+    requires few { count ≤ 256 }
+    ensures fault { IfErr result (λ f. unknown_fault strict (view tree.now) ≡ Some f) }
+    ensures fits { IfOk result (λ _. unknown_fault strict (view tree.now) ≡ None) }
+{
+    if !strict {
+        return Ok(());
+    }
+    match first_unknown(tree, count as u16) {
+        Some(key) => Err(ManifestFault::UnknownKey(key)),
+        None => Ok(()),
+    }
+}
+
 #[tactic(auto, using(crate::proofs::Order::first_of_keys))]
-fn read_tree(alloc: Global, tree: &Value) -> Result<Manifest, ManifestError>
-    ensures { Agrees result (manifest_in (view tree.now)) }
+fn read_tree(alloc: Global, tree: &Value, strict: bool) -> Result<Manifest, ManifestError>
+    ensures { Agrees result (or_fault (first_fault (view tree.now) (keys (view tree.now)))
+        (or_fault (unknown_fault strict (view tree.now)) (by_names (view tree.now)))) }
 {
     let job = needed_text(tree.get("job"), Key::Job)?;
     let time = tree.get("cycle_time_ns");
@@ -34,6 +55,7 @@ fn read_tree(alloc: Global, tree: &Value) -> Result<Manifest, ManifestError>
     let platform = platform_name(tree.get("platform"), Key::Platform, has_needs(tree))?;
     let init_needs = Stage::Init.read_needs(tree)?;
     let run_needs = Stage::Run.read_needs(tree)?;
+    refuse_unknown(tree, events.len(), strict)?;
     if let Some(number) = duplicate_event(events.as_slice()) {
         return Err(ManifestError::Fault(ManifestFault::DuplicateEvent(number)));
     }
@@ -63,11 +85,9 @@ fn parse(alloc: Global, text: &str) -> Result<Value, ManifestError>
     }
 }
 
-/// The manifest that a text of at most 65,536 bytes is, or its first fault. Keys that aren't known are ignored.
 #[tactic(auto, using(crate::proofs::Texts::is_text, crate::proofs::Texts::no_text))]
-pub fn read_manifest(alloc: Global, bytes: &[u8]) -> Result<Manifest, ManifestError>
-    ensures manifest { IfOk result (λ m. manifest_of bytes.now ≡ Ok m) }
-    ensures fault { IfErr result (λ e. IfFault e (λ f. manifest_of bytes.now ≡ Err f)) }
+fn document(alloc: Global, bytes: &[u8]) -> Result<Value, ManifestError>
+    ensures { IsDocument result bytes.now }
 {
     if bytes.len() > 65536 {
         return Err(ManifestError::Fault(ManifestFault::TooLong));
@@ -76,6 +96,24 @@ pub fn read_manifest(alloc: Global, bytes: &[u8]) -> Result<Manifest, ManifestEr
         Ok(text) => text,
         Err(_) => return Err(ManifestError::Fault(ManifestFault::NotToml)),
     };
-    let tree = parse(alloc, text)?;
-    read_tree(alloc, &tree)
+    parse(alloc, text)
+}
+
+/// The manifest that a text of at most 65,536 bytes is, or its first fault. Keys that aren't known
+/// are ignored.
+pub fn read_manifest(alloc: Global, bytes: &[u8]) -> Result<Manifest, ManifestError>
+    ensures manifest { IfOk result (λ m. manifest_of bytes.now ≡ Ok m) }
+    ensures fault { IfErr result (λ e. IfFault e (λ f. manifest_of bytes.now ≡ Err f)) }
+{
+    let tree = document(alloc, bytes)?;
+    read_tree(alloc, &tree, false)
+}
+
+/// The same, where a key that no table knows is a fault.
+pub fn read_strict_manifest(alloc: Global, bytes: &[u8]) -> Result<Manifest, ManifestError>
+    ensures manifest { IfOk result (λ m. strict_manifest_of bytes.now ≡ Ok m) }
+    ensures fault { IfErr result (λ e. IfFault e (λ f. strict_manifest_of bytes.now ≡ Err f)) }
+{
+    let tree = document(alloc, bytes)?;
+    read_tree(alloc, &tree, true)
 }

@@ -17,7 +17,7 @@ event = [{ name = 'x', capacity = 1 }, { name = 'x', capacity = 1 }, { name = 'x
 platform = ''
 ";
 
-const GUARD: &str = "job = 'guard'
+pub(crate) const GUARD: &str = "job = 'guard'
 cycle_time_ns = 20000000
 workers = 4
 params = [12, -1000]
@@ -27,7 +27,7 @@ init_needs = { instructions = 11, sequential_begin = 12, sequential_end = 13, sp
 run_needs = { instructions = 21, sequential_begin = 22, sequential_end = 23, speedup_thousandths = 24 }
 ";
 
-const USER: &str = "owner = 'brakes'
+pub(crate) const USER: &str = "owner = 'brakes'
 asil = 'D'
 job = 'guard'
 cycle_time_ns = 20_000_000
@@ -223,7 +223,12 @@ fn told(alloc: Global, bytes: &[u8]) -> Result<String, AllocError> {
     }
 }
 
-fn changed(alloc: Global, text: &str, old: &str, new: &str) -> Result<String, AllocError> {
+pub(crate) fn changed(
+    alloc: Global,
+    text: &str,
+    old: &str,
+    new: &str,
+) -> Result<String, AllocError> {
     match text.split_once(old) {
         Some((before, after)) => format!(in alloc; "{before}{new}{after}"),
         None => String::from_str(alloc, "nothing to change"),

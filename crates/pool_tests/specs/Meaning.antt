@@ -12,7 +12,8 @@ abbrev pub byte_after : ℕ → ℕ → ℕ
 byte_after byte key = if byte % 2 == 0 then byte else word key 0 % 256
 
 abbrev pub worked : ListJob → ℕ → ℕ → Result (Worked ℕ (List ℕ)) ℕ
-worked j e key = cond (ltb e j.limit) (Ok (record { element = byte_after e key; part = e ∷ [] })) (Err e)
+worked j e key = cond (ltb e j.limit) (Ok (record { element = byte_after e key; part = e ∷ [] }))
+    (Err e)
 
 abbrev pub drawn : ListJob → ℕ → ℕ
 drawn j e = cond (ltb e j.limit) (e % 2) 0
@@ -20,10 +21,11 @@ drawn j e = cond (ltb e j.limit) (e % 2) 0
 abbrev pub meaning : Meaning ListJob NoGlobals ℕ NoPlan (List ℕ)
 meaning = record {
   bad_param = λ params events. None;
-  made = λ params events. record { limit = 256; calls = None; events = events };
+  made = λ params events. record { limit = 256; watch = None; events = events };
   events = λ j. j.events;
   started = λ j seed. record { globals = record {}; elements = []; seed = seed };
-  prepared = λ j globals es windows seed cycle time next. Ok (record { plan = record {}; seed = seed });
+  prepared = λ j globals es windows seed cycle time next. Ok
+      (record { plan = record {}; seed = seed });
   passes_of = λ j plan. 1;
   unit_part = λ j. [];
   worked = λ j plan carry pass e key. worked j e key;

@@ -4,20 +4,23 @@ ghost use Rattle.std.specs.Prelude.{◌≡◌, ℕ, ◌%◌};
 ghost use Rattle.element_random.specs.Words.{StandsFor};
 ghost use Rattle.pool_tests.specs.Meaning.{byte_after};
 
-use det_values::{Bytes, Bytes64, Container, OutOfMemory, Params};
+use crate::watch::Watch;
 use det_client::Client;
+use det_values::put::put_slice;
+use det_values::{Bytes, Container, Limited, OutOfMemory, Params};
 use element_random::ElementRandom;
 use event_cache::EventCache;
 use job_trait::{BadParam, Concluded, Job, JobFault, Started, Worked};
 use std::alloc::Global;
-use std::sync::atomic::{AtomicU64, Ordering};
+use std::sync::Arc;
 
-/// Elements from `limit` on refuse, with their value as the code. Of the others an odd one becomes a random byte, for
-/// which it draws one word, and an even one stays. `calls` counts the elements run, where it is there.
+/// Elements from `limit` on refuse, with their value as the code. Of the others an odd one becomes
+/// a random byte, for which it draws one word, and an even one stays. `watch` sees each element
+/// that is run, where it is there.
 #[derive(Drop)]
-pub struct ListJob<'a> {
+pub struct ListJob {
     pub limit: u32,
-    pub calls: Option<&'a AtomicU64>,
+    pub watch: Option<Arc<Watch, Global>>,
     pub events: u16,
 }
 
@@ -30,7 +33,7 @@ pub struct NoGlobals;
 pub struct NoPlan;
 
 /// The elements that a pass met, in order.
-pub type Met = Container<u8>;
+pub type Met = Limited<u8, 65536>;
 
 /// An even byte again, or a random one.
 fn byte_after(byte: u8, random: &mut ElementRandom) -> u8
@@ -44,7 +47,7 @@ fn byte_after(byte: u8, random: &mut ElementRandom) -> u8
     }
 }
 
-impl<'a> Job for ListJob<'a> {
+impl Job for ListJob {
     ghost use Rattle.pool_tests.specs.Meaning.{meaning, Covers, Own, Fit};
     ghost use Rattle.pool_tests.specs.Laws.{list_laws};
 
@@ -66,10 +69,10 @@ impl<'a> Job for ListJob<'a> {
 
     ghost laws = { list_laws };
 
-    fn make(_params: &Params, events: u16) -> Result<ListJob<'a>, BadParam> {
+    fn make(_params: &Params, events: u16) -> Result<ListJob, BadParam> {
         Ok(ListJob {
             limit: 256,
-            calls: None,
+            watch: None,
             events,
         })
     }
@@ -89,7 +92,7 @@ impl<'a> Job for ListJob<'a> {
         &self,
         _alloc: Global,
         _globals: &NoGlobals,
-        _elements: &[u8],
+        _elements: &Container<u8>,
         _cache: &EventCache,
         _client: &mut Client,
     ) -> Result<NoPlan, JobFault> {
@@ -113,10 +116,10 @@ impl<'a> Job for ListJob<'a> {
         element: &u8,
         random: &mut ElementRandom,
     ) -> Result<Worked<u8, Met>, JobFault> {
-        if let Some(calls) = self.calls {
-            calls.fetch_add(1, Ordering::SeqCst);
-        }
         let byte = *element;
+        if let Some(watch) = &self.watch {
+            watch.see(byte);
+        }
         if u32::from(byte) >= self.limit {
             return Err(JobFault::Code(u32::from(byte)));
         }
@@ -133,8 +136,8 @@ impl<'a> Job for ListJob<'a> {
         Ok(left)
     }
 
-    fn element_bytes(&self, element: &u8) -> Bytes64 {
-        Bytes64::of(&[*element])
+    fn put_element(&self, element: &u8, out: &mut Vec<u8>) -> Result<(), OutOfMemory> {
+        Ok(put_slice(out, &[*element])?)
     }
 
     fn conclude(

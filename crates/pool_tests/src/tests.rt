@@ -1,26 +1,40 @@
-use crate::{HoldGate, ListJob, first_pass, in_order, in_pool};
+use crate::{
+    FirstHeldGate, HELD, ListJob, RunsGate, ShutGate, Watch, again, first_pass, has_items,
+    in_order, in_pool, is_same, list_pass, shared, twice,
+};
+use det_values::{OutOfMemory, Sample};
+use job_trait::PoolFault;
 use shipped_jobs::{Bank, Guard};
-use det_values::Sample;
-use std::sync::atomic::{AtomicBool, AtomicU64, Ordering};
+use std::alloc::Global;
+use std::sync::Arc;
+use std::sync::atomic::{AtomicBool, Ordering};
 use std::test::Fail;
-use worker_pool::{MeetGate, NoGate, PoolFault};
+use worker_pool::{MeetGate, NoGate};
 
 /// The numbers of workers that are tried.
 fn is_tried(workers: u32) -> bool {
     matches!(workers, 1 | 2 | 3 | 8 | 64)
 }
 
-fn list_job<'a>(limit: u32) -> ListJob<'a> {
-    ListJob {
-        limit,
-        calls: None,
-        events: 0,
-    }
+/// A list job in which elements from `limit` on refuse.
+fn list_job(
+    alloc: Global,
+    limit: u32,
+    watch: Option<Arc<Watch, Global>>,
+) -> Result<Arc<ListJob, Global>, OutOfMemory> {
+    shared(
+        alloc,
+        ListJob {
+            limit,
+            watch,
+            events: 0,
+        },
+    )
 }
 
 #[test]
 fn workers_meet(rt: HostRuntime) -> Result<(), Fail> {
-    let gate = MeetGate::new();
+    let gate = Arc::new(rt.alloc(), MeetGate::new())?;
     let done = first_pass::<Bank, _, _>(&rt, rt.alloc(), &[128, 2], None, 2, &gate);
     assert!(rt; done == Ok(128));
     assert!(rt; gate.met());
@@ -34,13 +48,14 @@ fn all_refuse(rt: HostRuntime) -> Result<(), Fail> {
         code: 1,
     };
     let params = [1000, 0, 10, 1, 1000];
+    let gate = Arc::new(rt.alloc(), NoGate)?;
     for workers in 1..65u32 {
         if is_tried(workers) {
             let above = Some(Sample {
                 event: 0,
                 value: 11,
             });
-            let done = first_pass::<Guard, _, _>(&rt, rt.alloc(), &params, above, workers, &NoGate);
+            let done = first_pass::<Guard, _, _>(&rt, rt.alloc(), &params, above, workers, &gate);
             assert!(rt; done == Err(refused), "with {workers} workers");
         }
     }
@@ -50,7 +65,10 @@ fn all_refuse(rt: HostRuntime) -> Result<(), Fail> {
 /// The pool gives what the pass in order gives, whose part is the list of the elements.
 #[test]
 fn every_number_of_workers_answers_alike(rt: HostRuntime) -> Result<(), Fail> {
-    let job = list_job(256);
+    let Ok(job) = list_job(rt.alloc(), 256, None) else {
+        panic!(rt; "out of memory")
+    };
+    let gate = Arc::new(rt.alloc(), NoGate)?;
     for many in [0, 1, 63, 64, 65, 1000, 65536] {
         let mut bytes = Vec::from_elem(rt.alloc(), 0u8, many)?;
         for (i, byte) in bytes.iter_mut().enumerate() {
@@ -63,12 +81,8 @@ fn every_number_of_workers_answers_alike(rt: HostRuntime) -> Result<(), Fail> {
         assert!(rt; alone.part.as_slice() == elements);
         for workers in 1..65u32 {
             if is_tried(workers) {
-                let Ok(done) = in_pool(&rt, rt.alloc(), &job, elements, workers, &NoGate) else {
-                    panic!(rt; "refused with {workers} workers")
-                };
-                assert!(rt; done.part == alone.part);
-                assert!(rt; done.elements == alone.elements);
-                assert!(rt; done.draws == alone.draws);
+                let done = in_pool(&rt, rt.alloc(), &job, elements, workers, &gate);
+                assert!(rt; is_same(&done, &alone), "{many} with {workers} workers");
             }
         }
     }
@@ -78,19 +92,26 @@ fn every_number_of_workers_answers_alike(rt: HostRuntime) -> Result<(), Fail> {
 /// Each odd byte draws one word of its own, by its place.
 #[test]
 fn words_belong_to_the_elements(rt: HostRuntime) -> Result<(), Fail> {
+    let Ok(job) = list_job(rt.alloc(), 256, None) else {
+        panic!(rt; "out of memory")
+    };
+    let gate = Arc::new(rt.alloc(), NoGate)?;
     let bytes = [2, 3, 5, 7, 4, 9, 251, 0];
-    let Ok(done) = in_pool(&rt, rt.alloc(), &list_job(256), &bytes, 3, &NoGate) else {
+    let Ok(done) = in_pool(&rt, rt.alloc(), &job, &bytes, 3, &gate) else {
         panic!(rt; "refused")
     };
-    assert!(rt; done.elements.as_slice() == [2, 33, 103, 70, 4, 193, 246, 0].as_slice());
-    assert!(rt; done.draws.as_slice() == [0, 1, 1, 1, 0, 1, 1, 0].as_slice());
+    assert!(rt; has_items(&done.elements, &[2, 33, 103, 70, 4, 193, 246, 0]));
+    assert!(rt; has_items(&done.draws, &[0, 1, 1, 1, 0, 1, 1, 0]));
     Ok(())
 }
 
 /// The elements from 200 on refuse, and the least of them is answered.
 #[test]
 fn the_least_element_that_refuses_is_answered(rt: HostRuntime) -> Result<(), Fail> {
-    let job = list_job(200);
+    let Ok(job) = list_job(rt.alloc(), 200, None) else {
+        panic!(rt; "out of memory")
+    };
+    let gate = Arc::new(rt.alloc(), NoGate)?;
     for (first, second, element) in [
         (0, 999, 0),
         (500, 999, 500),
@@ -107,7 +128,7 @@ fn the_least_element_that_refuses_is_answered(rt: HostRuntime) -> Result<(), Fai
         assert!(rt; in_order(rt.alloc(), &job, &bytes).err() == refused);
         for workers in 1..65u32 {
             if is_tried(workers) {
-                let done = in_pool(&rt, rt.alloc(), &job, &bytes, workers, &NoGate);
+                let done = in_pool(&rt, rt.alloc(), &job, &bytes, workers, &gate);
                 assert!(rt; done.err() == refused, "with {workers} workers");
             }
         }
@@ -115,27 +136,87 @@ fn the_least_element_that_refuses_is_answered(rt: HostRuntime) -> Result<(), Fai
     Ok(())
 }
 
+/// Worker 1 is held until the caller has run all elements, and is not waited for.
 #[test]
 fn blocks_are_claimed(rt: HostRuntime) -> Result<(), Fail> {
-    let calls = AtomicU64::new(0);
-    let job = ListJob {
-        limit: 256,
-        calls: Some(&calls),
-        events: 0,
-    };
-    let gate = HoldGate {
-        calls: &calls,
+    let watch = Arc::new(rt.alloc(), Watch::new())?;
+    let gate = RunsGate {
+        watch: Arc::try_clone(&watch)?,
         wanted: 128,
         seen: AtomicBool::new(false),
     };
-    let Ok(done) = in_pool(&rt, rt.alloc(), &job, &[3; 128], 2, &gate) else {
-        panic!(rt; "refused")
+    let gate = Arc::new(rt.alloc(), gate)?;
+    let Ok(job) = list_job(rt.alloc(), 256, Some(Arc::try_clone(&watch)?)) else {
+        panic!(rt; "out of memory")
     };
+    let done = in_pool(&rt, rt.alloc(), &job, &[3; 128], 2, &gate);
     assert!(rt; gate.seen.load(Ordering::SeqCst));
-    let Ok(alone) = in_order(rt.alloc(), &list_job(256), &[3; 128]) else {
+    assert!(rt; watch.runs() == 128);
+    let Ok(alone) = in_order(rt.alloc(), &job, &[3; 128]) else {
         panic!(rt; "refused in order")
     };
-    assert!(rt; done.elements == alone.elements);
-    assert!(rt; done.part == alone.part);
+    assert!(rt; is_same(&done, &alone));
+    Ok(())
+}
+
+/// A kept thread is held at the gate through a whole pass, and let go before the next one. Its
+/// reply to the first pass comes too late, and is no part of the second.
+#[test]
+fn a_reply_to_an_earlier_pass_is_thrown_away(rt: HostRuntime) -> Result<(), Fail> {
+    let gate = ShutGate {
+        open: AtomicBool::new(false),
+    };
+    let gate = Arc::new(rt.alloc(), gate)?;
+    let Ok(job) = list_job(rt.alloc(), 256, None) else {
+        panic!(rt; "out of memory")
+    };
+    let (Ok(first), Ok(second)) = (
+        list_pass(rt.alloc(), &job, &[3; 300]),
+        list_pass(rt.alloc(), &job, &[5; 300]),
+    ) else {
+        panic!(rt; "out of memory")
+    };
+    let open = || gate.open.store(true, Ordering::SeqCst);
+    let (before, after) = twice(&rt, rt.alloc(), &first, &second, &gate, &open);
+    let (Ok(threes), Ok(fives)) = (
+        in_order(rt.alloc(), &job, &[3; 300]),
+        in_order(rt.alloc(), &job, &[5; 300]),
+    ) else {
+        panic!(rt; "refused in order")
+    };
+    assert!(rt; is_same(&before, &threes));
+    assert!(rt; is_same(&after, &fives));
+    Ok(())
+}
+
+/// A kept thread claims a block and is held in it until the caller has given it up and run the
+/// block itself.
+#[test]
+fn a_block_that_is_given_up_is_run_again(rt: HostRuntime) -> Result<(), Fail> {
+    let watch = Arc::new(rt.alloc(), Watch::new())?;
+    let gate = FirstHeldGate {
+        watch: Arc::try_clone(&watch)?,
+    };
+    let gate = Arc::new(rt.alloc(), gate)?;
+    let Ok(job) = list_job(rt.alloc(), 256, Some(Arc::try_clone(&watch)?)) else {
+        panic!(rt; "out of memory")
+    };
+    let (Ok(first), Ok(second)) = (
+        list_pass(rt.alloc(), &job, &[HELD; 128]),
+        list_pass(rt.alloc(), &job, &[5; 128]),
+    ) else {
+        panic!(rt; "out of memory")
+    };
+    let let_go = || watch.let_go();
+    let (before, after) = twice(&rt, rt.alloc(), &first, &second, &gate, &let_go);
+    assert!(rt; watch.holds());
+    let (Ok(held), Ok(fives)) = (
+        in_order(rt.alloc(), &job, &[HELD; 128]),
+        in_order(rt.alloc(), &job, &[5; 128]),
+    ) else {
+        panic!(rt; "refused in order")
+    };
+    assert!(rt; is_same(&before, &held));
+    assert!(rt; is_same(&after, &fives));
     Ok(())
 }

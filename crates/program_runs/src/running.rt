@@ -3,9 +3,9 @@ ghost use Rattle.std.specs.Prelude.{◌≤◌};
 ghost use Rattle.std.specs.Vec.{vec_len};
 
 use crate::{Edges, Ran};
+use det_cli::top;
 use det_edges::{FailList, MemFile, MemFiles, MemShelf, MemSink};
 use det_values::OutOfMemory;
-use det_cli::top;
 use probes::{CountProbe, FirstRefusalProbe, GapProbe, Probe};
 use std::alloc::{AllocError, Global};
 use std::sync::Arc;

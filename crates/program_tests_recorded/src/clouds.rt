@@ -2,8 +2,8 @@
 use probes::Probe;
 use program_runs::{Edges, Ran, run, run_with};
 use std::alloc::Global;
-use std::test::*;
 use std::sync::Arc;
+use std::test::*;
 use std::thread::Threads;
 use worker_pool::{Gate, MeetGate};
 

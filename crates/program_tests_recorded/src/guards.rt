@@ -4,8 +4,8 @@ use program_runs::{
     Edges, Ran, guard_manifest, guard_stimulus, record, run_with, user_manifest, user_stimulus,
 };
 use std::alloc::Global;
-use std::test::*;
 use std::sync::Arc;
+use std::test::*;
 use std::thread::Threads;
 use worker_pool::{Gate, MeetGate};
 

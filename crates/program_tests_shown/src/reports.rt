@@ -9,8 +9,8 @@ use program_runs::{
     two_cycles_1,
 };
 use std::alloc::Global;
-use std::test::*;
 use std::sync::Arc;
+use std::test::*;
 use std::thread::Threads;
 use worker_pool::NoGate;
 

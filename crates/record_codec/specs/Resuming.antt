@@ -1,5 +1,6 @@
 -- What a decoder keeps of an item of which bytes were read already.
-use Rattle.std.specs.Prelude.{◌≡◌, ℕ, List, [], ◌∷◌, ◌++◌, length, drop, Result, Ok, Err, ◌==◌, nat_lt, if◌then◌else◌}
+use Rattle.std.specs.Prelude.{◌≡◌, ℕ, List, [], ◌∷◌, ◌++◌, length, drop, Result, Ok, Err, ◌==◌}
+use Rattle.std.specs.Prelude.{nat_lt, if◌then◌else◌}
 use Rattle.det_values.specs.declared.format.Format.{Format}
 use Rattle.det_values.specs.declared.frames.CycleInput.{CycleInput}
 use Rattle.det_values.specs.declared.frames.DrawnElement.{DrawnElement}
@@ -13,7 +14,8 @@ use Rattle.record_grammar.specs.declared.item.Item.{Item}
 use Rattle.record_grammar.specs.declared.item.Item.TheVariants as items
 use Rattle.record_grammar.specs.Read.{Read, Got, More, Bad, ◌>>=◌}
 use Rattle.record_grammar.specs.Numbers.{number}
-use Rattle.record_grammar.specs.Grammar.{profile_at, input_at, refused_at, tag_reason, init_from, finished_from, item_at}
+use Rattle.record_grammar.specs.Grammar.{profile_at, input_at, refused_at, tag_reason, init_from}
+use Rattle.record_grammar.specs.Grammar.{finished_from, item_at}
 use Rattle.record_grammar.specs.Laws.{tag_reason_at}
 use Rattle.record_codec.specs.declared.stop.Stop.{Stop}
 use Rattle.record_codec.specs.declared.partial.Partial.{Partial}
@@ -38,19 +40,26 @@ unfoldable pub begun_run : Layout → List ℕ → Read BegunValue
 begun_run layout bytes = do
   input ← input_at layout.events bytes
   flag ← number 1 0 1 input.1
-  if flag.0 == 0 then (number 4 0 65536 flag.1 >>= λ n. Got (run_of layout.format input.0 [] n.0, n.1))
+  if flag.0 == 0
+      then (number 4 0 65536 flag.1 >>= λ n. Got (run_of layout.format input.0 [] n.0, n.1))
       else (refused_at input.0 flag.1 >>= λ f. Got (ready (items.Frame f.0), f.1))
 
 -- behind a tag, with so many bytes from the tag on
 unfoldable pub begun_tagged : Place → ℕ → List ℕ → ℕ → Read BegunValue
 begun_tagged places.Header b bytes left = Bad (tag_reason_at places.Header b) left
-begun_tagged (places.Register layout) b bytes left = if b == 1 then Got (ready (items.Frame frames.Register), bytes) else Bad (tag_reason_at (places.Register layout) b) left
-begun_tagged (places.Discover layout) b bytes left = if b == 2 then Got (ready (items.Frame frames.Discover), bytes) else Bad (tag_reason_at (places.Discover layout) b) left
+begun_tagged (places.Register layout) b bytes left =
+    if b == 1 then Got (ready (items.Frame frames.Register), bytes)
+    else Bad (tag_reason_at (places.Register layout) b) left
+begun_tagged (places.Discover layout) b bytes left =
+    if b == 2 then Got (ready (items.Frame frames.Discover), bytes)
+    else Bad (tag_reason_at (places.Discover layout) b) left
 begun_tagged (places.Init layout) b bytes left =
-    if b == 3 then (number 4 0 65536 bytes >>= λ n. Got (init_of [] n.0, n.1)) else Bad (tag_reason_at (places.Init layout) b) left
+    if b == 3 then (number 4 0 65536 bytes >>= λ n. Got (init_of [] n.0, n.1))
+    else Bad (tag_reason_at (places.Init layout) b) left
 begun_tagged (places.Runs layout before) b bytes left =
     if b == 4 then (if nat_lt before 1000000 then begun_run layout bytes else Bad TooMany left)
-    else if b == 5 then Got (ready (items.Frame frames.Terminate), bytes) else Bad (tag_reason b) left
+    else if b == 5 then Got (ready (items.Frame frames.Terminate), bytes)
+    else Bad (tag_reason b) left
 begun_tagged places.End b bytes left = Bad Trailing left
 
 unfoldable pub begun_at : Place → List ℕ → Read BegunValue
@@ -73,15 +82,21 @@ go_on (run_of format input done left, rest) = framed (finished_from format input
 abbrev pub resume : Place → Partial → List ℕ → Read Item
 resume place partials.Nothing bytes = item_at place bytes
 resume place (partials.Init p) bytes = framed (init_from p.elements p.left bytes)
-resume place (partials.Run p) bytes = framed (finished_from p.format p.input p.elements p.left bytes)
+resume place (partials.Run p) bytes =
+    framed (finished_from p.format p.input p.elements p.left bytes)
 
 -- reading goes on from here as it would have from the beginning, whatever bytes come
 abbrev pub Resumes : (List ℕ → Read Item) → Place → Partial → List ℕ → List ℕ → Type 0
-Resumes reading place partial rest bytes = (tail : List ℕ) → resume place partial (rest ++ tail) ≡ reading (bytes ++ tail)
+Resumes reading place partial rest bytes =
+    (tail : List ℕ) → resume place partial (rest ++ tail) ≡ reading (bytes ++ tail)
 
-abbrev pub AnswersBy : (List ℕ → Read Item) → Place → Partial → List ℕ → Result Item Stop → List ℕ → Type 0
-AnswersBy reading place partial rest (Ok item) bytes = (partial ≡ partials.Nothing) × (reading bytes ≡ Got (item, rest))
-AnswersBy reading place partial rest (Err stop) bytes = Stops stop (resume place partial rest) × Resumes reading place partial rest bytes
+abbrev pub AnswersBy : (List ℕ → Read Item) → Place → Partial → List ℕ → Result Item Stop
+    → List ℕ → Type 0
+AnswersBy reading place partial rest (Ok item) bytes = (partial ≡ partials.Nothing)
+    × (reading bytes ≡ Got (item, rest))
+AnswersBy reading place partial rest (Err stop) bytes = Stops stop (resume place partial rest)
+    × Resumes reading place partial rest bytes
 
 abbrev pub Answers : (List ℕ → Read Item) → Place → Step → List ℕ → Type 0
-Answers reading place step bytes = AnswersBy reading place step.partial (drop step.read bytes) step.answer bytes
+Answers reading place step bytes =
+    AnswersBy reading place step.partial (drop step.read bytes) step.answer bytes

@@ -1,5 +1,6 @@
 -- What a decoder keeps of the bytes that were fed to it, and of the items that it gave.
-use Rattle.std.specs.Prelude.{◌≡◌, ℕ, ◌+◌, ◌-◌, ◌^◌, ◌<◌, List, [], ◌∷◌, ◌++◌, length, drop, Option, Some, None, Result, Ok, Err, true}
+use Rattle.std.specs.Prelude.{◌≡◌, ℕ, ◌+◌, ◌-◌, ◌^◌, ◌<◌, List, [], ◌∷◌, ◌++◌, length, drop, Option}
+use Rattle.std.specs.Prelude.{Some, None, Result, Ok, Err, true}
 use Rattle.std.specs.Vec.{vec_len}
 use Rattle.record_grammar.specs.declared.fault.RecordFault.{RecordFault}
 use Rattle.record_grammar.specs.declared.place.Place.TheVariants as places
@@ -60,12 +61,16 @@ RoomFell (Ok None) old new = new ≡ old
 RoomFell (Err e) old new = new ≡ old
 
 abbrev pub NextIs : Result (Option Item) DecodeError → Decoder → List ℕ → List Item → Type 0
-NextIs (Ok (Some item)) d bytes given = StandsFor d bytes (given ++ item ∷ []) × (others : List Item) × (items bytes ≡ given ++ item ∷ others)
-NextIs (Ok None) d bytes given = StandsFor d bytes given × (items bytes ≡ given) × (fault_so_far bytes ≡ None)
-NextIs (Err (errors.Fault f)) d bytes given = StandsFor d bytes given × (items bytes ≡ given) × (fault_so_far bytes ≡ Some f)
+NextIs (Ok (Some item)) d bytes given = StandsFor d bytes (given ++ item ∷ [])
+    × (others : List Item) × (items bytes ≡ given ++ item ∷ others)
+NextIs (Ok None) d bytes given = StandsFor d bytes given × (items bytes ≡ given)
+    × (fault_so_far bytes ≡ None)
+NextIs (Err (errors.Fault f)) d bytes given = StandsFor d bytes given × (items bytes ≡ given)
+    × (fault_so_far bytes ≡ Some f)
 NextIs (Err errors.OutOfMemory) d bytes given = StandsFor d bytes given
 
--- what an answer leaves: a fault that was answered is told, and a decoder without a whole item is settled
+-- what an answer leaves: a fault that was answered is told, and a decoder that has no whole item
+-- is settled
 abbrev pub Leaves : Result (Option Item) DecodeError → Decoder → Type 0
 Leaves (Ok (Some item)) d = told d ≡ None
 Leaves (Ok None) d = (told d ≡ None) × IsSettled d

@@ -63,7 +63,8 @@ fn begin_tagged(
     bytes: &[u8],
     left: usize,
 ) -> Result<(Begun, &[u8]), Stop>
-    ensures { Gives (λ x. (begun_view x.0, x.1.now)) result (begun_tagged place tag bytes.now left) }
+    ensures { Gives (λ x. (begun_view x.0, x.1.now)) result
+        (begun_tagged place tag bytes.now left) }
 {
     match (place, tag) {
         (Place::Register(_), 1) => Ok((frame(Frame::Register), bytes)),

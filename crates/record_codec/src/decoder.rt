@@ -12,8 +12,8 @@ use record_grammar::{Item, Place, Reason, RecordFault};
 use std::alloc::Global;
 use std::mem;
 
-/// Gives the items of a record whose bytes are fed in any pieces. It keeps the item that hasn't come whole, and what was
-/// fed and not yet asked for.
+/// Gives the items of a record whose bytes are fed in any pieces. It keeps the item that hasn't
+/// come whole, and what was fed and not yet asked for.
 #[derive(Drop)]
 pub struct Decoder {
     alloc: Global,
@@ -32,10 +32,12 @@ pub struct Decoder {
 }
 
 impl Decoder {
-    ghost use Rattle.std.specs.Prelude.{ℕ, List, [], ◌++◌, length, IsTrue, OnOk, OnErr, Option, Some, None};
+    ghost use Rattle.std.specs.Prelude.{ℕ, List, [], ◌++◌, length, IsTrue, OnOk, OnErr, Option};
+    ghost use Rattle.std.specs.Prelude.{Some, None};
     ghost use Rattle.record_grammar.specs.declared.fault.RecordFault.{RecordFault};
     ghost use Rattle.record_grammar.specs.declared.item.Item.{Item};
-    ghost use Rattle.record_codec.specs.StandsFor.{StandsFor, NextIs, FinishIs, Leaves, IsSettled, told, room, feedable, RoomFell};
+    ghost use Rattle.record_codec.specs.StandsFor.{StandsFor, NextIs, FinishIs, Leaves, IsSettled};
+    ghost use Rattle.record_codec.specs.StandsFor.{told, room, feedable, RoomFell};
 
     /// Takes no memory.
     pub fn new(alloc: Global) -> Decoder
@@ -54,14 +56,18 @@ impl Decoder {
         }
     }
 
-    /// The next item that stands whole in the bytes fed. None where more bytes are needed, or after Terminate.
+    /// The next item that stands whole in the bytes fed. None where more bytes are needed, or after
+    /// Terminate.
     pub fn next(&mut self) -> Result<Option<Item>, DecodeError>
-        ensures answer { (bytes : List ℕ) (given : List Item) → StandsFor self.old bytes given → NextIs result self.new bytes given }
+        ensures answer { (bytes : List ℕ) (given : List Item) → StandsFor self.old bytes given
+            → NextIs result self.new bytes given }
         ensures leaves { Leaves result self.new }
         // A fault is answered again, whatever was fed since.
-        ensures again { (fault : RecordFault) → told self.old ≡ Some fault → result ≡ Err (DecodeError.Fault fault) }
+        ensures again { (fault : RecordFault) → told self.old ≡ Some fault
+            → result ≡ Err (DecodeError.Fault fault) }
         // Each item leaves fewer that may come.
-        ensures room { (bytes : List ℕ) (given : List Item) → StandsFor self.old bytes given → RoomFell result (room self.old) (room self.new) }
+        ensures room { (bytes : List ℕ) (given : List Item) → StandsFor self.old bytes given
+            → RoomFell result (room self.old) (room self.new) }
         ensures feedable { feedable self.new ≡ feedable self.old }
     {
         if let Some(fault) = self.fault {
@@ -103,14 +109,18 @@ impl Decoder {
         }
     }
 
-    /// Takes the next piece of the record. After a fault nothing is kept of it. A refused call takes nothing. It is refused
-    /// where memory can't be had, and where more than 2^64 - 1 bytes would have been fed.
+    /// Takes the next piece of the record. After a fault nothing is kept of it. A refused call
+    /// takes nothing. It is refused where memory can't be had, and where more than 2^64 - 1 bytes
+    /// would have been fed.
     pub fn feed(&mut self, piece: &[u8]) -> Result<(), OutOfMemory>
-        ensures ok { OnOk result ((bytes : List ℕ) (given : List Item) → StandsFor self.old bytes given → StandsFor self.new (bytes ++ piece.now) given) }
-        ensures err { OnErr result ((bytes : List ℕ) (given : List Item) → StandsFor self.old bytes given → StandsFor self.new bytes given) }
+        ensures ok { OnOk result ((bytes : List ℕ) (given : List Item)
+            → StandsFor self.old bytes given → StandsFor self.new (bytes ++ piece.now) given) }
+        ensures err { OnErr result ((bytes : List ℕ) (given : List Item)
+            → StandsFor self.old bytes given → StandsFor self.new bytes given) }
         ensures told { told self.new ≡ told self.old }
         ensures room { room self.new ≡ room self.old }
-        ensures feedable { OnOk result (told self.old ≡ None → feedable self.new + length piece.now ≡ feedable self.old) }
+        ensures feedable { OnOk result (told self.old ≡ None
+            → feedable self.new + length piece.now ≡ feedable self.old) }
         ensures refused { OnErr result (feedable self.new ≡ feedable self.old) }
         ensures settled { OnErr result (IsSettled self.old → IsSettled self.new) }
     {
@@ -133,10 +143,12 @@ impl Decoder {
         }
     }
 
-    /// What the record lacks, if no more bytes come; after a fault that fault again. For Truncated the offset is the number of bytes fed.
+    /// What the record lacks, if no more bytes come; after a fault that fault again. For Truncated
+    /// the offset is the number of bytes fed.
     pub fn finish(&self) -> Result<(), RecordFault>
         requires { IsSettled self.now }
-        ensures { (bytes : List ℕ) (given : List Item) → StandsFor self.now bytes given → FinishIs result bytes }
+        ensures { (bytes : List ℕ) (given : List Item) → StandsFor self.now bytes given
+            → FinishIs result bytes }
     {
         if let Some(fault) = self.fault {
             return Err(fault);

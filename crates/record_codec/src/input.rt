@@ -1,7 +1,9 @@
 //! What a cycle was given, and where one was refused, read from their beginning.
 ghost use Rattle.std.specs.Prelude.{◌≡◌, ◌≤◌, IfOk, IfErr};
 ghost use Rattle.record_grammar.specs.Read.{many};
-ghost use Rattle.record_grammar.specs.Grammar.{time_at, sample_at, most_samples, samples_at, input_at, phase_of, most_pass, most_element, refusal_at, refused_at};
+ghost use Rattle.record_grammar.specs.Grammar.{time_at, sample_at, most_samples, samples_at};
+ghost use Rattle.record_grammar.specs.Grammar.{input_at, phase_of, most_pass, most_element};
+ghost use Rattle.record_grammar.specs.Grammar.{refusal_at, refused_at};
 ghost use Rattle.record_codec.specs.Gives.{Gives, Stops, Pushed};
 
 use crate::number::{sample_value, u8_at, u16_at, u32_at, u64_at};
@@ -33,7 +35,8 @@ fn push_sample<'a>(
     bytes: &'a [u8],
 ) -> Result<&'a [u8], Stop>
     requires { 1 ≤ events }
-    ensures ok { IfOk result (λ rest. Pushed samples.old.items samples.new.items rest.now (sample_at events bytes.now)) }
+    ensures ok { IfOk result (λ rest. Pushed samples.old.items samples.new.items rest.now
+        (sample_at events bytes.now)) }
     ensures err { IfErr result (λ stop. Stops stop (sample_at events bytes.now)) }
 {
     let (event, rest) = u16_at(0, events - 1, bytes)?;

@@ -23,7 +23,8 @@ pub struct RunSoFar {
     ghost room: { length elements + left ≤ 65536 },
 }
 
-/// What is kept of an item. Elements alone are kept; all that stands before them is bounded, and is read again.
+/// What is kept of an item. Elements alone are kept; all that stands before them is bounded, and
+/// is read again.
 #[derive(Debug, Drop)]
 pub enum Partial {
     Nothing,
@@ -64,7 +65,11 @@ impl Step {
     /// The same step, where so many bytes were read before.
     pub fn behind(self, read: usize) -> Step
         requires { read + self.read < 2 ^ 64 }
-        ensures { result ≡ record { partial = self.partial; read = read + self.read; answer = self.answer } }
+        ensures { result ≡ record {
+          partial = self.partial;
+          read = read + self.read;
+          answer = self.answer;
+        } }
     {
         Step {
             partial: self.partial,

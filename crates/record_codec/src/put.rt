@@ -1,7 +1,8 @@
 //! Numbers and elements, appended.
 ghost use Rattle.std.specs.Prelude.{◌≡◌, ◌++◌, ◌∷◌, [], OnOk, FitsSigned};
 ghost use Rattle.std.specs.Int.{w64};
-ghost use Rattle.record_grammar.specs.Spelling.{spelled_u64, spelled_signed, spelled_element, IsElement};
+ghost use Rattle.record_grammar.specs.Spelling.{spelled_u64, spelled_signed, spelled_element};
+ghost use Rattle.record_grammar.specs.Spelling.{IsElement};
 ghost use Rattle.det_values.specs.Spelling.{Grows};
 
 use det_values::Bytes64;

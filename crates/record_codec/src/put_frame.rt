@@ -1,7 +1,12 @@
 //! Frames, appended.
 ghost use Rattle.std.specs.Prelude.{◌≡◌, ◌<◌, ◌≤◌, ◌++◌, length, OnOk};
 ghost use Rattle.std.specs.List.{flat_map, All};
-ghost use Rattle.record_grammar.specs.Spelling.{spelled_element, IsElement, spelled_drawn, MayDraw, IsDrawn, spelled_time, IsTime, spelled_sample, IsSample, spelled_input, IsInput, phase_number, spelled_refusal, IsRefusal, AreBytes, spelled_finished, spelled_outcome, MayDrawAll, IsOutcome, spelled_frame, CanSpell, IsFrame};
+ghost use Rattle.record_grammar.specs.Spelling.{spelled_element, IsElement, spelled_drawn, MayDraw};
+ghost use Rattle.record_grammar.specs.Spelling.{IsDrawn, spelled_time, IsTime, spelled_sample};
+ghost use Rattle.record_grammar.specs.Spelling.{IsSample, spelled_input, IsInput, phase_number};
+ghost use Rattle.record_grammar.specs.Spelling.{spelled_refusal, IsRefusal, AreBytes};
+ghost use Rattle.record_grammar.specs.Spelling.{spelled_finished, spelled_outcome, MayDrawAll};
+ghost use Rattle.record_grammar.specs.Spelling.{IsOutcome, spelled_frame, CanSpell, IsFrame};
 ghost use Rattle.det_values.specs.Spelling.{Grows};
 ghost use Rattle.det_values.specs.declared.format.Format.TheVariants.{One};
 
@@ -13,7 +18,8 @@ use det_values::{
 use std::alloc::AllocError;
 
 fn put_elements(out: &mut Vec<u8>, elements: &[Bytes64]) -> Result<(), AllocError>
-    ensures ok { OnOk result (out.new.items ≡ out.old.items ++ flat_map spelled_element elements.now) }
+    ensures ok { OnOk result (out.new.items
+        ≡ out.old.items ++ flat_map spelled_element elements.now) }
     ensures grows { Grows out.old.items out.new.items }
     ensures fields { OnOk result (All IsElement elements.now) }
 {
@@ -25,7 +31,8 @@ fn put_elements(out: &mut Vec<u8>, elements: &[Bytes64]) -> Result<(), AllocErro
 
 fn put_undrawn(out: &mut Vec<u8>, elements: &DrawnElements) -> Result<(), AllocError>
     requires { All (λ e. MayDraw One e.draws) elements.now }
-    ensures ok { OnOk result (out.new.items ≡ out.old.items ++ flat_map (spelled_drawn One) elements.now) }
+    ensures ok { OnOk result (out.new.items ≡ out.old.items ++ flat_map
+        (spelled_drawn One) elements.now) }
     ensures grows { Grows out.old.items out.new.items }
 {
     let mut walk = elements.walk();
@@ -47,7 +54,8 @@ fn put_all_drawn(
     elements: &DrawnElements,
 ) -> Result<(), AllocError>
     requires { All (λ e. MayDraw format e.draws) elements.now }
-    ensures ok { OnOk result (out.new.items ≡ out.old.items ++ flat_map (spelled_drawn format) elements.now) }
+    ensures ok { OnOk result (out.new.items ≡ out.old.items ++ flat_map
+        (spelled_drawn format) elements.now) }
     ensures grows { Grows out.old.items out.new.items }
     ensures fields { OnOk result (All (IsDrawn format) elements.now) }
 {
@@ -87,7 +95,8 @@ fn put_sample(out: &mut Vec<u8>, events: u16, sample: &Sample) -> Result<(), All
 
 fn put_samples(out: &mut Vec<u8>, events: u16, samples: &[Sample]) -> Result<(), AllocError>
     requires { All (λ s. s.event < events) samples.now }
-    ensures ok { OnOk result (out.new.items ≡ out.old.items ++ flat_map spelled_sample samples.now) }
+    ensures ok { OnOk result (out.new.items
+        ≡ out.old.items ++ flat_map spelled_sample samples.now) }
     ensures grows { Grows out.old.items out.new.items }
     ensures fields { OnOk result (All (IsSample events) samples.now) }
 {
@@ -147,7 +156,8 @@ fn put_finished(
     requires draws { All (λ e. MayDraw format e.draws) elements.now }
     requires short { length output.now ≤ 1048576 }
     ensures few { length elements.now ≤ 65536 }
-    ensures ok { OnOk result (out.new.items ≡ out.old.items ++ spelled_finished format elements.now output.now) }
+    ensures ok { OnOk result (out.new.items
+        ≡ out.old.items ++ spelled_finished format elements.now output.now) }
     ensures grows { Grows out.old.items out.new.items }
     ensures fields { OnOk result (All (IsDrawn format) elements.now × AreBytes output.now) }
 {

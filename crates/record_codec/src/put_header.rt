@@ -3,7 +3,10 @@ ghost use Rattle.std.specs.Prelude.{◌≡◌, ◌≤◌, ◌<◌, ◌^◌, ◌+
 ghost use Rattle.std.specs.Int.{w64};
 ghost use Rattle.std.specs.List.{flat_map, All};
 ghost use Rattle.det_values.specs.Limits.{IsCycleTime, KnowsPolicies};
-ghost use Rattle.record_grammar.specs.Spelling.{spelled_signed, spelled_params, version, policy_number, spelled_policy, spelled_event, IsEvent, spelled_events, magic, spelled_numbers, spelled_header, IsHeader};
+ghost use Rattle.record_grammar.specs.Spelling.{spelled_signed, spelled_params, version};
+ghost use Rattle.record_grammar.specs.Spelling.{policy_number, spelled_policy, spelled_event};
+ghost use Rattle.record_grammar.specs.Spelling.{IsEvent, spelled_events, magic, spelled_numbers};
+ghost use Rattle.record_grammar.specs.Spelling.{spelled_header, IsHeader};
 ghost use Rattle.det_values.specs.Spelling.{Grows};
 
 use crate::put::{put_i64, put_u8, put_u64};
@@ -59,7 +62,8 @@ fn put_event(out: &mut Vec<u8>, format: Format, event: &EventSpec) -> Result<(),
 }
 
 fn put_all_events(out: &mut Vec<u8>, format: Format, events: &[EventSpec]) -> Result<(), AllocError>
-    ensures ok { OnOk result (out.new.items ≡ out.old.items ++ flat_map (spelled_event format) events.now) }
+    ensures ok { OnOk result (out.new.items ≡ out.old.items ++ flat_map
+        (spelled_event format) events.now) }
     ensures grows { Grows out.old.items out.new.items }
     ensures fields { OnOk result (All IsEvent events.now) }
 {

@@ -5,7 +5,8 @@ use det_values::{
 use std::alloc::Global;
 use std::test::*;
 
-/// A record of format 1 with no Run: a header of 50 bytes, Register, Discover, Init with four elements, Terminate.
+/// A record of format 1 with no Run: a header of 50 bytes, Register, Discover, Init with four
+/// elements, Terminate.
 const VECTOR_A: [u8; 98] = [
     0x44, 0x45, 0x54, 0x52, 0x45, 0x43, 0, 1, 0, 1, 0, 0, 0, 0, 0, 0, 0, 0, 0, 0, 0, 0, 0, 0x98,
     0x96, 0x80, 0, 2, 0, 0, 0, 0, 0, 0, 0, 4, 0, 0, 0, 0, 0, 0, 0, 2, 0, 1, 0, 2, 1, 0x78, 1, 2, 3,

@@ -1,6 +1,7 @@
--- How a record is spelled, and which values have a spelling. All numbers are big-endian, and signed ones are in
--- two's complement.
-use Rattle.std.specs.Prelude.{◌≡◌, ℕ, ◌^◌, ◌<◌, ◌≤◌, ℤ, List, [], ◌∷◌, ◌++◌, length, map, Option, Some, None, codes, true, FitsSigned}
+-- How a record is spelled, and which values have a spelling. All numbers are big-endian, and
+-- signed ones are in two's complement.
+use Rattle.std.specs.Prelude.{◌≡◌, ℕ, ◌^◌, ◌<◌, ◌≤◌, ℤ, List, [], ◌∷◌, ◌++◌, length, map, Option}
+use Rattle.std.specs.Prelude.{Some, None, codes, true, FitsSigned}
 use Rattle.std.specs.List.{flat_map, All}
 use Rattle.std.specs.Int.{w64, cast_unsigned, to_be_bytes}
 use Rattle.det_values.specs.declared.format.Format.{Format}
@@ -15,12 +16,14 @@ use Rattle.det_values.specs.declared.frames.Outcome.{Outcome}
 use Rattle.det_values.specs.declared.frames.Outcome.TheVariants.{Finished, Refused}
 use Rattle.det_values.specs.declared.frames.RunFrame.{RunFrame}
 use Rattle.det_values.specs.declared.frames.Frame.{Frame}
-use Rattle.det_values.specs.declared.frames.Frame.TheVariants.{Register, Discover, Init, Run, Terminate}
+use Rattle.det_values.specs.declared.frames.Frame.TheVariants.{Register, Discover, Init, Run}
+use Rattle.det_values.specs.declared.frames.Frame.TheVariants.{Terminate}
 use Rattle.det_values.specs.Values.{SampleValue, EventSpecValue, RefusedAtValue, ProfileValue}
 use Rattle.det_values.specs.Spelling as flat
 pub use Rattle.det_values.specs.Spelling.{AreBytes}
 unfoldable pub use Rattle.det_values.specs.Spelling.{spelled_u16, spelled_u32}
-use Rattle.det_values.specs.Limits.{IsSampleValue, IsCapacity, IsCycleTime, is_event_name, IsPlace, KnowsPolicies}
+use Rattle.det_values.specs.Limits.{IsSampleValue, IsCapacity, IsCycleTime, is_event_name, IsPlace}
+use Rattle.det_values.specs.Limits.{KnowsPolicies}
 
 -- at most so many bytes
 abbrev pub IsString : ℕ → List ℕ → Type 0
@@ -48,7 +51,8 @@ spelled_policy One policy = []
 spelled_policy Two policy = policy_number policy ∷ []
 
 abbrev pub spelled_event : Format → EventSpecValue → List ℕ
-spelled_event format e = spelled_u16 e.capacity ++ (length e.name ∷ (e.name ++ spelled_policy format e.policy))
+spelled_event format e = spelled_u16 e.capacity ++ (length e.name ∷ (e.name
+    ++ spelled_policy format e.policy))
 
 abbrev pub spelled_params : List ℤ → List ℕ
 spelled_params params = spelled_u16 (length params) ++ flat_map spelled_signed params
@@ -61,10 +65,12 @@ magic = codes "DETREC"
 
 -- the fields before the parameters
 unfoldable pub spelled_numbers : ProfileValue → List ℕ
-spelled_numbers p = magic ++ (spelled_u16 (version p.format) ++ (spelled_u16 p.job ++ (spelled_u64 p.seed ++ spelled_u64 p.cycle_time)))
+spelled_numbers p = magic ++ (spelled_u16 (version p.format) ++ (spelled_u16 p.job
+    ++ (spelled_u64 p.seed ++ spelled_u64 p.cycle_time)))
 
 unfoldable pub spelled_header : ProfileValue → List ℕ
-spelled_header p = spelled_numbers p ++ (spelled_params p.params ++ spelled_events p.format p.events)
+spelled_header p = spelled_numbers p ++ (spelled_params p.params
+    ++ spelled_events p.format p.events)
 
 abbrev pub IsEvent : EventSpecValue → Type 0
 IsEvent e = IsCapacity e.capacity × (is_event_name e.name ≡ true)
@@ -115,7 +121,8 @@ abbrev pub IsSample : ℕ → SampleValue → Type 0
 IsSample events s = (s.event < events) × IsSampleValue s.value
 
 abbrev pub spelled_input : CycleInput → List ℕ
-spelled_input i = spelled_time i.time ++ (spelled_u32 (length i.samples) ++ flat_map spelled_sample i.samples)
+spelled_input i = spelled_time i.time ++ (spelled_u32 (length i.samples)
+    ++ flat_map spelled_sample i.samples)
 
 abbrev pub IsInput : ℕ → CycleInput → Type 0
 IsInput events i = IsTime i.time × (length i.samples ≤ 4096) × All (IsSample events) i.samples
@@ -126,20 +133,23 @@ phase_number phases.Pool = 1
 phase_number phases.Conclude = 2
 
 abbrev pub spelled_refusal : RefusedAtValue → List ℕ
-spelled_refusal at = phase_number at.phase ∷ at.pass ∷ (spelled_u32 at.element ++ spelled_u32 at.code)
+spelled_refusal at = phase_number at.phase ∷ at.pass ∷ (spelled_u32 at.element
+    ++ spelled_u32 at.code)
 
 abbrev pub IsRefusal : RefusedAtValue → Type 0
 IsRefusal at = IsPlace at.phase at.pass at.element × (at.code < 2 ^ 32)
 
 abbrev pub spelled_finished : Format → List DrawnElement → List ℕ → List ℕ
-spelled_finished format elements output = spelled_u32 (length elements) ++ (flat_map (spelled_drawn format) elements ++ (spelled_u32 (length output) ++ output))
+spelled_finished format elements output = spelled_u32 (length elements)
+    ++ (flat_map (spelled_drawn format) elements ++ (spelled_u32 (length output) ++ output))
 
 abbrev pub spelled_outcome : Format → Outcome → List ℕ
 spelled_outcome format (Finished elements output) = 0 ∷ spelled_finished format elements output
 spelled_outcome format (Refused at) = 1 ∷ spelled_refusal at
 
 abbrev pub IsOutcome : Format → Outcome → Type 0
-IsOutcome format (Finished elements output) = (length elements ≤ 65536) × All (IsDrawn format) elements × IsString 1048576 output
+IsOutcome format (Finished elements output) = (length elements ≤ 65536)
+    × All (IsDrawn format) elements × IsString 1048576 output
 IsOutcome format (Refused at) = IsRefusal at
 
 -- ---- the frames
@@ -147,7 +157,8 @@ IsOutcome format (Refused at) = IsRefusal at
 unfoldable pub spelled_frame : Format → Frame → List ℕ
 spelled_frame format Register = 1 ∷ []
 spelled_frame format Discover = 2 ∷ []
-spelled_frame format (Init elements) = 3 ∷ (spelled_u32 (length elements) ++ flat_map spelled_element elements)
+spelled_frame format (Init elements) = 3 ∷ (spelled_u32 (length elements)
+    ++ flat_map spelled_element elements)
 spelled_frame format (Run r) = 4 ∷ (spelled_input r.input ++ spelled_outcome format r.outcome)
 spelled_frame format Terminate = 5 ∷ []
 
@@ -159,13 +170,15 @@ IsFrame format events (Init elements) = (length elements ≤ 65536) × All IsEle
 IsFrame format events (Run r) = IsInput events r.input × IsOutcome format r.outcome
 IsFrame format events Terminate = Unit {0}
 
--- what a frame owes beyond its types: its samples are of the run's events, and in format 1 nothing is drawn
+-- what a frame owes beyond its types: its samples are of the run's events, and in format 1
+-- nothing is drawn
 abbrev pub MayDrawAll : Format → Outcome → Type 0
 MayDrawAll format (Finished elements output) = All (λ e. MayDraw format e.draws) elements
 MayDrawAll format (Refused at) = Unit {0}
 
 abbrev pub CanSpell : Format → ℕ → Frame → Type 0
-CanSpell format events (Run r) = All (λ s. s.event < events) r.input.samples × MayDrawAll format r.outcome
+CanSpell format events (Run r) = All (λ s. s.event < events) r.input.samples
+    × MayDrawAll format r.outcome
 CanSpell format events frame = Unit {0}
 
 -- ---- the whole

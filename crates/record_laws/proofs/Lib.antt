@@ -2,13 +2,13 @@ pub mod FirstFrames
 pub mod Growing
 mod HeaderParts
 pub mod InPlaces
-mod Lawful
+pub mod Lawful
 mod LawfulFields
 mod LawfulHeader
 mod LawfulItems
 mod LawfulMany
 mod LawfulNumbers
-mod LawfulParts
+pub mod LawfulParts
 mod LawfulRuns
 mod LawfulWords
 pub mod OneSpelling

@@ -73,7 +73,8 @@ impl Printer {
             (item_lines self.old.format self.old.cycles (item.now ∷ []))) }
         ensures format { OnOk result
             (self.new.format ≡ format_behind self.old.format (item.now ∷ [])) }
-        ensures cycles { OnOk result (self.new.cycles ≡ self.old.cycles + length (run_in item.now)) }
+        ensures cycles { OnOk result
+            (self.new.cycles ≡ self.old.cycles + length (run_in item.now)) }
         ensures err { IfErr result
             (λ end. Cuts end (K.took sink.old) (K.took sink.new)
             (item_lines self.old.format self.old.cycles (item.now ∷ []))) }

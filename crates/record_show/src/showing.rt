@@ -165,7 +165,8 @@ fn take_item<K: Sink>(
     ensures printed { OnOk result
         (Grew (K.took sink.old) (K.took sink.new)
         (item_lines printer.old.format printer.old.cycles (item ∷ []))) }
-    ensures format { OnOk result (printer.new.format ≡ format_behind printer.old.format (item ∷ [])) }
+    ensures format { OnOk result
+        (printer.new.format ≡ format_behind printer.old.format (item ∷ [])) }
     ensures cycles { OnOk result (printer.new.cycles ≡ printer.old.cycles + length (run_in item)) }
     ensures shown { OnOk result
         (Shows left.old (map (λ b. life b) probes.old.items) left.new

@@ -49,8 +49,8 @@ policy_text Two policy = policy_word policy
 -- an event's number, name and capacity, and its policy
 abbrev pub event_line : Format → ℕ → EventSpecValue → List ℕ
 event_line format i event =
-    codes "event " ++ (decimal i ++ (codes " " ++ (event.name ++ (codes " " ++ (decimal event.capacity
-    ++ (policy_text format event.policy ++ codes "\n"))))))
+    codes "event " ++ (decimal i ++ (codes " " ++ (event.name ++ (codes " "
+    ++ (decimal event.capacity ++ (policy_text format event.policy ++ codes "\n"))))))
 
 -- what stands before the parameters
 unfoldable pub front_lines : ProfileValue → List ℕ

@@ -140,5 +140,7 @@ pub fn record_run<J: Job, P: Pool<J>, S: Slots, K: Sink>(
     ensures writes_counted { K.faults sink.old ≤ K.faults sink.new }
     ensures stays { S.stays shelf.old shelf.new }
 {
-    run_all(alloc, pool, engine, profile, shelf, slot, sink, probes, left)
+    run_all(
+        alloc, pool, engine, profile, shelf, slot, sink, probes, left,
+    )
 }

@@ -150,6 +150,6 @@ guard_spelled = record {
   output = λ j g plan part d h.
       subst (λ (x : Concluded Total). AreBytes x.output) (given_if (nat_lt j.most (length part)) 2 _ d h) (guard_output (guard.total_after g part) part plan.next);
   prepare_code = λ j g es windows seed cycle time next code h. never _ code h;
-  work_code = λ j plan carry pass e key code h. judged_code j e (guard.reading j plan.samples e) code h;
+  work_code = λ j plan carry pass e key code h. judged_code j e (guard.reading plan.samples e) code h;
   conclude_code = λ j g plan part code h. code_if (nat_lt j.most (length part)) 2 code _ (omega arith) h;
 }

@@ -30,7 +30,8 @@ module _ {E P : Type 0} (join : P → P → P) where
   then (Ok d) a = onto d a
   then (Err r) a = Err r
 
-  done_next : (unit : P) (d : Passed E P) (a : Result (Passed E P) Refusal) → is_err a ≡ false → onto d a ≡ Ok (beside join d (left_by join unit a))
+  done_next : (unit : P) (d : Passed E P) (a : Result (Passed E P) Refusal) → is_err a ≡ false
+      → onto d a ≡ Ok (beside join d (left_by join unit a))
   done_next unit d (Ok e) h = refl
   done_next unit d (Err r) h = absurd (cc)
 
@@ -55,17 +56,27 @@ module _ {S G E L P : Type 0} (m : Meaning S G E L P) (j : S) (plan : L) (carry 
   on_with i es (Ok d) = taken m j plan carry seed cycle pass i es d
   on_with i es (Err r) = Err r
 
-  pub through : (i n : ℕ) (es fs : List E) (d : Passed E P) → n ≡ i + length es → taken m j plan carry seed cycle pass i (es ++ fs) d ≡ on_with n fs (taken m j plan carry seed cycle pass i es d)
+  pub through : (i n : ℕ) (es fs : List E) (d : Passed E P) → n ≡ i + length es
+      → taken m j plan carry seed cycle pass i (es ++ fs) d ≡ on_with n fs (taken m j plan carry seed cycle pass i es d)
   through i n [] fs d is = ap (λ (k : ℕ). from k fs d) (omega arith)
   through i n (e ∷ es) fs d is =
       elim (m.worked j plan carry pass e (key seed cycle pass i)) as (λ r.
-      elim r [ Ok w ↦ from (i + 1) (es ++ fs) (more m j plan carry seed cycle pass d w (drew i e)) | Err c ↦ Err (record { element = i; code = c }) ]
-      ≡ on_with n fs (elim r [ Ok w ↦ from (i + 1) es (more m j plan carry seed cycle pass d w (drew i e)) | Err c ↦ Err (record { element = i; code = c }) ])) [
+      elim r [
+        | Ok w ↦ from (i + 1) (es ++ fs) (more m j plan carry seed cycle pass d w (drew i e))
+        | Err c ↦
+            Err (record { element = i; code = c })
+      ]
+      ≡ on_with n fs (elim r [
+        | Ok w ↦ from (i + 1) es (more m j plan carry seed cycle pass d w (drew i e))
+        | Err c ↦
+            Err (record { element = i; code = c })
+      ])) [
         | Ok w ↦ through (i + 1) n es fs (more m j plan carry seed cycle pass d w (drew i e)) (omega arith)
         | Err c ↦ refl
       ]
 
-  module _ (assoc : (a b c : P) → m.joined j (m.joined j a b) c ≡ m.joined j a (m.joined j b c)) (left : (a : P) → m.joined j (m.unit_part j) a ≡ a) (right : (a : P) → m.joined j a (m.unit_part j) ≡ a) where
+  module _ (assoc : (a b c : P) → m.joined j (m.joined j a b) c ≡ m.joined j a (m.joined j b c))
+      (left : (a : P) → m.joined j (m.unit_part j) a ≡ a) (right : (a : P) → m.joined j a (m.unit_part j) ≡ a) where
     abbrev join : P → P → P
     join = m.joined j
 
@@ -74,18 +85,28 @@ module _ {S G E L P : Type 0} (m : Meaning S G E L P) (j : S) (plan : L) (carry 
 
     onto_twice : (d e : Passed E P) (a : Result (Passed E P) Refusal) → onto join d (onto join e a) ≡ onto join (beside join d e) a
     onto_twice d e (Err r) = refl
-    onto_twice d e (Ok f) = λ k. Ok (done (sym (three d.elements e.elements f.elements) k) (sym (three d.draws e.draws f.draws) k) (sym (assoc d.part e.part f.part) k))
+    onto_twice d e (Ok f) = λ k. Ok (done (sym (three d.elements e.elements f.elements) k) (sym (three d.draws e.draws f.draws) k)
+        (sym (assoc d.part e.part f.part) k))
 
     -- what is done before stands before what is done from nothing
     from_nothing : (i : ℕ) (es : List E) (d : Passed E P) → from i es d ≡ onto join d (from i es none)
     from_nothing i [] d = λ k. Ok (done (sym (append_nil d.elements) k) (sym (append_nil d.draws) k) (sym (right d.part) k))
     from_nothing i (e ∷ es) d =
         elim (m.worked j plan carry pass e (key seed cycle pass i)) as (λ r.
-        elim r [ Ok w ↦ from (i + 1) es (more m j plan carry seed cycle pass d w (drew i e)) | Err c ↦ Err (record { element = i; code = c }) ]
-        ≡ onto join d (elim r [ Ok w ↦ from (i + 1) es (more m j plan carry seed cycle pass none w (drew i e)) | Err c ↦ Err (record { element = i; code = c }) ])) [
+        elim r [
+          | Ok w ↦ from (i + 1) es (more m j plan carry seed cycle pass d w (drew i e))
+          | Err c ↦
+              Err (record { element = i; code = c })
+        ]
+        ≡ onto join d (elim r [
+          | Ok w ↦ from (i + 1) es (more m j plan carry seed cycle pass none w (drew i e))
+          | Err c ↦
+              Err (record { element = i; code = c })
+        ])) [
           | Ok w ↦ let one : Passed E P = more m j plan carry seed cycle pass none w (drew i e) in
               from_nothing (i + 1) es (more m j plan carry seed cycle pass d w (drew i e))
-              ∙ (λ k. onto join (done (d.elements ++ w.element ∷ []) (d.draws ++ drew i e ∷ []) (join d.part (sym (left w.part) k))) (from (i + 1) es none))
+              ∙ (λ k. onto join (done (d.elements ++ w.element ∷ []) (d.draws ++ drew i e ∷ []) (join d.part (sym (left w.part) k)))
+              (from (i + 1) es none))
               ∙ sym (onto_twice d one (from (i + 1) es none)) ∙ sym (ap (onto join d) (from_nothing (i + 1) es one))
           | Err c ↦ refl
         ]
@@ -110,17 +131,21 @@ module _ {S G E L P : Type 0} (m : Meaning S G E L P) (j : S) (plan : L) (carry 
 
       first_blocks : (n : ℕ) → 64 * n ≤ length es + 63 → whole (take (64 * n) es) ≡ first n
       first_blocks zero h = refl
-      first_blocks (suc n) h = let ih = first_blocks n (omega arith) in let full : length (take (64 * n) es) ≡ 64 * n = omega (arith, length-take (64 * n) es) in
+      first_blocks (suc n) h = let ih = first_blocks n (omega arith) in
+          let full : length (take (64 * n) es) ≡ 64 * n = omega (arith, length-take (64 * n) es) in
           ap (λ (k : ℕ). whole (take k es)) (omega arith) ∙ ap whole (take-add (64 * n) 64 es)
-          ∙ through 0 (64 * n) (take (64 * n) es) (take 64 (drop (64 * n) es)) none (omega arith) ∙ on_is_then (64 * n) (take 64 (drop (64 * n) es)) (whole (take (64 * n) es))
+          ∙ through 0 (64 * n) (take (64 * n) es) (take 64 (drop (64 * n) es)) none (omega arith)
+          ∙ on_is_then (64 * n) (take 64 (drop (64 * n) es)) (whole (take (64 * n) es))
           ∙ ap (λ (a : Result (Passed E P) Refusal). then join a (at n)) ih
 
       in_blocks : whole es ≡ first (blocks_of (length es))
-      in_blocks = ap whole (sym (take_all (64 * blocks_of (length es)) es (omega arith))) ∙ first_blocks (blocks_of (length es)) (omega arith)
+      in_blocks = ap whole (sym (take_all (64 * blocks_of (length es)) es (omega arith)))
+          ∙ first_blocks (blocks_of (length es)) (omega arith)
 
       first_all : (n : ℕ) → ((b : ℕ) → b < n → refuses at b ≡ false) → first n ≡ Ok (all n)
       first_all zero ok = refl
-      first_all (suc n) ok = ap (λ (a : Result (Passed E P) Refusal). then join a (at n)) (first_all n (λ b lt. ok b (omega arith))) ∙ done_next join (m.unit_part j) (all n) (at n) (ok n (omega arith))
+      first_all (suc n) ok = ap (λ (a : Result (Passed E P) Refusal). then join a (at n)) (first_all n (λ b lt. ok b (omega arith)))
+          ∙ done_next join (m.unit_part j) (all n) (at n) (ok n (omega arith))
 
       -- no block refuses
       pub all_done : ((b : ℕ) → b < blocks_of (length es) → refuses at b ≡ false) → whole es ≡ Ok (all (blocks_of (length es)))
@@ -131,8 +156,10 @@ module _ {S G E L P : Type 0} (m : Meaning S G E L P) (j : S) (plan : L) (carry 
       first_stops l (suc n) lt says ok = dite (ℕ_discrete n l)
           (λ e. ap (λ (a : Result (Passed E P) Refusal). then join a (at n)) (first_all n (λ b h. ok b (omega arith)))
           ∙ ap (λ (k : ℕ). onto join (all n) (at k)) e ∙ stops join (all n) (at l) says)
-          (λ ne. ap (λ (a : Result (Passed E P) Refusal). then join a (at n)) (first_stops l n (omega arith) says ok) ∙ stays_stopped join (at l) (at n) says)
+          (λ ne. ap (λ (a : Result (Passed E P) Refusal). then join a (at n)) (first_stops l n (omega arith) says ok)
+          ∙ stays_stopped join (at l) (at n) says)
 
       -- block l is the least that refuses
-      pub least_refuses : (l : ℕ) → l < blocks_of (length es) → refuses at l ≡ true → ((b : ℕ) → b < l → refuses at b ≡ false) → whole es ≡ at l
+      pub least_refuses : (l : ℕ) → l < blocks_of (length es) → refuses at l ≡ true → ((b : ℕ) → b < l → refuses at b ≡ false)
+          → whole es ≡ at l
       least_refuses l lt says ok = in_blocks ∙ first_stops l (blocks_of (length es)) lt says ok

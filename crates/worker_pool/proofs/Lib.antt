@@ -1,3 +1,4 @@
+mod Begun
 mod Done
 mod Entries
 mod Events

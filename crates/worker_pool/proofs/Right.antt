@@ -25,7 +25,8 @@ module _ {E P : Type 0} (block : ℕ → Result (Passed E P) Refusal) (blocks : 
   entries_right : (n : ℕ) (es : List PoolEntry) → n ≤ blocks → Below n es → All IsOf (results_of block es)
   entries_right n [] le h = All-nil IsOf
   entries_right n (e ∷ es) le h = let lt : e.block < n = h.0 in
-      All-append IsOf (result_at block e.mark e.block) (results_of block es) (at_right e.mark e.block (omega arith)) (entries_right n es le h.1)
+      All-append IsOf (result_at block e.mark e.block) (results_of block es) (at_right e.mark e.block (omega arith))
+      (entries_right n es le h.1)
 
   shown_right : (rs : List (BlockResult E P)) → All IsOf (map shown rs) → AreRight block blocks rs
   shown_right [] h = All-nil (IsRight block blocks)

@@ -19,7 +19,8 @@ module _ {S G E L P : Type 0} where
 
   -- these are results of the pass
   abbrev pub AreOf : Meaning S G E L P → Task S G E L P → List (BlockResult E P) → Type 0
-  AreOf m t results = AreRight (block_in m (arc_value t.pass)) (blocks_in (arc_value t.pass)) results
+  AreOf m t results = AreRight (block_in m (arc_value t.pass))
+      (blocks_in (arc_value t.pass)) results
 
   -- the ticket is for this task, and the seat is a new one at its table
   pub record IsWork (m : Meaning S G E L P) (Covers : S → P → ℕ → Type 0) (Own : S → E → Type 0)

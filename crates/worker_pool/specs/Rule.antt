@@ -27,7 +27,8 @@ pub record Ruled (blocks : ℕ) (s : PoolState) : Type 0 where
   pub sized : length s.words ≡ blocks + 1
   pub counted : (b : ℕ) → total (λ v. times b v.entries) s.views ≡ slice_index s.words (b + 1)
   pub once : (b : ℕ) → slice_index s.words (b + 1) ≤ 1
-  pub ordered : (b c : ℕ) → c < b → slice_index s.words (b + 1) ≡ 1 → slice_index s.words (c + 1) ≡ 1
+  pub ordered : (b c : ℕ) → c < b → slice_index s.words (b + 1) ≡ 1
+      → slice_index s.words (c + 1) ≡ 1
   pub least : slice_index s.words 0 ≡ least_of s.views
   pub fits : (id : ℕ) (v : PoolView) → get_elem? s.views id ≡ some v → Fits s.words v
   pub whole : total (λ v. v.shares) s.views ≡ all_shares

@@ -14,7 +14,8 @@ pub record Shows (s : PoolState) (m : Machine) : Type 0 where
   pub least : m.least ≡ slice_index s.words 0
   pub claimed : (b : ℕ) → b < next m → slice_index s.words (b + 1) ≡ 1
   pub counted : (b : ℕ) → slice_index s.words (b + 1) ≡ 1 → b < next m
-  pub marks : (id : ℕ) (v : PoolView) (b : ℕ) (k : Mark) → get_elem? s.views id ≡ some v → Stands b k v.entries → Has m b k
+  pub marks : (id : ℕ) (v : PoolView) (b : ℕ) (k : Mark) → get_elem? s.views id ≡ some v
+      → Stands b k v.entries → Has m b k
 
 -- after a step the rule holds, and the table shows this state of the machine
 abbrev pub Becomes : ℕ → PoolState → Machine → Type 0

@@ -15,11 +15,12 @@ use Rattle.worker_pool.specs.Moves.{moved}
 abbrev Here : Type 0
 Here = Me (Unit {0}) PoolView
 
--- There is a table under the rule in which this seat has the view v and the word is `found`. With the word as `left`
--- and the view w it is under the rule again.
+-- There is a table under the rule in which this seat has the view v and the word is `found`. With
+-- the word as `left` and the view w it is under the rule again.
 abbrev pub Turn : ℕ → ℕ → PoolView → PoolView → ℕ → ℕ → ℕ → Type 0
 Turn blocks id v w word found left =
-    (s : PoolState) × Ruled blocks s × (get_elem? s.views id ≡ some v) × (slice_index s.words word ≡ found)
+    (s : PoolState) × Ruled blocks s × (get_elem? s.views id ≡ some v)
+    × (slice_index s.words word ≡ found)
     × Ruled blocks (moved s word left id w)
 
 -- such a step of a seat on a word of its table
@@ -33,14 +34,16 @@ module _ (blocks id : ℕ) where
       × (((n ≡ 0) × (m'.0 ≡ taken m.0)) ⊎ ((n ≡ 1) × (m'.0 ≡ passed m.0)))
 
   abbrev pub finishes : ℕ → Step (Unit {0}) → Here → ℕ → Here → Type 0
-  finishes b st m n m' = (m'.1 ≡ m.1) × Turn blocks id m.0 m'.0 0 n n × (m'.0 ≡ with_mark b Finished m.0)
+  finishes b st m n m' = (m'.1 ≡ m.1) × Turn blocks id m.0 m'.0 0 n n
+      × (m'.0 ≡ with_mark b Finished m.0)
 
   abbrev pub looks : ℕ → Step (Unit {0}) → Here → ℕ → Here → Type 0
   looks b st m n m' = (m'.1 ≡ m.1) × Turn blocks id m.0 m'.0 0 n n × (n ≤ least_in m.0.entries)
       × (((n < b) × (m'.0 ≡ with_mark b Skipped m.0)) ⊎ ((b ≤ n) × (m'.0 ≡ m.0)))
 
   abbrev pub reports : ℕ → Step (Unit {0}) → Here → ℕ → Here → Type 0
-  reports b st m n m' = (m'.1 ≡ m.1) × Turn blocks id m.0 m'.0 0 n (min n b) × (m'.0 ≡ with_mark b Reported m.0)
+  reports b st m n m' = (m'.1 ≡ m.1) × Turn blocks id m.0 m'.0 0 n (min n b)
+      × (m'.0 ≡ with_mark b Reported m.0)
 
 abbrev pub tells : Step (Unit {0}) → Here → ℕ → Here → Type 0
 tells st m n m' = (m' ≡ m) × Whole m.0

@@ -68,8 +68,8 @@ fn shared_pass<J: Job, B: Room, G: Gate>(
     work_together(alloc, keeper, lines, &task, seat, gate)
 }
 
-/// A pass by the caller and the kept threads. No more of these get work than there are blocks beside
-/// the caller's first one, and where none gets any the caller has no table.
+/// A pass by the caller and the kept threads. No more of these get work than there are blocks
+/// beside the caller's first one, and where none gets any the caller has no table.
 fn crew_pass<J: Job, B: Room, G: Gate>(
     alloc: Global,
     keeper: &mut Keeper<Task<J>, B>,

@@ -1,16 +1,23 @@
-//! What each worker passes before it looks for its first block.
-use std::hint;
+//! What each worker passes before it looks for its first block, and what it does while it has none.
 use std::sync::atomic::{AtomicBool, Ordering};
-use std::thread;
+use std::time::{Clock, Duration};
+use std::{hint, thread};
 
 /// The looks for work after which an idle thread lets others run between two looks.
 const BUSY_LOOKS: u32 = 1_000;
+
+/// The looks after which it sleeps between two looks, where it may: a few milliseconds.
+const WAKEFUL_LOOKS: u32 = 10_000;
+
+/// The microseconds that it sleeps.
+const NAP: u64 = 200;
 
 pub trait Gate: Drop {
     /// Each worker calls it once in a pass, with its number, counted from 0.
     fn enter(&self, worker: u32);
 
-    /// A kept thread calls it where it has found no work, and had found none so often before.
+    /// A kept thread calls it where it has found no work, and had found none so often before. Left
+    /// out, it gives way to every other thread, and takes a processor where none wants one.
     fn rest(&self, looks: u32) {
         if looks < BUSY_LOOKS {
             hint::spin_loop();
@@ -28,10 +35,32 @@ impl Gate for NoGate {
     fn enter(&self, _worker: u32) {}
 }
 
+/// Lets every worker through. A thread that is idle for a few milliseconds sleeps between its
+/// looks, so an idle crew takes a small part of a processor for each thread.
+#[derive(Drop)]
+pub struct NapGate<R: Clock + Drop> {
+    pub clock: R,
+}
+
+impl<R: Clock + Drop> Gate for NapGate<R> {
+    fn enter(&self, _worker: u32) {}
+
+    fn rest(&self, looks: u32) {
+        if looks < BUSY_LOOKS {
+            hint::spin_loop();
+        } else if looks < WAKEFUL_LOOKS {
+            thread::yield_now();
+        } else {
+            thread::sleep(&self.clock, Duration::from_micros(NAP));
+        }
+    }
+}
+
 /// The turns for which a worker waits for the other.
 const MOST_TURNS: u32 = 100_000_000;
 
-/// Holds the workers 0 and 1 until each has seen the other come, for a while at most. It is made for tests.
+/// Holds the workers 0 and 1 until each has seen the other come, for a while at most. It is made
+/// for tests.
 #[derive(Drop)]
 pub struct MeetGate {
     first_came: AtomicBool,

@@ -12,13 +12,15 @@ ghost use Rattle.worker_pool.specs.declared.view.PoolView.{PoolView};
 ghost use Rattle.worker_pool.specs.Views.{Stands, taken, passed, with_mark, one_less, newcomer, joined, fresh};
 ghost use Rattle.worker_pool.specs.Rule.{PoolState};
 ghost use Rattle.worker_pool.specs.Shown.{At, Becomes};
-ghost use Rattle.worker_pool.specs.Moves.{moved, regrouped};
+ghost use Rattle.worker_pool.specs.Moves.{begun, moved, regrouped};
 
 use job_trait::Job;
 
-/// Each kind of step keeps the rule, and changes the state that the table shows as one event of the
-/// machine does. A claim in vain, a load that tells nothing, a split and a join are no event.
+/// A table that is made shows the machine's start. Each kind of step keeps the rule, and changes
+/// the state that the table shows as one event of the machine does. A claim in vain, a load that
+/// tells nothing, a split and a join are no event.
 pub fn steps_are_events()
+    ensures begin { (blocks : ℕ) → Becomes blocks (begun blocks) start }
     ensures claim { (blocks : ℕ) (s : PoolState) (id : ℕ) (v : PoolView) (m : Machine)
         → At blocks s id v m → v.seen < blocks → slice_index s.words (v.seen + 1) ≡ 0
         → (v.seen ≡ next m) × (next m < blocks)
@@ -29,32 +31,39 @@ pub fn steps_are_events()
     ensures finish { (blocks : ℕ) (s : PoolState) (id : ℕ) (v : PoolView) (m : Machine)
         → At blocks s id v m → (b : ℕ) → Stands b Open v.entries
         → Has m b Open
-        × Becomes blocks (moved s 0 (slice_index s.words 0) id (with_mark b Finished v)) (after (finish b) m) }
+        × Becomes blocks (moved s 0 (slice_index s.words 0) id (with_mark b Finished v))
+        (after (finish b) m) }
     ensures look { (blocks : ℕ) (s : PoolState) (id : ℕ) (v : PoolView) (m : Machine)
         → At blocks s id v m → (b : ℕ) → Stands b Open v.entries → slice_index s.words 0 < b
         → Has m b Open
-        × Becomes blocks (moved s 0 (slice_index s.words 0) id (with_mark b Skipped v)) (after (look b) m) }
+        × Becomes blocks (moved s 0 (slice_index s.words 0) id (with_mark b Skipped v))
+        (after (look b) m) }
     ensures report { (blocks : ℕ) (s : PoolState) (id : ℕ) (v : PoolView) (m : Machine)
         → At blocks s id v m → (b : ℕ) → Stands b Open v.entries
         → Has m b Open
-        × Becomes blocks (moved s 0 (min (slice_index s.words 0) b) id (with_mark b Reported v)) (after (report b) m) }
+        × Becomes blocks (moved s 0 (min (slice_index s.words 0) b) id (with_mark b Reported v))
+        (after (report b) m) }
     ensures load { (blocks : ℕ) (s : PoolState) (id : ℕ) (v : PoolView) (m : Machine)
         → At blocks s id v m → Becomes blocks (moved s 0 (slice_index s.words 0) id v) m }
     ensures split { (blocks : ℕ) (s : PoolState) (id : ℕ) (v : PoolView) (m : Machine)
         → At blocks s id v m → 2 ≤ v.shares
         → Becomes blocks (regrouped s (slice_set s.views id (one_less v) ++ newcomer ∷ [])) m }
     ensures join { (blocks : ℕ) (s : PoolState) (id : ℕ) (v : PoolView) (m : Machine)
-        → At blocks s id v m → (other : ℕ) (w : PoolView) → other ≢ id → get_elem? s.views other ≡ some w
-        → Becomes blocks (regrouped s (slice_set (slice_set s.views id (joined v w)) other (fresh 0))) m }
+        → At blocks s id v m
+        → (other : ℕ) (w : PoolView) → other ≢ id → get_elem? s.views other ≡ some w
+        → Becomes blocks
+        (regrouped s (slice_set (slice_set s.views id (joined v w)) other (fresh 0))) m }
 {}
 
-/// Whatever events happen and in whatever order, an ended machine gathers what one thread answers that takes the
-/// elements one after another.
+/// Whatever events happen and in whatever order, an ended machine gathers what one thread answers
+/// that takes the elements one after another.
 pub fn any_schedule<J: Job>()
-    ensures { (job : J) (plan : J.Plan) (carry : J.Part) (seed cycle pass : ℕ) (elements : List J.Element)
+    ensures { (job : J) (plan : J.Plan) (carry : J.Part) (seed cycle pass : ℕ)
+        (elements : List J.Element)
         (events : List Event) (end : Machine) → length elements ≤ 65536
         → let blocks : ℕ = blocks_of (length elements) in
-        let answer : ℕ → Result (Passed J.Element J.Part) Refusal = λ b. block J.meaning job plan carry seed cycle pass b elements in
+        let answer : ℕ → Result (Passed J.Element J.Part) Refusal =
+        λ b. block J.meaning job plan carry seed cycle pass b elements in
         Leads blocks (refuses answer) events start end → HasEnded blocks end
         → gather (J.meaning.joined job) (J.meaning.unit_part job) answer blocks end
         ≡ passed_in_order J.meaning job plan carry seed cycle pass elements }

@@ -1,11 +1,13 @@
 //! One pass of a job over its container, on several threads.
 //!
-//! The workers claim blocks of 64 elements on a table of words. Whatever they do and in whatever order, the answer is
-//! that of one thread that takes the elements one after another: each element has random words of its own, the parts
-//! are joined in the order of the elements, and of several refusals the one of the least element is answered.
+//! The workers claim blocks of 64 elements on a table of words. Whatever they do and in whatever
+//! order, the answer is that of one thread that takes the elements one after another: each element
+//! has random words of its own, the parts are joined in the order of the elements, and of several
+//! refusals the one of the least element is answered.
 //!
-//! A crew keeps its threads from pass to pass. Each result that a kept thread gives is that of a block of the pass, and
-//! a block that has no result in time is run by the caller, so nothing rests on a thread's getting on.
+//! A crew keeps its threads from pass to pass. Each result that a kept thread gives is that of a
+//! block of the pass, and a block that has no result in time is run by the caller, so nothing rests
+//! on a thread's getting on.
 #![tactic(auto)]
 
 mod crew;
@@ -26,7 +28,7 @@ mod view;
 mod work;
 
 pub use crew::Crew;
-pub use gate::{Gate, MeetGate, NoGate};
+pub use gate::{Gate, MeetGate, NapGate, NoGate};
 pub use line::Line;
 pub use messages::{Reply, ReplyFits, Work, WorkFits};
 pub use pool::run_worker_pool;

@@ -14,20 +14,20 @@ use det_values::OutOfMemory;
 use job_trait::Job;
 use pass_in_blocks::BlockResult;
 use std::alloc::Global;
-use std::hint;
-use std::slice;
 use std::sync::Arc;
-use std::thread;
+use std::{hint, slice, thread};
 use tickets::{Keeper, Room};
 
 /// The looks for replies after which the caller runs the missing blocks itself: so many, and so many
-/// more for each element.
-const LEAST_LOOKS: u64 = 20_000;
+/// more for each element of the pass. When it finds no more block to claim, each other worker is at
+/// one block at most, so on a machine with a processor for each this is far more than enough, and on
+/// a busy one the caller doesn't wait longer than the pass would take it alone.
+const FIRST_LOOKS: u32 = 20_000;
 
-const LOOKS_AN_ELEMENT: u64 = 100;
+const LOOKS_PER_ELEMENT: u32 = 20;
 
-/// The looks after which the caller lets other threads run between two looks.
-const BUSY_LOOKS: u64 = 2_000;
+/// The looks after which the caller lets other threads run once.
+const BUSY_LOOKS: u32 = 1_024;
 
 /// Gives the task to each kept thread, and says to how many. One that can't take it enters here.
 fn give_all<J: Job, B: Room, G: Gate>(
@@ -83,7 +83,7 @@ fn take_replies<J: Job, B: Room>(
     Ok(came)
 }
 
-/// Adds the results that come while blocks are missing. It looks for them a bounded number of times.
+/// Adds the results that come while blocks are missing, as far as they come in time.
 fn collect<J: Job, B: Room>(
     keeper: &mut Keeper<Task<J>, B>,
     lines: &mut [Line<J, B>],
@@ -98,18 +98,18 @@ fn collect<J: Job, B: Room>(
     ensures right { IfOk result (λ done. AreOf J.meaning task.now results.new.items) }
 {
     let blocks = task.table.blocks() as usize;
-    let most = LEAST_LOOKS + LOOKS_AN_ELEMENT * task.pass.elements.len() as u64;
+    let elements = task.pass.elements.len() as u32;
     let mut missing = given;
-    'look: for look in 0..most {
+    'look: for look in 0..FIRST_LOOKS + LOOKS_PER_ELEMENT * elements {
         if missing == 0 || results.len() >= blocks {
             break;
         }
         let came = take_replies(keeper, lines, task, seat, results)?;
         missing = missing.saturating_sub(came);
-        if look < BUSY_LOOKS {
-            hint::spin_loop();
-        } else {
+        if look % BUSY_LOOKS == BUSY_LOOKS - 1 {
             thread::yield_now();
+        } else {
+            hint::spin_loop();
         }
     }
     Ok(())

@@ -7,8 +7,9 @@ use crate::view::PoolView;
 use atomic_table::{Join, Play, Split};
 use std::marker::{Brand, PhantomData};
 
-/// Where a step is made: the number of blocks, the seat's number and the block, which the step itself doesn't know.
-/// The public steps choose these, and the private ones below them carry them in a type.
+/// Where a step is made: the number of blocks, the seat's number and the block, which the step
+/// itself doesn't know. The public steps choose these, and the private ones below them carry them
+/// in a type.
 pub trait Site {
     ghost blocks: { ℕ };
 

@@ -6,8 +6,8 @@ use std::alloc::Global;
 use tickets::Office;
 
 /// What a crew is made of. The function that makes it names it for a function that starts a crew in
-/// it: as `run_worker_pool` does, it calls one over `B: Room` at `Brand`, and that call's ghosts are
-/// `record { table = room_name room }`.
+/// it: as `run_worker_pool` does, it calls one over `B: Room` at `Brand`, and that call's ghosts
+/// are `record { table = room_name room }`.
 #[derive(Drop)]
 pub struct CrewRoom<J: Job> {
     pub(crate) office: Office<Task<J>>,

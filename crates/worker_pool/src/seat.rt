@@ -17,8 +17,8 @@ impl TableRule<(), PoolView, u32> for PoolRule {
     ghost first = { λ _. fresh all_shares };
 }
 
-/// The table of one pass. Word 0 is the least block that was reported, or `u64::MAX`. Word b + 1 is 1 where block b
-/// was claimed, and 0 before.
+/// The table of one pass. Word 0 is the least block that was reported, or `u64::MAX`. Word b + 1 is
+/// 1 where block b was claimed, and 0 before.
 #[derive(Drop)]
 pub struct PassTable {
     pub(crate) table: Table<(), PoolView, u32, PoolRule, Global>,

@@ -13,7 +13,8 @@ impl PassTable {
     /// A table on which nothing is claimed, and the seat with all shares.
     pub fn new(alloc: Global, blocks: u32) -> Result<(PassTable, PassSeat), OutOfMemory>
         ensures { IfOk result (λ made.
-            (block_count made.0 ≡ blocks) × IsAt made.1 made.0 × (view_of made.1 ≡ fresh all_shares)) }
+            (block_count made.0 ≡ blocks) × IsAt made.1 made.0
+            × (view_of made.1 ≡ fresh all_shares)) }
     {
         let mut words = Vec::from_elem(alloc, 0u64, blocks as usize + 1)?;
         words[0] = u64::MAX;
@@ -25,7 +26,8 @@ impl PassTable {
     pub fn split(&self, seat: &mut PassSeat) -> PassSeat
         requires here { IsAt seat.old self.now }
         requires two { 2 ≤ (view_of seat.old).shares }
-        ensures kept { IsSameSeat seat.new seat.old × (view_of seat.new ≡ one_less (view_of seat.old)) }
+        ensures kept { IsSameSeat seat.new seat.old
+            × (view_of seat.new ≡ one_less (view_of seat.old)) }
         ensures other { IsAt result self.now × (view_of result ≡ newcomer) }
     {
         let other = self.table.shared.split_seat::<Shares>(&mut seat.seat);
@@ -39,7 +41,8 @@ impl PassTable {
     pub fn join(&self, seat: &mut PassSeat, other: PassSeat)
         requires here { IsAt seat.old self.now }
         requires other { IsAt other self.now }
-        ensures { IsSameSeat seat.new seat.old × (view_of seat.new ≡ joined (view_of seat.old) (view_of other)) }
+        ensures { IsSameSeat seat.new seat.old
+            × (view_of seat.new ≡ joined (view_of seat.old) (view_of other)) }
     {
         let PassSeat {
             seat: other_seat,
@@ -55,7 +58,8 @@ impl PassTable {
     pub fn tell(&self, seat: &mut PassSeat)
         requires here { IsAt seat.old self.now }
         requires all { (view_of seat.old).shares ≡ all_shares }
-        ensures { IsSameSeat seat.new seat.old × (view_of seat.new ≡ view_of seat.old) × Whole (view_of seat.old) }
+        ensures { IsSameSeat seat.new seat.old × (view_of seat.new ≡ view_of seat.old)
+            × Whole (view_of seat.old) }
     {
         self.table.shared.load::<Tell>(&mut seat.seat, 0);
     }

@@ -1,5 +1,5 @@
-//! The steps of a worker on the table. Each is one atomic step on one word, takes no memory, and changes the view of
-//! its own seat alone. It keeps the rule: it is a `Turn` of the table.
+//! The steps of a worker on the table. Each is one atomic step on one word, takes no memory, and
+//! changes the view of its own seat alone. It keeps the rule: it is a `Turn` of the table.
 ghost use Rattle.std.specs.Prelude.{◌≡◌, ℕ, ◌+◌, ◌<◌, ◌≤◌, min, MatchOption, IsTrue};
 ghost use Rattle.worker_pool.specs.declared.view.Mark.TheVariants.{Open, Finished, Reported, Skipped};
 ghost use Rattle.worker_pool.specs.Handles.{view_of, number_of, block_count, IsAt, IsSameSeat};
@@ -11,8 +11,8 @@ use crate::seat::{PassSeat, PassTable};
 use std::marker::Brand;
 
 impl PassSeat {
-    /// The number of blocks that the seat has seen: each of them was tried, by this worker or by one whose seat was
-    /// joined to its own.
+    /// The number of blocks that the seat has seen: each of them was tried, by this worker or by
+    /// one whose seat was joined to its own.
     pub fn seen(&self) -> u32
         ensures { result ≡ (view_of self.now).seen }
     {
@@ -28,8 +28,8 @@ impl PassTable {
         self.blocks
     }
 
-    /// Tries the block after those that the seat has seen, by one `swap`. The answer is the block where it was free,
-    /// and None where it stands in the view of another seat.
+    /// Tries the block after those that the seat has seen, by one `swap`. The answer is the block
+    /// where it was free, and None where it stands in the view of another seat.
     pub fn claim(&self, seat: &mut PassSeat) -> Option<u32>
         requires here { IsAt seat.old self.now }
         requires more { (view_of seat.old).seen < block_count self.now }
@@ -50,7 +50,8 @@ impl PassTable {
         requires site { (block_count self.now ≡ B.blocks) × (number_of seat.old ≡ B.seat) }
         ensures seat { IsSameSeat seat.new seat.old }
         ensures answer { MatchOption result
-            (Turn B.blocks B.seat (view_of seat.old) (view_of seat.new) ((view_of seat.old).seen + 1) 1 1
+            (Turn B.blocks B.seat (view_of seat.old) (view_of seat.new)
+            ((view_of seat.old).seen + 1) 1 1
             × (view_of seat.new ≡ passed (view_of seat.old)))
             (λ b. (b ≡ (view_of seat.old).seen)
             × Turn B.blocks B.seat (view_of seat.old) (view_of seat.new) (b + 1) 0 1
@@ -79,7 +80,8 @@ impl PassTable {
     fn finish_at<B: Site>(&self, seat: &mut PassSeat, block: u32)
         requires here { IsAt seat.old self.now }
         requires open { Stands block Open (view_of seat.old).entries }
-        requires site { (block_count self.now ≡ B.blocks) × (number_of seat.old ≡ B.seat) × (block ≡ B.block) }
+        requires site { (block_count self.now ≡ B.blocks) × (number_of seat.old ≡ B.seat)
+            × (block ≡ B.block) }
         ensures seat { IsSameSeat seat.new seat.old }
         ensures view { view_of seat.new ≡ with_mark block Finished (view_of seat.old) }
         ensures turn { (n : ℕ) × Turn B.blocks B.seat (view_of seat.old) (view_of seat.new) 0 n n }
@@ -87,12 +89,14 @@ impl PassTable {
         self.table.shared.load::<Finish<B>>(&mut seat.seat, 0);
     }
 
-    /// Loads the least block that was reported. An Open block above it is skipped, and the answer is true.
+    /// Loads the least block that was reported. An Open block above it is skipped, and the answer
+    /// is true.
     pub fn look(&self, seat: &mut PassSeat, block: u32) -> bool
         requires here { IsAt seat.old self.now }
         requires open { Stands block Open (view_of seat.old).entries }
         ensures seat { IsSameSeat seat.new seat.old }
-        ensures skipped { IsTrue result → (view_of seat.new ≡ with_mark block Skipped (view_of seat.old))
+        ensures skipped { IsTrue result
+            → (view_of seat.new ≡ with_mark block Skipped (view_of seat.old))
             × ((n : ℕ) × (n < block) × TurnOf self.now seat.old seat.new 0 n n) }
         ensures stays { ¬ IsTrue result → (view_of seat.new ≡ view_of seat.old)
             × (block ≤ least_in (view_of seat.old).entries)
@@ -104,13 +108,17 @@ impl PassTable {
     fn look_at<B: Site>(&self, seat: &mut PassSeat, block: u32) -> bool
         requires here { IsAt seat.old self.now }
         requires open { Stands block Open (view_of seat.old).entries }
-        requires site { (block_count self.now ≡ B.blocks) × (number_of seat.old ≡ B.seat) × (block ≡ B.block) }
+        requires site { (block_count self.now ≡ B.blocks) × (number_of seat.old ≡ B.seat)
+            × (block ≡ B.block) }
         ensures seat { IsSameSeat seat.new seat.old }
-        ensures skipped { IsTrue result → (view_of seat.new ≡ with_mark block Skipped (view_of seat.old))
-            × ((n : ℕ) × (n < block) × Turn B.blocks B.seat (view_of seat.old) (view_of seat.new) 0 n n) }
+        ensures skipped { IsTrue result
+            → (view_of seat.new ≡ with_mark block Skipped (view_of seat.old))
+            × ((n : ℕ) × (n < block) × Turn B.blocks B.seat (view_of seat.old)
+            (view_of seat.new) 0 n n) }
         ensures stays { ¬ IsTrue result → (view_of seat.new ≡ view_of seat.old)
             × (block ≤ least_in (view_of seat.old).entries)
-            × ((n : ℕ) × (block ≤ n) × Turn B.blocks B.seat (view_of seat.old) (view_of seat.new) 0 n n) }
+            × ((n : ℕ) × (block ≤ n) × Turn B.blocks B.seat (view_of seat.old)
+            (view_of seat.new) 0 n n) }
     {
         let least = self.table.shared.load::<Look<B>>(&mut seat.seat, 0);
         least < u64::from(block)
@@ -130,10 +138,12 @@ impl PassTable {
     fn report_at<B: Site>(&self, seat: &mut PassSeat, block: u32)
         requires here { IsAt seat.old self.now }
         requires open { Stands block Open (view_of seat.old).entries }
-        requires site { (block_count self.now ≡ B.blocks) × (number_of seat.old ≡ B.seat) × (block ≡ B.block) }
+        requires site { (block_count self.now ≡ B.blocks) × (number_of seat.old ≡ B.seat)
+            × (block ≡ B.block) }
         ensures seat { IsSameSeat seat.new seat.old }
         ensures view { view_of seat.new ≡ with_mark block Reported (view_of seat.old) }
-        ensures turn { (n : ℕ) × Turn B.blocks B.seat (view_of seat.old) (view_of seat.new) 0 n (min n block) }
+        ensures turn { (n : ℕ) × Turn B.blocks B.seat (view_of seat.old) (view_of seat.new) 0 n
+            (min n block) }
     {
         self.table
             .shared

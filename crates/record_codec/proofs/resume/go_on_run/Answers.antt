@@ -2,30 +2,28 @@ use Rattle.std.proofs.Common.{rules, ◌≡◌, [], ◌∷◌, drop, arith, refl
 use Rattle.record_grammar.specs.Read.{Got}
 use Rattle.record_grammar.specs.Grammar.{drawn_at, string_at}
 use Rattle.record_grammar.proofs.SteadyFields.{drawn_steady}
-use Rattle.det_values.specs.Spelling.{an_element}
 use Rattle.record_codec.proofs.Many.{Continues, Continues-next, Continues-room}
 use Rattle.record_codec.proofs.Resumed.{run_resumes, run_stops, output_stops, run_ends}
 use Rattle.record_codec.proofs.resume.go_on_run.Goals as goal
 
 pub returns-in-Err-clause-answers : goal.returns-in-Err-clause-answers
-returns-in-Err-clause-answers c = rw c.stopped.ensures (run_stops c.args.place (record { format = c.args.start.format; input = c.args.start.input; elements = c.loop-left.elements; left = c.loop-left.left; room = c.loop-left.invariant.room }) c.loop-left.read c.args.start.elements c.args.start.left c.args.bytes.now c.in-Err.stop c.loop-left-test.true (search (rules, c.rest_of.ensures, c.in-Err.ensures.gives)) c.loop-left.invariant.read)
-
-pub returns-in-Err-push-clause-answers : goal.returns-in-Err-push-clause-answers
-returns-in-Err-push-clause-answers c =
-    let h : Continues (drawn_at c.args.start.format) c.push.new.self c.loop-left.left c.loop-left.read c.args.start.elements c.args.start.left c.args.bytes.now = rw c.in-Err-push.ensures.err c.loop-left.invariant.read in
-    rw c.stopped-in-Err-push.ensures (tt, run_resumes c.args.place (record { format = c.args.start.format; input = c.args.start.input; elements = c.push.new.self; left = c.loop-left.left; room = rw c.in-Err-push.ensures.err c.loop-left.invariant.room }) c.loop-left.read c.args.start.elements c.args.start.left c.args.bytes.now h)
+returns-in-Err-clause-answers c =
+    let h : Continues (drawn_at c.args.start.format) c.push_drawn.new.elements c.loop-left.left c.loop-left.read c.args.start.elements c.args.start.left c.args.bytes.now = rw c.in-Err.ensures.kept c.loop-left.invariant.read in
+    rw c.stopped.ensures (run_stops c.args.place (record { format = c.args.start.format; input = c.args.start.input; elements = c.push_drawn.new.elements; left = c.loop-left.left; room = rw c.in-Err.ensures.kept c.loop-left.invariant.room }) c.loop-left.read c.args.start.elements c.args.start.left c.args.bytes.now c.in-Err.stop c.loop-left-test.true (search (rules, c.rest_of.ensures, c.in-Err.ensures.err)) h)
 
 pub overflow_sub-read : goal.overflow_sub-read
 overflow_sub-read c =
-    let e : drawn_at c.args.start.format (drop c.loop-left.read c.args.bytes.now) ≡ Got ((an_element c.in-Ok.shown.now c.in-Ok.draws), c.in-Ok.rest.now) = search (rules, c.rest_of.ensures, c.in-Ok.ensures.gives) in
+    let p = c.in-Ok.ensures.ok in
+    let e : drawn_at c.args.start.format (drop c.loop-left.read c.args.bytes.now) ≡ Got (p.0, c.in-Ok.rest.now) = search (rules, c.rest_of.ensures, p.1) in
     Continues-room (drawn_at c.args.start.format) (drawn_steady c.args.start.format) _ _ _ _ _ _ _ _ e c.loop-left.invariant.read
 
 pub loop-left-preserved : goal.loop-left-preserved
 loop-left-preserved c =
-    let e : drawn_at c.args.start.format (drop c.loop-left.read c.args.bytes.now) ≡ Got ((an_element c.in-Ok.shown.now c.in-Ok.draws), c.in-Ok.rest.now) = search (rules, c.rest_of.ensures, c.in-Ok.ensures.gives) in
-    rw c.in-Ok-push.ensures.ok (record {
-      read = Continues-next (drawn_at c.args.start.format) (drawn_steady c.args.start.format) c.loop-left.elements c.loop-left.left c.loop-left.read c.args.start.elements c.args.start.left c.args.bytes.now (an_element c.in-Ok.shown.now c.in-Ok.draws) c.in-Ok.rest.now c.loop-left-test.true e c.loop-left.invariant.read;
-      room = omega (arith, length-append c.loop-left.elements ((an_element c.in-Ok.shown.now c.in-Ok.draws) ∷ []), c.loop-left.invariant.room);
+    let p = c.in-Ok.ensures.ok in
+    let e : drawn_at c.args.start.format (drop c.loop-left.read c.args.bytes.now) ≡ Got (p.0, c.in-Ok.rest.now) = search (rules, c.rest_of.ensures, p.1) in
+    rw p.2 (record {
+      read = Continues-next (drawn_at c.args.start.format) (drawn_steady c.args.start.format) c.loop-left.elements c.loop-left.left c.loop-left.read c.args.start.elements c.args.start.left c.args.bytes.now p.0 c.in-Ok.rest.now c.loop-left-test.true e c.loop-left.invariant.read;
+      room = omega (arith, length-append c.loop-left.elements (p.0 ∷ []), c.loop-left.invariant.room);
     })
 
 pub overflow_sub-result : goal.overflow_sub-result

@@ -41,7 +41,7 @@ pub run_block-requires-clause-stands : goal.run_block-requires-clause-stands
 run_block-requires-clause-stands g c =
     let ready = c.requires.ready in
     let on = c.items.invariant.going_on in
-    λ κs lives. (inputs_of ready.items ++ inputs_of on.0, (on.1 ready.bytes ready.items ready.together).ran.stands)
+    (inputs_of ready.items ++ inputs_of on.0, (on.1 ready.bytes ready.items ready.together).ran.stands)
 
 pub run_block-requires-clause-few : goal.run_block-requires-clause-few
 run_block-requires-clause-few g c =
@@ -49,7 +49,7 @@ run_block-requires-clause-few g c =
     let on = c.items.invariant.going_on in
     let going = on.1 ready.bytes ready.items ready.together in
     let next = next-is (Ok c.in-Ok.item) (Ok (Some (Cycle c.in-Cycle.input))) c.next_cycle.new.self ready.bytes (ready.items ++ on.0) (item-is c.in-Ok.item c.in-Some.item (Cycle c.in-Cycle.input) c.in-Some.is c.in-Cycle.is) (c.in-Ok.ensures.next ready.bytes (ready.items ++ on.0) going.reads) in
-    λ κs lives. few_cycles ready.items on.0 c.in-Cycle.input c.items.engine.cycles going.ran.stands.cycles next.1.few
+    few_cycles ready.items on.0 c.in-Cycle.input c.items.engine.cycles going.ran.stands.cycles next.1.few
 
 pub run_block-requires-clause-known : goal.run_block-requires-clause-known
 run_block-requires-clause-known g c =
@@ -58,7 +58,7 @@ run_block-requires-clause-known g c =
     let going = on.1 ready.bytes ready.items ready.together in
     let next = next-is (Ok c.in-Ok.item) (Ok (Some (Cycle c.in-Cycle.input))) c.next_cycle.new.self ready.bytes (ready.items ++ on.0) (item-is c.in-Ok.item c.in-Some.item (Cycle c.in-Cycle.input) c.in-Some.is c.in-Cycle.is) (c.in-Ok.ensures.next ready.bytes (ready.items ++ on.0) going.reads) in
     let events = c.in-Ok.ensures.events ∙ c.items.invariant.events ∙ ready.together.events in
-    λ κs lives. subst (λ n. All (λ (s : SampleValue). s.event < n) c.in-Cycle.input.samples) events next.1.within.known
+    subst (λ n. All (λ (s : SampleValue). s.event < n) c.in-Cycle.input.samples) events next.1.within.known
 
 pub returns-in-Err-run_block-clause-stopped : goal.returns-in-Err-run_block-clause-stopped
 returns-in-Err-run_block-clause-stopped g c =

@@ -20,7 +20,7 @@ pieces-init g c = record {
 pub run_blocks-requires-clause-ready : goal.run_blocks-requires-clause-ready
 run_blocks-requires-clause-ready g c =
     let running = c.pieces.invariant.running in
-    λ κs lives. ready-of g.J.Job.meaning c.args.profile.now running.2 c.pieces.invariant.going c.pieces.invariant.low
+    ready-of g.J.Job.meaning c.args.profile.now running.2 c.pieces.invariant.going c.pieces.invariant.low
 
 pub returns-in-Err-clause-stopped : goal.returns-in-Err-clause-stopped
 returns-in-Err-clause-stopped g c =

@@ -11,7 +11,7 @@ pub cycle-requires-clause-events : goal.cycle-requires-clause-events
 cycle-requires-clause-events g c =
     let stands = c.requires.stands in
     let count = stands_events g.J.Job.meaning c.args.profile.now c.args.engine.now stands.0 stands.1 in
-    λ κs lives. subst (λ n. All (λ (s : SampleValue). s.event < n) c.args.input.samples) (sym count) c.requires.known
+    subst (λ n. All (λ (s : SampleValue). s.event < n) c.args.input.samples) (sym count) c.requires.known
 
 pub write_frame-requires : goal.write_frame-requires
 write_frame-requires g c =

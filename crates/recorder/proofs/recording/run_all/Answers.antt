@@ -18,7 +18,7 @@ returns-in_err-write_bytes-clause-run g c =
     )
 
 pub run_pieces-requires-clause-begun : goal.run_pieces-requires-clause-begun
-run_pieces-requires-clause-begun g c = λ κs lives. record {
+run_pieces-requires-clause-begun g c = record {
   reads = c.new-reader.ensures.stands;
   runs = c.requires.begun;
   events = c.new-reader.ensures.events ∙ c.len-events.ensures.len ∙ ap (λ p. length p.events) c.profile.view_is;

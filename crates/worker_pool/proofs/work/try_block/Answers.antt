@@ -10,7 +10,8 @@ returns-in_default-clause-works g c =
     works_passed (block_in g.J.Job.meaning c.args.pass.now) (view_of c.args.seat.now) _ _ c.requires.so_far c.in_default.ensures.answer.1
 
 pub look-requires-clause-open : goal.look-requires-clause-open
-look-requires-clause-open g c = let a = c.in-Some.ensures.answer in taken_stands (view_of c.args.seat.now) (view_of c.claim.new.seat) _ _ a.0 a.2 refl
+look-requires-clause-open g c = let a = c.in-Some.ensures.answer in taken_stands (view_of c.args.seat.now)
+    (view_of c.claim.new.seat) _ _ a.0 a.2 refl
 
 pub returns-then-look-clause-works : goal.returns-then-look-clause-works
 returns-then-look-clause-works g c =
@@ -22,9 +23,11 @@ returns-then-look-clause-works g c =
 pub returns-then-look-clause-stops : goal.returns-then-look-clause-stops
 returns-then-look-clause-stops g c goes =
     let a = c.in-Some.ensures.answer in
-    let e : view_of c.look.new.seat ≡ _ = (c.look.ensures.skipped c.if-look.true).0 in
-    ((view_of c.args.seat.now).seen, inr (mark_stands Skipped (view_of c.args.seat.now) (view_of c.claim.new.seat)
-    (view_of c.claim.new.seat) (view_of c.look.new.seat) c.in-Some.block c.requires.so_far.tidy.below a.0 a.2 refl e))
+    let e : view_of c.look.new.seat ≡ _ = (c.look.ensures.skipped c.if-look.true).0 in (
+      (view_of c.args.seat.now).seen,
+      inr (mark_stands Skipped (view_of c.args.seat.now) (view_of c.claim.new.seat)
+          (view_of c.claim.new.seat) (view_of c.look.new.seat) c.in-Some.block c.requires.so_far.tidy.below a.0 a.2 refl e),
+    )
 
 pub push-requires : goal.push-requires
 push-requires g c =
@@ -56,9 +59,12 @@ returns-then-refused-clause-works g c =
 pub returns-then-refused-clause-stops : goal.returns-then-refused-clause-stops
 returns-then-refused-clause-stops g c goes =
     let a = c.in-Some.ensures.answer in
-    let e : view_of c.look.new.seat ≡ view_of c.claim.new.seat = (c.look.ensures.stays (λ t. true≢false (sym t ∙ c.if-look.false))).0 in
-    ((view_of c.args.seat.now).seen, inl (mark_stands Reported (view_of c.args.seat.now) (view_of c.claim.new.seat)
-    (view_of c.look.new.seat) (view_of c.report.new.seat) c.in-Some.block c.requires.so_far.tidy.below a.0 a.2 e c.report.ensures.view))
+    let e : view_of c.look.new.seat ≡ view_of c.claim.new.seat = (c.look.ensures.stays (λ t. true≢false (sym t ∙ c.if-look.false))).0 in (
+      (view_of c.args.seat.now).seen,
+      inl (mark_stands Reported (view_of c.args.seat.now) (view_of c.claim.new.seat)
+          (view_of c.look.new.seat) (view_of c.report.new.seat) c.in-Some.block c.requires.so_far.tidy.below a.0 a.2 e
+          c.report.ensures.view),
+    )
 
 pub returns-else-refused-clause-works : goal.returns-else-refused-clause-works
 returns-else-refused-clause-works g c =

@@ -1,0 +1,73 @@
+-- The keys that a table of a manifest doesn't know.
+use Rattle.std.specs.Prelude.{ℕ, zero, suc, ◌+◌, Bool, ◌||◌, List, ◌++◌, length, take, drop}
+use Rattle.std.specs.Prelude.{replicate, Option, Some, None, option_map, option_and_then, codes}
+use Rattle.std.specs.Prelude.{bytes_eq, if◌then◌else◌}
+use Rattle.std.specs.Option.{option_or}
+use Rattle.toml.specs.Data.{Data, as_table, Members, no_members, member}
+use Rattle.manifest.specs.Keys.{found}
+use Rattle.manifest.specs.declared.key.Key.TheVariants as keys
+use Rattle.manifest.specs.declared.unknown.UnknownKey.{UnknownKey}
+use Rattle.manifest.specs.declared.unknown.KeyTable.{KeyTable}
+use Rattle.manifest.specs.declared.unknown.KeyTable.TheVariants.{Top, Event, InitNeeds, RunNeeds}
+
+-- the words of the table of keys, level by level
+abbrev pub is_top_word : List ℕ → Bool
+is_top_word key =
+    bytes_eq key (codes "job") || bytes_eq key (codes "cycle_time_ns")
+    || bytes_eq key (codes "workers") || bytes_eq key (codes "params")
+    || bytes_eq key (codes "event") || bytes_eq key (codes "platform")
+    || bytes_eq key (codes "init_needs") || bytes_eq key (codes "run_needs")
+
+abbrev pub is_event_word : List ℕ → Bool
+is_event_word key =
+    bytes_eq key (codes "name") || bytes_eq key (codes "capacity") || bytes_eq key (codes "policy")
+
+abbrev pub is_need_word : List ℕ → Bool
+is_need_word key =
+    bytes_eq key (codes "instructions") || bytes_eq key (codes "sequential_begin")
+    || bytes_eq key (codes "sequential_end") || bytes_eq key (codes "speedup_thousandths")
+
+unfoldable pub is_known : KeyTable → List ℕ → Bool
+is_known Top key = is_top_word key
+is_known (Event i) key = is_event_word key
+is_known InitNeeds key = is_need_word key
+is_known RunNeeds key = is_need_word key
+
+-- these bytes and zeros, 64 in all
+abbrev pub with_zeros : List ℕ → List ℕ
+with_zeros bytes = bytes ++ drop (length bytes) (replicate 64 0)
+
+-- a key as a fault tells it: at most the first 64 of its bytes
+abbrev pub unknown_key : KeyTable → List ℕ → UnknownKey
+unknown_key table key = record {
+  table = table;
+  bytes = with_zeros (take 64 key);
+  len = length (take 64 key);
+}
+
+-- the first of these members, which ascend, whose key the table doesn't know
+abbrev pub unknown_in : KeyTable → Members → Option (List ℕ)
+unknown_in table no_members = None
+unknown_in table (member key d ms) = if is_known table key then unknown_in table ms else Some key
+
+-- the same of what stands at a place, where it is a table
+abbrev pub unknown_at : KeyTable → Option Data → Option UnknownKey
+unknown_at table place =
+    option_map (unknown_key table)
+    (option_and_then (unknown_in table) (option_and_then as_table place))
+
+-- the same of n events from number i on
+abbrev pub unknown_events : Data → ℕ → ℕ → Option UnknownKey
+unknown_events tree i zero = None
+unknown_events tree i (suc n) =
+    option_or (unknown_at (Event i) (found tree (keys.EventItem i)))
+    (unknown_events tree (i + 1) n)
+
+-- the first key of a document that no table knows: the top level's, then the events', then the
+-- needs'
+abbrev pub first_unknown : Data → ℕ → Option UnknownKey
+first_unknown tree count =
+    option_or (unknown_at Top (Some tree))
+    (option_or (unknown_events tree 0 count)
+    (option_or (unknown_at InitNeeds (found tree keys.InitNeeds))
+    (unknown_at RunNeeds (found tree keys.RunNeeds))))
