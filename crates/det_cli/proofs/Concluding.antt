@@ -44,20 +44,23 @@ bad-ends (Some command) answer ends e = absurd (cc)
 module _ (wanted : Outcome) (before after : List ℕ → Type 0) (answer : Answer) (status : Status) (is : status ≡ status_of answer) where
   -- with no fault's status the outcome is given, or memory was wanting
   gives : (status ≡ statuses.ReadFault → ⊥) → (status ≡ statuses.WriteFault → ⊥)
-      → (answer ≡ ReadFault) ⊎ ((answer ≡ WriteFault) ⊎ ((answer ≡ OutOfMemory) ⊎ ((answer ≡ wanted.answer) × Grew before after wanted.bytes)))
+      → (answer ≡ ReadFault) ⊎ ((answer ≡ WriteFault) ⊎ ((answer ≡ OutOfMemory)
+      ⊎ ((answer ≡ wanted.answer) × Grew before after wanted.bytes)))
       → (status ≡ statuses.OutOfMemory) ⊎ Gives wanted before after status
   gives no_read no_write (inl read) = absurd (no_read (is ∙ ap status_of read))
   gives no_read no_write (inr (inl write)) = absurd (no_write (is ∙ ap status_of write))
   gives no_read no_write (inr (inr (inl memory))) = inl (is ∙ ap status_of memory)
   gives no_read no_write (inr (inr (inr whole))) = inr (record { same = is ∙ ap status_of whole.0; bytes = whole.1 })
 
-  but-memory : (status ≡ statuses.OutOfMemory → ⊥) → (status ≡ statuses.OutOfMemory) ⊎ Gives wanted before after status → Gives wanted before after status
+  but-memory : (status ≡ statuses.OutOfMemory → ⊥)
+      → (status ≡ statuses.OutOfMemory) ⊎ Gives wanted before after status → Gives wanted before after status
   but-memory no_memory (inl memory) = absurd (no_memory memory)
   but-memory no_memory (inr given) = given
 
   -- with no failure's status the outcome is given
   gives-all : (status ≡ statuses.ReadFault → ⊥) → (status ≡ statuses.WriteFault → ⊥) → (status ≡ statuses.OutOfMemory → ⊥)
-      → (answer ≡ ReadFault) ⊎ ((answer ≡ WriteFault) ⊎ ((answer ≡ OutOfMemory) ⊎ ((answer ≡ wanted.answer) × Grew before after wanted.bytes)))
+      → (answer ≡ ReadFault) ⊎ ((answer ≡ WriteFault) ⊎ ((answer ≡ OutOfMemory)
+      ⊎ ((answer ≡ wanted.answer) × Grew before after wanted.bytes)))
       → Gives wanted before after status
   gives-all no_read no_write no_memory whole = but-memory no_memory (gives no_read no_write whole)
 
@@ -78,7 +81,8 @@ module _ (words : List (List ℕ)) (first last : ShelfState) (out_failed : Type 
       let read = λ (e : status ≡ statuses.ReadFault). meets.read_fault (at-read-fault p.answer (sym p.is ∙ e)) in
       let write = λ (e : status ≡ statuses.WriteFault). meets.write_fault (at-write-fault p.answer (sym p.is ∙ e)) in
       record {
-        unfailed = λ tells calm taken. gives wanted before after p.answer status p.is (λ e. calm (read e)) (λ e. taken (write e)) (meets.whole tells);
+        unfailed = λ tells calm taken. gives wanted before after p.answer status p.is
+            (λ e. calm (read e)) (λ e. taken (write e)) (meets.whole tells);
         done = λ tells e. gives-all wanted before after p.answer status p.is (λ f. cc) (λ f. cc) (λ f. cc) (meets.whole tells);
         refused = λ tells e. gives-all wanted before after p.answer status p.is
             (no-refusal status statuses.ReadFault e (λ f. cc) (λ f. cc) (λ f. cc))

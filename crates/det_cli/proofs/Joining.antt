@@ -15,11 +15,13 @@ use Rattle.det_cli.specs.Outcome.{built, command_in, opened, outcome_of}
 use Rattle.det_cli.specs.Promise.{Runs}
 
 -- the words give the command that was told
-pub words-give : (words : List (List ℕ)) (told : Option Told) (command : Option Command) → told ≡ told_by words → command ≡ option_and_then command_told told → command_of words ≡ command
+pub words-give : (words : List (List ℕ)) (told : Option Told) (command : Option Command)
+    → told ≡ told_by words → command ≡ option_and_then command_told told → command_of words ≡ command
 words-give words told command first then = sym (ap (option_and_then command_told) first) ∙ sym then
 
 -- the command in these words, where this is theirs
-pub command-in : (words : List (List ℕ)) (command : Option Command) → command_of words ≡ command → command_in words ≡ option_and_then built command
+pub command-in : (words : List (List ℕ)) (command : Option Command) → command_of words ≡ command
+    → command_in words ≡ option_and_then built command
 command-in words command is = ap (option_and_then built) is
 
 -- what holds of a command holds of the same one
@@ -41,8 +43,8 @@ pub needs-command : (first last : ShelfState) (command same : Option Command) �
 needs-command first last = of-same (λ c. Tells first (opened c (told first)) → AsksPrefix first last (opened c (told first)))
 
 -- and what it promises of a command it promises of the words that give it
-pub runs-command : (first last : ShelfState) (other : Type 0) (before after : List ℕ → Type 0) (probes stayed : List ProbeLife) (answer : Answer)
-    (command same : Option Command) → command ≡ same
+pub runs-command : (first last : ShelfState) (other : Type 0) (before after : List ℕ → Type 0) (probes stayed : List ProbeLife)
+    (answer : Answer) (command same : Option Command) → command ≡ same
     → Runs same first last other before after probes stayed answer → Runs command first last other before after probes stayed answer
 runs-command first last other before after probes stayed answer = of-same (λ c. Runs c first last other before after probes stayed answer)
 
@@ -51,7 +53,8 @@ module _ (shelf : ShelfState) (other : Type 0) (before : List ℕ → Type 0) (p
   pub meets-no-command : (rose : Type 0) (command : Option Command) → command ≡ None
       → Meets (outcome_of command (told shelf) probes) (Tells shelf (opened command (told shelf))) rose other before before BadWords
   meets-no-command rose command none =
-      meets-refusal (outcome_of command (told shelf) probes) (Tells shelf (opened command (told shelf))) rose other before BadWords (λ e. cc) (λ e. cc)
+      meets-refusal (outcome_of command (told shelf) probes) (Tells shelf (opened command (told shelf))) rose other before BadWords
+      (λ e. cc) (λ e. cc)
       (λ t. ap (λ c. outcome_of c (told shelf) probes) none)
 
   -- and nothing else happens

@@ -1,5 +1,5 @@
--- What the program gives: an answer and the bytes for `out`, by the words, the bytes under each name
--- and the probes.
+-- What the program gives: an answer and the bytes for `out`, by the words, the bytes under each
+-- name and the probes.
 use Rattle.std.specs.Prelude.{ℕ, Bool, true, false, List, [], Option, Some, None, option_and_then}
 use Rattle.cli_answers.specs.declared.answer.Answer.TheVariants.{BadWords}
 use Rattle.cli_answers.specs.Outcome.{Outcome, text_outcome, refusal}

@@ -21,11 +21,13 @@ Ends (Some command) answer = can_end (work_of command) answer ≡ true
 -- A run of a command. `out` took what `before` and `after` say; the probes `seeing` were handed in,
 -- and `stayed` are left.
 pub record Runs (command : Option Command) (first last : ShelfState) (out_failed : Type 0)
-    (before after : List ℕ → Type 0) (seeing stayed : List ProbeLife) (answer : Answer) : Type 0 where
+    (before after : List ℕ → Type 0) (seeing stayed : List ProbeLife) (answer : Answer)
+    : Type 0 where
   -- it answers and writes what the definition gives of the bytes under the names that it opens,
   -- where they are told
   pub meets : Meets (outcome_of command (told first) seeing)
-      (Tells first (opened command (told first))) (Rose first.faults last.faults) out_failed before after answer
+      (Tells first (opened command (told first))) (Rose first.faults last.faults) out_failed
+      before after answer
   -- each answer belongs to its command, told or untold
   pub ends : Ends command answer
   -- no other name is opened, and none before its turn; where they are told, none beyond those that

@@ -9,7 +9,8 @@ use Rattle.cmd_needs.proofs.command.needs.Goals as goal
 pub returns-in-Err-clause-meets : goal.returns-in-Err-clause-meets
 returns-in-Err-clause-meets g c =
     let bytes = told (g.S.Slots.sees c.args.shelf.now) c.args.name.now in
-    rw c.answer.ensures.is (meets-end needs_from (λ why. refl) bytes _ _ _ _ c.in-Err.end c.in-Err.ensures.refused (λ e. c.in-Err.ensures.cause (ap Err e)))
+    rw c.answer.ensures.is
+    (meets-end needs_from (λ why. refl) bytes _ _ _ _ c.in-Err.end c.in-Err.ensures.refused (λ e. c.in-Err.ensures.cause (ap Err e)))
 
 pub returns-in-Err-clause-ends : goal.returns-in-Err-clause-ends
 returns-in-Err-clause-ends g c = c.answer.ensures.ends needs_work refl

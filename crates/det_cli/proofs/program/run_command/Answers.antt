@@ -12,10 +12,12 @@ returns-in-Demo-clause-meets g c =
 
 pub returns-in-Record-clause-meets : goal.returns-in-Record-clause-meets
 returns-in-Record-clause-meets g c =
-    meets-command (g.S.Slots.sees c.args.shelf.now) _ _ _ _ _ _ _ _ (ap (λ x. built (command_seen x)) c.in-Record.is) c.record_stimulus.ensures.meets
+    meets-command (g.S.Slots.sees c.args.shelf.now) _ _ _ _ _ _ _ _ (ap (λ x. built (command_seen x)) c.in-Record.is)
+    c.record_stimulus.ensures.meets
 
 pub returns-in-Record-clause-needed : goal.returns-in-Record-clause-needed
-returns-in-Record-clause-needed g c = needs-command _ _ _ _ (ap (λ x. built (command_seen x)) c.in-Record.is) c.record_stimulus.ensures.judged
+returns-in-Record-clause-needed g c = needs-command _ _ _ _ (ap (λ x. built (command_seen x)) c.in-Record.is)
+    c.record_stimulus.ensures.judged
 
 pub returns-in-Show-clause-meets : goal.returns-in-Show-clause-meets
 returns-in-Show-clause-meets g c =

@@ -7,15 +7,17 @@ use Rattle.det_cli.proofs.program.run_told.Goals as goal
 
 pub run_command-requires-clause-range : goal.run_command-requires-clause-range
 run_command-requires-clause-range g c κs lives =
-    c.ranges-2.ensures (texts c.args.words.now) (command_seen c.in-Some.command)
-    (words-give (texts c.args.words.now) (Some (told_of c.args.words_told.now)) (Some (command_seen c.in-Some.command)) c.requires.told c.in-Some.ensures)
+    let words = texts c.args.words.now in
+    let seen = command_seen c.in-Some.command in
+    c.ranges-2.ensures words seen (words-give words (Some (told_of c.args.words_told.now)) (Some seen) c.requires.told c.in-Some.ensures)
 
 pub returns-in-Some : goal.returns-in-Some
 returns-in-Some g c =
     let words = texts c.args.words.now in
-    let gives = words-give words (Some (told_of c.args.words_told.now)) (Some (command_seen c.in-Some.command)) c.requires.told c.in-Some.ensures in
+    let seen = command_seen c.in-Some.command in
+    let gives = words-give words (Some (told_of c.args.words_told.now)) (Some seen) c.requires.told c.in-Some.ensures in
     let ran = c.run_command.ensures in
-    runs-command (g.S.Slots.sees c.args.shelf.now) _ _ _ _ _ _ _ _ _ (command-in words (Some (command_seen c.in-Some.command)) gives) (record {
+    runs-command (g.S.Slots.sees c.args.shelf.now) _ _ _ _ _ _ _ _ _ (command-in words (Some seen) gives) (record {
       meets = ran.meets;
       ends = ran.ends;
       asked = ran.asked;
