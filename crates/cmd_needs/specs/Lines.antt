@@ -1,4 +1,4 @@
--- What is printed of a manifest: its job, its cycle, its workers, its platform and its resource needs.
+-- What is printed of a manifest: its job, its cycle, its workers, its platform and its needs.
 use Rattle.std.specs.Prelude.{ℕ, List, ◌++◌, Option, Some, None, codes}
 use Rattle.det_values.specs.declared.job_kind.JobKind.{JobKind}
 use Rattle.det_values.specs.declared.job_kind.JobKind.TheVariants.{Bank, Cloud, Guard}
@@ -22,10 +22,13 @@ platform_line name = codes "platform " ++ (platform_text name ++ codes "\n")
 abbrev pub needs_of : List ℕ → Option Needs → List ℕ
 needs_of word None = word ++ codes " none\n"
 needs_of word (Some needs) =
-    word ++ (number_line (codes " instructions") needs.instructions ++ (word ++ (number_line (codes " sequential_begin") needs.sequential_begin
-    ++ (word ++ (number_line (codes " sequential_end") needs.sequential_end ++ (word ++ number_line (codes " speedup") needs.speedup))))))
+    word ++ (number_line (codes " instructions") needs.instructions
+    ++ (word ++ (number_line (codes " sequential_begin") needs.sequential_begin
+    ++ (word ++ (number_line (codes " sequential_end") needs.sequential_end
+    ++ (word ++ number_line (codes " speedup") needs.speedup))))))
 
 abbrev pub needs_lines : ManifestValue → List ℕ
 needs_lines m =
-    job_line m.kind ++ (number_line (codes "cycle_time") m.cycle_time ++ (number_line (codes "workers") m.workers
-    ++ (platform_line m.platform ++ (needs_of (codes "init") m.init_needs ++ needs_of (codes "run") m.run_needs))))
+    job_line m.kind ++ (number_line (codes "cycle_time") m.cycle_time
+    ++ (number_line (codes "workers") m.workers ++ (platform_line m.platform
+    ++ (needs_of (codes "init") m.init_needs ++ needs_of (codes "run") m.run_needs))))

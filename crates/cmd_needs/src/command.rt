@@ -19,18 +19,18 @@ use std::alloc::Global;
 fn needs_text(alloc: Global, manifest: &Manifest) -> Result<Vec<u8>, OutOfMemory>
     ensures { IfOk result (λ text. text.items ≡ needs_lines manifest.now) }
 {
-    let profile = manifest.profile(alloc, 0)?;
     let mut text = Vec::new(alloc);
-    put_needs_lines(&mut text, manifest, profile.cycle_time)?;
+    put_needs_lines(&mut text, manifest)?;
     Ok(text)
 }
 
-/// Writes the lines of the manifest under this name: its job, its cycle time in nanoseconds, its workers, its platform,
-/// and what an initialisation and a run need.
+/// Writes the lines of the manifest under this name: its job, its cycle time in nanoseconds, its
+/// workers, its platform, and what an initialisation and a run need.
 pub fn needs<S: Shelf, K: Sink>(alloc: Global, name: &str, shelf: &mut S, out: &mut K) -> Answer
-    ensures meets { Meets (needs_outcome (told (S.sees shelf.old) name.now)) (IsSome ((S.sees shelf.old).holds name.now))
-        (Rose (S.sees shelf.old).faults (S.sees shelf.new).faults) (Rose (K.faults out.old) (K.faults out.new))
-        (K.took out.old) (K.took out.new) result }
+    ensures meets { Meets (needs_outcome (told (S.sees shelf.old) name.now))
+        (IsSome ((S.sees shelf.old).holds name.now))
+        (Rose (S.sees shelf.old).faults (S.sees shelf.new).faults)
+        (Rose (K.faults out.old) (K.faults out.new)) (K.took out.old) (K.took out.new) result }
     ensures ends { can_end needs_work result ≡ true }
     ensures asked { Asks (S.sees shelf.old) (S.sees shelf.new) (name.now ∷ []) }
 {

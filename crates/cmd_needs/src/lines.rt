@@ -1,7 +1,8 @@
 //! The lines of a manifest, appended to a text.
 ghost use Rattle.std.specs.Prelude.{◌≡◌, ◌++◌, OnOk, option_map};
 ghost use Rattle.record_text.specs.Words.{number_line};
-ghost use Rattle.cmd_needs.specs.Lines.{job_line, platform_text, platform_line, needs_of, needs_lines};
+ghost use Rattle.cmd_needs.specs.Lines.{job_line, platform_text, platform_line, needs_of};
+ghost use Rattle.cmd_needs.specs.Lines.{needs_lines};
 
 use det_values::{JobKind, OutOfMemory};
 use manifest::{Manifest, Needs, PlatformName};
@@ -19,7 +20,8 @@ fn put_job_line(out: &mut Vec<u8>, kind: JobKind) -> Result<(), AllocError>
 }
 
 fn put_platform(out: &mut Vec<u8>, name: Option<&PlatformName>) -> Result<(), AllocError>
-    ensures { OnOk result (out.new.items ≡ out.old.items ++ platform_text (option_map (λ p. p.now) name.entry)) }
+    ensures { OnOk result (out.new.items
+        ≡ out.old.items ++ platform_text (option_map (λ p. p.now) name.entry)) }
 {
     match name {
         None => put_words(out, "none"),
@@ -28,7 +30,8 @@ fn put_platform(out: &mut Vec<u8>, name: Option<&PlatformName>) -> Result<(), Al
 }
 
 fn put_platform_line(out: &mut Vec<u8>, name: Option<&PlatformName>) -> Result<(), AllocError>
-    ensures { OnOk result (out.new.items ≡ out.old.items ++ platform_line (option_map (λ p. p.now) name.entry)) }
+    ensures { OnOk result (out.new.items
+        ≡ out.old.items ++ platform_line (option_map (λ p. p.now) name.entry)) }
 {
     put_words(out, "platform ")?;
     put_platform(out, name)?;
@@ -37,7 +40,8 @@ fn put_platform_line(out: &mut Vec<u8>, name: Option<&PlatformName>) -> Result<(
 }
 
 fn put_need(out: &mut Vec<u8>, word: &str, key: &str, number: u64) -> Result<(), AllocError>
-    ensures { OnOk result (out.new.items ≡ out.old.items ++ (word.now ++ number_line key.now number)) }
+    ensures { OnOk result (out.new.items
+        ≡ out.old.items ++ (word.now ++ number_line key.now number)) }
 {
     put_words(out, word)?;
     put_number_line(out, key, number)?;
@@ -63,7 +67,8 @@ fn put_no_needs(out: &mut Vec<u8>, word: &str) -> Result<(), AllocError>
 }
 
 fn put_needs(out: &mut Vec<u8>, word: &str, needs: Option<&Needs>) -> Result<(), AllocError>
-    ensures { OnOk result (out.new.items ≡ out.old.items ++ needs_of word.now (option_map (λ n. n.now) needs.entry)) }
+    ensures { OnOk result (out.new.items
+        ≡ out.old.items ++ needs_of word.now (option_map (λ n. n.now) needs.entry)) }
 {
     match needs {
         None => put_no_needs(out, word),
@@ -71,19 +76,14 @@ fn put_needs(out: &mut Vec<u8>, word: &str, needs: Option<&Needs>) -> Result<(),
     }
 }
 
-/// Appends the lines of a manifest: its job, its cycle time in nanoseconds, its workers, its platform, and the needs of
-/// an initialisation and of a run, where the speedup is in thousandths. The cycle time is that of the manifest's
-/// profile. After a refusal some may stand there.
-pub(crate) fn put_needs_lines(
-    out: &mut Vec<u8>,
-    manifest: &Manifest,
-    cycle_time: u64,
-) -> Result<(), OutOfMemory>
-    requires { cycle_time ≡ manifest.now.cycle_time }
+/// Appends the lines of a manifest: its job, its cycle time in nanoseconds, its workers, its
+/// platform, and the needs of an initialisation and of a run, where the speedup is in thousandths.
+/// After a refusal some may stand there.
+pub(crate) fn put_needs_lines(out: &mut Vec<u8>, manifest: &Manifest) -> Result<(), OutOfMemory>
     ensures { OnOk result (out.new.items ≡ out.old.items ++ needs_lines manifest.now) }
 {
     put_job_line(out, manifest.kind())?;
-    put_number_line(out, "cycle_time", cycle_time)?;
+    put_number_line(out, "cycle_time", manifest.cycle_time())?;
     put_number_line(out, "workers", manifest.workers() as u64)?;
     put_platform_line(out, manifest.platform())?;
     put_needs(out, "init", manifest.init_needs())?;

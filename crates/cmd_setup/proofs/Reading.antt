@@ -14,7 +14,8 @@ use Rattle.cmd_setup.specs.Setup.{setup_of, IfBad, Takes}
 
 module _ (text all : List ℕ) (tells : Type 0) (same : tells → text ≡ all) where
   -- the manifest of a text is that of the bytes which were told
-  pub told-ok : (read : Result ManifestValue SetupEnd) → IfOk read (λ m. setup_of text ≡ Ok m) → IfOk read (λ m. tells → setup_of all ≡ Ok m)
+  pub told-ok : (read : Result ManifestValue SetupEnd)
+      → IfOk read (λ m. setup_of text ≡ Ok m) → IfOk read (λ m. tells → setup_of all ≡ Ok m)
   told-ok (Ok m) is = λ t. ap setup_of (sym (same t)) ∙ is
   told-ok (Err end) is = is
 
@@ -24,7 +25,8 @@ module _ (text all : List ℕ) (tells : Type 0) (same : tells → text ≡ all) 
   told-bad ends.OutOfMemory is = is
 
   -- and so is its refusal
-  pub told-err : (read : Result ManifestValue SetupEnd) → IfErr read (λ e. IfBad e (λ why. setup_of text ≡ Err why)) → IfErr read (λ e. IfBad e (λ why. tells → setup_of all ≡ Err why))
+  pub told-err : (read : Result ManifestValue SetupEnd) → IfErr read (λ e. IfBad e (λ why. setup_of text ≡ Err why))
+      → IfErr read (λ e. IfBad e (λ why. tells → setup_of all ≡ Err why))
   told-err (Ok m) is = is
   told-err (Err end) is = told-bad end is
 
@@ -33,7 +35,8 @@ too-long : (bytes : List ℕ) → 65536 < length bytes → setup_of bytes ≡ Er
 too-long bytes long = let e : nat_le (length bytes) 65536 ≡ false = lt-leb (length bytes) 65536 long in rw e refl
 
 -- where more than the limit was read, the name held more
-pub told-too-long : (first mid last : ShelfState) (name : List ℕ) (slot : ℕ) (text : List ℕ) → Opens first mid name slot → Reads mid last slot text → 65536 < length text → IsSome (first.holds name)
+pub told-too-long : (first mid last : ShelfState) (name : List ℕ) (slot : ℕ) (text : List ℕ)
+    → Opens first mid name slot → Reads mid last slot text → 65536 < length text → IsSome (first.holds name)
     → setup_of (told first name) ≡ Err (Fault TooLong)
 told-too-long first mid last name slot text opens reads long tells =
     let t = read-part first mid last name slot text opens reads tells in

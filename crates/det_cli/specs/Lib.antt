@@ -1,3 +1,4 @@
+pub mod Laws
 pub mod Outcome
 pub mod Promise
 pub mod Texts

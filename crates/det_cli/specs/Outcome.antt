@@ -1,12 +1,15 @@
--- What the program gives: an answer and the bytes for `out`, by the words, the bytes under each name and the probes.
+-- What the program gives: an answer and the bytes for `out`, by the words, the bytes under each
+-- name and the probes.
 use Rattle.std.specs.Prelude.{ℕ, Bool, true, false, List, [], Option, Some, None, option_and_then}
 use Rattle.cli_answers.specs.declared.answer.Answer.TheVariants.{BadWords}
 use Rattle.cli_answers.specs.Outcome.{Outcome, text_outcome, refusal}
-use Rattle.cli_words.specs.Words.{Command, demo, «record», replay, check, compare, show, needs, sim, salvage, upgrade, vote, chain, help, version, command_of, names}
+use Rattle.cli_words.specs.Words.{Command, demo, «record», replay, check, compare, show, needs, sim}
+use Rattle.cli_words.specs.Words.{salvage, upgrade, vote, chain, help, version, command_of, names}
 use Rattle.probes.specs.Reports.{ProbeLife}
 use Rattle.cli_answers.specs.Ends.{Work, writes_alone}
 use Rattle.cmd_setup.specs.Setup.{setup_of}
-use Rattle.cmd_record.specs.Outcomes.{demo_outcome, demo_work, record_outcome, record_names, record_work}
+use Rattle.cmd_record.specs.Outcomes.{demo_outcome, demo_work}
+use Rattle.cmd_record.specs.Outcomes.{record_outcome, record_names, record_work}
 use Rattle.cmd_needs.specs.Needs.{needs_outcome, needs_work}
 use Rattle.cmd_show.specs.Show.{show_outcome, show_work}
 use Rattle.cmd_sim.specs.Sim.{sim_outcome}
@@ -41,9 +44,11 @@ names_in None = []
 abbrev pub names_of : List (List ℕ) → List (List ℕ)
 names_of words = names_in (command_in words)
 
--- the names that a command opens where these are the bytes under each name: a manifest that is refused is the last of them
+-- the names that a command opens where these are the bytes under each name: a manifest that is
+-- refused is the last of them
 abbrev pub opened : Option Command → (List ℕ → List ℕ) → List (List ℕ)
-opened (Some («record» manifest stimulus seed workers)) holds = record_names manifest stimulus (setup_of (holds manifest))
+opened (Some («record» manifest stimulus seed workers)) holds =
+    record_names manifest stimulus (setup_of (holds manifest))
 opened command holds = names_in command
 
 -- what a command reads and does
@@ -63,7 +68,8 @@ shows_runs other = false
 -- the outcome of a command, where these are the bytes under each name
 abbrev pub outcome_of : Option Command → (List ℕ → List ℕ) → List ProbeLife → Outcome
 outcome_of (Some (demo stimulus)) holds probes = demo_outcome (holds stimulus)
-outcome_of (Some («record» manifest stimulus seed workers)) holds probes = record_outcome (holds manifest) (holds stimulus) seed
+outcome_of (Some («record» manifest stimulus seed workers)) holds probes =
+    record_outcome (holds manifest) (holds stimulus) seed
 outcome_of (Some (show recorded)) holds probes = show_outcome probes (holds recorded)
 outcome_of (Some (needs manifest)) holds probes = needs_outcome (holds manifest)
 outcome_of (Some (sim number workers)) holds probes = sim_outcome probes number

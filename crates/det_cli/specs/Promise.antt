@@ -1,4 +1,4 @@
--- What the program promises. The first record says it of a command's answer, the second of an exit status.
+-- What the program promises: first of a command's answer, then of an exit status.
 use Rattle.std.specs.Prelude.{◌≡◌, ℕ, true, false, List, [], Option, Some, None}
 use Rattle.det_edges.specs.Count.{Rose}
 use Rattle.det_edges.specs.Sink.{Grew, GrewByPrefix}
@@ -18,24 +18,32 @@ abbrev pub Ends : Option Command → Answer → Type 0
 Ends None answer = answer ≡ BadWords
 Ends (Some command) answer = can_end (work_of command) answer ≡ true
 
--- A run of a command. `out` took what `before` and `after` say; the probes `seeing` were handed in, and `stayed` are left.
-pub record Runs (command : Option Command) (first last : ShelfState) (out_failed : Type 0) (before after : List ℕ → Type 0)
-    (seeing stayed : List ProbeLife) (answer : Answer) : Type 0 where
-  -- it answers and writes what the definition gives of the bytes under the names that it opens, where they are told
-  pub meets : Meets (outcome_of command (told first) seeing) (Tells first (opened command (told first)))
-      (Rose first.faults last.faults) out_failed before after answer
+-- A run of a command. `out` took what `before` and `after` say; the probes `seeing` were handed in,
+-- and `stayed` are left.
+pub record Runs (command : Option Command) (first last : ShelfState) (out_failed : Type 0)
+    (before after : List ℕ → Type 0) (seeing stayed : List ProbeLife) (answer : Answer)
+    : Type 0 where
+  -- it answers and writes what the definition gives of the bytes under the names that it opens,
+  -- where they are told
+  pub meets : Meets (outcome_of command (told first) seeing)
+      (Tells first (opened command (told first))) (Rose first.faults last.faults) out_failed
+      before after answer
   -- each answer belongs to its command, told or untold
   pub ends : Ends command answer
-  -- no other name is opened, and none before its turn; where they are told, none beyond those that are needed
+  -- no other name is opened, and none before its turn; where they are told, none beyond those that
+  -- are needed
   pub asked : AsksPrefix first last (names_in command)
-  pub needed : Tells first (opened command (told first)) → AsksPrefix first last (opened command (told first))
-  -- a command that shows no runs leaves the probes; one that shows them has taken all out where it is done
+  pub needed : Tells first (opened command (told first))
+      → AsksPrefix first last (opened command (told first))
+  -- a command that shows no runs leaves the probes; one that shows them has taken all out where it
+  -- is done
   pub left : shows_runs command ≡ false → stayed ≡ seeing
   pub gone : shows_runs command ≡ true → answer ≡ Done → stayed ≡ []
 
 -- The program: a run of the command that the words give, its status, and one line for the user.
-pub record IsPromised (words : List (List ℕ)) (first last : ShelfState) (out_failed : Type 0) (before after : List ℕ → Type 0)
-    (err_failed : Type 0) (err_before err_after : List ℕ → Type 0) (seeing stayed : List ProbeLife) (status : Status) : Type 0 where
+pub record IsPromised (words : List (List ℕ)) (first last : ShelfState) (out_failed : Type 0)
+    (before after : List ℕ → Type 0) (err_failed : Type 0) (err_before err_after : List ℕ → Type 0)
+    (seeing stayed : List ProbeLife) (status : Status) : Type 0 where
   pub answer : Answer
   pub is : status ≡ status_of answer
   pub runs : Runs (command_in words) first last out_failed before after seeing stayed answer

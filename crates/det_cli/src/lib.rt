@@ -1,10 +1,12 @@
 //! The whole program as one call, over any shelf and any sinks.
 //!
-//! `top` reads the words of the command line, runs their command and tells its answer. Each command is a crate of its
-//! own, whose contract says that it meets its outcome for the bytes under its names. `specs/Outcome.antt` joins these to the
-//! outcome of the words, and the clauses of `top` follow from that.
+//! `top` reads the words of the command line, runs their command and tells its answer. Each command
+//! is a crate of its own, whose contract says that it meets its outcome for the bytes under its
+//! names. `specs/Outcome.antt` joins these to the outcome of the words, `specs/Promise.antt` says
+//! what `top` promises of it, and `laws` what a user may conclude from that.
 #![tactic(auto)]
 
+pub mod laws;
 mod program;
 mod texts;
 

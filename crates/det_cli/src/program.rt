@@ -9,7 +9,8 @@ ghost use Rattle.cli_words.specs.Texts.{texts};
 ghost use Rattle.cli_words.specs.Told.{told_of, told_by};
 ghost use Rattle.cli_words.specs.Words.{command_seen};
 ghost use Rattle.cli_words.specs.Ranges.{IsInRange};
-ghost use Rattle.det_cli.specs.Outcome.{built, command_in, names_in, opened, shows_runs, outcome_of};
+ghost use Rattle.det_cli.specs.Outcome.{built, command_in, names_in, opened, shows_runs};
+ghost use Rattle.det_cli.specs.Outcome.{outcome_of};
 ghost use Rattle.det_cli.specs.Promise.{Ends, Runs, IsPromised};
 
 use crate::texts::{USAGE, VERSION};
@@ -29,8 +30,8 @@ use worker_pool::Gate;
 
 /// Runs the command that the words give, which are those after the program's name.
 ///
-/// `record`, `demo` and `sim` run their cycles on real threads, each of which passes the gate. `show` and `sim` show the
-/// runs that they read or make to the probes, at most 1,024.
+/// `record`, `demo` and `sim` run their cycles on real threads, each of which passes the gate.
+/// `show` and `sim` show the runs that they read or make to the probes, at most 1,024.
 pub fn top<R: Threads + Sync, S: Shelf, K: Sink, E: Sink, G: Gate + Send + Sync + 'static>(
     rt: &R,
     alloc: Global,
@@ -110,13 +111,15 @@ fn run_command<R: Threads + Sync, S: Shelf, K: Sink, G: Gate + Send + Sync + 'st
     requires range { IsInRange (command_seen command) }
     ensures meets { Meets (outcome_of (built (command_seen command.entry)) (told (S.sees shelf.old))
         (map (λ b. life b) probes.old.items))
-        (Tells (S.sees shelf.old) (opened (built (command_seen command.entry)) (told (S.sees shelf.old))))
-        (Rose (S.sees shelf.old).faults (S.sees shelf.new).faults) (Rose (K.faults out.old) (K.faults out.new))
-        (K.took out.old) (K.took out.new) result }
+        (Tells (S.sees shelf.old)
+        (opened (built (command_seen command.entry)) (told (S.sees shelf.old))))
+        (Rose (S.sees shelf.old).faults (S.sees shelf.new).faults)
+        (Rose (K.faults out.old) (K.faults out.new)) (K.took out.old) (K.took out.new) result }
     ensures ends { Ends (built (command_seen command.entry)) result }
     ensures asked { AsksPrefix (S.sees shelf.old) (S.sees shelf.new)
         (names_in (built (command_seen command.entry))) }
-    ensures needed { Tells (S.sees shelf.old) (opened (built (command_seen command.entry)) (told (S.sees shelf.old)))
+    ensures needed { Tells (S.sees shelf.old)
+        (opened (built (command_seen command.entry)) (told (S.sees shelf.old)))
         → AsksPrefix (S.sees shelf.old) (S.sees shelf.new)
         (opened (built (command_seen command.entry)) (told (S.sees shelf.old))) }
     ensures left { shows_runs (built (command_seen command.entry)) ≡ false
@@ -152,7 +155,8 @@ fn run_command<R: Threads + Sync, S: Shelf, K: Sink, G: Gate + Send + Sync + 'st
 
 /// Writes a text.
 fn print<K: Sink>(text: &str, out: &mut K) -> Answer
-    ensures meets { Meets (text_outcome text.now) (Unit {0}) ⊥ (Rose (K.faults out.old) (K.faults out.new)) (K.took out.old) (K.took out.new) result }
+    ensures meets { Meets (text_outcome text.now) (Unit {0}) ⊥
+        (Rose (K.faults out.old) (K.faults out.new)) (K.took out.old) (K.took out.new) result }
     ensures ends { can_end writes_alone result ≡ true }
 {
     match write_all(out, text.as_bytes()) {

@@ -1,17 +1,21 @@
-use Rattle.std.proofs.Common.{[], ◌∷◌, ap, ◌∙◌}
+use Rattle.std.proofs.Common.{[], ◌∷◌, refl, ap, ◌∙◌}
 use Rattle.std.specs.Prelude.{Err}
 use Rattle.det_edges.proofs.Opening.{asks-then-prefix}
 use Rattle.manifest.specs.Profiles.{profile_of}
 use Rattle.cli_answers.specs.Outcome.{told}
 use Rattle.cmd_setup.specs.Setup.{setup_of}
+use Rattle.cmd_record.specs.Outcomes.{record_work}
 use Rattle.cmd_record.proofs.Meeting.{rose-later, meets-as}
 use Rattle.cmd_record.proofs.ByManifest.{by-told, still-told, met-end, asked-manifest, asked-both}
 use Rattle.cmd_record.proofs.by_manifest.record_stimulus.Goals as goal
 
 pub returns-in-Err-clause-meets : goal.returns-in-Err-clause-meets
 returns-in-Err-clause-meets g c =
-    met-end (g.S.Slots.sees c.args.shelf.now) c.args.manifest.now c.args.stimulus.now c.args.seed _ _ _ c.in-Err.end c.answer.result c.answer.ensures
+    met-end (g.S.Slots.sees c.args.shelf.now) c.args.manifest.now c.args.stimulus.now c.args.seed _ _ _ c.in-Err.end c.answer.result c.answer.ensures.is
     c.in-Err.ensures.refused (λ is. c.in-Err.ensures.cause (ap (λ e. Err e) is))
+
+pub returns-in-Err-clause-ends : goal.returns-in-Err-clause-ends
+returns-in-Err-clause-ends g c = c.answer.ensures.ends record_work refl
 
 pub returns-in-Err-clause-judged : goal.returns-in-Err-clause-judged
 returns-in-Err-clause-judged g c = λ tells.

@@ -1,0 +1,97 @@
+-- What a status tells, by the answer that it stands for.
+use Rattle.std.proofs.Common.{◌≡◌, ℕ, List, refl, sym, ap, ◌∙◌, inl, inr}
+use Rattle.std.specs.Prelude.{◌⊎◌, ◌↔◌, true, Option, Some, None}
+use Rattle.det_edges.specs.Sink.{Grew}
+use Rattle.det_edges.specs.Shelf.{ShelfState}
+use Rattle.probes.specs.Reports.{ProbeLife}
+use Rattle.cli_answers.specs.declared.status.Status.{Status}
+use Rattle.cli_answers.specs.declared.status.Status.TheVariants as statuses
+use Rattle.cli_answers.specs.declared.answer.Answer.{Answer}
+use Rattle.cli_answers.specs.declared.answer.Answer.TheVariants.{BadWords, ReadFault, WriteFault, OutOfMemory}
+use Rattle.cli_answers.specs.Answers.{status_of}
+use Rattle.cli_answers.specs.Ends.{Work, can_end}
+use Rattle.cli_answers.specs.Outcome.{Outcome, told}
+use Rattle.cli_words.specs.Words.{Command}
+use Rattle.det_cli.specs.Outcome.{command_in, work_of, outcome}
+use Rattle.det_cli.specs.Promise.{Ends, IsPromised}
+use Rattle.det_cli.specs.Laws.{Gives, IsRefusal, Concludes}
+
+-- a fault's status, and that of bad words, stand for one answer
+at-read-fault : (answer : Answer) → status_of answer ≡ statuses.ReadFault → answer ≡ ReadFault
+at-read-fault ReadFault e = refl
+at-read-fault _ e = absurd (cc)
+
+at-write-fault : (answer : Answer) → status_of answer ≡ statuses.WriteFault → answer ≡ WriteFault
+at-write-fault WriteFault e = refl
+at-write-fault _ e = absurd (cc)
+
+at-bad-words : (answer : Answer) → status_of answer ≡ statuses.BadWords → answer ≡ BadWords
+at-bad-words BadWords e = refl
+at-bad-words _ e = absurd (cc)
+
+-- no command ends as bad words
+no-bad-words : (work : Work) (answer : Answer) → answer ≡ BadWords → can_end work answer ≡ true → ⊥
+no-bad-words work answer e ends = let h = rw e at ends in cc
+
+ends-bad : (command : Option Command) (answer : Answer) → Ends command answer → answer ≡ BadWords → command ≡ None
+ends-bad None answer ends e = refl
+ends-bad (Some command) answer ends e = absurd (no-bad-words (work_of command) answer e ends)
+
+bad-ends : (command : Option Command) (answer : Answer) → Ends command answer → command ≡ None → answer ≡ BadWords
+bad-ends None answer ends e = ends
+bad-ends (Some command) answer ends e = absurd (cc)
+
+module _ (wanted : Outcome) (before after : List ℕ → Type 0) (answer : Answer) (status : Status) (is : status ≡ status_of answer) where
+  -- with no fault's status the outcome is given, or memory was wanting
+  gives : (status ≡ statuses.ReadFault → ⊥) → (status ≡ statuses.WriteFault → ⊥)
+      → (answer ≡ ReadFault) ⊎ ((answer ≡ WriteFault) ⊎ ((answer ≡ OutOfMemory)
+      ⊎ ((answer ≡ wanted.answer) × Grew before after wanted.bytes)))
+      → (status ≡ statuses.OutOfMemory) ⊎ Gives wanted before after status
+  gives no_read no_write (inl read) = absurd (no_read (is ∙ ap status_of read))
+  gives no_read no_write (inr (inl write)) = absurd (no_write (is ∙ ap status_of write))
+  gives no_read no_write (inr (inr (inl memory))) = inl (is ∙ ap status_of memory)
+  gives no_read no_write (inr (inr (inr whole))) = inr (record { same = is ∙ ap status_of whole.0; bytes = whole.1 })
+
+  but-memory : (status ≡ statuses.OutOfMemory → ⊥)
+      → (status ≡ statuses.OutOfMemory) ⊎ Gives wanted before after status → Gives wanted before after status
+  but-memory no_memory (inl memory) = absurd (no_memory memory)
+  but-memory no_memory (inr given) = given
+
+  -- with no failure's status the outcome is given
+  gives-all : (status ≡ statuses.ReadFault → ⊥) → (status ≡ statuses.WriteFault → ⊥) → (status ≡ statuses.OutOfMemory → ⊥)
+      → (answer ≡ ReadFault) ⊎ ((answer ≡ WriteFault) ⊎ ((answer ≡ OutOfMemory)
+      ⊎ ((answer ≡ wanted.answer) × Grew before after wanted.bytes)))
+      → Gives wanted before after status
+  gives-all no_read no_write no_memory whole = but-memory no_memory (gives no_read no_write whole)
+
+-- a refusal is none of these
+no-refusal : (status other : Status) → IsRefusal status
+    → (statuses.BadManifest ≡ other → ⊥) → (statuses.BadStimulus ≡ other → ⊥) → (statuses.BadRecord ≡ other → ⊥) → status ≡ other → ⊥
+no-refusal status other (inl is) manifest stimulus recorded e = manifest (cc)
+no-refusal status other (inr (inl is)) manifest stimulus recorded e = stimulus (cc)
+no-refusal status other (inr (inr is)) manifest stimulus recorded e = recorded (cc)
+
+module _ (words : List (List ℕ)) (first last : ShelfState) (out_failed : Type 0) (before after : List ℕ → Type 0)
+    (err_failed : Type 0) (err_before err_after : List ℕ → Type 0) (seeing stayed : List ProbeLife) (status : Status) where
+  pub concludes : IsPromised words first last out_failed before after err_failed err_before err_after seeing stayed status
+      → Concludes words first last out_failed before after seeing status
+  concludes p =
+      let wanted = outcome words (told first) seeing in
+      let meets = p.runs.meets in
+      let read = λ (e : status ≡ statuses.ReadFault). meets.read_fault (at-read-fault p.answer (sym p.is ∙ e)) in
+      let write = λ (e : status ≡ statuses.WriteFault). meets.write_fault (at-write-fault p.answer (sym p.is ∙ e)) in
+      record {
+        unfailed = λ tells calm taken. gives wanted before after p.answer status p.is
+            (λ e. calm (read e)) (λ e. taken (write e)) (meets.whole tells);
+        done = λ tells e. gives-all wanted before after p.answer status p.is (λ f. cc) (λ f. cc) (λ f. cc) (meets.whole tells);
+        refused = λ tells e. gives-all wanted before after p.answer status p.is
+            (no-refusal status statuses.ReadFault e (λ f. cc) (λ f. cc) (λ f. cc))
+            (no-refusal status statuses.WriteFault e (λ f. cc) (λ f. cc) (λ f. cc))
+            (no-refusal status statuses.OutOfMemory e (λ f. cc) (λ f. cc) (λ f. cc)) (meets.whole tells);
+        read_fault = read;
+        write_fault = write;
+        bad_words = (
+          (λ e. ends-bad (command_in words) p.answer p.runs.ends (at-bad-words p.answer (sym p.is ∙ e))),
+          λ e. p.is ∙ ap status_of (bad-ends (command_in words) p.answer p.runs.ends e),
+        );
+      }

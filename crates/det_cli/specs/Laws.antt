@@ -1,0 +1,43 @@
+-- What a user may conclude from the exit status of a run of the program.
+use Rattle.std.specs.Prelude.{◌≡◌, ℕ, ◌⊎◌, ◌↔◌, List, None}
+use Rattle.det_edges.specs.Count.{Rose}
+use Rattle.det_edges.specs.Sink.{Grew}
+use Rattle.det_edges.specs.Shelf.{ShelfState}
+use Rattle.probes.specs.Reports.{ProbeLife}
+use Rattle.cli_answers.specs.declared.status.Status.{Status}
+use Rattle.cli_answers.specs.declared.status.Status.TheVariants.{Done, BadWords, BadManifest}
+use Rattle.cli_answers.specs.declared.status.Status.TheVariants.{BadStimulus, BadRecord}
+use Rattle.cli_answers.specs.declared.status.Status.TheVariants.{ReadFault, WriteFault, OutOfMemory}
+use Rattle.cli_answers.specs.Answers.{status_of}
+use Rattle.cli_answers.specs.Outcome.{Outcome, Tells, told}
+use Rattle.det_cli.specs.Outcome.{command_in, opened, outcome}
+
+-- the bytes under the names that the words open are told
+abbrev pub TellsAll : List (List ℕ) → ShelfState → Type 0
+TellsAll words shelf = Tells shelf (opened (command_in words) (told shelf))
+
+-- the status is that of the outcome, and `out` took all its bytes
+pub record Gives (wanted : Outcome) (before after : List ℕ → Type 0) (status : Status)
+    : Type 0 where
+  pub same : status ≡ status_of wanted.answer
+  pub bytes : Grew before after wanted.bytes
+
+-- something that was read is refused
+abbrev pub IsRefusal : Status → Type 0
+IsRefusal status = (status ≡ BadManifest) ⊎ ((status ≡ BadStimulus) ⊎ (status ≡ BadRecord))
+
+pub record Concludes (words : List (List ℕ)) (first last : ShelfState) (out_failed : Type 0)
+    (before after : List ℕ → Type 0) (seeing : List ProbeLife) (status : Status) : Type 0 where
+  -- where neither the shelf nor `out` failed the outcome is given, or memory was wanting
+  pub unfailed : TellsAll words first → ¬ Rose first.faults last.faults → ¬ out_failed
+      → (status ≡ OutOfMemory) ⊎ Gives (outcome words (told first) seeing) before after status
+  -- done, or refused, only where the outcome is
+  pub done : TellsAll words first → status ≡ Done
+      → Gives (outcome words (told first) seeing) before after status
+  pub refused : TellsAll words first → IsRefusal status
+      → Gives (outcome words (told first) seeing) before after status
+  -- a fault only where there was one
+  pub read_fault : status ≡ ReadFault → Rose first.faults last.faults
+  pub write_fault : status ≡ WriteFault → out_failed
+  -- bad words exactly where the words are no command
+  pub bad_words : (status ≡ BadWords) ↔ (command_in words ≡ None)

@@ -1,0 +1,22 @@
+//! What follows from the program's promise. The law is a function that computes nothing.
+ghost use Rattle.std.specs.Prelude.{ℕ, List};
+ghost use Rattle.det_edges.specs.Count.{Rose};
+ghost use Rattle.det_edges.specs.Shelf.{ShelfState};
+ghost use Rattle.probes.specs.Reports.{ProbeLife};
+ghost use Rattle.cli_answers.specs.declared.status.Status.{Status};
+ghost use Rattle.det_cli.specs.Laws.{Concludes};
+ghost use Rattle.det_cli.specs.Promise.{IsPromised};
+
+use det_edges::Sink;
+
+/// What a user may conclude from the exit status of a run that keeps the promise of `top`.
+pub fn answers<K: Sink, E: Sink>()
+    ensures { (words : List (List ℕ)) (first last : ShelfState) (out out_after : K)
+        (err err_after : E) (seeing stayed : List ProbeLife) (status : Status)
+        → IsPromised words first last
+        (Rose (K.faults out) (K.faults out_after)) (K.took out) (K.took out_after)
+        (Rose (E.faults err) (E.faults err_after)) (E.took err) (E.took err_after)
+        seeing stayed status
+        → Concludes words first last (Rose (K.faults out) (K.faults out_after))
+        (K.took out) (K.took out_after) seeing status }
+{}
