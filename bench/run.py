@@ -138,6 +138,27 @@ class Row:
 HEADS = ["command", "workers", "wall time", "MB/s of record", "memory", "speed, 1 worker = 1"]
 
 
+@dataclass(frozen=True)
+class Goal:
+    """A ratio that is aimed at, and the one that was measured."""
+
+    what: str
+    found: float
+    most: Optional[float] = None
+    least: Optional[float] = None
+
+    def line(self) -> str:
+        bound = f"at most {self.most}" if self.most is not None else f"at least {self.least}"
+        holds = self.found <= self.most if self.most is not None else self.found >= (self.least or 0)
+        return f"{'holds' if holds else 'MISSED'}: {self.what}: {self.found:.2f}, {bound}"
+
+
+MOST_OF_PLAIN = 1.0
+MOST_OF_ONE_WORKER = 1.05
+MOST_MEMORY_OF_ONE_WORKER = 2.0
+LEAST_GAIN = {"cloud": 2.9, "large": 2.9}
+
+
 def adopt_orphans() -> None:
     """Makes this process the parent of what its children leave behind (Linux)."""
     set_child_subreaper = 36
@@ -261,6 +282,32 @@ class Bench:
         self.add((f"plain Rust, {name}", None), words, "plain", first)
         self.compare(f"records of {name} by det and by plain Rust", [digest, digest_of(self.room / "plain")])
 
+    def row(self, what: str, workers: Optional[int]) -> Optional[Row]:
+        found = [row for row in self.rows if (row.what, row.workers) == (what, workers)]
+        return found[0] if found else None
+
+    def goals(self) -> list[Goal]:
+        """What is aimed at, as far as it was measured."""
+        goals = []
+        for name in NAMES:
+            one = self.row(f"record {name}", 1)
+            plain = self.row(f"same interfaces in plain Rust, {name}", 1)
+            if one and plain:
+                what = f"{name}, one worker, time of the same interfaces in plain Rust = 1"
+                goals.append(Goal(what, one.seconds / plain.seconds, most=MOST_OF_PLAIN))
+            for workers in WORKERS[1:]:
+                more = self.row(f"record {name}", workers)
+                if one and more:
+                    what = f"{name}, {workers} workers, time of one worker = 1"
+                    goals.append(Goal(what, more.seconds / one.seconds, most=MOST_OF_ONE_WORKER))
+                    what = f"{name}, {workers} workers, memory of one worker = 1"
+                    goals.append(Goal(what, more.memory / one.memory, most=MOST_MEMORY_OF_ONE_WORKER))
+            most = self.row(f"record {name}", WORKERS[-1])
+            if one and most and name in LEAST_GAIN:
+                what = f"{name}, gain of {WORKERS[-1]} workers over one"
+                goals.append(Goal(what, one.seconds / most.seconds, least=LEAST_GAIN[name]))
+        return goals
+
     def sim(self) -> None:
         """The simulated run by each number of workers, and the time of its digest alone."""
         first, texts = None, []
@@ -330,6 +377,9 @@ def main() -> int:
         print(failure, file=sys.stderr)
         return 1
     print_table(bench.rows)
+    print()
+    for goal in bench.goals():
+        print(f"- {goal.line()}")
     print()
     for remark in bench.remarks:
         print(f"- {remark}")
