@@ -1,13 +1,24 @@
 -- A run of the recorder meets the outcome of its profile and of its stimulus.
-use Rattle.std.proofs.Common.{◌≡◌, ℕ, List, length, ap}
-use Rattle.std.specs.Prelude.{Some, None}
+use Rattle.std.proofs.Common.{◌≡◌, ℕ, List, length, refl, sym, ap, inr}
+use Rattle.std.specs.Prelude.{Option, Some, None, Result, Ok, Err, IsErrOf, IfSome}
+use Rattle.det_edges.specs.Shelf.{ShelfState}
+use Rattle.det_edges.specs.Sink.{GrewByPrefix}
+use Rattle.probes.specs.Reports.{ProbeLife}
+use Rattle.recorder.specs.declared.ends.Counts.{Counts}
+use Rattle.recorder.specs.declared.ends.RecordEnd.{RecordEnd}
+use Rattle.recorder.specs.declared.ends.RecordEnd.TheVariants.{Stimulus, ReadFault, WriteFault, OutOfMemory}
+use Rattle.recorder.specs.Record.{record_of}
+use Rattle.recorder.specs.Ends.{Finishes, Stops}
+use Rattle.recorder.specs.Recorded.{IsRecorded}
 use Rattle.det_values.specs.Values.{ProfileValue}
 use Rattle.job_trait.specs.Meaning.{Meaning}
 use Rattle.cli_answers.specs.declared.answer.BadManifest.TheVariants.{Parameter}
+use Rattle.cli_answers.specs.declared.answer.Answer.{Answer}
 use Rattle.cli_answers.specs.declared.answer.Answer.TheVariants as answers
 use Rattle.cli_answers.specs.Outcome.{Meets}
-use Rattle.cli_answers.proofs.Meeting.{meets-refusal}
-use Rattle.cmd_record.specs.Outcomes.{unless_refused, recorded, recorded_if_good}
+use Rattle.cli_answers.proofs.Meeting.{meets-refusal, meets-read-fault-part, meets-write-fault, meets-no-memory-part}
+use Rattle.cmd_record.proofs.Meeting.{meets-as}
+use Rattle.cmd_record.specs.Outcomes.{unless_refused, answer_to, answer_of, recorded, recorded_if_good}
 
 module _ {S G E L P : Type 0} (m : Meaning S G E L P) (profile : ProfileValue) (text : List ℕ) where
   -- a job that refuses no parameter records
@@ -20,3 +31,54 @@ module _ {S G E L P : Type 0} (m : Meaning S G E L P) (profile : ProfileValue) (
   met-refused tells rose failed before index refused =
       meets-refusal (recorded_if_good m profile text) tells rose failed before (answers.BadManifest (Parameter index)) (λ e. cc) (λ e. cc)
       (λ t. ap (λ bad. unless_refused bad (recorded m profile text)) refused)
+
+at-told : (left : Option (List ℕ)) (text : List ℕ) (P : List ℕ → Type 0) → left ≡ Some text → IfSome left P → P text
+at-told left text P e p = rw e at p
+
+module _ {S G E L P : Type 0} (m : Meaning S G E L P) (profile : ProfileValue) (text : List ℕ) (slot : ℕ) (first last : ShelfState)
+    (before after : List ℕ → Type 0) (seeing stayed : List ProbeLife) (left : List ℕ) (tells rose failed : Type 0)
+    (told : tells → first.left slot ≡ Some text) where
+  -- a recording meets the outcome, by its end
+  met-recorded : (result : Result Counts RecordEnd) → IsRecorded m profile slot first last before after seeing stayed left result
+      → (IsErrOf result ReadFault → rose) → (IsErrOf result WriteFault → failed)
+      → Meets (recorded m profile text) tells rose failed before after (answer_of result)
+  met-recorded (Ok counts) r read write =
+      let P : List ℕ → Type 0 = λ x. Finishes m profile x counts before after in
+      let Part : List ℕ → Type 0 = λ x. GrewByPrefix before after (record_of m profile x) in
+      let finished = λ (t : tells). at-told (first.left slot) text P (told t) r.ok in
+      record {
+        part = λ t. at-told (first.left slot) text Part (told t) r.part;
+        whole = λ t. inr (inr (inr (ap answer_to (sym (finished t).good), (finished t).grew)));
+        read_fault = λ e. cc;
+        write_fault = λ e. cc;
+      }
+  met-recorded (Err (Stimulus line)) r read write =
+      let Is : ℕ → Type 0 = λ other. ◌≡◌ {A = Result Counts RecordEnd} (Err (Stimulus line)) (Err (Stimulus other)) in
+      let P : List ℕ → Type 0 = λ x. (other : ℕ) → Is other → Stops m profile x other before after in
+      let Part : List ℕ → Type 0 = λ x. GrewByPrefix before after (record_of m profile x) in
+      let stopped = λ (t : tells). at-told (first.left slot) text P (told t) r.stimulus line refl in
+      record {
+        part = λ t. at-told (first.left slot) text Part (told t) r.part;
+        whole = λ t. inr (inr (inr (ap answer_to (sym (stopped t).bad), (stopped t).grew)));
+        read_fault = λ e. cc;
+        write_fault = λ e. cc;
+      }
+  met-recorded (Err ReadFault) r read write =
+      let Part : List ℕ → Type 0 = λ x. GrewByPrefix before after (record_of m profile x) in
+      meets-read-fault-part (recorded m profile text) tells rose failed before after (λ t. at-told (first.left slot) text Part (told t) r.part) (read refl)
+  met-recorded (Err WriteFault) r read write =
+      let Part : List ℕ → Type 0 = λ x. GrewByPrefix before after (record_of m profile x) in
+      meets-write-fault (recorded m profile text) tells rose failed before after (λ t. at-told (first.left slot) text Part (told t) r.part) (write refl)
+  met-recorded (Err OutOfMemory) r read write =
+      let Part : List ℕ → Type 0 = λ x. GrewByPrefix before after (record_of m profile x) in
+      meets-no-memory-part (recorded m profile text) tells rose failed before after (λ t. at-told (first.left slot) text Part (told t) r.part)
+
+  -- and that of a profile whose parameters the job takes
+  pub met-good : (rose2 : Type 0) (result : Result Counts RecordEnd) (answer : Answer) → answer ≡ answer_of result
+      → m.bad_param profile.params (length profile.events) ≡ None → (rose → rose2)
+      → IsRecorded m profile slot first last before after seeing stayed left result
+      → (IsErrOf result ReadFault → rose) → (IsErrOf result WriteFault → failed)
+      → Meets (recorded_if_good m profile text) tells rose2 failed before after answer
+  met-good rose2 result answer is good later r read write =
+      rw is (meets-as (recorded m profile text) (recorded_if_good m profile text) tells rose failed tells rose2 before after (answer_of result)
+      (λ t. t) (λ t. if-good m profile text good) later (met-recorded result r read write))

@@ -22,6 +22,11 @@ returns-in-Err-clause-judged g c = λ tells.
     let first = g.S.Slots.sees c.args.shelf.now in
     asked-manifest first c.args.manifest.now c.args.stimulus.now _ (setup_of (told first c.args.manifest.now)) c.read_setup.ensures.asked
 
+pub returns-in_default-clause-judged : goal.returns-in_default-clause-judged
+returns-in_default-clause-judged g c = λ tells.
+    let first = g.S.Slots.sees c.args.shelf.now in
+    asked-manifest first c.args.manifest.now c.args.stimulus.now _ (setup_of (told first c.args.manifest.now)) c.read_setup.ensures.asked
+
 pub returns-clause-meets : goal.returns-clause-meets
 returns-clause-meets g c =
     let first = g.S.Slots.sees c.args.shelf.now in
