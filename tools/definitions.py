@@ -22,7 +22,7 @@ BEGIN, END = "<!-- definitions -->", "<!-- end of definitions -->"
 ROOT_CRATE, ROOT_FILE, ROOT_FUNCTION = "det_cli", "program", "top"
 RECORD_CRATE, RECORD_FILE, RECORD_FUNCTION = "recorder", "recording", "record_run"
 MOST_LINES = 1900
-MOST_LINES_OF_A_RECORD = 450
+MOST_LINES_OF_A_RECORD = 550
 
 HEAD = re.compile(
     r"^ *(?:(?:abbrev|unfoldable) )?(?:pub )?(?:(?:record|data) )?(?P<name>[^\s:({]+).*[:(]"
@@ -42,6 +42,11 @@ class Definition:
     @property
     def key(self) -> tuple[str, str, str]:
         return self.crate, self.module, self.name
+
+    @property
+    def size(self) -> int:
+        """Its lines without comments."""
+        return sum(not line.strip().startswith("--") for line in self.lines)
 
 
 @dataclass
@@ -172,13 +177,12 @@ def table(definitions: list[Definition]) -> list[str]:
     lines = ["| file | definitions | lines |", "|---|---|---:|"]
     for (crate, module), held in files.items():
         names = ", ".join(f"`{definition.name}`" for definition in held)
-        count = sum(len(definition.lines) for definition in held)
-        lines.append(f"| `{crate}/{module.replace('.', '/')}` | {names} | {count} |")
+        lines.append(f"| `{crate}/{module.replace('.', '/')}` | {names} | {count(held)} |")
     return lines
 
 
 def count(definitions: list[Definition]) -> int:
-    return sum(len(definition.lines) for definition in definitions)
+    return sum(definition.size for definition in definitions)
 
 
 def made() -> tuple[str, list[str]]:

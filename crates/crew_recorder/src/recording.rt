@@ -72,8 +72,21 @@ where
     run
 }
 
+/// As many of the workers as there are blocks of elements, and one at least.
+fn busy<'r, R, G>(workers: &Workers<'r, R, G>, elements: usize) -> Workers<'r, R, G>
+    requires { elements ≤ 65536 }
+{
+    let blocks = ((elements + 63) / 64) as u32;
+    Workers {
+        rt: workers.rt,
+        count: workers.count.min(blocks).max(1),
+        gate: workers.gate,
+    }
+}
+
 /// Records a stimulus, as `record_run` does, by a number of workers on threads that are kept from
-/// its first cycle to its last. None of them is left running at any answer.
+/// its first cycle to its last, no more of them than there are blocks of elements. None of them is
+/// left running at any answer.
 pub fn record_by_crew<J, S, K, R, G>(
     alloc: Global,
     workers: &Workers<'_, R, G>,
@@ -115,6 +128,7 @@ where
     let Ok(room) = CrewRoom::<J>::new(alloc) else {
         return Err(RecordEnd::OutOfMemory);
     };
+    let workers = &busy(workers, engine.elements());
     record_in_room::<J, Brand, S, K, R, G>(
         alloc, room, workers, engine, profile, shelf, slot, sink, probes, left,
     )

@@ -259,6 +259,14 @@ impl<J: Job> Engine<J> {
         let _ = self.client.wait_for_activation(Next::Stop);
     }
 
+    /// The number of elements, which stays over a run.
+    pub fn elements(&self) -> usize
+        ensures count { result ≡ length self.now.state.elements }
+        ensures few { result ≤ 65536 }
+    {
+        self.elements.len()
+    }
+
     /// The number of cycles run, refused ones too.
     pub fn cycles(&self) -> u32
         ensures { result ≡ self.now.cycles }

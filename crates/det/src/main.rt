@@ -7,7 +7,7 @@ use probes::{CountProbe, FirstRefusalProbe, GapProbe, Probe};
 use std::env;
 use std::process::ExitCode;
 use std::sync::Arc;
-use worker_pool::NoGate;
+use worker_pool::NapGate;
 
 fn main(rt: HostRuntime) -> ExitCode {
     let alloc = rt.alloc();
@@ -35,7 +35,11 @@ fn main(rt: HostRuntime) -> ExitCode {
     if probes.push(count).is_err() || probes.push(gap).is_err() || probes.push(refusal).is_err() {
         return no_memory;
     }
-    let Ok(gate) = Arc::new(alloc, NoGate) else {
+    // Idle threads of a run sleep by the clock.
+    let Ok(clock) = rt.clone() else {
+        return no_memory;
+    };
+    let Ok(gate) = Arc::new(alloc, NapGate { clock }) else {
         return no_memory;
     };
     let mut shelf = DirShelf::new(&rt, alloc);

@@ -20,14 +20,14 @@ use tickets::{Keeper, Room};
 
 /// The looks for replies after which the caller runs the missing blocks itself: so many, and so many
 /// more for each element of the pass. When it finds no more block to claim, each other worker is at
-/// one block at most, so on a machine with a processor for each this is far more than enough, and on
-/// a busy one the caller doesn't wait longer than the pass would take it alone.
+/// one block at most, so on a machine with a processor for each this is enough for blocks of a fifth
+/// of a millisecond and more, and on a busy one the caller soon goes on alone.
 const FIRST_LOOKS: u32 = 20_000;
 
-const LOOKS_PER_ELEMENT: u32 = 20;
+const LOOKS_PER_ELEMENT: u32 = 2;
 
 /// The looks after which the caller lets other threads run once.
-const BUSY_LOOKS: u32 = 1_024;
+const BUSY_LOOKS: u32 = 8_192;
 
 /// Gives the task to each kept thread, and says to how many. One that can't take it enters here.
 fn give_all<J: Job, B: Room, G: Gate>(

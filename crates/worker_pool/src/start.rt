@@ -16,6 +16,23 @@ use std::thread;
 use std::thread::{JoinHandle, Threads};
 use tickets::{Keeper, Room};
 
+/// The most threads that a crew uses, the caller's among them, where the processors can't be counted.
+const MOST_THREADS: usize = 64;
+
+/// The threads that so many workers use, the caller's among them: no more than there are processors,
+/// since more would only take turns, and two at least where there are two workers.
+fn threads_for<R: Threads>(rt: &R, workers: u32) -> u32
+    requires { 1 ≤ workers }
+    ensures some { 1 ≤ result }
+    ensures few { result ≤ workers }
+{
+    let processors = match thread::available_parallelism(rt) {
+        Ok(count) => count.get(),
+        Err(_) => MOST_THREADS,
+    };
+    workers.min(processors.clamp(2, MOST_THREADS) as u32)
+}
+
 /// A kept thread that was started.
 #[derive(Drop)]
 struct Started<J: Job, B: Room> {
@@ -95,8 +112,9 @@ where
     B: Room + Send + Sync + 'static,
     G: Gate + Send + Sync + 'static,
 {
-    /// A crew of so many workers: the caller, and a kept thread for each of the others. Where
-    /// threads can't be had there are fewer, and no answer changes.
+    /// A crew of so many workers: the caller, and a kept thread for each of the others, as far as
+    /// there are processors for them. Where threads can't be had there are fewer, and no answer
+    /// changes. A worker without a thread enters on the caller's, behind the others.
     pub fn start<R: Threads>(
         rt: &R,
         alloc: Global,
@@ -112,7 +130,8 @@ where
         let mut lines = Vec::with_capacity(alloc, more)?;
         let mut handles = Vec::with_capacity(alloc, more)?;
         let gate = Arc::try_clone(gate)?;
-        let begun = start_threads(rt, alloc, workers, &gate, &mut lines, &mut handles);
+        let threads = threads_for(rt, workers);
+        let begun = start_threads(rt, alloc, threads, &gate, &mut lines, &mut handles);
         let crew = Crew {
             keeper: Keeper::of(room.office),
             lines,
