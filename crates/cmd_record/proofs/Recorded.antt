@@ -26,7 +26,8 @@ module _ {S G E L P : Type 0} (m : Meaning S G E L P) (profile : ProfileValue) (
   if-good good = ap (λ bad. unless_refused bad (recorded m profile text)) good
 
   -- a job that refuses a parameter
-  pub met-refused : (tells rose failed : Type 0) (before : List ℕ → Type 0) (index : ℕ) → m.bad_param profile.params (length profile.events) ≡ Some index
+  pub met-refused : (tells rose failed : Type 0) (before : List ℕ → Type 0) (index : ℕ)
+      → m.bad_param profile.params (length profile.events) ≡ Some index
       → Meets (recorded_if_good m profile text) tells rose failed before before (answers.BadManifest (Parameter index))
   met-refused tells rose failed before index refused =
       meets-refusal (recorded_if_good m profile text) tells rose failed before (answers.BadManifest (Parameter index)) (λ e. cc) (λ e. cc)
@@ -65,13 +66,16 @@ module _ {S G E L P : Type 0} (m : Meaning S G E L P) (profile : ProfileValue) (
       }
   met-recorded (Err ReadFault) r read write =
       let Part : List ℕ → Type 0 = λ x. GrewByPrefix before after (record_of m profile x) in
-      meets-read-fault-part (recorded m profile text) tells rose failed before after (λ t. at-told (first.left slot) text Part (told t) r.part) (read refl)
+      meets-read-fault-part (recorded m profile text) tells rose failed before after
+      (λ t. at-told (first.left slot) text Part (told t) r.part) (read refl)
   met-recorded (Err WriteFault) r read write =
       let Part : List ℕ → Type 0 = λ x. GrewByPrefix before after (record_of m profile x) in
-      meets-write-fault (recorded m profile text) tells rose failed before after (λ t. at-told (first.left slot) text Part (told t) r.part) (write refl)
+      meets-write-fault (recorded m profile text) tells rose failed before after
+      (λ t. at-told (first.left slot) text Part (told t) r.part) (write refl)
   met-recorded (Err OutOfMemory) r read write =
       let Part : List ℕ → Type 0 = λ x. GrewByPrefix before after (record_of m profile x) in
-      meets-no-memory-part (recorded m profile text) tells rose failed before after (λ t. at-told (first.left slot) text Part (told t) r.part)
+      meets-no-memory-part (recorded m profile text) tells rose failed before after
+      (λ t. at-told (first.left slot) text Part (told t) r.part)
 
   -- and that of a profile whose parameters the job takes
   pub met-good : (rose2 : Type 0) (result : Result Counts RecordEnd) (answer : Answer) → answer ≡ answer_of result
@@ -80,5 +84,6 @@ module _ {S G E L P : Type 0} (m : Meaning S G E L P) (profile : ProfileValue) (
       → (IsErrOf result ReadFault → rose) → (IsErrOf result WriteFault → failed)
       → Meets (recorded_if_good m profile text) tells rose2 failed before after answer
   met-good rose2 result answer is good later r read write =
-      rw is (meets-as (recorded m profile text) (recorded_if_good m profile text) tells rose failed tells rose2 before after (answer_of result)
+      rw is (meets-as (recorded m profile text) (recorded_if_good m profile text) tells rose failed tells rose2 before after
+      (answer_of result)
       (λ t. t) (λ t. if-good m profile text good) later (met-recorded result r read write))

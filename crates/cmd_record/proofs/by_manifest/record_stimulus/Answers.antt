@@ -11,7 +11,8 @@ use Rattle.cmd_record.proofs.by_manifest.record_stimulus.Goals as goal
 
 pub returns-in-Err-clause-meets : goal.returns-in-Err-clause-meets
 returns-in-Err-clause-meets g c =
-    met-end (g.S.Slots.sees c.args.shelf.now) c.args.manifest.now c.args.stimulus.now c.args.seed _ _ _ c.in-Err.end c.answer.result c.answer.ensures.is
+    met-end (g.S.Slots.sees c.args.shelf.now) c.args.manifest.now c.args.stimulus.now c.args.seed _ _ _
+    c.in-Err.end c.answer.result c.answer.ensures.is
     c.in-Err.ensures.refused (λ is. c.in-Err.ensures.cause (ap (λ e. Err e) is))
 
 pub returns-in-Err-clause-ends : goal.returns-in-Err-clause-ends

@@ -17,8 +17,8 @@ returns-in-Err-clause-meets g c =
     ∙ sym (ap (λ p. bad_param p.params c.len-events.result) c.profile.view_is) ∙ c.in-Err.ensures in
     let first = g.S.Slots.sees c.args.shelf.now in
     let faults = g.K.Sink.faults c.args.out.now in
-    met-refused g.J.Job.meaning c.args.profile.now (told first c.args.stimulus.now) (IsSome (first.holds c.args.stimulus.now)) (Rose first.faults first.faults)
-    (Rose faults faults) (g.K.Sink.took c.args.out.now) c.in-Err.bad.index refused
+    met-refused g.J.Job.meaning c.args.profile.now (told first c.args.stimulus.now) (IsSome (first.holds c.args.stimulus.now))
+    (Rose first.faults first.faults) (Rose faults faults) (g.K.Sink.took c.args.out.now) c.in-Err.bad.index refused
 
 pub returns-in_default-clause-meets : goal.returns-in_default-clause-meets
 returns-in_default-clause-meets g c = meets-read-fault _ _ _ _ _ c.in_default.ensures.cause
