@@ -1,19 +1,44 @@
 -- What an answer of a command tells: its exit status, and its line for `err`.
-use Rattle.std.specs.Prelude.{ℕ, List, [], ◌++◌, codes, decimal}
-use Rattle.manifest.specs.declared.fault.ManifestFault.TheVariants.{TooLong, NotToml, Missing, WrongKind, OutOfRange}
+use Rattle.std.specs.Prelude.{ℕ, List, [], ◌++◌, min, map, take, ◌&&◌, nat_le, codes, decimal}
+use Rattle.std.specs.Prelude.{if◌then◌else◌}
+use Rattle.det_edges.specs.declared.failure.Failure.{Failure}
+use Rattle.det_edges.specs.declared.failure.Failure.TheVariants as failures
+use Rattle.det_edges.specs.declared.failure.Stopped.{Stopped}
+use Rattle.det_edges.specs.declared.failure.Stopped.TheVariants.{Refused, Failed}
+use Rattle.manifest.specs.declared.fault.ManifestFault.TheVariants.{TooLong, NotToml, Missing}
+use Rattle.manifest.specs.declared.fault.ManifestFault.TheVariants.{WrongKind, OutOfRange}
 use Rattle.manifest.specs.declared.fault.ManifestFault.TheVariants.{UnknownKey, DuplicateEvent}
 use Rattle.manifest.specs.declared.fault.ManifestFault.TheVariants.{UnknownJob}
 use Rattle.manifest.specs.declared.key.Key.{Key}
 use Rattle.manifest.specs.KeyTexts.{key_text}
+use Rattle.manifest.specs.declared.unknown.KeyTable.{KeyTable}
+use Rattle.manifest.specs.declared.unknown.KeyTable.TheVariants.{Top, Event, InitNeeds, RunNeeds}
+use Rattle.manifest.specs.declared.unknown.UnknownKey as unknown
 use Rattle.record_grammar.specs.declared.fault.Reason.{Reason}
-use Rattle.record_grammar.specs.declared.fault.Reason.TheVariants.{Magic, Version, Range, Order, TooMany, Truncated, Trailing}
+use Rattle.record_grammar.specs.declared.fault.Reason.TheVariants.{Magic, Version, Range, Order}
+use Rattle.record_grammar.specs.declared.fault.Reason.TheVariants.{TooMany, Truncated, Trailing}
 use Rattle.record_grammar.specs.declared.fault.RecordFault.{RecordFault}
 use Rattle.cli_answers.specs.declared.status.Status.{Status}
 use Rattle.cli_answers.specs.declared.status.Status.TheVariants as statuses
 use Rattle.cli_answers.specs.declared.answer.BadManifest as refusals
 use Rattle.cli_answers.specs.declared.answer.BadManifest.TheVariants.{Fault, Parameter}
 use Rattle.cli_answers.specs.declared.answer.Answer.{Answer}
-use Rattle.cli_answers.specs.declared.answer.Answer.TheVariants.{Done, Differs, BadWords, BadManifest, BadStimulus, BadRecord, BadProfile, ReadFault, WriteFault, OutOfMemory, NoMajority}
+use Rattle.cli_answers.specs.declared.answer.Answer.TheVariants.{Done, Differs, BadWords}
+use Rattle.cli_answers.specs.declared.answer.Answer.TheVariants.{BadManifest, BadStimulus}
+use Rattle.cli_answers.specs.declared.answer.Answer.TheVariants.{BadRecord}
+use Rattle.cli_answers.specs.declared.answer.Answer.TheVariants.{BadProfile, ReadFault, WriteFault}
+use Rattle.cli_answers.specs.declared.answer.Answer.TheVariants.{OutOfMemory, NoMajority}
+
+-- what a failure is answered as
+abbrev pub failed : Failure → Answer
+failed failures.Read = ReadFault
+failed failures.Write = WriteFault
+failed failures.OutOfMemory = OutOfMemory
+
+-- what a command answers that has no manifest
+abbrev pub without_manifest : Stopped refusals.BadManifest → Answer
+without_manifest (Refused why) = BadManifest why
+without_manifest (Failed failure) = failed failure
 
 abbrev pub status_of : Answer → Status
 status_of Done = statuses.Done
@@ -36,14 +61,30 @@ ended text = text ++ codes "\n"
 abbrev pub with_key : List ℕ → Key → List ℕ
 with_key words key = words ++ key_text key
 
+-- a printable ASCII character other than a space, and `?` for any other byte
+abbrev pub printable : ℕ → ℕ
+printable byte = if nat_le 33 byte && nat_le byte 126 then byte else 63
+
+-- a table of a manifest, in front of its key
+abbrev pub table_text : KeyTable → List ℕ
+table_text Top = []
+table_text (Event number) = codes "event." ++ (decimal number ++ codes ".")
+table_text InitNeeds = codes "init_needs."
+table_text RunNeeds = codes "run_needs."
+
+-- a key that its table doesn't know
+abbrev pub unknown_text : unknown.UnknownKey → List ℕ
+unknown_text key = table_text key.table ++ map printable (take (min key.len 64) key.bytes)
+
 abbrev pub bad_manifest_text : refusals.BadManifest → List ℕ
 bad_manifest_text (Fault TooLong) = codes "bad manifest: too long"
 bad_manifest_text (Fault NotToml) = codes "bad manifest: not toml"
 bad_manifest_text (Fault (Missing key)) = with_key (codes "bad manifest: missing ") key
 bad_manifest_text (Fault (WrongKind key)) = with_key (codes "bad manifest: wrong kind ") key
 bad_manifest_text (Fault (OutOfRange key)) = with_key (codes "bad manifest: out of range ") key
-bad_manifest_text (Fault (UnknownKey key)) = codes "bad manifest: unknown key"
-bad_manifest_text (Fault (DuplicateEvent number)) = codes "bad manifest: duplicate event " ++ decimal number
+bad_manifest_text (Fault (UnknownKey key)) = codes "bad manifest: unknown key " ++ unknown_text key
+bad_manifest_text (Fault (DuplicateEvent number)) =
+    codes "bad manifest: duplicate event " ++ decimal number
 bad_manifest_text (Fault UnknownJob) = codes "bad manifest: unknown job"
 bad_manifest_text (Parameter index) = codes "bad manifest: bad parameter " ++ decimal index
 
@@ -58,7 +99,8 @@ reason_word Trailing = codes "trailing"
 
 abbrev pub bad_record_text : ℕ → RecordFault → List ℕ
 bad_record_text copy fault =
-    codes "bad record: copy " ++ (decimal copy ++ (codes " offset " ++ (decimal fault.offset ++ (codes " " ++ reason_word fault.reason))))
+    codes "bad record: copy " ++ (decimal copy ++ (codes " offset "
+    ++ (decimal fault.offset ++ (codes " " ++ reason_word fault.reason))))
 
 -- the line for `err`
 abbrev pub err_line : Answer → List ℕ

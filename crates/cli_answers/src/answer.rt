@@ -1,14 +1,18 @@
 //! How a command ended, with what its line for `err` tells.
-ghost use Rattle.std.specs.Prelude.{◌≡◌, ◌≤◌, ◌++◌, length, decimal};
+ghost use Rattle.std.specs.Prelude.{◌≡◌, ◌+◌, ◌≤◌, ◌++◌, length, codes, decimal};
 ghost use Rattle.manifest.specs.KeyTexts.{key_text};
-ghost use Rattle.cli_answers.specs.Answers.{status_of, reason_word, ended, with_key, bad_manifest_text, bad_record_text, err_line};
+ghost use Rattle.cli_answers.specs.Answers.{status_of, reason_word, ended, with_key, err_line};
+ghost use Rattle.cli_answers.specs.Answers.{table_text, unknown_text};
+ghost use Rattle.cli_answers.specs.Answers.{bad_manifest_text, bad_record_text};
 
 use crate::line::Line;
 use crate::status::Status;
-use manifest::{Key, ManifestFault};
+use det_edges::{Failure, Stopped};
+use manifest::{Key, KeyTable, ManifestFault, UnknownKey};
 use record_grammar::{Reason, RecordFault};
 
-/// Why a manifest is refused: it has a fault, or its job refuses a parameter, the least bad one, counted from 0.
+/// Why a manifest is refused: it has a fault, or its job refuses a parameter, the least bad one,
+/// counted from 0.
 #[derive(Clone, Copy, Debug, PartialEq, Eq, Drop)]
 pub enum BadManifest {
     Fault(ManifestFault),
@@ -19,7 +23,8 @@ pub enum BadManifest {
 #[derive(Clone, Copy, Debug, PartialEq, Eq, Drop)]
 pub enum Answer {
     Done,
-    /// The copies differ, or a record departs from the run of its own inputs. The output tells where.
+    /// The copies differ, or a record departs from the run of its own inputs. The output tells
+    /// where.
     Differs,
     BadWords,
     BadManifest(BadManifest),
@@ -34,6 +39,35 @@ pub enum Answer {
     OutOfMemory,
     /// The first row that no majority of the copies holds.
     NoMajority { row: u32 },
+}
+
+impl From<Failure> for Answer {
+    ghost use Rattle.std.specs.Prelude.{◌≡◌};
+    ghost use Rattle.cli_answers.specs.Answers.{failed};
+
+    ghost from_gives = { λ failure answer. answer ≡ failed failure };
+
+    fn from(failure: Failure) -> Answer {
+        match failure {
+            Failure::Read => Answer::ReadFault,
+            Failure::Write => Answer::WriteFault,
+            Failure::OutOfMemory => Answer::OutOfMemory,
+        }
+    }
+}
+
+impl From<Stopped<BadManifest>> for Answer {
+    ghost use Rattle.std.specs.Prelude.{◌≡◌};
+    ghost use Rattle.cli_answers.specs.Answers.{without_manifest};
+
+    ghost from_gives = { λ stopped answer. answer ≡ without_manifest stopped };
+
+    fn from(stopped: Stopped<BadManifest>) -> Answer {
+        match stopped {
+            Stopped::Refused(why) => Answer::BadManifest(why),
+            Stopped::Failed(failure) => Answer::from(failure),
+        }
+    }
 }
 
 fn word_of(reason: Reason) -> &'static str
@@ -73,6 +107,35 @@ fn number_line(words: &str, number: u64) -> Line
     line
 }
 
+impl Line {
+    fn push_table(&mut self, table: KeyTable)
+        requires { length self.old ≤ 40 }
+        ensures text { self.new ≡ self.old ++ table_text table }
+        ensures short { length self.new ≤ length self.old + 27 }
+    {
+        match table {
+            KeyTable::Top => {}
+            KeyTable::Event(number) => {
+                self.push("event.");
+                self.push_number(number as u64);
+                self.push(".");
+            }
+            KeyTable::InitNeeds => self.push("init_needs."),
+            KeyTable::RunNeeds => self.push("run_needs."),
+        }
+    }
+}
+
+fn unknown_line(key: UnknownKey) -> Line
+    ensures { result ≡ ended (codes "bad manifest: unknown key " ++ unknown_text key) }
+{
+    let mut line = Line::of("bad manifest: unknown key ");
+    line.push_table(key.table);
+    line.push_printable(key.as_slice());
+    line.push("\n");
+    line
+}
+
 fn fault_line(fault: ManifestFault) -> Line
     ensures { result ≡ ended (bad_manifest_text (BadManifest.Fault fault)) }
 {
@@ -82,7 +145,7 @@ fn fault_line(fault: ManifestFault) -> Line
         ManifestFault::Missing(key) => key_line("bad manifest: missing ", key),
         ManifestFault::WrongKind(key) => key_line("bad manifest: wrong kind ", key),
         ManifestFault::OutOfRange(key) => key_line("bad manifest: out of range ", key),
-        ManifestFault::UnknownKey(_) => Line::of("bad manifest: unknown key\n"),
+        ManifestFault::UnknownKey(key) => unknown_line(key),
         ManifestFault::DuplicateEvent(number) => {
             number_line("bad manifest: duplicate event ", number as u64)
         }

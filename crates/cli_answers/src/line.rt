@@ -1,5 +1,6 @@
 //! A short text that takes no memory beyond its place.
-ghost use Rattle.std.specs.Prelude.{◌≡◌, ◌+◌, ◌≤◌, [], ◌++◌, length, decimal};
+ghost use Rattle.std.specs.Prelude.{◌≡◌, ◌+◌, ◌≤◌, [], ◌∷◌, ◌++◌, length, map, decimal};
+ghost use Rattle.cli_answers.specs.Answers.{printable};
 
 use itoa::Buffer;
 use std::marker::Model;
@@ -21,6 +22,12 @@ impl Model for Line {
     ghost view = { λ a. take a.len a.bytes };
 
     ghost invariant = { λ a. a.len ≤ 160 };
+}
+
+fn printable(byte: u8) -> u8
+    ensures { result ≡ printable byte }
+{
+    if byte.is_ascii_graphic() { byte } else { b'?' }
 }
 
 impl Line {
@@ -62,6 +69,24 @@ impl Line {
     {
         let mut buffer = Buffer::new();
         self.push(buffer.format(number));
+    }
+
+    fn push_byte(&mut self, byte: u8)
+        requires { length self.old + 1 ≤ 160 }
+        ensures { self.new ≡ self.old ++ byte ∷ [] }
+    {
+        self.bytes[self.len] = byte;
+        self.len += 1;
+    }
+
+    /// Adds bytes, with a `?` for each that isn't a printable ASCII character or is a space.
+    pub fn push_printable(&mut self, bytes: &[u8])
+        requires { length self.old + length bytes.now ≤ 160 }
+        ensures { self.new ≡ self.old ++ map printable bytes.now }
+    {
+        for byte in bytes {
+            self.push_byte(printable(*byte));
+        }
     }
 
     /// The bytes as a slice.

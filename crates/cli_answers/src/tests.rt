@@ -1,6 +1,6 @@
 //! The lines of answers, and their exit statuses.
 use crate::{Answer, BadManifest};
-use manifest::{Key, ManifestFault, NeedKey};
+use manifest::{Key, KeyTable, ManifestFault, NeedKey, UnknownKey};
 use record_grammar::{Reason, RecordFault};
 use std::test::Fail;
 
@@ -45,6 +45,43 @@ fn lines_of_manifests(rt: HostRuntime) -> Result<(), Fail> {
         let answer = Answer::BadManifest(why);
         assert_eq!(rt; answer.status().number(), 3);
         assert_eq!(rt; answer.line().as_slice(), line);
+    }
+    Ok(())
+}
+
+/// A key of a table, its last byte repeated up to 64 bytes, of which the first are told.
+fn unknown(table: KeyTable, text: &str, len: u8) -> BadManifest {
+    let mut bytes = [b'y'; 64];
+    let mut at = 0;
+    for byte in text.as_bytes() {
+        if at < 64 {
+            bytes[at] = *byte;
+            at += 1;
+        }
+    }
+    BadManifest::Fault(ManifestFault::UnknownKey(UnknownKey { table, bytes, len }))
+}
+
+#[test]
+fn lines_of_unknown_keys(rt: HostRuntime) -> Result<(), Fail> {
+    for (why, line) in [
+        (unknown(KeyTable::Top, "parms", 5), "parms"),
+        (unknown(KeyTable::Event(0), "polcy", 5), "event.0.polcy"),
+        (
+            unknown(KeyTable::Event(255), "a b\u{e9}~\n", 7),
+            "event.255.a?b??~?",
+        ),
+        (unknown(KeyTable::InitNeeds, "", 0), "init_needs."),
+        (
+            unknown(KeyTable::RunNeeds, "x", 64),
+            "run_needs.xyyyyyyyyyyyyyyyyyyyyyyyyyyyyyyyyyyyyyyyyyyyyyyyyyyyyyyyyyyyyyyy",
+        ),
+    ] {
+        let answer = Answer::BadManifest(why);
+        assert_eq!(rt; answer.status().number(), 3);
+        let told = answer.line();
+        let want = format!(in rt.alloc(); "bad manifest: unknown key {line}\n")?;
+        assert_eq!(rt; told.as_slice(), want.as_bytes());
     }
     Ok(())
 }

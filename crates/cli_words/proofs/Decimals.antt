@@ -18,10 +18,12 @@ unfolding number_of
 holds word b e = ap (λ t. cond t (Some (digits_value 10 word)) None) e
 
 test_true : (word : List ℕ) → digits_value 10 word < 2 ^ 64 → word ≡ decimal (digits_value 10 word) → test word ≡ true
-test_true word small same = (Decides-and _ _ (Decides-ltb (digits_value 10 word) (2 ^ 64)) (bytes_eq-Decides word (decimal (digits_value 10 word)))).1 (small, same)
+test_true word small same =
+    (Decides-and _ _ (Decides-ltb (digits_value 10 word) (2 ^ 64)) (bytes_eq-Decides word (decimal (digits_value 10 word)))).1 (small, same)
 
 true_test : (word : List ℕ) → test word ≡ true → (digits_value 10 word < 2 ^ 64) × (word ≡ decimal (digits_value 10 word))
-true_test word e = (Decides-and _ _ (Decides-ltb (digits_value 10 word) (2 ^ 64)) (bytes_eq-Decides word (decimal (digits_value 10 word)))).0 e
+true_test word e =
+    (Decides-and _ _ (Decides-ltb (digits_value 10 word) (2 ^ 64)) (bytes_eq-Decides word (decimal (digits_value 10 word)))).0 e
 
 pub number_of-spelled : (word : List ℕ) (n : ℕ) → n < 2 ^ 64 → word ≡ decimal n → number_of word ≡ Some n
 number_of-spelled word n small same =
@@ -55,7 +57,8 @@ unparsed {E = E} word r e parses is = number_of-none word (λ n small same.
     let ok : r ≡ Ok n = parse-decimal {E = E} 64 n word r small small same parses in
     let two : ◌≡◌ {A = Result ℕ E} (Err e) (Ok n) = sym is ∙ ok in cc)
 
-pub otherwise : {E : Type 0} (word text : List ℕ) (r : Result ℕ E) (m : ℕ) → ParsesUnsigned 64 10 word r → r ≡ Ok m → text ≡ decimal m → bytes_eq text word ≡ false → number_of word ≡ None
+pub otherwise : {E : Type 0} (word text : List ℕ) (r : Result ℕ E) (m : ℕ) → ParsesUnsigned 64 10 word r → r ≡ Ok m → text ≡ decimal m
+    → bytes_eq text word ≡ false → number_of word ≡ None
 otherwise {E = E} word text r m parses is spelling other = number_of-none word (λ n small same.
     let ok : r ≡ Ok n = parse-decimal {E = E} 64 n word r small small same parses in
     let two : ◌≡◌ {A = Result ℕ E} (Ok m) (Ok n) = sym is ∙ ok in

@@ -1,3 +1,9 @@
+pub mod Canon
 pub mod Decimals
-pub mod Steps
+pub mod Finding
+pub mod Growing
+pub mod Moving
+pub mod Parting
 pub mod Ranging
+pub mod Spelling
+pub mod Steps

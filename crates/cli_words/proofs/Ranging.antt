@@ -1,127 +1,176 @@
--- What words tell keeps to its ranges.
-use Rattle.std.proofs.Common.{◌≡◌, ℕ, ◌^◌, ◌<◌, ◌≤◌, List, [], ◌∷◌, length, Bool, true, false, ◌&&◌, cond, nat_le, refl, subst, arith}
-use Rattle.std.specs.Prelude.{Option, Some, None, IfSome}
-use Rattle.std.specs.Option.{option_map, option_and_then}
-use Rattle.std.proofs.lemmas.Bool.Decides.{nat_tests}
-use Rattle.cli_words.specs.declared.command_word.CommandWord.{CommandWord}
-use Rattle.cli_words.specs.declared.command_word.CommandWord.TheVariants as word
-use Rattle.cli_words.specs.declared.command_word.Valued.{Valued}
-use Rattle.cli_words.specs.declared.command_word.Valued.TheVariants.{Workers, Seed}
-use Rattle.cli_words.specs.declared.command_word.OptionWord.{OptionWord}
-use Rattle.cli_words.specs.declared.command_word.OptionWord.TheVariants as options
+-- What words tell keeps to the table.
+use Rattle.std.proofs.Common.{◌≡◌, ℕ, ◌<◌, ◌≤◌, List, [], ◌∷◌, ◌++◌, length, Bool, true, false, ◌&&◌, cond, not, nat_le, nat_lt, refl, sym}
+use Rattle.std.proofs.Common.{◌∙◌, subst, inl, inr, arith, length-append}
+use Rattle.std.specs.Prelude.{Option, Some, None, IfSome, is_some, is_none, All, ◌⊎◌}
+use Rattle.std.specs.Option.{option_and_then}
+use Rattle.std.proofs.lemmas.Bool.{and_parts, ltb-true, leb-true, not-true}
+use Rattle.std.proofs.lemmas.List.Elements.{All-nil, All-push}
+use Rattle.cli_words.specs.declared.table.CommandWord.{CommandWord}
+use Rattle.cli_words.specs.declared.table.OptionWord.{OptionWord}
+use Rattle.cli_words.specs.declared.table.OptionWord.TheVariants.{Workers, Seed, Cycle, Reports, Dissent, Strict}
+use Rattle.cli_words.specs.declared.options.Options.{Options}
+use Rattle.cli_words.specs.declared.options.TheConstants.{UNTOLD}
 use Rattle.cli_words.specs.Number.{number_of}
-use Rattle.cli_words.specs.Options.{command_word, option_of}
-use Rattle.cli_words.specs.Texts.{sole, pair, triple}
-use Rattle.cli_words.specs.Told.{Told, only, with_name, with_number, with_value, has_option, option_added, with_option, with_option_or_name, with_next, with_word, with_words, told_by}
-use Rattle.cli_words.specs.Words.{Command, between, with_names, complete, command_told, command_of}
-use Rattle.cli_words.specs.Ranges.{IsWorkers, IsSeed, IsInRange}
-use Rattle.cli_words.proofs.Decimals.{number_of-is}
+use Rattle.cli_words.specs.Names.{is_name_of}
+use Rattle.cli_words.specs.Table.{row, command_word, option_row, option_word, option_in, is_among}
+use Rattle.cli_words.specs.Command.{CommandValue, is_told, with_told}
+use Rattle.cli_words.specs.Ranges.{value_of, IsWithin, IsInRange}
+use Rattle.cli_words.specs.Reading.{Reading, settled, begun, with_name, is_in_range, with_number, with_value, with_option}
+use Rattle.cli_words.specs.Reading.{with_option_or_name, with_next, with_word, with_words, is_whole, finished, read_by, in_full}
+use Rattle.cli_words.specs.Reading.{read_in_full, command_of}
 
-abbrev Fits : Told → Type 0
-Fits told = IsSeed told.seed × IsWorkers told.workers
+-- what is told of an option after one more was told
+pub told-cases : (o p : OptionWord) (n m : ℕ) (options : Options) → IsWithin (option_row o).range n
+    → value_of p (with_told o n options) ≡ Some m → ((p ≡ o) × (m ≡ n)) ⊎ (value_of p options ≡ Some m)
+told-cases Workers Workers n m options within e = inl (refl, cc)
+told-cases Workers p n m options within e = inr e
+told-cases Seed Seed n m options within e = inl (refl, cc)
+told-cases Seed p n m options within e = inr e
+told-cases Cycle Cycle n m options within e = inl (refl, cc)
+told-cases Cycle p n m options within e = inr e
+told-cases Reports Reports n m options within e = inl (refl, cc)
+told-cases Reports p n m options within e = inr e
+told-cases Dissent Dissent n m options within e = inl (refl, cc)
+told-cases Dissent p n m options within e = inr e
+told-cases Strict Strict n m options within e = inl (refl, cc)
+told-cases Strict p n m options within e = inr e
+
+pub untold : (o : OptionWord) → value_of o UNTOLD ≡ None
+untold Workers = refl
+untold Seed = refl
+untold Cycle = refl
+untold Reports = refl
+untold Dissent = refl
+untold Strict = refl
+
+pub within-range : (range : Option (ℕ × ℕ)) (n : ℕ) → is_in_range range n ≡ true → IsWithin range n
+within-range (Some (least, most)) n e = let both =
+    and_parts (nat_le least n) (nat_le n most) e in (leb-true least n both.0, leb-true n most both.1)
+within-range None n e = cc
+
+-- the table has the option among those of the command
+abbrev pub IsOptionOf : CommandValue → OptionWord → Type 0
+IsOptionOf c o = is_among (row c.word).options o ≡ true
+
+pub record Fits (c : CommandValue) : Type 0 where
+  pub names : All (λ name. is_name_of (row c.word).names name ≡ true) c.names
+  pub most : length c.names ≤ (row c.word).most
+  pub options : (o : OptionWord) (n : ℕ) → value_of o c.options ≡ Some n → IsOptionOf c o × IsWithin (option_row o).range n
+
+abbrev FitsSoFar : Reading → Type 0
+FitsSoFar r = Fits r.command × IfSome r.awaited (IsOptionOf r.command)
+
+pub fits-begun : (word : CommandWord) → Fits (begun word).command
+fits-begun word = record {
+  names = All-nil (λ name. is_name_of (row word).names name ≡ true);
+  most = omega arith;
+  options = λ o n e. let clash : None ≡ Some n = sym (untold o) ∙ e in cc;
+}
 
 if_true : {T : Type 0} (P : T → Type 0) (b : Bool) (x : T) → (b ≡ true → P x) → IfSome (cond b (Some x) None) P
 if_true P true x holds = holds refl
 if_true P false x holds = tt
 
-number_fits : (option : Valued) (n : ℕ) (told : Told) → n < 2 ^ 64 → Fits told → IfSome (with_number option n told) Fits
-number_fits Workers n told small fits =
-    if_true Fits (nat_le 1 n && nat_le n 64) (record told { workers = Some n; awaited = None })
-    (λ passed. let low : 1 ≤ n = grind (arith, nat_tests) in let high : n ≤ 64 = grind (arith, nat_tests) in (fits.0, (low, high)))
-number_fits Seed n told small fits = (small, fits.1)
+pub fits-name : (name : List ℕ) (c : CommandValue) → Fits c → is_name_of (row c.word).names name ≡ true → length c.names < (row c.word).most
+    → Fits (record c { names = c.names ++ name ∷ [] })
+fits-name name c fits is room = record {
+  names = All-push (λ n. is_name_of (row c.word).names n ≡ true) c.names name fits.names is;
+  most = omega (arith, length-append c.names (name ∷ []));
+  options = fits.options;
+}
 
-value_fits : (option : Valued) (text : List ℕ) (told : Told) → Fits told → IfSome (with_value option text told) Fits
-value_fits option text told fits = by_number (number_of text) refl where
-  by_number : (o : Option ℕ) → number_of text ≡ o → IfSome (option_and_then (λ n. with_number option n told) o) Fits
-  by_number (Some n) e = number_fits option n told (number_of-is text n e).0 fits
-  by_number None e = tt
+pub fits-told : (o : OptionWord) (n : ℕ) (c : CommandValue) → Fits c → IsOptionOf c o → IsWithin (option_row o).range n
+    → Fits (record c { options = with_told o n c.options })
+fits-told o n c fits has within = record {
+  names = fits.names;
+  most = fits.most;
+  options = λ p m e. by_case p m (told-cases o p n m c.options within e);
+} where
+  by_case : (p : OptionWord) (m : ℕ) → ((p ≡ o) × (m ≡ n)) ⊎ (value_of p c.options ≡ Some m)
+      → IsOptionOf c p × IsWithin (option_row p).range m
+  by_case p m (inl same) =
+      let P : OptionWord → Type 0 = λ q. IsOptionOf c q × IsWithin (option_row q).range m in
+      let Q : ℕ → Type 0 = λ k. IsWithin (option_row o).range k in
+      subst P (sym same.0) (has, subst Q (sym same.1) within)
+  by_case p m (inr e) = fits.options p m e
 
-added_fits : (option : OptionWord) (told : Told) → Fits told → Fits (option_added option told)
-added_fits (options.Valued valued) told fits = fits
-added_fits options.Reports told fits = fits
-added_fits options.Dissent told fits = fits
+name-fits : (name : List ℕ) (c : CommandValue) → Fits c → IfSome (with_name name c) FitsSoFar
+name-fits name c fits =
+    if_true FitsSoFar (is_name_of (row c.word).names name && nat_lt (length c.names) (row c.word).most)
+    (settled (record c { names = c.names ++ name ∷ [] }))
+    (λ passed. let both = and_parts (is_name_of (row c.word).names name) (nat_lt (length c.names) (row c.word).most) passed in
+    (fits-name name c fits both.0 (ltb-true (length c.names) (row c.word).most both.1), tt))
 
-option_fits : (option : OptionWord) (told : Told) → Fits told → IfSome (with_option option told) Fits
-option_fits option told fits = by_test (has_option option told) where
-  by_test : (b : Bool) → IfSome (cond b None (Some (option_added option told))) Fits
-  by_test true = tt
-  by_test false = added_fits option told fits
+value-fits : (o : OptionWord) (text : List ℕ) (c : CommandValue) → Fits c → IsOptionOf c o → IfSome (with_value o text c) FitsSoFar
+value-fits o text c fits has = by_number (number_of text) where
+  by_number : (number : Option ℕ) → IfSome (option_and_then (λ n. with_number o n c) number) FitsSoFar
+  by_number (Some n) =
+      if_true FitsSoFar (is_in_range (option_row o).range n) (settled (record c { options = with_told o n c.options }))
+      (λ passed. (fits-told o n c fits has (within-range (option_row o).range n passed), tt))
+  by_number None = tt
 
-name_fits : (text : List ℕ) (told : Told) → Fits told → IfSome (with_name text told) Fits
-name_fits text told fits = if_true Fits _ _ (λ _. fits)
+pub none-within : (range : Option (ℕ × ℕ)) → is_some range ≡ false → IsWithin range 0
+none-within (Some range) e = cc
+none-within None e = refl
 
-word_fits : (text : List ℕ) (told : Told) → Fits told → IfSome (with_word text told) Fits
-word_fits text told fits = by_awaited told.awaited where
-  by_option : (o : Option OptionWord) → IfSome (with_option_or_name o text told) Fits
-  by_option (Some option) = option_fits option told fits
-  by_option None = name_fits text told fits
+option-fits : (o : OptionWord) (c : CommandValue) → Fits c → IsOptionOf c o → IfSome (with_option o c) FitsSoFar
+option-fits o c fits has = by_told (is_told o c.options) (is_some (option_row o).range) refl where
+  by_told : (told valued : Bool) → is_some (option_row o).range ≡ valued
+      → IfSome (cond told None (cond valued (Some (record { command = c; awaited = Some o }))
+      (Some (settled (record c { options = with_told o 0 c.options }))))) FitsSoFar
+  by_told true valued e = tt
+  by_told false true e = (fits, has)
+  by_told false false e = (fits-told o 0 c fits has (none-within (option_row o).range e), tt)
 
-  by_awaited : (o : Option Valued) → IfSome (with_next o text told) Fits
-  by_awaited (Some option) = value_fits option text told fits
-  by_awaited None = by_option (option_of told.command text)
+has-option : (c : CommandValue) (word : List ℕ) → IfSome (option_in (row c.word).options word) (IsOptionOf c)
+has-option c word = by_word (option_word word) where
+  by_word : (o : Option OptionWord) → IfSome (option_and_then (λ o. cond (is_among (row c.word).options o) (Some o) None) o) (IsOptionOf c)
+  by_word (Some o) = if_true (IsOptionOf c) (is_among (row c.word).options o) o (λ e. e)
+  by_word None = tt
 
-words_fit : (words : List (List ℕ)) (told : Told) → Fits told → IfSome (with_words words told) Fits
+word-fits : (word : List ℕ) (r : Reading) → FitsSoFar r → IfSome (with_word word r) FitsSoFar
+word-fits word r fits = by_awaited r.awaited fits.1 where
+  by_option : (o : Option OptionWord) → IfSome o (IsOptionOf r.command) → IfSome (with_option_or_name o word r.command) FitsSoFar
+  by_option (Some o) has = option-fits o r.command fits.0 has
+  by_option None has = name-fits word r.command fits.0
+
+  by_awaited : (o : Option OptionWord) → IfSome o (IsOptionOf r.command) → IfSome (with_next o word r.command) FitsSoFar
+  by_awaited (Some o) has = value-fits o word r.command fits.0 has
+  by_awaited None has = by_option (option_in (row r.command.word).options word) (has-option r.command word)
+
+words-fit : (words : List (List ℕ)) (r : Reading) → FitsSoFar r → IfSome (with_words words r) FitsSoFar
 unfolding with_words
-words_fit [] told fits = fits
-words_fit (first ∷ rest) told fits = by_more (with_word first told) (word_fits first told fits) (words_fit rest) where
-  by_more : (o : Option Told) → IfSome o Fits → ((more : Told) → Fits more → IfSome (with_words rest more) Fits) → IfSome (option_and_then (with_words rest) o) Fits
+words-fit [] r fits = fits
+words-fit (first ∷ rest) r fits = by_more (with_word first r) (word-fits first r fits) (words-fit rest) where
+  by_more : (o : Option Reading) → IfSome o FitsSoFar → ((more : Reading) → FitsSoFar more → IfSome (with_words rest more) FitsSoFar)
+      → IfSome (option_and_then (with_words rest) o) FitsSoFar
   by_more (Some more) further each = each more further
   by_more None further each = tt
 
-told_fits : (words : List (List ℕ)) → IfSome (told_by words) Fits
-told_fits [] = tt
-told_fits (first ∷ rest) = by_command (command_word first) where
-  by_command : (o : Option CommandWord) → IfSome (option_and_then (λ command. with_words rest (only command)) o) Fits
-  by_command (Some command) = words_fit rest (only command) (tt, tt)
-  by_command None = tt
+finished-fits : (r : Reading) → FitsSoFar r → IfSome (finished r) IsInRange
+finished-fits r fits = if_true IsInRange (is_whole r) r.command (λ passed.
+    let least = nat_le (row r.command.word).least (length r.command.names) in
+    let outer = and_parts (is_none r.awaited && least) (not (r.command.options.reports && is_some r.command.options.cycle)) passed in
+    let inner = and_parts (is_none r.awaited) least outer.0 in record {
+      names = fits.0.names;
+      least = leb-true (row r.command.word).least (length r.command.names) inner.1;
+      most = fits.0.most;
+      options = fits.0.options;
+      apart = not-true (r.command.options.reports && is_some r.command.options.cycle) outer.1;
+    })
 
-between_fits : (least most : ℕ) (names : List (List ℕ)) → IfSome (between least most names) (λ records. (least ≤ length records) × (length records ≤ most))
-between_fits least most names =
-    if_true _ (nat_le least (length names) && nat_le (length names) most) names
-    (λ passed. let low : least ≤ length names = grind (arith, nat_tests) in let high : length names ≤ most = grind (arith, nat_tests) in (low, high))
-
-mapped : {T : Type 0} (P : T → Type 0) (f : T → Command) (o : Option T) → IfSome o P → ((x : T) → P x → IsInRange (f x)) → IfSome (option_map f o) IsInRange
-mapped P f (Some x) holds each = each x holds
-mapped P f None holds each = tt
-
-any : {T : Type 0} (f : T → Command) (o : Option T) → ((x : T) → IsInRange (f x)) → IfSome (option_map f o) IsInRange
-any f (Some x) each = each x
-any f None each = tt
-
-sim_number : (o : Option (List ℕ)) → IfSome (option_and_then number_of o) (λ n. n < 2 ^ 64)
-sim_number (Some text) = by_number (number_of text) refl where
-  by_number : (o : Option ℕ) → number_of text ≡ o → IfSome o (λ n. n < 2 ^ 64)
-  by_number (Some n) e = (number_of-is text n e).0
-  by_number None e = tt
-sim_number None = tt
-
-names_fit : (command : CommandWord) (told : Told) → Fits told → IfSome (with_names command told) IsInRange
-names_fit word.Demo told fits = any _ (sole told.names) (λ _. tt)
-names_fit word.Record told fits = any _ (pair told.names) (λ _. fits)
-names_fit word.Replay told fits = any _ (sole told.names) (λ _. fits.1)
-names_fit word.Check told fits = any _ (sole told.names) (λ _. fits.1)
-names_fit word.Compare told fits = mapped (λ (records : List (List ℕ)). (2 ≤ length records) × (length records ≤ 8)) _ _ (between_fits 2 8 told.names) (λ _ within. within)
-names_fit word.Show told fits = any _ (sole told.names) (λ _. tt)
-names_fit word.Needs told fits = any _ (sole told.names) (λ _. tt)
-names_fit word.Sim told fits = mapped (λ n. n < 2 ^ 64) _ _ (sim_number (sole told.names)) (λ (n : ℕ) (small : n < 2 ^ 64). (small, fits.1))
-names_fit word.Salvage told fits = any _ (sole told.names) (λ _. tt)
-names_fit word.Upgrade told fits = any _ (sole told.names) (λ _. fits.1)
-names_fit word.Vote told fits = mapped (λ (records : List (List ℕ)). (3 ≤ length records) × (length records ≤ 7)) _ _ (between_fits 3 7 told.names) (λ _ within. within)
-names_fit word.Chain told fits = any _ (triple told.names) (λ _. fits)
-names_fit word.Help told fits = any _ (between 0 0 told.names) (λ _. tt)
-names_fit word.Version told fits = any _ (between 0 0 told.names) (λ _. tt)
-
-complete_fits : (told : Told) → Fits told → IfSome (command_told told) IsInRange
-complete_fits told fits = by_awaited told.awaited where
-  by_awaited : (o : Option Valued) → IfSome (complete o told) IsInRange
-  by_awaited (Some option) = tt
-  by_awaited None = names_fit told.command told fits
-
-command_fits : (words : List (List ℕ)) → IfSome (command_of words) IsInRange
-command_fits words = by_told (told_by words) (told_fits words) where
-  by_told : (o : Option Told) → IfSome o Fits → IfSome (option_and_then command_told o) IsInRange
-  by_told (Some told) fits = complete_fits told fits
+read-fits : (rest : List (List ℕ)) (word : CommandWord) → IfSome (read_by rest word) IsInRange
+read-fits rest word = by_told (with_words rest (begun word)) (words-fit rest (begun word) (fits-begun word, tt)) where
+  by_told : (o : Option Reading) → IfSome o FitsSoFar → IfSome (option_and_then finished o) IsInRange
+  by_told (Some r) fits = finished-fits r fits
   by_told None fits = tt
 
-pub in_range : (words : List (List ℕ)) (command : Command) → command_of words ≡ Some command → IsInRange command
-in_range words command e = let P : Option Command → Type 0 = λ o. IfSome o IsInRange in subst P e (command_fits words)
+pub full-fits : (words : List (List ℕ)) → IfSome (read_in_full words) IsInRange
+full-fits [] = tt
+full-fits (first ∷ rest) = by_command (command_word first) where
+  by_command : (o : Option CommandWord) → IfSome (option_and_then (read_by rest) o) IsInRange
+  by_command (Some word) = read-fits rest word
+  by_command None = tt
+
+pub in_range : (words : List (List ℕ)) (c : CommandValue) → command_of words ≡ Some c → IsInRange c
+in_range words c e = let P : Option CommandValue → Type 0 = λ o. IfSome o IsInRange in subst P e (full-fits (in_full words))

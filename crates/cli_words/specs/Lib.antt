@@ -1,6 +1,7 @@
 pub mod Number
-pub mod Options
-pub mod Texts
-pub mod Told
-pub mod Words
+pub mod Table
+pub mod Names
+pub mod Command
 pub mod Ranges
+pub mod Reading
+pub mod Items

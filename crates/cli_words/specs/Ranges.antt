@@ -1,25 +1,37 @@
--- The ranges of what a command carries.
-use Rattle.std.specs.Prelude.{ℕ, ◌^◌, ◌<◌, ◌≤◌, length, Option, IfSome}
-use Rattle.cli_words.specs.Words.{Command, demo, «record», replay, check, compare, show, needs, sim, salvage, upgrade, vote, chain, help, version}
+-- What the table lets a command carry.
+use Rattle.std.specs.Prelude.{◌≡◌, ℕ, ◌≤◌, Bool, true, false, ◌&&◌, All, length, Option, Some, None}
+use Rattle.std.specs.Prelude.{is_some}
+use Rattle.cli_words.specs.declared.table.OptionWord.{OptionWord}
+use Rattle.cli_words.specs.declared.table.OptionWord.TheVariants.{Workers, Seed, Cycle}
+use Rattle.cli_words.specs.declared.table.OptionWord.TheVariants.{Reports, Dissent, Strict}
+use Rattle.cli_words.specs.declared.options.Options.{Options}
+use Rattle.cli_words.specs.Names.{is_name_of}
+use Rattle.cli_words.specs.Table.{row, option_row, is_among}
+use Rattle.cli_words.specs.Command.{CommandValue}
 
-abbrev pub IsWorkers : Option ℕ → Type 0
-IsWorkers workers = IfSome workers (λ n. (1 ≤ n) × (n ≤ 64))
+abbrev pub value_if : Bool → Option ℕ
+value_if true = Some 0
+value_if false = None
 
-abbrev pub IsSeed : Option ℕ → Type 0
-IsSeed seed = IfSome seed (λ n. n < 2 ^ 64)
+-- the value of an option that is told; one that takes no value has 0
+abbrev pub value_of : OptionWord → Options → Option ℕ
+value_of Workers options = options.workers
+value_of Seed options = options.seed
+value_of Cycle options = options.cycle
+value_of Reports options = value_if options.reports
+value_of Dissent options = value_if options.dissent
+value_of Strict options = value_if options.strict
 
-abbrev pub IsInRange : Command → Type 0
-IsInRange (demo stimulus) = Unit {0}
-IsInRange («record» manifest stimulus seed workers) = IsSeed seed × IsWorkers workers
-IsInRange (replay recorded workers) = IsWorkers workers
-IsInRange (check recorded workers) = IsWorkers workers
-IsInRange (compare records) = (2 ≤ length records) × (length records ≤ 8)
-IsInRange (show recorded) = Unit {0}
-IsInRange (needs manifest) = Unit {0}
-IsInRange (sim number workers) = (number < 2 ^ 64) × IsWorkers workers
-IsInRange (salvage recorded reports) = Unit {0}
-IsInRange (upgrade recorded workers) = IsWorkers workers
-IsInRange (vote records dissent) = (3 ≤ length records) × (length records ≤ 7)
-IsInRange (chain first second stimulus seed workers) = IsSeed seed × IsWorkers workers
-IsInRange help = Unit {0}
-IsInRange version = Unit {0}
+abbrev pub IsWithin : Option (ℕ × ℕ) → ℕ → Type 0
+IsWithin (Some (least, most)) n = (least ≤ n) × (n ≤ most)
+IsWithin None n = n ≡ 0
+
+-- its names are names of the row's kind, not too few and not too many; its options are those of
+-- the row, with values in range; and reports and a cycle aren't asked for together
+pub record IsInRange (c : CommandValue) : Type 0 where
+  pub names : All (λ name. is_name_of (row c.word).names name ≡ true) c.names
+  pub least : (row c.word).least ≤ length c.names
+  pub most : length c.names ≤ (row c.word).most
+  pub options : (o : OptionWord) (n : ℕ) → value_of o c.options ≡ Some n
+      → (is_among (row c.word).options o ≡ true) × IsWithin (option_row o).range n
+  pub apart : (c.options.reports && is_some c.options.cycle) ≡ false

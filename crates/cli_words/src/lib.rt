@@ -2,17 +2,22 @@
 #![tactic(auto)]
 
 mod command;
-mod command_word;
 pub mod laws;
+mod name_kind;
 mod names;
 mod number;
-mod told;
+mod options;
+mod reading;
+mod table;
 
 pub use command::Command;
-pub use command_word::CommandWord;
 pub use names::Names;
 pub use number::number_of;
-pub use told::{Told, read_words};
+pub use options::{Options, UNTOLD};
+pub use reading::read_words;
+pub use table::{
+    COMMANDS, CommandWord, NONE, NameKind, OPTIONS, OptionRow, OptionSet, OptionWord, Row,
+};
 
 #[cfg(test)]
 mod tests;

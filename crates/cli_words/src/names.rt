@@ -1,5 +1,5 @@
 //! The names that a command is given.
-ghost use Rattle.std.specs.Prelude.{◌≤◌};
+ghost use Rattle.std.specs.Prelude.{◌≡◌, ◌≤◌};
 
 /// At most 8 names, in the order of the words.
 #[derive(Clone, Copy)]
@@ -10,8 +10,8 @@ pub struct Names<'a> {
 }
 
 impl<'a> Names<'a> {
-    ghost use Rattle.std.specs.Prelude.{◌≡◌, ◌<◌, ◌∷◌, [], ◌++◌, length, map, nat_eq, option_map};
-    ghost use Rattle.cli_words.specs.Texts.{texts_of, sole, pair, triple};
+    ghost use Rattle.std.specs.Prelude.{◌≡◌, ◌<◌, ◌∷◌, [], ◌++◌, length, map, get_or};
+    ghost use Rattle.cli_words.specs.Names.{texts_of};
 
     /// No name.
     pub(crate) fn new() -> Names<'a>
@@ -23,11 +23,11 @@ impl<'a> Names<'a> {
         }
     }
 
-    /// Whether there are 8 names.
-    pub(crate) fn is_full(&self) -> bool
-        ensures { result ≡ nat_eq (length (texts_of self.now)) 8 }
+    /// The number of names.
+    pub fn count(&self) -> usize
+        ensures { result ≡ length (texts_of self.now) }
     {
-        self.count == 8
+        self.count
     }
 
     /// Adds a name at the end.
@@ -47,33 +47,13 @@ impl<'a> Names<'a> {
         &self.texts[..self.count]
     }
 
-    /// The name, where it is the only one.
-    pub(crate) fn sole(&self) -> Option<&'a str>
-        ensures { option_map (λ text. text.now) result ≡ sole (texts_of self.now) }
+    /// The name at a place, empty where there is none.
+    pub fn at(&self, place: usize) -> &'a str
+        ensures { result.now ≡ get_or (texts_of self.now) place [] }
     {
-        match self.as_slice() {
-            [first] => Some(*first),
-            _ => None,
-        }
-    }
-
-    /// The names, where they are two.
-    pub(crate) fn pair(&self) -> Option<(&'a str, &'a str)>
-        ensures { option_map (λ texts. (texts.0.now, texts.1.now)) result ≡ pair (texts_of self.now) }
-    {
-        match self.as_slice() {
-            [first, second] => Some((*first, *second)),
-            _ => None,
-        }
-    }
-
-    /// The names, where they are three.
-    pub(crate) fn triple(&self) -> Option<(&'a str, &'a str, &'a str)>
-        ensures { option_map (λ texts. (texts.0.now, texts.1.now, texts.2.now)) result ≡ triple (texts_of self.now) }
-    {
-        match self.as_slice() {
-            [first, second, third] => Some((*first, *second, *third)),
-            _ => None,
+        match self.as_slice().get(place) {
+            Some(name) => *name,
+            None => "",
         }
     }
 }

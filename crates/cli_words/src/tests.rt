@@ -13,110 +13,156 @@ fn words(alloc: Global, line: &str) -> Result<Vec<String>, AllocError> {
     Ok(words)
 }
 
-/// The command of a line's words as its `Debug` shows it.
+/// What is told of the options, in the table's order.
+fn told(alloc: Global, options: &Options) -> Result<String, AllocError> {
+    let mut text = String::new(alloc);
+    if let Some(workers) = options.workers {
+        text.push_str(format!(in alloc; " --workers {workers}")?.as_str())?;
+    }
+    if let Some(seed) = options.seed {
+        text.push_str(format!(in alloc; " --seed {seed}")?.as_str())?;
+    }
+    if let Some(cycle) = options.cycle {
+        text.push_str(format!(in alloc; " --cycle {cycle}")?.as_str())?;
+    }
+    text.push_str(if options.reports { " --reports" } else { "" })?;
+    text.push_str(if options.dissent { " --dissent" } else { "" })?;
+    text.push_str(if options.strict { " --strict" } else { "" })?;
+    Ok(text)
+}
+
+/// The command of a line's words: its own word, its names and its options.
 fn shown(alloc: Global, line: &str) -> Result<String, AllocError> {
     let words = words(alloc, line)?;
-    let Some(told) = read_words(&words) else {
+    let Some(command) = read_words(&words) else {
         return String::from_str(alloc, "none");
     };
-    match told.command() {
-        Some(command) => format!(in alloc; "{command:?}"),
-        None => String::from_str(alloc, "none"),
+    let mut text = String::from_str(alloc, command.word.row().word)?;
+    for name in command.names.as_slice() {
+        text.push_str(" ")?;
+        text.push_str(name)?;
     }
+    text.push_str(told(alloc, &command.options)?.as_str())?;
+    Ok(text)
 }
+
+/// In each line words, and the command that they are.
+const GOOD: &str = "demo s => demo s
+record m s => record m s
+record --workers 64 m s => record m s --workers 64
+record m s --seed 18446744073709551615 => record m s --seed 18446744073709551615
+record m --strict s => record m s --strict
+record --strict --seed 0 m --workers 1 s => record m s --workers 1 --seed 0 --strict
+replay r --workers 1 => replay r --workers 1
+check --workers 2 ./-r => check ./-r --workers 2
+compare a b => compare a b
+compare h g f e d c b a => compare h g f e d c b a
+show show => show show
+show r --reports => show r --reports
+show --cycle 1 r => show r --cycle 1
+show r --cycle 1000000 => show r --cycle 1000000
+needs m => needs m
+needs --strict m => needs m --strict
+sim 0 => sim 0
+sim --workers 3 7 => sim 7 --workers 3
+sim 18446744073709551615 => sim 18446744073709551615
+salvage r => salvage r
+salvage --reports r => salvage r --reports
+upgrade r => upgrade r
+vote a b c --dissent d e f g => vote a b c d e f g --dissent
+chain a b s --seed 0 => chain a b s --seed 0
+chain a --strict b s => chain a b s --strict
+--help => --help
+-h => --help
+help => --help
+--version => --version
+-V => --version
+version => --version
+--help show => --help show
+help show => --help show
+show --help => --help show
+help replay => --help replay";
 
 #[test]
 fn good_words(rt: HostRuntime) -> Result<(), Fail> {
-    let alloc = rt.alloc();
-    for (line, want) in [
-        ("demo s", "Demo { stimulus: \"s\" }"),
-        (
-            "record m s",
-            "Record { manifest: \"m\", stimulus: \"s\", seed: None, workers: None }",
-        ),
-        (
-            "record --workers 64 m --seed 18446744073709551615 s",
-            "Record { manifest: \"m\", stimulus: \"s\", seed: Some(18446744073709551615), workers: Some(64) }",
-        ),
-        (
-            "replay r --workers 1",
-            "Replay { record: \"r\", workers: Some(1) }",
-        ),
-        (
-            "check --workers 2 ./-r",
-            "Check { record: \"./-r\", workers: Some(2) }",
-        ),
-        ("compare a b", "Compare { records: [\"a\", \"b\"] }"),
-        (
-            "compare h g f e d c b a",
-            "Compare { records: [\"h\", \"g\", \"f\", \"e\", \"d\", \"c\", \"b\", \"a\"] }",
-        ),
-        ("show show", "Show { record: \"show\" }"),
-        ("needs m", "Needs { manifest: \"m\" }"),
-        ("sim 0", "Sim { number: 0, workers: None }"),
-        ("sim --workers 3 7", "Sim { number: 7, workers: Some(3) }"),
-        ("salvage r", "Salvage { record: \"r\", reports: false }"),
-        (
-            "salvage --reports r",
-            "Salvage { record: \"r\", reports: true }",
-        ),
-        ("upgrade r", "Upgrade { record: \"r\", workers: None }"),
-        (
-            "vote a b c --dissent d e f g",
-            "Vote { records: [\"a\", \"b\", \"c\", \"d\", \"e\", \"f\", \"g\"], dissent: true }",
-        ),
-        (
-            "chain a b s --seed 0",
-            "Chain { first: \"a\", second: \"b\", stimulus: \"s\", seed: Some(0), workers: None }",
-        ),
-        ("--help", "Help"),
-        ("--version", "Version"),
-    ] {
-        assert_eq!(rt; shown(alloc, line)?.as_str(), want);
+    for line in GOOD.lines() {
+        let parts = line.split_once(" => ");
+        let right = match parts {
+            Some((words, want)) => shown(rt.alloc(), words)?.as_str() == want,
+            None => false,
+        };
+        assert!(rt; right, "{line}");
     }
     Ok(())
 }
 
+/// In each line words that are no command.
+const BAD: &str = "''
+run s
+demo
+demo s s
+demo s --workers 1
+demo s --strict
+record m
+record m s --workers 0
+record m s --workers 65
+record m s --workers 2 --workers 2
+record m s --workers=2
+record m s --workers
+record m s --workers --seed 2
+record m s --seed 18446744073709551616
+record m s --seed 01
+record m s --seed +1
+record m s --seed -1
+record m s --seed ''
+record m s --strict --strict
+record m s --cycle 1
+--workers 2 record m s
+compare r
+compare a b c d e f g h i
+show -x
+show r --cycle 0
+show r --cycle 1000001
+show r --cycle
+show --cycle r
+show r --reports --cycle 1
+show r --cycle 1 --reports
+show r --cycle 1 --cycle 2
+show r --strict
+needs ''
+needs m --strict --strict
+needs m --reports
+sim 07
+sim x
+sim 18446744073709551616
+salvage r --dissent
+salvage r --reports --reports
+salvage r --seed 1
+vote a b
+vote a b c d e f g h
+chain a b
+--help s
+--help --help
+--help help
+-h show
+help -h
+help help
+help show r
+show r --help
+show --help --help
+version --help
+--version --help
+--version show
+-V show
+help s
+s --help";
+
 #[test]
 fn bad_words(rt: HostRuntime) -> Result<(), Fail> {
-    let alloc = rt.alloc();
-    let no_words: Vec<String> = Vec::new(alloc);
+    let no_words: Vec<String> = Vec::new(rt.alloc());
     assert!(rt; read_words(&no_words).is_none());
-    for line in [
-        "''",
-        "run s",
-        "demo",
-        "demo s s",
-        "demo s --workers 1",
-        "record m",
-        "record m s --workers 0",
-        "record m s --workers 65",
-        "record m s --workers 2 --workers 2",
-        "record m s --workers=2",
-        "record m s --workers",
-        "record m s --workers --seed 2",
-        "record m s --seed 18446744073709551616",
-        "record m s --seed 01",
-        "record m s --seed +1",
-        "record m s --seed -1",
-        "record m s --seed ''",
-        "--workers 2 record m s",
-        "compare r",
-        "compare a b c d e f g h i",
-        "show -x",
-        "needs ''",
-        "sim 07",
-        "sim x",
-        "salvage r --dissent",
-        "salvage r --reports --reports",
-        "salvage r --seed 1",
-        "vote a b",
-        "vote a b c d e f g h",
-        "chain a b",
-        "--help s",
-        "help",
-    ] {
-        assert_eq!(rt; shown(alloc, line)?.as_str(), "none");
+    for line in BAD.lines() {
+        assert!(rt; shown(rt.alloc(), line)?.as_str() == "none", "{line}");
     }
     Ok(())
 }

@@ -1,5 +1,5 @@
 -- What `needs` gives by its manifest.
-use Rattle.std.specs.Prelude.{ℕ, true, List, Result, Ok, Err}
+use Rattle.std.specs.Prelude.{ℕ, Bool, true, List, Result, Ok, Err}
 use Rattle.manifest.specs.Values.{ManifestValue}
 use Rattle.cli_answers.specs.declared.answer.BadManifest.{BadManifest}
 use Rattle.cli_answers.specs.declared.answer.Answer.TheVariants as answers
@@ -17,5 +17,5 @@ abbrev pub needs_from : Result ManifestValue BadManifest → Outcome
 needs_from (Ok m) = text_outcome (needs_lines m)
 needs_from (Err why) = refusal (answers.BadManifest why)
 
-abbrev pub needs_outcome : List ℕ → Outcome
-needs_outcome bytes = needs_from (setup_of bytes)
+abbrev pub needs_outcome : (strict : Bool) → List ℕ → Outcome
+needs_outcome strict bytes = needs_from (setup_of strict bytes)

@@ -25,18 +25,25 @@ fn needs_text(alloc: Global, manifest: &Manifest) -> Result<Vec<u8>, OutOfMemory
 }
 
 /// Writes the lines of the manifest under this name: its job, its cycle time in nanoseconds, its
-/// workers, its platform, and what an initialisation and a run need.
-pub fn needs<S: Shelf, K: Sink>(alloc: Global, name: &str, shelf: &mut S, out: &mut K) -> Answer
-    ensures meets { Meets (needs_outcome (told (S.sees shelf.old) name.now))
+/// workers, its platform, and what an initialisation and a run need. Where it is read strictly, a
+/// key that no table of a manifest knows is a fault.
+pub fn needs<S: Shelf, K: Sink>(
+    alloc: Global,
+    name: &str,
+    strict: bool,
+    shelf: &mut S,
+    out: &mut K,
+) -> Answer
+    ensures meets { Meets (needs_outcome strict (told (S.sees shelf.old) name.now))
         (IsSome ((S.sees shelf.old).holds name.now))
         (Rose (S.sees shelf.old).faults (S.sees shelf.new).faults)
         (Rose (K.faults out.old) (K.faults out.new)) (K.took out.old) (K.took out.new) result }
     ensures ends { can_end needs_work result ≡ true }
     ensures asked { Asks (S.sees shelf.old) (S.sees shelf.new) (name.now ∷ []) }
 {
-    let manifest = match read_setup(alloc, name, shelf) {
+    let manifest = match read_setup(alloc, name, strict, shelf) {
         Ok(manifest) => manifest,
-        Err(end) => return end.answer(),
+        Err(end) => return Answer::from(end),
     };
     let text = match needs_text(alloc, &manifest) {
         Ok(text) => text,

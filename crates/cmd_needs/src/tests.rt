@@ -74,7 +74,7 @@ fn run(alloc: Global, text: &[u8], room: usize) -> Result<Ran, NoMemory> {
     files.push(MemFile::new(name, Vec::from_slice(alloc, text)?))?;
     let mut shelf = MemShelf::limited(alloc, files, FailList::new(alloc), 4, 100)?;
     let mut out = MemSink::new(alloc, room, 7, FailList::new(alloc))?;
-    let answer = needs(alloc, "m", &mut shelf, &mut out);
+    let answer = needs(alloc, "m", false, &mut shelf, &mut out);
     Ok(Ran { answer, out })
 }
 

@@ -1,9 +1,13 @@
 -- The outcomes of `demo` and `record` are those of their profiles.
-use Rattle.std.proofs.Common.{◌≡◌, ℕ, List, [], ◌∷◌, length, refl, sym, ap, subst, ◌∙◌, arith}
+use Rattle.std.proofs.Common.{◌≡◌, ℕ, Bool, List, [], ◌∷◌, length, refl, sym, ap, subst, ◌∙◌, arith}
 use Rattle.std.specs.Prelude.{Option, Some, None, Result, Ok, Err, IsSome}
 use Rattle.std.specs.Option.{unwrap_or}
 use Rattle.det_values.specs.Values.{ProfileValue}
 use Rattle.det_edges.specs.Shelf.{ShelfState, Asks, AsksPrefix}
+use Rattle.det_edges.specs.Traffic.{failure_in, IfRefused}
+use Rattle.det_edges.specs.declared.failure.Failure.TheVariants.{Read, Write}
+use Rattle.det_edges.specs.declared.failure.Stopped.{Stopped}
+use Rattle.det_edges.specs.declared.failure.Stopped.TheVariants.{Refused, Failed}
 use Rattle.det_edges.proofs.Opening.{asks-all, asks-prefix-none, asks-then-prefix}
 use Rattle.det_values.specs.declared.job_kind.JobKind.{JobKind}
 use Rattle.det_values.specs.declared.job_kind.JobKind.TheVariants.{Bank, Cloud, Guard}
@@ -12,23 +16,22 @@ use Rattle.job_cloud.specs.Meaning as cloud
 use Rattle.job_guard.specs.Meaning as guard
 use Rattle.manifest.specs.Values.{ManifestValue}
 use Rattle.manifest.specs.Profiles.{profile_of}
-use Rattle.manifest.specs.Meaning.{manifest_of}
 use Rattle.manifest.specs.declared.fault.ManifestFault.{ManifestFault}
-use Rattle.cli_answers.specs.declared.answer.Answer.{Answer}
+use Rattle.cli_answers.specs.Answers.{without_manifest}
 use Rattle.cli_answers.specs.declared.answer.BadManifest.{BadManifest}
 use Rattle.cli_answers.specs.Outcome.{Meets, Tells, told}
-use Rattle.cmd_setup.specs.declared.setup.SetupEnd.{SetupEnd}
-use Rattle.cmd_setup.specs.declared.setup.SetupEnd.TheVariants as ends
-use Rattle.cmd_setup.specs.Setup.{bad_param, unless_bad, setup_from, setup_of, IfBad, answer_of}
+use Rattle.cmd_setup.specs.Setup.{bad_param, unless_bad, setup_from, manifest_by, setup_of}
 use Rattle.cmd_setup.proofs.Ending.{meets-end}
-use Rattle.cmd_record.specs.Outcomes.{recorded_if_good, demo_profile, demo_outcome, good_by_kind, recorded_by_kind, recorded_by, record_names, record_outcome}
+use Rattle.cmd_record.specs.Outcomes.{recorded_if_good, demo_profile, demo_outcome, good_by_kind, recorded_by_kind, recorded_by}
+use Rattle.cmd_record.specs.Outcomes.{record_names, record_outcome}
 use Rattle.cmd_record.proofs.Recorded.{if-good}
 
 -- the first of some told names, and the second
 pub tells-first : (shelf : ShelfState) (name : List ℕ) (names : List (List ℕ)) → Tells shelf (name ∷ names) → IsSome (shelf.holds name)
 tells-first shelf name names t = t 0 name (omega arith)
 
-pub tells-second : (shelf : ShelfState) (first name : List ℕ) (names : List (List ℕ)) → Tells shelf (first ∷ name ∷ names) → IsSome (shelf.holds name)
+pub tells-second : (shelf : ShelfState) (first name : List ℕ) (names : List (List ℕ)) → Tells shelf (first ∷ name ∷ names)
+    → IsSome (shelf.holds name)
 tells-second shelf first name names t = t 1 name (omega arith)
 
 -- the outcome of the built-in profile
@@ -41,22 +44,25 @@ kept (Some index) n m e = cc
 kept None n m e = (refl, cc)
 
 -- the job of a manifest that is set up refuses no parameter
-setup-good : (read : Result ManifestValue ManifestFault) (m : ManifestValue) → setup_from read ≡ Ok m → bad_param m.kind m.params (length m.events) ≡ None
+setup-good : (read : Result ManifestValue ManifestFault) (m : ManifestValue) → setup_from read ≡ Ok m
+    → bad_param m.kind m.params (length m.events) ≡ None
 setup-good (Err fault) m e = cc
 setup-good (Ok n) m e = let k = kept (bad_param n.kind n.params (length n.events)) n m e in
     subst (λ (x : ManifestValue). bad_param x.kind x.params (length x.events) ≡ None) k.1 k.0
 
-kind-good : (kind : JobKind) (p : ProfileValue) (text : List ℕ) → bad_param kind p.params (length p.events) ≡ None → good_by_kind kind p text ≡ recorded_by_kind kind p text
+kind-good : (kind : JobKind) (p : ProfileValue) (text : List ℕ) → bad_param kind p.params (length p.events) ≡ None
+    → good_by_kind kind p text ≡ recorded_by_kind kind p text
 kind-good Bank p text good = if-good bank.meaning p text good
 kind-good Cloud p text good = if-good cloud.meaning p text good
 kind-good Guard p text good = if-good guard.meaning p text good
 
 -- the outcome of a manifest that was read, by the job of its kind
-by-setup : (bytes text : List ℕ) (seed : ℕ) (m : ManifestValue) → setup_of bytes ≡ Ok m → recorded_by seed text (setup_of bytes) ≡ good_by_kind m.kind (profile_of m seed) text
-by-setup bytes text seed m is =
-    ap (recorded_by seed text) is ∙ sym (kind-good m.kind (profile_of m seed) text (setup-good (manifest_of bytes) m is))
+by-setup : (strict : Bool) (bytes text : List ℕ) (seed : ℕ) (m : ManifestValue) → setup_of strict bytes ≡ Ok m
+    → recorded_by seed text (setup_of strict bytes) ≡ good_by_kind m.kind (profile_of m seed) text
+by-setup strict bytes text seed m is =
+    ap (recorded_by seed text) is ∙ sym (kind-good m.kind (profile_of m seed) text (setup-good (manifest_by strict bytes) m is))
 
-module _ (first : ShelfState) (name stimulus : List ℕ) where
+module _ (strict : Bool) (first : ShelfState) (name stimulus : List ℕ) where
   -- the names that are opened, by what the manifest is
   abbrev names : Result ManifestValue BadManifest → List (List ℕ)
   names read = record_names name stimulus read
@@ -67,49 +73,52 @@ module _ (first : ShelfState) (name stimulus : List ℕ) where
   tells-manifest (Err why) tells = tells-first first name [] tells
 
   -- what was asked for where the manifest was read alone
-  pub asked-manifest : (last : ShelfState) (read : Result ManifestValue BadManifest) → Asks first last (name ∷ []) → AsksPrefix first last (names read)
-  asked-manifest last (Ok m) asked = asks-then-prefix first last last (name ∷ []) (stimulus ∷ []) asked (asks-prefix-none last last (stimulus ∷ []) refl)
+  pub asked-manifest : (last : ShelfState) (read : Result ManifestValue BadManifest) → Asks first last (name ∷ [])
+      → AsksPrefix first last (names read)
+  asked-manifest last (Ok m) asked =
+      asks-then-prefix first last last (name ∷ []) (stimulus ∷ []) asked (asks-prefix-none last last (stimulus ∷ []) refl)
   asked-manifest last (Err why) asked = asks-all first last (name ∷ []) asked
 
-  module _ (m : ManifestValue) (is : IsSome (first.holds name) → setup_of (told first name) ≡ Ok m) where
+  module _ (m : ManifestValue) (is : IsSome (first.holds name) → setup_of strict (told first name) ≡ Ok m) where
     -- where the manifest is told it is this one
-    pub is-told : Tells first (names (setup_of (told first name))) → setup_of (told first name) ≡ Ok m
-    is-told tells = is (tells-manifest (setup_of (told first name)) tells)
+    pub is-told : Tells first (names (setup_of strict (told first name))) → setup_of strict (told first name) ≡ Ok m
+    is-told tells = is (tells-manifest (setup_of strict (told first name)) tells)
 
     -- so both names are opened
-    pub tells-both : Tells first (names (setup_of (told first name))) → Tells first (name ∷ stimulus ∷ [])
+    pub tells-both : Tells first (names (setup_of strict (told first name))) → Tells first (name ∷ stimulus ∷ [])
     tells-both tells = subst (λ r. Tells first (names r)) (is-told tells) tells
 
-    pub asked-both : (last : ShelfState) → AsksPrefix first last (name ∷ stimulus ∷ []) → Tells first (names (setup_of (told first name)))
-        → AsksPrefix first last (names (setup_of (told first name)))
+    pub asked-both : (last : ShelfState) → AsksPrefix first last (name ∷ stimulus ∷ [])
+        → Tells first (names (setup_of strict (told first name)))
+        → AsksPrefix first last (names (setup_of strict (told first name)))
     asked-both last asked tells = subst (λ r. AsksPrefix first last (names r)) (sym (is-told tells)) asked
 
     -- the same outcome, where the manifest and the stimulus are told
     pub by-told : (mid : ShelfState) (seed : Option ℕ) (kind : JobKind) (p : ProfileValue) → mid.holds ≡ first.holds
-        → kind ≡ m.kind → p ≡ profile_of m (unwrap_or seed 0) → Tells first (names (setup_of (told first name)))
-        → record_outcome (told first name) (told first stimulus) seed ≡ good_by_kind kind p (told mid stimulus)
+        → kind ≡ m.kind → p ≡ profile_of m (unwrap_or seed 0) → Tells first (names (setup_of strict (told first name)))
+        → record_outcome strict (told first name) (told first stimulus) seed ≡ good_by_kind kind p (told mid stimulus)
     by-told mid seed kind p holds same profile tells =
-        by-setup (told first name) (told first stimulus) (unwrap_or seed 0) m (is-told tells)
+        by-setup strict (told first name) (told first stimulus) (unwrap_or seed 0) m (is-told tells)
         ∙ ap (λ k. good_by_kind k (profile_of m (unwrap_or seed 0)) (told first stimulus)) (sym same)
         ∙ ap (λ q. good_by_kind kind q (told first stimulus)) (sym profile)
         ∙ ap (λ h. good_by_kind kind p (unwrap_or (h stimulus) [])) (sym holds)
 
     -- the stimulus is told behind the manifest
-    pub still-told : (mid : ShelfState) → mid.holds ≡ first.holds → Tells first (names (setup_of (told first name))) → IsSome (mid.holds stimulus)
+    pub still-told : (mid : ShelfState) → mid.holds ≡ first.holds → Tells first (names (setup_of strict (told first name)))
+        → IsSome (mid.holds stimulus)
     still-told mid holds tells = subst (λ h. IsSome (h stimulus)) (sym holds) (tells-second first name stimulus [] (tells-both tells))
 
-  bad-told : (end : SetupEnd) → IfBad end (λ why. IsSome (first.holds name) → setup_of (told first name) ≡ Err why)
-      → IfBad end (λ why. Tells first (names (setup_of (told first name))) → setup_of (told first name) ≡ Err why)
-  bad-told (ends.BadManifest why) bad = λ tells. bad (tells-manifest (setup_of (told first name)) tells)
-  bad-told ends.ReadFault bad = bad
-  bad-told ends.OutOfMemory bad = bad
+  bad-told : (end : Stopped BadManifest) → IfRefused end (λ why. IsSome (first.holds name) → setup_of strict (told first name) ≡ Err why)
+      → IfRefused end (λ why. Tells first (names (setup_of strict (told first name))) → setup_of strict (told first name) ≡ Err why)
+  bad-told (Refused why) bad = λ tells. bad (tells-manifest (setup_of strict (told first name)) tells)
+  bad-told (Failed failure) bad = bad
 
   -- a manifest that is refused, or couldn't be read
-  pub met-end : (seed : Option ℕ) (rose failed : Type 0) (before : List ℕ → Type 0) (end : SetupEnd) (answer : Answer) → answer ≡ answer_of end
-      → IfBad end (λ why. IsSome (first.holds name) → setup_of (told first name) ≡ Err why) → (end ≡ ends.ReadFault → rose)
-      → Meets (record_outcome (told first name) (told first stimulus) seed) (Tells first (names (setup_of (told first name)))) rose failed before before answer
-  met-end seed rose failed before end answer is bad read =
-      let wanted = recorded_by (unwrap_or seed 0) (told first stimulus) in
-      let tells = Tells first (names (setup_of (told first name))) in
-      subst (λ a. Meets (wanted (setup_of (told first name))) tells rose failed before before a) (sym is)
-      (meets-end wanted (λ why. refl) (told first name) tells rose failed before end (bad-told end bad) read)
+  pub met-end : (seed : Option ℕ) (rose failed : Type 0) (before : List ℕ → Type 0) (end : Stopped BadManifest)
+      → IfRefused end (λ why. IsSome (first.holds name) → setup_of strict (told first name) ≡ Err why)
+      → (failure_in {A = ManifestValue} (Err end) ≡ Some Read → rose) → (failure_in {A = ManifestValue} (Err end) ≡ Some Write → ⊥)
+      → Meets (record_outcome strict (told first name) (told first stimulus) seed)
+      (Tells first (names (setup_of strict (told first name)))) rose failed before before (without_manifest end)
+  met-end seed rose failed before end bad read write =
+      meets-end (recorded_by (unwrap_or seed 0) (told first stimulus)) (λ why. refl) strict (told first name)
+      (Tells first (names (setup_of strict (told first name)))) rose failed before end (bad-told end bad) read write

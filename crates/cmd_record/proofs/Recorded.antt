@@ -1,12 +1,15 @@
 -- A run of the recorder meets the outcome of its profile and of its stimulus.
 use Rattle.std.proofs.Common.{◌≡◌, ℕ, List, length, refl, sym, ap, inr}
-use Rattle.std.specs.Prelude.{Option, Some, None, Result, Ok, Err, IsErrOf, IfSome}
-use Rattle.det_edges.specs.Shelf.{ShelfState}
+use Rattle.std.specs.Prelude.{Option, Some, None, Result, Ok, Err, IfSome}
+use Rattle.det_edges.specs.Count.{Rose}
 use Rattle.det_edges.specs.Sink.{GrewByPrefix}
-use Rattle.probes.specs.Reports.{ProbeLife}
-use Rattle.recorder.specs.declared.ends.Counts.{Counts}
-use Rattle.recorder.specs.declared.ends.RecordEnd.{RecordEnd}
-use Rattle.recorder.specs.declared.ends.RecordEnd.TheVariants.{Stimulus, ReadFault, WriteFault, OutOfMemory}
+use Rattle.det_edges.specs.Traffic.{ShelfRun, SinkRun, ShelfTraffic, SinkTraffic, failure_in}
+use Rattle.det_edges.specs.declared.failure.Failure.TheVariants.{Read, Write, OutOfMemory}
+use Rattle.det_edges.specs.declared.failure.Stopped.{Stopped}
+use Rattle.det_edges.specs.declared.failure.Stopped.TheVariants.{Refused, Failed}
+use Rattle.probes.specs.Reports.{AudienceState}
+use Rattle.stimulus.specs.declared.item.StimFault.{StimFault}
+use Rattle.run_writer.specs.declared.counts.Counts.{Counts}
 use Rattle.recorder.specs.Record.{record_of}
 use Rattle.recorder.specs.Ends.{Finishes, Stops}
 use Rattle.recorder.specs.Recorded.{IsRecorded}
@@ -36,54 +39,60 @@ module _ {S G E L P : Type 0} (m : Meaning S G E L P) (profile : ProfileValue) (
 at-told : (left : Option (List ℕ)) (text : List ℕ) (P : List ℕ → Type 0) → left ≡ Some text → IfSome left P → P text
 at-told left text P e p = rw e at p
 
-module _ {S G E L P : Type 0} (m : Meaning S G E L P) (profile : ProfileValue) (text : List ℕ) (slot : ℕ) (first last : ShelfState)
-    (before after : List ℕ → Type 0) (seeing stayed : List ProbeLife) (left : List ℕ) (tells rose failed : Type 0)
-    (told : tells → first.left slot ≡ Some text) where
+module _ {S G E L P : Type 0} (m : Meaning S G E L P) (profile : ProfileValue) (text : List ℕ) (slot : ℕ) (shelf : ShelfRun)
+    (sink : SinkRun)
+    (audience last : AudienceState) (tells : Type 0) (told : tells → shelf.first.left slot ≡ Some text) where
+  abbrev rose : Type 0
+  rose = Rose shelf.first.faults shelf.last.faults
+
+  abbrev failed : Type 0
+  failed = Rose sink.faults_before sink.faults_after
+
   -- a recording meets the outcome, by its end
-  met-recorded : (result : Result Counts RecordEnd) → IsRecorded m profile slot first last before after seeing stayed left result
-      → (IsErrOf result ReadFault → rose) → (IsErrOf result WriteFault → failed)
-      → Meets (recorded m profile text) tells rose failed before after (answer_of result)
+  met-recorded : (result : Result Counts (Stopped StimFault)) → IsRecorded m profile slot shelf sink audience last result
+      → ShelfTraffic shelf (failure_in result) → SinkTraffic sink (failure_in result)
+      → Meets (recorded m profile text) tells rose failed sink.before sink.after (answer_of result)
   met-recorded (Ok counts) r read write =
-      let P : List ℕ → Type 0 = λ x. Finishes m profile x counts before after in
-      let Part : List ℕ → Type 0 = λ x. GrewByPrefix before after (record_of m profile x) in
-      let finished = λ (t : tells). at-told (first.left slot) text P (told t) r.ok in
+      let P : List ℕ → Type 0 = λ x. Finishes m profile x counts sink.before sink.after in
+      let Part : List ℕ → Type 0 = λ x. GrewByPrefix sink.before sink.after (record_of m profile x) in
+      let finished = λ (t : tells). at-told (shelf.first.left slot) text P (told t) r.ok in
       record {
-        part = λ t. at-told (first.left slot) text Part (told t) r.part;
+        part = λ t. at-told (shelf.first.left slot) text Part (told t) r.part;
         whole = λ t. inr (inr (inr (ap answer_to (sym (finished t).good), (finished t).grew)));
         read_fault = λ e. cc;
         write_fault = λ e. cc;
       }
-  met-recorded (Err (Stimulus line)) r read write =
-      let Is : ℕ → Type 0 = λ other. ◌≡◌ {A = Result Counts RecordEnd} (Err (Stimulus line)) (Err (Stimulus other)) in
-      let P : List ℕ → Type 0 = λ x. (other : ℕ) → Is other → Stops m profile x other before after in
-      let Part : List ℕ → Type 0 = λ x. GrewByPrefix before after (record_of m profile x) in
-      let stopped = λ (t : tells). at-told (first.left slot) text P (told t) r.stimulus line refl in
+  met-recorded (Err (Refused fault)) r read write =
+      let Is : StimFault → Type 0 = λ other. ◌≡◌ {A = Result Counts (Stopped StimFault)} (Err (Refused fault)) (Err (Refused other)) in
+      let P : List ℕ → Type 0 = λ x. (other : StimFault) → Is other → Stops m profile x other.line sink.before sink.after in
+      let Part : List ℕ → Type 0 = λ x. GrewByPrefix sink.before sink.after (record_of m profile x) in
+      let stopped = λ (t : tells). at-told (shelf.first.left slot) text P (told t) r.stimulus fault refl in
       record {
-        part = λ t. at-told (first.left slot) text Part (told t) r.part;
+        part = λ t. at-told (shelf.first.left slot) text Part (told t) r.part;
         whole = λ t. inr (inr (inr (ap answer_to (sym (stopped t).bad), (stopped t).grew)));
         read_fault = λ e. cc;
         write_fault = λ e. cc;
       }
-  met-recorded (Err ReadFault) r read write =
-      let Part : List ℕ → Type 0 = λ x. GrewByPrefix before after (record_of m profile x) in
-      meets-read-fault-part (recorded m profile text) tells rose failed before after
-      (λ t. at-told (first.left slot) text Part (told t) r.part) (read refl)
-  met-recorded (Err WriteFault) r read write =
-      let Part : List ℕ → Type 0 = λ x. GrewByPrefix before after (record_of m profile x) in
-      meets-write-fault (recorded m profile text) tells rose failed before after
-      (λ t. at-told (first.left slot) text Part (told t) r.part) (write refl)
-  met-recorded (Err OutOfMemory) r read write =
-      let Part : List ℕ → Type 0 = λ x. GrewByPrefix before after (record_of m profile x) in
-      meets-no-memory-part (recorded m profile text) tells rose failed before after
-      (λ t. at-told (first.left slot) text Part (told t) r.part)
+  met-recorded (Err (Failed Read)) r read write =
+      let Part : List ℕ → Type 0 = λ x. GrewByPrefix sink.before sink.after (record_of m profile x) in
+      meets-read-fault-part (recorded m profile text) tells rose failed sink.before sink.after
+      (λ t. at-told (shelf.first.left slot) text Part (told t) r.part) (read.cause refl)
+  met-recorded (Err (Failed Write)) r read write =
+      let Part : List ℕ → Type 0 = λ x. GrewByPrefix sink.before sink.after (record_of m profile x) in
+      meets-write-fault (recorded m profile text) tells rose failed sink.before sink.after
+      (λ t. at-told (shelf.first.left slot) text Part (told t) r.part) (write.cause refl)
+  met-recorded (Err (Failed OutOfMemory)) r read write =
+      let Part : List ℕ → Type 0 = λ x. GrewByPrefix sink.before sink.after (record_of m profile x) in
+      meets-no-memory-part (recorded m profile text) tells rose failed sink.before sink.after
+      (λ t. at-told (shelf.first.left slot) text Part (told t) r.part)
 
   -- and that of a profile whose parameters the job takes
-  pub met-good : (rose2 : Type 0) (result : Result Counts RecordEnd) (answer : Answer) → answer ≡ answer_of result
+  pub met-good : (rose2 : Type 0) (result : Result Counts (Stopped StimFault)) (answer : Answer) → answer ≡ answer_of result
       → m.bad_param profile.params (length profile.events) ≡ None → (rose → rose2)
-      → IsRecorded m profile slot first last before after seeing stayed left result
-      → (IsErrOf result ReadFault → rose) → (IsErrOf result WriteFault → failed)
-      → Meets (recorded_if_good m profile text) tells rose2 failed before after answer
+      → IsRecorded m profile slot shelf sink audience last result
+      → ShelfTraffic shelf (failure_in result) → SinkTraffic sink (failure_in result)
+      → Meets (recorded_if_good m profile text) tells rose2 failed sink.before sink.after answer
   met-good rose2 result answer is good later r read write =
-      rw is (meets-as (recorded m profile text) (recorded_if_good m profile text) tells rose failed tells rose2 before after
+      rw is (meets-as (recorded m profile text) (recorded_if_good m profile text) tells rose failed tells rose2 sink.before sink.after
       (answer_of result)
       (λ t. t) (λ t. if-good m profile text good) later (met-recorded result r read write))

@@ -1,26 +1,29 @@
 -- What `demo` and `record` give.
-use Rattle.std.specs.Prelude.{ℕ, pos, true, List, [], ◌∷◌, length, codes, Option, Some, None, Result, Ok, Err}
+use Rattle.std.specs.Prelude.{ℕ, pos, Bool, true, List, [], ◌∷◌, length, codes, Option, Some, None}
+use Rattle.std.specs.Prelude.{Result, Ok, Err}
 use Rattle.std.specs.Option.{unwrap_or}
 use Rattle.det_values.specs.Values.{ProfileValue}
 use Rattle.det_values.specs.declared.format.Format.TheVariants.{Two}
 use Rattle.det_values.specs.declared.event.Policy.TheVariants.{Last}
 use Rattle.det_values.specs.declared.job_kind.JobKind.{JobKind}
 use Rattle.det_values.specs.declared.job_kind.JobKind.TheVariants.{Bank, Cloud, Guard}
+use Rattle.det_edges.specs.declared.failure.Stopped.{Stopped}
+use Rattle.det_edges.specs.declared.failure.Stopped.TheVariants.{Refused, Failed}
 use Rattle.job_trait.specs.Meaning.{Meaning}
 use Rattle.job_bank.specs.Meaning as bank
 use Rattle.job_cloud.specs.Meaning as cloud
 use Rattle.job_guard.specs.Meaning as guard
+use Rattle.stimulus.specs.declared.item.StimFault.{StimFault}
 use Rattle.stimulus.specs.Reading.{Ending, Terminated, BadLine, ending}
 use Rattle.recorder.specs.Record.{record_of}
-use Rattle.recorder.specs.declared.ends.Counts.{Counts}
-use Rattle.recorder.specs.declared.ends.RecordEnd.{RecordEnd}
-use Rattle.recorder.specs.declared.ends.RecordEnd.TheVariants.{Stimulus, ReadFault, WriteFault, OutOfMemory}
+use Rattle.run_writer.specs.declared.counts.Counts.{Counts}
 use Rattle.manifest.specs.Values.{ManifestValue}
 use Rattle.manifest.specs.Profiles.{profile_of}
 use Rattle.cli_answers.specs.declared.answer.BadManifest.{BadManifest}
 use Rattle.cli_answers.specs.declared.answer.BadManifest.TheVariants.{Parameter}
 use Rattle.cli_answers.specs.declared.answer.Answer.{Answer}
 use Rattle.cli_answers.specs.declared.answer.Answer.TheVariants as answers
+use Rattle.cli_answers.specs.Answers.{failed}
 use Rattle.cli_answers.specs.Ends.{Work, writes_alone}
 use Rattle.cli_answers.specs.Outcome.{Outcome, refusal}
 use Rattle.cmd_setup.specs.Setup.{setup_of}
@@ -38,12 +41,10 @@ answer_to Terminated = answers.Done
 answer_to (BadLine line) = answers.BadStimulus line
 
 -- what a run of the recorder is answered
-abbrev pub answer_of : Result Counts RecordEnd → Answer
+abbrev pub answer_of : Result Counts (Stopped StimFault) → Answer
 answer_of (Ok counts) = answers.Done
-answer_of (Err (Stimulus line)) = answers.BadStimulus line
-answer_of (Err ReadFault) = answers.ReadFault
-answer_of (Err WriteFault) = answers.WriteFault
-answer_of (Err OutOfMemory) = answers.OutOfMemory
+answer_of (Err (Refused fault)) = answers.BadStimulus fault.line
+answer_of (Err (Failed failure)) = failed failure
 
 -- an outcome, where no parameter is refused
 abbrev pub unless_refused : Option ℕ → Outcome → Outcome
@@ -53,11 +54,15 @@ unless_refused None outcome = outcome
 module _ {S G E L P : Type 0} (m : Meaning S G E L P) (profile : ProfileValue) where
   -- the record of a text, also where a bad line ends it
   abbrev pub recorded : List ℕ → Outcome
-  recorded text = record { answer = answer_to (ending (length profile.events) text); bytes = record_of m profile text }
+  recorded text = record {
+    answer = answer_to (ending (length profile.events) text);
+    bytes = record_of m profile text;
+  }
 
   -- the same of a profile whose parameters the job may refuse
   abbrev pub recorded_if_good : List ℕ → Outcome
-  recorded_if_good text = unless_refused (m.bad_param profile.params (length profile.events)) (recorded text)
+  recorded_if_good text =
+      unless_refused (m.bad_param profile.params (length profile.events)) (recorded text)
 
 -- a bank of 4 channels with the shift 2 and one event `x` of capacity 2; 10 ms, seed 0
 abbrev pub demo_profile : ProfileValue
@@ -92,10 +97,12 @@ recorded_by seed stimulus (Ok m) = recorded_by_kind m.kind (profile_of m seed) s
 recorded_by seed stimulus (Err why) = refusal (answers.BadManifest why)
 
 -- the names that `record` opens: of a manifest that is refused it opens no stimulus
-abbrev pub record_names : (manifest stimulus : List ℕ) → Result ManifestValue BadManifest → List (List ℕ)
+abbrev pub record_names : (manifest stimulus : List ℕ) → Result ManifestValue BadManifest
+    → List (List ℕ)
 record_names manifest stimulus (Ok m) = manifest ∷ stimulus ∷ []
 record_names manifest stimulus (Err why) = manifest ∷ []
 
 -- what `record` gives of a manifest and a stimulus, with the seed 0 where none is given
-abbrev pub record_outcome : (manifest stimulus : List ℕ) → Option ℕ → Outcome
-record_outcome manifest stimulus seed = recorded_by (unwrap_or seed 0) stimulus (setup_of manifest)
+abbrev pub record_outcome : (strict : Bool) (manifest stimulus : List ℕ) → Option ℕ → Outcome
+record_outcome strict manifest stimulus seed =
+    recorded_by (unwrap_or seed 0) stimulus (setup_of strict manifest)

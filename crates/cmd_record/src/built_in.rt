@@ -66,8 +66,10 @@ pub fn demo<R: Threads + Sync, S: Shelf, K: Sink, G: Gate + Send + Sync + 'stati
     out: &mut K,
     gate: &Arc<G, Global>,
 ) -> Answer
-    ensures meets { Meets (demo_outcome (told (S.sees shelf.old) stimulus.now)) (Tells (S.sees shelf.old) (stimulus.now ∷ []))
-        (Rose (S.sees shelf.old).faults (S.sees shelf.new).faults) (Rose (K.faults out.old) (K.faults out.new))
+    ensures meets { Meets (demo_outcome (told (S.sees shelf.old) stimulus.now))
+        (Tells (S.sees shelf.old) (stimulus.now ∷ []))
+        (Rose (S.sees shelf.old).faults (S.sees shelf.new).faults)
+        (Rose (K.faults out.old) (K.faults out.new))
         (K.took out.old) (K.took out.new) result }
     ensures ends { can_end demo_work result ≡ true }
     ensures asked { AsksPrefix (S.sees shelf.old) (S.sees shelf.new) (stimulus.now ∷ []) }
@@ -76,5 +78,5 @@ pub fn demo<R: Threads + Sync, S: Shelf, K: Sink, G: Gate + Send + Sync + 'stati
         return Answer::OutOfMemory;
     };
     let workers = Workers { rt, count: 1, gate };
-    record_job::<Bank, S, K, R, G>(alloc, &workers, &profile, stimulus, shelf, out)
+    record_job::<Bank, S, K, R, G>(alloc, &workers, profile, stimulus, shelf, out)
 }

@@ -6,7 +6,8 @@ ghost use Rattle.manifest.specs.Limits.{IsWorkers};
 ghost use Rattle.cli_answers.specs.Ends.{can_end};
 ghost use Rattle.cli_answers.specs.Outcome.{Meets, Tells, told};
 ghost use Rattle.cmd_setup.specs.Setup.{setup_of};
-ghost use Rattle.cmd_record.specs.Outcomes.{good_by_kind, record_names, record_outcome, record_work};
+ghost use Rattle.cmd_record.specs.Outcomes.{good_by_kind, record_names, record_outcome};
+ghost use Rattle.cmd_record.specs.Outcomes.{record_work};
 
 use crate::over_stimulus::record_job;
 use cli_answers::Answer;
@@ -39,7 +40,7 @@ fn record_kind<R, S, K, G>(
     alloc: Global,
     workers: &Workers<'_, R, G>,
     kind: JobKind,
-    profile: &Profile,
+    profile: Profile,
     stimulus: &str,
     shelf: &mut S,
     out: &mut K,
@@ -49,7 +50,7 @@ where
     S: Shelf,
     K: Sink,
     G: Gate + Send + Sync + 'static,
-    ensures meets { Meets (good_by_kind kind profile.now (told (S.sees shelf.old) stimulus.now)) (IsSome ((S.sees shelf.old).holds stimulus.now))
+    ensures meets { Meets (good_by_kind kind profile (told (S.sees shelf.old) stimulus.now)) (IsSome ((S.sees shelf.old).holds stimulus.now))
         (Rose (S.sees shelf.old).faults (S.sees shelf.new).faults) (Rose (K.faults out.old) (K.faults out.new))
         (K.took out.old) (K.took out.new) result }
     ensures ends { can_end record_work result ≡ true }
@@ -68,12 +69,14 @@ where
     }
 }
 
-/// Writes the record of a manifest's profile over a stimulus. The seed is 0, and the number of workers the manifest's,
-/// where none is given. The manifest is read and judged before the stimulus is opened.
+/// Writes the record of a manifest's profile over a stimulus. The seed is 0, and the number of
+/// workers the manifest's, where none is given. The manifest is read and judged before the stimulus
+/// is opened; where it is read strictly, a key that no table of a manifest knows is a fault.
 pub fn record_stimulus<R: Threads + Sync, S: Shelf, K: Sink, G: Gate + Send + Sync + 'static>(
     rt: &R,
     alloc: Global,
     manifest: &str,
+    strict: bool,
     stimulus: &str,
     seed: Option<u64>,
     workers: Option<u32>,
@@ -82,18 +85,23 @@ pub fn record_stimulus<R: Threads + Sync, S: Shelf, K: Sink, G: Gate + Send + Sy
     gate: &Arc<G, Global>,
 ) -> Answer
     requires workers { IfSome workers IsWorkers }
-    ensures meets { Meets (record_outcome (told (S.sees shelf.old) manifest.now) (told (S.sees shelf.old) stimulus.now) seed)
-        (Tells (S.sees shelf.old) (record_names manifest.now stimulus.now (setup_of (told (S.sees shelf.old) manifest.now))))
+    ensures meets { Meets (record_outcome strict (told (S.sees shelf.old) manifest.now)
+        (told (S.sees shelf.old) stimulus.now) seed)
+        (Tells (S.sees shelf.old) (record_names manifest.now stimulus.now
+        (setup_of strict (told (S.sees shelf.old) manifest.now))))
         (Rose (S.sees shelf.old).faults (S.sees shelf.new).faults) (Rose (K.faults out.old) (K.faults out.new))
         (K.took out.old) (K.took out.new) result }
     ensures ends { can_end record_work result ≡ true }
-    ensures asked { AsksPrefix (S.sees shelf.old) (S.sees shelf.new) (manifest.now ∷ stimulus.now ∷ []) }
-    ensures judged { Tells (S.sees shelf.old) (record_names manifest.now stimulus.now (setup_of (told (S.sees shelf.old) manifest.now)))
-        → AsksPrefix (S.sees shelf.old) (S.sees shelf.new) (record_names manifest.now stimulus.now (setup_of (told (S.sees shelf.old) manifest.now))) }
+    ensures asked { AsksPrefix (S.sees shelf.old) (S.sees shelf.new) (manifest.now ∷ stimulus.now
+        ∷ []) }
+    ensures judged { Tells (S.sees shelf.old) (record_names manifest.now stimulus.now
+        (setup_of strict (told (S.sees shelf.old) manifest.now)))
+        → AsksPrefix (S.sees shelf.old) (S.sees shelf.new) (record_names manifest.now stimulus.now
+        (setup_of strict (told (S.sees shelf.old) manifest.now))) }
 {
-    let setup = match read_setup(alloc, manifest, shelf) {
+    let setup = match read_setup(alloc, manifest, strict, shelf) {
         Ok(setup) => setup,
-        Err(end) => return end.answer(),
+        Err(end) => return Answer::from(end),
     };
     let Ok(profile) = setup.profile(alloc, seed.unwrap_or(0)) else {
         return Answer::OutOfMemory;
@@ -103,13 +111,5 @@ pub fn record_stimulus<R: Threads + Sync, S: Shelf, K: Sink, G: Gate + Send + Sy
         count: workers_or(workers, setup.workers()),
         gate,
     };
-    record_kind(
-        alloc,
-        &workers,
-        setup.kind(),
-        &profile,
-        stimulus,
-        shelf,
-        out,
-    )
+    record_kind(alloc, &workers, setup.kind(), profile, stimulus, shelf, out)
 }

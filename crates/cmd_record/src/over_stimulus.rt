@@ -10,33 +10,35 @@ ghost use Rattle.cli_answers.specs.declared.answer.BadManifest.{BadManifest as R
 use cli_answers::{Answer, BadManifest};
 use crew_recorder::{Workers, record_by_crew};
 use cycle_engine::Engine;
-use det_edges::{Shelf, Sink};
-use det_values::{Bytes, Profile};
+use det_edges::{Shelf, Sink, Stopped};
+use det_values::Profile;
 use job_trait::Job;
-use recorder::{Counts, RecordEnd};
+use probes::Audience;
+use run_writer::{Counts, Recording};
 use std::alloc::Global;
 use std::thread::Threads;
+use stimulus::StimFault;
+use stimulus_reader::StimulusReader;
 use worker_pool::Gate;
 
 /// What a run of the recorder is answered.
-fn answer_of(run: Result<Counts, RecordEnd>) -> Answer
+fn answer_of(run: Result<Counts, Stopped<StimFault>>) -> Answer
     ensures is { result ≡ answer_of run }
     ensures ends { can_end demo_work result ≡ true }
 {
     match run {
         Ok(_) => Answer::Done,
-        Err(RecordEnd::Stimulus { line }) => Answer::BadStimulus { line },
-        Err(RecordEnd::ReadFault) => Answer::ReadFault,
-        Err(RecordEnd::WriteFault) => Answer::WriteFault,
-        Err(RecordEnd::OutOfMemory) => Answer::OutOfMemory,
+        Err(Stopped::Refused(fault)) => Answer::BadStimulus { line: fault.line },
+        Err(Stopped::Failed(failure)) => Answer::from(failure),
     }
 }
 
-/// Records the stimulus under a name. A parameter that the job refuses is answered before the name is opened.
+/// Records the stimulus under a name, which nobody looks at. A parameter that the job refuses is
+/// answered before the name is opened.
 pub(crate) fn record_job<J, S, K, R, G>(
     alloc: Global,
     workers: &Workers<'_, R, G>,
-    profile: &Profile,
+    profile: Profile,
     stimulus: &str,
     shelf: &mut S,
     out: &mut K,
@@ -51,12 +53,14 @@ where
     K: Sink,
     R: Threads,
     G: Gate + Send + Sync + 'static,
-    ensures meets { Meets (recorded_if_good J.meaning profile.now (told (S.sees shelf.old) stimulus.now)) (IsSome ((S.sees shelf.old).holds stimulus.now))
-        (Rose (S.sees shelf.old).faults (S.sees shelf.new).faults) (Rose (K.faults out.old) (K.faults out.new))
-        (K.took out.old) (K.took out.new) result }
+    ensures meets { Meets
+        (recorded_if_good J.meaning profile (told (S.sees shelf.old) stimulus.now))
+        (IsSome ((S.sees shelf.old).holds stimulus.now))
+        (Rose (S.sees shelf.old).faults (S.sees shelf.new).faults)
+        (Rose (K.faults out.old) (K.faults out.new)) (K.took out.old) (K.took out.new) result }
     ensures ends { can_end record_work result ≡ true }
     ensures manifest { (why : Refusal) → result ≡ Answer.BadManifest why
-        → J.meaning.bad_param profile.now.params (length profile.now.events) ≡ None → ⊥ }
+        → J.meaning.bad_param profile.params (length profile.events) ≡ None → ⊥ }
     ensures asked { AsksPrefix (S.sees shelf.old) (S.sees shelf.new) (stimulus.now ∷ []) }
 {
     let events = profile.events.len() as u16;
@@ -67,21 +71,19 @@ where
     let Ok(slot) = shelf.open_input(stimulus) else {
         return Answer::ReadFault;
     };
-    let Ok(mut engine) = Engine::start(alloc, job, profile) else {
+    let Ok(engine) = Engine::start(alloc, job, &profile) else {
         return Answer::OutOfMemory;
     };
-    let mut probes = Vec::new(alloc);
-    let mut left = Bytes::new(alloc);
+    let mut recording = Recording::of(alloc, engine, profile);
+    let mut reader = StimulusReader::at(alloc, slot, events);
+    let mut nobody = Audience::of(alloc, Vec::new(alloc));
     let run = record_by_crew(
-        alloc,
+        &mut recording,
         workers,
-        &mut engine,
-        profile,
+        &mut reader,
         shelf,
-        slot,
         out,
-        &mut probes,
-        &mut left,
+        &mut nobody,
     );
     answer_of(run)
 }

@@ -84,7 +84,9 @@ fn record_over<R: Threads + Sync>(
     let mut shelf = shelf(alloc, manifest, stimulus)?;
     let mut out = MemSink::new(alloc, 400, 10, FailList::new(alloc))?;
     let gate = Arc::new(alloc, NoGate).map_err(|_| NoMemory)?;
-    let answer = record_stimulus(rt, alloc, "m", "s", seed, None, &mut shelf, &mut out, &gate);
+    let answer = record_stimulus(
+        rt, alloc, "m", false, "s", seed, None, &mut shelf, &mut out, &gate,
+    );
     Ok(Ran { answer, out })
 }
 

@@ -4,4 +4,4 @@
 mod judging;
 mod setup;
 
-pub use setup::{SetupEnd, read_setup};
+pub use setup::read_setup;

@@ -1,48 +1,53 @@
 -- How the printing of a record meets the outcome, by its end.
-use Rattle.std.proofs.Common.{◌≡◌, ℕ, List, refl, sym, ap, ◌∙◌, inl, inr}
-use Rattle.std.specs.Prelude.{Option, Some, Result, Ok, Err, IsErrOf, IfSome, OnOk}
-use Rattle.det_edges.specs.Sink.{GrewByPrefix}
-use Rattle.probes.specs.Reports.{ProbeLife}
-use Rattle.record_show.specs.declared.ends.Shown.{Shown}
-use Rattle.record_show.specs.declared.ends.ShowEnd.{ShowEnd}
-use Rattle.record_show.specs.declared.ends.ShowEnd.TheVariants as ends
-use Rattle.record_show.specs.Text.{text_of}
-use Rattle.record_show.specs.Ended.{Answers}
+use Rattle.std.proofs.Common.{◌≡◌, ◌≢◌, ℕ, List, refl, sym, ap, ◌∙◌, inl, inr}
+use Rattle.std.specs.Prelude.{Option, Some, Result, Ok, Err, IfSome, OnOk}
+use Rattle.det_edges.specs.declared.failure.Failure.TheVariants as failures
+use Rattle.det_edges.specs.declared.failure.Stopped.{Stopped}
+use Rattle.det_edges.specs.declared.failure.Stopped.TheVariants.{Refused, Failed}
+use Rattle.det_edges.specs.Count.{Rose}
+use Rattle.det_edges.specs.Traffic.{ShelfRun, SinkRun, ShelfTraffic, SinkTraffic, failure_in}
+use Rattle.record_grammar.specs.declared.fault.RecordFault.{RecordFault}
+use Rattle.probes.specs.Reports.{AudienceState}
+use Rattle.record_text.specs.declared.part.ShowPart.{ShowPart}
+use Rattle.record_show.specs.declared.shown.Shown.{Shown}
+use Rattle.record_show.specs.Ended.{Answers, Sees, SawFirst, Ended}
+use Rattle.record_show.proofs.Answering.{answers-part, told-answers, told-sees}
 use Rattle.cli_answers.specs.declared.answer.Answer.{Answer}
-use Rattle.cli_answers.specs.declared.answer.Answer.TheVariants.{Done}
+use Rattle.cli_answers.specs.declared.answer.Answer.TheVariants.{Done, OutOfMemory}
 use Rattle.cli_answers.specs.Outcome.{Meets}
 use Rattle.cmd_show.specs.Show.{by_fault, show_outcome, answer_of}
 
-module _ (probes : List ProbeLife) (bytes : List ℕ) (tells rose other : Type 0) (before after : List ℕ → Type 0) where
-  pub show-meets : (result : Result Shown ShowEnd) → (tells → Answers result probes bytes before after) → (tells → GrewByPrefix before after (text_of probes bytes))
-      → (IsErrOf result ends.ReadFault → rose) → (IsErrOf result ends.WriteFault → other)
-      → Meets (show_outcome probes bytes) tells rose other before after (answer_of result)
-  show-meets (Ok shown) answers part r w = record {
-    part = part;
+module _ (part : ShowPart) (audience : AudienceState) (bytes : List ℕ) (tells : Type 0) (shelf : ShelfRun) (out : SinkRun) where
+  show-meets : (result : Result Shown (Stopped RecordFault)) → (tells → Answers result part audience bytes out)
+      → ShelfTraffic shelf (failure_in result) → SinkTraffic out (failure_in result)
+      → Meets (show_outcome part audience bytes) tells (Rose shelf.first.faults shelf.last.faults) (Rose out.faults_before out.faults_after)
+      out.before out.after (answer_of result)
+  show-meets (Ok shown) answers r w = record {
+    part = λ t. answers-part (Ok shown) part audience bytes out (answers t);
     whole = λ t. inr (inr (inr (ap by_fault (sym (answers t).whole), (answers t).grew)));
     read_fault = λ e. cc;
     write_fault = λ e. cc;
   }
-  show-meets (Err (ends.BadRecord f)) answers part r w = record {
-    part = part;
+  show-meets (Err (Refused f)) answers r w = record {
+    part = λ t. answers-part (Err (Refused f)) part audience bytes out (answers t);
     whole = λ t. inr (inr (inr (ap by_fault (sym (answers t).0), (answers t).1)));
     read_fault = λ e. cc;
     write_fault = λ e. cc;
   }
-  show-meets (Err ends.ReadFault) answers part r w = record {
-    part = part;
+  show-meets (Err (Failed failures.Read)) answers r w = record {
+    part = λ t. answers-part (Err (Failed failures.Read)) part audience bytes out (answers t);
     whole = λ t. inl refl;
-    read_fault = λ e. r refl;
+    read_fault = λ e. r.cause refl;
     write_fault = λ e. cc;
   }
-  show-meets (Err ends.WriteFault) answers part r w = record {
-    part = part;
+  show-meets (Err (Failed failures.Write)) answers r w = record {
+    part = λ t. answers-part (Err (Failed failures.Write)) part audience bytes out (answers t);
     whole = λ t. inr (inl refl);
     read_fault = λ e. cc;
-    write_fault = λ e. w refl;
+    write_fault = λ e. w.cause refl;
   }
-  show-meets (Err ends.OutOfMemory) answers part r w = record {
-    part = part;
+  show-meets (Err (Failed failures.OutOfMemory)) answers r w = record {
+    part = λ t. answers-part (Err (Failed failures.OutOfMemory)) part audience bytes out (answers t);
     whole = λ t. inr (inr (inl refl));
     read_fault = λ e. cc;
     write_fault = λ e. cc;
@@ -51,23 +56,37 @@ module _ (probes : List ProbeLife) (bytes : List ℕ) (tells rose other : Type 0
 told-at : (left : Option (List ℕ)) (bytes : List ℕ) (P : List ℕ → Type 0) → left ≡ Some bytes → IfSome left P → P bytes
 told-at left bytes P e p = rw e at p
 
--- the same of what a slot had left, where that is told
-pub show-meets-left : (probes : List ProbeLife) (bytes : List ℕ) (left here : Option (List ℕ)) (rose other : Type 0) (before after : List ℕ → Type 0) (result : Result Shown ShowEnd) (answer : Answer)
-    → left ≡ here
-    → answer ≡ answer_of result
-    → IfSome left (λ b. Answers result probes b before after)
-    → IfSome left (λ b. GrewByPrefix before after (text_of probes b))
-    → (IsErrOf result ends.ReadFault → rose) → (IsErrOf result ends.WriteFault → other)
-    → Meets (show_outcome probes bytes) (here ≡ Some bytes) rose other before after answer
-show-meets-left probes bytes left here rose other before after result answer same is answers part r w =
-    rw is (show-meets probes bytes (here ≡ Some bytes) rose other before after result
-    (λ t. told-at left bytes (λ b. Answers result probes b before after) (same ∙ t) answers)
-    (λ t. told-at left bytes (λ b. GrewByPrefix before after (text_of probes b)) (same ∙ t) part) r w)
+sees-by : (result : Result Shown (Stopped RecordFault)) (part : ShowPart) (old now : AudienceState) (bytes : List ℕ) (out : SinkRun)
+    → answer_of result ≢ OutOfMemory → Sees result part old now bytes out → SawFirst part old now bytes out
+sees-by (Ok shown) part old now bytes out ne h = h
+sees-by (Err (Refused f)) part old now bytes out ne h = h
+sees-by (Err (Failed failures.Read)) part old now bytes out ne h = h
+sees-by (Err (Failed failures.Write)) part old now bytes out ne h = h
+sees-by (Err (Failed failures.OutOfMemory)) part old now bytes out ne h = absurd (ne refl)
+
+module _ (result : Result Shown (Stopped RecordFault)) (answer : Answer) (is : answer ≡ answer_of result) (part : ShowPart)
+    (old now : AudienceState) (read : List ℕ) (shelf : ShelfRun) (slot here : ℕ) (out : SinkRun) (same : slot ≡ here)
+    (ended : Ended result part old now read shelf slot out) where
+  -- what the slot had left, where that is told
+  pub meets-left : (bytes : List ℕ) → ShelfTraffic shelf (failure_in result) → SinkTraffic out (failure_in result)
+      → Meets (show_outcome part old bytes) (shelf.first.left here ≡ Some bytes) (Rose shelf.first.faults shelf.last.faults)
+      (Rose out.faults_before out.faults_after) out.before out.after answer
+  meets-left bytes r w =
+      rw is
+      (show-meets part old bytes (shelf.first.left here ≡ Some bytes) shelf out result
+      (λ t. told-at (shelf.first.left slot) bytes (λ b. Answers result part old b out) (ap shelf.first.left same ∙ t) (told-answers ended))
+      r w)
+
+  pub saw-left : (bytes : List ℕ) → answer ≢ OutOfMemory → shelf.first.left here ≡ Some bytes → SawFirst part old now bytes out
+  saw-left bytes ne t =
+      sees-by result part old now bytes out (λ e. ne (is ∙ e))
+      (told-at (shelf.first.left slot) bytes (λ b. Sees result part old now b out) (ap shelf.first.left same ∙ t) (told-sees ended))
 
 -- where the command is done the printing was
-pub at-done : (result : Result Shown ShowEnd) (answer : Answer) {P : Type 0} → answer ≡ answer_of result → OnOk result P → answer ≡ Done → P
+pub at-done : (result : Result Shown (Stopped RecordFault)) (answer : Answer) {P : Type 0} → answer ≡ answer_of result → OnOk result P
+    → answer ≡ Done → P
 at-done (Ok shown) answer is p done = p
-at-done (Err (ends.BadRecord f)) answer is p done = absurd (cc)
-at-done (Err ends.ReadFault) answer is p done = absurd (cc)
-at-done (Err ends.WriteFault) answer is p done = absurd (cc)
-at-done (Err ends.OutOfMemory) answer is p done = absurd (cc)
+at-done (Err (Refused f)) answer is p done = absurd (cc)
+at-done (Err (Failed failures.Read)) answer is p done = absurd (cc)
+at-done (Err (Failed failures.Write)) answer is p done = absurd (cc)
+at-done (Err (Failed failures.OutOfMemory)) answer is p done = absurd (cc)

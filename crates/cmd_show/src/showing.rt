@@ -1,31 +1,35 @@
 //! The command `show`.
-ghost use Rattle.std.specs.Prelude.{◌≡◌, ℕ, ◌<◌, ◌≤◌, List, ◌∷◌, [], true, map, Some};
-ghost use Rattle.std.specs.Vec.{vec_len};
+ghost use Rattle.std.specs.Prelude.{◌≡◌, ◌≢◌, ℕ, ◌<◌, List, ◌∷◌, [], true, Some};
 ghost use Rattle.det_edges.specs.Count.{Rose};
 ghost use Rattle.det_edges.specs.Shelf.{AsksPrefix};
+ghost use Rattle.det_edges.specs.Traffic.{sink_run};
 ghost use Rattle.cli_answers.specs.Ends.{can_end};
 ghost use Rattle.cli_answers.specs.Outcome.{Meets, Tells, told};
+ghost use Rattle.probes.specs.Shows.{seen};
+ghost use Rattle.record_show.specs.Showing.{Kept};
+ghost use Rattle.record_show.specs.Ended.{IsGone, SawFirst};
 ghost use Rattle.cmd_show.specs.Show.{show_outcome, show_work, answer_of};
 
 use cli_answers::Answer;
-use det_edges::{Shelf, Sink, Slots};
-use det_values::Bytes;
-use probes::Probe;
+use det_edges::{Failure, Shelf, Sink, Slots, Stopped};
+use probes::{Audience, Probe};
+use record_grammar::RecordFault;
 use record_reader::RecordReader;
-use record_show::{ShowEnd, Shown, show_run};
+use record_show::{Shown, show_run};
+use record_text::ShowPart;
 use std::alloc::Global;
 
 /// What the command answers. The one record that it reads is copy 0.
-fn answer_of(shown: Result<Shown, ShowEnd>) -> Answer
+fn answer_of(shown: Result<Shown, Stopped<RecordFault>>) -> Answer
     ensures is { result ≡ answer_of shown }
     ensures ends { can_end show_work result ≡ true }
 {
     match shown {
         Ok(_) => Answer::Done,
-        Err(ShowEnd::BadRecord(fault)) => Answer::BadRecord { copy: 0, fault },
-        Err(ShowEnd::ReadFault) => Answer::ReadFault,
-        Err(ShowEnd::WriteFault) => Answer::WriteFault,
-        Err(ShowEnd::OutOfMemory) => Answer::OutOfMemory,
+        Err(Stopped::Refused(fault)) => Answer::BadRecord { copy: 0, fault },
+        Err(Stopped::Failed(Failure::Read)) => Answer::ReadFault,
+        Err(Stopped::Failed(Failure::Write)) => Answer::WriteFault,
+        Err(Stopped::Failed(Failure::OutOfMemory)) => Answer::OutOfMemory,
     }
 }
 
@@ -33,47 +37,63 @@ fn answer_of(shown: Result<Shown, ShowEnd>) -> Answer
 fn show_slot<S: Slots, K: Sink>(
     alloc: Global,
     slot: u32,
+    part: ShowPart,
     shelf: &mut S,
     out: &mut K,
-    probes: &mut Vec<Box<dyn Probe>>,
+    audience: &mut Audience,
 ) -> Answer
-    requires few { vec_len probes.old ≤ 1024 }
-    requires slot { slot < (S.sees shelf.old).slots }
+    requires { slot < (S.sees shelf.old).slots }
     ensures meets { (bytes : List ℕ)
-        → Meets (show_outcome (map (λ b. life b) probes.old.items) bytes)
+        → Meets (show_outcome part (seen (λ b. life (b.vtable, b.value)) audience.old) bytes)
         ((S.sees shelf.old).left slot ≡ Some bytes)
         (Rose (S.sees shelf.old).faults (S.sees shelf.new).faults)
         (Rose (K.faults out.old) (K.faults out.new)) (K.took out.old) (K.took out.new) result }
     ensures ends { can_end show_work result ≡ true }
     ensures asked { (S.sees shelf.new).asked ≡ (S.sees shelf.old).asked }
-    ensures gone { result ≡ Answer.Done → probes.new.items ≡ [] }
+    ensures saw { (bytes : List ℕ) → result ≢ Answer.OutOfMemory
+        → (S.sees shelf.old).left slot ≡ Some bytes
+        → SawFirst part (seen (λ b. life (b.vtable, b.value)) audience.old)
+        (seen (λ b. life (b.vtable, b.value)) audience.new) bytes
+        (sink_run K.took K.faults out.old out.new) }
+    ensures gone { result ≡ Answer.Done
+        → IsGone part (seen (λ b. life (b.vtable, b.value)) audience.new) }
+    ensures kept { Kept part (seen (λ b. life (b.vtable, b.value)) audience.old)
+        (seen (λ b. life (b.vtable, b.value)) audience.new) }
 {
     let mut reader = RecordReader::at(alloc, slot);
-    let mut left = Bytes::new(alloc);
-    let shown = show_run(alloc, &mut reader, shelf, out, probes, &mut left);
+    let shown = show_run(alloc, part, &mut reader, shelf, out, audience);
     answer_of(shown)
 }
 
-/// Prints the record under this name, item by item, and shows its runs to the probes, at most
-/// 1,024. What they report is printed behind a whole record.
+/// Prints a part of the record under this name, item by item, and shows its runs to the audience.
+/// What that reports is printed behind a whole record, and no probe is left then. One run alone is
+/// printed without the audience, which stays as it is.
 pub fn show<S: Shelf, K: Sink>(
     alloc: Global,
     recorded: &str,
+    part: ShowPart,
     shelf: &mut S,
     out: &mut K,
-    probes: &mut Vec<Box<dyn Probe>>,
+    audience: &mut Audience,
 ) -> Answer
-    requires { vec_len probes.old ≤ 1024 }
-    ensures meets { Meets (show_outcome (map (λ b. life b) probes.old.items)
+    ensures meets { Meets (show_outcome part (seen (λ b. life (b.vtable, b.value)) audience.old)
         (told (S.sees shelf.old) recorded.now)) (Tells (S.sees shelf.old) (recorded.now ∷ []))
         (Rose (S.sees shelf.old).faults (S.sees shelf.new).faults)
         (Rose (K.faults out.old) (K.faults out.new)) (K.took out.old) (K.took out.new) result }
     ensures ends { can_end show_work result ≡ true }
     ensures asked { AsksPrefix (S.sees shelf.old) (S.sees shelf.new) (recorded.now ∷ []) }
-    ensures gone { result ≡ Answer.Done → probes.new.items ≡ [] }
+    // At every answer but want of memory the audience has seen first runs whose lines `out` took.
+    ensures saw { result ≢ Answer.OutOfMemory → Tells (S.sees shelf.old) (recorded.now ∷ [])
+        → SawFirst part (seen (λ b. life (b.vtable, b.value)) audience.old)
+        (seen (λ b. life (b.vtable, b.value)) audience.new)
+        (told (S.sees shelf.old) recorded.now) (sink_run K.took K.faults out.old out.new) }
+    ensures gone { result ≡ Answer.Done
+        → IsGone part (seen (λ b. life (b.vtable, b.value)) audience.new) }
+    ensures kept { Kept part (seen (λ b. life (b.vtable, b.value)) audience.old)
+        (seen (λ b. life (b.vtable, b.value)) audience.new) }
 {
     let Ok(slot) = shelf.open_input(recorded) else {
         return Answer::ReadFault;
     };
-    show_slot(alloc, slot, shelf, out, probes)
+    show_slot(alloc, slot, part, shelf, out, audience)
 }

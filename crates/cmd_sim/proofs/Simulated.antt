@@ -6,7 +6,7 @@ use Rattle.det_values.specs.Values.{ProfileValue}
 use Rattle.job_cloud.specs.Meaning.{meaning}
 use Rattle.stimulus.specs.Made.{made}
 use Rattle.stimulus.specs.Reading.{Terminated, ending}
-use Rattle.probes.specs.Reports.{ProbeLife, reports}
+use Rattle.probes.specs.Reports.{AudienceState, reported}
 use Rattle.record_text.specs.Summaries.{summary_lines}
 use Rattle.record_text.specs.declared.summary_lines.Summary.{Summary}
 use Rattle.cli_answers.specs.declared.answer.Answer.TheVariants.{Done, WriteFault}
@@ -25,21 +25,26 @@ module _ (number : ℕ) (p : ProfileValue) (is : p ≡ sim_profile number) where
   is-whole text same = ap (λ (q : ProfileValue). ending (length q.events) text) is ∙ ap (ending 3) same ∙ made-is-good number
 
   -- the summary of the run over it and the reports of its cycles are the text
-  pub text-is : {X F : Type 0} (items : X → List ℕ) (lines : Result X F) (probes : List ProbeLife) (text reported : List ℕ) (summary : Summary) → text ≡ made number
-      → summary ≡ summary_over meaning p text number → reported ≡ reports probes (runs_over meaning p text)
-      → IfOk lines (λ x. items x ≡ summary_lines summary ++ reported) → IfOk lines (λ x. items x ≡ sim_text probes number)
+  pub text-is : {X F : Type 0} (items : X → List ℕ) (lines : Result X F) (audience : AudienceState) (text told : List ℕ) (summary : Summary)
+      → text ≡ made number
+      → summary ≡ summary_over meaning p text number → told ≡ reported audience (runs_over meaning p text)
+      → IfOk lines (λ x. items x ≡ summary_lines summary ++ told) → IfOk lines (λ x. items x ≡ sim_text audience number)
   unfolding sim_text summary_of sim_runs
-  text-is items (Ok x) probes text reported summary same sum report all =
-      all ∙ (λ i. summary_lines (sum i) ++ report i) ∙ (λ i. summary_lines (summary_over meaning (is i) (same i) number) ++ reports probes (runs_over meaning (is i) (same i)))
-  text-is items (Err e) probes text reported summary same sum report all = tt
+  text-is items (Ok x) audience text told summary same sum report all =
+      all ∙ (λ i. summary_lines (sum i) ++ report i) ∙
+      (λ i. summary_lines (summary_over meaning (is i) (same i) number) ++ reported audience (runs_over meaning (is i) (same i)))
+  text-is items (Err e) audience text told summary same sum report all = tt
 
-module _ (probes : List ProbeLife) (number : ℕ) (rose : Type 0) (before after : List ℕ → Type 0) (text : List ℕ) (is : text ≡ sim_text probes number) where
+module _ (audience : AudienceState) (number : ℕ) (rose : Type 0) (before after : List ℕ → Type 0) (text : List ℕ)
+    (is : text ≡ sim_text audience number) where
   -- the text was written
-  pub meets-done : Grew before after text → Meets (sim_outcome probes number) (Unit {0}) ⊥ rose before after Done
+  pub meets-done : Grew before after text → Meets (sim_outcome audience number) (Unit {0}) ⊥ rose before after Done
   unfolding sim_outcome
-  meets-done grew = meets-whole (sim_outcome probes number) (Unit {0}) ⊥ rose before after Done text (λ e. cc) (λ e. cc) (λ t. ap text_outcome (sym is)) grew
+  meets-done grew = meets-whole (sim_outcome audience number) (Unit {0}) ⊥ rose before after Done text (λ e. cc) (λ e. cc)
+      (λ t. ap text_outcome (sym is)) grew
 
   -- its writing failed
-  pub meets-failed : GrewByPrefix before after text → rose → Meets (sim_outcome probes number) (Unit {0}) ⊥ rose before after WriteFault
+  pub meets-failed : GrewByPrefix before after text → rose → Meets (sim_outcome audience number) (Unit {0}) ⊥ rose before after WriteFault
   unfolding sim_outcome
-  meets-failed part failed = meets-write-fault (sim_outcome probes number) (Unit {0}) ⊥ rose before after (λ t. subst (λ bytes. GrewByPrefix before after bytes) is part) failed
+  meets-failed part failed = meets-write-fault (sim_outcome audience number) (Unit {0}) ⊥ rose before after
+      (λ t. subst (λ bytes. GrewByPrefix before after bytes) is part) failed

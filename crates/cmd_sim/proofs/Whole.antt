@@ -1,5 +1,6 @@
 -- A made text is a whole stimulus.
-use Rattle.std.proofs.Common.{◌≡◌, ℕ, zero, suc, ◌+◌, ◌*◌, ◌^◌, ◌<◌, ◌≤◌, ℤ, pos, negsuc, List, [], ◌∷◌, ◌++◌, length, Bool, true, false, cond, nat_lt, Option, Some, None, refl, ap, ◌∙◌, arith, rules, lit<, append_assoc, length-append, codes}
+use Rattle.std.proofs.Common.{◌≡◌, ℕ, zero, suc, ◌+◌, ◌*◌, ◌^◌, ◌<◌, ◌≤◌, ℤ, pos, negsuc, List, [], ◌∷◌, ◌++◌, length, Bool, true, false}
+use Rattle.std.proofs.Common.{cond, nat_lt, Option, Some, None, refl, ap, ◌∙◌, arith, rules, lit<, append_assoc, length-append, codes}
 use Rattle.std.specs.Fmt.{decimal, signed_decimal}
 use Rattle.std.specs.List.{All}
 use Rattle.std.specs.Str.Parse.{AllDigits}
@@ -59,7 +60,8 @@ abbrev is_whole_from : Place → List ℕ → Bool
 is_whole_from place text = (reading_from 3 place (parts text)).is_whole
 
 -- a line that leads from a place to another
-line_leads : (place next : Place) (given : List StimItem) (l : Line) (rest : List ℕ) → IsLine 3 l → IsInLine (spelling l) → length (spelling l) ≤ 128 → taken place l ≡ step given next
+line_leads : (place next : Place) (given : List StimItem) (l : Line) (rest : List ℕ) → IsLine 3 l → IsInLine (spelling l)
+    → length (spelling l) ≤ 128 → taken place l ≡ step given next
     → is_whole_from place (spelling l ++ 10 ∷ rest) ≡ is_whole_from next rest
 line_leads place next given l rest within in_line short leads =
     ap (λ r. r.is_whole) (goes_on 3 place next (spelling l) (spelling l ++ 10 ∷ rest) rest given (line_cut (spelling l) rest in_line)
@@ -68,23 +70,29 @@ line_leads place next given l rest within in_line short leads =
 abbrev at_time : ℕ → Line
 at_time time = lines.Cycle (Some time)
 
-cycle_leads : (place next : Place) (given : List StimItem) (time : ℕ) (rest : List ℕ) → time < 2 ^ 64 → taken place (at_time time) ≡ step given next
+cycle_leads : (place next : Place) (given : List StimItem) (time : ℕ) (rest : List ℕ) → time < 2 ^ 64
+    → taken place (at_time time) ≡ step given next
     → is_whole_from place ((codes "cycle " ++ decimal time) ++ 10 ∷ rest) ≡ is_whole_from next rest
 cycle_leads place next given time rest small leads =
     let few : length (decimal time) ≤ 20 = number_short time small in
     line_leads place next given (at_time time) rest small
-    (All-append (λ b. is_lf b ≡ false) (codes "cycle ") (decimal time) (All-from_recursion (λ b. is_lf b ≡ false) (codes "cycle ") (search rules)) (decimal_in_line time small)) (simp length-append (omega arith)) leads
+    (All-append (λ b. is_lf b ≡ false) (codes "cycle ") (decimal time)
+    (All-from_recursion (λ b. is_lf b ≡ false) (codes "cycle ") (search rules)) (decimal_in_line time small))
+    (simp length-append (omega arith)) leads
 
 abbrev sampled : ℕ → ℤ → Line
 sampled event value = lines.Sample (record { event = event; value = value })
 
-sample_leads : (place next : Place) (given : List StimItem) (event : ℕ) (value : ℤ) (rest : List ℕ) → event < 3 → IsSampleValue value → taken place (sampled event value) ≡ step given next
-    → is_whole_from place ((codes "sample " ++ (decimal event ++ (codes " " ++ signed_decimal value))) ++ 10 ∷ rest) ≡ is_whole_from next rest
+sample_leads : (place next : Place) (given : List StimItem) (event : ℕ) (value : ℤ) (rest : List ℕ) → event < 3 → IsSampleValue value
+    → taken place (sampled event value) ≡ step given next
+    → is_whole_from place ((codes "sample " ++ (decimal event ++ (codes " " ++ signed_decimal value))) ++ 10 ∷ rest) ≡ is_whole_from next
+    rest
 sample_leads place next given event value rest few within leads =
     let number : length (decimal event) ≤ 20 = number_short event (omega arith) in
     let words : length (signed_decimal value) ≤ 21 = value_short value within in
     line_leads place next given (sampled event value) rest (record { event = few; value = within })
-    (All-append (λ b. is_lf b ≡ false) (codes "sample ") (decimal event ++ (codes " " ++ signed_decimal value)) (All-from_recursion (λ b. is_lf b ≡ false) (codes "sample ") (search rules))
+    (All-append (λ b. is_lf b ≡ false) (codes "sample ") (decimal event ++ (codes " " ++ signed_decimal value))
+    (All-from_recursion (λ b. is_lf b ≡ false) (codes "sample ") (search rules))
     (All-append (λ b. is_lf b ≡ false) (decimal event) (codes " " ++ signed_decimal value) (decimal_in_line event (omega arith))
     (All-cons (λ b. is_lf b ≡ false) 32 (signed_decimal value) refl (value_in_line value within))))
     (simp length-append (omega arith)) leads
@@ -94,14 +102,20 @@ abbrev sample_text : ℕ → ℤ → List ℕ
 sample_text event value = codes "sample " ++ (decimal event ++ (codes " " ++ signed_decimal value))
 
 block_lines : (time : ℕ) (first second : ℤ) (rest : List ℕ)
-    → block_text time first second ++ rest ≡ (codes "cycle " ++ decimal time) ++ 10 ∷ (sample_text 0 first ++ 10 ∷ (sample_text 1 second ++ 10 ∷ rest))
+    → block_text time first second ++ rest ≡ (codes "cycle " ++ decimal time)
+    ++ 10 ∷ (sample_text 0 first ++ 10 ∷ (sample_text 1 second ++ 10 ∷ rest))
 block_lines time first second rest = simp (append_assoc, decimal_digit 0 (lit< tt), decimal_digit 1 (lit< tt))
 
 -- one block leads on, from before the first one or from another
-block_leads : (place : Place) (given : List StimItem) (number time : ℕ) (first second : ℤ) (rest : List ℕ) → time < 2 ^ 64 → IsSampleValue first → IsSampleValue second
+block_leads : (place : Place) (given : List StimItem) (number time : ℕ) (first second : ℤ) (rest : List ℕ) → time < 2 ^ 64
+    → IsSampleValue first → IsSampleValue second
     → taken place (at_time time) ≡ step given (Inside number (begun (Some time)))
     → is_whole_from place (block_text time first second ++ rest)
-    ≡ is_whole_from (Inside number (record { time = Some time; samples = record { event = 0; value = first } ∷ record { event = 1; value = second } ∷ [] })) rest
+    ≡ is_whole_from (Inside number (record {
+      time = Some time;
+      samples = record { event = 0; value = first } ∷ record
+          { event = 1; value = second } ∷ [];
+    })) rest
 block_leads place given number time first second rest small one two leads =
     let begins : CycleInput = begun (Some time) in
     let more : CycleInput = with_sample begins (record { event = 0; value = first }) in
@@ -109,7 +123,8 @@ block_leads place given number time first second rest small one two leads =
     ap (is_whole_from place) (block_lines time first second rest)
     ∙ cycle_leads place (Inside number begins) given time (sample_text 0 first ++ 10 ∷ last) small leads
     ∙ sample_leads (Inside number begins) (Inside number more) [] 0 first last (omega arith) one refl
-    ∙ sample_leads (Inside number more) (Inside number (with_sample more (record { event = 1; value = second }))) [] 1 second rest (omega arith) two refl
+    ∙ sample_leads (Inside number more) (Inside number (with_sample more (record { event = 1; value = second }))) [] 1 second rest
+    (omega arith) two refl
 
 made_within : (w : ℕ) → IsSampleValue (made_value w)
 made_within w = (omega (arith, ints), omega (arith, ints))
@@ -129,18 +144,23 @@ place_behind k (suc n) = Inside (suc n) (made_input k n)
 abbrev made_block : ℕ → ℕ → List ℕ
 made_block k n = block_text (10000000 * n) (made_value (word k (2 * n))) (made_value (word k (2 * n + 1)))
 
-another_block : (n : ℕ) (input : CycleInput) (time : Option ℕ) → n < 1000000 → taken (Inside n input) (lines.Cycle time) ≡ step (items.Cycle input ∷ []) (Inside (suc n) (begun time))
+another_block : (n : ℕ) (input : CycleInput) (time : Option ℕ) → n < 1000000
+    → taken (Inside n input) (lines.Cycle time) ≡ step (items.Cycle input ∷ []) (Inside (suc n) (begun time))
 another_block n input time few =
     let test : nat_lt n 1000000 ≡ true = grind (arith, nat_tests) in
-    ap (λ t. cond t (step (items.Cycle input ∷ []) (Inside (n + 1) (begun time))) None) test ∙ ap (λ m. step (items.Cycle input ∷ []) (Inside m (begun time))) (omega arith)
+    ap (λ t. cond t (step (items.Cycle input ∷ []) (Inside (n + 1) (begun time))) None) test
+    ∙ ap (λ m. step (items.Cycle input ∷ []) (Inside m (begun time))) (omega arith)
 
-next_leads : (k n : ℕ) (rest : List ℕ) → n < 1000 → is_whole_from (place_behind k n) (made_block k n ++ rest) ≡ is_whole_from (place_behind k (suc n)) rest
+next_leads : (k n : ℕ) (rest : List ℕ) → n < 1000 → is_whole_from (place_behind k n) (made_block k n ++ rest) ≡ is_whole_from
+    (place_behind k (suc n)) rest
 next_leads k zero rest few =
-    block_leads Between [] 1 0 (made_value (word k 0)) (made_value (word k 1)) rest (omega arith) (made_within (word k 0)) (made_within (word k 1)) refl
+    block_leads Between [] 1 0 (made_value (word k 0)) (made_value (word k 1)) rest (omega arith) (made_within (word k 0))
+    (made_within (word k 1)) refl
 next_leads k (suc n) rest few =
     let m : ℕ = suc n in
     let input : CycleInput = made_input k n in
-    block_leads (Inside m input) (items.Cycle input ∷ []) (suc m) (10000000 * m) (made_value (word k (2 * m))) (made_value (word k (2 * m + 1))) rest (omega arith)
+    block_leads (Inside m input) (items.Cycle input ∷ []) (suc m) (10000000 * m) (made_value (word k (2 * m)))
+    (made_value (word k (2 * m + 1))) rest (omega arith)
     (made_within (word k (2 * m))) (made_within (word k (2 * m + 1))) (another_block m input (Some (10000000 * m)) (omega arith))
 
 blocks_lead : (k n : ℕ) (rest : List ℕ) → n ≤ 1000 → is_whole_from Between (made_blocks k n ++ rest) ≡ is_whole_from (place_behind k n) rest
@@ -151,17 +171,20 @@ blocks_lead k (suc n) rest few =
     ∙ blocks_lead k n (made_block k n ++ rest) (omega arith) ∙ next_leads k n rest (omega arith)
 
 first_leads : (rest : List ℕ) → is_whole_from First (codes "stim 1\n" ++ rest) ≡ is_whole_from Between rest
-first_leads rest = line_leads First Between [] lines.Stim rest tt (All-from_recursion (λ b. is_lf b ≡ false) (codes "stim 1") (search rules)) (omega arith) refl
+first_leads rest = line_leads First Between [] lines.Stim rest tt
+    (All-from_recursion (λ b. is_lf b ≡ false) (codes "stim 1") (search rules)) (omega arith) refl
 
 ends : (n : ℕ) (input : CycleInput) → is_whole_from (Inside n input) (codes "terminate\n") ≡ true
 ends n input =
-    line_leads (Inside n input) Ended (items.Cycle input ∷ items.Terminate ∷ []) lines.Terminate [] tt (All-from_recursion (λ b. is_lf b ≡ false) (codes "terminate") (search rules)) (omega arith) refl
+    line_leads (Inside n input) Ended (items.Cycle input ∷ items.Terminate ∷ []) lines.Terminate [] tt
+    (All-from_recursion (λ b. is_lf b ≡ false) (codes "terminate") (search rules)) (omega arith) refl
     ∙ ap (λ r. r.is_whole) (at_open 3 Ended [])
 
 -- the answer to a made text is never a bad line
 pub made-is-good : (k : ℕ) → ending 3 (made k) ≡ Terminated
 made-is-good k =
     let good : (reading 3 (made k)).is_whole ≡ true =
-    ap (is_whole_from First) (append_assoc (codes "stim 1\n") (made_blocks k 200) (codes "terminate\n")) ∙ first_leads (made_blocks k 200 ++ codes "terminate\n")
+    ap (is_whole_from First) (append_assoc (codes "stim 1\n") (made_blocks k 200) (codes "terminate\n"))
+    ∙ first_leads (made_blocks k 200 ++ codes "terminate\n")
     ∙ blocks_lead k 200 (codes "terminate\n") (omega arith) ∙ ends 200 (made_input k 199) in
     ap (λ t. cond t Terminated (BadLine (length (reading 3 (made k)).head + 1))) good

@@ -1,4 +1,5 @@
--- What `sim` gives of a number: a summary of the run of a cloud over the stimulus that is made of the number, and what the
+-- What `sim` gives of a number: a summary of the run of a cloud over the stimulus that is made of
+-- the number, and what the
 -- probes report of it.
 use Rattle.std.specs.Prelude.{ℕ, ℤ, pos, List, [], ◌∷◌, ◌++◌, length, codes}
 use Rattle.std.specs.List.{count_by}
@@ -12,9 +13,10 @@ use Rattle.job_cloud.specs.Meaning.{meaning}
 use Rattle.cycle_engine.specs.Frames.{runs}
 use Rattle.stimulus.specs.Made.{made}
 use Rattle.stimulus.specs.Reading.{blocks}
-use Rattle.probes.specs.Reports.{ProbeLife, reports}
+use Rattle.probes.specs.Reports.{AudienceState, reported}
 use Rattle.probes.specs.Shipped.{is_refused}
-use Rattle.recorder.specs.Record.{record_of, counted}
+use Rattle.run_writer.specs.Record.{counted}
+use Rattle.recorder.specs.Record.{record_of}
 use Rattle.record_text.specs.Summaries.{summary_lines}
 use Rattle.record_text.specs.declared.summary_lines.Summary.{Summary}
 use Rattle.cli_answers.specs.Outcome.{Outcome, text_outcome}
@@ -41,7 +43,8 @@ sim_profile number = record {
   events = sim_events;
 }
 
--- of a run: its number, how many cycles it had and how many of them were refused, the length of its record and the digest
+-- of a run: its number, how many cycles it had and how many of them were refused, the length of its
+-- record and the digest
 abbrev pub summary_with : ℕ → List RunFrame → List ℕ → Summary
 summary_with number cycles record_bytes = record {
   number = number;
@@ -69,9 +72,9 @@ unfoldable pub summary_of : ℕ → Summary
 summary_of number = summary_over meaning (sim_profile number) (made number) number
 
 -- the lines of the summary, and the reports
-unfoldable pub sim_text : List ProbeLife → ℕ → List ℕ
-sim_text probes number = summary_lines (summary_of number) ++ reports probes (sim_runs number)
+unfoldable pub sim_text : AudienceState → ℕ → List ℕ
+sim_text audience number = summary_lines (summary_of number) ++ reported audience (sim_runs number)
 
 -- what `sim` gives
-unfoldable pub sim_outcome : List ProbeLife → ℕ → Outcome
-sim_outcome probes number = text_outcome (sim_text probes number)
+unfoldable pub sim_outcome : AudienceState → ℕ → Outcome
+sim_outcome audience number = text_outcome (sim_text audience number)

@@ -1,26 +1,28 @@
 //! A job run over a text in memory.
-ghost use Rattle.std.specs.Prelude.{◌≡◌, ◌≤◌, [], ◌++◌, map, length, None, Ok, OnOk, IfOk, IfErr};
-ghost use Rattle.std.specs.Vec.{vec_len};
+ghost use Rattle.std.specs.Prelude.{◌≡◌, [], length, None, Ok, OnOk, IfOk, IfErr};
 ghost use Rattle.stimulus.specs.Reading.{Terminated, ending};
-ghost use Rattle.probes.specs.Reports.{reports};
+ghost use Rattle.probes.specs.Reports.{reported};
+ghost use Rattle.probes.specs.Shows.{seen};
 ghost use Rattle.cmd_sim.specs.Sim.{runs_over, summary_over};
 
 use crew_recorder::{Workers, record_by_crew};
 use cycle_engine::Engine;
-use det_edges::TextShelf;
+use det_edges::{Failure, Stopped, TextShelf};
 use det_values::{Bytes, OutOfMemory, Profile};
 use job_trait::Job;
-use probes::Probe;
+use probes::{Audience, Probe};
 use record_reader::DigestSink;
 use record_text::Summary;
-use recorder::{Counts, RecordEnd};
+use run_writer::{Counts, Recording};
 use std::alloc::Global;
 use std::thread::Threads;
+use stimulus::StimFault;
+use stimulus_reader::StimulusReader;
 use worker_pool::Gate;
 
 /// The counts of a run that nothing but want of memory ends early.
-fn counts_of(run: Result<Counts, RecordEnd>) -> Result<Counts, OutOfMemory>
-    requires { IfErr run (λ end. end ≡ RecordEnd.OutOfMemory) }
+fn counts_of(run: Result<Counts, Stopped<StimFault>>) -> Result<Counts, OutOfMemory>
+    requires { IfErr run (λ why. why ≡ Stopped.Failed Failure.OutOfMemory) }
     ensures { IfOk result (λ counts. run ≡ Ok counts) }
 {
     match run {
@@ -29,16 +31,14 @@ fn counts_of(run: Result<Counts, RecordEnd>) -> Result<Counts, OutOfMemory>
     }
 }
 
-/// Runs a job over a whole stimulus, and sums up the record without keeping it. Reports of probes that leave are
-/// appended to `left`.
+/// Runs a job over a whole stimulus before an audience, and sums up the record without keeping it.
 pub(crate) fn run_over<J, R, G>(
     alloc: Global,
     workers: &Workers<'_, R, G>,
     number: u64,
-    profile: &Profile,
+    profile: Profile,
     text: Bytes,
-    probes: &mut Vec<Box<dyn Probe>>,
-    left: &mut Bytes,
+    audience: &mut Audience,
 ) -> Result<Summary, OutOfMemory>
 where
     J: Job + Send + Sync + 'static,
@@ -48,31 +48,31 @@ where
     J::Part: Send + Sync + 'static,
     R: Threads,
     G: Gate + Send + Sync + 'static,
-    requires good { J.meaning.bad_param profile.now.params (length profile.now.events) ≡ None }
-    requires whole { ending (length profile.now.events) text ≡ Terminated }
-    requires few { vec_len probes.old ≤ 1024 }
-    requires empty { left.old ≡ [] }
-    ensures summary { IfOk result (λ summary. summary ≡ summary_over J.meaning profile.now text number) }
-    ensures reports { OnOk result (left.new ++ reports (map (λ b. life b) probes.new.items) [] ≡ reports (map (λ b. life b) probes.old.items) (runs_over J.meaning profile.now text)) }
-    ensures fewer { vec_len probes.new ≤ vec_len probes.old }
+    requires good { J.meaning.bad_param profile.params (length profile.events) ≡ None }
+    requires whole { ending (length profile.events) text ≡ Terminated }
+    ensures summary { IfOk result (λ summary.
+        summary ≡ summary_over J.meaning profile text number) }
+    ensures reports { OnOk result (reported
+        (seen (λ b. life (b.vtable, b.value)) audience.new) []
+        ≡ reported (seen (λ b. life (b.vtable, b.value)) audience.old)
+        (runs_over J.meaning profile text)) }
 {
     let events = profile.events.len() as u16;
     let Ok(job) = J::make(&profile.params, events) else {
         unreachable!()
     };
-    let mut engine = Engine::start(alloc, job, profile)?;
+    let engine = Engine::start(alloc, job, &profile)?;
+    let mut recording = Recording::of(alloc, engine, profile);
+    let mut stimulus = StimulusReader::at(alloc, 0, events);
     let mut shelf = TextShelf::new(text);
     let mut sink = DigestSink::new();
     let run = record_by_crew(
-        alloc,
+        &mut recording,
         workers,
-        &mut engine,
-        profile,
+        &mut stimulus,
         &mut shelf,
-        0,
         &mut sink,
-        probes,
-        left,
+        audience,
     );
     let counts = counts_of(run)?;
     Ok(Summary {

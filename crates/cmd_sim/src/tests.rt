@@ -2,14 +2,15 @@
 use crate::sim;
 use cli_answers::Answer;
 use det_edges::{FailList, MemSink};
-use probes::{CountProbe, FirstRefusalProbe, GapProbe, Probe};
+use probes::{Audience, CountProbe, FirstRefusalProbe, GapProbe, Probe};
 use std::alloc::Global;
 use std::sync::Arc;
 use std::test::Fail;
 use std::thread::Threads;
 use worker_pool::NoGate;
 
-/// What `sim 7` prints with the probes of the program. The values are those of an independent program.
+/// What `sim 7` prints with the probes of the program. The values are those of an independent
+/// program.
 const SEVEN: &[u8] = b"sim 7\ncycles 200\nrefused 0\nbytes 52235088\n\
     sha256 ed0f402596464e7c87bae1fad7ef47127b63eb3386280edcb60ca40c8b9ec4e9\n\
     count 200 0\ngap 10000000\nrefusal none\n";
@@ -29,7 +30,8 @@ fn seven<R: Threads + Sync>(rt: &R, alloc: Global, room: usize) -> Result<Ran, F
     probes.push(Box::new(alloc, FirstRefusalProbe::new())?)?;
     let mut out = MemSink::new(alloc, room, 10, FailList::new(alloc))?;
     let gate = Arc::new(alloc, NoGate)?;
-    let answer = sim(rt, alloc, 7, None, &mut out, &mut probes, &gate);
+    let mut audience = Audience::of(alloc, probes);
+    let answer = sim(rt, alloc, 7, None, &mut out, &mut audience, &gate);
     Ok(Ran { answer, out })
 }
 

@@ -1,37 +1,42 @@
 //! The recorder over a crew.
-ghost use Rattle.std.specs.Prelude.{◌≡◌, ◌<◌, ◌≤◌, [], map, false, IsErrOf};
-ghost use Rattle.std.specs.Vec.{vec_len};
-ghost use Rattle.det_edges.specs.Count.{Rose};
-ghost use Rattle.cycle_engine.specs.Engine.{StandsFor as EngineStands};
+ghost use Rattle.std.specs.Prelude.{◌≡◌, ◌≤◌};
+ghost use Rattle.det_edges.specs.Traffic.{ShelfTraffic, SinkTraffic};
+ghost use Rattle.det_edges.specs.Traffic.{shelf_run, sink_run, failure_in};
+ghost use Rattle.probes.specs.Shows.{seen};
+ghost use Rattle.stimulus_reader.specs.StandsFor.{slot_of};
+ghost use Rattle.recorder.specs.Begun.{IsBegun};
 ghost use Rattle.recorder.specs.Recorded.{IsRecorded};
 ghost use Rattle.worker_pool.specs.Crews.{room_name};
 
 use crate::Workers;
-use cycle_engine::Engine;
-use det_edges::{Sink, Slots};
-use det_values::{Bytes, Profile};
+use det_edges::{Failure, Sink, Slots, Stopped};
 use job_trait::Job;
-use probes::Probe;
-use recorder::{Counts, RecordEnd, record_run};
-use std::alloc::Global;
+use probes::{Audience, Probe};
+use recorder::record_run;
+use run_writer::{Counts, Recording};
 use std::marker::Brand;
 use std::thread::Threads;
+use stimulus::StimFault;
+use stimulus_reader::StimulusReader;
 use tickets::Room;
 use worker_pool::{Crew, CrewRoom, Gate};
 
-/// Records by a crew in this room. Its threads end before the answer is given.
-fn record_in_room<J, B, S, K, R, G>(
-    alloc: Global,
+/// A room, and the workers that share it.
+#[derive(Drop)]
+struct Team<'r, J: Job, R, G> {
     room: CrewRoom<J>,
-    workers: &Workers<'_, R, G>,
-    engine: &mut Engine<J>,
-    profile: &Profile,
+    workers: Workers<'r, R, G>,
+}
+
+/// Records by a crew in a team's room. Its threads end before the answer is given.
+fn record_in_room<J, B, S, K, R, G>(
+    recording: &mut Recording<J>,
+    team: Team<'_, J, R, G>,
+    stimulus: &mut StimulusReader,
     shelf: &mut S,
-    slot: u32,
     sink: &mut K,
-    probes: &mut Vec<Box<dyn Probe>>,
-    left: &mut Bytes,
-) -> Result<Counts, RecordEnd>
+    audience: &mut Audience,
+) -> Result<Counts, Stopped<StimFault>>
 where
     J: Job + Send + Sync + 'static,
     J::Globals: Send + 'static,
@@ -43,31 +48,24 @@ where
     K: Sink,
     R: Threads,
     G: Gate + Send + Sync + 'static,
-    requires room { room_name room ≡ B.table }
-    requires begun { EngineStands J.meaning profile.now engine.old [] }
-    requires going { engine.old.stopped ≡ false }
-    requires slot { slot < (S.sees shelf.old).slots }
-    requires few { vec_len probes.old ≤ 1024 }
-    requires empty { left.old ≡ [] }
-    ensures recorded { IsRecorded J.meaning profile.now slot (S.sees shelf.old) (S.sees shelf.new)
-        (K.took sink.old) (K.took sink.new) (map (λ b. life b) probes.old.items)
-        (map (λ b. life b) probes.new.items) left.new result }
-    ensures fewer { vec_len probes.new ≤ vec_len probes.old }
-    ensures read_fault { IsErrOf result RecordEnd.ReadFault
-        → Rose (S.sees shelf.old).faults (S.sees shelf.new).faults }
-    ensures write_fault { IsErrOf result RecordEnd.WriteFault
-        → Rose (K.faults sink.old) (K.faults sink.new) }
-    ensures reads_counted { (S.sees shelf.old).faults ≤ (S.sees shelf.new).faults }
-    ensures writes_counted { K.faults sink.old ≤ K.faults sink.new }
-    ensures stays { S.stays shelf.old shelf.new }
+    requires room { room_name team.room ≡ B.table }
+    requires begun { IsBegun J.meaning recording.old stimulus.old (S.sees shelf.old) }
+    ensures recorded { IsRecorded J.meaning recording.old.profile (slot_of stimulus.old)
+        (shelf_run S.sees S.stays shelf.old shelf.new) (sink_run K.took K.faults sink.old sink.new)
+        (seen (λ b. (⟦<dyn Probe as Probe>⟧ b.vtable).life b.value) audience.old)
+        (seen (λ b. (⟦<dyn Probe as Probe>⟧ b.vtable).life b.value) audience.new) result }
+    ensures shelf_traffic { ShelfTraffic (shelf_run S.sees S.stays shelf.old shelf.new)
+        (failure_in result) }
+    ensures sink_traffic { SinkTraffic (sink_run K.took K.faults sink.old sink.new)
+        (failure_in result) }
 {
+    let Team { room, workers } = team;
+    let alloc = recording.alloc();
     let started = Crew::<J, B, G>::start(workers.rt, alloc, room, workers.count, workers.gate);
     let Ok(mut crew) = started else {
-        return Err(RecordEnd::OutOfMemory);
+        return Err(Stopped::Failed(Failure::OutOfMemory));
     };
-    let run = record_run(
-        alloc, &mut crew, engine, profile, shelf, slot, sink, probes, left,
-    );
+    let run = record_run(recording, &mut crew, stimulus, shelf, sink, audience);
     crew.stop(workers.rt);
     run
 }
@@ -88,16 +86,13 @@ fn busy<'r, R, G>(workers: &Workers<'r, R, G>, elements: usize) -> Workers<'r, R
 /// its first cycle to its last, no more of them than there are blocks of elements. None of them is
 /// left running at any answer.
 pub fn record_by_crew<J, S, K, R, G>(
-    alloc: Global,
+    recording: &mut Recording<J>,
     workers: &Workers<'_, R, G>,
-    engine: &mut Engine<J>,
-    profile: &Profile,
+    stimulus: &mut StimulusReader,
     shelf: &mut S,
-    slot: u32,
     sink: &mut K,
-    probes: &mut Vec<Box<dyn Probe>>,
-    left: &mut Bytes,
-) -> Result<Counts, RecordEnd>
+    audience: &mut Audience,
+) -> Result<Counts, Stopped<StimFault>>
 where
     J: Job + Send + Sync + 'static,
     J::Globals: Send + 'static,
@@ -108,28 +103,20 @@ where
     K: Sink,
     R: Threads,
     G: Gate + Send + Sync + 'static,
-    requires begun { EngineStands J.meaning profile.now engine.old [] }
-    requires going { engine.old.stopped ≡ false }
-    requires slot { slot < (S.sees shelf.old).slots }
-    requires few { vec_len probes.old ≤ 1024 }
-    requires empty { left.old ≡ [] }
-    ensures recorded { IsRecorded J.meaning profile.now slot (S.sees shelf.old) (S.sees shelf.new)
-        (K.took sink.old) (K.took sink.new) (map (λ b. life b) probes.old.items)
-        (map (λ b. life b) probes.new.items) left.new result }
-    ensures fewer { vec_len probes.new ≤ vec_len probes.old }
-    ensures read_fault { IsErrOf result RecordEnd.ReadFault
-        → Rose (S.sees shelf.old).faults (S.sees shelf.new).faults }
-    ensures write_fault { IsErrOf result RecordEnd.WriteFault
-        → Rose (K.faults sink.old) (K.faults sink.new) }
-    ensures reads_counted { (S.sees shelf.old).faults ≤ (S.sees shelf.new).faults }
-    ensures writes_counted { K.faults sink.old ≤ K.faults sink.new }
-    ensures stays { S.stays shelf.old shelf.new }
+    requires { IsBegun J.meaning recording.old stimulus.old (S.sees shelf.old) }
+    ensures recorded { IsRecorded J.meaning recording.old.profile (slot_of stimulus.old)
+        (shelf_run S.sees S.stays shelf.old shelf.new) (sink_run K.took K.faults sink.old sink.new)
+        (seen (λ b. (⟦<dyn Probe as Probe>⟧ b.vtable).life b.value) audience.old)
+        (seen (λ b. (⟦<dyn Probe as Probe>⟧ b.vtable).life b.value) audience.new) result }
+    ensures shelf_traffic { ShelfTraffic (shelf_run S.sees S.stays shelf.old shelf.new)
+        (failure_in result) }
+    ensures sink_traffic { SinkTraffic (sink_run K.took K.faults sink.old sink.new)
+        (failure_in result) }
 {
-    let Ok(room) = CrewRoom::<J>::new(alloc) else {
-        return Err(RecordEnd::OutOfMemory);
+    let Ok(room) = CrewRoom::<J>::new(recording.alloc()) else {
+        return Err(Stopped::Failed(Failure::OutOfMemory));
     };
-    let workers = &busy(workers, engine.elements());
-    record_in_room::<J, Brand, S, K, R, G>(
-        alloc, room, workers, engine, profile, shelf, slot, sink, probes, left,
-    )
+    let workers = busy(workers, recording.elements());
+    let team = Team { room, workers };
+    record_in_room::<J, Brand, S, K, R, G>(recording, team, stimulus, shelf, sink, audience)
 }

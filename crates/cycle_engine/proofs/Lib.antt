@@ -1,5 +1,2 @@
-mod Adding
 mod Beginning
-mod Putting
-mod Spelled
 pub mod Standing

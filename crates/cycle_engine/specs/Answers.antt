@@ -10,12 +10,11 @@ use Rattle.job_trait.specs.declared.answers.JobFault.{JobFault}
 use Rattle.job_trait.specs.declared.answers.JobFault.TheVariants as job
 use Rattle.job_trait.specs.Pass.{Passed}
 use Rattle.job_trait.specs.Cycle.{Done, refused_in_pool}
-use Rattle.job_trait.specs.declared.pass.PassDone.{PassDone}
 use Rattle.job_trait.specs.declared.pass.PoolFault.{PoolFault}
 use Rattle.job_trait.specs.declared.pass.PoolFault.TheVariants as pool
-use Rattle.job_trait.specs.Passes.{passed_of}
 use Rattle.cycle_engine.specs.declared.fault.CycleFault.{CycleFault}
 use Rattle.cycle_engine.specs.declared.fault.CycleFault.TheVariants.{Refused, OutOfMemory}
+use Rattle.cycle_engine.specs.declared.passes.SoFar.{SoFar}
 use Rattle.cycle_engine.specs.declared.phases.CycleDone.{CycleDone}
 
 -- what the passes of one cycle share
@@ -25,10 +24,13 @@ pub record SharedValue (S L : Type 0) : Type 0 where
   pub seed : ℕ
   pub cycle : ℕ
 
+abbrev pub left_by : {E P : Type 0} → SoFar E P → Passed E P
+left_by done = record { elements = done.elements; draws = done.draws; part = done.part }
+
 -- the passes' answer is the definition's; want of memory is free
-abbrev pub ArePasses : {E P : Type 0} → Result (PassDone E P) CycleFault
+abbrev pub ArePasses : {E P : Type 0} → Result (SoFar E P) CycleFault
     → Result (Passed E P) RefusedAtValue → Type 0
-ArePasses (Ok done) passes = passes ≡ Ok (passed_of done)
+ArePasses (Ok done) passes = passes ≡ Ok (left_by done)
 ArePasses (Err (Refused at)) passes = passes ≡ Err at
 ArePasses (Err OutOfMemory) passes = Unit {0}
 

@@ -1,12 +1,11 @@
 //! One whole cycle of a job after another, from its start to its end, over any pool.
 #![tactic(auto)]
 
+mod draws;
 mod engine;
 mod fault;
 mod owners;
 mod passes;
 mod phases;
-mod showing;
-mod sums;
 
 pub use engine::Engine;

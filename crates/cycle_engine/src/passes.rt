@@ -1,17 +1,17 @@
 //! The passes of one cycle.
-ghost use Rattle.std.specs.Prelude.{◌≡◌, ℕ, ◌+◌, ◌*◌, ◌<◌, ◌≤◌, length, IfOk, IfErr};
+ghost use Rattle.std.specs.Prelude.{◌≡◌, ℕ, ◌+◌, ◌*◌, ◌<◌, ◌≤◌, ◌⊎◌, [], length, IfOk, IfErr};
 ghost use Rattle.std.specs.List.{All};
 ghost use Rattle.std.specs.Arc.{arc_value};
-ghost use Rattle.job_trait.specs.Cycle.{first_pass, next_pass, all_passes};
+ghost use Rattle.job_trait.specs.Cycle.{first_pass, next_pass, all_passes, shown_with};
 ghost use Rattle.job_trait.specs.Laws.{CoversSome};
 ghost use Rattle.job_trait.specs.Pass.{passed};
-ghost use Rattle.job_trait.specs.Passes.{passed_of, IsPass, RefusedBelow};
-ghost use Rattle.cycle_engine.specs.Answers.{ArePasses};
+ghost use Rattle.job_trait.specs.Passes.{IsPass, RefusedBelow, drawn_so_far};
+ghost use Rattle.cycle_engine.specs.Answers.{ArePasses, left_by};
 
+use crate::draws::Draws;
 use crate::fault::{CycleFault, in_pool};
 use crate::owners::{again, shared};
-use crate::sums::sums;
-use det_values::Container;
+use det_values::{Container, DrawnElements};
 use job_trait::{Job, PassDone, PassOf, Pool, PoolFault};
 use std::alloc::Global;
 use std::marker::Model;
@@ -43,38 +43,69 @@ impl<J: Job> Model for Passes<J> {
     ghost invariant = { λ p. J.Fit (arc_value p.job) (arc_value p.plan) × (p.cycle ≤ 1000000) };
 }
 
+/// What the passes up to one leave: the new elements, the words that each drew, the part, and, where
+/// it is the last pass, what the elements show.
+#[derive(Drop)]
+pub struct SoFar<E, P> {
+    pub(crate) elements: Container<E>,
+    pub(crate) draws: Draws,
+    pub(crate) part: P,
+    pub(crate) shown: DrawnElements,
+}
+
+/// What one of the passes takes over from those before it.
+#[derive(Drop)]
+struct Stage<E, P> {
+    /// The pass' number, counted from 0.
+    number: u8,
+    carry: P,
+    elements: Arc<Container<E>, Global>,
+    /// The words that each element drew before. Pass 0 has none.
+    earlier: Arc<Container<u32>, Global>,
+}
+
 impl<J: Job> Passes<J> {
-    /// One pass, whose data the pool may hold as long as it likes.
+    /// One pass, whose data the pool may hold as long as it likes. The last one shows its elements.
     fn one<P: Pool<J>>(
         &self,
         alloc: Global,
         pool: &mut P,
-        number: u8,
-        carry: J::Part,
-        elements: Arc<Container<J::Element>, Global>,
+        stage: Stage<J::Element, J::Part>,
     ) -> Result<PassDone<J::Element, J::Part>, PoolFault>
-        requires number { number < J.meaning.passes_of self.now.job self.now.plan }
-        requires carry { CoversSome (J.Covers self.now.job) carry }
-        requires few { length (arc_value elements) ≤ 65536 }
-        requires own { All (J.Own self.now.job) (arc_value elements) }
-        ensures pass { IsPass result (passed J.meaning self.now.job self.now.plan carry
-            self.now.seed self.now.cycle number (arc_value elements)) }
+        requires number { stage.number < J.meaning.passes_of self.now.job self.now.plan }
+        requires carry { CoversSome (J.Covers self.now.job) stage.carry }
+        requires few { length (arc_value stage.elements) ≤ 65536 }
+        requires own { All (J.Own self.now.job) (arc_value stage.elements) }
+        requires level { (arc_value stage.earlier ≡ [])
+            ⊎ (length (arc_value stage.earlier) ≡ length (arc_value stage.elements)) }
+        requires few_earlier { All (λ draws. draws ≤ 458745) (arc_value stage.earlier) }
+        ensures pass { IsPass result (passed J.meaning self.now.job self.now.plan stage.carry
+            self.now.seed self.now.cycle stage.number (arc_value stage.elements)) }
         ensures own { IfOk result (λ done. All (J.Own self.now.job) done.elements) }
-        ensures many { IfOk result (λ done. length done.elements ≡ length (arc_value elements)) }
-        ensures drew { IfOk result (λ done. length done.draws ≡ length (arc_value elements)) }
+        ensures many { IfOk result (λ done.
+            length done.elements ≡ length (arc_value stage.elements)) }
+        ensures drew { IfOk result (λ done.
+            length done.draws ≡ length (arc_value stage.elements)) }
         ensures few_drawn { IfOk result (λ done. All (λ draws. draws ≤ 65535) done.draws) }
         ensures covers { IfOk result (λ done.
-            J.Covers self.now.job done.part (length (arc_value elements))) }
-        ensures element { IfErr result (RefusedBelow (length (arc_value elements))) }
+            J.Covers self.now.job done.part (length (arc_value stage.elements))) }
+        ensures element { IfErr result (RefusedBelow (length (arc_value stage.elements))) }
+        ensures shown { IfOk result (λ done.
+            stage.number + 1 ≡ J.meaning.passes_of self.now.job self.now.plan
+            → done.shown ≡ shown_with J.meaning self.now.job done.elements
+            (drawn_so_far (arc_value stage.earlier) done.draws)) }
     {
+        let passes = self.job.passes(&self.plan);
         let pass = PassOf {
             job: again(&self.job)?,
             plan: again(&self.plan)?,
-            carry: shared(alloc, carry)?,
-            number,
-            elements,
+            carry: shared(alloc, stage.carry)?,
+            number: stage.number,
+            elements: stage.elements,
             seed: self.seed,
             cycle: self.cycle,
+            earlier: stage.earlier,
+            shows: stage.number + 1 == passes,
         };
         let pass = shared(alloc, pass)?;
         pool.run_pass(alloc, &pass)
@@ -86,7 +117,7 @@ impl<J: Job> Passes<J> {
         alloc: Global,
         pool: &mut P,
         elements: Arc<Container<J::Element>, Global>,
-    ) -> Result<PassDone<J::Element, J::Part>, CycleFault>
+    ) -> Result<SoFar<J::Element, J::Part>, CycleFault>
         requires few { length (arc_value elements) ≤ 65536 }
         requires own { All (J.Own self.now.job) (arc_value elements) }
         ensures pass { ArePasses result (first_pass J.meaning self.now.job self.now.plan
@@ -97,10 +128,23 @@ impl<J: Job> Passes<J> {
         ensures few_drawn { IfOk result (λ done. All (λ draws. draws ≤ 65535) done.draws) }
         ensures covers { IfOk result (λ done.
             J.Covers self.now.job done.part (length done.elements)) }
+        ensures shown { IfOk result (λ done. 1 ≡ J.meaning.passes_of self.now.job self.now.plan
+            → done.shown ≡ shown_with J.meaning self.now.job done.elements done.draws) }
     {
-        let unit = self.job.unit(alloc);
-        match self.one(alloc, pool, 0, unit, elements) {
-            Ok(done) => Ok(done),
+        let none = shared(alloc, Container::new(alloc))?;
+        let stage = Stage {
+            number: 0,
+            carry: self.job.unit(alloc),
+            elements,
+            earlier: again(&none)?,
+        };
+        match self.one(alloc, pool, stage) {
+            Ok(done) => Ok(SoFar {
+                elements: done.elements,
+                draws: Draws::of(none, done.draws),
+                part: done.part,
+                shown: done.shown,
+            }),
             Err(fault) => Err(in_pool(0, fault)),
         }
     }
@@ -112,8 +156,8 @@ impl<J: Job> Passes<J> {
         alloc: Global,
         pool: &mut P,
         number: u8,
-        done: PassDone<J::Element, J::Part>,
-    ) -> Result<PassDone<J::Element, J::Part>, CycleFault>
+        done: SoFar<J::Element, J::Part>,
+    ) -> Result<SoFar<J::Element, J::Part>, CycleFault>
         requires number { number < J.meaning.passes_of self.now.job self.now.plan }
         requires few_passes { number < 8 }
         requires own { All (J.Own self.now.job) done.elements }
@@ -121,7 +165,7 @@ impl<J: Job> Passes<J> {
         requires few_drawn { All (λ draws. draws ≤ number * 65535) done.draws }
         requires covers { J.Covers self.now.job done.part (length done.elements) }
         ensures pass { ArePasses result (next_pass J.meaning self.now.job self.now.plan
-            self.now.seed self.now.cycle number (passed_of done)) }
+            self.now.seed self.now.cycle number (left_by done)) }
         ensures own { IfOk result (λ next. All (J.Own self.now.job) next.elements) }
         ensures many { IfOk result (λ next. length next.elements ≡ length done.elements) }
         ensures drew { IfOk result (λ next. length next.draws ≡ length next.elements) }
@@ -129,13 +173,23 @@ impl<J: Job> Passes<J> {
             All (λ draws. draws ≤ (number + 1) * 65535) next.draws) }
         ensures covers { IfOk result (λ next.
             J.Covers self.now.job next.part (length next.elements)) }
+        ensures shown { IfOk result (λ next.
+            number + 1 ≡ J.meaning.passes_of self.now.job self.now.plan
+            → next.shown ≡ shown_with J.meaning self.now.job next.elements next.draws) }
     {
-        let elements = shared(alloc, done.elements)?;
-        match self.one(alloc, pool, number, done.part, elements) {
-            Ok(next) => Ok(PassDone {
+        let earlier = done.draws.summed(alloc)?;
+        let stage = Stage {
+            number,
+            carry: done.part,
+            elements: shared(alloc, done.elements)?,
+            earlier: again(&earlier)?,
+        };
+        match self.one(alloc, pool, stage) {
+            Ok(next) => Ok(SoFar {
                 elements: next.elements,
-                draws: sums(alloc, &done.draws, &next.draws)?,
+                draws: Draws::of(earlier, next.draws),
                 part: next.part,
+                shown: next.shown,
             }),
             Err(fault) => Err(in_pool(number, fault)),
         }
@@ -147,7 +201,7 @@ impl<J: Job> Passes<J> {
         alloc: Global,
         pool: &mut P,
         elements: Arc<Container<J::Element>, Global>,
-    ) -> Result<PassDone<J::Element, J::Part>, CycleFault>
+    ) -> Result<SoFar<J::Element, J::Part>, CycleFault>
         requires few { length (arc_value elements) ≤ 65536 }
         requires own { All (J.Own self.now.job) (arc_value elements) }
         ensures passes { ArePasses result (all_passes J.meaning self.now.job self.now.plan
@@ -157,6 +211,8 @@ impl<J: Job> Passes<J> {
         ensures drew { IfOk result (λ done. length done.draws ≡ length done.elements) }
         ensures covers { IfOk result (λ done.
             J.Covers self.now.job done.part (length done.elements)) }
+        ensures shown { IfOk result (λ done.
+            done.shown ≡ shown_with J.meaning self.now.job done.elements done.draws) }
     {
         let mut done = self.first(alloc, pool, elements)?;
         for number in 1..self.job.passes(&self.plan) {

@@ -3,7 +3,7 @@
 
 use det_cli::{Answer, Status, top};
 use det_edges::{DirShelf, StdSink, write_all};
-use probes::{CountProbe, FirstRefusalProbe, GapProbe, Probe};
+use probes::{Audience, CountProbe, FirstRefusalProbe, GapProbe, Probe};
 use std::env;
 use std::io::ErrorKind;
 use std::process::ExitCode;
@@ -60,7 +60,7 @@ fn main(rt: HostRuntime) -> ExitCode {
         &mut shelf,
         &mut out,
         &mut err,
-        &mut probes,
+        &mut Audience::of(alloc, probes),
         &gate,
     );
     ExitCode::from(status.number())

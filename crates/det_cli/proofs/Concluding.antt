@@ -1,9 +1,9 @@
 -- What a status tells, by the answer that it stands for.
 use Rattle.std.proofs.Common.{◌≡◌, ℕ, List, refl, sym, ap, ◌∙◌, inl, inr}
-use Rattle.std.specs.Prelude.{◌⊎◌, ◌↔◌, true, Option, Some, None}
+use Rattle.std.specs.Prelude.{◌⊎◌, true, Option, Some, None}
 use Rattle.det_edges.specs.Sink.{Grew}
 use Rattle.det_edges.specs.Shelf.{ShelfState}
-use Rattle.probes.specs.Reports.{ProbeLife}
+use Rattle.probes.specs.Reports.{AudienceState}
 use Rattle.cli_answers.specs.declared.status.Status.{Status}
 use Rattle.cli_answers.specs.declared.status.Status.TheVariants as statuses
 use Rattle.cli_answers.specs.declared.answer.Answer.{Answer}
@@ -11,7 +11,7 @@ use Rattle.cli_answers.specs.declared.answer.Answer.TheVariants.{BadWords, ReadF
 use Rattle.cli_answers.specs.Answers.{status_of}
 use Rattle.cli_answers.specs.Ends.{Work, can_end}
 use Rattle.cli_answers.specs.Outcome.{Outcome, told}
-use Rattle.cli_words.specs.Words.{Command}
+use Rattle.cli_words.specs.Command.{CommandValue}
 use Rattle.det_cli.specs.Outcome.{command_in, work_of, outcome}
 use Rattle.det_cli.specs.Promise.{Ends, IsPromised}
 use Rattle.det_cli.specs.Laws.{Gives, IsRefusal, Concludes}
@@ -33,11 +33,11 @@ at-bad-words _ e = absurd (cc)
 no-bad-words : (work : Work) (answer : Answer) → answer ≡ BadWords → can_end work answer ≡ true → ⊥
 no-bad-words work answer e ends = let h = rw e at ends in cc
 
-ends-bad : (command : Option Command) (answer : Answer) → Ends command answer → answer ≡ BadWords → command ≡ None
+ends-bad : (command : Option CommandValue) (answer : Answer) → Ends command answer → answer ≡ BadWords → command ≡ None
 ends-bad None answer ends e = refl
-ends-bad (Some command) answer ends e = absurd (no-bad-words (work_of command) answer e ends)
+ends-bad (Some command) answer ends e = absurd (no-bad-words (work_of command.word) answer e ends)
 
-bad-ends : (command : Option Command) (answer : Answer) → Ends command answer → command ≡ None → answer ≡ BadWords
+bad-ends : (command : Option CommandValue) (answer : Answer) → Ends command answer → command ≡ None → answer ≡ BadWords
 bad-ends None answer ends e = ends
 bad-ends (Some command) answer ends e = absurd (cc)
 
@@ -72,7 +72,7 @@ no-refusal status other (inr (inl is)) manifest stimulus recorded e = stimulus (
 no-refusal status other (inr (inr is)) manifest stimulus recorded e = recorded (cc)
 
 module _ (words : List (List ℕ)) (first last : ShelfState) (out_failed : Type 0) (before after : List ℕ → Type 0)
-    (err_failed : Type 0) (err_before err_after : List ℕ → Type 0) (seeing stayed : List ProbeLife) (status : Status) where
+    (err_failed : Type 0) (err_before err_after : List ℕ → Type 0) (seeing stayed : AudienceState) (status : Status) where
   pub concludes : IsPromised words first last out_failed before after err_failed err_before err_after seeing stayed status
       → Concludes words first last out_failed before after seeing status
   concludes p =

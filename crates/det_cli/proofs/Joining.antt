@@ -1,65 +1,133 @@
 -- How a command's run meets the outcome of the words.
-use Rattle.std.proofs.Common.{◌≡◌, ℕ, List, [], refl, ap, ◌∙◌, sym, subst}
-use Rattle.std.specs.Prelude.{Option, None, option_and_then, Result, Ok, Err, OnOk, OnErr}
+use Rattle.std.proofs.Common.{◌≡◌, ◌≤◌, ℕ, List, [], ◌∷◌, length, get_or, refl, ap, ◌∙◌, sym, subst, arith}
+use Rattle.std.specs.Prelude.{Option, Some, None, IfSome, Bool, true, false, not, ◌||◌, is_some, option_and_then, Result, Ok, Err, OnOk}
+use Rattle.std.specs.Prelude.{OnErr}
+use Rattle.std.proofs.lemmas.List.{nil_from_length}
 use Rattle.det_edges.specs.Count.{Rose}
 use Rattle.det_edges.specs.Shelf.{ShelfState, AsksPrefix}
 use Rattle.det_edges.proofs.Opening.{asks-prefix-none}
-use Rattle.probes.specs.Reports.{ProbeLife}
+use Rattle.probes.specs.Reports.{AudienceState}
 use Rattle.cli_answers.specs.declared.answer.Answer.{Answer}
 use Rattle.cli_answers.specs.declared.answer.Answer.TheVariants.{BadWords}
 use Rattle.cli_answers.specs.Outcome.{Meets, Tells, told}
 use Rattle.cli_answers.proofs.Meeting.{meets-refusal}
-use Rattle.cli_words.specs.Words.{Command, command_of, command_told}
-use Rattle.cli_words.specs.Told.{Told, told_by}
-use Rattle.det_cli.specs.Outcome.{built, command_in, opened, outcome_of}
+use Rattle.cli_words.specs.declared.table.CommandWord.{CommandWord}
+use Rattle.cli_words.specs.declared.table.OptionWord.TheVariants.{Workers}
+use Rattle.cli_words.specs.Table.{row}
+use Rattle.cli_words.specs.Command.{CommandValue, name_at}
+use Rattle.cli_words.specs.Ranges.{IsInRange}
+use Rattle.cli_words.specs.Reading.{command_of}
+use Rattle.record_text.specs.declared.part.ShowPart.{ShowPart}
+use Rattle.record_text.specs.declared.part.ShowPart.TheVariants as parts
+use Rattle.record_show.specs.Showing.{Kept}
+use Rattle.record_show.specs.Ended.{IsGone}
+use Rattle.det_cli.specs.Texts.{help_text}
+use Rattle.det_cli.specs.Outcome.{built, command_in, has_reports, opened, outcome_of}
 use Rattle.det_cli.specs.Promise.{Runs}
 
--- the words give the command that was told
-pub words-give : (words : List (List ℕ)) (told : Option Told) (command : Option Command)
-    → told ≡ told_by words → command ≡ option_and_then command_told told → command_of words ≡ command
-words-give words told command first then = sym (ap (option_and_then command_told) first) ∙ sym then
-
 -- the command in these words, where this is theirs
-pub command-in : (words : List (List ℕ)) (command : Option Command) → command_of words ≡ command
+pub command-in : (words : List (List ℕ)) (command : Option CommandValue) → command ≡ command_of words
     → command_in words ≡ option_and_then built command
-command-in words command is = ap (option_and_then built) is
+command-in words command is = ap (option_and_then built) (sym is)
+
+-- a command by its word and its names
+pub same-built : (c : CommandValue) (word : CommandWord) (names : List (List ℕ)) → c.word ≡ word → c.names ≡ names
+    → built c ≡ built (record { word = word; names = names; options = c.options })
+same-built c word names is same =
+    ap (λ (w : CommandWord). built (record { word = w; names = c.names; options = c.options })) is
+    ∙ ap (λ (n : List (List ℕ)). built (record { word = word; names = n; options = c.options })) same
+
+one-name : (names : List (List ℕ)) → 1 ≤ length names → length names ≤ 1 → names ≡ get_or names 0 [] ∷ []
+one-name [] least most = absurd (omega arith)
+one-name (a ∷ []) least most = refl
+one-name (a ∷ b ∷ rest) least most = absurd (omega arith)
+
+two-names : (names : List (List ℕ)) → 2 ≤ length names → length names ≤ 2 → names ≡ get_or names 0 [] ∷ get_or names 1 [] ∷ []
+two-names [] least most = absurd (omega arith)
+two-names (a ∷ []) least most = absurd (omega arith)
+two-names (a ∷ b ∷ []) least most = refl
+two-names (a ∷ b ∷ d ∷ rest) least most = absurd (omega arith)
+
+-- the names of a command that has one, and of one that has two
+module _ (c : CommandValue) (word : CommandWord) (range : IsInRange c) (is : c.word ≡ word) where
+  pub sole-name : (row word).least ≡ 1 → (row word).most ≡ 1 → (name : List ℕ) → name ≡ name_at 0 c → c.names ≡ name ∷ []
+  sole-name least most name first =
+      let low : (row word).least ≤ length c.names = subst (λ (w : CommandWord). (row w).least ≤ length c.names) is range.least in
+      let high : length c.names ≤ (row word).most = subst (λ (w : CommandWord). length c.names ≤ (row w).most) is range.most in
+      one-name c.names (omega (arith, least, low)) (omega (arith, most, high)) ∙ ap (λ (n : List ℕ). n ∷ []) (sym first)
+
+  pub no-name : (row word).most ≡ 0 → c.names ≡ []
+  no-name most =
+      let high : length c.names ≤ (row word).most = subst (λ (w : CommandWord). length c.names ≤ (row w).most) is range.most in
+      nil_from_length c.names (omega (arith, most, high))
+
+  pub both-names : (row word).least ≡ 2 → (row word).most ≡ 2 → (name other : List ℕ) → name ≡ name_at 0 c → other ≡ name_at 1 c
+      → c.names ≡ name ∷ other ∷ []
+  both-names least most name other first second =
+      let low : (row word).least ≤ length c.names = subst (λ (w : CommandWord). (row w).least ≤ length c.names) is range.least in
+      let high : length c.names ≤ (row word).most = subst (λ (w : CommandWord). length c.names ≤ (row w).most) is range.most in
+      two-names c.names (omega (arith, least, low)) (omega (arith, most, high))
+      ∙ ap (λ (n : List ℕ). n ∷ name_at 1 c ∷ []) (sym first) ∙ ap (λ (n : List ℕ). name ∷ n ∷ []) (sym second)
+
+-- what a part of a record leaves of an audience
+pub is-kept : (part : ShowPart) (old now : AudienceState) → Kept part old now → has_reports part ≡ false → now ≡ old
+is-kept parts.All old now kept e = absurd cc
+is-kept parts.Reports old now kept e = absurd cc
+is-kept (parts.Cycle number) old now kept e = kept
+
+pub is-gone : (part : ShowPart) (now : AudienceState) → IsGone part now → has_reports part ≡ true → now.seeing ≡ []
+is-gone parts.All now gone e = gone
+is-gone parts.Reports now gone e = gone
+is-gone (parts.Cycle number) now gone e = absurd cc
+
+-- the text of help that was looked up
+pub help-is : (found : Option (List ℕ)) (names asked : List (List ℕ)) → names ≡ asked → found ≡ help_text names → help_text asked ≡ found
+help-is found names asked same is = sym (is ∙ ap help_text same)
+
+-- the workers that are told are 1 to 64
+pub workers-fit : (c : CommandValue) → IsInRange c → IfSome c.options.workers (λ n. (1 ≤ n) × (n ≤ 64))
+workers-fit c range = by_told c.options.workers refl where
+  by_told : (told : Option ℕ) → c.options.workers ≡ told → IfSome told (λ n. (1 ≤ n) × (n ≤ 64))
+  by_told (Some n) e = (range.options Workers n e).1
+  by_told None e = tt
 
 -- what holds of a command holds of the same one
-pub of-same : (P : Option Command → Type 0) (command same : Option Command) → command ≡ same → P same → P command
+pub of-same : (P : Option CommandValue → Type 0) (command same : Option CommandValue) → command ≡ same → P same → P command
 of-same P command same is p = subst P (sym is) p
 
 -- a run that meets the outcome of a command meets that of the same command
-pub meets-command : (first : ShelfState) (probes : List ProbeLife) (rose other : Type 0) (before after : List ℕ → Type 0) (answer : Answer)
-    (command same : Option Command) → command ≡ same
-    → Meets (outcome_of same (told first) probes) (Tells first (opened same (told first))) rose other before after answer
-    → Meets (outcome_of command (told first) probes) (Tells first (opened command (told first))) rose other before after answer
-meets-command first probes rose other before after answer =
-    of-same (λ c. Meets (outcome_of c (told first) probes) (Tells first (opened c (told first))) rose other before after answer)
+pub meets-command : (first : ShelfState) (audience : AudienceState) (rose other : Type 0) (before after : List ℕ → Type 0) (answer : Answer)
+    (command same : Option CommandValue) → command ≡ same
+    → Meets (outcome_of same (told first) audience) (Tells first (opened same (told first))) rose other before after answer
+    → Meets (outcome_of command (told first) audience) (Tells first (opened command (told first))) rose other before after answer
+meets-command first audience rose other before after answer =
+    of-same (λ c. Meets (outcome_of c (told first) audience) (Tells first (opened c (told first))) rose other before after answer)
 
 -- and so does one that opens no name beyond those that are needed
-pub needs-command : (first last : ShelfState) (command same : Option Command) → command ≡ same
+pub needs-command : (first last : ShelfState) (command same : Option CommandValue) → command ≡ same
     → (Tells first (opened same (told first)) → AsksPrefix first last (opened same (told first)))
     → Tells first (opened command (told first)) → AsksPrefix first last (opened command (told first))
 needs-command first last = of-same (λ c. Tells first (opened c (told first)) → AsksPrefix first last (opened c (told first)))
 
 -- and what it promises of a command it promises of the words that give it
-pub runs-command : (first last : ShelfState) (other : Type 0) (before after : List ℕ → Type 0) (probes stayed : List ProbeLife)
-    (answer : Answer) (command same : Option Command) → command ≡ same
-    → Runs same first last other before after probes stayed answer → Runs command first last other before after probes stayed answer
-runs-command first last other before after probes stayed answer = of-same (λ c. Runs c first last other before after probes stayed answer)
+pub runs-command : (first last : ShelfState) (other : Type 0) (before after : List ℕ → Type 0) (audience stayed : AudienceState)
+    (answer : Answer) (command same : Option CommandValue) → command ≡ same
+    → Runs same first last other before after audience stayed answer → Runs command first last other before after audience stayed answer
+runs-command first last other before after audience stayed answer = of-same (λ c. Runs c first last other before after audience stayed answer)
 
-module _ (shelf : ShelfState) (other : Type 0) (before : List ℕ → Type 0) (probes : List ProbeLife) where
+module _ (shelf : ShelfState) (other : Type 0) (before : List ℕ → Type 0) (audience : AudienceState) where
   -- words that are no command are refused
-  pub meets-no-command : (rose : Type 0) (command : Option Command) → command ≡ None
-      → Meets (outcome_of command (told shelf) probes) (Tells shelf (opened command (told shelf))) rose other before before BadWords
+  pub meets-no-command : (rose : Type 0) (command : Option CommandValue) → command ≡ None
+      → Meets (outcome_of command (told shelf) audience) (Tells shelf (opened command (told shelf))) rose other before before BadWords
   meets-no-command rose command none =
-      meets-refusal (outcome_of command (told shelf) probes) (Tells shelf (opened command (told shelf))) rose other before BadWords
+      meets-refusal (outcome_of command (told shelf) audience) (Tells shelf (opened command (told shelf))) rose other before BadWords
       (λ e. cc) (λ e. cc)
-      (λ t. ap (λ c. outcome_of c (told shelf) probes) none)
+      (λ t. ap (λ c. outcome_of c (told shelf) audience) none)
 
   -- and nothing else happens
-  pub runs-no-command : (command : Option Command) → command ≡ None → Runs command shelf shelf other before before probes probes BadWords
-  runs-no-command command none = runs-command shelf shelf other before before probes probes BadWords command None none (record {
+  pub runs-no-command : (command : Option CommandValue) → command ≡ None
+      → Runs command shelf shelf other before before audience audience BadWords
+  runs-no-command command none = runs-command shelf shelf other before before audience audience BadWords command None none (record {
     meets = meets-no-command (Rose shelf.faults shelf.faults) None refl;
     ends = refl;
     asked = asks-prefix-none shelf shelf [] refl;

@@ -3,7 +3,7 @@ use Rattle.std.specs.Prelude.{◌≡◌, ℕ, ◌⊎◌, ◌↔◌, List, None}
 use Rattle.det_edges.specs.Count.{Rose}
 use Rattle.det_edges.specs.Sink.{Grew}
 use Rattle.det_edges.specs.Shelf.{ShelfState}
-use Rattle.probes.specs.Reports.{ProbeLife}
+use Rattle.probes.specs.Reports.{AudienceState}
 use Rattle.cli_answers.specs.declared.status.Status.{Status}
 use Rattle.cli_answers.specs.declared.status.Status.TheVariants.{Done, BadWords, BadManifest}
 use Rattle.cli_answers.specs.declared.status.Status.TheVariants.{BadStimulus, BadRecord}
@@ -27,7 +27,7 @@ abbrev pub IsRefusal : Status → Type 0
 IsRefusal status = (status ≡ BadManifest) ⊎ ((status ≡ BadStimulus) ⊎ (status ≡ BadRecord))
 
 pub record Concludes (words : List (List ℕ)) (first last : ShelfState) (out_failed : Type 0)
-    (before after : List ℕ → Type 0) (seeing : List ProbeLife) (status : Status) : Type 0 where
+    (before after : List ℕ → Type 0) (seeing : AudienceState) (status : Status) : Type 0 where
   -- where neither the shelf nor `out` failed the outcome is given, or memory was wanting
   pub unfailed : TellsAll words first → ¬ Rose first.faults last.faults → ¬ out_failed
       → (status ≡ OutOfMemory) ⊎ Gives (outcome words (told first) seeing) before after status

@@ -1,81 +1,95 @@
 -- What the program gives: an answer and the bytes for `out`, by the words, the bytes under each
--- name and the probes.
-use Rattle.std.specs.Prelude.{ℕ, Bool, true, false, List, [], Option, Some, None, option_and_then}
+-- name and the audience.
+use Rattle.std.specs.Prelude.{ℕ, Bool, true, false, List, [], Option, Some, None}
+use Rattle.std.specs.Prelude.{is_some, unwrap_or, option_and_then, if◌then◌else◌}
 use Rattle.cli_answers.specs.declared.answer.Answer.TheVariants.{BadWords}
 use Rattle.cli_answers.specs.Outcome.{Outcome, text_outcome, refusal}
-use Rattle.cli_words.specs.Words.{Command, demo, «record», replay, check, compare, show, needs, sim}
-use Rattle.cli_words.specs.Words.{salvage, upgrade, vote, chain, help, version, command_of, names}
-use Rattle.probes.specs.Reports.{ProbeLife}
 use Rattle.cli_answers.specs.Ends.{Work, writes_alone}
+use Rattle.cli_words.specs.declared.table.CommandWord.{CommandWord}
+use Rattle.cli_words.specs.declared.table.CommandWord.TheVariants.{Demo, Record, Show, Needs, Sim}
+use Rattle.cli_words.specs.declared.table.CommandWord.TheVariants.{Help, Version}
+use Rattle.cli_words.specs.Command.{CommandValue, name_at, number_in, files_of, part_of}
+use Rattle.cli_words.specs.Reading.{command_of}
+use Rattle.record_text.specs.declared.part.ShowPart.{ShowPart}
+use Rattle.record_text.specs.declared.part.ShowPart.TheVariants.{Cycle}
+use Rattle.probes.specs.Reports.{AudienceState}
 use Rattle.cmd_setup.specs.Setup.{setup_of}
 use Rattle.cmd_record.specs.Outcomes.{demo_outcome, demo_work}
 use Rattle.cmd_record.specs.Outcomes.{record_outcome, record_names, record_work}
 use Rattle.cmd_needs.specs.Needs.{needs_outcome, needs_work}
 use Rattle.cmd_show.specs.Show.{show_outcome, show_work}
 use Rattle.cmd_sim.specs.Sim.{sim_outcome}
-use Rattle.det_cli.specs.Texts.{usage_text, version_text}
+use Rattle.det_cli.specs.Texts.{version_text, page_of, help_text}
 
--- the command, where it is one of those that are built
-abbrev pub built : Command → Option Command
-built (demo stimulus) = Some (demo stimulus)
-built («record» manifest stimulus seed workers) = Some («record» manifest stimulus seed workers)
-built (replay recorded workers) = None
-built (check recorded workers) = None
-built (compare records) = None
-built (show recorded) = Some (show recorded)
-built (needs manifest) = Some (needs manifest)
-built (sim number workers) = Some (sim number workers)
-built (salvage recorded reports) = None
-built (upgrade recorded workers) = None
-built (vote records dissent) = None
-built (chain first second stimulus seed workers) = None
-built help = Some help
-built version = Some version
+-- whether the command is built: it has a page, or prints one that is there
+abbrev pub is_built : CommandWord → CommandValue → Bool
+is_built Help c = is_some (help_text c.names)
+is_built Version c = true
+is_built word c = is_some (page_of word)
 
--- the command that the words give, where it is built
-abbrev pub command_in : List (List ℕ) → Option Command
+abbrev pub built : CommandValue → Option CommandValue
+built c = if is_built c.word c then Some c else None
+
+-- the command that the words are, where it is built
+abbrev pub command_in : List (List ℕ) → Option CommandValue
 command_in words = option_and_then built (command_of words)
 
 -- the names that a command opens, in their order
-abbrev pub names_in : Option Command → List (List ℕ)
-names_in (Some command) = names command
+abbrev pub names_in : Option CommandValue → List (List ℕ)
+names_in (Some c) = files_of c
 names_in None = []
 
-abbrev pub names_of : List (List ℕ) → List (List ℕ)
-names_of words = names_in (command_in words)
+abbrev pub opened_by : CommandWord → CommandValue → (List ℕ → List ℕ) → List (List ℕ)
+opened_by Record c holds =
+    record_names (name_at 0 c) (name_at 1 c) (setup_of c.options.strict (holds (name_at 0 c)))
+opened_by word c holds = files_of c
 
 -- the names that a command opens where these are the bytes under each name: a manifest that is
 -- refused is the last of them
-abbrev pub opened : Option Command → (List ℕ → List ℕ) → List (List ℕ)
-opened (Some («record» manifest stimulus seed workers)) holds =
-    record_names manifest stimulus (setup_of (holds manifest))
-opened command holds = names_in command
+abbrev pub opened : Option CommandValue → (List ℕ → List ℕ) → List (List ℕ)
+opened (Some c) holds = opened_by c.word c holds
+opened None holds = []
 
 -- what a command reads and does
-abbrev pub work_of : Command → Work
-work_of (demo stimulus) = demo_work
-work_of («record» manifest stimulus seed workers) = record_work
-work_of (show recorded) = show_work
-work_of (needs manifest) = needs_work
+abbrev pub work_of : CommandWord → Work
+work_of Demo = demo_work
+work_of Record = record_work
+work_of Show = show_work
+work_of Needs = needs_work
 work_of other = writes_alone
 
--- the commands that show runs to the probes
-abbrev pub shows_runs : Option Command → Bool
-shows_runs (Some (show recorded)) = true
-shows_runs (Some (sim number workers)) = true
-shows_runs other = false
+-- one run alone is printed without reports
+abbrev pub has_reports : ShowPart → Bool
+has_reports (Cycle number) = false
+has_reports other = true
+
+-- the commands that show runs to the audience, and print its reports
+abbrev pub is_showing : CommandWord → CommandValue → Bool
+is_showing Show c = has_reports (part_of c.options)
+is_showing Sim c = true
+is_showing other c = false
+
+abbrev pub shows_runs : Option CommandValue → Bool
+shows_runs (Some c) = is_showing c.word c
+shows_runs None = false
+
+abbrev pub outcome_by : CommandWord → CommandValue → (List ℕ → List ℕ) → AudienceState
+    → Outcome
+outcome_by Demo c holds audience = demo_outcome (holds (name_at 0 c))
+outcome_by Record c holds audience =
+    record_outcome c.options.strict (holds (name_at 0 c)) (holds (name_at 1 c)) c.options.seed
+outcome_by Show c holds audience =
+    show_outcome (part_of c.options) audience (holds (name_at 0 c))
+outcome_by Needs c holds audience = needs_outcome c.options.strict (holds (name_at 0 c))
+outcome_by Sim c holds audience = sim_outcome audience (number_in c)
+outcome_by Help c holds audience = text_outcome (unwrap_or (help_text c.names) [])
+outcome_by Version c holds audience = text_outcome version_text
+outcome_by other c holds audience = refusal BadWords
 
 -- the outcome of a command, where these are the bytes under each name
-abbrev pub outcome_of : Option Command → (List ℕ → List ℕ) → List ProbeLife → Outcome
-outcome_of (Some (demo stimulus)) holds probes = demo_outcome (holds stimulus)
-outcome_of (Some («record» manifest stimulus seed workers)) holds probes =
-    record_outcome (holds manifest) (holds stimulus) seed
-outcome_of (Some (show recorded)) holds probes = show_outcome probes (holds recorded)
-outcome_of (Some (needs manifest)) holds probes = needs_outcome (holds manifest)
-outcome_of (Some (sim number workers)) holds probes = sim_outcome probes number
-outcome_of (Some help) holds probes = text_outcome usage_text
-outcome_of (Some version) holds probes = text_outcome version_text
-outcome_of other holds probes = refusal BadWords
+abbrev pub outcome_of : Option CommandValue → (List ℕ → List ℕ) → AudienceState → Outcome
+outcome_of (Some c) holds audience = outcome_by c.word c holds audience
+outcome_of None holds audience = refusal BadWords
 
-abbrev pub outcome : List (List ℕ) → (List ℕ → List ℕ) → List ProbeLife → Outcome
-outcome words holds probes = outcome_of (command_in words) holds probes
+abbrev pub outcome : List (List ℕ) → (List ℕ → List ℕ) → AudienceState → Outcome
+outcome words holds audience = outcome_of (command_in words) holds audience

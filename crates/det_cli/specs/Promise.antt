@@ -3,8 +3,8 @@ use Rattle.std.specs.Prelude.{◌≡◌, ℕ, true, false, List, [], Option, Som
 use Rattle.det_edges.specs.Count.{Rose}
 use Rattle.det_edges.specs.Sink.{Grew, GrewByPrefix}
 use Rattle.det_edges.specs.Shelf.{ShelfState, AsksPrefix}
-use Rattle.probes.specs.Reports.{ProbeLife}
-use Rattle.cli_words.specs.Words.{Command}
+use Rattle.probes.specs.Reports.{AudienceState}
+use Rattle.cli_words.specs.Command.{CommandValue}
 use Rattle.cli_answers.specs.declared.answer.Answer.{Answer}
 use Rattle.cli_answers.specs.declared.answer.Answer.TheVariants.{Done, BadWords}
 use Rattle.cli_answers.specs.declared.status.Status.{Status}
@@ -14,14 +14,14 @@ use Rattle.cli_answers.specs.Outcome.{Meets, Tells, told}
 use Rattle.det_cli.specs.Outcome.{command_in, names_in, opened, shows_runs, work_of, outcome_of}
 
 -- with words that are no command it ends as bad words, and with no others
-abbrev pub Ends : Option Command → Answer → Type 0
+abbrev pub Ends : Option CommandValue → Answer → Type 0
 Ends None answer = answer ≡ BadWords
-Ends (Some command) answer = can_end (work_of command) answer ≡ true
+Ends (Some command) answer = can_end (work_of command.word) answer ≡ true
 
--- A run of a command. `out` took what `before` and `after` say; the probes `seeing` were handed in,
--- and `stayed` are left.
-pub record Runs (command : Option Command) (first last : ShelfState) (out_failed : Type 0)
-    (before after : List ℕ → Type 0) (seeing stayed : List ProbeLife) (answer : Answer)
+-- A run of a command. `out` took what `before` and `after` say; the audience `seeing` was handed in,
+-- and is `stayed` afterwards.
+pub record Runs (command : Option CommandValue) (first last : ShelfState) (out_failed : Type 0)
+    (before after : List ℕ → Type 0) (seeing stayed : AudienceState) (answer : Answer)
     : Type 0 where
   -- it answers and writes what the definition gives of the bytes under the names that it opens,
   -- where they are told
@@ -35,15 +35,15 @@ pub record Runs (command : Option Command) (first last : ShelfState) (out_failed
   pub asked : AsksPrefix first last (names_in command)
   pub needed : Tells first (opened command (told first))
       → AsksPrefix first last (opened command (told first))
-  -- a command that shows no runs leaves the probes; one that shows them has taken all out where it
-  -- is done
+  -- a command that shows no runs leaves the audience; where one that shows them is done, all probes
+  -- have reported and left
   pub left : shows_runs command ≡ false → stayed ≡ seeing
-  pub gone : shows_runs command ≡ true → answer ≡ Done → stayed ≡ []
+  pub gone : shows_runs command ≡ true → answer ≡ Done → stayed.seeing ≡ []
 
 -- The program: a run of the command that the words give, its status, and one line for the user.
 pub record IsPromised (words : List (List ℕ)) (first last : ShelfState) (out_failed : Type 0)
     (before after : List ℕ → Type 0) (err_failed : Type 0) (err_before err_after : List ℕ → Type 0)
-    (seeing stayed : List ProbeLife) (status : Status) : Type 0 where
+    (seeing stayed : AudienceState) (status : Status) : Type 0 where
   pub answer : Answer
   pub is : status ≡ status_of answer
   pub runs : Runs (command_in words) first last out_failed before after seeing stayed answer

@@ -1,9 +1,24 @@
--- The texts of `--help` and `--version`.
-use Rattle.std.specs.Prelude.{ℕ, List}
+-- The texts that `--help` and `--version` print.
+use Rattle.std.specs.Prelude.{ℕ, List, [], ◌∷◌, Option, Some, None, option_and_then}
+use Rattle.cli_words.specs.declared.table.CommandWord.{CommandWord}
+use Rattle.cli_words.specs.declared.table.CommandWord.TheVariants.{Demo, Record, Show, Needs, Sim}
+use Rattle.cli_words.specs.Table.{command_word}
 use Rattle.det_cli.specs.declared.texts.TheConstants.{USAGE, VERSION}
-
-abbrev pub usage_text : List ℕ
-usage_text = USAGE.now
+use Rattle.det_cli.specs.declared.pages.TheConstants.{DEMO, RECORD, SHOW, NEEDS, SIM}
 
 abbrev pub version_text : List ℕ
 version_text = VERSION.now
+
+-- the page of a command that is built
+abbrev pub page_of : CommandWord → Option (List ℕ)
+page_of Demo = Some DEMO.now
+page_of Record = Some RECORD.now
+page_of Show = Some SHOW.now
+page_of Needs = Some NEEDS.now
+page_of Sim = Some SIM.now
+page_of other = None
+
+-- the text that `--help` prints: the usage, or the page of the command that is named
+abbrev pub help_text : (names : List (List ℕ)) → Option (List ℕ)
+help_text [] = Some USAGE.now
+help_text (name ∷ rest) = option_and_then page_of (command_word name)

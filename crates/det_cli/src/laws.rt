@@ -2,7 +2,7 @@
 ghost use Rattle.std.specs.Prelude.{ℕ, List};
 ghost use Rattle.det_edges.specs.Count.{Rose};
 ghost use Rattle.det_edges.specs.Shelf.{ShelfState};
-ghost use Rattle.probes.specs.Reports.{ProbeLife};
+ghost use Rattle.probes.specs.Reports.{AudienceState};
 ghost use Rattle.cli_answers.specs.declared.status.Status.{Status};
 ghost use Rattle.det_cli.specs.Laws.{Concludes};
 ghost use Rattle.det_cli.specs.Promise.{IsPromised};
@@ -12,7 +12,7 @@ use det_edges::Sink;
 /// What a user may conclude from the exit status of a run that keeps the promise of `top`.
 pub fn answers<K: Sink, E: Sink>()
     ensures { (words : List (List ℕ)) (first last : ShelfState) (out out_after : K)
-        (err err_after : E) (seeing stayed : List ProbeLife) (status : Status)
+        (err err_after : E) (seeing stayed : AudienceState) (status : Status)
         → IsPromised words first last
         (Rose (K.faults out) (K.faults out_after)) (K.took out) (K.took out_after)
         (Rose (E.faults err) (E.faults err_after)) (E.took err) (E.took err_after)

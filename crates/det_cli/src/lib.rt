@@ -7,6 +7,7 @@
 #![tactic(auto)]
 
 pub mod laws;
+mod pages;
 mod program;
 mod texts;
 

@@ -1,28 +1,27 @@
 //! The whole program.
-ghost use Rattle.std.specs.Prelude.{◌≡◌, ◌≤◌, [], true, false, Some, map};
-ghost use Rattle.std.specs.Vec.{vec_len};
+ghost use Rattle.std.specs.Prelude.{◌≡◌, true, map, option_map};
 ghost use Rattle.det_edges.specs.Count.{Rose};
-ghost use Rattle.det_edges.specs.Shelf.{AsksPrefix};
 ghost use Rattle.cli_answers.specs.Ends.{can_end, writes_alone};
-ghost use Rattle.cli_answers.specs.Outcome.{Meets, text_outcome, Tells, told};
-ghost use Rattle.cli_words.specs.Texts.{texts};
-ghost use Rattle.cli_words.specs.Told.{told_of, told_by};
-ghost use Rattle.cli_words.specs.Words.{command_seen};
+ghost use Rattle.cli_answers.specs.Outcome.{Meets, text_outcome};
+ghost use Rattle.cli_words.specs.Names.{texts};
+ghost use Rattle.cli_words.specs.Command.{command_seen};
 ghost use Rattle.cli_words.specs.Ranges.{IsInRange};
-ghost use Rattle.det_cli.specs.Outcome.{built, command_in, names_in, opened, shows_runs};
-ghost use Rattle.det_cli.specs.Outcome.{outcome_of};
-ghost use Rattle.det_cli.specs.Promise.{Ends, Runs, IsPromised};
+ghost use Rattle.probes.specs.Shows.{seen};
+ghost use Rattle.det_cli.specs.Texts.{page_of, help_text};
+ghost use Rattle.det_cli.specs.Outcome.{built, command_in};
+ghost use Rattle.det_cli.specs.Promise.{Runs, IsPromised};
 
+use crate::pages::{DEMO, NEEDS, RECORD, SHOW, SIM};
 use crate::texts::{USAGE, VERSION};
 use cli_answers::{Answer, Status};
 use cli_words::laws::ranges;
-use cli_words::{Command, Told, read_words};
+use cli_words::{Command, CommandWord, Options, read_words};
 use cmd_needs::needs;
 use cmd_record::{demo, record_stimulus};
 use cmd_show::show;
 use cmd_sim::sim;
 use det_edges::{Shelf, Sink, write_all};
-use probes::Probe;
+use probes::{Audience, Probe};
 use std::alloc::Global;
 use std::sync::Arc;
 use std::thread::Threads;
@@ -31,7 +30,7 @@ use worker_pool::Gate;
 /// Runs the command that the words give, which are those after the program's name.
 ///
 /// `record`, `demo` and `sim` run their cycles on real threads, each of which passes the gate.
-/// `show` and `sim` show the runs that they read or make to the probes, at most 1,024.
+/// `show` and `sim` show the runs that they read or make to the audience.
 pub fn top<R: Threads + Sync, S: Shelf, K: Sink, E: Sink, G: Gate + Send + Sync + 'static>(
     rt: &R,
     alloc: Global,
@@ -39,16 +38,16 @@ pub fn top<R: Threads + Sync, S: Shelf, K: Sink, E: Sink, G: Gate + Send + Sync 
     shelf: &mut S,
     out: &mut K,
     err: &mut E,
-    probes: &mut Vec<Box<dyn Probe>>,
+    audience: &mut Audience,
     gate: &Arc<G, Global>,
 ) -> Status
-    requires { vec_len probes.old ≤ 1024 }
     ensures { IsPromised (texts words.now) (S.sees shelf.old) (S.sees shelf.new)
         (Rose (K.faults out.old) (K.faults out.new)) (K.took out.old) (K.took out.new)
         (Rose (E.faults err.old) (E.faults err.new)) (E.took err.old) (E.took err.new)
-        (map (λ b. life b) probes.old.items) (map (λ b. life b) probes.new.items) result }
+        (seen (λ b. life (b.vtable, b.value)) audience.old)
+        (seen (λ b. life (b.vtable, b.value)) audience.new) result }
 {
-    let answer = run(rt, alloc, words, shelf, out, probes, gate);
+    let answer = run(rt, alloc, words, shelf, out, audience, gate);
     let line = answer.line();
     let _ = write_all(err, line.as_slice());
     answer.status()
@@ -60,40 +59,17 @@ fn run<R: Threads + Sync, S: Shelf, K: Sink, G: Gate + Send + Sync + 'static>(
     words: &[String],
     shelf: &mut S,
     out: &mut K,
-    probes: &mut Vec<Box<dyn Probe>>,
+    audience: &mut Audience,
     gate: &Arc<G, Global>,
 ) -> Answer
-    requires { vec_len probes.old ≤ 1024 }
     ensures { Runs (command_in (texts words.now)) (S.sees shelf.old) (S.sees shelf.new)
         (Rose (K.faults out.old) (K.faults out.new)) (K.took out.old) (K.took out.new)
-        (map (λ b. life b) probes.old.items) (map (λ b. life b) probes.new.items) result }
-{
-    match read_words(words) {
-        Some(words_told) => run_told(rt, alloc, words, &words_told, shelf, out, probes, gate),
-        None => Answer::BadWords,
-    }
-}
-
-/// Runs what the words tell.
-fn run_told<R: Threads + Sync, S: Shelf, K: Sink, G: Gate + Send + Sync + 'static>(
-    rt: &R,
-    alloc: Global,
-    words: &[String],
-    words_told: &Told<'_>,
-    shelf: &mut S,
-    out: &mut K,
-    probes: &mut Vec<Box<dyn Probe>>,
-    gate: &Arc<G, Global>,
-) -> Answer
-    requires few { vec_len probes.old ≤ 1024 }
-    requires told { Some (told_of words_told.now) ≡ told_by (texts words.now) }
-    ensures { Runs (command_in (texts words.now)) (S.sees shelf.old) (S.sees shelf.new)
-        (Rose (K.faults out.old) (K.faults out.new)) (K.took out.old) (K.took out.new)
-        (map (λ b. life b) probes.old.items) (map (λ b. life b) probes.new.items) result }
+        (seen (λ b. life (b.vtable, b.value)) audience.old)
+        (seen (λ b. life (b.vtable, b.value)) audience.new) result }
 {
     ranges();
-    match words_told.command() {
-        Some(command) => run_command(rt, alloc, command, shelf, out, probes, gate),
+    match read_words(words) {
+        Some(command) => run_command(rt, alloc, command, shelf, out, audience, gate),
         None => Answer::BadWords,
     }
 }
@@ -104,52 +80,69 @@ fn run_command<R: Threads + Sync, S: Shelf, K: Sink, G: Gate + Send + Sync + 'st
     command: Command<'_>,
     shelf: &mut S,
     out: &mut K,
-    probes: &mut Vec<Box<dyn Probe>>,
+    audience: &mut Audience,
     gate: &Arc<G, Global>,
 ) -> Answer
-    requires few { vec_len probes.old ≤ 1024 }
     requires range { IsInRange (command_seen command) }
-    ensures meets { Meets (outcome_of (built (command_seen command.entry)) (told (S.sees shelf.old))
-        (map (λ b. life b) probes.old.items))
-        (Tells (S.sees shelf.old)
-        (opened (built (command_seen command.entry)) (told (S.sees shelf.old))))
-        (Rose (S.sees shelf.old).faults (S.sees shelf.new).faults)
-        (Rose (K.faults out.old) (K.faults out.new)) (K.took out.old) (K.took out.new) result }
-    ensures ends { Ends (built (command_seen command.entry)) result }
-    ensures asked { AsksPrefix (S.sees shelf.old) (S.sees shelf.new)
-        (names_in (built (command_seen command.entry))) }
-    ensures needed { Tells (S.sees shelf.old)
-        (opened (built (command_seen command.entry)) (told (S.sees shelf.old)))
-        → AsksPrefix (S.sees shelf.old) (S.sees shelf.new)
-        (opened (built (command_seen command.entry)) (told (S.sees shelf.old))) }
-    ensures left { shows_runs (built (command_seen command.entry)) ≡ false
-        → map (λ b. life b) probes.new.items ≡ map (λ b. life b) probes.old.items }
-    ensures gone { shows_runs (built (command_seen command.entry)) ≡ true → result ≡ Answer.Done
-        → map (λ b. life b) probes.new.items ≡ [] }
+    ensures { Runs (built (command_seen command.entry)) (S.sees shelf.old) (S.sees shelf.new)
+        (Rose (K.faults out.old) (K.faults out.new)) (K.took out.old) (K.took out.new)
+        (seen (λ b. life (b.vtable, b.value)) audience.old)
+        (seen (λ b. life (b.vtable, b.value)) audience.new) result }
 {
-    match command {
-        Command::Demo { stimulus } => demo(rt, alloc, stimulus, shelf, out, gate),
-        Command::Record {
-            manifest,
-            stimulus,
-            seed,
-            workers,
-        } => record_stimulus(
-            rt, alloc, manifest, stimulus, seed, workers, shelf, out, gate,
+    let first = command.name(0);
+    let second = command.name(1);
+    let Options {
+        workers,
+        seed,
+        strict,
+        ..
+    } = command.options;
+    match command.word {
+        CommandWord::Demo => demo(rt, alloc, first, shelf, out, gate),
+        CommandWord::Record => record_stimulus(
+            rt, alloc, first, strict, second, seed, workers, shelf, out, gate,
         ),
-        Command::Show { record } => show(alloc, record, shelf, out, probes),
-        Command::Needs { manifest } => needs(alloc, manifest, shelf, out),
-        Command::Sim { number, workers } => sim(rt, alloc, number, workers, out, probes, gate),
-        Command::Help => print(USAGE, out),
-        Command::Version => print(VERSION, out),
+        CommandWord::Show => show(alloc, first, command.options.part(), shelf, out, audience),
+        CommandWord::Needs => needs(alloc, first, strict, shelf, out),
+        CommandWord::Sim => sim(rt, alloc, command.number(), workers, out, audience, gate),
+        CommandWord::Help => match help_text(command.names.as_slice()) {
+            Some(text) => print(text, out),
+            None => Answer::BadWords,
+        },
+        CommandWord::Version => print(VERSION, out),
         // These aren't built yet.
-        Command::Replay { .. } => Answer::BadWords,
-        Command::Check { .. } => Answer::BadWords,
-        Command::Compare { .. } => Answer::BadWords,
-        Command::Salvage { .. } => Answer::BadWords,
-        Command::Upgrade { .. } => Answer::BadWords,
-        Command::Vote { .. } => Answer::BadWords,
-        Command::Chain { .. } => Answer::BadWords,
+        CommandWord::Replay => Answer::BadWords,
+        CommandWord::Check => Answer::BadWords,
+        CommandWord::Compare => Answer::BadWords,
+        CommandWord::Salvage => Answer::BadWords,
+        CommandWord::Upgrade => Answer::BadWords,
+        CommandWord::Vote => Answer::BadWords,
+        CommandWord::Chain => Answer::BadWords,
+    }
+}
+
+/// The page of a command that is built.
+fn page_of(word: CommandWord) -> Option<&'static str>
+    ensures { option_map (λ text. text.now) result ≡ page_of word }
+{
+    match word {
+        CommandWord::Demo => Some(DEMO),
+        CommandWord::Record => Some(RECORD),
+        CommandWord::Show => Some(SHOW),
+        CommandWord::Needs => Some(NEEDS),
+        CommandWord::Sim => Some(SIM),
+        _ => None,
+    }
+}
+
+/// The text that `--help` prints with these names.
+pub(crate) fn help_text(names: &[&str]) -> Option<&'static str>
+    ensures { option_map (λ text. text.now) result
+        ≡ help_text (map (λ name. name.now) names.now) }
+{
+    match names {
+        [] => Some(USAGE),
+        [name, ..] => page_of(CommandWord::of(name)?),
     }
 }
 

@@ -6,19 +6,23 @@ det: records runs of the AUTOSAR deterministic client, byte for byte
 
   det demo STIM                  the record of the built-in filter bank
   det record MANIFEST STIM       the record of a manifest's job
-      [--seed N] [--workers W]
+      [--seed N] [--workers W] [--strict]
   det show RECORD                a record as text, and reports of its runs
-  det needs MANIFEST             the resource needs of a manifest
+      [--reports | --cycle C]    the reports alone, or one cycle alone
+  det needs MANIFEST [--strict]  the resource needs of a manifest
   det sim N [--workers W]        a summary of the run of a built-in cloud over a
                                  stimulus made of N, and reports of its cycles
-  det --help                     this text
-  det --version                  the version
+  det --help                     this text; also -h and help
+  det --help COMMAND             the page of a command; also help COMMAND and
+                                 COMMAND --help
+  det --version                  the version; also -V and version
 
 STIM is the text of a stimulus, MANIFEST one in TOML, RECORD a binary record:
 paths of files. One whose name begins with `-` is given as ./-name.
 N is a number of 64 bits; the seed is 0 where none is given. W is 1 to 64; where
 none is given it is the manifest's, and 1 for `sim`. What is written is the same
-for every W.
+for every W. With --strict a key of the manifest that isn't known is refused.
+C is the number of a cycle, counted from 1.
 Results go to standard output, and one line on a refusal to standard error.
 
 Exit statuses:

@@ -8,3 +8,4 @@ pub mod Shelf
 pub mod Sink
 pub mod StdSink
 pub mod TextShelf
+pub mod Traffic

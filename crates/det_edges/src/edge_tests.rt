@@ -1,7 +1,7 @@
 //! Tests of shelves and sinks.
 use crate::{
-    DirShelf, FailList, MemFile, MemFiles, MemShelf, MemSink, ReadEnd, Shelf, ShelfFailed, Sink,
-    SinkFailed, Slots, StdSink, TextShelf, read_limited, write_all,
+    DirShelf, FailList, MemFile, MemFiles, MemShelf, MemSink, Shelf, ShelfFailed, Sink, SinkFailed,
+    Slots, StdSink, Stopped, TextShelf, TooLong, read_limited, write_all,
 };
 use det_values::{Bytes, OutOfMemory};
 use std::alloc::Global;
@@ -67,7 +67,7 @@ fn read_limited_refuses_a_longer_text(rt: HostRuntime) -> Result<(), Fail> {
     let slot = shelf.open_input("a")?;
     assert_eq!(rt;
         read_limited(alloc, &mut shelf, slot, 2).err(),
-        Some(ReadEnd::TooLong)
+        Some(Stopped::Refused(TooLong))
     );
     Ok(())
 }

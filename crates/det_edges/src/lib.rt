@@ -4,6 +4,7 @@
 
 mod copying;
 mod dir_shelf;
+mod failure;
 mod faults;
 mod mem_shelf;
 mod mem_sink;
@@ -17,11 +18,12 @@ mod text_shelf;
 mod writing;
 
 pub use dir_shelf::DirShelf;
+pub use failure::{Failure, Stopped};
 pub use faults::{ShelfFailed, SinkFailed};
 pub use mem_shelf::{MemFile, MemFiles, MemShelf};
 pub use mem_sink::MemSink;
 pub use planned_calls::FailList;
-pub use reading::{ReadEnd, read_limited};
+pub use reading::{TooLong, read_limited};
 pub use shelf::Shelf;
 pub use sink::Sink;
 pub use slots::Slots;

@@ -1,5 +1,6 @@
 -- The last items of a list.
-use Rattle.std.proofs.Common.{◌≡◌, ℕ, ◌+◌, ◌-◌, List, [], ◌++◌, length, drop, refl, sym, ap, ◌∙◌, arith, length-append, length-drop, drop-drop, append_assoc, drop_at, inl, inr}
+use Rattle.std.proofs.Common.{◌≡◌, ℕ, ◌+◌, ◌-◌, List, [], ◌++◌, length, drop, refl, sym, ap, ◌∙◌, arith, length-append, length-drop}
+use Rattle.std.proofs.Common.{drop-drop, append_assoc, drop_at, inl, inr}
 use Rattle.circular_buffer.proofs.Places.{below_or_not}
 use Rattle.std.proofs.lemmas.List.{drop-append-le, drop_all}
 use Rattle.circular_buffer.specs.Buffer.{keep_last}
@@ -11,7 +12,8 @@ module _ {X : Type 0} where
       let joined : drop k (xs ++ ys) ≡ drop k xs ++ ys = drop-append-le k xs ys (omega arith) in
       let long : length (drop k xs ++ ys) ≡ length (xs ++ ys) - k = ap length (sym joined) ∙ length-drop k (xs ++ ys) in
       let number : k + (length (drop k xs ++ ys) - n) ≡ length (xs ++ ys) - n = omega (arith, length-append xs ys) in
-      ap (drop (length (drop k xs ++ ys) - n)) (sym joined) ∙ drop-drop (length (drop k xs ++ ys) - n) k (xs ++ ys) ∙ ap (λ m. drop m (xs ++ ys)) number
+      ap (drop (length (drop k xs ++ ys) - n)) (sym joined) ∙ drop-drop (length (drop k xs ++ ys) - n) k (xs ++ ys)
+      ∙ ap (λ m. drop m (xs ++ ys)) number
 
   -- two lists are added one after the other
   pub kept_twice : (n : ℕ) (xs ys zs : List X) → keep_last n (keep_last n (xs ++ ys) ++ zs) ≡ keep_last n (xs ++ (ys ++ zs))

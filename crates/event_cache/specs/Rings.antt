@@ -20,11 +20,13 @@ seen_next Fresh capacity seen arriving = arriving
 
 -- the rings after a turn
 abbrev pub turned : Rings → Rings
-turned r = record { policy = r.policy; capacity = r.capacity; seen = seen_next r.policy r.capacity r.seen r.arriving; arriving = [] }
+turned r =
+    record r { seen = seen_next r.policy r.capacity r.seen r.arriving; arriving = [] }
 
 -- the rings after the arrival of a value
 abbrev pub joined : Rings → ℤ → Rings
-joined r value = record { policy = r.policy; capacity = r.capacity; seen = r.seen; arriving = keep_last r.capacity (r.arriving ++ value ∷ []) }
+joined r value =
+    record r { arriving = keep_last r.capacity (r.arriving ++ value ∷ []) }
 
 -- the window of each event
 abbrev pub windows : List Rings → List (List ℤ)

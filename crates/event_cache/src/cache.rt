@@ -1,6 +1,7 @@
 //! The windows of all events.
 
-ghost use Rattle.std.specs.Prelude.{◌≡◌, ◌<◌, ◌≤◌, List, [], ◌∷◌, ◌++◌, length, IfOk, map, slice_index_or};
+ghost use Rattle.std.specs.Prelude.{◌≡◌, ◌<◌, ◌≤◌, List, [], ◌∷◌, ◌++◌, length, IfOk, map};
+ghost use Rattle.std.specs.Prelude.{slice_index_or};
 ghost use Rattle.circular_buffer.specs.Buffer.{last_item};
 
 use crate::rings::EventRings;
@@ -30,7 +31,8 @@ impl EventCache {
     ghost use Rattle.det_values.specs.Limits.{IsSampleValue};
     ghost use Rattle.det_values.specs.Values.{SampleValue, EventSpecValue};
     ghost use Rattle.event_cache.specs.Rings.{windows, turned};
-    ghost use Rattle.event_cache.specs.Windows.{HasSeen, AreWindows, windows_after, window_of, next_windows};
+    ghost use Rattle.event_cache.specs.Windows.{HasSeen, AreWindows, windows_after, window_of};
+    ghost use Rattle.event_cache.specs.Windows.{next_windows};
 
     /// A cache of these events, to which no sample has come.
     #[tactic(auto, using(crate::proofs::Rounds::made_more))]
@@ -47,15 +49,16 @@ impl EventCache {
         Ok(EventCache { rings })
     }
 
-    /// Adds a sample that no window shows before the next turn. Where its event has as many as its capacity, the oldest
-    /// of those that wait goes.
+    /// Adds a sample that no window shows before the next turn. Where its event has as many as its
+    /// capacity, the oldest of those that wait goes.
     #[tactic(auto, using(crate::proofs::Rounds::windows_kept, crate::proofs::Rounds::seen_arrived))]
     pub fn arrive(&mut self, sample: Sample)
         requires event { sample.event < length self.old }
         ensures count { length self.new ≡ length self.old }
         ensures windows { windows self.new ≡ windows self.old }
-        ensures seen { (specs : List EventSpecValue) (rounds : List (List SampleValue)) (arrived : List SampleValue)
-            → HasSeen self.old specs rounds arrived → HasSeen self.new specs rounds (arrived ++ sample ∷ []) }
+        ensures seen { (specs : List EventSpecValue) (rounds : List (List SampleValue))
+            (arrived : List SampleValue) → HasSeen self.old specs rounds arrived
+            → HasSeen self.new specs rounds (arrived ++ sample ∷ []) }
     {
         self.rings[usize::from(sample.event)].arrive(sample);
     }
@@ -65,10 +68,12 @@ impl EventCache {
     pub fn turn(&mut self)
         ensures turned { self.new ≡ map turned self.old }
         ensures count { length self.new ≡ length self.old }
-        ensures next { (specs : List EventSpecValue) (rounds : List (List SampleValue)) (arrived : List SampleValue)
-            → HasSeen self.old specs rounds arrived → windows self.new ≡ next_windows specs (windows self.old) arrived }
-        ensures seen { (specs : List EventSpecValue) (rounds : List (List SampleValue)) (arrived : List SampleValue)
-            → HasSeen self.old specs rounds arrived → HasSeen self.new specs (rounds ++ arrived ∷ []) [] }
+        ensures next { (specs : List EventSpecValue) (rounds : List (List SampleValue))
+            (arrived : List SampleValue) → HasSeen self.old specs rounds arrived
+            → windows self.new ≡ next_windows specs (windows self.old) arrived }
+        ensures seen { (specs : List EventSpecValue) (rounds : List (List SampleValue))
+            (arrived : List SampleValue) → HasSeen self.old specs rounds arrived
+            → HasSeen self.new specs (rounds ++ arrived ∷ []) [] }
     {
         for event in 0..self.rings.len() {
             self.rings[event].turn();
@@ -81,8 +86,9 @@ impl EventCache {
         ensures count { result ≡ length self.now }
         ensures few { result ≤ 256 }
         ensures windows { AreWindows result (windows self.now) }
-        ensures seen { (specs : List EventSpecValue) (rounds : List (List SampleValue)) (arrived : List SampleValue)
-            → HasSeen self.now specs rounds arrived → windows self.now ≡ windows_after specs rounds }
+        ensures seen { (specs : List EventSpecValue) (rounds : List (List SampleValue))
+            (arrived : List SampleValue) → HasSeen self.now specs rounds arrived
+            → windows self.now ≡ windows_after specs rounds }
     {
         self.rings.len() as u16
     }
@@ -92,8 +98,9 @@ impl EventCache {
     pub fn len(&self, event: u16) -> usize
         requires { event < length self.now }
         ensures window { result ≡ length (window_of (windows self.now) event) }
-        ensures seen { (specs : List EventSpecValue) (rounds : List (List SampleValue)) (arrived : List SampleValue)
-            → HasSeen self.now specs rounds arrived → result ≡ length (window_of (windows_after specs rounds) event) }
+        ensures seen { (specs : List EventSpecValue) (rounds : List (List SampleValue))
+            (arrived : List SampleValue) → HasSeen self.now specs rounds arrived
+            → result ≡ length (window_of (windows_after specs rounds) event) }
     {
         self.rings[usize::from(event)].len()
     }
@@ -104,8 +111,9 @@ impl EventCache {
         requires event { event < length self.now }
         requires index { index < length (window_of (windows self.now) event) }
         ensures value { result ≡ slice_index_or (window_of (windows self.now) event) index result }
-        ensures seen { (specs : List EventSpecValue) (rounds : List (List SampleValue)) (arrived : List SampleValue)
-            → HasSeen self.now specs rounds arrived → result ≡ slice_index_or (window_of (windows_after specs rounds) event) index result }
+        ensures seen { (specs : List EventSpecValue) (rounds : List (List SampleValue))
+            (arrived : List SampleValue) → HasSeen self.now specs rounds arrived
+            → result ≡ slice_index_or (window_of (windows_after specs rounds) event) index result }
         ensures limits { IsSampleValue result }
     {
         self.rings[usize::from(event)].value(index)
@@ -116,8 +124,9 @@ impl EventCache {
     pub fn newest(&self, event: u16) -> Option<i64>
         requires { event < length self.now }
         ensures window { result ≡ last_item (window_of (windows self.now) event) }
-        ensures seen { (specs : List EventSpecValue) (rounds : List (List SampleValue)) (arrived : List SampleValue)
-            → HasSeen self.now specs rounds arrived → result ≡ last_item (window_of (windows_after specs rounds) event) }
+        ensures seen { (specs : List EventSpecValue) (rounds : List (List SampleValue))
+            (arrived : List SampleValue) → HasSeen self.now specs rounds arrived
+            → result ≡ last_item (window_of (windows_after specs rounds) event) }
     {
         self.rings[usize::from(event)].newest()
     }

@@ -23,7 +23,12 @@ impl Model for EventRings {
 
     ghost Value = { Rings };
 
-    ghost view = { λ r. record { policy = r.policy; capacity = r.arriving.capacity; seen = r.seen.items; arriving = r.arriving.items } };
+    ghost view = { λ r. record {
+      policy = r.policy;
+      capacity = r.arriving.capacity;
+      seen = r.seen.items;
+      arriving = r.arriving.items;
+    } };
 
     ghost invariant = { λ r. r.seen.capacity ≡ r.arriving.capacity };
 }
@@ -33,7 +38,13 @@ impl EventRings {
 
     /// The rings of an event, both empty.
     pub fn new(alloc: Global, spec: &EventSpec) -> Result<EventRings, OutOfMemory>
-        ensures { IfOk result (λ r. r ≡ record { policy = spec.now.policy; capacity = spec.now.capacity; seen = []; arriving = [] }) }
+        ensures { IfOk result (λ r. r
+            ≡ record {
+              policy = spec.now.policy;
+              capacity = spec.now.capacity;
+              seen = [];
+              arriving = [];
+            }) }
     {
         let capacity = usize::from(spec.capacity);
         Ok(EventRings {

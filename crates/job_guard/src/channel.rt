@@ -5,7 +5,8 @@ ghost use Rattle.std.specs.List.{All};
 ghost use Rattle.det_values.specs.Spelling.{Grows};
 ghost use Rattle.job_shared.specs.Samples.{IsSample};
 ghost use Rattle.job_trait.specs.Meaning.{Agrees};
-ghost use Rattle.job_guard.specs.Meaning.{first_channels, reading, corrected, holding, judged, shown};
+ghost use Rattle.job_guard.specs.Meaning.{first_channels, reading, corrected, holding, judged};
+ghost use Rattle.job_guard.specs.Meaning.{shown};
 ghost use Rattle.job_guard.specs.Ranges.{Own, IsPartOf};
 
 use crate::{Corrections, Guard};

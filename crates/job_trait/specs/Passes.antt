@@ -1,10 +1,12 @@
 -- A pass that is to be run, and what answers it.
-use Rattle.std.specs.Prelude.{◌≡◌, ℕ, ◌+◌, ◌/◌, ◌<◌, ◌≤◌, length, Result, Ok, Err, IfOk, IfErr}
+use Rattle.std.specs.Prelude.{◌≡◌, ℕ, ◌+◌, ◌*◌, ◌/◌, ◌<◌, ◌≤◌, ◌⊎◌, List, [], ◌∷◌, length, true}
+use Rattle.std.specs.Prelude.{Result, Ok, Err, IfOk, IfErr}
 use Rattle.std.specs.List.{All}
 use Rattle.std.specs.Arc.{arc_value}
 use Rattle.job_trait.specs.Meaning.{Meaning}
 use Rattle.job_trait.specs.Laws.{CoversSome}
 use Rattle.job_trait.specs.Pass.{Passed, Refusal, passed, block}
+use Rattle.job_trait.specs.Cycle.{added, shown_with}
 use Rattle.job_trait.specs.declared.pass.PassOf.{PassOf}
 use Rattle.job_trait.specs.declared.pass.PassDone.{PassDone}
 use Rattle.job_trait.specs.declared.pass.PoolFault.{PoolFault}
@@ -27,6 +29,11 @@ IsPass (Err OutOfMemory) pass = Unit {0}
 abbrev pub RefusedBelow : ℕ → PoolFault → Type 0
 RefusedBelow n (Refused element code) = element < n
 RefusedBelow n OutOfMemory = Unit {0}
+
+-- the words drawn in passes before, if there were any, and those of a pass
+abbrev pub drawn_so_far : List ℕ → List ℕ → List ℕ
+drawn_so_far [] draws = draws
+drawn_so_far (n ∷ earlier) draws = added (n ∷ earlier) draws
 
 module _ {S G E L P : Type 0} where
   -- what the whole pass gives
@@ -52,6 +59,8 @@ module _ {S G E L P : Type 0} where
     pub own : All (Own (arc_value t.job)) (arc_value t.elements)
     pub carried : CoversSome (Covers (arc_value t.job)) (arc_value t.carry)
     pub early : t.cycle ≤ 1000000
+    pub level : (arc_value t.earlier ≡ []) ⊎ (length (arc_value t.earlier) ≡ length (arc_value t.elements))
+    pub few_earlier : All (λ draws. draws ≤ 458745) (arc_value t.earlier)
 
   -- an answer of a pass
   pub record IsAnswer (m : Meaning S G E L P) (Covers : S → P → ℕ → Type 0) (Own : S → E → Type 0)
@@ -63,3 +72,5 @@ module _ {S G E L P : Type 0} where
     pub few_drawn : IfOk answer (λ done. All (λ draws. draws ≤ 65535) done.draws)
     pub covers : IfOk answer (λ done. Covers (arc_value t.job) done.part (length (arc_value t.elements)))
     pub element : IfErr answer (RefusedBelow (length (arc_value t.elements)))
+    pub shown : IfOk answer (λ done. t.shows ≡ true → done.shown
+        ≡ shown_with m (arc_value t.job) done.elements (drawn_so_far (arc_value t.earlier) done.draws))

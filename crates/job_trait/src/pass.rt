@@ -1,7 +1,7 @@
 //! A pass that is to be run, and what it gives.
 
 use crate::Job;
-use det_values::{Container, OutOfMemory};
+use det_values::{Container, DrawnElements, OutOfMemory};
 use std::alloc::Global;
 use std::sync::Arc;
 
@@ -18,15 +18,21 @@ pub struct PassOf<J: Job> {
     pub seed: u64,
     /// The cycle's number, counted from 1.
     pub cycle: u32,
+    /// The words that each element drew in the passes before. The first pass has none.
+    pub earlier: Arc<Container<u32>, Global>,
+    /// Whether the new elements are to be shown, as those of a cycle's last pass are.
+    pub shows: bool,
 }
 
 /// What a pass leaves: the new elements, the parts joined, and the number of words that each
-/// element drew.
+/// element drew in it. Where the pass shows its elements, `shown` are they, each with the words that
+/// it drew in all passes up to this one.
 #[derive(Drop)]
 pub struct PassDone<E, P> {
     pub elements: Container<E>,
     pub draws: Container<u32>,
     pub part: P,
+    pub shown: DrawnElements,
 }
 
 /// Why a pass gives no new elements.

@@ -1,5 +1,6 @@
 -- One parameter, or one event, and those after it.
-use Rattle.std.proofs.Common.{◌≡◌, ℕ, ℤ, true, false, None, Some, suc, ◌+◌, ◌-◌, ◌<◌, Option, List, [], ◌∷◌, ◌++◌, append_assoc, length, take, drop, get_or, bytes_eq, if◌then◌else◌, refl, ap, ◌∙◌, arith}
+use Rattle.std.proofs.Common.{◌≡◌, ℕ, ℤ, true, false, None, Some, suc, ◌+◌, ◌-◌, ◌<◌, Option, List, [], ◌∷◌, ◌++◌, append_assoc, length}
+use Rattle.std.proofs.Common.{take, drop, get_or, bytes_eq, if◌then◌else◌, refl, ap, ◌∙◌, arith}
 use Rattle.std.proofs.lemmas.List.{drop_more, take_more}
 use Rattle.std.specs.List.{list_any, All}
 use Rattle.std.proofs.lemmas.List.Elements.{All-append, All-cons, All-nil}

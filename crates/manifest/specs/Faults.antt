@@ -1,5 +1,6 @@
 -- The first fault of a document's tree.
-use Rattle.std.specs.Prelude.{ℕ, ◌+◌, pos, negsuc, Bool, ◌&&◌, nat_le, List, [], ◌∷◌, ◌++◌, Option, Some, None, if◌then◌else◌, bytes_eq}
+use Rattle.std.specs.Prelude.{ℕ, ◌+◌, pos, negsuc, Bool, ◌&&◌, nat_le, List, [], ◌∷◌, ◌++◌, Option}
+use Rattle.std.specs.Prelude.{Some, None, if◌then◌else◌, bytes_eq}
 use Rattle.std.specs.List.{list_any}
 use Rattle.std.specs.Option.{option_or}
 use Rattle.det_values.specs.Values.{EventSpecValue}
@@ -17,9 +18,11 @@ unless test fault = if test then None else Some fault
 abbrev pub value_fault : Key → Kind → Data → Option ManifestFault
 value_fault key (text fits) (string s) = unless (fits s) (OutOfRange key)
 value_fault key any_whole (integer z) = None
-value_fault key (whole least most) (integer (pos n)) = unless (nat_le least n && nat_le n most) (OutOfRange key)
+value_fault key (whole least most) (integer (pos n)) =
+    unless (nat_le least n && nat_le n most) (OutOfRange key)
 value_fault key (whole least most) (integer (negsuc n)) = Some (OutOfRange key)
-value_fault key (array_up_to most) (array items) = unless (nat_le (length_of_items items) most) (OutOfRange key)
+value_fault key (array_up_to most) (array items) =
+    unless (nat_le (length_of_items items) most) (OutOfRange key)
 value_fault key section (table ms) = None
 value_fault key kind value = Some (WrongKind key)
 

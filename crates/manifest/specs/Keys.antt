@@ -1,13 +1,19 @@
--- The table of keys: where each stands, when it is needed, what it may hold, and in which order they are judged.
-use Rattle.std.specs.Prelude.{ℕ, zero, suc, ◌+◌, ◌-◌, ◌^◌, Bool, true, false, ◌||◌, List, [], ◌∷◌, ◌++◌, Option, Some, is_some, codes}
+-- The table of keys: where each stands, when it is needed, what it may hold, and in which order
+-- they are judged.
+use Rattle.std.specs.Prelude.{ℕ, zero, suc, ◌+◌, ◌-◌, ◌^◌, Bool, true, false, ◌||◌, List, [], ◌∷◌}
+use Rattle.std.specs.Prelude.{◌++◌, Option, Some, is_some, codes}
 use Rattle.det_values.specs.Limits.{is_event_name}
 use Rattle.toml.specs.Data.{Data}
 use Rattle.manifest.specs.Limits.{is_platform_name, is_policy}
 use Rattle.manifest.specs.Tree.{Step, to_member, to_item, walk, count_of}
 use Rattle.manifest.specs.declared.key.NeedKey.{NeedKey}
-use Rattle.manifest.specs.declared.key.NeedKey.TheVariants.{Instructions, SequentialBegin, SequentialEnd, Speedup}
+use Rattle.manifest.specs.declared.key.NeedKey.TheVariants.{Instructions, SequentialBegin}
+use Rattle.manifest.specs.declared.key.NeedKey.TheVariants.{SequentialEnd, Speedup}
 use Rattle.manifest.specs.declared.key.Key.{Key}
-use Rattle.manifest.specs.declared.key.Key.TheVariants.{Job, CycleTime, Workers, Params, Param, Event, EventItem, EventName, EventCapacity, EventPolicy, Platform, InitNeeds, InitNeed, RunNeeds, RunNeed}
+use Rattle.manifest.specs.declared.key.Key.TheVariants.{Job, CycleTime, Workers, Params, Param}
+use Rattle.manifest.specs.declared.key.Key.TheVariants.{Event, EventItem, EventName, EventCapacity}
+use Rattle.manifest.specs.declared.key.Key.TheVariants.{EventPolicy, Platform, InitNeeds, InitNeed}
+use Rattle.manifest.specs.declared.key.Key.TheVariants.{RunNeeds, RunNeed}
 
 abbrev pub need_word : NeedKey → List ℕ
 need_word Instructions = codes "instructions"
@@ -40,8 +46,8 @@ found tree key = walk (path key) (Some tree)
 abbrev pub has : Data → Key → Bool
 has tree key = is_some (found tree key)
 
--- what may stand at a key: a text that passes a test, a whole number, one from the least to the greatest, an array of at
--- most so many items, a table
+-- what may stand at a key: a text that passes a test, a whole number, one from the least to the
+-- greatest, an array of at most so many items, a table
 pub data Kind : Type 0 where
   text : (List ℕ → Bool) → Kind
   any_whole : Kind
@@ -102,11 +108,13 @@ param_keys i (suc n) = Param i ∷ param_keys (i + 1) n
 
 abbrev pub event_keys : ℕ → ℕ → List Key
 event_keys i zero = []
-event_keys i (suc n) = EventItem i ∷ EventName i ∷ EventCapacity i ∷ EventPolicy i ∷ event_keys (i + 1) n
+event_keys i (suc n) =
+    EventItem i ∷ EventName i ∷ EventCapacity i ∷ EventPolicy i ∷ event_keys (i + 1) n
 
 -- a table of needs and its four keys
 abbrev pub needs_keys : Key → (NeedKey → Key) → List Key
-needs_keys needs need = needs ∷ need Instructions ∷ need SequentialBegin ∷ need SequentialEnd ∷ need Speedup ∷ []
+needs_keys needs need =
+    needs ∷ need Instructions ∷ need SequentialBegin ∷ need SequentialEnd ∷ need Speedup ∷ []
 
 abbrev pub first_keys : List Key
 first_keys = Job ∷ CycleTime ∷ Workers ∷ []

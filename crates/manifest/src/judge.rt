@@ -1,9 +1,11 @@
 //! Judges what stands at single keys: whether it has to be there, its kind, and its range.
-ghost use Rattle.std.specs.Prelude.{◌≡◌, ℕ, ◌<◌, ◌≤◌, ◌^◌, Some, None, Bool, true, false, List, IfOk, IfErr, is_some, option_map, pos};
+ghost use Rattle.std.specs.Prelude.{◌≡◌, ℕ, ◌<◌, ◌≤◌, ◌^◌, Some, None, Bool, true, false, List};
+ghost use Rattle.std.specs.Prelude.{IfOk, IfErr, is_some, option_map, pos};
 ghost use Rattle.det_values.specs.Limits.{is_event_name};
 ghost use Rattle.toml.specs.Data.{string, integer, get, at};
 ghost use Rattle.manifest.specs.Limits.{is_platform_name, is_policy};
-ghost use Rattle.manifest.specs.Tree.{to_member, to_item, step, count_of, whole_of, number_of, text_of};
+ghost use Rattle.manifest.specs.Tree.{to_member, to_item, step, count_of, whole_of, number_of};
+ghost use Rattle.manifest.specs.Tree.{text_of};
 ghost use Rattle.manifest.specs.Keys.{text, any_whole, whole, array_up_to, section};
 ghost use Rattle.manifest.specs.Faults.{fault_by};
 ghost use Rattle.manifest.specs.Judged.{seen, IsJudged};

@@ -71,7 +71,8 @@ pub enum Key {
 }
 
 impl Key {
-    /// The key's text, its words and numbers parted by dots, as `event.3.capacity`. It takes no memory.
+    /// The key's text, its words and numbers parted by dots, as `event.3.capacity`. It takes no
+    /// memory.
     pub fn text(&self) -> KeyText
         ensures { result ≡ key_text self.now }
     {

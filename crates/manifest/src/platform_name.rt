@@ -45,7 +45,8 @@ fn is_name(bytes: &[u8]) -> bool
 impl PlatformName {
     /// These bytes as a name. None where they are no name.
     pub fn of(bytes: &[u8]) -> Option<PlatformName>
-        ensures some { IfSome result (λ name. (is_platform_name bytes.now ≡ true) × (name ≡ bytes.now)) }
+        ensures some { IfSome result (λ name. (is_platform_name bytes.now ≡ true)
+            × (name ≡ bytes.now)) }
         ensures none { IfNone result (is_platform_name bytes.now ≡ false) }
     {
         if !is_name(bytes) {

@@ -1,5 +1,5 @@
 -- What the laws of a job say of the answers of its blocks and passes.
-use Rattle.std.proofs.Common.{◌≡◌, ℕ, suc, ◌+◌, ◌-◌, ◌*◌, ◌<◌, ◌≤◌, min, List, [], ◌∷◌, length, take, drop, Result, Ok, Err}
+use Rattle.std.proofs.Common.{◌≡◌, ℕ, suc, ◌+◌, ◌-◌, ◌*◌, ◌<◌, ◌≤◌, min, List, [], ◌∷◌, length, take, drop, true, Result, Ok, Err}
 use Rattle.std.proofs.Common.{refl, sym, ap, ◌∙◌, subst, arith, length-append, length-take, length-drop}
 use Rattle.std.specs.Arc.{arc_value}
 use Rattle.std.specs.List.{All}
@@ -14,7 +14,8 @@ use Rattle.job_trait.specs.declared.pass.PoolFault.TheVariants.{Refused, OutOfMe
 use Rattle.job_trait.specs.Meaning.{Meaning}
 use Rattle.job_trait.specs.Laws.{JobLaws}
 use Rattle.job_trait.specs.Pass.{Passed, Refusal, more}
-use Rattle.job_trait.specs.Passes.{passed_of, IsPass, RefusedBelow, IsReady, IsAnswer, pass_of, block_in}
+use Rattle.job_trait.specs.Cycle.{shown_with}
+use Rattle.job_trait.specs.Passes.{drawn_so_far, passed_of, IsPass, RefusedBelow, IsReady, IsAnswer, pass_of, block_in}
 use Rattle.pass_in_blocks.specs.Steps.{beside, HasRoom, CanJoin, none_in, added_to, first_in}
 use Rattle.pass_in_blocks.proofs.Running.{block_done, block_refuses}
 
@@ -118,7 +119,7 @@ module _ {S G E L P : Type 0} {m : Meaning S G E L P} {Covers : S → P → ℕ 
       ]) is
 
   -- the first k elements of some from number i on
-  first_hold : (i k : ℕ) (xs : List E) (d : Passed E P) → All (Own job) xs → k ≤ length xs → length xs ≤ 65536
+  pub first_hold : (i k : ℕ) (xs : List E) (d : Passed E P) → All (Own job) xs → k ≤ length xs → length xs ≤ 65536
       → from i (take k xs) none ≡ Ok d → Holds k d
   first_hold i k xs d own inside small is = subst (λ (n : ℕ). Holds n d) (omega (arith, length-take k xs))
       (taken_holds 0 i (take k xs) none d none_holds (All-take (Own job) k xs own) (omega (arith, length-take k xs)) is)
@@ -130,10 +131,10 @@ module _ {S G E L P : Type 0} {m : Meaning S G E L P} {Covers : S → P → ℕ 
   own_block : (b : ℕ) → All (Own job) (of_block b)
   own_block b = All-take (Own job) 64 (drop (64 * b) es) (All-drop (Own job) (64 * b) es ready.own)
 
-  block_size : (b : ℕ) → length (of_block b) ≡ min 64 (length es - 64 * b)
+  pub block_size : (b : ℕ) → length (of_block b) ≡ min 64 (length es - 64 * b)
   block_size b = omega (arith, length-take 64 (drop (64 * b) es), length-drop (64 * b) es)
 
-  block_holds : (b : ℕ) (d : Passed E P) → block_in m t b ≡ Ok d → Holds (length (of_block b)) d
+  pub block_holds : (b : ℕ) (d : Passed E P) → block_in m t b ≡ Ok d → Holds (length (of_block b)) d
   block_holds b d is = let f = ready.few in let size = block_size b in
       subst (λ (k : ℕ). Holds k d) (omega arith) (taken_holds 0 (64 * b) (of_block b) none d none_holds (own_block b) (omega arith) is)
 
@@ -148,27 +149,49 @@ module _ {S G E L P : Type 0} {m : Meaning S G E L P} {Covers : S → P → ℕ 
         (k, omega arith, (first_hold (64 * b) k xs d own (omega arith) (omega arith) is).covers)
 
   -- an answer is right in each of its facts, once it is that of the pass
-  pass_holds : (d : PassDone E P) → pass_of m t ≡ Ok (passed_of d) → Holds (length es) (passed_of d)
+  pub pass_holds : (d : Passed E P) → pass_of m t ≡ Ok d → Holds (length es) d
   pass_holds d is = let f = ready.few in
-      subst (λ (k : ℕ). Holds k (passed_of d)) (omega arith) (taken_holds 0 0 es none (passed_of d) none_holds ready.own (omega arith) is)
+      subst (λ (k : ℕ). Holds k d) (omega arith) (taken_holds 0 0 es none d none_holds ready.own (omega arith) is)
 
   fault_inside : (f : PoolFault) → IsPass {E = E} {P = P} (Err f) (pass_of m t) → RefusedBelow (length es) f
   fault_inside (Refused element code) h =
       let lt = refused_inside 0 es none (record { element = element; code = code }) h in omega arith
   fault_inside OutOfMemory h = tt
 
-  answers : (x : Result (PassDone E P) PoolFault) → IsPass x (pass_of m t) → IsAnswer m Covers Own t x
-  answers (Ok d) is = let h = pass_holds d is in
-      record { is = is; own = h.own; many = h.many; drew = h.drew; few_drawn = h.few_drawn; covers = h.covers; element = tt }
-  answers (Err f) is =
-      record { is = is; own = tt; many = tt; drew = tt; few_drawn = tt; covers = tt; element = fault_inside f is }
+  -- what is shown is right, where the pass shows it
+  abbrev Shows : PassDone E P → Type 0
+  Shows d = t.shows ≡ true → d.shown ≡ shown_with m job d.elements (drawn_so_far (arc_value t.earlier) d.draws)
+
+  done_answer : (d : PassDone E P) → pass_of m t ≡ Ok (passed_of d) → Shows d → IsAnswer m Covers Own t (Ok d)
+  done_answer d is shown = let h = pass_holds (passed_of d) is in record {
+    is = is;
+    own = h.own;
+    many = h.many;
+    drew = h.drew;
+    few_drawn = h.few_drawn;
+    covers = h.covers;
+    element = tt;
+    shown = shown;
+  }
+
+  fault_answer : (f : PoolFault) → IsPass {E = E} {P = P} (Err f) (pass_of m t) → IsAnswer m Covers Own t (Err f)
+  fault_answer f is = record {
+    is = is;
+    own = tt;
+    many = tt;
+    drew = tt;
+    few_drawn = tt;
+    covers = tt;
+    element = fault_inside f is;
+    shown = tt;
+  }
 
   -- the blocks before number b are done
   module _ (b : ℕ) (d : Passed E P) (is : first_in m t (64 * b) ≡ Ok d) where
     -- and there are no more
-    pub all_answer : (x : PassDone E P) → d ≡ passed_of x → length (arc_value t.elements) ≤ 64 * b → IsAnswer m Covers Own t (Ok x)
+    pub all_answer : (x : PassDone E P) → d ≡ passed_of x → length (arc_value t.elements) ≤ 64 * b → Shows x → IsAnswer m Covers Own t (Ok x)
     all_answer x same none_left =
-        answers (Ok x) (ap (λ (xs : List E). from 0 xs none) (sym (take_all (64 * b) es none_left)) ∙ is ∙ ap Ok same)
+        done_answer x (ap (λ (xs : List E). from 0 xs none) (sym (take_all (64 * b) es none_left)) ∙ is ∙ ap Ok same)
 
     module _ (inside : 64 * b < length (arc_value t.elements)) where
       -- and block b as well
@@ -179,7 +202,7 @@ module _ {S G E L P : Type 0} {m : Meaning S G E L P} {Covers : S → P → ℕ 
       -- and block b refuses
       pub refusal_answer : (element code : ℕ) → block_in m t b ≡ Err (record { element = element; code = code })
           → IsAnswer m Covers Own t (Err (Refused element code))
-      refusal_answer element code came = answers (Err (Refused element code))
+      refusal_answer element code came = fault_answer (Refused element code)
           (block_refuses m t laws b (omega arith) d is (record { element = element; code = code }) came)
 
       -- and block b is to join them

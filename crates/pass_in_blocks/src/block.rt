@@ -4,9 +4,11 @@ ghost use Rattle.std.specs.Arc.{arc_value};
 ghost use Rattle.std.specs.List.{All};
 ghost use Rattle.job_trait.specs.Passes.{IsReady, block_in, blocks_in};
 ghost use Rattle.pass_in_blocks.specs.Answers.{answer_of};
+ghost use Rattle.pass_in_blocks.specs.Showing.{AreBlocksOf, shown_in};
 ghost use Rattle.pass_in_blocks.specs.Steps.{HasKeys, HasRoom, passed_by, added_to, IsAdded};
 
 use crate::answers::{BlockAnswer, BlockDone};
+use crate::spelled_blocks::SpelledBlocks;
 use det_values::OutOfMemory;
 use element_random::{ElementRandom, PassKeys};
 use job_trait::{Job, JobFault, PassOf, PoolFault};
@@ -116,4 +118,27 @@ pub fn run_block<J: Job>(
         draws,
         part,
     }))
+}
+
+/// Runs a block, and spells what it leaves, where there is a place for it.
+pub fn run_and_spell<J: Job>(
+    alloc: Global,
+    pass: &PassOf<J>,
+    block: u32,
+    spelled: &mut SpelledBlocks,
+) -> Result<BlockAnswer<J::Element, J::Part>, OutOfMemory>
+    requires ready { IsReady J.meaning J.Covers J.Own J.Fit pass.now }
+    requires inside { block < blocks_in pass.now }
+    requires so_far { AreBlocksOf (shown_in J.meaning pass.now) spelled.old }
+    ensures answer { IfOk result (λ answer. answer_of answer ≡ block_in J.meaning pass.now block) }
+    ensures spelled { IfOk result (λ answer.
+        AreBlocksOf (shown_in J.meaning pass.now) spelled.new) }
+{
+    match run_block(alloc, pass, block)? {
+        BlockAnswer::Done(done) => {
+            spelled.add(alloc, pass, block, &done)?;
+            Ok(BlockAnswer::Done(done))
+        }
+        BlockAnswer::Refused { element, code } => Ok(BlockAnswer::Refused { element, code }),
+    }
 }

@@ -1,11 +1,15 @@
 //! The answer of a pass from its blocks.
 ghost use Rattle.std.specs.Prelude.{◌≡◌, ◌<◌, None, length, replicate, slice_set, IfOk};
+ghost use Rattle.std.specs.List.{All};
 ghost use Rattle.job_trait.specs.Passes.{IsReady, IsAnswer, block_in, blocks_in};
 ghost use Rattle.pass_in_blocks.specs.Answers.{left_by, answer_of, AreRight};
+ghost use Rattle.pass_in_blocks.specs.Showing.{AreBlocksOf, shown_in};
 ghost use Rattle.pass_in_blocks.specs.Steps.{beside, passed_by, CanJoin, ArePlaces};
 
 use crate::answers::{BlockAnswer, BlockDone, BlockResult};
 use crate::block::{push, run_block};
+use crate::showing::{frame_of, room_for, show_block};
+use crate::spelled_blocks::SpelledBlocks;
 use det_values::{Container, OutOfMemory};
 use job_trait::{Job, PassDone, PassOf, PoolFault};
 use std::alloc::Global;
@@ -90,24 +94,29 @@ fn join_block<J: Job>(
     job.merge(part, done.part)
 }
 
-/// The answer of a pass from results of its blocks, whichever they are and in whatever order. A block
-/// that has no result is run here and now. The first block that refuses ends it.
+/// The answer of a pass from results of its blocks, and from what the workers spelled of them,
+/// whichever they are and in whatever order. A block that has no result is run here and now, and one
+/// that wasn't spelled is spelled. The first block that refuses ends it.
 pub fn finish_pass<J: Job>(
     alloc: Global,
     pass: &PassOf<J>,
     results: Vec<BlockResult<J::Element, J::Part>>,
+    spelled: &[SpelledBlocks],
 ) -> Result<PassDone<J::Element, J::Part>, PoolFault>
     requires ready { IsReady J.meaning J.Covers J.Own J.Fit pass.now }
     requires right { AreRight (block_in J.meaning pass.now) (blocks_in pass.now) results.items }
+    requires spelled { All (AreBlocksOf (shown_in J.meaning pass.now)) spelled.now }
     ensures { IsAnswer J.meaning J.Covers J.Own pass.now result }
 {
     let mut places = in_places(alloc, pass, results)?;
     let mut elements = Container::with_room(alloc, pass.elements.len())?;
     let mut draws = Container::with_room(alloc, pass.elements.len())?;
     let mut part = pass.job.unit(alloc);
+    let mut shown = room_for(alloc, pass)?;
     'join: for b in 0..pass.elements.blocks() {
         match answer_at(alloc, pass, &mut places, b as u32)? {
             BlockAnswer::Done(done) => {
+                show_block(alloc, pass, b as u32, &done, spelled, &mut shown)?;
                 part = join_block(&*pass.job, &mut elements, &mut draws, part, done)?;
             }
             BlockAnswer::Refused { element, code } => {
@@ -115,9 +124,11 @@ pub fn finish_pass<J: Job>(
             }
         }
     }
+    let count = elements.len() as u32;
     Ok(PassDone {
         elements,
         draws,
         part,
+        shown: frame_of(alloc, pass.shows, shown, count),
     })
 }

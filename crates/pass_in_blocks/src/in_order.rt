@@ -15,6 +15,6 @@ impl<J: Job> Pool<J> for InOrder {
         alloc: Global,
         pass: &Arc<PassOf<J>, Global>,
     ) -> Result<PassDone<J::Element, J::Part>, PoolFault> {
-        finish_pass(alloc, &**pass, Vec::new(alloc))
+        finish_pass(alloc, &**pass, Vec::new(alloc), &[])
     }
 }

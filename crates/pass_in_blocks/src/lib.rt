@@ -7,10 +7,15 @@
 
 mod answers;
 mod block;
+mod draws;
 mod finish;
 mod in_order;
+mod showing;
+mod spelled_blocks;
 
 pub use answers::{BlockAnswer, BlockDone, BlockResult, BlockResults};
-pub use block::run_block;
+pub use block::{run_and_spell, run_block};
+pub use draws::sums;
 pub use finish::finish_pass;
 pub use in_order::InOrder;
+pub use spelled_blocks::{Span, SpelledBlocks};

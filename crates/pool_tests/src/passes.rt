@@ -59,6 +59,8 @@ pub fn list_pass(
             elements: shared(alloc, elements)?,
             seed: SEED,
             cycle: 1,
+            earlier: shared(alloc, Container::new(alloc))?,
+            shows: true,
         },
     )
 }

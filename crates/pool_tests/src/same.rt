@@ -37,6 +37,7 @@ pub fn is_same(done: &ListDone, wanted: &PassDone<u8, Met>) -> bool {
             done.part == wanted.part
                 && same_items(&done.elements, &wanted.elements)
                 && same_items(&done.draws, &wanted.draws)
+                && done.shown == wanted.shown
         }
         Err(_) => false,
     }

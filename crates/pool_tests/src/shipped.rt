@@ -76,6 +76,8 @@ fn pass_zero<J: Job>(
             elements: shared(alloc, elements)?,
             seed,
             cycle: 1,
+            earlier: shared(alloc, Container::new(alloc))?,
+            shows: false,
         },
     )
 }

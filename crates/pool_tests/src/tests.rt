@@ -102,6 +102,9 @@ fn words_belong_to_the_elements(rt: HostRuntime) -> Result<(), Fail> {
     };
     assert!(rt; has_items(&done.elements, &[2, 33, 103, 70, 4, 193, 246, 0]));
     assert!(rt; has_items(&done.draws, &[0, 1, 1, 1, 0, 1, 1, 0]));
+    let shown = done.shown.spelled();
+    assert!(rt; shown.len() == 56);
+    assert!(rt; shown[..14] == [0, 1, 2, 0, 0, 0, 0, 0, 1, 33, 0, 0, 0, 1]);
     Ok(())
 }
 

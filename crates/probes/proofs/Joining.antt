@@ -157,13 +157,13 @@ partly_stay run runs at ps d p lt sees =
     ∙ ap (λ x. map later (map (told_after runs) (take at ps)) ++ x ∷ map (told_after (run ∷ runs)) (drop (at + 1) ps)) one
     ∙ ap (λ xs. map later (map (told_after runs) (take at ps)) ++ map (told_after (run ∷ runs)) xs) (sym old)
 
-remove-set : (at : ℕ) (ps : List ProbeLife) (p : ProbeLife) → remove (set ps at p) at ≡ take at ps ++ drop (at + 1) ps
+pub remove-set : (at : ℕ) (ps : List ProbeLife) (p : ProbeLife) → remove (set ps at p) at ≡ take at ps ++ drop (at + 1) ps
 remove-set at ps p =
     ap (λ xs. xs ++ drop (suc at) (set ps at p)) (take-set ps at p)
     ∙ ap (λ n. take at ps ++ drop n (set ps at p)) (let e : suc at ≡ at + 1 = omega arith in e)
     ∙ ap (λ xs. take at ps ++ xs) (drop-set-lt (at + 1) ps at p (omega arith))
 
-length-front : (at : ℕ) (ps : List ProbeLife) → at < length ps → length (take at ps) ≡ at
+pub length-front : (at : ℕ) (ps : List ProbeLife) → at < length ps → length (take at ps) ≡ at
 length-front at ps lt = let k = length-take at ps in omega arith
 
 pub partly_leave : (run : RunFrame) (runs : List RunFrame) (at : ℕ) (ps : List ProbeLife) (d p : ProbeLife) → at < length ps

@@ -3,3 +3,4 @@ pub mod Lengths
 pub mod Lives
 pub mod Shown
 pub mod Partly
+pub mod Seeing

@@ -1,12 +1,13 @@
 -- What probes report, and in which order.
-use Rattle.std.specs.Prelude.{◌≡◌, ℕ, ◌+◌, List, [], ◌∷◌, ◌++◌, map, nat_eq, Option, Some, None, if◌then◌else◌}
+use Rattle.std.specs.Prelude.{◌≡◌, ℕ, ◌+◌, List, [], ◌∷◌, ◌++◌, map, nat_eq, Option, Some, None}
+use Rattle.std.specs.Prelude.{if◌then◌else◌}
 use Rattle.std.specs.Option.{option_map}
 use Rattle.det_values.specs.declared.frames.RunFrame.{RunFrame}
 use Rattle.probes.specs.declared.probe.Wish.{Wish}
 use Rattle.probes.specs.declared.probe.Wish.TheVariants.{Stay, Leave}
 
--- what a probe reports once it has seen these runs up to the one at which it leaves, and how many of them come before
--- that one, or none where it stays
+-- what a probe reports once it has seen these runs up to the one at which it leaves, and how many
+-- of them come before that one, or none where it stays
 pub record ProbeLife : Type 0 where
   pub report_after : List RunFrame → List ℕ
   pub runs_before : List RunFrame → Option ℕ
@@ -17,8 +18,12 @@ leaves p runs = option_map (λ n. n + 1) (p.runs_before runs)
 
 -- a probe saw a run: what it does at later ones, it would have done at this one and them
 abbrev pub Sees : Wish → ProbeLife → ProbeLife → RunFrame → Type 0
-Sees Stay old new run = (runs : List RunFrame) → (old.report_after (run ∷ runs) ≡ new.report_after runs) × (leaves old (run ∷ runs) ≡ option_map (λ n. n + 1) (leaves new runs))
-Sees Leave old new run = (runs : List RunFrame) → (old.report_after (run ∷ runs) ≡ new.report_after []) × (leaves old (run ∷ runs) ≡ Some 1)
+Sees Stay old new run =
+    (runs : List RunFrame) → (old.report_after (run ∷ runs) ≡ new.report_after runs)
+    × (leaves old (run ∷ runs) ≡ option_map (λ n. n + 1) (leaves new runs))
+Sees Leave old new run =
+    (runs : List RunFrame) → (old.report_after (run ∷ runs) ≡ new.report_after [])
+    × (leaves old (run ∷ runs) ≡ Some 1)
 
 -- a probe's report, and how many runs come before the one at which it leaves
 pub record Report : Type 0 where
@@ -57,3 +62,12 @@ joined runs rs = in_turn 0 runs rs ++ staying rs
 -- all that probes report of these runs
 unfoldable pub reports : List ProbeLife → List RunFrame → List ℕ
 reports probes runs = joined runs (map (told_after runs) probes)
+
+-- probes, and what those reported that have left
+pub record AudienceState : Type 0 where
+  pub seeing : List ProbeLife
+  pub left : List ℕ
+
+-- all that is reported of these runs: what was, and what the probes will
+abbrev pub reported : AudienceState → List RunFrame → List ℕ
+reported audience runs = audience.left ++ reports audience.seeing runs

@@ -1,5 +1,6 @@
 -- What the shipped probes report, and when they leave.
-use Rattle.std.specs.Prelude.{ℕ, ◌+◌, ◌-◌, ◌^◌, min, max, nat_le, nat_lt, Bool, true, false, List, [], ◌∷◌, length, take, Option, Some, None, if◌then◌else◌}
+use Rattle.std.specs.Prelude.{ℕ, ◌+◌, ◌-◌, ◌^◌, min, max, nat_le, nat_lt, Bool, true, false, List}
+use Rattle.std.specs.Prelude.{[], ◌∷◌, length, take, Option, Some, None, if◌then◌else◌}
 use Rattle.std.specs.List.{count_by}
 use Rattle.std.specs.Option.{option_map}
 use Rattle.det_values.specs.Values.{RefusedAtValue}
@@ -34,7 +35,9 @@ is_finished run = outcome_finished run.outcome
 -- counts finished and refused runs, after so many of them, and stays
 abbrev pub count_life : ℕ → ℕ → ProbeLife
 count_life finished refused = record {
-  report_after = λ runs. count_text (counted (finished + count_by is_finished runs)) (counted (refused + count_by is_refused runs));
+  report_after =
+      λ runs. count_text (counted (finished + count_by is_finished runs))
+      (counted (refused + count_by is_refused runs));
   runs_before = λ runs. None;
 }
 
@@ -52,34 +55,46 @@ greater (Some gap) (Some other) = Some (max gap other)
 -- the greatest gap between neighbours, where this time stands before these runs
 unfoldable pub greatest_gap : Option ℕ → List RunFrame → Option ℕ
 greatest_gap last [] = None
-greatest_gap last (run ∷ runs) = greater (gap_between last run.input.time) (greatest_gap run.input.time runs)
+greatest_gap last (run ∷ runs) =
+    greater (gap_between last run.input.time) (greatest_gap run.input.time runs)
 
--- tells the greatest gap, after runs the last of which had this time and whose greatest gap was this, and stays
+-- tells the greatest gap, after runs the last of which had this time and whose greatest gap was
+-- this, and stays
 abbrev pub gap_life : Option ℕ → Option ℕ → ProbeLife
-gap_life last gap = record { report_after = λ runs. gap_text (greater gap (greatest_gap last runs)); runs_before = λ runs. None }
+gap_life last gap =
+    record {
+      report_after = λ runs. gap_text (greater gap (greatest_gap last runs));
+      runs_before = λ runs. None;
+    }
 
--- how many runs a probe sees before the one at which it leaves, where it leaves at run number `most` and saw so many
+-- how many runs a probe sees before the one at which it leaves, where it leaves at run number
+-- `most` and saw so many
 abbrev pub still : ℕ → ℕ → ℕ
 still most seen = most - (seen + 1)
 
--- leaves at run number `most` and tells how many it saw and how many of them were refused, after so many of both
+-- leaves at run number `most` and tells how many it saw and how many of them were refused, after so
+-- many of both
 abbrev pub limit_life : ℕ → ℕ → ℕ → ProbeLife
 limit_life most seen refused = record {
   report_after = λ runs.
-      limit_text (counted (seen + length (take (still most seen + 1) runs))) (counted (refused + count_by is_refused (take (still most seen + 1) runs)));
-  runs_before = λ runs. if nat_lt (still most seen) (length runs) then Some (still most seen) else None;
+      limit_text (counted (seen + length (take (still most seen + 1) runs)))
+      (counted (refused + count_by is_refused (take (still most seen + 1) runs)));
+  runs_before =
+      λ runs. if nat_lt (still most seen) (length runs) then Some (still most seen) else None;
 }
 
 -- how many runs come before the first refused one
 unfoldable pub first_refused : List RunFrame → Option ℕ
 first_refused [] = None
-first_refused (run ∷ runs) = if is_refused run then Some 0 else option_map (λ n. n + 1) (first_refused runs)
+first_refused (run ∷ runs) =
+    if is_refused run then Some 0 else option_map (λ n. n + 1) (first_refused runs)
 
 -- where the first refused run was refused, else as before, after so many runs
 unfoldable pub refusal_after : ℕ → Option RefusedAtValue → List RunFrame → List ℕ
 refusal_after seen at [] = refusal_text seen at
 refusal_after seen at (run ∷ runs) =
-    if is_refused run then refusal_text (counted (seen + 1)) (refusal_of run.outcome) else refusal_after (counted (seen + 1)) at runs
+    if is_refused run then refusal_text (counted (seen + 1)) (refusal_of run.outcome)
+    else refusal_after (counted (seen + 1)) at runs
 
 -- leaves at the first refused run and tells its number and where it was refused
 abbrev pub refusal_life : ℕ → Option RefusedAtValue → ProbeLife

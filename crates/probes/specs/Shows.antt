@@ -1,9 +1,48 @@
--- What probes were shown.
-use Rattle.std.specs.Prelude.{◌≡◌, ℕ, List, ◌++◌}
+-- What an audience was shown.
+use Rattle.std.specs.Prelude.{◌≡◌, ◌⊎◌, ℕ, List, [], ◌∷◌, ◌++◌, map}
+use Rattle.std.specs.Global.{Global}
+use Rattle.std.specs.declared.dyn_box.DynBox.{DynBox}
 use Rattle.det_values.specs.declared.frames.RunFrame.{RunFrame}
-use Rattle.probes.specs.Reports.{ProbeLife, reports}
+use Rattle.probes.specs.declared.audience.Audience.{Audience}
+use Rattle.probes.specs.declared.probe.Wish.TheVariants.{Stay, Leave}
+use Rattle.probes.specs.Reports.{ProbeLife, AudienceState, Sees, reported}
 
--- These runs were shown: whatever runs come later, what was left before and what the probes before would report of all
--- runs is what is left now and what the probes now would report of the later ones.
-pub record Shows (left_before : List ℕ) (probes_before : List ProbeLife) (left : List ℕ) (probes : List ProbeLife) (shown : List RunFrame) : Type 0 where
-  pub each : (later : List RunFrame) → left_before ++ reports probes_before (shown ++ later) ≡ left ++ reports probes later
+-- These runs were shown: whatever runs come later, what the audience before would report of all
+-- runs is what the audience now reports of the later ones.
+pub record Shows (before now : AudienceState) (shown : List RunFrame) : Type 0 where
+  pub each : (later : List RunFrame) → reported before (shown ++ later) ≡ reported now later
+
+-- an audience, by what a boxed probe's life is
+abbrev pub seen : {X : Type 0} {IsProbe : X → Type 0}
+    → (DynBox X Global IsProbe → ProbeLife) → Audience X IsProbe → AudienceState
+seen life audience = record { seeing = map life audience.staying.items; left = audience.left }
+
+-- these probes saw a run, in order: those that stayed, and what those told that left
+abbrev pub Saw : RunFrame → (probes stayed : List ProbeLife) → (told : List ℕ) → Type 0
+Saw run [] stayed told = (stayed ≡ []) × (told ≡ [])
+Saw run (p ∷ ps) stayed told =
+    ((q : ProbeLife) × (others : List ProbeLife) × Sees Stay p q run × (stayed ≡ q ∷ others)
+    × Saw run ps others told)
+    ⊎ ((q : ProbeLife) × (others : List ℕ) × Sees Leave p q run
+    × (told ≡ q.report_after [] ++ others) × Saw run ps stayed others)
+
+-- A run was shown until a report couldn't be had: the probes in front saw it, the next one left
+-- at it and its report is lost, and those behind didn't see it.
+pub record ShowsPartly (before now : AudienceState) (run : RunFrame) : Type 0 where
+  pub front : List ProbeLife
+  pub lost : ProbeLife
+  pub gone : ProbeLife
+  pub behind : List ProbeLife
+  pub stayed : List ProbeLife
+  pub told : List ℕ
+  pub all : before.seeing ≡ front ++ lost ∷ behind
+  pub saw : Saw run front stayed told
+  pub leaves : Sees Leave lost gone run
+  pub seeing : now.seeing ≡ stayed ++ behind
+  pub reports : now.left ≡ before.left ++ told
+
+-- these runs were shown, the last one maybe to a part of the audience
+abbrev pub ShowsFirst : AudienceState → AudienceState → List RunFrame → Type 0
+ShowsFirst before now runs = Shows before now runs
+    ⊎ ((earlier : List RunFrame) × (run : RunFrame) × (mid : AudienceState)
+    × (runs ≡ earlier ++ run ∷ []) × Shows before mid earlier × ShowsPartly mid now run)

@@ -7,8 +7,8 @@ use crate::texts::gap_line;
 use det_values::{Bytes, OutOfMemory, RunFrame};
 use std::alloc::Global;
 
-/// Tells the greatest time from one run to the next, where both have a time and the second isn't before the first. It
-/// stays.
+/// Tells the greatest time from one run to the next, where both have a time and the second isn't
+/// before the first. It stays.
 #[derive(Debug, Drop)]
 pub struct GapProbe {
     /// The time of the last run.

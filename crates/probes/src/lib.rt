@@ -1,6 +1,8 @@
-//! Probes see each run of a record, and each says one line about them: when it leaves, or at the end.
+//! Probes see each run of a record, and each says one line about them: when it leaves, or at the
+//! end.
 #![tactic(auto)]
 
+mod audience;
 mod count;
 mod first_refusal;
 mod gap;
@@ -9,12 +11,12 @@ mod probe;
 mod showing;
 mod texts;
 
+pub use audience::Audience;
 pub use count::CountProbe;
 pub use first_refusal::FirstRefusalProbe;
 pub use gap::GapProbe;
 pub use limit::LimitProbe;
 pub use probe::{Probe, Wish};
-pub use showing::{finish_all, show_all};
 
 #[cfg(test)]
 mod tests;

@@ -12,7 +12,8 @@ pub enum Wish {
     Leave,
 }
 
-/// What looks at the runs of a record, one after another. It sees none after the one at which it leaves.
+/// What looks at the runs of a record, one after another. It sees none after the one at which it
+/// leaves.
 pub trait Probe: Drop {
     /// What it will report, and at which run it will leave, by the runs that it will see.
     ghost life: { Self → ProbeLife };

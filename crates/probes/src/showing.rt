@@ -1,9 +1,10 @@
 //! Showing runs to probes.
-ghost use Rattle.std.specs.Prelude.{◌≡◌, ◌≤◌, ◌+◌, ◌*◌, List, [], ◌∷◌, ◌++◌, map, length, OnOk, IfOk, None};
+ghost use Rattle.std.specs.Prelude.{◌≡◌, ◌≤◌, ◌+◌, ◌*◌, List, [], ◌∷◌, ◌++◌, map, length, OnOk};
+ghost use Rattle.std.specs.Prelude.{OnErr, IfOk, None};
 ghost use Rattle.std.specs.Vec.{vec_len};
 ghost use Rattle.det_values.specs.declared.frames.RunFrame.{RunFrame};
 ghost use Rattle.probes.specs.Reports.{reports, Sees, leaves};
-ghost use Rattle.probes.specs.Shows.{Shows};
+ghost use Rattle.probes.specs.Shows.{Shows, ShowsPartly};
 
 use crate::probe::{Probe, Wish};
 use det_values::{Bytes, OutOfMemory, RunFrame};
@@ -23,18 +24,26 @@ fn report_one(alloc: Global, probe: &Box<dyn Probe>) -> Result<Bytes, OutOfMemor
     probe.report(alloc)
 }
 
-/// Shows a run to each probe, in the order of the list. One that leaves has its report appended to `left` and is taken
-/// out; the others keep their order. After an error some probes have seen the run.
-pub fn show_all(
+/// Shows a run to each probe, in the order of the list. One that leaves has its report appended to
+/// `left` and is taken out; the others keep their order. After an error some probes have seen the
+/// run.
+pub(crate) fn show_all(
     alloc: Global,
     probes: &mut Vec<Box<dyn Probe>>,
     left: &mut Bytes,
     run: &RunFrame,
 ) -> Result<(), OutOfMemory>
     requires { length left.old + 256 * vec_len probes.old ≤ 1048576 }
-    ensures shown { OnOk result (Shows left.old (map (λ b. life b) probes.old.items) left.new (map (λ b. life b) probes.new.items) (run.now ∷ [])) }
-    ensures fewer { vec_len probes.new ≤ vec_len probes.old }
-    ensures room { OnOk result (length left.new + 256 * vec_len probes.new ≤ length left.old + 256 * vec_len probes.old) }
+    ensures shown { OnOk result (Shows
+        (record { seeing = map (λ b. life b) probes.old.items; left = left.old })
+        (record { seeing = map (λ b. life b) probes.new.items; left = left.new })
+        (run.now ∷ [])) }
+    ensures partly { OnErr result (ShowsPartly
+        (record { seeing = map (λ b. life b) probes.old.items; left = left.old })
+        (record { seeing = map (λ b. life b) probes.new.items; left = left.new })
+        run.now) }
+    ensures room { length left.new + 256 * vec_len probes.new
+        ≤ length left.old + 256 * vec_len probes.old }
 {
     let mut at = 0;
     while at < probes.len() {
@@ -50,21 +59,38 @@ pub fn show_all(
     Ok(())
 }
 
-/// Appends the reports of the probes that stayed to `left`, in order, and drops them. After an error some reports may
-/// have been appended.
-pub fn finish_all(
+/// Appends the reports of all probes, in order. After an error some may have been appended.
+fn report_all(
     alloc: Global,
-    probes: &mut Vec<Box<dyn Probe>>,
+    probes: &Vec<Box<dyn Probe>>,
     left: &mut Bytes,
 ) -> Result<(), OutOfMemory>
-    requires { length left.old + 256 * vec_len probes.old ≤ 1048576 }
-    ensures left { OnOk result (left.new ≡ left.old ++ reports (map (λ b. life b) probes.old.items) []) }
-    ensures none { OnOk result (probes.new.items ≡ []) }
+    requires { length left.old + 256 * vec_len probes.now ≤ 1048576 }
+    ensures left { OnOk result
+        (left.new ≡ left.old ++ reports (map (λ b. life b) probes.now.items) []) }
+    ensures room { length left.new ≤ length left.old + 256 * vec_len probes.now }
 {
     'probes: for probe in probes.iter() {
         let report = report_one(alloc, probe)?;
         left.extend_from_slice(report.as_slice())?;
     }
-    probes.clear();
     Ok(())
+}
+
+/// Appends the reports of the probes that stayed to `left`, in order, and drops them. After an
+/// error some reports may have been appended.
+pub(crate) fn finish_all(
+    alloc: Global,
+    probes: &mut Vec<Box<dyn Probe>>,
+    left: &mut Bytes,
+) -> Result<(), OutOfMemory>
+    requires { length left.old + 256 * vec_len probes.old ≤ 1048576 }
+    ensures left { OnOk result
+        (left.new ≡ left.old ++ reports (map (λ b. life b) probes.old.items) []) }
+    ensures none { probes.new.items ≡ [] }
+    ensures room { length left.new ≤ 1048576 }
+{
+    let told = report_all(alloc, probes, left);
+    probes.clear();
+    told
 }

@@ -1,6 +1,3 @@
-ghost use Rattle.std.specs.Prelude.{◌≤◌, ◌*◌};
-ghost use Rattle.std.specs.Vec.{vec_len};
-
 use super::*;
 use det_values::{Bytes, CycleInput, DrawnElements, Outcome, Phase, RefusedAt, RunFrame, Samples};
 use std::alloc::Global;
@@ -34,28 +31,19 @@ fn refused(alloc: Global, time: Option<u64>) -> RunFrame {
     }
 }
 
-/// Shows a finished run at 0, a refused one at 10 and a finished one at 20, and finishes. None for want of memory.
-fn report_of(alloc: Global, probes: &mut Vec<Box<dyn Probe>>) -> Option<Bytes>
-    requires { 256 * vec_len probes.old ≤ 1048576 }
-{
+/// Shows a finished run at 0, a refused one at 10 and a finished one at 20, and finishes. None for
+/// want of memory.
+fn report_of(alloc: Global, audience: &mut Audience) -> Option<&[u8]> {
     let runs = [
         finished(alloc, Some(0)),
         refused(alloc, Some(10)),
         finished(alloc, Some(20)),
     ];
-    let mut left = Bytes::new(alloc);
-    show_all(alloc, probes, &mut left, &runs[0]).ok()?;
-    show_all(alloc, probes, &mut left, &runs[1]).ok()?;
-    show_all(alloc, probes, &mut left, &runs[2]).ok()?;
-    finish_all(alloc, probes, &mut left).ok()?;
-    Some(left)
-}
-
-fn reads(report: &Option<Bytes>, text: &[u8]) -> bool {
-    match report {
-        Some(report) => report.as_slice() == text,
-        None => false,
-    }
+    audience.show(alloc, &runs[0]).ok()?;
+    audience.show(alloc, &runs[1]).ok()?;
+    audience.show(alloc, &runs[2]).ok()?;
+    audience.finish(alloc).ok()?;
+    Some(audience.reports())
 }
 
 #[test]
@@ -66,14 +54,10 @@ fn probes_in_order(rt: HostRuntime) -> Result<(), Fail> {
     probes.push(Box::new(alloc, FirstRefusalProbe::new())?)?;
     probes.push(Box::new(alloc, CountProbe::new())?)?;
     probes.push(Box::new(alloc, GapProbe::new())?)?;
-    let report = report_of(alloc, &mut probes);
-    assert!(rt;
-        reads(
-            &report,
-            b"refusal 2 pool 0 3 1\nrefusal 2 pool 0 3 1\ncount 2 1\ngap 10\n"
-        )
-    );
-    assert!(rt; probes.is_empty());
+    let mut audience = Audience::of(alloc, probes);
+    let want = b"refusal 2 pool 0 3 1\nrefusal 2 pool 0 3 1\ncount 2 1\ngap 10\n";
+    assert_eq!(rt; report_of(alloc, &mut audience), Some(want.as_slice()));
+    assert_eq!(rt; audience.staying(), 0);
     Ok(())
 }
 
@@ -84,9 +68,10 @@ fn limits_leave(rt: HostRuntime) -> Result<(), Fail> {
     probes.push(Box::new(alloc, LimitProbe::new(3))?)?;
     probes.push(Box::new(alloc, LimitProbe::new(2))?)?;
     probes.push(Box::new(alloc, LimitProbe::new(1))?)?;
-    let report = report_of(alloc, &mut probes);
-    assert!(rt; reads(&report, b"limit 1 0\nlimit 2 1\nlimit 3 1\n"));
-    assert!(rt; probes.is_empty());
+    let mut audience = Audience::of(alloc, probes);
+    let want = b"limit 1 0\nlimit 2 1\nlimit 3 1\n";
+    assert_eq!(rt; report_of(alloc, &mut audience), Some(want.as_slice()));
+    assert_eq!(rt; audience.staying(), 0);
     Ok(())
 }
 
@@ -98,9 +83,10 @@ fn probes_of_no_run(rt: HostRuntime) -> Result<(), Fail> {
     probes.push(Box::new(alloc, GapProbe::new())?)?;
     probes.push(Box::new(alloc, FirstRefusalProbe::new())?)?;
     probes.push(Box::new(alloc, LimitProbe::new(1))?)?;
-    let mut left = Bytes::new(alloc);
-    assert!(rt; finish_all(alloc, &mut probes, &mut left).is_ok());
-    assert!(rt; left.as_slice() == b"count 0 0\ngap none\nrefusal none\nlimit 0 0\n".as_slice());
+    let mut audience = Audience::of(alloc, probes);
+    audience.finish(alloc)?;
+    let want = b"count 0 0\ngap none\nrefusal none\nlimit 0 0\n";
+    assert_eq!(rt; audience.reports(), want.as_slice());
     Ok(())
 }
 
@@ -111,6 +97,6 @@ fn gaps_between_neighbours(rt: HostRuntime) -> Result<(), Fail> {
     for time in [Some(5), None, Some(100), Some(90), Some(93)] {
         probe.see(&finished(alloc, time));
     }
-    assert!(rt; reads(&probe.report(alloc).ok(), b"gap 3\n"));
+    assert!(rt; probe.report(alloc)?.as_slice() == b"gap 3\n".as_slice());
     Ok(())
 }

@@ -2,13 +2,12 @@
 use det_edges::MemSink;
 use sha2::{Digest, Sha256};
 
-/// The exit status of a run, what it wrote, and how many probes were left in the list afterwards.
+/// The exit status of a run, and what it wrote.
 #[derive(Drop)]
 pub struct Ran {
     pub status: u8,
     pub out: MemSink,
     pub err: MemSink,
-    pub left: usize,
 }
 
 fn has_digest(bytes: &[u8], digest: &str) -> bool {

@@ -1,12 +1,11 @@
 //! A run of the program in memory.
-ghost use Rattle.std.specs.Prelude.{◌≤◌};
-ghost use Rattle.std.specs.Vec.{vec_len};
+ghost use Rattle.std.specs.Prelude.{◌<◌, ◌^◌};
 
 use crate::{Edges, Ran};
 use det_cli::top;
 use det_edges::{FailList, MemFile, MemFiles, MemShelf, MemSink};
 use det_values::OutOfMemory;
-use probes::{CountProbe, FirstRefusalProbe, GapProbe, Probe};
+use probes::{Audience, CountProbe, FirstRefusalProbe, GapProbe, Probe};
 use std::alloc::{AllocError, Global};
 use std::sync::Arc;
 use std::thread::Threads;
@@ -63,17 +62,17 @@ fn shelf_of(alloc: Global, files: &[(&str, &[u8])], edges: Edges) -> Result<MemS
     Ok(MemShelf::limited(alloc, MemFiles::from_vec(named), fails, 16, most)?)
 }
 
-/// Runs the words of a line over these files, with these probes and this gate.
+/// Runs the words of a line over these files, with this audience and this gate.
 pub fn run_with<R: Threads + Sync, G: Gate + Send + Sync + 'static>(
     rt: &R,
     alloc: Global,
     line: &str,
     files: &[(&str, &[u8])],
     edges: Edges,
-    probes: &mut Vec<Box<dyn Probe>>,
+    audience: &mut Audience,
     gate: &Arc<G, Global>,
 ) -> Result<Ran, NoMemory>
-    requires { vec_len probes.old ≤ 1024 }
+    requires { edges.room < 2 ^ 64 }
 {
     let words = words_of(alloc, line)?;
     let mut shelf = shelf_of(alloc, files, edges)?;
@@ -83,13 +82,12 @@ pub fn run_with<R: Threads + Sync, G: Gate + Send + Sync + 'static>(
     let fails = fail_list(alloc, edges.failing_line)?;
     let mut err = MemSink::new(alloc, 200, most, fails)?;
     let status = top(
-        rt, alloc, &words, &mut shelf, &mut out, &mut err, probes, gate,
+        rt, alloc, &words, &mut shelf, &mut out, &mut err, audience, gate,
     );
     Ok(Ran {
         status: status.number(),
         out,
         err,
-        left: probes.len(),
     })
 }
 
@@ -109,7 +107,8 @@ pub fn run<R: Threads + Sync>(
     let probe = Box::new(alloc, FirstRefusalProbe::new()).map_err(|_| NoMemory)?;
     probes.push(probe).map_err(|_| NoMemory)?;
     let gate = Arc::new(alloc, NoGate).map_err(|_| NoMemory)?;
-    run_with(rt, alloc, line, files, edges, &mut probes, &gate)
+    let mut audience = Audience::of(alloc, probes);
+    run_with(rt, alloc, line, files, edges, &mut audience, &gate)
 }
 
 /// Runs the words of a line over a manifest `m` and a stimulus `s`, where nothing fails and there is room for a record.

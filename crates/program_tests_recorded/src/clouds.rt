@@ -1,5 +1,5 @@
 //! Records of clouds, and the summary of a simulated one.
-use probes::Probe;
+use probes::Audience;
 use program_runs::{Edges, Ran, run, run_with};
 use std::alloc::Global;
 use std::sync::Arc;
@@ -53,10 +53,10 @@ fn sim_through<R: Threads + Sync, G: Gate + Send + Sync + 'static>(
     alloc: Global,
     gate: &Arc<G, Global>,
 ) -> Result<Ran, Fail> {
-    let mut probes: Vec<Box<dyn Probe>> = Vec::new(alloc);
+    let mut audience = Audience::of(alloc, Vec::new(alloc));
     let line = "sim 7 --workers 2";
     let edges = Edges::calm(300);
-    Ok(run_with(rt, alloc, line, &[], edges, &mut probes, gate)?)
+    Ok(run_with(rt, alloc, line, &[], edges, &mut audience, gate)?)
 }
 
 #[test]

@@ -1,5 +1,5 @@
 //! Records of guards, and cycles that they refuse.
-use probes::Probe;
+use probes::Audience;
 use program_runs::{
     Edges, Ran, guard_manifest, guard_stimulus, record, run_with, user_manifest, user_stimulus,
 };
@@ -121,7 +121,7 @@ fn record_through<R: Threads + Sync, G: Gate + Send + Sync + 'static>(
     gate: &Arc<G, Global>,
 ) -> Result<Ran, Fail> {
     let files = [("m", manifest.as_bytes()), ("s", text)];
-    let mut probes: Vec<Box<dyn Probe>> = Vec::new(alloc);
+    let mut audience = Audience::of(alloc, Vec::new(alloc));
     let line = "record m s --workers 2";
     Ok(run_with(
         rt,
@@ -129,7 +129,7 @@ fn record_through<R: Threads + Sync, G: Gate + Send + Sync + 'static>(
         line,
         &files,
         Edges::calm(7000),
-        &mut probes,
+        &mut audience,
         gate,
     )?)
 }

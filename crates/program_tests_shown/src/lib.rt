@@ -1,4 +1,5 @@
-//! Tests of whole runs that answer texts: of the words, of manifests, and of records that are shown.
+//! Tests of whole runs that answer texts: of the words, of manifests, and of records that are
+//! shown.
 #![tactic(auto)]
 
 mod broken;
@@ -13,6 +14,8 @@ mod draws;
 mod faults;
 #[cfg(test)]
 mod manifests;
+#[cfg(test)]
+mod pages;
 #[cfg(test)]
 mod reports;
 #[cfg(test)]

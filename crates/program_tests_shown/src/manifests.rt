@@ -22,7 +22,6 @@ fn the_needs_of_a_user(rt: HostRuntime) -> Result<(), Fail> {
     let manifest = user_manifest(rt.alloc())?;
     let ran = run_over(&rt, rt.alloc(), "needs m", manifest.as_str())?;
     assert!(rt; ran.ended(0, "") && ran.wrote(0, user_needs().as_bytes()));
-    assert!(rt; ran.left == 3);
     Ok(())
 }
 
@@ -102,6 +101,71 @@ fn a_bad_manifest_is_told_by_its_first_fault(rt: HostRuntime) -> Result<(), Fail
         let line = format!(in rt.alloc(); "bad manifest: {fault}\n")?;
         let ran = run_over(&rt, rt.alloc(), "record m s", manifest.as_str())?;
         assert!(rt; ran.ended(3, line.as_str()) && ran.wrote(3, b""), "{fault}");
+    }
+    Ok(())
+}
+
+#[test]
+fn a_key_that_is_not_known_is_refused_strictly(rt: HostRuntime) -> Result<(), Fail> {
+    let again = "[[event]]\nname = \"x\"\ncapacity = 1\n";
+    let twice = format!(in rt.alloc(); "polcy = 1\n{again}")?;
+    for (workers, params, more, fault) in [
+        (
+            "workers = 2",
+            "[4, 2]",
+            "polcy = \"last\"\n",
+            "unknown key event.0.polcy",
+        ),
+        (
+            "workers = 2\nparms = 1",
+            "[4, 2]",
+            "polcy = 1\n",
+            "unknown key parms",
+        ),
+        ("workers = 2\n\"a b\" = 1", "[0, 2]", "", "unknown key a?b"),
+        (
+            "workers = 2",
+            "[4, 2]",
+            twice.as_str(),
+            "unknown key event.0.polcy",
+        ),
+        (
+            "workers = 65\nparms = 1",
+            "[4, 2]",
+            "",
+            "out of range workers",
+        ),
+        ("workers = 2", "[4, 2]", again, "duplicate event 1"),
+        ("workers = 2", "[4, 17]", "", "bad parameter 1"),
+    ] {
+        let job = "job = \"bank\"";
+        let manifest = manifest_of(rt.alloc(), job, workers, params, more)?;
+        let line = format!(in rt.alloc(); "bad manifest: {fault}\n")?;
+        for words in ["record m s --strict", "needs --strict m"] {
+            let ran = run_over(&rt, rt.alloc(), words, manifest.as_str())?;
+            assert!(rt;
+                ran.ended(3, line.as_str()) && ran.wrote(3, b""),
+                "{words}: {fault}"
+            );
+        }
+    }
+    Ok(())
+}
+
+#[test]
+fn a_manifest_with_known_keys_is_taken_strictly(rt: HostRuntime) -> Result<(), Fail> {
+    let polcy = "polcy = \"last\"\n";
+    let other = manifest_of(rt.alloc(), "job = \"bank\"", "workers = 2", "[4, 2]", polcy)?;
+    for words in ["needs m", "record m s"] {
+        let ran = run_over(&rt, rt.alloc(), words, other.as_str())?;
+        assert!(rt; ran.ended(0, ""), "{words}");
+        let strict = format!(in rt.alloc(); "{words} --strict")?;
+        let good = run_over(&rt, rt.alloc(), strict.as_str(), bank_manifest())?;
+        let same = run_over(&rt, rt.alloc(), words, bank_manifest())?;
+        assert!(rt;
+            good.ended(0, "") && good.out.bytes() == same.out.bytes(),
+            "{words}"
+        );
     }
     Ok(())
 }

@@ -1,12 +1,16 @@
 //! Words of the command line.
 use program_runs::{Edges, Ran, empty_run_1, run};
 use std::alloc::Global;
-use std::str;
 use std::test::*;
 use std::thread::Threads;
 
-/// A run of these words over a shelf that fails at its first call, so that a command that opens a file ends otherwise.
-fn run_words<R: Threads + Sync>(rt: &R, alloc: Global, words: &str) -> Result<Ran, Fail> {
+/// A run of these words over a shelf that fails at its first call, so that a command that opens a
+/// file ends otherwise.
+pub(crate) fn run_words<R: Threads + Sync>(
+    rt: &R,
+    alloc: Global,
+    words: &str,
+) -> Result<Ran, Fail> {
     let files = [
         ("m", empty_run_1()),
         ("s", b"stim 1\nterminate\n".as_slice()),
@@ -15,7 +19,8 @@ fn run_words<R: Threads + Sync>(rt: &R, alloc: Global, words: &str) -> Result<Ra
     Ok(run(rt, alloc, words, &files, edges)?)
 }
 
-/// Lines of words that are no command. The first has no words, and a line that ends with a space has an empty word.
+/// Lines of words that are no command. The first has no words, and a line that ends with a space has
+/// an empty word.
 fn bad_words() -> &'static str {
     "
 record m
@@ -37,7 +42,12 @@ compare m m m m m m m m m
 show -x
 show
 show m m
-show m --reports
+show m --reports --reports
+show m --cycle
+show m --cycle 0
+show m --cycle 1000001
+show m --reports --cycle 1
+show m --strict
 needs\x20
 \x20needs m
 needs m --seed 1
@@ -47,9 +57,17 @@ sim 18446744073709551616
 sim 1 --seed 2
 vote m m
 salvage m --reports --reports
+needs m --strict --strict
+record m s --strict 1
 --help m
 --help --version
--h
+--help replay
+replay --help
+-h show
+help -h
+help help
+version --help
+show m --help
 Show m
 det show m"
 }
@@ -69,7 +87,9 @@ fn good_words_open_their_file(rt: HostRuntime) -> Result<(), Fail> {
         "demo s",
         "show m",
         "needs m",
+        "needs --strict m",
         "record m s",
+        "record m --strict s",
         "record m --workers 64 s",
         "record --seed 18446744073709551615 m --workers 1 s",
     ] {
@@ -97,42 +117,10 @@ fn seven_commands_are_not_built_yet(rt: HostRuntime) -> Result<(), Fail> {
 }
 
 #[test]
-fn the_usage_fits_a_screen_and_opens_nothing(rt: HostRuntime) -> Result<(), Fail> {
-    let ran = run_words(&rt, rt.alloc(), "--help")?;
-    assert!(rt; ran.ended(0, ""));
-    let usage = str::from_utf8(ran.out.bytes())?;
-    let mut lines = 0u32;
-    for line in usage.lines() {
-        lines = lines.saturating_add(1);
-        assert!(rt; line.len() <= 80, "{line}");
-    }
-    assert!(rt; 10 <= lines && lines <= 60 && usage.ends_with('\n'));
-    Ok(())
-}
-
-#[test]
-fn the_usage_names_what_is_built(rt: HostRuntime) -> Result<(), Fail> {
-    let ran = run_words(&rt, rt.alloc(), "--help")?;
-    let usage = str::from_utf8(ran.out.bytes())?;
-    for part in [
-        "det demo STIM",
-        "det record MANIFEST STIM",
-        "--seed N",
-        "--workers W",
-        "det show RECORD",
-        "det needs MANIFEST",
-        "det --help",
-        "det --version",
-        "9  no majority",
-    ] {
-        assert!(rt; usage.contains(part), "{part}");
-    }
-    Ok(())
-}
-
-#[test]
 fn the_version_is_one_line(rt: HostRuntime) -> Result<(), Fail> {
-    let ran = run_words(&rt, rt.alloc(), "--version")?;
-    assert!(rt; ran.ended(0, "") && ran.wrote(0, b"det 0.1.0\n"));
+    for words in ["--version", "-V", "version"] {
+        let ran = run_words(&rt, rt.alloc(), words)?;
+        assert!(rt; ran.ended(0, "") && ran.wrote(0, b"det 0.1.0\n"), "{words}");
+    }
     Ok(())
 }

@@ -15,7 +15,8 @@ module _ {X : Type 0} (f : X → List ℕ) (P : X → Type 0) (xs : List X) wher
   pub HasPut-begin : (old : List ℕ) → HasPut f P xs 0 old old
   HasPut-begin old = record { written = sym (append-nil old); fields = All-nil P }
 
-  pub HasPut-at : (i : ℕ) (old mid new : List ℕ) (d : X) → i < length xs → HasPut f P xs i old mid → new ≡ mid ++ f (get_or xs i d) → P (get_or xs i d) → HasPut f P xs (i + 1) old new
+  pub HasPut-at : (i : ℕ) (old mid new : List ℕ) (d : X) → i < length xs → HasPut f P xs i old mid → new ≡ mid ++ f (get_or xs i d)
+      → P (get_or xs i d) → HasPut f P xs (i + 1) old new
   HasPut-at i old mid new d lt h e p =
       let x : X = get_or xs i d in
       let t : take (i + 1) xs ≡ take i xs ++ x ∷ [] = take_more xs i d lt in
@@ -28,7 +29,8 @@ module _ {X : Type 0} (f : X → List ℕ) (P : X → Type 0) (xs : List X) wher
         fields = subst (All P) (sym t) (All-push P (take i xs) x h.fields p);
       }
 
-  pub HasPut-next : (i : ℕ) (old mid new : List ℕ) (x : X) → i < length xs → x ≡ get_or xs i x → HasPut f P xs i old mid → new ≡ mid ++ f x → P x → HasPut f P xs (i + 1) old new
+  pub HasPut-next : (i : ℕ) (old mid new : List ℕ) (x : X) → i < length xs → x ≡ get_or xs i x → HasPut f P xs i old mid → new ≡ mid ++ f x
+      → P x → HasPut f P xs (i + 1) old new
   HasPut-next i old mid new x lt is h e p = HasPut-at i old mid new x lt h (e ∙ ap (λ (y : X). mid ++ f y) is) (subst P is p)
 
   pub HasPut-done : (i : ℕ) (old new : List ℕ) → length xs ≤ i → HasPut f P xs i old new → (new ≡ old ++ flat_map f xs) × All P xs
@@ -41,4 +43,5 @@ module _ {X : Type 0} (f : X → List ℕ) (P : X → Type 0) (xs : List X) wher
       record { added = flat_map f (take i xs) ++ g.added; is = g.is ∙ ap (λ (ys : List ℕ). ys ++ g.added) h.written ∙ append_assoc old (flat_map f (take i xs)) g.added }
 
 pub grows_then : (a b c : List ℕ) → Grows a b → Grows b c → Grows a c
-grows_then a b c p q = record { added = p.added ++ q.added; is = q.is ∙ ap (λ (x : List ℕ). x ++ q.added) p.is ∙ append_assoc a p.added q.added }
+grows_then a b c p q =
+    record { added = p.added ++ q.added; is = q.is ∙ ap (λ (x : List ℕ). x ++ q.added) p.is ∙ append_assoc a p.added q.added }

@@ -13,13 +13,17 @@ use Rattle.record_grammar.specs.declared.item.Item.{Item}
 use Rattle.record_grammar.specs.declared.item.Item.TheVariants as items
 use Rattle.record_grammar.specs.Read.{Read, Got, More, Bad, ◌>>=◌}
 use Rattle.record_grammar.specs.Numbers.{number}
-use Rattle.record_grammar.specs.Grammar.{profile_at, input_at, refused_at, tag_reason, init_from, finished_from, init_at, finished_at, run_at, tagged_at, frame_at, item_at}
-use Rattle.record_grammar.proofs.Steady.{IsSteady, steady_same, steady_give, steady_refuse, steady_then, steady_if, steady_wider, by_first, steady_first}
-use Rattle.record_grammar.proofs.SteadyFields.{number_steady, profile_steady, input_steady, refused_steady, init_from_steady, finished_from_steady, framed_steady}
+use Rattle.record_grammar.specs.Grammar.{profile_at, input_at, refused_at, tag_reason, init_from, finished_from, init_at, finished_at}
+use Rattle.record_grammar.specs.Grammar.{run_at, tagged_at, frame_at, item_at}
+use Rattle.record_grammar.proofs.Steady.{IsSteady, steady_same, steady_give, steady_refuse, steady_then, steady_if, steady_wider, by_first}
+use Rattle.record_grammar.proofs.Steady.{steady_first}
+use Rattle.record_grammar.proofs.SteadyFields.{number_steady, profile_steady, input_steady, refused_steady, init_from_steady}
+use Rattle.record_grammar.proofs.SteadyFields.{finished_from_steady, framed_steady}
 use Rattle.record_grammar.specs.Laws.{tag_reason_at}
 use Rattle.record_codec.specs.Resuming.{BegunValue, ready, init_of, run_of, begun_run, begun_tagged, begun_at, framed, go_on}
 
-pub bind_bind : {A B C : Type 0} (r : Read A) (f : A × List ℕ → Read B) (g : B × List ℕ → Read C) → ((r >>= f) >>= g) ≡ (r >>= λ x. f x >>= g)
+pub bind_bind : {A B C : Type 0} (r : Read A) (f : A × List ℕ → Read B) (g : B × List ℕ → Read C) → ((r >>= f) >>= g)
+    ≡ (r >>= λ x. f x >>= g)
 bind_bind (Got x) f g = refl
 bind_bind More f g = refl
 bind_bind (Bad reason left) f g = refl
@@ -41,7 +45,8 @@ abbrev ready_frame : Frame × List ℕ → Read BegunValue
 ready_frame f = Got (ready (items.Frame f.0), f.1)
 
 abbrev outcome_of : Layout → CycleInput → ℕ × List ℕ → Read BegunValue
-outcome_of layout input flag = cond (eqb flag.0 0) (number 4 0 65536 flag.1 >>= count_run layout.format input) (refused_at input flag.1 >>= ready_frame)
+outcome_of layout input flag =
+    cond (eqb flag.0 0) (number 4 0 65536 flag.1 >>= count_run layout.format input) (refused_at input flag.1 >>= ready_frame)
 
 begun_run_steady : (layout : Layout) → IsSteady 0 (begun_run layout)
 unfolding begun_run
@@ -56,8 +61,10 @@ begun_run_steady layout =
 abbrev behind_tag : Place → ℕ → List ℕ → Read BegunValue
 behind_tag place b bytes = begun_tagged place b bytes (suc (length bytes))
 
-one_frame : (f : Frame) (b tag : ℕ) (why : Reason) → IsSteady 1 (λ bytes. cond (eqb b tag) (ready_frame (f, bytes)) (Bad why (suc (length bytes))))
-one_frame f b tag why = steady_if 1 (eqb b tag) (λ bytes. ready_frame (f, bytes)) (λ bytes. Bad why (suc (length bytes))) (steady_give 1 (ready (items.Frame f))) (steady_refuse why)
+one_frame : (f : Frame) (b tag : ℕ) (why : Reason)
+    → IsSteady 1 (λ bytes. cond (eqb b tag) (ready_frame (f, bytes)) (Bad why (suc (length bytes))))
+one_frame f b tag why =
+    steady_if 1 (eqb b tag) (λ bytes. ready_frame (f, bytes)) (λ bytes. Bad why (suc (length bytes))) (steady_give 1 (ready (items.Frame f))) (steady_refuse why)
 
 tagged_steady : (place : Place) (b : ℕ) → IsSteady 1 (behind_tag place b)
 unfolding begun_tagged
@@ -75,14 +82,17 @@ tagged_steady (places.Runs layout before) b =
 tagged_steady places.End b = steady_refuse Trailing
 
 begun_first : (place : Place) → ((bytes : List ℕ) → begun_at place bytes ≡ by_first (behind_tag place) bytes) → IsSteady 0 (begun_at place)
-begun_first place same = steady_same 0 (begun_at place) (by_first (behind_tag place)) same (steady_first (behind_tag place) (tagged_steady place))
+begun_first place same =
+    steady_same 0 (begun_at place) (by_first (behind_tag place)) same (steady_first (behind_tag place) (tagged_steady place))
 
-register_first : (layout : Layout) (bytes : List ℕ) → begun_at (places.Register layout) bytes ≡ by_first (behind_tag (places.Register layout)) bytes
+register_first : (layout : Layout) (bytes : List ℕ) → begun_at (places.Register layout) bytes
+    ≡ by_first (behind_tag (places.Register layout)) bytes
 unfolding begun_at
 register_first layout [] = refl
 register_first layout (b ∷ bytes) = refl
 
-discover_first : (layout : Layout) (bytes : List ℕ) → begun_at (places.Discover layout) bytes ≡ by_first (behind_tag (places.Discover layout)) bytes
+discover_first : (layout : Layout) (bytes : List ℕ) → begun_at (places.Discover layout) bytes
+    ≡ by_first (behind_tag (places.Discover layout)) bytes
 unfolding begun_at
 discover_first layout [] = refl
 discover_first layout (b ∷ bytes) = refl
@@ -92,7 +102,8 @@ unfolding begun_at
 init_first layout [] = refl
 init_first layout (b ∷ bytes) = refl
 
-runs_first : (layout : Layout) (before : ℕ) (bytes : List ℕ) → begun_at (places.Runs layout before) bytes ≡ by_first (behind_tag (places.Runs layout before)) bytes
+runs_first : (layout : Layout) (before : ℕ) (bytes : List ℕ) → begun_at (places.Runs layout before) bytes
+    ≡ by_first (behind_tag (places.Runs layout before)) bytes
 unfolding begun_at
 runs_first layout before [] = refl
 runs_first layout before (b ∷ bytes) = refl
@@ -104,7 +115,8 @@ end_first (b ∷ bytes) = refl
 
 pub begun_steady : (place : Place) → IsSteady 0 (begun_at place)
 unfolding begun_at
-begun_steady places.Header = steady_then 0 profile_at (λ p bytes. Got (ready (items.Header p), bytes)) profile_steady (λ p. steady_give 0 (ready (items.Header p)))
+begun_steady places.Header =
+    steady_then 0 profile_at (λ p bytes. Got (ready (items.Header p), bytes)) profile_steady (λ p. steady_give 0 (ready (items.Header p)))
 begun_steady (places.Register layout) = begun_first (places.Register layout) (register_first layout)
 begun_steady (places.Discover layout) = begun_first (places.Discover layout) (discover_first layout)
 begun_steady (places.Init layout) = begun_first (places.Init layout) (init_first layout)
@@ -121,12 +133,15 @@ unfolding init_at
 init_goes_on bytes =
     bind_bind (number 4 0 65536 bytes) (λ n. init_from [] n.0 n.1) as_frame ∙ sym (bind_bind (number 4 0 65536 bytes) count_init go_on)
 
-finished_goes_on : (format : Format) (input : CycleInput) (bytes : List ℕ) → framed (finished_at format input bytes) ≡ ((number 4 0 65536 bytes >>= count_run format input) >>= go_on)
+finished_goes_on : (format : Format) (input : CycleInput) (bytes : List ℕ) → framed (finished_at format input bytes)
+    ≡ ((number 4 0 65536 bytes >>= count_run format input) >>= go_on)
 unfolding finished_at
 finished_goes_on format input bytes =
-    bind_bind (number 4 0 65536 bytes) (λ n. finished_from format input [] n.0 n.1) as_frame ∙ sym (bind_bind (number 4 0 65536 bytes) (count_run format input) go_on)
+    bind_bind (number 4 0 65536 bytes) (λ n. finished_from format input [] n.0 n.1) as_frame
+    ∙ sym (bind_bind (number 4 0 65536 bytes) (count_run format input) go_on)
 
-outcome_goes_on : (layout : Layout) (input : CycleInput) (b : Bool) (bytes : List ℕ) → framed (cond b (finished_at layout.format input bytes) (refused_at input bytes))
+outcome_goes_on : (layout : Layout) (input : CycleInput) (b : Bool) (bytes : List ℕ)
+    → framed (cond b (finished_at layout.format input bytes) (refused_at input bytes))
     ≡ (cond b (number 4 0 65536 bytes >>= count_run layout.format input) (refused_at input bytes >>= ready_frame) >>= go_on)
 outcome_goes_on layout input true bytes = finished_goes_on layout.format input bytes
 outcome_goes_on layout input false bytes = sym (bind_bind (refused_at input bytes) ready_frame go_on)
@@ -134,7 +149,8 @@ outcome_goes_on layout input false bytes = sym (bind_bind (refused_at input byte
 run_goes_on : (layout : Layout) (bytes : List ℕ) → framed (run_at layout bytes) ≡ (begun_run layout bytes >>= go_on)
 unfolding run_at begun_run
 run_goes_on layout bytes =
-    let f : CycleInput × List ℕ → Read Frame = λ input. number 1 0 1 input.1 >>= λ flag. cond (eqb flag.0 0) (finished_at layout.format input.0 flag.1) (refused_at input.0 flag.1) in
+    let f : CycleInput × List ℕ
+    → Read Frame = λ input. number 1 0 1 input.1 >>= λ flag. cond (eqb flag.0 0) (finished_at layout.format input.0 flag.1) (refused_at input.0 flag.1) in
     let g : CycleInput × List ℕ → Read BegunValue = λ input. number 1 0 1 input.1 >>= outcome_of layout input.0 in
     bind_bind (input_at layout.events bytes) f as_frame
     ∙ bind_same (input_at layout.events bytes) (λ input. f input >>= as_frame) (λ input. g input >>= go_on) (λ input.
@@ -144,12 +160,14 @@ run_goes_on layout bytes =
     ∙ sym (bind_bind (input_at layout.events bytes) g go_on)
 
 -- one of two, by a test
-either : (b : Bool) (p q : Read Frame) (r s : Read BegunValue) → framed p ≡ (r >>= go_on) → framed q ≡ (s >>= go_on) → framed (cond b p q) ≡ (cond b r s >>= go_on)
+either : (b : Bool) (p q : Read Frame) (r s : Read BegunValue) → framed p ≡ (r >>= go_on) → framed q ≡ (s >>= go_on) → framed (cond b p q)
+    ≡ (cond b r s >>= go_on)
 either true p q r s h k = h
 either false p q r s h k = k
 
 -- one frame alone may stand in a place
-only_goes_on : (f : Frame) (b tag : ℕ) (why : Reason) (bytes : List ℕ) (left : ℕ) → framed (cond (eqb b tag) (Got (f, bytes)) (Bad why left)) ≡ (cond (eqb b tag) (ready_frame (f, bytes)) (Bad why left) >>= go_on)
+only_goes_on : (f : Frame) (b tag : ℕ) (why : Reason) (bytes : List ℕ) (left : ℕ)
+    → framed (cond (eqb b tag) (Got (f, bytes)) (Bad why left)) ≡ (cond (eqb b tag) (ready_frame (f, bytes)) (Bad why left) >>= go_on)
 only_goes_on f b tag why bytes left = either (eqb b tag) (Got (f, bytes)) (Bad why left) (ready_frame (f, bytes)) (Bad why left) refl refl
 
 pub begun_goes_on : (place : Place) (bytes : List ℕ) → item_at place bytes ≡ (begun_at place bytes >>= go_on)
@@ -160,7 +178,8 @@ begun_goes_on (places.Register layout) (b ∷ bytes) = only_goes_on frames.Regis
 begun_goes_on (places.Discover layout) [] = refl
 begun_goes_on (places.Discover layout) (b ∷ bytes) = only_goes_on frames.Discover b 2 (tag_reason b) bytes (suc (length bytes))
 begun_goes_on (places.Init layout) [] = refl
-begun_goes_on (places.Init layout) (b ∷ bytes) = either (eqb b 3) (init_at bytes) (Bad (tag_reason b) (suc (length bytes))) (number 4 0 65536 bytes >>= count_init) (Bad (tag_reason b) (suc (length bytes))) (init_goes_on bytes) refl
+begun_goes_on (places.Init layout) (b ∷ bytes) =
+    either (eqb b 3) (init_at bytes) (Bad (tag_reason b) (suc (length bytes))) (number 4 0 65536 bytes >>= count_init) (Bad (tag_reason b) (suc (length bytes))) (init_goes_on bytes) refl
 begun_goes_on (places.Runs layout before) [] = refl
 begun_goes_on (places.Runs layout before) (b ∷ bytes) =
     either (eqb b 4) (cond (ltb before 1000000) (run_at layout bytes) (Bad TooMany (suc (length bytes)))) (cond (eqb b 5) (Got (frames.Terminate, bytes)) (Bad (tag_reason b) (suc (length bytes))))
@@ -173,4 +192,5 @@ begun_goes_on places.End (b ∷ bytes) = refl
 pub go_on_steady : (b : BegunValue) → IsSteady 0 (λ bytes. go_on (b, bytes))
 go_on_steady (ready item) = steady_give 0 item
 go_on_steady (init_of done left) = framed_steady (init_from done left) (init_from_steady done left)
-go_on_steady (run_of format input done left) = framed_steady (finished_from format input done left) (finished_from_steady format input done left)
+go_on_steady (run_of format input done left) =
+    framed_steady (finished_from format input done left) (finished_from_steady format input done left)

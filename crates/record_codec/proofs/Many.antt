@@ -1,5 +1,6 @@
 -- Values in a row, of which some were read already.
-use Rattle.std.proofs.Common.{◌≡◌, ℕ, zero, suc, ◌+◌, ◌-◌, ◌<◌, ◌≤◌, List, [], ◌∷◌, ◌++◌, length, drop, refl, sym, ap, ◌∙◌, append_assoc, arith, length-drop, length-append}
+use Rattle.std.proofs.Common.{◌≡◌, ℕ, zero, suc, ◌+◌, ◌-◌, ◌<◌, ◌≤◌, List, [], ◌∷◌, ◌++◌, length, drop, refl, sym, ap, ◌∙◌, append_assoc}
+use Rattle.std.proofs.Common.{arith, length-drop, length-append}
 use Rattle.std.proofs.lemmas.List.{append-nil, drop-drop}
 use Rattle.record_grammar.specs.Read.{Read, Got, More, Bad, ◌>>=◌, many, with_front}
 use Rattle.record_grammar.proofs.Steady.{IsSteady}
@@ -8,12 +9,14 @@ use Rattle.record_codec.specs.declared.stop.Stop.TheVariants as stops
 use Rattle.record_codec.specs.Gives.{Stops}
 
 module _ {A : Type 0} where
-  moved : (front : List A) (first : A) (r : Read (List A)) → with_front front (r >>= λ others. Got (first ∷ others.0, others.1)) ≡ with_front (front ++ first ∷ []) r
+  moved : (front : List A) (first : A) (r : Read (List A)) → with_front front (r >>= λ others. Got (first ∷ others.0, others.1))
+      ≡ with_front (front ++ first ∷ []) r
   moved front first (Got x) = ap (λ (xs : List A). Got (xs, x.1)) (sym (append_assoc front (first ∷ []) x.0))
   moved front first More = refl
   moved front first (Bad reason left) = refl
 
-  many_one : (item : List ℕ → Read A) (n : ℕ) (bytes : List ℕ) → many item (suc n) bytes ≡ (item bytes >>= λ first. many item n first.1 >>= λ others. Got (first.0 ∷ others.0, others.1))
+  many_one : (item : List ℕ → Read A) (n : ℕ) (bytes : List ℕ) → many item (suc n) bytes
+      ≡ (item bytes >>= λ first. many item n first.1 >>= λ others. Got (first.0 ∷ others.0, others.1))
   unfolding many
   many_one item n bytes = refl
 
@@ -22,14 +25,16 @@ module _ {A : Type 0} where
   many_none item bytes = refl
 
   -- one more was read
-  pub many_next : (item : List ℕ → Read A) (front : List A) (n : ℕ) (bytes : List ℕ) (first : A) (rest : List ℕ) → item bytes ≡ Got (first, rest)
+  pub many_next : (item : List ℕ → Read A) (front : List A) (n : ℕ) (bytes : List ℕ) (first : A) (rest : List ℕ) → item bytes
+      ≡ Got (first, rest)
       → with_front front (many item (suc n) bytes) ≡ with_front (front ++ first ∷ []) (many item n rest)
   many_next item front n bytes first rest h =
       let one : many item (suc n) bytes ≡ (many item n rest >>= λ others. Got (first ∷ others.0, others.1)) = rw (many_one, h) refl in
       ap (with_front front) one ∙ moved front first (many item n rest)
 
   -- the first of these stops
-  pub many_stops : (item : List ℕ → Read A) (front : List A) (n : ℕ) (bytes : List ℕ) (stop : Stop) → 0 < n → Stops stop (item bytes) → Stops stop (with_front front (many item n bytes))
+  pub many_stops : (item : List ℕ → Read A) (front : List A) (n : ℕ) (bytes : List ℕ) (stop : Stop) → 0 < n → Stops stop (item bytes)
+      → Stops stop (with_front front (many item n bytes))
   many_stops item front zero bytes stop h s = absurd (omega arith)
   many_stops item front (suc n) bytes stops.Memory h s = tt
   many_stops item front (suc n) bytes stops.More h s =
@@ -37,8 +42,10 @@ module _ {A : Type 0} where
   many_stops item front (suc n) bytes (stops.Bad reason left) h s =
       let e : many item (suc n) bytes ≡ Bad reason left = rw (many_one, s) refl in ap (with_front front) e
 
-  pub many_done : (item : List ℕ → Read A) (front : List A) (n : ℕ) (bytes : List ℕ) → n ≤ 0 → with_front front (many item n bytes) ≡ Got (front, bytes)
-  many_done item front zero bytes h = ap (with_front front) (many_none item bytes) ∙ ap (λ (xs : List A). Got (xs, bytes)) (append-nil front)
+  pub many_done : (item : List ℕ → Read A) (front : List A) (n : ℕ) (bytes : List ℕ) → n ≤ 0 → with_front front (many item n bytes)
+      ≡ Got (front, bytes)
+  many_done item front zero bytes h =
+      ap (with_front front) (many_none item bytes) ∙ ap (λ (xs : List A). Got (xs, bytes)) (append-nil front)
   many_done item front (suc n) bytes h = absurd (omega arith)
 
   nothing_before : (r : Read (List A)) → with_front [] r ≡ r
@@ -56,12 +63,15 @@ module _ {A : Type 0} where
       let k : count - 0 ≡ count = omega arith in
       record { so_far = nothing_before (many item (count - 0) bytes) ∙ ap (λ (n : ℕ). many item n bytes) k; counted = refl }
 
-  pub HasMany-next : (item : List ℕ → Read A) (count counter : ℕ) (front : List A) (rest bytes : List ℕ) (first : A) (then : List ℕ) → counter < count → item rest ≡ Got (first, then)
+  pub HasMany-next : (item : List ℕ → Read A) (count counter : ℕ) (front : List A) (rest bytes : List ℕ) (first : A) (then : List ℕ)
+      → counter < count → item rest ≡ Got (first, then)
       → HasMany item count counter front rest bytes → HasMany item count (counter + 1) (front ++ first ∷ []) then bytes
   HasMany-next item count counter front rest bytes first then lt got h =
       let k : count - counter ≡ suc (count - (counter + 1)) = omega arith in
       record {
-        so_far = sym (many_next item front (count - (counter + 1)) rest first then got) ∙ ap (λ (n : ℕ). with_front front (many item n rest)) (sym k) ∙ h.so_far;
+        so_far =
+            sym (many_next item front (count - (counter + 1)) rest first then got)
+            ∙ ap (λ (n : ℕ). with_front front (many item n rest)) (sym k) ∙ h.so_far;
         counted = omega (arith, length-append front (first ∷ []), h.counted);
       }
 
@@ -70,7 +80,8 @@ module _ {A : Type 0} where
   same_stop stops.More r s e h = sym e ∙ h
   same_stop (stops.Bad reason left) r s e h = sym e ∙ h
 
-  pub HasMany-stops : (item : List ℕ → Read A) (count counter : ℕ) (front : List A) (rest bytes : List ℕ) (stop : Stop) → counter < count → Stops stop (item rest)
+  pub HasMany-stops : (item : List ℕ → Read A) (count counter : ℕ) (front : List A) (rest bytes : List ℕ) (stop : Stop) → counter < count
+      → Stops stop (item rest)
       → HasMany item count counter front rest bytes → Stops stop (many item count bytes)
   HasMany-stops item count counter front rest bytes stop lt s h =
       same_stop stop (with_front front (many item (count - counter) rest)) (many item count bytes) h.so_far (many_stops item front (count - counter) rest stop (omega arith) s)
@@ -82,12 +93,15 @@ module _ {A : Type 0} where
   -- what a loop keeps that may stop in mid-count, and be taken up again with more bytes
   pub record Continues (item : List ℕ → Read A) (front : List A) (left read : ℕ) (start : List A) (count : ℕ) (bytes : List ℕ) : Type 0 where
     pub in_range : read ≤ length bytes
-    pub same : (tail : List ℕ) → with_front front (many item left (drop read bytes ++ tail)) ≡ with_front start (many item count (bytes ++ tail))
+    pub same : (tail : List ℕ) → with_front front (many item left (drop read bytes ++ tail))
+        ≡ with_front start (many item count (bytes ++ tail))
 
-  pub Continues-begin : (item : List ℕ → Read A) (start : List A) (count : ℕ) (bytes : List ℕ) → Continues item start count 0 start count bytes
+  pub Continues-begin : (item : List ℕ → Read A) (start : List A) (count : ℕ) (bytes : List ℕ)
+      → Continues item start count 0 start count bytes
   Continues-begin item start count bytes = record { in_range = omega arith; same = λ tail. refl }
 
-  pub Continues-next : (item : List ℕ → Read A) → IsSteady 0 item → (front : List A) (left read : ℕ) (start : List A) (count : ℕ) (bytes : List ℕ) (first : A) (rest : List ℕ)
+  pub Continues-next : (item : List ℕ → Read A) → IsSteady 0 item
+      → (front : List A) (left read : ℕ) (start : List A) (count : ℕ) (bytes : List ℕ) (first : A) (rest : List ℕ)
       → 0 < left → item (drop read bytes) ≡ Got (first, rest) → Continues item front left read start count bytes
       → Continues item (front ++ first ∷ []) (left - 1) (length bytes - length rest) start count bytes
   Continues-next item steady front left read start count bytes first rest positive got h =
@@ -108,7 +122,8 @@ module _ {A : Type 0} where
             ∙ h.same tail;
       }
 
-  pub Continues-room : (item : List ℕ → Read A) → IsSteady 0 item → (front : List A) (left read : ℕ) (start : List A) (count : ℕ) (bytes : List ℕ) (first : A) (rest : List ℕ)
+  pub Continues-room : (item : List ℕ → Read A) → IsSteady 0 item
+      → (front : List A) (left read : ℕ) (start : List A) (count : ℕ) (bytes : List ℕ) (first : A) (rest : List ℕ)
       → item (drop read bytes) ≡ Got (first, rest) → Continues item front left read start count bytes → length rest ≤ length bytes
   Continues-room item steady front left read start count bytes first rest got h =
       let r = steady.rest (drop read bytes) (first, rest) got in

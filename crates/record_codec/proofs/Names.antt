@@ -1,5 +1,6 @@
 -- Names and policies, one after another.
-use Rattle.std.proofs.Common.{◌≡◌, ℕ, suc, ◌+◌, ◌-◌, ◌<◌, ◌≤◌, Bool, true, false, ◌&&◌, cond, List, [], ◌∷◌, ◌++◌, length, take, drop, get_or, refl, sym, ap, ◌∙◌, arith, length-drop, length-take, drop-cons, add-one}
+use Rattle.std.proofs.Common.{◌≡◌, ℕ, suc, ◌+◌, ◌-◌, ◌<◌, ◌≤◌, Bool, true, false, ◌&&◌, cond, List, [], ◌∷◌, ◌++◌, length, take, drop}
+use Rattle.std.proofs.Common.{get_or, refl, sym, ap, ◌∙◌, arith, length-drop, length-take, drop-cons, add-one}
 use Rattle.std.proofs.lemmas.List.{take_more}
 use Rattle.std.proofs.lemmas.List.Folds.{list_all_more}
 use Rattle.std.proofs.lemmas.List.Elements.{All-push, All-nil}
@@ -21,16 +22,20 @@ pub knows_none : (format : Format) → KnowsPolicies format []
 knows_none One = All-nil (λ (e : EventSpecValue). e.policy ≡ Last)
 knows_none Two = tt
 
-pub knows_push : (format : Format) (es : List EventSpecValue) (e : EventSpecValue) → KnowsPolicies format es → KnowsPolicy format e.policy → KnowsPolicies format (es ++ e ∷ [])
+pub knows_push : (format : Format) (es : List EventSpecValue) (e : EventSpecValue) → KnowsPolicies format es → KnowsPolicy format e.policy
+    → KnowsPolicies format (es ++ e ∷ [])
 knows_push One es e h k = All-push (λ (e : EventSpecValue). e.policy ≡ Last) es e h k
 knows_push Two es e h k = tt
 
-chosen : (t : Bool) (b c : ℕ) (bytes then : List ℕ) (left : ℕ) → cond t (Got (b, bytes)) (Bad Range left) ≡ Got (c, then) → (t ≡ true) × (b ≡ c) × (bytes ≡ then)
-chosen true b c bytes then left e = let p = got_is (b, bytes) (c, then) e in (refl, ap (λ (x : ℕ × List ℕ). x.0) p, ap (λ (x : ℕ × List ℕ). x.1) p)
+chosen : (t : Bool) (b c : ℕ) (bytes then : List ℕ) (left : ℕ) → cond t (Got (b, bytes)) (Bad Range left) ≡ Got (c, then) → (t ≡ true)
+    × (b ≡ c) × (bytes ≡ then)
+chosen true b c bytes then left e =
+    let p = got_is (b, bytes) (c, then) e in (refl, ap (λ (x : ℕ × List ℕ). x.0) p, ap (λ (x : ℕ × List ℕ). x.1) p)
 chosen false b c bytes then left e = absurd cc
 
 -- a byte of a name that was read
-one_byte : (bytes then : List ℕ) (c : ℕ) → name_byte_at bytes ≡ Got (c, then) → (0 < length bytes) × (get_or bytes 0 0 ≡ c) × (may_stand_in_name c ≡ true) × (drop 1 bytes ≡ then)
+one_byte : (bytes then : List ℕ) (c : ℕ) → name_byte_at bytes ≡ Got (c, then) → (0 < length bytes) × (get_or bytes 0 0 ≡ c)
+    × (may_stand_in_name c ≡ true) × (drop 1 bytes ≡ then)
 unfolding name_byte_at
 one_byte [] then c e = absurd cc
 one_byte (b ∷ bytes) then c e =
@@ -47,7 +52,8 @@ pub record HasName (len counter : ℕ) (rest bytes : List ℕ) : Type 0 where
 pub HasName-begin : (len : ℕ) (bytes : List ℕ) → HasName len 0 bytes bytes
 HasName-begin len bytes = record { within = omega arith; rest_is = refl; so_far = HasMany-begin name_byte_at len bytes; good = refl }
 
-pub HasName-next : (len counter : ℕ) (rest bytes : List ℕ) (b : ℕ) (then : List ℕ) → counter < len → name_byte_at rest ≡ Got (b, then) → HasName len counter rest bytes → HasName len (counter + 1) then bytes
+pub HasName-next : (len counter : ℕ) (rest bytes : List ℕ) (b : ℕ) (then : List ℕ) → counter < len → name_byte_at rest ≡ Got (b, then)
+    → HasName len counter rest bytes → HasName len (counter + 1) then bytes
 HasName-next len counter rest bytes b then lt e h =
     let o = one_byte rest then b e in
     let l : length rest ≡ length bytes - counter = ap length h.rest_is ∙ length-drop counter bytes in
@@ -55,15 +61,19 @@ HasName-next len counter rest bytes b then lt e h =
     let d : drop counter bytes ≡ get_or bytes counter 0 ∷ drop (counter + 1) bytes = rw add-one (drop-cons bytes counter 0 inside) in
     let r : rest ≡ get_or bytes counter 0 ∷ drop (counter + 1) bytes = h.rest_is ∙ d in
     let first : get_or bytes counter 0 ≡ b = sym (ap (λ (xs : List ℕ). get_or xs 0 0) r) ∙ o.1 in
-    let t : take (counter + 1) bytes ≡ take counter bytes ++ b ∷ [] = take_more bytes counter 0 inside ∙ ap (λ (x : ℕ). take counter bytes ++ x ∷ []) first in
+    let t : take (counter + 1) bytes ≡ take counter bytes ++ b ∷ [] = take_more bytes counter 0 inside
+    ∙ ap (λ (x : ℕ). take counter bytes ++ x ∷ []) first in
     record {
       within = omega arith;
       rest_is = sym (o.3) ∙ ap (drop 1) r;
       so_far = rw t (HasMany-next name_byte_at len counter (take counter bytes) rest bytes b then lt e h.so_far);
-      good = list_all_more may_stand_in_name bytes counter 0 inside ∙ ap (λ (x : ℕ). list_all may_stand_in_name (take counter bytes) && may_stand_in_name x) first ∙ cc (h.good, o.2);
+      good =
+          list_all_more may_stand_in_name bytes counter 0 inside
+          ∙ ap (λ (x : ℕ). list_all may_stand_in_name (take counter bytes) && may_stand_in_name x) first ∙ cc (h.good, o.2);
     }
 
-is_name : (len : ℕ) (bytes : List ℕ) → 1 ≤ len → len ≤ 32 → len ≤ length bytes → list_all may_stand_in_name (take len bytes) ≡ true → is_event_name (take len bytes) ≡ true
+is_name : (len : ℕ) (bytes : List ℕ) → 1 ≤ len → len ≤ 32 → len ≤ length bytes → list_all may_stand_in_name (take len bytes) ≡ true
+    → is_event_name (take len bytes) ≡ true
 is_name len bytes low high inside good =
     let l : length (take len bytes) ≡ len = omega (arith, length-take len bytes) in
     grind (arith, nat_tests)
@@ -71,7 +81,8 @@ is_name len bytes low high inside good =
 abbrev got_many : List ℕ → List ℕ → Read (List ℕ)
 got_many xs rest = Got (xs, rest)
 
-pub HasName-done : (len counter : ℕ) (rest bytes : List ℕ) → 1 ≤ len → len ≤ 32 → len ≤ counter → counter ≤ len → HasName len counter rest bytes
+pub HasName-done : (len counter : ℕ) (rest bytes : List ℕ) → 1 ≤ len → len ≤ 32 → len ≤ counter → counter ≤ len
+    → HasName len counter rest bytes
     → (len ≤ length bytes) × (many name_byte_at len bytes ≡ Got (take len bytes, drop len bytes)) × (is_event_name (take len bytes) ≡ true)
 HasName-done len counter rest bytes low high le ge h =
     let e : counter ≡ len = omega arith in

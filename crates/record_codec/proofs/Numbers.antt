@@ -1,5 +1,6 @@
 -- The numbers that begin with given bytes.
-use Rattle.std.proofs.Common.{◌≡◌, ℕ, zero, suc, ◌+◌, ◌*◌, ◌-◌, ◌^◌, ◌<◌, ◌≤◌, List, [], ◌∷◌, length, get_or, drop, Bool, true, false, cond, if◌then◌else◌, refl, sym, ap, subst, ◌∙◌, arith, lit<, add-one, drop-cons, length-drop}
+use Rattle.std.proofs.Common.{◌≡◌, ℕ, zero, suc, ◌+◌, ◌*◌, ◌-◌, ◌^◌, ◌<◌, ◌≤◌, List, [], ◌∷◌, length, get_or, drop, Bool, true, false, cond}
+use Rattle.std.proofs.Common.{if◌then◌else◌, refl, sym, ap, subst, ◌∙◌, arith, lit<, add-one, drop-cons, length-drop}
 use Rattle.std.proofs.lemmas.List.{nil_from_length}
 use Rattle.record_grammar.specs.declared.limits.Limits.{Limits}
 use Rattle.record_grammar.specs.declared.fault.Reason.TheVariants.{Range}
@@ -46,7 +47,8 @@ pub record HasFilled (left counter low high value : ℕ) : Type 0 where
   pub high_is : highest (left - counter) high ≡ highest left value
   pub order : low ≤ high
 
-pub HasFilled-next : (left counter low high value : ℕ) → counter < left → HasFilled left counter low high value → HasFilled left (counter + 1) (low * 256) (high * 256 + 255) value
+pub HasFilled-next : (left counter low high value : ℕ) → counter < left → HasFilled left counter low high value
+    → HasFilled left (counter + 1) (low * 256) (high * 256 + 255) value
 unfolding lowest highest
 HasFilled-next left counter low high value lt h =
     let k : left - counter ≡ suc (left - (counter + 1)) = omega arith in
@@ -56,7 +58,8 @@ HasFilled-next left counter low high value lt h =
       order = let o : low ≤ high = h.order in omega arith;
     }
 
-pub HasFilled-room : (left counter low high value : ℕ) → counter < left → highest left value < 2 ^ 64 → HasFilled left counter low high value → high * 256 + 255 < 2 ^ 64
+pub HasFilled-room : (left counter low high value : ℕ) → counter < left → highest left value < 2 ^ 64
+    → HasFilled left counter low high value → high * 256 + 255 < 2 ^ 64
 unfolding highest
 HasFilled-room left counter low high value lt fits h =
     let k : left - counter ≡ suc (left - (counter + 1)) = omega arith in
@@ -64,7 +67,8 @@ HasFilled-room left counter low high value lt fits h =
     let g : high * 256 + 255 ≤ highest (left - (counter + 1)) (high * 256 + 255) = highest-grows (left - (counter + 1)) (high * 256 + 255) in
     omega arith
 
-pub HasFilled-done : (left counter low high value : ℕ) → left ≤ counter → HasFilled left counter low high value → (low ≡ lowest left value) × (high ≡ highest left value)
+pub HasFilled-done : (left counter low high value : ℕ) → left ≤ counter → HasFilled left counter low high value → (low ≡ lowest left value)
+    × (high ≡ highest left value)
 unfolding lowest highest
 HasFilled-done left counter low high value le h =
     let k : left - counter ≡ zero = omega arith in
@@ -82,21 +86,27 @@ HasRead-begin limits width bytes le =
     let k : width - 0 ≡ width = omega arith in
     record { in_range = omega arith; so_far = ap (λ (n : ℕ). number_from limits n 0 bytes) k; fits = rw k (highest-fits width le) }
 
-one_byte : (limits : Limits) (left value b : ℕ) (after : List ℕ) → number_from limits (suc left) value (b ∷ after) ≡ (if can_be limits left (value * 256 + b) then number_from limits left (value * 256 + b) after else Bad Range (length (b ∷ after)))
+one_byte : (limits : Limits) (left value b : ℕ) (after : List ℕ) → number_from limits (suc left) value (b ∷ after)
+    ≡ (if can_be limits left (value * 256 + b) then number_from limits left (value * 256 + b) after else Bad Range (length (b ∷ after)))
 unfolding number_from
 one_byte limits left value b after = refl
 
-HasRead-one : (limits : Limits) (width read value : ℕ) (bytes : List ℕ) → read < width → read < length bytes → HasRead limits width read value bytes
-    → number_from limits width 0 bytes ≡ (if can_be limits (width - 1 - read) (value * 256 + get_or bytes read 0) then number_from limits (width - 1 - read) (value * 256 + get_or bytes read 0) (drop (read + 1) bytes) else Bad Range (length bytes - read))
+HasRead-one : (limits : Limits) (width read value : ℕ) (bytes : List ℕ) → read < width → read < length bytes
+    → HasRead limits width read value bytes
+    → number_from limits width 0 bytes
+    ≡ (if can_be limits (width - 1 - read) (value * 256 + get_or bytes read 0) then number_from limits (width - 1 - read) (value * 256 + get_or bytes read 0) (drop (read + 1) bytes) else Bad Range (length bytes - read))
 HasRead-one limits width read value bytes lt within h =
     let k : width - read ≡ suc (width - 1 - read) = omega arith in
     let d : drop read bytes ≡ get_or bytes read 0 ∷ drop (read + 1) bytes = rw add-one (drop-cons bytes read 0 within) in
     let l : suc (length (drop (read + 1) bytes)) ≡ length bytes - read = omega (arith, length-drop (read + 1) bytes) in
     let one = one_byte limits (width - 1 - read) value (get_or bytes read 0) (drop (read + 1) bytes) in
-    let two : number_from limits (suc (width - 1 - read)) value (get_or bytes read 0 ∷ drop (read + 1) bytes) ≡ (if can_be limits (width - 1 - read) (value * 256 + get_or bytes read 0) then number_from limits (width - 1 - read) (value * 256 + get_or bytes read 0) (drop (read + 1) bytes) else Bad Range (length bytes - read)) = rw (← l) one in
-    sym h.so_far ∙ ap (λ (n : ℕ). number_from limits n value (drop read bytes)) k ∙ ap (λ (xs : List ℕ). number_from limits (suc (width - 1 - read)) value xs) d ∙ two
+    let two : number_from limits (suc (width - 1 - read)) value (get_or bytes read 0 ∷ drop (read + 1) bytes)
+    ≡ (if can_be limits (width - 1 - read) (value * 256 + get_or bytes read 0) then number_from limits (width - 1 - read) (value * 256 + get_or bytes read 0) (drop (read + 1) bytes) else Bad Range (length bytes - read)) = rw (← l) one in
+    sym h.so_far ∙ ap (λ (n : ℕ). number_from limits n value (drop read bytes)) k
+    ∙ ap (λ (xs : List ℕ). number_from limits (suc (width - 1 - read)) value xs) d ∙ two
 
-pub HasRead-room : (limits : Limits) (width read value b : ℕ) (bytes : List ℕ) → read < width → b < 256 → HasRead limits width read value bytes
+pub HasRead-room : (limits : Limits) (width read value b : ℕ) (bytes : List ℕ) → read < width → b < 256
+    → HasRead limits width read value bytes
     → (value * 256 + b < 2 ^ 64) × (highest (width - 1 - read) (value * 256 + b) < 2 ^ 64)
 HasRead-room limits width read value b bytes lt small h =
     let k : width - read ≡ suc (width - 1 - read) = omega arith in
@@ -105,7 +115,8 @@ HasRead-room limits width read value b bytes lt small h =
     let g : value * 256 + b ≤ highest (width - 1 - read) (value * 256 + b) = highest-grows (width - 1 - read) (value * 256 + b) in
     (omega arith, omega arith)
 
-pub HasRead-next : (limits : Limits) (width read value : ℕ) (bytes : List ℕ) → read < width → read < length bytes → get_or bytes read 0 < 256 → can_be limits (width - 1 - read) (value * 256 + get_or bytes read 0) ≡ true
+pub HasRead-next : (limits : Limits) (width read value : ℕ) (bytes : List ℕ) → read < width → read < length bytes
+    → get_or bytes read 0 < 256 → can_be limits (width - 1 - read) (value * 256 + get_or bytes read 0) ≡ true
     → HasRead limits width read value bytes → HasRead limits width (read + 1) (value * 256 + get_or bytes read 0) bytes
 HasRead-next limits width read value bytes lt within small ok h =
     let j : width - (read + 1) ≡ width - 1 - read = omega arith in
@@ -116,26 +127,31 @@ HasRead-next limits width read value bytes lt within small ok h =
       fits = rw j ((HasRead-room limits width read value (get_or bytes read 0) bytes lt small h).1);
     }
 
-pub HasRead-bad : (limits : Limits) (width read value : ℕ) (bytes : List ℕ) → read < width → read < length bytes → can_be limits (width - 1 - read) (value * 256 + get_or bytes read 0) ≡ false
+pub HasRead-bad : (limits : Limits) (width read value : ℕ) (bytes : List ℕ) → read < width → read < length bytes
+    → can_be limits (width - 1 - read) (value * 256 + get_or bytes read 0) ≡ false
     → HasRead limits width read value bytes → number_from limits width 0 bytes ≡ Bad Range (length bytes - read)
 HasRead-bad limits width read value bytes lt within not h =
     let one = HasRead-one limits width read value bytes lt within h in
     rw not at one
 
-pub HasRead-short : (limits : Limits) (width read value : ℕ) (bytes : List ℕ) → read < width → length bytes ≤ read → HasRead limits width read value bytes → number_from limits width 0 bytes ≡ More
+pub HasRead-short : (limits : Limits) (width read value : ℕ) (bytes : List ℕ) → read < width → length bytes ≤ read
+    → HasRead limits width read value bytes → number_from limits width 0 bytes ≡ More
 unfolding number_from
 HasRead-short limits width read value bytes lt past h =
     let k : width - read ≡ suc (width - 1 - read) = omega arith in
     let none : drop read bytes ≡ [] = nil_from_length (drop read bytes) (omega (arith, length-drop read bytes)) in
     let one : number_from limits (suc (width - 1 - read)) value [] ≡ More = refl in
-    sym h.so_far ∙ ap (λ (n : ℕ). number_from limits n value (drop read bytes)) k ∙ ap (λ (xs : List ℕ). number_from limits (suc (width - 1 - read)) value xs) none ∙ one
+    sym h.so_far ∙ ap (λ (n : ℕ). number_from limits n value (drop read bytes)) k
+    ∙ ap (λ (xs : List ℕ). number_from limits (suc (width - 1 - read)) value xs) none ∙ one
 
-pub HasRead-done : (limits : Limits) (width read value : ℕ) (bytes : List ℕ) → width ≤ read → read ≤ width → HasRead limits width read value bytes → number_from limits width 0 bytes ≡ Got (value, drop width bytes)
+pub HasRead-done : (limits : Limits) (width read value : ℕ) (bytes : List ℕ) → width ≤ read → read ≤ width
+    → HasRead limits width read value bytes → number_from limits width 0 bytes ≡ Got (value, drop width bytes)
 unfolding number_from
 HasRead-done limits width read value bytes le ge h =
     let k : width - read ≡ zero = omega arith in
     let j : read ≡ width = omega arith in
-    sym h.so_far ∙ ap (λ (n : ℕ). number_from limits n value (drop read bytes)) k ∙ ap (λ (n : ℕ). number_from limits zero value (drop n bytes)) j
+    sym h.so_far ∙ ap (λ (n : ℕ). number_from limits n value (drop read bytes)) k
+    ∙ ap (λ (n : ℕ). number_from limits zero value (drop n bytes)) j
 
 -- ---- a number that was read lies within its limits
 
@@ -154,11 +170,13 @@ chosen_got false r left x e = absurd cc
 got_is : {A : Type 0} (x y : A × List ℕ) → got x ≡ got y → x ≡ y
 got_is x y e = cc
 
-last_within : (limits : Limits) (v : ℕ) (bytes : List ℕ) (x : ℕ × List ℕ) → can_be limits 0 v ≡ true → number_from limits 0 v bytes ≡ Got x → IsWithin limits x.0
+last_within : (limits : Limits) (v : ℕ) (bytes : List ℕ) (x : ℕ × List ℕ) → can_be limits 0 v ≡ true → number_from limits 0 v bytes ≡ Got x
+    → IsWithin limits x.0
 unfolding number_from
 last_within limits v bytes x ok e = subst (λ (y : ℕ × List ℕ). IsWithin limits y.0) (got_is (v, bytes) x e) (can_be-within limits v ok)
 
-pub number_within : (limits : Limits) (width v : ℕ) (bytes : List ℕ) (x : ℕ × List ℕ) → 0 < width → number_from limits width v bytes ≡ Got x → IsWithin limits x.0
+pub number_within : (limits : Limits) (width v : ℕ) (bytes : List ℕ) (x : ℕ × List ℕ) → 0 < width → number_from limits width v bytes ≡ Got x
+    → IsWithin limits x.0
 unfolding number_from
 number_within limits zero v bytes x h e = absurd (omega arith)
 number_within limits (suc left) v [] x h e = absurd cc

@@ -1,5 +1,6 @@
 -- Numbers all of whose bytes are there.
-use Rattle.std.proofs.Common.{◌≡◌, ℕ, zero, suc, ◌+◌, ◌*◌, ◌-◌, ◌<◌, ◌≤◌, List, [], ◌∷◌, length, take, drop, get_or, Bool, true, cond, refl, sym, ap, ◌∙◌, arith, length-drop}
+use Rattle.std.proofs.Common.{◌≡◌, ℕ, zero, suc, ◌+◌, ◌*◌, ◌-◌, ◌<◌, ◌≤◌, List, [], ◌∷◌, length, take, drop, get_or, Bool, true, cond, refl}
+use Rattle.std.proofs.Common.{sym, ap, ◌∙◌, arith, length-drop}
 use Rattle.std.proofs.lemmas.List.{take_all}
 use Rattle.std.proofs.lemmas.Bool.Decides.{nat_tests}
 use Rattle.std.specs.Int.{w16, w32, w64, from_be_bytes}
@@ -45,7 +46,8 @@ possible (Between least most) left v w low high h = grind (arith, nat_tests, h.0
 possible (Around most) left v w low high h = grind (arith, nat_tests)
 
 -- a number within its limits is read at once
-pub wide : (limits : Limits) (n v : ℕ) (bytes : List ℕ) → n ≤ length bytes → ((i : ℕ) → get_or bytes i 0 < 256) → IsWithin limits (value n v bytes) → number_from limits n v bytes ≡ Got (value n v bytes, drop n bytes)
+pub wide : (limits : Limits) (n v : ℕ) (bytes : List ℕ) → n ≤ length bytes → ((i : ℕ) → get_or bytes i 0 < 256)
+    → IsWithin limits (value n v bytes) → number_from limits n v bytes ≡ Got (value n v bytes, drop n bytes)
 unfolding number_from value
 wide limits zero v bytes h small within = refl
 wide limits (suc n) v [] h small within = absurd (omega arith)
@@ -61,7 +63,8 @@ value_2 [] h = absurd (omega arith)
 value_2 (a ∷ []) h = absurd (omega arith)
 value_2 (a ∷ b ∷ bytes) h = omega arith
 
-value_4 : (bytes : List ℕ) → 4 ≤ length bytes → from_be_bytes w32 (get_or bytes 0 0 ∷ get_or bytes 1 0 ∷ get_or bytes 2 0 ∷ get_or bytes 3 0 ∷ []) ≡ value 4 0 bytes
+value_4 : (bytes : List ℕ) → 4 ≤ length bytes
+    → from_be_bytes w32 (get_or bytes 0 0 ∷ get_or bytes 1 0 ∷ get_or bytes 2 0 ∷ get_or bytes 3 0 ∷ []) ≡ value 4 0 bytes
 unfolding value
 value_4 [] h = absurd (omega arith)
 value_4 (a ∷ []) h = absurd (omega arith)
@@ -88,16 +91,20 @@ rest_is n bytes = take_all (length bytes - n) (drop n bytes) (omega (arith, leng
 abbrev got : ℕ → List ℕ → Read ℕ
 got v rest = Got (v, rest)
 
-at_once : (limits : Limits) (n : ℕ) (bytes : List ℕ) (v : ℕ) → n ≤ length bytes → ((i : ℕ) → get_or bytes i 0 < 256) → v ≡ value n 0 bytes → IsWithin limits v
+at_once : (limits : Limits) (n : ℕ) (bytes : List ℕ) (v : ℕ) → n ≤ length bytes → ((i : ℕ) → get_or bytes i 0 < 256) → v ≡ value n 0 bytes
+    → IsWithin limits v
     → number_from limits n 0 bytes ≡ Got (v, take (length bytes - n) (drop n bytes))
 at_once limits n bytes v h small e within =
-    wide limits n 0 bytes h small (rw e at within) ∙ ap (λ (w : ℕ). got w (drop n bytes)) (sym e) ∙ ap (λ (r : List ℕ). got v r) (sym (rest_is n bytes))
+    wide limits n 0 bytes h small (rw e at within) ∙ ap (λ (w : ℕ). got w (drop n bytes)) (sym e)
+    ∙ ap (λ (r : List ℕ). got v r) (sym (rest_is n bytes))
 
-pub wide_2 : (limits : Limits) (bytes : List ℕ) (v : ℕ) → 2 ≤ length bytes → ((i : ℕ) → get_or bytes i 0 < 256) → v ≡ from_be_bytes w16 (get_or bytes 0 0 ∷ get_or bytes 1 0 ∷ []) → IsWithin limits v
+pub wide_2 : (limits : Limits) (bytes : List ℕ) (v : ℕ) → 2 ≤ length bytes → ((i : ℕ) → get_or bytes i 0 < 256) → v
+    ≡ from_be_bytes w16 (get_or bytes 0 0 ∷ get_or bytes 1 0 ∷ []) → IsWithin limits v
     → number_from limits 2 0 bytes ≡ Got (v, take (length bytes - 2) (drop 2 bytes))
 wide_2 limits bytes v h small e within = at_once limits 2 bytes v h small (e ∙ value_2 bytes h) within
 
-pub wide_4 : (limits : Limits) (bytes : List ℕ) (v : ℕ) → 4 ≤ length bytes → ((i : ℕ) → get_or bytes i 0 < 256) → v ≡ from_be_bytes w32 (get_or bytes 0 0 ∷ get_or bytes 1 0 ∷ get_or bytes 2 0 ∷ get_or bytes 3 0 ∷ []) → IsWithin limits v
+pub wide_4 : (limits : Limits) (bytes : List ℕ) (v : ℕ) → 4 ≤ length bytes → ((i : ℕ) → get_or bytes i 0 < 256) → v
+    ≡ from_be_bytes w32 (get_or bytes 0 0 ∷ get_or bytes 1 0 ∷ get_or bytes 2 0 ∷ get_or bytes 3 0 ∷ []) → IsWithin limits v
     → number_from limits 4 0 bytes ≡ Got (v, take (length bytes - 4) (drop 4 bytes))
 wide_4 limits bytes v h small e within = at_once limits 4 bytes v h small (e ∙ value_4 bytes h) within
 

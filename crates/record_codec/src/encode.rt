@@ -1,12 +1,14 @@
 //! Writing a record.
 ghost use Rattle.std.specs.Prelude.{◌≡◌, ◌++◌, OnOk, OnErr};
-ghost use Rattle.record_grammar.specs.Spelling.{spelled_header, IsHeader, spelled_frame, CanSpell, IsFrame};
+ghost use Rattle.record_grammar.specs.Spelling.{spelled_header, IsHeader, spelled_frame, CanSpell};
+ghost use Rattle.record_grammar.specs.Spelling.{IsFrame};
 
 use crate::put_frame::put_frame;
 use crate::put_header::put_header;
 use det_values::{Format, Frame, OutOfMemory, Profile};
 
-/// Appends the one spelling of a header, in the profile's own format. A refused call leaves `out` as it was.
+/// Appends the one spelling of a header, in the profile's own format. A refused call leaves `out`
+/// as it was.
 pub fn encode_header(profile: &Profile, out: &mut Vec<u8>) -> Result<(), OutOfMemory>
     ensures ok { OnOk result (out.new.items ≡ out.old.items ++ spelled_header profile.now) }
     ensures fields { OnOk result (IsHeader profile.now) }
@@ -22,7 +24,8 @@ pub fn encode_header(profile: &Profile, out: &mut Vec<u8>) -> Result<(), OutOfMe
     }
 }
 
-/// Appends the one spelling of a frame of a run with so many events. A refused call leaves `out` as it was.
+/// Appends the one spelling of a frame of a run with so many events. A refused call leaves `out` as
+/// it was.
 pub fn encode_frame(
     format: Format,
     events: u16,

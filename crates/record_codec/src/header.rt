@@ -1,7 +1,10 @@
 //! Headers, read from their beginning.
 ghost use Rattle.std.specs.Prelude.{◌≡◌, ◌≤◌, length, IfOk};
 ghost use Rattle.record_grammar.specs.Read.{many};
-ghost use Rattle.record_grammar.specs.Grammar.{signed_at, exactly_at, magic_at, format_at, version_at, name_byte_at, name_at, policy_of, policy_at, event_at, params_at, events_at, profile_at};
+ghost use Rattle.record_grammar.specs.Grammar.{signed_at, exactly_at, magic_at, format_at};
+ghost use Rattle.record_grammar.specs.Grammar.{version_at, name_byte_at, name_at, policy_of};
+ghost use Rattle.record_grammar.specs.Grammar.{policy_at, event_at, params_at, events_at};
+ghost use Rattle.record_grammar.specs.Grammar.{profile_at};
 ghost use Rattle.record_codec.specs.Gives.{Gives};
 ghost use Rattle.record_codec.specs.Policies.{KnowsPolicy};
 ghost use Rattle.det_values.specs.Limits.{KnowsPolicies};

@@ -1,6 +1,8 @@
-//! Numbers within limits. Where all their bytes are there they are read at once, and else byte by byte.
+//! Numbers within limits. Where all their bytes are there they are read at once, and else byte by
+//! byte.
 ghost use Rattle.std.specs.Prelude.{◌≡◌, ◌≤◌, ◌<◌, ◌^◌, IfOk};
-ghost use Rattle.record_grammar.specs.Numbers.{lowest, highest, can_be, number_from, number, IsWithin};
+ghost use Rattle.record_grammar.specs.Numbers.{lowest, highest, can_be, number_from, number};
+ghost use Rattle.record_grammar.specs.Numbers.{IsWithin};
 ghost use Rattle.record_grammar.specs.Grammar.{signed_at, sample_value_at};
 ghost use Rattle.record_codec.specs.Gives.{Gives};
 ghost use Rattle.det_values.specs.Limits.{IsSampleValue};
@@ -11,7 +13,8 @@ use record_grammar::{Limits, Reason};
 /// The greatest value of a sample, and the greatest with a minus sign.
 const MOST_VALUE: u64 = 1_000_000_000_000;
 
-/// The least and the greatest number that begin with the bytes of `value` and have `left` bytes more.
+/// The least and the greatest number that begin with the bytes of `value` and have `left` bytes
+/// more.
 fn ends(left: usize, value: u64) -> (u64, u64)
     requires { highest left value < 2 ^ 64 }
     ensures low { result.0 ≡ lowest left value }
@@ -26,7 +29,8 @@ fn ends(left: usize, value: u64) -> (u64, u64)
     (low, high)
 }
 
-/// Whether some number within the limits begins with the bytes of `value` and has `left` bytes more.
+/// Whether some number within the limits begins with the bytes of `value` and has `left` bytes
+/// more.
 fn may_begin(limits: Limits, left: usize, value: u64) -> bool
     requires { highest left value < 2 ^ 64 }
     ensures { result ≡ can_be limits left value }
@@ -38,7 +42,8 @@ fn may_begin(limits: Limits, left: usize, value: u64) -> bool
     }
 }
 
-/// A number of `width` bytes, byte by byte, so that it is refused at the first byte with which none is left.
+/// A number of `width` bytes, byte by byte, so that it is refused at the first byte with which none
+/// is left.
 fn number_at(width: usize, limits: Limits, bytes: &[u8]) -> Result<(u64, &[u8]), Stop>
     requires { width ≤ 8 }
     ensures gives { Gives (λ x. (x.0, x.1.now)) result (number_from limits width 0 bytes.now) }

@@ -11,7 +11,8 @@ pub enum Stop {
     Memory,
     /// The bytes begin a value, and end too early.
     More,
-    /// No value begins with the bytes up to and with one of them. `left` counts the bytes from it to the end.
+    /// No value begins with the bytes up to and with one of them. `left` counts the bytes from it
+    /// to the end.
     Bad { reason: Reason, left: usize },
 }
 

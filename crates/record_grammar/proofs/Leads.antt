@@ -1,5 +1,6 @@
 -- The items that were read, and the rest, are all of the bytes.
-use Rattle.std.proofs.Common.{◌≡◌, ℕ, suc, ◌+◌, ◌-◌, ◌<◌, ◌≤◌, Bool, true, false, cond, eqb, ltb, List, [], ◌∷◌, ◌++◌, length, Some, None, refl, sym, ap, subst, ◌∙◌, arith, length-drop}
+use Rattle.std.proofs.Common.{◌≡◌, ℕ, suc, ◌+◌, ◌-◌, ◌<◌, ◌≤◌, Bool, true, false, cond, eqb, ltb, List, [], ◌∷◌, ◌++◌, length, Some, None}
+use Rattle.std.proofs.Common.{refl, sym, ap, subst, ◌∙◌, arith, length-drop}
 use Rattle.std.proofs.lemmas.List.{append-nil}
 use Rattle.std.proofs.lemmas.Bool.{ltb-true}
 use Rattle.det_values.specs.declared.frames.CycleInput.{CycleInput}
@@ -15,28 +16,34 @@ use Rattle.record_grammar.specs.declared.item.Item.{Item}
 use Rattle.record_grammar.specs.declared.item.Item.TheVariants as items
 use Rattle.record_grammar.specs.Read.{Read, Got, More, Bad, ◌>>=◌, many, with_front}
 use Rattle.record_grammar.specs.Numbers.{number}
-use Rattle.record_grammar.specs.Grammar.{exactly_at, magic_at, profile_at, element_at, drawn_at, string_at, input_at, refusal_at, init_from, finished_from, init_at, finished_at, refused_at, run_at, tag_reason, tagged_at, frame_at, item_at}
+use Rattle.record_grammar.specs.Grammar.{exactly_at, magic_at, profile_at, element_at, drawn_at, string_at, input_at, refusal_at, init_from}
+use Rattle.record_grammar.specs.Grammar.{finished_from, init_at, finished_at, refused_at, run_at, tag_reason, tagged_at, frame_at, item_at}
 use Rattle.record_grammar.specs.Places.{after, CanFollow, may_come}
-use Rattle.record_grammar.specs.Record.{Decoded, faulty, ending_at, decoded, decoded_all, with_next, items as items_in, fault, fault_from, fault_so_far, fault_so_far_from}
+use Rattle.record_grammar.specs.Record.{Decoded, faulty, ending_at, decoded, decoded_all, with_next, items as items_in, fault, fault_from}
+use Rattle.record_grammar.specs.Record.{fault_so_far, fault_so_far_from}
 use Rattle.record_grammar.specs.Leads.{Leads}
 use Rattle.det_values.specs.declared.frames.Outcome.TheVariants.{Refused}
 use Rattle.record_grammar.proofs.Steady.{IsSteady, bind_got, by_first, got, got_is, steady_give, steady_then}
-use Rattle.record_grammar.proofs.SteadyFields.{exactly_steady, finished, behind_magic, behind_magic_steady, profile_is, tagged_steady, frame_same, item_steady}
+use Rattle.record_grammar.proofs.SteadyFields.{exactly_steady, finished, behind_magic, behind_magic_steady, profile_is, tagged_steady}
+use Rattle.record_grammar.proofs.SteadyFields.{frame_same, item_steady}
 
 -- ---- each item has a byte
 
-first_takes : {A : Type 0} (f : ℕ → List ℕ → Read A) (bytes : List ℕ) (x : A × List ℕ) → ((b : ℕ) → IsSteady 1 (f b)) → by_first f bytes ≡ Got x → length x.1 < length bytes
+first_takes : {A : Type 0} (f : ℕ → List ℕ → Read A) (bytes : List ℕ) (x : A × List ℕ) → ((b : ℕ) → IsSteady 1 (f b)) → by_first f bytes
+    ≡ Got x → length x.1 < length bytes
 first_takes f [] x h e = absurd cc
 first_takes f (b ∷ bytes) x h e =
     let r = (h b).rest bytes x e in
     let m : length x.1 ≡ length bytes - r.0 = ap length r.2 ∙ length-drop r.0 bytes in
     omega (arith, r.1)
 
-taken : (t : Bool) (b : ℕ) (bytes : List ℕ) (left : ℕ) (x : ℕ × List ℕ) → cond t (got (b, bytes)) (Bad Magic left) ≡ Got x → length x.1 < suc (length bytes)
+taken : (t : Bool) (b : ℕ) (bytes : List ℕ) (left : ℕ) (x : ℕ × List ℕ) → cond t (got (b, bytes)) (Bad Magic left) ≡ Got x
+    → length x.1 < suc (length bytes)
 taken true b bytes left x e = let l : length bytes ≡ length x.1 = ap (λ (y : ℕ × List ℕ). length y.1) (got_is (b, bytes) x e) in omega arith
 taken false b bytes left x e = absurd cc
 
-then_takes : {A B : Type 0} (r : List ℕ → Read A) (f : A → List ℕ → Read B) (bytes : List ℕ) (y : B × List ℕ) → ((x : A × List ℕ) → r bytes ≡ Got x → length x.1 < length bytes) → ((a : A) → IsSteady 0 (f a))
+then_takes : {A B : Type 0} (r : List ℕ → Read A) (f : A → List ℕ → Read B) (bytes : List ℕ) (y : B × List ℕ)
+    → ((x : A × List ℕ) → r bytes ≡ Got x → length x.1 < length bytes) → ((a : A) → IsSteady 0 (f a))
     → (r bytes >>= λ x. f x.0 x.1) ≡ Got y → length y.1 < length bytes
 then_takes r f bytes y less steady e =
     let b = bind_got (r bytes) (λ x. f x.0 x.1) y e in
@@ -51,7 +58,8 @@ exactly_takes (b ∷ bytes) x e = taken (eqb b 68) 68 bytes (suc (length bytes))
 
 -- what stands behind the first byte
 abbrev behind_first : ℕ → List ℕ → Read ℕ
-behind_first d bytes = exactly_at Magic 69 bytes >>= λ e. exactly_at Magic 84 e.1 >>= λ t. exactly_at Magic 82 t.1 >>= λ r. exactly_at Magic 69 r.1 >>= λ f. exactly_at Magic 67 f.1
+behind_first d bytes =
+    exactly_at Magic 69 bytes >>= λ e. exactly_at Magic 84 e.1 >>= λ t. exactly_at Magic 82 t.1 >>= λ r. exactly_at Magic 69 r.1 >>= λ f. exactly_at Magic 67 f.1
 
 behind_first_steady : (d : ℕ) → IsSteady 0 (behind_first d)
 behind_first_steady d =
@@ -70,12 +78,15 @@ profile_takes bytes x e = then_takes magic_at behind_magic bytes x (magic_takes 
 frame_takes : (place : Place) (bytes : List ℕ) (x : Frame × List ℕ) → frame_at place bytes ≡ Got x → length x.1 < length bytes
 frame_takes place bytes x e = first_takes (tagged_at place) bytes x (tagged_steady place) (sym (frame_same place bytes) ∙ e)
 
-framed_takes : (place : Place) (bytes : List ℕ) (x : Item × List ℕ) → (frame_at place bytes >>= λ f. Got (items.Frame f.0, f.1)) ≡ Got x → length x.1 < length bytes
-framed_takes place bytes x e = then_takes (frame_at place) (λ f rest. Got (items.Frame f, rest)) bytes x (frame_takes place bytes) (λ f. steady_give 0 (items.Frame f)) e
+framed_takes : (place : Place) (bytes : List ℕ) (x : Item × List ℕ) → (frame_at place bytes >>= λ f. Got (items.Frame f.0, f.1)) ≡ Got x
+    → length x.1 < length bytes
+framed_takes place bytes x e =
+    then_takes (frame_at place) (λ f rest. Got (items.Frame f, rest)) bytes x (frame_takes place bytes) (λ f. steady_give 0 (items.Frame f)) e
 
 pub item_takes : (place : Place) (bytes : List ℕ) (x : Item × List ℕ) → item_at place bytes ≡ Got x → length x.1 < length bytes
 unfolding item_at
-item_takes places.Header bytes x e = then_takes profile_at (λ p rest. Got (items.Header p, rest)) bytes x (profile_takes bytes) (λ p. steady_give 0 (items.Header p)) e
+item_takes places.Header bytes x e =
+    then_takes profile_at (λ p rest. Got (items.Header p, rest)) bytes x (profile_takes bytes) (λ p. steady_give 0 (items.Header p)) e
 item_takes (places.Register layout) bytes x e = framed_takes (places.Register layout) bytes x e
 item_takes (places.Discover layout) bytes x e = framed_takes (places.Discover layout) bytes x e
 item_takes (places.Init layout) bytes x e = framed_takes (places.Init layout) bytes x e
@@ -84,15 +95,20 @@ item_takes places.End bytes x e = framed_takes places.End bytes x e
 
 -- ---- leading on
 
-pub leads_on : (given : List Item) (place to : Place) (bytes rest : List ℕ) (x : Item) (mid : List ℕ) → Leads place bytes given to rest → item_at to rest ≡ Got (x, mid) → Leads place bytes (given ++ x ∷ []) (after to x) mid
-leads_on [] place to bytes rest x mid h got = (mid, ap (λ (p : Place). item_at p bytes) h.0 ∙ ap (item_at to) h.1 ∙ got, (ap (λ (p : Place). after p x) h.0, refl))
+pub leads_on : (given : List Item) (place to : Place) (bytes rest : List ℕ) (x : Item) (mid : List ℕ) → Leads place bytes given to rest
+    → item_at to rest ≡ Got (x, mid) → Leads place bytes (given ++ x ∷ []) (after to x) mid
+leads_on [] place to bytes rest x mid h got =
+    (mid, ap (λ (p : Place). item_at p bytes) h.0 ∙ ap (item_at to) h.1 ∙ got, (ap (λ (p : Place). after p x) h.0, refl))
 leads_on (y ∷ given) place to bytes rest x mid h got = (h.0, h.1, leads_on given (after place y) to h.0 rest x mid h.2 got)
 
-pub leads_grow : (given : List Item) (place to : Place) (bytes rest tail : List ℕ) → Leads place bytes given to rest → Leads place (bytes ++ tail) given to (rest ++ tail)
+pub leads_grow : (given : List Item) (place to : Place) (bytes rest tail : List ℕ) → Leads place bytes given to rest
+    → Leads place (bytes ++ tail) given to (rest ++ tail)
 leads_grow [] place to bytes rest tail h = (h.0, ap (λ (xs : List ℕ). xs ++ tail) h.1)
-leads_grow (y ∷ given) place to bytes rest tail h = (h.0 ++ tail, (item_steady place).got bytes tail (y, h.0) h.1, leads_grow given (after place y) to h.0 rest tail h.2)
+leads_grow (y ∷ given) place to bytes rest tail h =
+    (h.0 ++ tail, (item_steady place).got bytes tail (y, h.0) h.1, leads_grow given (after place y) to h.0 rest tail h.2)
 
-leads_short : (given : List Item) (place to : Place) (bytes rest : List ℕ) → Leads place bytes given to rest → length given + length rest ≤ length bytes
+leads_short : (given : List Item) (place to : Place) (bytes rest : List ℕ) → Leads place bytes given to rest
+    → length given + length rest ≤ length bytes
 leads_short [] place to bytes rest h = let e : length bytes ≡ length rest = ap length h.1 in omega arith
 leads_short (y ∷ given) place to bytes rest h =
     let i : length given + length rest ≤ length h.0 = leads_short given (after place y) to h.0 rest h.2 in
@@ -112,11 +128,13 @@ fuel_is (x ∷ xs) k = let i : fuel xs k ≡ length xs + suc k = fuel_is xs k in
 abbrev with_items : List Item → Decoded → Decoded
 with_items xs d = record { items = xs ++ d.items; ending = d.ending }
 
-decoded_leads : (xs : List Item) (k : ℕ) (place to : Place) (bytes rest : List ℕ) → Leads place bytes xs to rest → decoded (fuel xs k) place bytes ≡ with_items xs (decoded (suc k) to rest)
+decoded_leads : (xs : List Item) (k : ℕ) (place to : Place) (bytes rest : List ℕ) → Leads place bytes xs to rest
+    → decoded (fuel xs k) place bytes ≡ with_items xs (decoded (suc k) to rest)
 unfolding decoded
 decoded_leads [] k place to bytes rest h = ap (λ (p : Place). decoded (suc k) p bytes) h.0 ∙ ap (decoded (suc k) to) h.1
 decoded_leads (x ∷ xs) k place to bytes rest h =
-    let one : decoded (suc (fuel xs k)) place bytes ≡ with_items (x ∷ []) (decoded (fuel xs k) (after place x) h.0) = ap (λ (r : Read Item). with_next place r (decoded (fuel xs k))) h.1 in
+    let one : decoded (suc (fuel xs k)) place bytes
+    ≡ with_items (x ∷ []) (decoded (fuel xs k) (after place x) h.0) = ap (λ (r : Read Item). with_next place r (decoded (fuel xs k))) h.1 in
     one ∙ ap (with_items (x ∷ [])) (decoded_leads xs k (after place x) to h.0 rest h.2)
 
 decoded_step : (k : ℕ) (place : Place) (bytes : List ℕ) → decoded (suc k) place bytes ≡ with_next place (item_at place bytes) (decoded k)
@@ -142,24 +160,30 @@ no_fault_yet len places.End = refl
 pub all_at_more : (given : List Item) (to : Place) (bytes rest : List ℕ) → Leads places.Header bytes given to rest → item_at to rest ≡ More
     → (items_in bytes ≡ given) × (fault_so_far bytes ≡ None) × (fault bytes ≡ fault_from (length bytes) (ending_at to))
 all_at_more given to bytes rest h e =
-    let d : decoded_all bytes ≡ with_items given (record { items = []; ending = ending_at to }) = all_leads given to bytes rest h ∙ ap (λ (r : Read Item). with_items given (with_next to r (decoded (length bytes - length given)))) e in
+    let d : decoded_all bytes ≡ with_items given (record { items = []; ending = ending_at to }) = all_leads given to bytes rest h
+    ∙ ap (λ (r : Read Item). with_items given (with_next to r (decoded (length bytes - length given)))) e in
     let i : items_in bytes ≡ given ++ [] = ap (λ (x : Decoded). x.items) d in
     let f : (decoded_all bytes).ending ≡ ending_at to = ap (λ (x : Decoded). x.ending) d in
     (i ∙ append-nil given, ap (fault_so_far_from (length bytes)) f ∙ no_fault_yet (length bytes) to, ap (fault_from (length bytes)) f)
 
-pub all_at_bad : (given : List Item) (to : Place) (bytes rest : List ℕ) (reason : Reason) (left : ℕ) → Leads places.Header bytes given to rest → item_at to rest ≡ Bad reason left
-    → (items_in bytes ≡ given) × (fault_so_far bytes ≡ Some (record { offset = length bytes - left; reason = reason })) × (fault bytes ≡ Some (record { offset = length bytes - left; reason = reason }))
+pub all_at_bad : (given : List Item) (to : Place) (bytes rest : List ℕ) (reason : Reason) (left : ℕ)
+    → Leads places.Header bytes given to rest → item_at to rest ≡ Bad reason left
+    → (items_in bytes ≡ given) × (fault_so_far bytes ≡ Some (record { offset = length bytes - left; reason = reason }))
+    × (fault bytes ≡ Some (record { offset = length bytes - left; reason = reason }))
 all_at_bad given to bytes rest reason left h e =
-    let d : decoded_all bytes ≡ with_items given (record { items = []; ending = faulty reason left }) = all_leads given to bytes rest h ∙ ap (λ (r : Read Item). with_items given (with_next to r (decoded (length bytes - length given)))) e in
+    let d : decoded_all bytes ≡ with_items given (record { items = []; ending = faulty reason left }) = all_leads given to bytes rest h
+    ∙ ap (λ (r : Read Item). with_items given (with_next to r (decoded (length bytes - length given)))) e in
     let i : items_in bytes ≡ given ++ [] = ap (λ (x : Decoded). x.items) d in
     let f : (decoded_all bytes).ending ≡ faulty reason left = ap (λ (x : Decoded). x.ending) d in
     (i ∙ append-nil given, ap (fault_so_far_from (length bytes)) f, ap (fault_from (length bytes)) f)
 
-pub all_at_got : (given : List Item) (to : Place) (bytes rest : List ℕ) (x : Item) (mid : List ℕ) → Leads places.Header bytes given to rest → item_at to rest ≡ Got (x, mid)
+pub all_at_got : (given : List Item) (to : Place) (bytes rest : List ℕ) (x : Item) (mid : List ℕ) → Leads places.Header bytes given to rest
+    → item_at to rest ≡ Got (x, mid)
     → (others : List Item) × (items_in bytes ≡ given ++ x ∷ others)
 all_at_got given to bytes rest x mid h e =
     let next = decoded (length bytes - length given) in
-    let d : decoded_all bytes ≡ with_items given (with_next to (Got (x, mid)) next) = all_leads given to bytes rest h ∙ ap (λ (r : Read Item). with_items given (with_next to r next)) e in
+    let d : decoded_all bytes ≡ with_items given (with_next to (Got (x, mid)) next) = all_leads given to bytes rest h
+    ∙ ap (λ (r : Read Item). with_items given (with_next to r next)) e in
     ((next (after to x) mid).items, ap (λ (y : Decoded). y.items) d)
 
 -- ---- an item that was read may stand in its place
@@ -168,7 +192,8 @@ all_at_got given to bytes rest x mid h e =
 abbrev GivesOnly : {A : Type 0} → (A → Type 0) → Read A → Type 0
 GivesOnly {A = A} P read = (x : A × List ℕ) → read ≡ Got x → P x.0
 
-only_then : {A B : Type 0} (P : B → Type 0) (r : Read A) (f : A × List ℕ → Read B) → ((x : A × List ℕ) → GivesOnly P (f x)) → GivesOnly P (r >>= f)
+only_then : {A B : Type 0} (P : B → Type 0) (r : Read A) (f : A × List ℕ → Read B) → ((x : A × List ℕ) → GivesOnly P (f x))
+    → GivesOnly P (r >>= f)
 only_then P r f h y e = let b = bind_got r f y e in h b.0 y b.2
 
 only_give : {A : Type 0} (P : A → Type 0) (a : A) (rest : List ℕ) → P a → GivesOnly P (Got (a, rest))
@@ -192,18 +217,23 @@ unfolding init_at init_from
 init_only layout bytes = only_then _ (number 4 0 65536 bytes) (λ count. init_from [] count.0 count.1) (λ count.
     only_then _ (with_front [] (many element_at count.0 count.1)) (λ es. Got (frames.Init es.0, es.1)) (λ es. only_give (IsKind (places.Init layout)) (frames.Init es.0) es.1 tt))
 
-finished_only : (layout : Layout) (before : ℕ) (input : CycleInput) (bytes : List ℕ) → before < 1000000 → GivesOnly (IsKind (places.Runs layout before)) (finished_at layout.format input bytes)
+finished_only : (layout : Layout) (before : ℕ) (input : CycleInput) (bytes : List ℕ) → before < 1000000
+    → GivesOnly (IsKind (places.Runs layout before)) (finished_at layout.format input bytes)
 unfolding finished_at finished_from
-finished_only layout before input bytes few = only_then _ (number 4 0 65536 bytes) (λ count. finished_from layout.format input [] count.0 count.1) (λ count.
+finished_only layout before input bytes few =
+    only_then _ (number 4 0 65536 bytes) (λ count. finished_from layout.format input [] count.0 count.1) (λ count.
     only_then _ (with_front [] (many (drawn_at layout.format) count.0 count.1)) (λ es. string_at 4 1048576 es.1 >>= λ out. Got (finished input es.0 out.0, out.1)) (λ es.
     only_then _ (string_at 4 1048576 es.1) (λ out. Got (finished input es.0 out.0, out.1)) (λ out. only_give (IsKind (places.Runs layout before)) (finished input es.0 out.0) out.1 few)))
 
-refused_only : (layout : Layout) (before : ℕ) (input : CycleInput) (bytes : List ℕ) → before < 1000000 → GivesOnly (IsKind (places.Runs layout before)) (refused_at input bytes)
+refused_only : (layout : Layout) (before : ℕ) (input : CycleInput) (bytes : List ℕ) → before < 1000000
+    → GivesOnly (IsKind (places.Runs layout before)) (refused_at input bytes)
 unfolding refused_at
-refused_only layout before input bytes few = only_then _ (refusal_at bytes) (λ at. Got (frames.Run (record { input = input; outcome = Refused at.0 }), at.1)) (λ at.
+refused_only layout before input bytes few =
+    only_then _ (refusal_at bytes) (λ at. Got (frames.Run (record { input = input; outcome = Refused at.0 }), at.1)) (λ at.
     only_give (IsKind (places.Runs layout before)) (frames.Run (record { input = input; outcome = Refused at.0 })) at.1 few)
 
-run_only : (layout : Layout) (before : ℕ) (bytes : List ℕ) → before < 1000000 → GivesOnly (IsKind (places.Runs layout before)) (run_at layout bytes)
+run_only : (layout : Layout) (before : ℕ) (bytes : List ℕ) → before < 1000000
+    → GivesOnly (IsKind (places.Runs layout before)) (run_at layout bytes)
 unfolding run_at
 run_only layout before bytes few =
     only_then _ (input_at layout.events bytes) (λ input. number 1 0 1 input.1 >>= λ flag. cond (eqb flag.0 0) (finished_at layout.format input.0 flag.1) (refused_at input.0 flag.1)) (λ input.
@@ -213,9 +243,12 @@ run_only layout before bytes few =
 tagged_only : (place : Place) (b : ℕ) (bytes : List ℕ) → GivesOnly (IsKind place) (tagged_at place b bytes)
 unfolding tagged_at
 tagged_only places.Header b bytes = only_more _
-tagged_only (places.Register layout) b bytes = only_if _ (eqb b 1) (Got (frames.Register, bytes)) (Bad (tag_reason b) (suc (length bytes))) (λ e. only_give (IsKind (places.Register layout)) frames.Register bytes tt) (only_bad _ (tag_reason b) (suc (length bytes)))
-tagged_only (places.Discover layout) b bytes = only_if _ (eqb b 2) (Got (frames.Discover, bytes)) (Bad (tag_reason b) (suc (length bytes))) (λ e. only_give (IsKind (places.Discover layout)) frames.Discover bytes tt) (only_bad _ (tag_reason b) (suc (length bytes)))
-tagged_only (places.Init layout) b bytes = only_if _ (eqb b 3) (init_at bytes) (Bad (tag_reason b) (suc (length bytes))) (λ e. init_only layout bytes) (only_bad _ (tag_reason b) (suc (length bytes)))
+tagged_only (places.Register layout) b bytes =
+    only_if _ (eqb b 1) (Got (frames.Register, bytes)) (Bad (tag_reason b) (suc (length bytes))) (λ e. only_give (IsKind (places.Register layout)) frames.Register bytes tt) (only_bad _ (tag_reason b) (suc (length bytes)))
+tagged_only (places.Discover layout) b bytes =
+    only_if _ (eqb b 2) (Got (frames.Discover, bytes)) (Bad (tag_reason b) (suc (length bytes))) (λ e. only_give (IsKind (places.Discover layout)) frames.Discover bytes tt) (only_bad _ (tag_reason b) (suc (length bytes)))
+tagged_only (places.Init layout) b bytes =
+    only_if _ (eqb b 3) (init_at bytes) (Bad (tag_reason b) (suc (length bytes))) (λ e. init_only layout bytes) (only_bad _ (tag_reason b) (suc (length bytes)))
 tagged_only (places.Runs layout before) b bytes =
     only_if _ (eqb b 4) (cond (ltb before 1000000) (run_at layout bytes) (Bad TooMany (suc (length bytes)))) (cond (eqb b 5) (Got (frames.Terminate, bytes)) (Bad (tag_reason b) (suc (length bytes))))
     (λ e. only_if _ (ltb before 1000000) (run_at layout bytes) (Bad TooMany (suc (length bytes))) (λ few. run_only layout before bytes (ltb-true before 1000000 few)) (only_bad _ TooMany (suc (length bytes))))
@@ -234,9 +267,11 @@ framed_only place bytes y e =
     subst (λ (x : Item × List ℕ). CanFollow place x.0) p (frame_only place bytes b.0 b.1)
 
 -- an item that was read is of the kind that may stand in its place
-pub can_follow : (place : Place) (bytes : List ℕ) (item : Item) (mid : List ℕ) → item_at place bytes ≡ Got (item, mid) → CanFollow place item
+pub can_follow : (place : Place) (bytes : List ℕ) (item : Item) (mid : List ℕ) → item_at place bytes ≡ Got (item, mid)
+    → CanFollow place item
 unfolding item_at
-can_follow places.Header bytes item mid e = only_then (CanFollow places.Header) (profile_at bytes) (λ p. Got (items.Header p.0, p.1)) (λ p. only_give (CanFollow places.Header) (items.Header p.0) p.1 tt) (item, mid) e
+can_follow places.Header bytes item mid e =
+    only_then (CanFollow places.Header) (profile_at bytes) (λ p. Got (items.Header p.0, p.1)) (λ p. only_give (CanFollow places.Header) (items.Header p.0) p.1 tt) (item, mid) e
 can_follow (places.Register layout) bytes item mid e = framed_only (places.Register layout) bytes (item, mid) e
 can_follow (places.Discover layout) bytes item mid e = framed_only (places.Discover layout) bytes (item, mid) e
 can_follow (places.Init layout) bytes item mid e = framed_only (places.Init layout) bytes (item, mid) e

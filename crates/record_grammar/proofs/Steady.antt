@@ -1,5 +1,6 @@
 -- What a reader answers stays when more bytes come.
-use Rattle.std.proofs.Common.{◌≡◌, ℕ, zero, suc, ◌+◌, ◌-◌, ◌*◌, ◌<◌, ◌≤◌, Bool, true, false, cond, ltb, List, [], ◌∷◌, ◌++◌, length, take, drop, refl, sym, ap, subst, ◌∙◌, arith, rules, inl, inr, ◌⊎◌, length-append, length-drop}
+use Rattle.std.proofs.Common.{◌≡◌, ℕ, zero, suc, ◌+◌, ◌-◌, ◌*◌, ◌<◌, ◌≤◌, Bool, true, false, cond, ltb, List, [], ◌∷◌, ◌++◌, length, take}
+use Rattle.std.proofs.Common.{drop, refl, sym, ap, subst, ◌∙◌, arith, rules, inl, inr, ◌⊎◌, length-append, length-drop}
 use Rattle.std.proofs.lemmas.Bool.{cases_lt, le-ltb}
 use Rattle.std.proofs.lemmas.List.{take-append-le, drop-append-le, drop-drop}
 use Rattle.record_grammar.specs.declared.fault.Reason.{Reason}
@@ -14,12 +15,14 @@ got x = Got x
 pub got_is : {A : Type 0} (x y : A × List ℕ) → got x ≡ got y → x ≡ y
 got_is x y e = cc
 
-pub bind_got : {A B : Type 0} (r : Read A) (f : A × List ℕ → Read B) (y : B × List ℕ) → (r >>= f) ≡ Got y → (x : A × List ℕ) × (r ≡ Got x) × (f x ≡ Got y)
+pub bind_got : {A B : Type 0} (r : Read A) (f : A × List ℕ → Read B) (y : B × List ℕ) → (r >>= f) ≡ Got y → (x : A × List ℕ) × (r ≡ Got x)
+    × (f x ≡ Got y)
 bind_got (Got x) f y e = (x, refl, e)
 bind_got More f y e = absurd cc
 bind_got (Bad reason left) f y e = absurd cc
 
-pub bind_bad : {A B : Type 0} (r : Read A) (f : A × List ℕ → Read B) (reason : Reason) (left : ℕ) → (r >>= f) ≡ Bad reason left → (r ≡ Bad reason left) ⊎ ((x : A × List ℕ) × (r ≡ Got x) × (f x ≡ Bad reason left))
+pub bind_bad : {A B : Type 0} (r : Read A) (f : A × List ℕ → Read B) (reason : Reason) (left : ℕ) → (r >>= f) ≡ Bad reason left
+    → (r ≡ Bad reason left) ⊎ ((x : A × List ℕ) × (r ≡ Got x) × (f x ≡ Bad reason left))
 bind_bad (Got x) f reason left e = inr (x, refl, e)
 bind_bad More f reason left e = absurd cc
 bind_bad (Bad why other) f reason left e = inl cc
@@ -27,11 +30,13 @@ bind_bad (Bad why other) f reason left e = inl cc
 -- Of the bytes that the reader is given, the faulty one is among the last `left`, up to `before` bytes ahead of them.
 pub record IsSteady {A : Type 0} (before : ℕ) (read : List ℕ → Read A) : Type 0 where
   pub got : (bytes tail : List ℕ) (x : A × List ℕ) → read bytes ≡ Got x → read (bytes ++ tail) ≡ Got (x.0, x.1 ++ tail)
-  pub bad : (bytes tail : List ℕ) (reason : Reason) (left : ℕ) → read bytes ≡ Bad reason left → read (bytes ++ tail) ≡ Bad reason (left + length tail)
+  pub bad : (bytes tail : List ℕ) (reason : Reason) (left : ℕ) → read bytes ≡ Bad reason left → read (bytes ++ tail)
+      ≡ Bad reason (left + length tail)
   pub rest : (bytes : List ℕ) (x : A × List ℕ) → read bytes ≡ Got x → (n : ℕ) × (n ≤ length bytes) × (x.1 ≡ drop n bytes)
   pub within : (bytes : List ℕ) (reason : Reason) (left : ℕ) → read bytes ≡ Bad reason left → left ≤ before + length bytes
 
-pub steady_same : {A : Type 0} (before : ℕ) (r s : List ℕ → Read A) → ((bytes : List ℕ) → r bytes ≡ s bytes) → IsSteady before s → IsSteady before r
+pub steady_same : {A : Type 0} (before : ℕ) (r s : List ℕ → Read A) → ((bytes : List ℕ) → r bytes ≡ s bytes) → IsSteady before s
+    → IsSteady before r
 steady_same before r s same h = record {
   got = λ bytes tail x e. same (bytes ++ tail) ∙ h.got bytes tail x (sym (same bytes) ∙ e);
   bad = λ bytes tail reason left e. same (bytes ++ tail) ∙ h.bad bytes tail reason left (sym (same bytes) ∙ e);
@@ -41,7 +46,9 @@ steady_same before r s same h = record {
 
 pub steady_give : {A : Type 0} (before : ℕ) (a : A) → IsSteady before (λ bytes. Got (a, bytes))
 steady_give {A} before a = record {
-  got = λ bytes tail x e. let p : (a, bytes) ≡ x = got_is (a, bytes) x e in subst (λ (y : A × List ℕ). got (a, bytes ++ tail) ≡ Got (y.0, y.1 ++ tail)) p refl;
+  got =
+      λ bytes tail x e. let p : (a, bytes)
+      ≡ x = got_is (a, bytes) x e in subst (λ (y : A × List ℕ). got (a, bytes ++ tail) ≡ Got (y.0, y.1 ++ tail)) p refl;
   bad = λ bytes tail reason left e. absurd cc;
   rest = λ bytes x e. let p : (a, bytes) ≡ x = got_is (a, bytes) x e in (0, omega arith, sym (ap (λ (y : A × List ℕ). y.1) p));
   within = λ bytes reason left e. absurd cc;
@@ -65,7 +72,8 @@ steady_refuse {A} why = record {
 }
 
 -- a reader, and then one that depends on what was read
-pub steady_then : {A B : Type 0} (before : ℕ) (r : List ℕ → Read A) (f : A → List ℕ → Read B) → IsSteady before r → ((a : A) → IsSteady 0 (f a)) → IsSteady before (λ bytes. r bytes >>= λ x. f x.0 x.1)
+pub steady_then : {A B : Type 0} (before : ℕ) (r : List ℕ → Read A) (f : A → List ℕ → Read B) → IsSteady before r
+    → ((a : A) → IsSteady 0 (f a)) → IsSteady before (λ bytes. r bytes >>= λ x. f x.0 x.1)
 steady_then {A} {B} before r f hr hf = record {
   got = λ bytes tail y e.
       let b = bind_got (r bytes) (λ x. f x.0 x.1) y e in
@@ -94,12 +102,14 @@ steady_then {A} {B} before r f hr hf = record {
 }
 
 -- one of two readers
-pub steady_if : {A : Type 0} (before : ℕ) (b : Bool) (r s : List ℕ → Read A) → IsSteady before r → IsSteady before s → IsSteady before (λ bytes. cond b (r bytes) (s bytes))
+pub steady_if : {A : Type 0} (before : ℕ) (b : Bool) (r s : List ℕ → Read A) → IsSteady before r → IsSteady before s
+    → IsSteady before (λ bytes. cond b (r bytes) (s bytes))
 steady_if before true r s hr hs = record { got = hr.got; bad = hr.bad; rest = hr.rest; within = hr.within }
 steady_if before false r s hr hs = record { got = hs.got; bad = hs.bad; rest = hs.rest; within = hs.within }
 
 pub steady_wider : {A : Type 0} (r : List ℕ → Read A) → IsSteady 0 r → IsSteady 1 r
-steady_wider r h = record { got = h.got; bad = h.bad; rest = h.rest; within = λ bytes reason left e. let w : left ≤ 0 + length bytes = h.within bytes reason left e in omega arith }
+steady_wider r h =
+    record { got = h.got; bad = h.bad; rest = h.rest; within = λ bytes reason left e. let w : left ≤ 0 + length bytes = h.within bytes reason left e in omega arith }
 
 -- a reader that looks at the first byte
 abbrev pub by_first : {A : Type 0} → (ℕ → List ℕ → Read A) → List ℕ → Read A
@@ -111,7 +121,8 @@ module _ {A : Type 0} (f : ℕ → List ℕ → Read A) (h : (b : ℕ) → IsSte
   first_got [] tail x e = absurd cc
   first_got (b ∷ bytes) tail x e = (h b).got bytes tail x e
 
-  first_bad : (bytes tail : List ℕ) (reason : Reason) (left : ℕ) → by_first f bytes ≡ Bad reason left → by_first f (bytes ++ tail) ≡ Bad reason (left + length tail)
+  first_bad : (bytes tail : List ℕ) (reason : Reason) (left : ℕ) → by_first f bytes ≡ Bad reason left → by_first f (bytes ++ tail)
+      ≡ Bad reason (left + length tail)
   first_bad [] tail reason left e = absurd cc
   first_bad (b ∷ bytes) tail reason left e = (h b).bad bytes tail reason left e
 
@@ -128,7 +139,8 @@ module _ {A : Type 0} (f : ℕ → List ℕ → Read A) (h : (b : ℕ) → IsSte
 
 -- ---- numbers, bytes, and values in a row
 
-pub number_is : (limits : Limits) (left v : ℕ) (bytes : List ℕ) → number_from limits (suc left) v bytes ≡ by_first (λ b bytes. cond (can_be limits left (v * 256 + b)) (number_from limits left (v * 256 + b) bytes) (Bad Range (suc (length bytes)))) bytes
+pub number_is : (limits : Limits) (left v : ℕ) (bytes : List ℕ) → number_from limits (suc left) v bytes
+    ≡ by_first (λ b bytes. cond (can_be limits left (v * 256 + b)) (number_from limits left (v * 256 + b) bytes) (Bad Range (suc (length bytes)))) bytes
 unfolding number_from
 number_is limits left v [] = refl
 number_is limits left v (b ∷ bytes) = refl
@@ -137,7 +149,8 @@ pub steady_number : (limits : Limits) (left v : ℕ) → IsSteady 0 (number_from
 unfolding number_from
 steady_number limits zero v = steady_same 0 (number_from limits zero v) (λ bytes. Got (v, bytes)) (λ bytes. refl) (steady_give 0 v)
 steady_number limits (suc left) v =
-    let f : ℕ → List ℕ → Read ℕ = λ b bytes. cond (can_be limits left (v * 256 + b)) (number_from limits left (v * 256 + b) bytes) (Bad Range (suc (length bytes))) in
+    let f : ℕ → List ℕ
+    → Read ℕ = λ b bytes. cond (can_be limits left (v * 256 + b)) (number_from limits left (v * 256 + b) bytes) (Bad Range (suc (length bytes))) in
     steady_same 0 (number_from limits (suc left) v) (by_first f) (number_is limits left v) (steady_first f (λ b.
     steady_if 1 (can_be limits left (v * 256 + b)) (number_from limits left (v * 256 + b)) (λ bytes. Bad Range (suc (length bytes))) (steady_wider (number_from limits left (v * 256 + b)) (steady_number limits left (v * 256 + b))) (steady_refuse Range)))
 
@@ -155,7 +168,8 @@ steady_raw n = record {
     | inl lt ↦ absurd (cc (raw_short n bytes lt))
     | inr le ↦
         let p : (take n bytes, drop n bytes) ≡ x = got_is (take n bytes, drop n bytes) x (sym (raw_long n bytes le) ∙ e) in
-        let q : raw_at n (bytes ++ tail) ≡ Got (take n bytes, drop n bytes ++ tail) = rw (raw_long n (bytes ++ tail) (omega (arith, length-append bytes tail)), take-append-le n bytes tail le, drop-append-le n bytes tail le) refl in
+        let q : raw_at n (bytes ++ tail)
+        ≡ Got (take n bytes, drop n bytes ++ tail) = rw (raw_long n (bytes ++ tail) (omega (arith, length-append bytes tail)), take-append-le n bytes tail le, drop-append-le n bytes tail le) refl in
         q ∙ ap (λ (y : List ℕ × List ℕ). got (y.0, y.1 ++ tail)) p
   ];
   bad = λ bytes tail reason left e. elim (cases_lt (length bytes) n) [

@@ -20,8 +20,13 @@ use Rattle.record_grammar.specs.declared.place.Place.TheVariants as places
 use Rattle.record_grammar.specs.declared.item.Item.TheVariants as items
 use Rattle.record_grammar.specs.Read.{Read, Got, More, Bad, ◌>>=◌, raw_at, many, with_front}
 use Rattle.record_grammar.specs.Numbers.{number, number_from}
-use Rattle.record_grammar.specs.Grammar.{signed_at, sample_value_at, string_at, exactly_at, magic_at, format_at, version_at, name_byte_at, name_at, policy_of, policy_at, event_at, params_at, events_at, profile_at, element_at, drawn_at, time_at, sample_at, most_samples, samples_at, input_at, phase_of, most_pass, most_element, refusal_at, init_from, finished_from, init_at, finished_at, refused_at, run_at, tag_reason, tagged_at, frame_at, item_at}
-use Rattle.record_grammar.proofs.Steady.{IsSteady, steady_same, steady_give, steady_refuse, steady_then, steady_if, steady_wider, by_first, steady_first, steady_number, steady_raw, steady_many}
+use Rattle.record_grammar.specs.Grammar.{signed_at, sample_value_at, string_at, exactly_at, magic_at, format_at, version_at, name_byte_at}
+use Rattle.record_grammar.specs.Grammar.{name_at, policy_of, policy_at, event_at, params_at, events_at, profile_at, element_at, drawn_at}
+use Rattle.record_grammar.specs.Grammar.{time_at, sample_at, most_samples, samples_at, input_at, phase_of, most_pass, most_element}
+use Rattle.record_grammar.specs.Grammar.{refusal_at, init_from, finished_from, init_at, finished_at, refused_at, run_at, tag_reason}
+use Rattle.record_grammar.specs.Grammar.{tagged_at, frame_at, item_at}
+use Rattle.record_grammar.proofs.Steady.{IsSteady, steady_same, steady_give, steady_refuse, steady_then, steady_if, steady_wider, by_first}
+use Rattle.record_grammar.proofs.Steady.{steady_first, steady_number, steady_raw, steady_many}
 
 pub number_steady : (width least most : ℕ) → IsSteady 0 (number width least most)
 number_steady width least most = steady_number (Between least most) width 0
@@ -47,7 +52,8 @@ string_steady width most = steady_then 0 (number width 0 most) raw_at (number_st
 abbrev exactly_by : Reason → ℕ → ℕ → List ℕ → Read ℕ
 exactly_by reason expected b bytes = cond (eqb b expected) (Got (expected, bytes)) (Bad reason (suc (length bytes)))
 
-exactly_same : (reason : Reason) (expected : ℕ) (bytes : List ℕ) → exactly_at reason expected bytes ≡ by_first (exactly_by reason expected) bytes
+exactly_same : (reason : Reason) (expected : ℕ) (bytes : List ℕ) → exactly_at reason expected bytes
+    ≡ by_first (exactly_by reason expected) bytes
 exactly_same reason expected [] = refl
 exactly_same reason expected (b ∷ bytes) = refl
 
@@ -108,7 +114,8 @@ name_steady =
 pub policy_steady : (format : Format) → IsSteady 0 (policy_at format)
 unfolding policy_at
 policy_steady One = steady_give 0 Last
-policy_steady Two = steady_then 0 (number 1 0 1) (λ n bytes. Got (policy_of n, bytes)) (number_steady 1 0 1) (λ n. steady_give 0 (policy_of n))
+policy_steady Two =
+    steady_then 0 (number 1 0 1) (λ n bytes. Got (policy_of n, bytes)) (number_steady 1 0 1) (λ n. steady_give 0 (policy_of n))
 
 pub event_steady : (format : Format) → IsSteady 0 (event_at format)
 unfolding event_at
@@ -132,7 +139,8 @@ events_steady format =
 
 -- what stands behind the magic
 abbrev pub behind_magic : ℕ → List ℕ → Read ProfileValue
-behind_magic magic bytes = version_at bytes >>= λ format. number 2 0 65535 format.1 >>= λ job. number 8 0 18446744073709551615 job.1 >>= λ seed. number 8 1 9223372036854775807 seed.1 >>= λ cycle. params_at cycle.1 >>= λ params. events_at format.0 params.1 >>= λ events. Got (record { format = format.0; job = job.0; seed = seed.0; cycle_time = cycle.0; params = params.0; events = events.0 }, events.1)
+behind_magic magic bytes =
+    version_at bytes >>= λ format. number 2 0 65535 format.1 >>= λ job. number 8 0 18446744073709551615 job.1 >>= λ seed. number 8 1 9223372036854775807 seed.1 >>= λ cycle. params_at cycle.1 >>= λ params. events_at format.0 params.1 >>= λ events. Got (record { format = format.0; job = job.0; seed = seed.0; cycle_time = cycle.0; params = params.0; events = events.0 }, events.1)
 
 pub behind_magic_steady : (magic : ℕ) → IsSteady 0 (behind_magic magic)
 behind_magic_steady magic =
@@ -149,7 +157,8 @@ unfolding profile_at
 profile_is bytes = refl
 
 pub profile_steady : IsSteady 0 profile_at
-profile_steady = steady_same 0 profile_at (λ bytes. magic_at bytes >>= λ magic. behind_magic magic.0 magic.1) profile_is (steady_then 0 magic_at behind_magic magic_steady behind_magic_steady)
+profile_steady =
+    steady_same 0 profile_at (λ bytes. magic_at bytes >>= λ magic. behind_magic magic.0 magic.1) profile_is (steady_then 0 magic_at behind_magic magic_steady behind_magic_steady)
 
 -- ---- the parts of frames
 
@@ -158,7 +167,8 @@ element_steady = string_steady 2 64
 
 pub drawn_steady : (format : Format) → IsSteady 0 (drawn_at format)
 unfolding drawn_at
-drawn_steady One = steady_then 0 element_at (λ e bytes. Got (record { bytes = e; draws = 0 }, bytes)) element_steady (λ e. steady_give 0 (record { bytes = e; draws = 0 }))
+drawn_steady One =
+    steady_then 0 element_at (λ e bytes. Got (record { bytes = e; draws = 0 }, bytes)) element_steady (λ e. steady_give 0 (record { bytes = e; draws = 0 }))
 drawn_steady Two =
     steady_then 0 element_at (λ e bytes. number 4 0 4294967295 bytes >>= λ d. Got (record { bytes = e; draws = d.0 }, d.1)) element_steady (λ e.
     steady_then 0 (number 4 0 4294967295) (λ d bytes. Got (record { bytes = e; draws = d }, bytes)) (number_steady 4 0 4294967295) (λ d. steady_give 0 (record { bytes = e; draws = d })))
@@ -201,17 +211,21 @@ refusal_steady =
 
 -- ---- the frames
 
-front_steady : {A : Type 0} (item : List ℕ → Read A) → IsSteady 0 item → (front : List A) (n : ℕ) → IsSteady 0 (λ bytes. with_front front (many item n bytes))
-front_steady item h front n = steady_then 0 (many item n) (λ xs bytes. Got (front ++ xs, bytes)) (steady_many item h n) (λ xs. steady_give 0 (front ++ xs))
+front_steady : {A : Type 0} (item : List ℕ → Read A) → IsSteady 0 item → (front : List A) (n : ℕ)
+    → IsSteady 0 (λ bytes. with_front front (many item n bytes))
+front_steady item h front n =
+    steady_then 0 (many item n) (λ xs bytes. Got (front ++ xs, bytes)) (steady_many item h n) (λ xs. steady_give 0 (front ++ xs))
 
 pub init_from_steady : (done : List (List ℕ)) (left : ℕ) → IsSteady 0 (init_from done left)
 unfolding init_from
-init_from_steady done left = steady_then 0 (λ bytes. with_front done (many element_at left bytes)) (λ es bytes. Got (frames.Init es, bytes)) (front_steady element_at element_steady done left) (λ es. steady_give 0 (frames.Init es))
+init_from_steady done left =
+    steady_then 0 (λ bytes. with_front done (many element_at left bytes)) (λ es bytes. Got (frames.Init es, bytes)) (front_steady element_at element_steady done left) (λ es. steady_give 0 (frames.Init es))
 
 abbrev pub finished : CycleInput → List DrawnElement → List ℕ → Frame
 finished input elements output = frames.Run (record { input = input; outcome = Finished elements output })
 
-pub finished_from_steady : (format : Format) (input : CycleInput) (done : List DrawnElement) (left : ℕ) → IsSteady 0 (finished_from format input done left)
+pub finished_from_steady : (format : Format) (input : CycleInput) (done : List DrawnElement) (left : ℕ)
+    → IsSteady 0 (finished_from format input done left)
 unfolding finished_from
 finished_from_steady format input done left =
     steady_then 0 (λ bytes. with_front done (many (drawn_at format) left bytes)) (λ es bytes. string_at 4 1048576 bytes >>= λ out. Got (finished input es out.0, out.1)) (front_steady (drawn_at format) (drawn_steady format) done left) (λ es.
@@ -219,15 +233,18 @@ finished_from_steady format input done left =
 
 pub init_steady : IsSteady 0 init_at
 unfolding init_at
-init_steady = steady_then 0 (number 4 0 65536) (λ count bytes. init_from [] count bytes) (number_steady 4 0 65536) (λ count. init_from_steady [] count)
+init_steady =
+    steady_then 0 (number 4 0 65536) (λ count bytes. init_from [] count bytes) (number_steady 4 0 65536) (λ count. init_from_steady [] count)
 
 pub finished_steady : (format : Format) (input : CycleInput) → IsSteady 0 (finished_at format input)
 unfolding finished_at
-finished_steady format input = steady_then 0 (number 4 0 65536) (λ count bytes. finished_from format input [] count bytes) (number_steady 4 0 65536) (λ count. finished_from_steady format input [] count)
+finished_steady format input =
+    steady_then 0 (number 4 0 65536) (λ count bytes. finished_from format input [] count bytes) (number_steady 4 0 65536) (λ count. finished_from_steady format input [] count)
 
 pub refused_steady : (input : CycleInput) → IsSteady 0 (refused_at input)
 unfolding refused_at
-refused_steady input = steady_then 0 refusal_at (λ at bytes. Got (frames.Run (record { input = input; outcome = Refused at }), bytes)) refusal_steady (λ at. steady_give 0 (frames.Run (record { input = input; outcome = Refused at })))
+refused_steady input =
+    steady_then 0 refusal_at (λ at bytes. Got (frames.Run (record { input = input; outcome = Refused at }), bytes)) refusal_steady (λ at. steady_give 0 (frames.Run (record { input = input; outcome = Refused at })))
 
 pub run_steady : (layout : Layout) → IsSteady 0 (run_at layout)
 unfolding run_at
@@ -237,18 +254,22 @@ run_steady layout =
     steady_if 0 (eqb flag 0) (finished_at layout.format input) (refused_at input) (finished_steady layout.format input) (refused_steady input)))
 
 steady_more : {A : Type 0} → IsSteady {A = A} 1 (λ bytes. More)
-steady_more = record { got = λ bytes tail x e. absurd cc; bad = λ bytes tail reason left e. absurd cc; rest = λ bytes x e. absurd cc; within = λ bytes reason left e. absurd cc }
+steady_more =
+    record { got = λ bytes tail x e. absurd cc; bad = λ bytes tail reason left e. absurd cc; rest = λ bytes x e. absurd cc; within = λ bytes reason left e. absurd cc }
 
 -- one frame alone may stand in a place
-pub only_steady : {A : Type 0} (a : A) (b tag : ℕ) → IsSteady 1 (λ bytes. cond (eqb b tag) (Got (a, bytes)) (Bad (tag_reason b) (suc (length bytes))))
-only_steady a b tag = steady_if 1 (eqb b tag) (λ bytes. Got (a, bytes)) (λ bytes. Bad (tag_reason b) (suc (length bytes))) (steady_give 1 a) (steady_refuse (tag_reason b))
+pub only_steady : {A : Type 0} (a : A) (b tag : ℕ)
+    → IsSteady 1 (λ bytes. cond (eqb b tag) (Got (a, bytes)) (Bad (tag_reason b) (suc (length bytes))))
+only_steady a b tag =
+    steady_if 1 (eqb b tag) (λ bytes. Got (a, bytes)) (λ bytes. Bad (tag_reason b) (suc (length bytes))) (steady_give 1 a) (steady_refuse (tag_reason b))
 
 pub tagged_steady : (place : Place) (b : ℕ) → IsSteady 1 (tagged_at place b)
 unfolding tagged_at
 tagged_steady places.Header b = steady_more
 tagged_steady (places.Register layout) b = only_steady frames.Register b 1
 tagged_steady (places.Discover layout) b = only_steady frames.Discover b 2
-tagged_steady (places.Init layout) b = steady_if 1 (eqb b 3) init_at (λ bytes. Bad (tag_reason b) (suc (length bytes))) (steady_wider init_at init_steady) (steady_refuse (tag_reason b))
+tagged_steady (places.Init layout) b =
+    steady_if 1 (eqb b 3) init_at (λ bytes. Bad (tag_reason b) (suc (length bytes))) (steady_wider init_at init_steady) (steady_refuse (tag_reason b))
 tagged_steady (places.Runs layout before) b =
     steady_if 1 (eqb b 4) (λ bytes. cond (ltb before 1000000) (run_at layout bytes) (Bad TooMany (suc (length bytes)))) (λ bytes. cond (eqb b 5) (Got (frames.Terminate, bytes)) (Bad (tag_reason b) (suc (length bytes))))
     (steady_if 1 (ltb before 1000000) (run_at layout) (λ bytes. Bad TooMany (suc (length bytes))) (steady_wider (run_at layout) (run_steady layout)) (steady_refuse TooMany))
@@ -261,7 +282,8 @@ frame_same place [] = refl
 frame_same place (b ∷ bytes) = refl
 
 pub frame_steady : (place : Place) → IsSteady 0 (frame_at place)
-frame_steady place = steady_same 0 (frame_at place) (by_first (tagged_at place)) (frame_same place) (steady_first (tagged_at place) (tagged_steady place))
+frame_steady place =
+    steady_same 0 (frame_at place) (by_first (tagged_at place)) (frame_same place) (steady_first (tagged_at place) (tagged_steady place))
 
 -- ---- the items
 
@@ -270,7 +292,8 @@ framed_steady r h = steady_then 0 r (λ f bytes. Got (items.Frame f, bytes)) h (
 
 pub item_steady : (place : Place) → IsSteady 0 (item_at place)
 unfolding item_at
-item_steady places.Header = steady_then 0 profile_at (λ p bytes. Got (items.Header p, bytes)) profile_steady (λ p. steady_give 0 (items.Header p))
+item_steady places.Header =
+    steady_then 0 profile_at (λ p bytes. Got (items.Header p, bytes)) profile_steady (λ p. steady_give 0 (items.Header p))
 item_steady (places.Register layout) = framed_steady (frame_at (places.Register layout)) (frame_steady (places.Register layout))
 item_steady (places.Discover layout) = framed_steady (frame_at (places.Discover layout)) (frame_steady (places.Discover layout))
 item_steady (places.Init layout) = framed_steady (frame_at (places.Init layout)) (frame_steady (places.Init layout))

@@ -1,5 +1,6 @@
 -- How a record is read from left to right, in formats 1 and 2.
-use Rattle.std.specs.Prelude.{ℕ, ◌-◌, ℤ, List, [], ◌∷◌, length, Option, Some, None, ◌==◌, nat_lt, nat_le, ◌&&◌, if◌then◌else◌}
+use Rattle.std.specs.Prelude.{ℕ, ◌-◌, ℤ, List, [], ◌∷◌, length, Option, Some, None, ◌==◌, nat_lt}
+use Rattle.std.specs.Prelude.{nat_le, ◌&&◌, if◌then◌else◌}
 use Rattle.std.specs.Int.{w64, cast_signed}
 use Rattle.det_values.specs.declared.format.Format.{Format}
 use Rattle.det_values.specs.declared.format.Format.TheVariants.{One, Two}
@@ -15,7 +16,8 @@ use Rattle.det_values.specs.declared.frames.Frame.TheVariants as frames
 use Rattle.det_values.specs.Values.{SampleValue, EventSpecValue, RefusedAtValue, ProfileValue}
 use Rattle.det_values.specs.Limits.{may_stand_in_name}
 use Rattle.record_grammar.specs.declared.fault.Reason.{Reason}
-use Rattle.record_grammar.specs.declared.fault.Reason.TheVariants.{Magic, Version, Range, Order, TooMany, Trailing}
+use Rattle.record_grammar.specs.declared.fault.Reason.TheVariants.{Magic, Version, Range, Order}
+use Rattle.record_grammar.specs.declared.fault.Reason.TheVariants.{TooMany, Trailing}
 use Rattle.record_grammar.specs.declared.limits.Limits.TheVariants.{Around}
 use Rattle.record_grammar.specs.declared.place.Layout.{Layout}
 use Rattle.record_grammar.specs.declared.place.Place.{Place}
@@ -48,7 +50,8 @@ string_at width most bytes = do
 -- a byte that has to be this one
 abbrev pub exactly_at : Reason → ℕ → List ℕ → Read ℕ
 exactly_at reason expected [] = More
-exactly_at reason expected (b ∷ bytes) = if b == expected then Got (expected, bytes) else Bad reason (length (b ∷ bytes))
+exactly_at reason expected (b ∷ bytes) =
+    if b == expected then Got (expected, bytes) else Bad reason (length (b ∷ bytes))
 
 -- the text DETREC
 unfoldable pub magic_at : List ℕ → Read ℕ
@@ -62,7 +65,9 @@ magic_at bytes = do
 
 unfoldable pub format_at : List ℕ → Read Format
 format_at [] = More
-format_at (b ∷ bytes) = if b == 1 then Got (One, bytes) else if b == 2 then Got (Two, bytes) else Bad Version (length (b ∷ bytes))
+format_at (b ∷ bytes) =
+    if b == 1 then Got (One, bytes) else if b == 2 then Got (Two, bytes)
+    else Bad Version (length (b ∷ bytes))
 
 unfoldable pub version_at : List ℕ → Read Format
 version_at bytes = do
@@ -72,7 +77,8 @@ version_at bytes = do
 -- a byte of an event's name
 unfoldable pub name_byte_at : List ℕ → Read ℕ
 name_byte_at [] = More
-name_byte_at (b ∷ bytes) = if may_stand_in_name b then Got (b, bytes) else Bad Range (length (b ∷ bytes))
+name_byte_at (b ∷ bytes) =
+    if may_stand_in_name b then Got (b, bytes) else Bad Range (length (b ∷ bytes))
 
 unfoldable pub name_at : List ℕ → Read (List ℕ)
 name_at bytes = do
@@ -115,7 +121,17 @@ profile_at bytes = do
   cycle ← number 8 1 9223372036854775807 seed.1
   params ← params_at cycle.1
   events ← events_at format.0 params.1
-  Got (record { format = format.0; job = job.0; seed = seed.0; cycle_time = cycle.0; params = params.0; events = events.0 }, events.1)
+  Got (
+    record {
+      format = format.0;
+      job = job.0;
+      seed = seed.0;
+      cycle_time = cycle.0;
+      params = params.0;
+      events = events.0;
+    },
+    events.1,
+  )
 
 -- ---- the parts of frames
 
@@ -136,7 +152,8 @@ drawn_at Two bytes = do
 unfoldable pub time_at : List ℕ → Read (Option ℕ)
 time_at bytes = do
   flag ← number 1 0 1 bytes
-  if flag.0 == 0 then Got (None, flag.1) else (number 8 0 18446744073709551615 flag.1 >>= λ t. Got (Some t.0, t.1))
+  if flag.0 == 0 then Got (None, flag.1)
+      else (number 8 0 18446744073709551615 flag.1 >>= λ t. Got (Some t.0, t.1))
 
 -- a sample of one of so many events
 unfoldable pub sample_at : ℕ → List ℕ → Read SampleValue
@@ -180,11 +197,20 @@ refusal_at bytes = do
   pass ← number 1 0 (most_pass (phase_of phase.0)) phase.1
   element ← number 4 0 (most_element (phase_of phase.0)) pass.1
   code ← number 4 0 4294967295 element.1
-  Got (record { phase = phase_of phase.0; pass = pass.0; element = element.0; code = code.0 }, code.1)
+  Got (
+    record {
+      phase = phase_of phase.0;
+      pass = pass.0;
+      element = element.0;
+      code = code.0;
+    },
+    code.1,
+  )
 
 -- ---- the frames
 
--- what comes after the tag and the count of an Init frame, where these elements of it were read and so many are left
+-- what comes after the tag and the count of an Init frame, where these elements of it were read and
+-- so many are left
 unfoldable pub init_from : List (List ℕ) → ℕ → List ℕ → Read Frame
 init_from done left bytes = do
   elements ← with_front done (many element_at left bytes)
@@ -225,11 +251,15 @@ tag_reason b = if nat_le 1 b && nat_le b 5 then Order else Range
 -- the frame with this tag that may stand in a place
 unfoldable pub tagged_at : Place → ℕ → List ℕ → Read Frame
 tagged_at places.Header b bytes = More
-tagged_at (places.Register layout) b bytes = if b == 1 then Got (frames.Register, bytes) else Bad (tag_reason b) (length (b ∷ bytes))
-tagged_at (places.Discover layout) b bytes = if b == 2 then Got (frames.Discover, bytes) else Bad (tag_reason b) (length (b ∷ bytes))
-tagged_at (places.Init layout) b bytes = if b == 3 then init_at bytes else Bad (tag_reason b) (length (b ∷ bytes))
+tagged_at (places.Register layout) b bytes =
+    if b == 1 then Got (frames.Register, bytes) else Bad (tag_reason b) (length (b ∷ bytes))
+tagged_at (places.Discover layout) b bytes =
+    if b == 2 then Got (frames.Discover, bytes) else Bad (tag_reason b) (length (b ∷ bytes))
+tagged_at (places.Init layout) b bytes =
+    if b == 3 then init_at bytes else Bad (tag_reason b) (length (b ∷ bytes))
 tagged_at (places.Runs layout before) b bytes =
-    if b == 4 then (if nat_lt before 1000000 then run_at layout bytes else Bad TooMany (length (b ∷ bytes)))
+    if b == 4 then (if nat_lt before 1000000 then run_at layout bytes
+    else Bad TooMany (length (b ∷ bytes)))
     else if b == 5 then Got (frames.Terminate, bytes) else Bad (tag_reason b) (length (b ∷ bytes))
 tagged_at places.End b bytes = Bad Trailing (length (b ∷ bytes))
 

@@ -1,10 +1,14 @@
--- What decoding means, in terms of whole records: items in their places, first faults and longest beginnings.
-use Rattle.std.specs.Prelude.{◌≡◌, ℕ, ◌<◌, ◌≤◌, ◌==◌, ◌↔◌, if◌then◌else◌, List, [], ◌∷◌, ◌++◌, length, map, Some, None}
+-- What decoding means, in terms of whole records: items in their places, first faults and longest
+-- beginnings.
+use Rattle.std.specs.Prelude.{◌≡◌, ℕ, ◌<◌, ◌≤◌, ◌==◌, ◌↔◌, if◌then◌else◌, List, [], ◌∷◌, ◌++◌}
+use Rattle.std.specs.Prelude.{length, map, Some, None}
 use Rattle.det_values.specs.declared.frames.Frame.{Frame}
-use Rattle.det_values.specs.declared.frames.Frame.TheVariants.{Register, Discover, Init, Run, Terminate}
+use Rattle.det_values.specs.declared.frames.Frame.TheVariants.{Register, Discover, Init, Run}
+use Rattle.det_values.specs.declared.frames.Frame.TheVariants.{Terminate}
 use Rattle.det_values.specs.Values.{ProfileValue}
 use Rattle.record_grammar.specs.declared.fault.Reason.{Reason}
-use Rattle.record_grammar.specs.declared.fault.Reason.TheVariants.{Magic, Version, Range, TooMany, Trailing}
+use Rattle.record_grammar.specs.declared.fault.Reason.TheVariants.{Magic, Version, Range, TooMany}
+use Rattle.record_grammar.specs.declared.fault.Reason.TheVariants.{Trailing}
 use Rattle.record_grammar.specs.declared.fault.RecordFault.{RecordFault}
 use Rattle.record_grammar.specs.declared.place.Place.{Place}
 use Rattle.record_grammar.specs.declared.place.Place.TheVariants as places
@@ -13,7 +17,8 @@ use Rattle.record_grammar.specs.declared.item.Item.TheVariants as items
 use Rattle.record_grammar.specs.Grammar.{tag_reason}
 use Rattle.record_grammar.specs.Places.{after, format_of}
 use Rattle.record_grammar.specs.Record.{items as items_in, fault, fault_so_far}
-use Rattle.record_grammar.specs.Spelling.{IsHeader, IsFrame, spelled_header, spelled_frame, Spells, SpellsWhole}
+use Rattle.record_grammar.specs.Spelling.{IsHeader, IsFrame, spelled_header, spelled_frame, Spells}
+use Rattle.record_grammar.specs.Spelling.{SpellsWhole}
 
 -- ---- items in their places
 
@@ -26,8 +31,10 @@ abbrev pub MayStand : Place → Item → Type 0
 MayStand places.Header (items.Header p) = IsHeader p
 MayStand (places.Register layout) (items.Frame Register) = Unit {0}
 MayStand (places.Discover layout) (items.Frame Discover) = Unit {0}
-MayStand (places.Init layout) (items.Frame (Init elements)) = IsFrame layout.format layout.events (Init elements)
-MayStand (places.Runs layout before) (items.Frame (Run r)) = (before < 1000000) × IsFrame layout.format layout.events (Run r)
+MayStand (places.Init layout) (items.Frame (Init elements)) =
+    IsFrame layout.format layout.events (Init elements)
+MayStand (places.Runs layout before) (items.Frame (Run r)) =
+    (before < 1000000) × IsFrame layout.format layout.events (Run r)
 MayStand (places.Runs layout before) (items.Frame Terminate) = Unit {0}
 MayStand place item = ⊥
 
@@ -46,20 +53,28 @@ items_of profile frames = items.Header profile ∷ map items.Frame frames
 
 -- the order by places is that of a run: its frames, or its first frames
 pub record IsInOrder (profile : ProfileValue) (frames : List Frame) (bytes : List ℕ) : Type 0 where
-  pub begun : Spells profile frames bytes ↔ ((to : Place) × AreItems places.Header (items_of profile frames) to × (bytes ≡ items_spelling places.Header (items_of profile frames)))
-  pub whole : SpellsWhole profile frames bytes ↔ (AreItems places.Header (items_of profile frames) places.End × (bytes ≡ items_spelling places.Header (items_of profile frames)))
+  pub begun : Spells profile frames bytes
+      ↔ ((to : Place) × AreItems places.Header (items_of profile frames) to
+      × (bytes ≡ items_spelling places.Header (items_of profile frames)))
+  pub whole : SpellsWhole profile frames bytes
+      ↔ (AreItems places.Header (items_of profile frames) places.End
+      × (bytes ≡ items_spelling places.Header (items_of profile frames)))
 
 -- ---- one spelling
 
 -- two items that may stand in a place, and whatever bytes follow them
 abbrev pub HaveOneSpelling : Place → Item → Item → List ℕ → List ℕ → Type 0
-HaveOneSpelling place a b x y = MayStand place a → MayStand place b → item_spelling place a ++ x ≡ item_spelling place b ++ y → (a ≡ b) × (x ≡ y)
+HaveOneSpelling place a b x y =
+    MayStand place a → MayStand place b → item_spelling place a ++ x ≡ item_spelling place b ++ y
+    → (a ≡ b) × (x ≡ y)
 
 -- ---- whole records
 
 -- a whole record, and the beginning of one
 abbrev pub IsWhole : List ℕ → Type 0
-IsWhole bytes = (xs : List Item) × AreItems places.Header xs places.End × (bytes ≡ items_spelling places.Header xs)
+IsWhole bytes =
+    (xs : List Item) × AreItems places.Header xs places.End
+    × (bytes ≡ items_spelling places.Header xs)
 
 abbrev pub Begins : List ℕ → Type 0
 Begins bytes = (tail : List ℕ) × IsWhole (bytes ++ tail)
@@ -72,12 +87,16 @@ tag_reason_at places.End b = Trailing
 tag_reason_at (places.Runs layout before) b = if b == 4 then TooMany else tag_reason b
 tag_reason_at place b = tag_reason b
 
--- six bytes of magic and two of version; behind them a tag's place is where the bytes before it are whole items
+-- six bytes of magic and two of version; behind them a tag's place is where the bytes before it are
+-- whole items
 pub record IsReason (before : List ℕ) (byte : ℕ) (reason : Reason) : Type 0 where
   pub magic : length before < 6 → reason ≡ Magic
   pub version : 6 ≤ length before → length before < 8 → reason ≡ Version
-  pub tag : 8 ≤ length before → (xs : List Item) (to : Place) → AreItems places.Header xs to → before ≡ items_spelling places.Header xs → reason ≡ tag_reason_at to byte
-  pub field : 8 ≤ length before → ((xs : List Item) (to : Place) → AreItems places.Header xs to → before ≡ items_spelling places.Header xs → ⊥) → reason ≡ Range
+  pub tag : 8 ≤ length before → (xs : List Item) (to : Place) → AreItems places.Header xs to
+      → before ≡ items_spelling places.Header xs → reason ≡ tag_reason_at to byte
+  pub field : 8 ≤ length before
+      → ((xs : List Item) (to : Place) → AreItems places.Header xs to → before
+      ≡ items_spelling places.Header xs → ⊥) → reason ≡ Range
 
 -- the first byte with which the bytes before it begin no whole record
 pub record IsFirstFault (bytes : List ℕ) (offset : ℕ) (reason : Reason) : Type 0 where
@@ -96,7 +115,8 @@ pub record AreLongest (bytes : List ℕ) (xs : List Item) : Type 0 where
   pub rest : List ℕ
   pub items : AreItems places.Header xs to
   pub spelling : bytes ≡ items_spelling places.Header xs ++ rest
-  pub longest : (ys : List Item) (end : Place) (others : List ℕ) → AreItems places.Header ys end → bytes ≡ items_spelling places.Header ys ++ others → length ys ≤ length xs
+  pub longest : (ys : List Item) (end : Place) (others : List ℕ) → AreItems places.Header ys end
+      → bytes ≡ items_spelling places.Header ys ++ others → length ys ≤ length xs
 
 -- the definitions that compute say the same as the relations
 pub record IsDecoded (bytes : List ℕ) : Type 0 where

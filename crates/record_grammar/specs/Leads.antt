@@ -9,4 +9,5 @@ use Rattle.record_grammar.specs.Places.{after}
 -- reading these items leads from a place and bytes to another place and the rest of the bytes
 abbrev pub Leads : Place → List ℕ → List Item → Place → List ℕ → Type 0
 Leads place bytes [] to rest = (place ≡ to) × (bytes ≡ rest)
-Leads place bytes (x ∷ xs) to rest = (mid : List ℕ) × (item_at place bytes ≡ Got (x, mid)) × Leads (after place x) mid xs to rest
+Leads place bytes (x ∷ xs) to rest =
+    (mid : List ℕ) × (item_at place bytes ≡ Got (x, mid)) × Leads (after place x) mid xs to rest

@@ -1,6 +1,7 @@
--- Numbers of a fixed width, the highest byte first, each within limits. A number is refused at the first of its
--- bytes with which no number within the limits is left.
-use Rattle.std.specs.Prelude.{ℕ, zero, suc, ◌+◌, ◌*◌, ◌^◌, ◌≤◌, ◌⊎◌, Bool, List, [], ◌∷◌, length, nat_le, ◌&&◌, ◌||◌, if◌then◌else◌}
+-- Numbers of a fixed width, the highest byte first, each within limits. A number is refused at the
+-- first of its bytes with which no number within the limits is left.
+use Rattle.std.specs.Prelude.{ℕ, zero, suc, ◌+◌, ◌*◌, ◌^◌, ◌≤◌, ◌⊎◌, Bool, List, [], ◌∷◌, length}
+use Rattle.std.specs.Prelude.{nat_le, ◌&&◌, ◌||◌, if◌then◌else◌}
 use Rattle.record_grammar.specs.declared.limits.Limits.{Limits}
 use Rattle.record_grammar.specs.declared.limits.Limits.TheVariants.{Between, Around}
 use Rattle.record_grammar.specs.declared.fault.Reason.TheVariants.{Range}
@@ -30,7 +31,8 @@ unfoldable pub number_from : Limits → ℕ → ℕ → List ℕ → Read ℕ
 number_from limits zero v bytes = Got (v, bytes)
 number_from limits (suc left) v [] = More
 number_from limits (suc left) v (b ∷ bytes) =
-    if can_be limits left (v * 256 + b) then number_from limits left (v * 256 + b) bytes else Bad Range (length (b ∷ bytes))
+    if can_be limits left (v * 256 + b) then number_from limits left (v * 256 + b) bytes
+    else Bad Range (length (b ∷ bytes))
 
 -- a number of so many bytes from least to most
 abbrev pub number : ℕ → ℕ → ℕ → List ℕ → Read ℕ

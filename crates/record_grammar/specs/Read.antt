@@ -1,5 +1,6 @@
 -- What reading from the front of some bytes comes to.
-use Rattle.std.specs.Prelude.{ℕ, zero, suc, List, [], ◌∷◌, ◌++◌, length, take, drop, nat_lt, if◌then◌else◌}
+use Rattle.std.specs.Prelude.{ℕ, zero, suc, List, [], ◌∷◌, ◌++◌, length, take, drop, nat_lt}
+use Rattle.std.specs.Prelude.{if◌then◌else◌}
 use Rattle.record_grammar.specs.declared.fault.Reason.{Reason}
 
 pub data Read (A : Type 0) : Type 0 where
@@ -7,7 +8,8 @@ pub data Read (A : Type 0) : Type 0 where
   Got : A × List ℕ → Read A
   -- the bytes begin a value, and end too early
   More : Read A
-  -- no value begins with these bytes. The number counts the bytes from the first faulty one to the end
+  -- no value begins with these bytes. The number counts the bytes from the first faulty one to the
+  -- end
   Bad : Reason → ℕ → Read A
 
 -- reading one thing after another

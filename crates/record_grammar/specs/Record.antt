@@ -28,7 +28,9 @@ pub record Decoded : Type 0 where
   pub ending : Ending
 
 abbrev pub with_next : Place → Read Item → (Place → List ℕ → Decoded) → Decoded
-with_next place (Got x) next = record { items = x.0 ∷ (next (after place x.0) x.1).items; ending = (next (after place x.0) x.1).ending }
+with_next place (Got x) next =
+    let later = next (after place x.0) x.1 in
+    record { items = x.0 ∷ later.items; ending = later.ending }
 with_next place More next = record { items = []; ending = ending_at place }
 with_next place (Bad reason left) next = record { items = []; ending = faulty reason left }
 

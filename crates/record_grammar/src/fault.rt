@@ -19,7 +19,8 @@ pub enum Reason {
     Trailing,
 }
 
-/// The first byte with which no record begins, counted from 0, and why. For Truncated the offset is the number of bytes.
+/// The first byte with which no record begins, counted from 0, and why. For Truncated the offset is
+/// the number of bytes.
 #[derive(Clone, Copy, Debug, PartialEq, Eq, Drop)]
 pub struct RecordFault {
     pub offset: u64,

@@ -1,4 +1,5 @@
-//! The binary record: how it is spelled, how any bytes are judged from left to right, and what the two have in common.
+//! The binary record: how it is spelled, how any bytes are judged from left to right, and what the
+//! two have in common.
 #![tactic(auto)]
 
 mod fault;

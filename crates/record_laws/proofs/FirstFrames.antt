@@ -7,7 +7,8 @@ use Rattle.det_values.specs.declared.frames.Frame.{Frame}
 use Rattle.det_values.specs.Values.{ProfileValue}
 use Rattle.record_grammar.specs.Spelling.{IsFrame, spelled_header, spelled_frame, spelled, AreRun, Spells}
 
-pub spelled_more : (profile : ProfileValue) (fs more : List Frame) → spelled profile (fs ++ more) ≡ spelled profile fs ++ flat_map (spelled_frame profile.format) more
+pub spelled_more : (profile : ProfileValue) (fs more : List Frame) → spelled profile (fs ++ more) ≡ spelled profile fs
+    ++ flat_map (spelled_frame profile.format) more
 spelled_more profile fs more =
     ap (λ (xs : List ℕ). spelled_header profile ++ xs) (flat_map-append (spelled_frame profile.format) fs more)
     ∙ sym (append_assoc (spelled_header profile) (flat_map (spelled_frame profile.format) fs) (flat_map (spelled_frame profile.format) more))
@@ -16,7 +17,8 @@ first_all : (P : Frame → Type 0) (fs more : List Frame) → All P (fs ++ more)
 first_all P [] more h = All-nil P
 first_all P (f ∷ fs) more h = All-cons P f fs (All-head P f (fs ++ more) h) (first_all P fs more (All-tail P f (fs ++ more) h))
 
-pub spells_first : (profile : ProfileValue) (fs more : List Frame) (bytes : List ℕ) → Spells profile (fs ++ more) bytes → Spells profile fs (spelled profile fs)
+pub spells_first : (profile : ProfileValue) (fs more : List Frame) (bytes : List ℕ) → Spells profile (fs ++ more) bytes
+    → Spells profile fs (spelled profile fs)
 spells_first profile fs more bytes s = record {
   header = s.header;
   fields = first_all (IsFrame profile.format (length profile.events)) fs more s.fields;

@@ -7,10 +7,12 @@ use Rattle.record_grammar.specs.Numbers.{number}
 use Rattle.record_grammar.specs.Grammar.{version_at, params_at, events_at}
 
 abbrev pub a_profile : Format → ℕ → ℕ → ℕ → List ℤ → List EventSpecValue → ProfileValue
-a_profile format job seed cycle params events = record { format = format; job = job; seed = seed; cycle_time = cycle; params = params; events = events }
+a_profile format job seed cycle params events =
+    record { format = format; job = job; seed = seed; cycle_time = cycle; params = params; events = events }
 
 abbrev pub from_events : Format → ℕ → ℕ → ℕ → List ℤ → List ℕ → Read ProfileValue
-from_events format job seed cycle params bytes = events_at format bytes >>= λ events. Got (a_profile format job seed cycle params events.0, events.1)
+from_events format job seed cycle params bytes =
+    events_at format bytes >>= λ events. Got (a_profile format job seed cycle params events.0, events.1)
 
 abbrev pub from_params : Format → ℕ → ℕ → ℕ → List ℕ → Read ProfileValue
 from_params format job seed cycle bytes = params_at bytes >>= λ params. from_events format job seed cycle params.0 params.1

@@ -1,5 +1,6 @@
 -- Items in their places: appended, completed, spelled.
-use Rattle.std.proofs.Common.{◌≡◌, ℕ, ◌≤◌, List, [], ◌∷◌, ◌++◌, length, refl, sym, ap, subst, ◌∙◌, append_assoc, arith, inl, inr, ◌⊎◌, length-append, lit≤, lit<}
+use Rattle.std.proofs.Common.{◌≡◌, ℕ, ◌≤◌, List, [], ◌∷◌, ◌++◌, length, refl, sym, ap, subst, ◌∙◌, append_assoc, arith, inl, inr, ◌⊎◌}
+use Rattle.std.proofs.Common.{length-append, lit≤, lit<}
 use Rattle.std.specs.Prelude.{FitsSigned}
 use Rattle.std.specs.Int.{w64}
 use Rattle.std.proofs.lemmas.List.Elements.{All-nil}
@@ -80,28 +81,36 @@ at_header (x ∷ xs) place h = absurd (moved_on place x h.0 (at_header xs (after
 
 -- ---- appended and completed
 
-pub items_append : (xs : List Item) (place to end : Place) (ys : List Item) → AreItems place xs to → AreItems to ys end → AreItems place (xs ++ ys) end
+pub items_append : (xs : List Item) (place to end : Place) (ys : List Item) → AreItems place xs to → AreItems to ys end
+    → AreItems place (xs ++ ys) end
 items_append [] place to end ys h k = subst (λ (p : Place). AreItems p ys end) (sym h) k
 items_append (x ∷ xs) place to end ys h k = (h.0, items_append xs (after place x) to end ys h.1 k)
 
-pub spelling_append : (xs : List Item) (place to : Place) (ys : List Item) → AreItems place xs to → items_spelling place (xs ++ ys) ≡ items_spelling place xs ++ items_spelling to ys
+pub spelling_append : (xs : List Item) (place to : Place) (ys : List Item) → AreItems place xs to → items_spelling place (xs ++ ys)
+    ≡ items_spelling place xs ++ items_spelling to ys
 spelling_append [] place to ys h = ap (λ (p : Place). items_spelling p ys) h
-spelling_append (x ∷ xs) place to ys h = ap (λ (b : List ℕ). item_spelling place x ++ b) (spelling_append xs (after place x) to ys h.1) ∙ sym (append_assoc (item_spelling place x) (items_spelling (after place x) xs) (items_spelling to ys))
+spelling_append (x ∷ xs) place to ys h =
+    ap (λ (b : List ℕ). item_spelling place x ++ b) (spelling_append xs (after place x) to ys h.1)
+    ∙ sym (append_assoc (item_spelling place x) (items_spelling (after place x) xs) (items_spelling to ys))
 
 abbrev least_profile : ProfileValue
 least_profile = record { format = Two; job = 0; seed = 0; cycle_time = 1; params = []; events = [] }
 
 least_is : IsHeader least_profile
-least_is = record { job = lit< tt; seed = lit< tt; cycle_time = (lit≤ tt, lit< tt); few_params = lit≤ tt; params = All-nil (FitsSigned w64); few_events = lit≤ tt; events = All-nil IsEvent; policies = tt }
+least_is =
+    record { job = lit< tt; seed = lit< tt; cycle_time = (lit≤ tt, lit< tt); few_params = lit≤ tt; params = All-nil (FitsSigned w64); few_events = lit≤ tt; events = All-nil IsEvent; policies = tt }
 
 -- from each place on some items end a record
 pub completed : (place : Place) → (xs : List Item) × AreItems place xs places.End
 unfolding IsFrame
 completed places.Header =
     (items.Header least_profile ∷ items.Frame frames.Register ∷ items.Frame frames.Discover ∷ items.Frame (frames.Init []) ∷ items.Frame frames.Terminate ∷ [], (least_is, (tt, (tt, ((lit≤ tt, All-nil IsElement), (tt, refl))))))
-completed (places.Register layout) = (items.Frame frames.Register ∷ items.Frame frames.Discover ∷ items.Frame (frames.Init []) ∷ items.Frame frames.Terminate ∷ [], (tt, (tt, ((lit≤ tt, All-nil IsElement), (tt, refl)))))
-completed (places.Discover layout) = (items.Frame frames.Discover ∷ items.Frame (frames.Init []) ∷ items.Frame frames.Terminate ∷ [], (tt, ((lit≤ tt, All-nil IsElement), (tt, refl))))
-completed (places.Init layout) = (items.Frame (frames.Init []) ∷ items.Frame frames.Terminate ∷ [], ((lit≤ tt, All-nil IsElement), (tt, refl)))
+completed (places.Register layout) =
+    (items.Frame frames.Register ∷ items.Frame frames.Discover ∷ items.Frame (frames.Init []) ∷ items.Frame frames.Terminate ∷ [], (tt, (tt, ((lit≤ tt, All-nil IsElement), (tt, refl)))))
+completed (places.Discover layout) =
+    (items.Frame frames.Discover ∷ items.Frame (frames.Init []) ∷ items.Frame frames.Terminate ∷ [], (tt, ((lit≤ tt, All-nil IsElement), (tt, refl))))
+completed (places.Init layout) =
+    (items.Frame (frames.Init []) ∷ items.Frame frames.Terminate ∷ [], ((lit≤ tt, All-nil IsElement), (tt, refl)))
 completed (places.Runs layout before) = (items.Frame frames.Terminate ∷ [], (tt, refl))
 completed places.End = ([], refl)
 
@@ -121,7 +130,8 @@ header_long p =
     let l : length (spelled_header p) ≡ length (magic ++ (v ++ behind_version p)) = ap (λ (xs : List ℕ). length xs) (header_is p) in
     omega (arith, l, length-append magic (v ++ behind_version p), length-append v (behind_version p), length_magic, length_u16 (version p.format))
 
-pub long_enough : (given : List Item) (to : Place) (rest : List ℕ) → AreItems places.Header given to → (to ≡ places.Header → ⊥) → 8 ≤ length (items_spelling places.Header given ++ rest)
+pub long_enough : (given : List Item) (to : Place) (rest : List ℕ) → AreItems places.Header given to → (to ≡ places.Header → ⊥)
+    → 8 ≤ length (items_spelling places.Header given ++ rest)
 long_enough [] to rest h ne = absurd (ne (sym h))
 long_enough (items.Header p ∷ xs) to rest h ne =
     let more = items_spelling (after places.Header (items.Header p)) xs in

@@ -36,7 +36,8 @@ AreBytes-behind (x ∷ xs) ys h = AreBytes-behind xs ys (AreBytes-tail x (xs ++ 
 pub AreBytes-rest : (bytes xs rest : List ℕ) → bytes ≡ xs ++ rest → AreBytes bytes → AreBytes rest
 AreBytes-rest bytes xs rest e h = AreBytes-behind xs rest (subst AreBytes e h)
 
-pub lawful_give : {A : Type 0} (Fits : A → Type 0) (a : A) → Fits a → ((x : A) → Fits x → x ≡ a) → IsLawful Fits (λ x. []) (λ bytes. Got (a, bytes))
+pub lawful_give : {A : Type 0} (Fits : A → Type 0) (a : A) → Fits a → ((x : A) → Fits x → x ≡ a)
+    → IsLawful Fits (λ x. []) (λ bytes. Got (a, bytes))
 lawful_give {A} Fits a fits only = record {
   again = λ x rest h. ap (λ (y : A). got (y, rest)) (sym (only x h));
   sound = λ bytes x are e.
@@ -47,7 +48,8 @@ lawful_give {A} Fits a fits only = record {
 }
 
 -- the same reader, said in another way
-pub lawful_read : {A : Type 0} (Fits : A → Type 0) (spell : A → List ℕ) (r s : List ℕ → Read A) → ((bytes : List ℕ) → r bytes ≡ s bytes) → IsLawful Fits spell s → IsLawful Fits spell r
+pub lawful_read : {A : Type 0} (Fits : A → Type 0) (spell : A → List ℕ) (r s : List ℕ → Read A) → ((bytes : List ℕ) → r bytes ≡ s bytes)
+    → IsLawful Fits spell s → IsLawful Fits spell r
 lawful_read Fits spell r s same h = record {
   again = λ a rest fits. same (spell a ++ rest) ∙ h.again a rest fits;
   sound = λ bytes x are e. h.sound bytes x are (sym (same bytes) ∙ e);
@@ -58,7 +60,8 @@ lawful_read Fits spell r s same h = record {
 }
 
 -- the same values and spellings, said in another way
-pub lawful_values : {A : Type 0} (Fits Other : A → Type 0) (spell say : A → List ℕ) (r : List ℕ → Read A) → ((a : A) → Fits a → Other a) → ((a : A) → Other a → Fits a × (say a ≡ spell a)) → IsLawful Fits spell r → IsLawful Other say r
+pub lawful_values : {A : Type 0} (Fits Other : A → Type 0) (spell say : A → List ℕ) (r : List ℕ → Read A) → ((a : A) → Fits a → Other a)
+    → ((a : A) → Other a → Fits a × (say a ≡ spell a)) → IsLawful Fits spell r → IsLawful Other say r
 lawful_values Fits Other spell say r there back h = record {
   again = λ a rest fits. ap (λ (xs : List ℕ). r (xs ++ rest)) (back a fits).1 ∙ h.again a rest (back a fits).0;
   sound = λ bytes x are e.
@@ -113,7 +116,8 @@ lawful_map {A} {C} FitsA spellA r Fits part make there back h = record {
     bad_of More reason left e = absurd cc
     bad_of (Bad why other) reason left e = cc
 
-bind_more : {A B : Type 0} (r : Read A) (f : A × List ℕ → Read B) → (r >>= f) ≡ More → (r ≡ More) ⊎ ((x : A × List ℕ) × (r ≡ Got x) × (f x ≡ More))
+bind_more : {A B : Type 0} (r : Read A) (f : A × List ℕ → Read B) → (r >>= f) ≡ More → (r ≡ More)
+    ⊎ ((x : A × List ℕ) × (r ≡ Got x) × (f x ≡ More))
 bind_more (Got x) f e = inr (x, refl, e)
 bind_more More f e = inl refl
 bind_more (Bad reason left) f e = absurd cc
@@ -125,7 +129,9 @@ pub lawful_then : {A C : Type 0} (FitsA : A → Type 0) (spellA : A → List ℕ
     → IsLawful Fits (λ c. spellA (part c) ++ spellC c) (λ bytes. r bytes >>= λ x. f x.0 x.1)
 lawful_then {A} {C} FitsA spellA r Fits part spellC f there example h k = record {
   again = λ c rest fits.
-      let one : r ((spellA (part c) ++ spellC c) ++ rest) ≡ Got (part c, spellC c ++ rest) = ap r (append_assoc (spellA (part c)) (spellC c) rest) ∙ h.again (part c) (spellC c ++ rest) (there c fits) in
+      let one : r ((spellA (part c) ++ spellC c) ++ rest)
+      ≡ Got (part c, spellC c ++ rest) = ap r (append_assoc (spellA (part c)) (spellC c) rest)
+      ∙ h.again (part c) (spellC c ++ rest) (there c fits) in
       ap (λ (q : Read A). q >>= λ x. f x.0 x.1) one ∙ (k (part c) (there c fits)).again c rest (fits, refl);
   sound = λ bytes x are e.
       let b = bind_got (r bytes) (λ y. f y.0 y.1) x e in
@@ -163,10 +169,12 @@ lawful_then {A} {C} FitsA spellA r Fits part spellC f there example h k = record
               before = spellA g.0.0 ++ b.before;
               byte = b.byte;
               behind = b.behind;
-              parts = s.1 ∙ ap (λ (xs : List ℕ). spellA g.0.0 ++ xs) b.parts ∙ sym (append_assoc (spellA g.0.0) b.before (b.byte ∷ b.behind));
+              parts =
+                  s.1 ∙ ap (λ (xs : List ℕ). spellA g.0.0 ++ xs) b.parts ∙ sym (append_assoc (spellA g.0.0) b.before (b.byte ∷ b.behind));
               counted = b.counted;
               goes_on = ap (λ (q : Read A). q >>= λ x. f x.0 x.1) (h.again g.0.0 b.before s.0) ∙ b.goes_on;
-              refused = λ other. ap (λ (q : Read A). q >>= λ x. f x.0 x.1) (ap r (append_assoc (spellA g.0.0) b.before (b.byte ∷ other)) ∙ h.again g.0.0 (b.before ++ b.byte ∷ other) s.0) ∙ b.refused other;
+              refused =
+                  λ other. ap (λ (q : Read A). q >>= λ x. f x.0 x.1) (ap r (append_assoc (spellA g.0.0) b.before (b.byte ∷ other)) ∙ h.again g.0.0 (b.before ++ b.byte ∷ other) s.0) ∙ b.refused other;
             }
       ];
 }
@@ -188,23 +196,28 @@ lawful_first {A} Fits tag spell f why example fits cases small = record {
   bad = first_bad;
 }
   where
-    first_sound : (bytes : List ℕ) (x : A × List ℕ) → AreBytes bytes → by_first f bytes ≡ Got x → Fits x.0 × (bytes ≡ (tag x.0 ∷ spell x.0) ++ x.1)
+    first_sound : (bytes : List ℕ) (x : A × List ℕ) → AreBytes bytes → by_first f bytes ≡ Got x → Fits x.0
+        × (bytes ≡ (tag x.0 ∷ spell x.0) ++ x.1)
     first_sound [] x are e = absurd cc
     first_sound (b ∷ bytes) x are e =
         elim (cases b (AreBytes-head b bytes are)) [
           | inl n ↦ absurd (cc (n.0 bytes))
-          | inr l ↦ let s = l.sound bytes x (AreBytes-tail b bytes are) e in (s.0.0, ap (λ (xs : List ℕ). b ∷ xs) s.1 ∙ ap (λ (t : ℕ). t ∷ (spell x.0 ++ x.1)) (sym s.0.1))
+          | inr l ↦ let s =
+              l.sound bytes x (AreBytes-tail b bytes are) e in (s.0.0, ap (λ (xs : List ℕ). b ∷ xs) s.1 ∙ ap (λ (t : ℕ). t ∷ (spell x.0 ++ x.1)) (sym s.0.1))
         ]
 
-    first_more : (bytes : List ℕ) → AreBytes bytes → by_first f bytes ≡ More → (a : A) × (tail : List ℕ) × Fits a × (bytes ++ tail ≡ tag a ∷ spell a)
+    first_more : (bytes : List ℕ) → AreBytes bytes → by_first f bytes ≡ More → (a : A) × (tail : List ℕ) × Fits a
+        × (bytes ++ tail ≡ tag a ∷ spell a)
     first_more [] are e = (example, tag example ∷ spell example, fits, refl)
     first_more (b ∷ bytes) are e =
         elim (cases b (AreBytes-head b bytes are)) [
           | inl n ↦ absurd (cc (n.0 bytes))
-          | inr l ↦ let m = l.more bytes (AreBytes-tail b bytes are) e in (m.0, m.1, m.2.0, ap (λ (xs : List ℕ). b ∷ xs) m.3 ∙ ap (λ (t : ℕ). t ∷ spell m.0) (sym m.2.1))
+          | inr l ↦ let m =
+              l.more bytes (AreBytes-tail b bytes are) e in (m.0, m.1, m.2.0, ap (λ (xs : List ℕ). b ∷ xs) m.3 ∙ ap (λ (t : ℕ). t ∷ spell m.0) (sym m.2.1))
         ]
 
-    first_bad : (bytes : List ℕ) (reason : Reason) (left : ℕ) → AreBytes bytes → by_first f bytes ≡ Bad reason left → IsRefused (by_first f) bytes reason left
+    first_bad : (bytes : List ℕ) (reason : Reason) (left : ℕ) → AreBytes bytes → by_first f bytes ≡ Bad reason left
+        → IsRefused (by_first f) bytes reason left
     first_bad [] reason left are e = absurd cc
     first_bad (b ∷ bytes) reason left are e =
         elim (cases b (AreBytes-head b bytes are)) [

@@ -1,5 +1,6 @@
 -- Bytes that are fixed, counted values and signed numbers are read lawfully.
-use Rattle.std.proofs.Common.{◌≡◌, ℕ, suc, ◌+◌, ◌-◌, ◌<◌, ◌≤◌, ℤ, pos, negsuc, FitsSigned, Fits, Bool, true, false, cond, eqb, ltb, List, [], ◌∷◌, ◌++◌, length, refl, sym, ap, subst, ◌∙◌, arith, inl, inr, ◌⊎◌, lit≤}
+use Rattle.std.proofs.Common.{◌≡◌, ℕ, suc, ◌+◌, ◌-◌, ◌<◌, ◌≤◌, ℤ, pos, negsuc, FitsSigned, Fits, Bool, true, false, cond, eqb, ltb, List}
+use Rattle.std.proofs.Common.{[], ◌∷◌, ◌++◌, length, refl, sym, ap, subst, ◌∙◌, arith, inl, inr, ◌⊎◌, lit≤}
 use Rattle.std.specs.List.{flat_map, All}
 use Rattle.std.specs.Int.{w64, cast_signed, cast_unsigned}
 use Rattle.std.proofs.lemmas.Bool.{eqb-true, ltb-true, ltb-false}
@@ -21,7 +22,8 @@ use Rattle.record_laws.proofs.LawfulWords.{IsFrom, u64_is, u64_lawful}
 
 -- ---- reading one thing after another
 
-pub bind_bind : {A B C : Type 0} (r : Read A) (f : A × List ℕ → Read B) (g : B × List ℕ → Read C) → ((r >>= f) >>= g) ≡ (r >>= λ x. f x >>= g)
+pub bind_bind : {A B C : Type 0} (r : Read A) (f : A × List ℕ → Read B) (g : B × List ℕ → Read C) → ((r >>= f) >>= g)
+    ≡ (r >>= λ x. f x >>= g)
 bind_bind (Got x) f g = refl
 bind_bind More f g = refl
 bind_bind (Bad reason left) f g = refl
@@ -34,29 +36,34 @@ bind_same (Bad reason left) f g h = refl
 -- ---- fixed bytes
 
 -- one byte may stand there
-pub lawful_tag : {A : Type 0} (Fits : A → Type 0) (k : ℕ) (body : A → List ℕ) (g : List ℕ → Read A) (why : ℕ → Reason) (a : A) → Fits a → k < 256 → IsLawful Fits body g
+pub lawful_tag : {A : Type 0} (Fits : A → Type 0) (k : ℕ) (body : A → List ℕ) (g : List ℕ → Read A) (why : ℕ → Reason) (a : A) → Fits a
+    → k < 256 → IsLawful Fits body g
     → IsLawful Fits (λ c. k ∷ body c) (by_first (λ b bytes. cond (eqb b k) (g bytes) (Bad (why b) (suc (length bytes)))))
 lawful_tag {A} Fits k body g why a fits small l =
     lawful_first Fits (λ c. k) body (λ b bytes. cond (eqb b k) (g bytes) (Bad (why b) (suc (length bytes)))) why a fits (λ b h. cases b (eqb b k) refl) (λ c h. small)
   where
-    cases : (b : ℕ) (t : Bool) → eqb b k ≡ t → (((bytes : List ℕ) → cond (eqb b k) (g bytes) (Bad (why b) (suc (length bytes))) ≡ Bad (why b) (suc (length bytes))) × ((c : A) → Fits c → k ≡ b → ⊥))
+    cases : (b : ℕ) (t : Bool) → eqb b k ≡ t
+        → (((bytes : List ℕ) → cond (eqb b k) (g bytes) (Bad (why b) (suc (length bytes))) ≡ Bad (why b) (suc (length bytes))) × ((c : A) → Fits c → k ≡ b → ⊥))
         ⊎ IsLawful (λ c. Fits c × (k ≡ b)) body (λ bytes. cond (eqb b k) (g bytes) (Bad (why b) (suc (length bytes))))
     cases b true e =
         inr (lawful_read (λ c. Fits c × (k ≡ b)) body (λ bytes. cond (eqb b k) (g bytes) (Bad (why b) (suc (length bytes)))) g (λ bytes. ap (λ (t : Bool). cond t (g bytes) (Bad (why b) (suc (length bytes)))) e)
         (lawful_values Fits (λ c. Fits c × (k ≡ b)) body body g (λ c h. (h, sym (eqb-true b k e))) (λ c h. (h.0, refl)) l))
-    cases b false e = inl ((λ bytes. ap (λ (t : Bool). cond t (g bytes) (Bad (why b) (suc (length bytes)))) e), (λ c h same. grind (arith, nat_tests, e, same)))
+    cases b false e =
+        inl ((λ bytes. ap (λ (t : Bool). cond t (g bytes) (Bad (why b) (suc (length bytes)))) e), (λ c h same. grind (arith, nat_tests, e, same)))
 
 pub exactly_lawful : (reason : Reason) (k : ℕ) → k < 256 → IsLawful (λ n. n ≡ k) (λ n. k ∷ []) (exactly_at reason k)
 exactly_lawful reason k small =
     lawful_read (λ n. n ≡ k) (λ n. k ∷ []) (exactly_at reason k) (by_first (λ b bytes. cond (eqb b k) (Got (k, bytes)) (Bad reason (suc (length bytes))))) same
     (lawful_tag (λ n. n ≡ k) k (λ n. []) (λ bytes. Got (k, bytes)) (λ b. reason) k refl small (lawful_give (λ n. n ≡ k) k refl (λ n h. h)))
   where
-    same : (bytes : List ℕ) → exactly_at reason k bytes ≡ by_first (λ b bytes. cond (eqb b k) (Got (k, bytes)) (Bad reason (suc (length bytes)))) bytes
+    same : (bytes : List ℕ) → exactly_at reason k bytes
+        ≡ by_first (λ b bytes. cond (eqb b k) (Got (k, bytes)) (Bad reason (suc (length bytes)))) bytes
     same [] = refl
     same (b ∷ bytes) = refl
 
 -- a byte that has to be this one, and what stands behind it
-pub fixed_then : {C : Type 0} (reason : Reason) (k : ℕ) (Fits : C → Type 0) (c : C) (spell : C → List ℕ) (r : List ℕ → Read C) → k < 256 → Fits c → IsLawful Fits spell r → IsLawful Fits (λ d. k ∷ spell d) (λ bytes. exactly_at reason k bytes >>= λ x. r x.1)
+pub fixed_then : {C : Type 0} (reason : Reason) (k : ℕ) (Fits : C → Type 0) (c : C) (spell : C → List ℕ) (r : List ℕ → Read C) → k < 256
+    → Fits c → IsLawful Fits spell r → IsLawful Fits (λ d. k ∷ spell d) (λ bytes. exactly_at reason k bytes >>= λ x. r x.1)
 fixed_then reason k Fits c spell r small fits l =
     lawful_then (λ n. n ≡ k) (λ n. k ∷ []) (exactly_at reason k) Fits (λ d. k) spell (λ n. r) (λ d h. refl) (λ n h. (c, fits, sym h)) (exactly_lawful reason k small)
     (λ n h. lawful_values Fits (λ d. Fits d × (k ≡ n)) spell spell r (λ d f. (f, sym h)) (λ d f. (f.0, refl)) l)
@@ -105,7 +112,8 @@ near_there (negsuc n) h =
     let back : 18446744073709551616 - suc (18446744073709551616 - suc n) ≡ n = omega arith in
     ((inr (omega arith), omega arith), sym (ap (λ (t : Bool). cond t (pos (18446744073709551616 - suc n)) (negsuc (18446744073709551616 - suc (18446744073709551616 - suc n)))) high ∙ ap (λ (m : ℕ). negsuc m) back))
 
-near_back : (n : ℕ) (t : Bool) → ltb n 9223372036854775808 ≡ t → IsNear n → IsSampleValue (cond t (pos n) (negsuc (18446744073709551616 - suc n)))
+near_back : (n : ℕ) (t : Bool) → ltb n 9223372036854775808 ≡ t → IsNear n
+    → IsSampleValue (cond t (pos n) (negsuc (18446744073709551616 - suc n)))
 unfolding highest
 near_back n true e h =
     let lt : n < 9223372036854775808 = ltb-true n 9223372036854775808 e in

@@ -1,5 +1,6 @@
 -- A header is read lawfully.
-use Rattle.std.proofs.Common.{◌≡◌, ℕ, zero, suc, ◌<◌, ℤ, pos, FitsSigned, Bool, true, false, cond, eqb, ◌&&◌, List, [], ◌∷◌, ◌++◌, length, refl, sym, ap, subst, ◌∙◌, append_assoc, arith, inl, inr, ◌⊎◌, lit≤, lit<}
+use Rattle.std.proofs.Common.{◌≡◌, ℕ, zero, suc, ◌<◌, ℤ, pos, FitsSigned, Bool, true, false, cond, eqb, ◌&&◌, List, [], ◌∷◌, ◌++◌, length}
+use Rattle.std.proofs.Common.{refl, sym, ap, subst, ◌∙◌, append_assoc, arith, inl, inr, ◌⊎◌, lit≤, lit<}
 use Rattle.std.specs.List.{flat_map, All, list_all}
 use Rattle.std.specs.Int.{w64}
 use Rattle.std.proofs.Math.Facts.{sfits_lit}
@@ -15,8 +16,10 @@ use Rattle.det_values.specs.Limits.{may_stand_in_name, is_event_name, KnowsPolic
 use Rattle.record_grammar.specs.declared.fault.Reason.TheVariants.{Magic, Version, Range}
 use Rattle.record_grammar.specs.Read.{Read, Got, Bad, ◌>>=◌}
 use Rattle.record_grammar.specs.Numbers.{number}
-use Rattle.record_grammar.specs.Grammar.{signed_at, exactly_at, magic_at, format_at, version_at, name_byte_at, name_at, policy_of, policy_at, event_at, params_at, events_at, profile_at}
-use Rattle.record_grammar.specs.Spelling.{spelled_u16, spelled_u64, spelled_signed, version, policy_number, spelled_policy, spelled_event, spelled_params, spelled_events, magic, spelled_numbers, spelled_header, IsEvent, IsHeader}
+use Rattle.record_grammar.specs.Grammar.{signed_at, exactly_at, magic_at, format_at, version_at, name_byte_at, name_at, policy_of}
+use Rattle.record_grammar.specs.Grammar.{policy_at, event_at, params_at, events_at, profile_at}
+use Rattle.record_grammar.specs.Spelling.{spelled_u16, spelled_u64, spelled_signed, version, policy_number, spelled_policy, spelled_event}
+use Rattle.record_grammar.specs.Spelling.{spelled_params, spelled_events, magic, spelled_numbers, spelled_header, IsEvent, IsHeader}
 use Rattle.record_grammar.proofs.Steady.{by_first}
 use Rattle.record_laws.proofs.Lawful.{IsLawful, lawful_give, lawful_read, lawful_values, lawful_map, lawful_then, lawful_first}
 use Rattle.record_laws.proofs.HeaderParts.{a_profile, from_events, from_params, from_cycle, from_seed, from_job, from_version}
@@ -49,7 +52,9 @@ format_reads [] = refl
 format_reads (b ∷ bytes) = refl
 
 abbrev FormatCase : ℕ → Type 0
-FormatCase b = (((bytes : List ℕ) → format_by b bytes ≡ Bad Version (suc (length bytes))) × ((c : Format) → AnyFormat c → version c ≡ b → ⊥)) ⊎ IsLawful (λ c. AnyFormat c × (version c ≡ b)) (λ c. []) (format_by b)
+FormatCase b =
+    (((bytes : List ℕ) → format_by b bytes ≡ Bad Version (suc (length bytes))) × ((c : Format) → AnyFormat c → version c ≡ b → ⊥))
+    ⊎ IsLawful (λ c. AnyFormat c × (version c ≡ b)) (λ c. []) (format_by b)
 
 one_only : (c : Format) → AnyFormat c × (version c ≡ 1) → c ≡ One
 one_only One h = refl
@@ -60,8 +65,10 @@ two_only Two h = refl
 two_only One h = absurd (omega (arith, h.1))
 
 format_case : (b : ℕ) (one two : Bool) → eqb b 1 ≡ one → eqb b 2 ≡ two → FormatCase b
-format_case b true two e f = subst FormatCase (sym (eqb-true b 1 e)) (inr (lawful_give (λ c. AnyFormat c × (version c ≡ 1)) One (tt, refl) one_only))
-format_case b false true e f = subst FormatCase (sym (eqb-true b 2 f)) (inr (lawful_give (λ c. AnyFormat c × (version c ≡ 2)) Two (tt, refl) two_only))
+format_case b true two e f =
+    subst FormatCase (sym (eqb-true b 1 e)) (inr (lawful_give (λ c. AnyFormat c × (version c ≡ 1)) One (tt, refl) one_only))
+format_case b false true e f =
+    subst FormatCase (sym (eqb-true b 2 f)) (inr (lawful_give (λ c. AnyFormat c × (version c ≡ 2)) Two (tt, refl) two_only))
 format_case b false false e f = inl ((λ bytes. rw (e, f) refl), other)
   where
     other : (c : Format) → AnyFormat c → version c ≡ b → ⊥
@@ -101,7 +108,9 @@ unfolding name_byte_at
 name_byte_reads [] = refl
 name_byte_reads (b ∷ bytes) = refl
 
-name_byte_case : (b : ℕ) (t : Bool) → may_stand_in_name b ≡ t → (((bytes : List ℕ) → name_byte_by b bytes ≡ Bad Range (suc (length bytes))) × ((c : ℕ) → IsNameByte c → c ≡ b → ⊥)) ⊎ IsLawful (λ c. IsNameByte c × (c ≡ b)) (λ c. []) (name_byte_by b)
+name_byte_case : (b : ℕ) (t : Bool) → may_stand_in_name b ≡ t
+    → (((bytes : List ℕ) → name_byte_by b bytes ≡ Bad Range (suc (length bytes))) × ((c : ℕ) → IsNameByte c → c ≡ b → ⊥))
+    ⊎ IsLawful (λ c. IsNameByte c × (c ≡ b)) (λ c. []) (name_byte_by b)
 name_byte_case b true e =
     inr (lawful_read (λ c. IsNameByte c × (c ≡ b)) (λ c. []) (name_byte_by b) (λ bytes. Got (b, bytes)) (λ bytes. ap (λ (t : Bool). cond t (Got (b, bytes)) (Bad Range (suc (length bytes)))) e)
     (lawful_give (λ c. IsNameByte c × (c ≡ b)) b (e, refl) (λ c h. h.1)))
@@ -118,7 +127,8 @@ name_byte_lawful =
 
 all_name_bytes : (bytes : List ℕ) → list_all may_stand_in_name bytes ≡ true → All IsNameByte bytes
 all_name_bytes [] h = All-nil IsNameByte
-all_name_bytes (b ∷ bytes) h = let p = both (may_stand_in_name b) (list_all may_stand_in_name bytes) h in All-cons IsNameByte b bytes p.0 (all_name_bytes bytes p.1)
+all_name_bytes (b ∷ bytes) h =
+    let p = both (may_stand_in_name b) (list_all may_stand_in_name bytes) h in All-cons IsNameByte b bytes p.0 (all_name_bytes bytes p.1)
   where
     both : (s t : Bool) → (s && t) ≡ true → (s ≡ true) × (t ≡ true)
     both true true e = (refl, refl)
@@ -127,7 +137,9 @@ all_name_bytes (b ∷ bytes) h = let p = both (may_stand_in_name b) (list_all ma
 
 name_bytes_all : (bytes : List ℕ) → All IsNameByte bytes → list_all may_stand_in_name bytes ≡ true
 name_bytes_all [] h = refl
-name_bytes_all (b ∷ bytes) h = ap (λ (t : Bool). t && list_all may_stand_in_name bytes) (All-head IsNameByte b bytes h) ∙ name_bytes_all bytes (All-tail IsNameByte b bytes h)
+name_bytes_all (b ∷ bytes) h =
+    ap (λ (t : Bool). t && list_all may_stand_in_name bytes) (All-head IsNameByte b bytes h)
+    ∙ name_bytes_all bytes (All-tail IsNameByte b bytes h)
 
 each_byte : (bytes : List ℕ) → flat_map (λ b. b ∷ []) bytes ≡ bytes
 each_byte [] = refl
@@ -170,7 +182,8 @@ number_back (suc (suc n)) h = absurd (omega (arith, h.1))
 policy_lawful : (format : Format) → IsLawful (KnowsPolicy format) (spelled_policy format) (policy_at format)
 unfolding policy_at
 policy_lawful One = lawful_give (KnowsPolicy One) Last refl (λ p h. h)
-policy_lawful Two = lawful_map (IsFrom 0 1) (λ n. n ∷ []) (number 1 0 1) (KnowsPolicy Two) policy_number policy_of (λ p h. (policy_small p, policy_back p)) (λ n h. (tt, number_back n h)) (byte_lawful 0 1 (lit≤ tt) (lit≤ tt))
+policy_lawful Two =
+    lawful_map (IsFrom 0 1) (λ n. n ∷ []) (number 1 0 1) (KnowsPolicy Two) policy_number policy_of (λ p h. (policy_small p, policy_back p)) (λ n h. (tt, number_back n h)) (byte_lawful 0 1 (lit≤ tt) (lit≤ tt))
 
 abbrev an_event : ℕ → List ℕ → Policy → EventSpecValue
 an_event capacity name policy = record { capacity = capacity; name = name; policy = policy }
@@ -209,7 +222,8 @@ AreParams params = IsFrom 0 16 (length params) × All (FitsSigned w64) params
 
 params_lawful : IsLawful AreParams spelled_params params_at
 unfolding params_at
-params_lawful = counted_lawful (FitsSigned w64) spelled_signed signed_at (pos 0) (sfits_lit tt) signed_lawful 2 0 16 spelled_u16 (u16_lawful 0 16 (lit≤ tt) (lit≤ tt))
+params_lawful =
+    counted_lawful (FitsSigned w64) spelled_signed signed_at (pos 0) (sfits_lit tt) signed_lawful 2 0 16 spelled_u16 (u16_lawful 0 16 (lit≤ tt) (lit≤ tt))
 
 abbrev AreEvents : Format → List EventSpecValue → Type 0
 AreEvents format events = IsFrom 0 256 (length events) × All (IsEventOf format) events
@@ -224,7 +238,9 @@ events_lawful format =
 
 -- the fields, each by its own condition
 abbrev AreFields : Format → ProfileValue → Type 0
-AreFields format p = IsFrom 0 65535 p.job × IsFrom 0 18446744073709551615 p.seed × IsFrom 1 9223372036854775807 p.cycle_time × AreParams p.params × AreEvents format p.events
+AreFields format p =
+    IsFrom 0 65535 p.job × IsFrom 0 18446744073709551615 p.seed × IsFrom 1 9223372036854775807 p.cycle_time × AreParams p.params
+    × AreEvents format p.events
 
 no_params : AreParams []
 no_params = ((lit≤ tt, lit≤ tt), All-nil (FitsSigned w64))
@@ -235,7 +251,8 @@ no_events format = ((lit≤ tt, lit≤ tt), All-nil (IsEventOf format))
 abbrev IsIn : Format → ProfileValue → Type 0
 IsIn format p = AreFields format p × (p.format ≡ format)
 
-job_lawful : (format : Format) → IsLawful (IsIn format) (λ p. spelled_u16 p.job ++ (spelled_u64 p.seed ++ (spelled_u64 p.cycle_time ++ (spelled_params p.params ++ spelled_events format p.events)))) (from_job format)
+job_lawful : (format : Format)
+    → IsLawful (IsIn format) (λ p. spelled_u16 p.job ++ (spelled_u64 p.seed ++ (spelled_u64 p.cycle_time ++ (spelled_params p.params ++ spelled_events format p.events)))) (from_job format)
 job_lawful format =
     lawful_then (IsFrom 0 65535) spelled_u16 (number 2 0 65535) (IsIn format) (λ p. p.job) (λ p. spelled_u64 p.seed ++ (spelled_u64 p.cycle_time ++ (spelled_params p.params ++ spelled_events format p.events))) (from_seed format)
     (λ p h. h.0.0) (λ job hj. (a_profile format job 0 1 [] [], ((hj, (lit≤ tt, lit≤ tt), (lit≤ tt, lit≤ tt), no_params, no_events format), refl), refl)) (u16_lawful 0 65535 (lit≤ tt) (lit≤ tt)) (λ job hj.
@@ -248,19 +265,24 @@ job_lawful format =
     lawful_map (AreEvents format) (spelled_events format) (events_at format) (λ p. (((IsIn format p × (p.job ≡ job)) × (p.seed ≡ seed)) × (p.cycle_time ≡ cycle)) × (p.params ≡ params)) (λ p. p.events) (a_profile format job seed cycle params)
     (λ p h. (
       h.0.0.0.0.0.4,
-      ap (λ (f : Format). a_profile f p.job p.seed p.cycle_time p.params p.events) h.0.0.0.0.1 ∙ ap (λ (n : ℕ). a_profile format n p.seed p.cycle_time p.params p.events) h.0.0.0.1
-          ∙ ap (λ (n : ℕ). a_profile format job n p.cycle_time p.params p.events) h.0.0.1 ∙ ap (λ (n : ℕ). a_profile format job seed n p.params p.events) h.0.1 ∙ ap (λ (xs : List ℤ). a_profile format job seed cycle xs p.events) h.1,
+      ap (λ (f : Format). a_profile f p.job p.seed p.cycle_time p.params p.events) h.0.0.0.0.1
+          ∙ ap (λ (n : ℕ). a_profile format n p.seed p.cycle_time p.params p.events) h.0.0.0.1
+          ∙ ap (λ (n : ℕ). a_profile format job n p.cycle_time p.params p.events) h.0.0.1
+          ∙ ap (λ (n : ℕ). a_profile format job seed n p.params p.events) h.0.1
+          ∙ ap (λ (xs : List ℤ). a_profile format job seed cycle xs p.events) h.1,
     ))
     (λ events he. ((((((((hj, hs, hc, hp, he), refl), refl), refl), refl), refl)), refl)) (events_lawful format)))))
 
 abbrev pub behind_version : ProfileValue → List ℕ
-behind_version p = spelled_u16 p.job ++ (spelled_u64 p.seed ++ (spelled_u64 p.cycle_time ++ (spelled_params p.params ++ spelled_events p.format p.events)))
+behind_version p =
+    spelled_u16 p.job ++ (spelled_u64 p.seed ++ (spelled_u64 p.cycle_time ++ (spelled_params p.params ++ spelled_events p.format p.events)))
 
 abbrev IsAny : ProfileValue → Type 0
 IsAny p = AreFields p.format p
 
 some_profile : (format : Format) → (p : ProfileValue) × IsAny p × (p.format ≡ format)
-some_profile format = (a_profile format 0 0 1 [] [], ((lit≤ tt, lit≤ tt), (lit≤ tt, lit≤ tt), (lit≤ tt, lit≤ tt), no_params, no_events format), refl)
+some_profile format =
+    (a_profile format 0 0 1 [] [], ((lit≤ tt, lit≤ tt), (lit≤ tt, lit≤ tt), (lit≤ tt, lit≤ tt), no_params, no_events format), refl)
 
 fields_lawful : IsLawful IsAny (λ p. magic ++ (spelled_u16 (version p.format) ++ behind_version p)) profile_at
 unfolding profile_at
@@ -275,11 +297,14 @@ fields_lawful =
     (job_lawful format)))
 
 -- each event of its format, and all events of it
-events_there : (format : Format) (events : List EventSpecValue) → All (IsEventOf format) events → All IsEvent events × KnowsPolicies format events
-events_there One events h = (All-weaker (IsEventOf One) IsEvent (λ e k. k.0) events h, All-weaker (IsEventOf One) (λ e. e.policy ≡ Last) (λ e k. k.1) events h)
+events_there : (format : Format) (events : List EventSpecValue) → All (IsEventOf format) events → All IsEvent events
+    × KnowsPolicies format events
+events_there One events h =
+    (All-weaker (IsEventOf One) IsEvent (λ e k. k.0) events h, All-weaker (IsEventOf One) (λ e. e.policy ≡ Last) (λ e k. k.1) events h)
 events_there Two events h = (All-weaker (IsEventOf Two) IsEvent (λ e k. k.0) events h, tt)
 
-events_back : (format : Format) (events : List EventSpecValue) → All IsEvent events → KnowsPolicies format events → All (IsEventOf format) events
+events_back : (format : Format) (events : List EventSpecValue) → All IsEvent events → KnowsPolicies format events
+    → All (IsEventOf format) events
 events_back One [] h k = All-nil (IsEventOf One)
 events_back One (e ∷ events) h k =
     All-cons (IsEventOf One) e events (All-head IsEvent e events h, All-head (λ (x : EventSpecValue). x.policy ≡ Last) e events k) (events_back One events (All-tail IsEvent e events h) (All-tail (λ (x : EventSpecValue). x.policy ≡ Last) e events k))
@@ -306,4 +331,5 @@ header_is p =
     ∙ ap (λ (xs : List ℕ). magic ++ xs) (append_assoc a (b ++ (c ++ d)) e ∙ ap (λ (xs : List ℕ). a ++ xs) (append_assoc b (c ++ d) e ∙ ap (λ (xs : List ℕ). b ++ xs) (append_assoc c d e)))
 
 pub header_lawful : IsLawful IsHeader spelled_header profile_at
-header_lawful = lawful_values IsAny IsHeader (λ p. magic ++ (spelled_u16 (version p.format) ++ behind_version p)) spelled_header profile_at header_there (λ p h. (header_back p h, header_is p)) fields_lawful
+header_lawful =
+    lawful_values IsAny IsHeader (λ p. magic ++ (spelled_u16 (version p.format) ++ behind_version p)) spelled_header profile_at header_there (λ p h. (header_back p h, header_is p)) fields_lawful

@@ -1,5 +1,6 @@
 -- Each item is read lawfully in its place.
-use Rattle.std.proofs.Common.{◌≡◌, ℕ, suc, ◌<◌, ◌≤◌, Bool, true, false, cond, eqb, ltb, List, [], ◌∷◌, ◌++◌, length, refl, sym, ap, subst, ◌∙◌, arith, inl, inr, ◌⊎◌, lit≤, lit<}
+use Rattle.std.proofs.Common.{◌≡◌, ℕ, suc, ◌<◌, ◌≤◌, Bool, true, false, cond, eqb, ltb, List, [], ◌∷◌, ◌++◌, length, refl, sym, ap, subst}
+use Rattle.std.proofs.Common.{◌∙◌, arith, inl, inr, ◌⊎◌, lit≤, lit<}
 use Rattle.std.specs.List.{flat_map, All}
 use Rattle.std.proofs.lemmas.Bool.{eqb-true, ltb-true}
 use Rattle.std.proofs.lemmas.Bool.Decides.{nat_tests}
@@ -33,16 +34,20 @@ use Rattle.record_laws.proofs.LawfulRuns.{nothing_before, IsRun, IsRunFrame, spe
 -- ---- a frame without fields
 
 -- this frame alone, with this tag
-bare_lawful : (f : Frame) (tag : ℕ) (place : Place) → tag < 256 → ((b : ℕ) (bytes : List ℕ) → tagged_at place b bytes ≡ cond (eqb b tag) (Got (f, bytes)) (Bad (tag_reason b) (suc (length bytes)))) → IsLawful (λ g. g ≡ f) (λ g. tag ∷ []) (frame_at place)
+bare_lawful : (f : Frame) (tag : ℕ) (place : Place) → tag < 256
+    → ((b : ℕ) (bytes : List ℕ) → tagged_at place b bytes ≡ cond (eqb b tag) (Got (f, bytes)) (Bad (tag_reason b) (suc (length bytes))))
+    → IsLawful (λ g. g ≡ f) (λ g. tag ∷ []) (frame_at place)
 bare_lawful f tag place small same =
     lawful_read (λ g. g ≡ f) (λ g. tag ∷ []) (frame_at place) (by_first (λ b bytes. cond (eqb b tag) (Got (f, bytes)) (Bad (tag_reason b) (suc (length bytes))))) reads
     (lawful_tag (λ g. g ≡ f) tag (λ g. []) (λ bytes. Got (f, bytes)) tag_reason f refl small (lawful_give (λ g. g ≡ f) f refl (λ g h. h)))
   where
-    by_tag : (bytes : List ℕ) → by_first (tagged_at place) bytes ≡ by_first (λ b bytes. cond (eqb b tag) (Got (f, bytes)) (Bad (tag_reason b) (suc (length bytes)))) bytes
+    by_tag : (bytes : List ℕ) → by_first (tagged_at place) bytes
+        ≡ by_first (λ b bytes. cond (eqb b tag) (Got (f, bytes)) (Bad (tag_reason b) (suc (length bytes)))) bytes
     by_tag [] = refl
     by_tag (b ∷ bytes) = same b bytes
 
-    reads : (bytes : List ℕ) → frame_at place bytes ≡ by_first (λ b bytes. cond (eqb b tag) (Got (f, bytes)) (Bad (tag_reason b) (suc (length bytes)))) bytes
+    reads : (bytes : List ℕ) → frame_at place bytes
+        ≡ by_first (λ b bytes. cond (eqb b tag) (Got (f, bytes)) (Bad (tag_reason b) (suc (length bytes)))) bytes
     reads bytes = frame_same place bytes ∙ by_tag bytes
 
 register_lawful : (layout : Layout) → IsLawful (λ g. g ≡ frames.Register) (λ g. 1 ∷ []) (frame_at (places.Register layout))
@@ -95,7 +100,8 @@ init_there frames.Terminate h = absurd h
 no_elements : AreElements []
 no_elements = ((lit≤ tt, lit≤ tt), All-nil IsElement)
 
-init_tag : (layout : Layout) (bytes : List ℕ) → frame_at (places.Init layout) bytes ≡ by_first (λ b bytes. cond (eqb b 3) (init_at bytes) (Bad (tag_reason b) (suc (length bytes)))) bytes
+init_tag : (layout : Layout) (bytes : List ℕ) → frame_at (places.Init layout) bytes
+    ≡ by_first (λ b bytes. cond (eqb b 3) (init_at bytes) (Bad (tag_reason b) (suc (length bytes)))) bytes
 unfolding frame_at tagged_at
 init_tag layout [] = refl
 init_tag layout (b ∷ bytes) = refl
@@ -133,7 +139,8 @@ module _ (layout : Layout) (before : ℕ) where
   behind_tag (frames.Init elements) = []
 
   abbrev next_by : ℕ → List ℕ → Read Frame
-  next_by b bytes = cond (eqb b 4) (cond (ltb before 1000000) (run_at layout bytes) (Bad TooMany (suc (length bytes)))) (cond (eqb b 5) (Got (frames.Terminate, bytes)) (Bad (tag_reason b) (suc (length bytes))))
+  next_by b bytes =
+      cond (eqb b 4) (cond (ltb before 1000000) (run_at layout bytes) (Bad TooMany (suc (length bytes)))) (cond (eqb b 5) (Got (frames.Terminate, bytes)) (Bad (tag_reason b) (suc (length bytes))))
 
   next_reason : ℕ → Reason
   next_reason b = cond (eqb b 4) TooMany (tag_reason b)
@@ -144,7 +151,9 @@ module _ (layout : Layout) (before : ℕ) where
   runs_tag (b ∷ bytes) = refl
 
   NextCase : ℕ → Type 0
-  NextCase b = (((bytes : List ℕ) → next_by b bytes ≡ Bad (next_reason b) (suc (length bytes))) × ((c : Frame) → IsNext c → tag_of c ≡ b → ⊥)) ⊎ IsLawful (λ c. IsNext c × (tag_of c ≡ b)) behind_tag (next_by b)
+  NextCase b =
+      (((bytes : List ℕ) → next_by b bytes ≡ Bad (next_reason b) (suc (length bytes))) × ((c : Frame) → IsNext c → tag_of c ≡ b → ⊥))
+      ⊎ IsLawful (λ c. IsNext c × (tag_of c ≡ b)) behind_tag (next_by b)
 
   run_there : (c : Frame) → IsRunFrame layout c → before < 1000000 → IsNext c × (tag_of c ≡ 4)
   run_there (frames.Run r) h lt = ((lt, h), refl)
@@ -186,7 +195,8 @@ module _ (layout : Layout) (before : ℕ) where
   at_four true e few =
       inr (lawful_read (λ c. IsNext c × (tag_of c ≡ 4)) behind_tag (next_by 4) (run_at layout) (λ bytes. ap (λ (t : Bool). cond t (run_at layout bytes) (Bad TooMany (suc (length bytes)))) e)
       (lawful_values (IsRunFrame layout) (λ c. IsNext c × (tag_of c ≡ 4)) (λ c. spelled_run layout (run_of c)) behind_tag (run_at layout) (λ c h. run_there c h (ltb-true before 1000000 e)) run_back (run_lawful layout few)))
-  at_four false e few = inl ((λ bytes. ap (λ (t : Bool). cond t (run_at layout bytes) (Bad TooMany (suc (length bytes)))) e), (λ c h same. no_room c h same e))
+  at_four false e few =
+      inl ((λ bytes. ap (λ (t : Bool). cond t (run_at layout bytes) (Bad TooMany (suc (length bytes)))) e), (λ c h same. no_room c h same e))
 
   at_five : NextCase 5
   unfolding NextCase
@@ -209,7 +219,9 @@ module _ (layout : Layout) (before : ℕ) where
   at_byte b false true e f few = subst NextCase (sym (eqb-true b 5 f)) at_five
   at_byte b false false e f few = at_other b e f
 
-  next_cases : layout.events ≤ 65536 → (b : ℕ) → b < 256 → (((bytes : List ℕ) → next_by b bytes ≡ Bad (next_reason b) (suc (length bytes))) × ((c : Frame) → IsNext c → tag_of c ≡ b → ⊥)) ⊎ IsLawful (λ c. IsNext c × (tag_of c ≡ b)) behind_tag (next_by b)
+  next_cases : layout.events ≤ 65536 → (b : ℕ) → b < 256
+      → (((bytes : List ℕ) → next_by b bytes ≡ Bad (next_reason b) (suc (length bytes))) × ((c : Frame) → IsNext c → tag_of c ≡ b → ⊥))
+      ⊎ IsLawful (λ c. IsNext c × (tag_of c ≡ b)) behind_tag (next_by b)
   unfolding NextCase
   next_cases few b small = at_byte b (eqb b 4) (eqb b 5) refl refl few
 
@@ -236,7 +248,9 @@ frame_of (items.Frame f) = f
 frame_of (items.Header p) = frames.Register
 
 -- an item that is a frame
-framed_lawful : (Fits : Frame → Type 0) (spell : Frame → List ℕ) (place : Place) → ((x : Item) → MayStand place x → Fits (frame_of x) × (x ≡ items.Frame (frame_of x))) → ((f : Frame) → Fits f → MayStand place (items.Frame f))
+framed_lawful : (Fits : Frame → Type 0) (spell : Frame → List ℕ) (place : Place)
+    → ((x : Item) → MayStand place x → Fits (frame_of x) × (x ≡ items.Frame (frame_of x)))
+    → ((f : Frame) → Fits f → MayStand place (items.Frame f))
     → ((x : Item) → MayStand place x → item_spelling place x ≡ spell (frame_of x)) → IsLawful Fits spell (frame_at place)
     → IsLawful (MayStand place) (item_spelling place) (λ bytes. frame_at place bytes >>= λ f. Got (items.Frame f.0, f.1))
 framed_lawful Fits spell place there back spelled l =
@@ -248,7 +262,8 @@ header_item_lawful =
     lawful_values (MayStand places.Header) (MayStand places.Header) (λ x. spelled_header (profile_of x)) (item_spelling places.Header) (λ bytes. profile_at bytes >>= λ p. Got (items.Header p.0, p.1)) (λ x h. h) spelled
     (lawful_map IsHeader spelled_header profile_at (MayStand places.Header) profile_of (λ p. items.Header p) there (λ p h. (h, refl)) header_lawful)
   where
-    spelled : (x : Item) → MayStand places.Header x → MayStand places.Header x × (item_spelling places.Header x ≡ spelled_header (profile_of x))
+    spelled : (x : Item) → MayStand places.Header x → MayStand places.Header x
+        × (item_spelling places.Header x ≡ spelled_header (profile_of x))
     spelled (items.Header p) h = (h, refl)
     spelled (items.Frame f) h = absurd h
 
@@ -256,9 +271,11 @@ header_item_lawful =
     there (items.Header p) h = (h, refl)
     there (items.Frame f) h = absurd h
 
-register_item_lawful : (layout : Layout) → IsLawful (MayStand (places.Register layout)) (item_spelling (places.Register layout)) (λ bytes. frame_at (places.Register layout) bytes >>= λ f. Got (items.Frame f.0, f.1))
+register_item_lawful : (layout : Layout)
+    → IsLawful (MayStand (places.Register layout)) (item_spelling (places.Register layout)) (λ bytes. frame_at (places.Register layout) bytes >>= λ f. Got (items.Frame f.0, f.1))
 unfolding spelled_frame
-register_item_lawful layout = framed_lawful (λ g. g ≡ frames.Register) (λ g. 1 ∷ []) (places.Register layout) there (λ f h. subst (λ (g : Frame). MayStand (places.Register layout) (items.Frame g)) (sym h) tt) spelled (register_lawful layout)
+register_item_lawful layout =
+    framed_lawful (λ g. g ≡ frames.Register) (λ g. 1 ∷ []) (places.Register layout) there (λ f h. subst (λ (g : Frame). MayStand (places.Register layout) (items.Frame g)) (sym h) tt) spelled (register_lawful layout)
   where
     there : (x : Item) → MayStand (places.Register layout) x → (frame_of x ≡ frames.Register) × (x ≡ items.Frame (frame_of x))
     there (items.Frame frames.Register) h = (refl, refl)
@@ -276,9 +293,11 @@ register_item_lawful layout = framed_lawful (λ g. g ≡ frames.Register) (λ g.
     spelled (items.Frame frames.Terminate) h = absurd h
     spelled (items.Header p) h = absurd h
 
-discover_item_lawful : (layout : Layout) → IsLawful (MayStand (places.Discover layout)) (item_spelling (places.Discover layout)) (λ bytes. frame_at (places.Discover layout) bytes >>= λ f. Got (items.Frame f.0, f.1))
+discover_item_lawful : (layout : Layout)
+    → IsLawful (MayStand (places.Discover layout)) (item_spelling (places.Discover layout)) (λ bytes. frame_at (places.Discover layout) bytes >>= λ f. Got (items.Frame f.0, f.1))
 unfolding spelled_frame
-discover_item_lawful layout = framed_lawful (λ g. g ≡ frames.Discover) (λ g. 2 ∷ []) (places.Discover layout) there (λ f h. subst (λ (g : Frame). MayStand (places.Discover layout) (items.Frame g)) (sym h) tt) spelled (discover_lawful layout)
+discover_item_lawful layout =
+    framed_lawful (λ g. g ≡ frames.Discover) (λ g. 2 ∷ []) (places.Discover layout) there (λ f h. subst (λ (g : Frame). MayStand (places.Discover layout) (items.Frame g)) (sym h) tt) spelled (discover_lawful layout)
   where
     there : (x : Item) → MayStand (places.Discover layout) x → (frame_of x ≡ frames.Discover) × (x ≡ items.Frame (frame_of x))
     there (items.Frame frames.Discover) h = (refl, refl)
@@ -296,9 +315,11 @@ discover_item_lawful layout = framed_lawful (λ g. g ≡ frames.Discover) (λ g.
     spelled (items.Frame frames.Terminate) h = absurd h
     spelled (items.Header p) h = absurd h
 
-init_item_lawful : (layout : Layout) → IsLawful (MayStand (places.Init layout)) (item_spelling (places.Init layout)) (λ bytes. frame_at (places.Init layout) bytes >>= λ f. Got (items.Frame f.0, f.1))
+init_item_lawful : (layout : Layout)
+    → IsLawful (MayStand (places.Init layout)) (item_spelling (places.Init layout)) (λ bytes. frame_at (places.Init layout) bytes >>= λ f. Got (items.Frame f.0, f.1))
 unfolding spelled_frame IsFrame
-init_item_lawful layout = framed_lawful IsInit (λ f. 3 ∷ spelled_elements (elements_of f)) (places.Init layout) there back spelled (init_lawful layout)
+init_item_lawful layout =
+    framed_lawful IsInit (λ f. 3 ∷ spelled_elements (elements_of f)) (places.Init layout) there back spelled (init_lawful layout)
   where
     there : (x : Item) → MayStand (places.Init layout) x → IsInit (frame_of x) × (x ≡ items.Frame (frame_of x))
     there (items.Frame (frames.Init elements)) h = (((omega arith, h.0), h.1), refl)
@@ -315,7 +336,8 @@ init_item_lawful layout = framed_lawful IsInit (λ f. 3 ∷ spelled_elements (el
     back (frames.Run r) h = absurd h
     back frames.Terminate h = absurd h
 
-    spelled : (x : Item) → MayStand (places.Init layout) x → item_spelling (places.Init layout) x ≡ 3 ∷ spelled_elements (elements_of (frame_of x))
+    spelled : (x : Item) → MayStand (places.Init layout) x → item_spelling (places.Init layout) x ≡ 3
+        ∷ spelled_elements (elements_of (frame_of x))
     spelled (items.Frame (frames.Init elements)) h = refl
     spelled (items.Frame frames.Register) h = absurd h
     spelled (items.Frame frames.Discover) h = absurd h
@@ -323,9 +345,11 @@ init_item_lawful layout = framed_lawful IsInit (λ f. 3 ∷ spelled_elements (el
     spelled (items.Frame frames.Terminate) h = absurd h
     spelled (items.Header p) h = absurd h
 
-runs_item_lawful : (layout : Layout) (before : ℕ) → layout.events ≤ 65536 → IsLawful (MayStand (places.Runs layout before)) (item_spelling (places.Runs layout before)) (λ bytes. frame_at (places.Runs layout before) bytes >>= λ f. Got (items.Frame f.0, f.1))
+runs_item_lawful : (layout : Layout) (before : ℕ) → layout.events ≤ 65536
+    → IsLawful (MayStand (places.Runs layout before)) (item_spelling (places.Runs layout before)) (λ bytes. frame_at (places.Runs layout before) bytes >>= λ f. Got (items.Frame f.0, f.1))
 unfolding spelled_frame IsFrame
-runs_item_lawful layout before few = framed_lawful (IsNext layout before) (λ f. tag_of layout before f ∷ behind_tag layout before f) (places.Runs layout before) there back spelled (runs_lawful layout before few)
+runs_item_lawful layout before few =
+    framed_lawful (IsNext layout before) (λ f. tag_of layout before f ∷ behind_tag layout before f) (places.Runs layout before) there back spelled (runs_lawful layout before few)
   where
     there : (x : Item) → MayStand (places.Runs layout before) x → IsNext layout before (frame_of x) × (x ≡ items.Frame (frame_of x))
     there (items.Frame (frames.Run r)) h = (h, refl)
@@ -342,7 +366,8 @@ runs_item_lawful layout before few = framed_lawful (IsNext layout before) (λ f.
     back frames.Discover h = absurd h
     back (frames.Init elements) h = absurd h
 
-    spelled : (x : Item) → MayStand (places.Runs layout before) x → item_spelling (places.Runs layout before) x ≡ tag_of layout before (frame_of x) ∷ behind_tag layout before (frame_of x)
+    spelled : (x : Item) → MayStand (places.Runs layout before) x → item_spelling (places.Runs layout before) x
+        ≡ tag_of layout before (frame_of x) ∷ behind_tag layout before (frame_of x)
     spelled (items.Frame (frames.Run r)) h = refl
     spelled (items.Frame frames.Terminate) h = refl
     spelled (items.Frame frames.Register) h = absurd h
@@ -350,7 +375,8 @@ runs_item_lawful layout before few = framed_lawful (IsNext layout before) (λ f.
     spelled (items.Frame (frames.Init elements)) h = absurd h
     spelled (items.Header p) h = absurd h
 
-pub item_lawful : (place : Place) → (place ≡ places.End → ⊥) → EventsFit place → IsLawful (MayStand place) (item_spelling place) (item_at place)
+pub item_lawful : (place : Place) → (place ≡ places.End → ⊥) → EventsFit place
+    → IsLawful (MayStand place) (item_spelling place) (item_at place)
 unfolding item_at
 item_lawful places.Header ne few = header_item_lawful
 item_lawful (places.Register layout) ne few = register_item_lawful layout

@@ -39,7 +39,8 @@ module _ {A : Type 0} (Fits : A → Type 0) (spell : A → List ℕ) (item : Lis
   unfolding many
   many_none bytes = refl
 
-  many_one : (n : ℕ) (bytes : List ℕ) → many item (suc n) bytes ≡ (item bytes >>= λ first. many item n first.1 >>= λ others. Got (first.0 ∷ others.0, others.1))
+  many_one : (n : ℕ) (bytes : List ℕ) → many item (suc n) bytes
+      ≡ (item bytes >>= λ first. many item n first.1 >>= λ others. Got (first.0 ∷ others.0, others.1))
   unfolding many
   many_one n bytes = refl
 

@@ -1,5 +1,6 @@
 -- Numbers are read lawfully.
-use Rattle.std.proofs.Common.{◌≡◌, ℕ, zero, suc, ◌+◌, ◌*◌, ◌/◌, ◌%◌, ◌^◌, ◌<◌, ◌≤◌, max, Bool, true, false, cond, leb, ◌&&◌, List, [], ◌∷◌, length, refl, sym, ap, subst, ◌∙◌, arith, inl, inr, ◌⊎◌}
+use Rattle.std.proofs.Common.{◌≡◌, ℕ, zero, suc, ◌+◌, ◌*◌, ◌/◌, ◌%◌, ◌^◌, ◌<◌, ◌≤◌, max, Bool, true, false, cond, leb, ◌&&◌, List, [], ◌∷◌}
+use Rattle.std.proofs.Common.{length, refl, sym, ap, subst, ◌∙◌, arith, inl, inr, ◌⊎◌}
 use Rattle.std.proofs.lemmas.Bool.{cases_lt}
 use Rattle.std.proofs.lemmas.Bool.Decides.{nat_tests}
 use Rattle.record_grammar.specs.declared.limits.Limits.{Limits}
@@ -61,11 +62,13 @@ only_front (suc k) q n l h =
     let p = front k n in
     let i = in_ends k n in
     let low : q * 256 ≤ p = elim (cases_lt p (q * 256)) [
-      | inl lt ↦ let a : highest k p < lowest k (p + 1) = apart k p in let m : lowest k (p + 1) ≤ lowest k (q * 256) = lowest-mono k (p + 1) (q * 256) (omega arith) in absurd (omega (arith, i.1))
+      | inl lt ↦ let a : highest k p < lowest k (p + 1) =
+          apart k p in let m : lowest k (p + 1) ≤ lowest k (q * 256) = lowest-mono k (p + 1) (q * 256) (omega arith) in absurd (omega (arith, i.1))
       | inr le ↦ le
     ] in
     let high : p ≤ q * 256 + 255 = elim (cases_lt (q * 256 + 255) p) [
-      | inl lt ↦ let a : highest k (q * 256 + 255) < lowest k (q * 256 + 255 + 1) = apart k (q * 256 + 255) in let m : lowest k (q * 256 + 255 + 1) ≤ lowest k p = lowest-mono k (q * 256 + 255 + 1) p (omega arith) in absurd (omega (arith, i.0))
+      | inl lt ↦ let a : highest k (q * 256 + 255) < lowest k (q * 256 + 255 + 1) =
+          apart k (q * 256 + 255) in let m : lowest k (q * 256 + 255 + 1) ≤ lowest k p = lowest-mono k (q * 256 + 255 + 1) p (omega arith) in absurd (omega (arith, i.0))
       | inr le ↦ le
     ] in
     omega arith
@@ -80,9 +83,12 @@ and_true true false e = absurd cc
 and_true false b e = absurd cc
 
 can_be_of : (limits : Limits) (k n : ℕ) → IsWithin limits n → can_be limits k (front k n) ≡ true
-can_be_of (Between least most) k n h = let i = in_ends k n in let a : least ≤ highest k (front k n) = omega (arith, h.0, i.1) in let b : lowest k (front k n) ≤ most = omega (arith, h.1, i.0) in grind (arith, nat_tests, a, b)
-can_be_of (Around most) k n (inl h) = let i = in_ends k n in let b : lowest k (front k n) ≤ most = omega (arith, i.0) in grind (arith, nat_tests, b)
-can_be_of (Around most) k n (inr h) = let i = in_ends k n in let b : 2 ^ 64 ≤ highest k (front k n) + most = omega (arith, i.1) in grind (arith, nat_tests, b)
+can_be_of (Between least most) k n h =
+    let i = in_ends k n in let a : least ≤ highest k (front k n) = omega (arith, h.0, i.1) in let b : lowest k (front k n) ≤ most = omega (arith, h.1, i.0) in grind (arith, nat_tests, a, b)
+can_be_of (Around most) k n (inl h) =
+    let i = in_ends k n in let b : lowest k (front k n) ≤ most = omega (arith, i.0) in grind (arith, nat_tests, b)
+can_be_of (Around most) k n (inr h) =
+    let i = in_ends k n in let b : 2 ^ 64 ≤ highest k (front k n) + most = omega (arith, i.1) in grind (arith, nat_tests, b)
 
 can_be_has : (limits : Limits) (k v : ℕ) → IsProper limits → can_be limits k v ≡ true → (n : ℕ) × IsWithin limits n × (front k n ≡ v)
 can_be_has (Between least most) k v proper e =
@@ -122,7 +128,8 @@ lawful_case limits k v b proper small false e deeper =
           absurd (cc (yes, e))),
     )
 
-pub lawful_number_from : (limits : Limits) (k v n : ℕ) → IsProper limits → IsWithin limits n → front k n ≡ v → IsLawful (λ m. IsWithin limits m × (front k m ≡ v)) (big_endian k) (number_from limits k v)
+pub lawful_number_from : (limits : Limits) (k v n : ℕ) → IsProper limits → IsWithin limits n → front k n ≡ v
+    → IsLawful (λ m. IsWithin limits m × (front k m ≡ v)) (big_endian k) (number_from limits k v)
 unfolding front big_endian number_from
 lawful_number_from limits zero v n proper within e =
     lawful_values (λ m. IsWithin limits m × (m ≡ v)) (λ m. IsWithin limits m × (m ≡ v)) (λ m. []) (big_endian zero) (number_from limits zero v) (λ m h. h) (λ m h. (h, refl))
@@ -143,13 +150,15 @@ no_front : (width n : ℕ) → n ≤ highest width 0 → front width n ≡ 0
 no_front width n h = only_front width 0 n (omega (arith, lowest-zero width)) h
 
 -- a number of so many bytes
-pub number_lawful : (width least most : ℕ) → least ≤ most → most ≤ highest width 0 → IsLawful (λ n. (least ≤ n) × (n ≤ most)) (big_endian width) (number width least most)
+pub number_lawful : (width least most : ℕ) → least ≤ most → most ≤ highest width 0
+    → IsLawful (λ n. (least ≤ n) × (n ≤ most)) (big_endian width) (number width least most)
 number_lawful width least most proper fits =
     lawful_values (λ n. ((least ≤ n) × (n ≤ most)) × (front width n ≡ 0)) (λ n. (least ≤ n) × (n ≤ most)) (big_endian width) (big_endian width) (number width least most) (λ n h. h.0) (λ n h. ((h, no_front width n (omega (arith, h.1))), refl))
     (lawful_number_from (Between least most) width 0 least proper (omega arith, proper) (no_front width least (omega arith)))
 
 -- a number around 0 in two's complement
-pub around_lawful : (width most : ℕ) → IsLawful (λ n. IsWithin (Around most) n × (n ≤ highest width 0)) (big_endian width) (number_from (Around most) width 0)
+pub around_lawful : (width most : ℕ)
+    → IsLawful (λ n. IsWithin (Around most) n × (n ≤ highest width 0)) (big_endian width) (number_from (Around most) width 0)
 around_lawful width most =
     lawful_values (λ n. IsWithin (Around most) n × (front width n ≡ 0)) (λ n. IsWithin (Around most) n × (n ≤ highest width 0)) (big_endian width) (big_endian width) (number_from (Around most) width 0)
     (λ n h. (h.0, subst (λ (f : ℕ). n ≤ highest width f) h.1 (in_ends width n).1)) (λ n h. ((h.0, no_front width n h.1), refl))

@@ -1,5 +1,6 @@
 -- The parts of frames are read lawfully.
-use Rattle.std.proofs.Common.{◌≡◌, ℕ, zero, suc, ◌-◌, ◌<◌, ◌≤◌, ℤ, pos, Bool, false, cond, eqb, List, [], ◌∷◌, ◌++◌, length, Option, Some, None, refl, sym, ap, subst, ◌∙◌, append_assoc, arith, lit≤, lit<}
+use Rattle.std.proofs.Common.{◌≡◌, ℕ, zero, suc, ◌-◌, ◌<◌, ◌≤◌, ℤ, pos, Bool, false, cond, eqb, List, [], ◌∷◌, ◌++◌, length, Option, Some}
+use Rattle.std.proofs.Common.{None, refl, sym, ap, subst, ◌∙◌, append_assoc, arith, lit≤, lit<}
 use Rattle.std.specs.List.{flat_map, All}
 use Rattle.std.proofs.lemmas.Bool.Decides.{nat_tests}
 use Rattle.std.proofs.lemmas.Int.{ints}
@@ -15,8 +16,11 @@ use Rattle.det_values.specs.Limits.{IsSampleValue, IsPlace}
 use Rattle.det_values.specs.Spelling as flat
 use Rattle.record_grammar.specs.Read.{Read, Got, ◌>>=◌, many}
 use Rattle.record_grammar.specs.Numbers.{number}
-use Rattle.record_grammar.specs.Grammar.{element_at, drawn_at, time_at, sample_value_at, sample_at, samples_at, input_at, phase_of, most_pass, most_element, refusal_at}
-use Rattle.record_grammar.specs.Spelling.{spelled_u16, spelled_u32, spelled_u64, spelled_signed, spelled_element, IsElement, spelled_drawn, IsDrawn, spelled_time, IsTime, spelled_sample, IsSample, spelled_input, IsInput, phase_number, spelled_refusal, IsRefusal, IsString}
+use Rattle.record_grammar.specs.Grammar.{element_at, drawn_at, time_at, sample_value_at, sample_at, samples_at, input_at, phase_of}
+use Rattle.record_grammar.specs.Grammar.{most_pass, most_element, refusal_at}
+use Rattle.record_grammar.specs.Spelling.{spelled_u16, spelled_u32, spelled_u64, spelled_signed, spelled_element, IsElement, spelled_drawn}
+use Rattle.record_grammar.specs.Spelling.{IsDrawn, spelled_time, IsTime, spelled_sample, IsSample, spelled_input, IsInput, phase_number}
+use Rattle.record_grammar.specs.Spelling.{spelled_refusal, IsRefusal, IsString}
 use Rattle.record_laws.proofs.Lawful.{IsLawful, lawful_give, lawful_read, lawful_values, lawful_map, lawful_then}
 use Rattle.record_laws.proofs.LawfulWords.{IsFrom, byte_lawful, u16_lawful, u32_lawful, u64_lawful, string_lawful}
 use Rattle.record_laws.proofs.LawfulFields.{bind_bind, counted_lawful, sample_value_lawful}
@@ -213,7 +217,8 @@ abbrev phase_at : List ℕ → Read Phase
 phase_at bytes = number 1 0 2 bytes >>= λ n. Got (phase_of n.0, n.1)
 
 phase_lawful : IsLawful AnyPhase (λ p. phase_number p ∷ []) phase_at
-phase_lawful = lawful_map (IsFrom 0 2) (λ n. n ∷ []) (number 1 0 2) AnyPhase phase_number phase_of (λ p h. (phase_small p, phase_back p)) (λ n h. (tt, number_back n h)) (byte_lawful 0 2 (lit≤ tt) (lit≤ tt))
+phase_lawful =
+    lawful_map (IsFrom 0 2) (λ n. n ∷ []) (number 1 0 2) AnyPhase phase_number phase_of (λ p h. (phase_small p, phase_back p)) (λ n h. (tt, number_back n h)) (byte_lawful 0 2 (lit≤ tt) (lit≤ tt))
 
 abbrev pub a_refusal : Phase → ℕ → ℕ → ℕ → RefusedAtValue
 a_refusal phase pass element code = record { phase = phase; pass = pass; element = element; code = code }
@@ -231,7 +236,8 @@ refusal_reads : (bytes : List ℕ) → refusal_at bytes ≡ (phase_at bytes >>= 
 unfolding refusal_at
 refusal_reads bytes = sym (bind_bind (number 1 0 2 bytes) (λ n. Got (phase_of n.0, n.1)) (λ phase. from_pass phase.0 phase.1))
 
-place_there : (phase : Phase) (pass element : ℕ) → IsPlace phase pass element → IsFrom 0 (most_pass phase) pass × IsFrom 0 (most_element phase) element
+place_there : (phase : Phase) (pass element : ℕ) → IsPlace phase pass element → IsFrom 0 (most_pass phase) pass
+    × IsFrom 0 (most_element phase) element
 place_there phases.Prepare pass element h = ((omega arith, h.0), (omega arith, h.1))
 place_there phases.Pool pass element h = ((omega arith, omega (arith, h.0)), (omega arith, omega (arith, h.1)))
 place_there phases.Conclude pass element h = ((omega arith, h.0), (omega arith, h.1))
@@ -265,6 +271,7 @@ refusal_lawful =
     lawful_map (IsFrom 0 4294967295) spelled_u32 (number 4 0 4294967295) (λ r. ((IsRefusal r × (r.phase ≡ phase)) × (r.pass ≡ pass)) × (r.element ≡ element)) (λ r. r.code) (a_refusal phase pass element)
     (λ r k. (
       (omega arith, omega (arith, k.0.0.0.1)),
-      ap (λ (p : Phase). a_refusal p r.pass r.element r.code) k.0.0.1 ∙ ap (λ (n : ℕ). a_refusal phase n r.element r.code) k.0.1 ∙ ap (λ (n : ℕ). a_refusal phase pass n r.code) k.1,
+      ap (λ (p : Phase). a_refusal p r.pass r.element r.code) k.0.0.1 ∙ ap (λ (n : ℕ). a_refusal phase n r.element r.code) k.0.1
+          ∙ ap (λ (n : ℕ). a_refusal phase pass n r.code) k.1,
     ))
     (λ n k. (((((place_back phase pass element hp.1 he.1, omega (arith, k.1)), refl), refl), refl), refl)) (u32_lawful 0 4294967295 (lit≤ tt) (lit≤ tt))))))

@@ -1,5 +1,6 @@
 -- The frame of a run is read lawfully.
-use Rattle.std.proofs.Common.{◌≡◌, ℕ, zero, suc, ◌≤◌, Bool, true, false, cond, eqb, List, [], ◌∷◌, ◌++◌, length, None, refl, sym, ap, ◌∙◌, append_assoc, arith, lit≤, lit<}
+use Rattle.std.proofs.Common.{◌≡◌, ℕ, zero, suc, ◌≤◌, Bool, true, false, cond, eqb, List, [], ◌∷◌, ◌++◌, length, None, refl, sym, ap, ◌∙◌}
+use Rattle.std.proofs.Common.{append_assoc, arith, lit≤, lit<}
 use Rattle.std.specs.List.{flat_map, All}
 use Rattle.std.proofs.lemmas.List.Elements.{All-nil}
 use Rattle.det_values.specs.declared.format.Format.{Format}
@@ -14,7 +15,8 @@ use Rattle.record_grammar.specs.declared.place.Layout.{Layout}
 use Rattle.record_grammar.specs.Read.{Read, Got, More, Bad, ◌>>=◌, many, with_front}
 use Rattle.record_grammar.specs.Numbers.{number}
 use Rattle.record_grammar.specs.Grammar.{string_at, drawn_at, input_at, refusal_at, finished_from, finished_at, refused_at, run_at}
-use Rattle.record_grammar.specs.Spelling.{IsString, spelled_u32, spelled_drawn, IsDrawn, spelled_input, IsInput, spelled_refusal, IsRefusal, spelled_finished, spelled_outcome, IsOutcome}
+use Rattle.record_grammar.specs.Spelling.{IsString, spelled_u32, spelled_drawn, IsDrawn, spelled_input, IsInput, spelled_refusal, IsRefusal}
+use Rattle.record_grammar.specs.Spelling.{spelled_finished, spelled_outcome, IsOutcome}
 use Rattle.det_values.specs.declared.frames.Frame.{Frame}
 use Rattle.det_values.specs.declared.frames.Frame.TheVariants as frames
 use Rattle.record_laws.proofs.Lawful.{IsLawful, lawful_read, lawful_values, lawful_map, lawful_then}
@@ -40,7 +42,8 @@ module _ (format : Format) where
   elements_at bytes = number 4 0 65536 bytes >>= λ n. many (drawn_at format) n.0 n.1
 
   elements_lawful : IsLawful AreElements spelled_elements elements_at
-  elements_lawful = let d = some_drawn format in counted_lawful (IsDrawn format) (spelled_drawn format) (drawn_at format) d.0 d.1 (drawn_lawful format) 4 0 65536 spelled_u32 (u32_lawful 0 65536 (lit≤ tt) (lit≤ tt))
+  elements_lawful =
+      let d = some_drawn format in counted_lawful (IsDrawn format) (spelled_drawn format) (drawn_at format) d.0 d.1 (drawn_lawful format) 4 0 65536 spelled_u32 (u32_lawful 0 65536 (lit≤ tt) (lit≤ tt))
 
   abbrev output_at : List ℕ → Read (List ℕ)
   output_at bytes = string_at 4 1048576 bytes
@@ -84,12 +87,15 @@ module _ (format : Format) where
   finished_there (Finished elements output) h = ((omega arith, h.0.0), h.0.1)
   finished_there (Refused r) h = absurd (omega (arith, h.1))
 
-  output_there : (es : List DrawnElement) (o : Outcome) → EndsBy 0 o → elements_of o ≡ es → IsString 1048576 (output_of o) × (o ≡ Finished es (output_of o))
+  output_there : (es : List DrawnElement) (o : Outcome) → EndsBy 0 o → elements_of o ≡ es → IsString 1048576 (output_of o)
+      × (o ≡ Finished es (output_of o))
   output_there es (Finished elements output) h e = (h.0.2, ap (λ (xs : List DrawnElement). Finished xs output) e)
   output_there es (Refused r) h e = absurd (omega (arith, h.1))
 
-  finished_spelled : (o : Outcome) → EndsBy 0 o → EndsBy 0 o × (behind_flag o ≡ spelled_elements (elements_of o) ++ (spelled_u32 (length (output_of o)) ++ output_of o))
-  finished_spelled (Finished elements output) h = (h, sym (append_assoc (spelled_u32 (length elements)) (flat_map (spelled_drawn format) elements) (spelled_u32 (length output) ++ output)))
+  finished_spelled : (o : Outcome) → EndsBy 0 o → EndsBy 0 o
+      × (behind_flag o ≡ spelled_elements (elements_of o) ++ (spelled_u32 (length (output_of o)) ++ output_of o))
+  finished_spelled (Finished elements output) h =
+      (h, sym (append_assoc (spelled_u32 (length elements)) (flat_map (spelled_drawn format) elements) (spelled_u32 (length output) ++ output)))
   finished_spelled (Refused r) h = absurd (omega (arith, h.1))
 
   finished_lawful : IsLawful (EndsBy 0) behind_flag finished_part
@@ -163,7 +169,8 @@ abbrev parts_at : Layout → List ℕ → Read RunFrame
 parts_at layout bytes = input_at layout.events bytes >>= λ input. with_outcome layout input.0 input.1
 
 pub some_run : (layout : Layout) → (r : RunFrame) × IsRun layout r
-some_run layout = (a_run (an_input None []) (Refused (a_refusal phases.Prepare 0 0 0)), (no_input layout.events, some_refusal layout.format))
+some_run layout =
+    (a_run (an_input None []) (Refused (a_refusal phases.Prepare 0 0 0)), (no_input layout.events, some_refusal layout.format))
 
 parts_lawful : (layout : Layout) → layout.events ≤ 65536 → IsLawful (IsRun layout) (spelled_run layout) (parts_at layout)
 parts_lawful layout few =
@@ -180,7 +187,8 @@ as_run input o = Got (frames.Run (a_run input o.0), o.1)
 abbrev then : CycleInput → List DrawnElement × List ℕ → Read Frame
 then input es = string_at 4 1048576 es.1 >>= λ output. Got (frames.Run (a_run input (Finished es.0 output.0)), output.1)
 
-finished_reads : (format : Format) (input : CycleInput) (bytes : List ℕ) → finished_at format input bytes ≡ (finished_part format bytes >>= as_run input)
+finished_reads : (format : Format) (input : CycleInput) (bytes : List ℕ) → finished_at format input bytes
+    ≡ (finished_part format bytes >>= as_run input)
 unfolding finished_at finished_from
 finished_reads format input bytes =
     bind_same (number 4 0 65536 bytes) (λ n. with_front [] (many (drawn_at format) n.0 n.1) >>= (then input)) (λ n. many (drawn_at format) n.0 n.1 >>= (then input)) (λ n. ap (λ (r : Read (List DrawnElement)). r >>= (then input)) (nothing_before (many (drawn_at format) n.0 n.1)))
@@ -188,16 +196,20 @@ finished_reads format input bytes =
     ∙ bind_same (elements_at format bytes) (then input) (λ es. with_output format es.0 es.1 >>= as_run input) (λ es. sym (bind_bind (output_at format es.1) (λ output. Got (Finished es.0 output.0, output.1)) (as_run input)))
     ∙ sym (bind_bind (elements_at format bytes) (λ es. with_output format es.0 es.1) (as_run input))
 
-refused_reads : (format : Format) (input : CycleInput) (bytes : List ℕ) → refused_at input bytes ≡ (refused_part format bytes >>= as_run input)
+refused_reads : (format : Format) (input : CycleInput) (bytes : List ℕ) → refused_at input bytes
+    ≡ (refused_part format bytes >>= as_run input)
 unfolding refused_at
 refused_reads format input bytes = sym (bind_bind (refusal_at bytes) (λ r. Got (Refused r.0, r.1)) (as_run input))
 
-by_reads : (t : Bool) (format : Format) (input : CycleInput) (bytes : List ℕ) → cond t (finished_at format input bytes) (refused_at input bytes) ≡ (cond t (finished_part format bytes) (refused_part format bytes) >>= as_run input)
+by_reads : (t : Bool) (format : Format) (input : CycleInput) (bytes : List ℕ)
+    → cond t (finished_at format input bytes) (refused_at input bytes)
+    ≡ (cond t (finished_part format bytes) (refused_part format bytes) >>= as_run input)
 by_reads true format input bytes = finished_reads format input bytes
 by_reads false format input bytes = refused_reads format input bytes
 
 outcome_reads : (format : Format) (input : CycleInput) (bytes : List ℕ)
-    → (number 1 0 1 bytes >>= λ flag. cond (eqb flag.0 0) (finished_at format input flag.1) (refused_at input flag.1)) ≡ (outcome_at format bytes >>= as_run input)
+    → (number 1 0 1 bytes >>= λ flag. cond (eqb flag.0 0) (finished_at format input flag.1) (refused_at input flag.1))
+    ≡ (outcome_at format bytes >>= as_run input)
 outcome_reads format input bytes =
     bind_same (number 1 0 1 bytes) (λ flag. cond (eqb flag.0 0) (finished_at format input flag.1) (refused_at input flag.1)) (λ flag. outcome_by format flag.0 flag.1 >>= as_run input) (λ flag. by_reads (eqb flag.0 0) format input flag.1)
     ∙ sym (bind_bind (number 1 0 1 bytes) (λ flag. outcome_by format flag.0 flag.1) (as_run input))
@@ -235,7 +247,8 @@ run_there layout frames.Discover h = absurd h
 run_there layout (frames.Init elements) h = absurd h
 run_there layout frames.Terminate h = absurd h
 
-pub run_lawful : (layout : Layout) → layout.events ≤ 65536 → IsLawful (IsRunFrame layout) (λ f. spelled_run layout (run_of f)) (run_at layout)
+pub run_lawful : (layout : Layout) → layout.events ≤ 65536
+    → IsLawful (IsRunFrame layout) (λ f. spelled_run layout (run_of f)) (run_at layout)
 run_lawful layout few =
     lawful_read (IsRunFrame layout) (λ f. spelled_run layout (run_of f)) (run_at layout) (λ bytes. parts_at layout bytes >>= λ r. Got (frames.Run r.0, r.1)) (run_reads layout)
     (lawful_map (IsRun layout) (spelled_run layout) (parts_at layout) (IsRunFrame layout) run_of (λ r. frames.Run r) (run_there layout) (λ r h. (h, refl)) (parts_lawful layout few))

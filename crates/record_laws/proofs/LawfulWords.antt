@@ -1,5 +1,6 @@
 -- Bytes, words of two, four and eight bytes, and strings are read lawfully.
-use Rattle.std.proofs.Common.{◌≡◌, ℕ, zero, suc, ◌-◌, ◌/◌, ◌%◌, ◌^◌, ◌<◌, ◌≤◌, List, [], ◌∷◌, ◌++◌, length, take, drop, refl, sym, ap, subst, ◌∙◌, arith, inl, inr, length-append, shr-shr}
+use Rattle.std.proofs.Common.{◌≡◌, ℕ, zero, suc, ◌-◌, ◌/◌, ◌%◌, ◌^◌, ◌<◌, ◌≤◌, List, [], ◌∷◌, ◌++◌, length, take, drop, refl, sym, ap}
+use Rattle.std.proofs.Common.{subst, ◌∙◌, arith, inl, inr, length-append, shr-shr}
 use Rattle.std.proofs.lemmas.Bool.{cases_lt}
 use Rattle.std.proofs.lemmas.List.{take-append-drop, take_at, drop_at, length-take}
 use Rattle.std.proofs.lemmas.List.Elements.{All-nil, All-cons, All-take, All-append}
@@ -17,7 +18,8 @@ front_none : (n : ℕ) → front 0 n ≡ n
 unfolding front
 front_none n = refl
 
-front_is : (n : ℕ) → (front 1 n ≡ n / 256 ^ 1) × (front 2 n ≡ n / 256 ^ 2) × (front 3 n ≡ n / 256 ^ 3) × (front 4 n ≡ n / 256 ^ 4) × (front 5 n ≡ n / 256 ^ 5) × (front 6 n ≡ n / 256 ^ 6) × (front 7 n ≡ n / 256 ^ 7)
+front_is : (n : ℕ) → (front 1 n ≡ n / 256 ^ 1) × (front 2 n ≡ n / 256 ^ 2) × (front 3 n ≡ n / 256 ^ 3) × (front 4 n ≡ n / 256 ^ 4)
+    × (front 5 n ≡ n / 256 ^ 5) × (front 6 n ≡ n / 256 ^ 6) × (front 7 n ≡ n / 256 ^ 7)
 unfolding front
 front_is n =
     let two : front 2 n ≡ n / 256 ^ 2 = shr-shr n 8 8 in
@@ -81,7 +83,8 @@ pub u32_lawful : (least most : ℕ) → least ≤ most → most ≤ 4294967295 �
 u32_lawful least most order small =
     lawful_values (IsFrom least most) (IsFrom least most) (big_endian 4) spelled_u32 (number 4 least most) (λ n h. h) (λ n h. (h, u32_is n)) (number_lawful 4 least most order (wide_4 most small))
 
-pub u64_lawful : (least most : ℕ) → least ≤ most → most ≤ 18446744073709551615 → IsLawful (IsFrom least most) spelled_u64 (number 8 least most)
+pub u64_lawful : (least most : ℕ) → least ≤ most → most ≤ 18446744073709551615
+    → IsLawful (IsFrom least most) spelled_u64 (number 8 least most)
 u64_lawful least most order small =
     lawful_values (IsFrom least most) (IsFrom least most) (big_endian 8) spelled_u64 (number 8 least most) (λ n h. h) (λ n h. (h, u64_is n)) (number_lawful 8 least most order (wide_8 most small))
 
@@ -98,7 +101,8 @@ pub raw_lawful : (n : ℕ) → IsLawful (λ xs. (length xs ≡ n) × AreBytes xs
 raw_lawful n = record {
   again = λ xs rest h.
       let l : n ≤ length (xs ++ rest) = omega (arith, length-append xs rest, h.0) in
-      raw_long n (xs ++ rest) l ∙ ap (λ (p : List ℕ × List ℕ). got p) (pair_is (take n (xs ++ rest)) xs (drop n (xs ++ rest)) rest (take_at xs rest n h.0) (drop_at xs rest n h.0));
+      raw_long n (xs ++ rest) l
+      ∙ ap (λ (p : List ℕ × List ℕ). got p) (pair_is (take n (xs ++ rest)) xs (drop n (xs ++ rest)) rest (take_at xs rest n h.0) (drop_at xs rest n h.0));
   sound = λ bytes x are e. elim (cases_lt (length bytes) n) [
     | inl lt ↦ absurd (cc (raw_short n bytes lt))
     | inr le ↦
@@ -106,7 +110,8 @@ raw_lawful n = record {
         subst (λ (y : List ℕ × List ℕ). ((length y.0 ≡ n) × AreBytes y.0) × (bytes ≡ y.0 ++ y.1)) p ((omega (arith, length-take n bytes), All-take (λ b. b < 256) n bytes are), sym (take-append-drop n bytes))
   ];
   more = λ bytes are e. elim (cases_lt (length bytes) n) [
-    | inl lt ↦ let z = zeros (n - length bytes) in (bytes ++ z.0, z.0, (omega (arith, length-append bytes z.0, z.1), All-append (λ b. b < 256) bytes z.0 are z.2), refl)
+    | inl lt ↦ let z =
+        zeros (n - length bytes) in (bytes ++ z.0, z.0, (omega (arith, length-append bytes z.0, z.1), All-append (λ b. b < 256) bytes z.0 are z.2), refl)
     | inr le ↦ absurd (cc (raw_long n bytes le))
   ];
   bad = λ bytes reason left are e. elim (cases_lt (length bytes) n) [
@@ -116,7 +121,8 @@ raw_lawful n = record {
 }
 
 -- a length, and so many bytes
-pub string_lawful : (width most : ℕ) (spell : ℕ → List ℕ) → IsLawful (IsFrom 0 most) spell (number width 0 most) → IsLawful (IsString most) (λ xs. spell (length xs) ++ xs) (string_at width most)
+pub string_lawful : (width most : ℕ) (spell : ℕ → List ℕ) → IsLawful (IsFrom 0 most) spell (number width 0 most)
+    → IsLawful (IsString most) (λ xs. spell (length xs) ++ xs) (string_at width most)
 unfolding string_at
 string_lawful width most spell h =
     lawful_then (IsFrom 0 most) spell (number width 0 most) (IsString most) length (λ xs. xs) raw_at

@@ -29,7 +29,8 @@ IsBehind layout (places.Init other) = other ≡ layout
 IsBehind layout (places.Runs other before) = other ≡ layout
 IsBehind layout places.End = Unit {0}
 
-behind_after : (layout : Layout) (place : Place) (f : Frame) → CanFollow place (items.Frame f) → IsBehind layout place → IsBehind layout (after place (items.Frame f))
+behind_after : (layout : Layout) (place : Place) (f : Frame) → CanFollow place (items.Frame f) → IsBehind layout place
+    → IsBehind layout (after place (items.Frame f))
 behind_after layout (places.Register other) frames.Register h b = b
 behind_after layout (places.Discover other) frames.Discover h b = b
 behind_after layout (places.Init other) (frames.Init elements) h b = b
@@ -43,15 +44,19 @@ behind_along layout (f ∷ fs) place to h b = behind_along layout fs (after plac
 
 -- ---- kinds and fields
 
-may_stand : (layout : Layout) (place : Place) (f : Frame) → CanFollow place (items.Frame f) → IsBehind layout place → IsFrame layout.format layout.events f → MayStand place (items.Frame f)
+may_stand : (layout : Layout) (place : Place) (f : Frame) → CanFollow place (items.Frame f) → IsBehind layout place
+    → IsFrame layout.format layout.events f → MayStand place (items.Frame f)
 may_stand layout (places.Register other) frames.Register h b fields = tt
 may_stand layout (places.Discover other) frames.Discover h b fields = tt
-may_stand layout (places.Init other) (frames.Init elements) h b fields = subst (λ (l : Layout). IsFrame l.format l.events (frames.Init elements)) (sym b) fields
-may_stand layout (places.Runs other before) (frames.Run r) h b fields = (h, subst (λ (l : Layout). IsFrame l.format l.events (frames.Run r)) (sym b) fields)
+may_stand layout (places.Init other) (frames.Init elements) h b fields =
+    subst (λ (l : Layout). IsFrame l.format l.events (frames.Init elements)) (sym b) fields
+may_stand layout (places.Runs other before) (frames.Run r) h b fields =
+    (h, subst (λ (l : Layout). IsFrame l.format l.events (frames.Run r)) (sym b) fields)
 may_stand layout (places.Runs other before) frames.Terminate h b fields = tt
 may_stand layout place f h b fields = elim h [ ]
 
-stands : (layout : Layout) (place : Place) (f : Frame) → MayStand place (items.Frame f) → IsBehind layout place → CanFollow place (items.Frame f) × IsFrame layout.format layout.events f
+stands : (layout : Layout) (place : Place) (f : Frame) → MayStand place (items.Frame f) → IsBehind layout place
+    → CanFollow place (items.Frame f) × IsFrame layout.format layout.events f
 unfolding IsFrame
 stands layout (places.Register other) frames.Register h b = (tt, tt)
 stands layout (places.Discover other) frames.Discover h b = (tt, tt)
@@ -63,21 +68,24 @@ stands layout place f h b = elim h [ ]
 abbrev AreFrames : Layout → List Frame → Type 0
 AreFrames layout fs = All (IsFrame layout.format layout.events) fs
 
-are_items : (layout : Layout) (fs : List Frame) (place to : Place) → Follow place fs to → IsBehind layout place → AreFrames layout fs → AreItems place (map items.Frame fs) to
+are_items : (layout : Layout) (fs : List Frame) (place to : Place) → Follow place fs to → IsBehind layout place → AreFrames layout fs
+    → AreItems place (map items.Frame fs) to
 are_items layout [] place to h b fields = h
 are_items layout (f ∷ fs) place to h b fields = (
   may_stand layout place f h.0 b (All-head (IsFrame layout.format layout.events) f fs fields),
   are_items layout fs (after place (items.Frame f)) to h.1 (behind_after layout place f h.0 b) (All-tail (IsFrame layout.format layout.events) f fs fields),
 )
 
-follow : (layout : Layout) (fs : List Frame) (place to : Place) → AreItems place (map items.Frame fs) to → IsBehind layout place → Follow place fs to × AreFrames layout fs
+follow : (layout : Layout) (fs : List Frame) (place to : Place) → AreItems place (map items.Frame fs) to → IsBehind layout place
+    → Follow place fs to × AreFrames layout fs
 follow layout [] place to h b = (h, All-nil (IsFrame layout.format layout.events))
 follow layout (f ∷ fs) place to h b =
     let s = stands layout place f h.0 b in
     let i = follow layout fs (after place (items.Frame f)) to h.1 (behind_after layout place f s.0 b) in
     ((s.0, i.0), All-cons (IsFrame layout.format layout.events) f fs s.1 i.1)
 
-one_spelled : (layout : Layout) (place : Place) (f : Frame) → CanFollow place (items.Frame f) → IsBehind layout place → item_spelling place (items.Frame f) ≡ spelled_frame layout.format f
+one_spelled : (layout : Layout) (place : Place) (f : Frame) → CanFollow place (items.Frame f) → IsBehind layout place
+    → item_spelling place (items.Frame f) ≡ spelled_frame layout.format f
 one_spelled layout places.Header f h b = absurd b
 one_spelled layout (places.Register other) f h b = ap (λ (l : Layout). spelled_frame l.format f) b
 one_spelled layout (places.Discover other) f h b = ap (λ (l : Layout). spelled_frame l.format f) b
@@ -85,7 +93,8 @@ one_spelled layout (places.Init other) f h b = ap (λ (l : Layout). spelled_fram
 one_spelled layout (places.Runs other before) f h b = ap (λ (l : Layout). spelled_frame l.format f) b
 one_spelled layout places.End f h b = elim h [ ]
 
-all_spelled : (layout : Layout) (fs : List Frame) (place to : Place) → Follow place fs to → IsBehind layout place → items_spelling place (map items.Frame fs) ≡ flat_map (spelled_frame layout.format) fs
+all_spelled : (layout : Layout) (fs : List Frame) (place to : Place) → Follow place fs to → IsBehind layout place
+    → items_spelling place (map items.Frame fs) ≡ flat_map (spelled_frame layout.format) fs
 all_spelled layout [] place to h b = refl
 all_spelled layout (f ∷ fs) place to h b =
     let rest = items_spelling (after place (items.Frame f)) (map items.Frame fs) in
@@ -95,7 +104,8 @@ all_spelled layout (f ∷ fs) place to h b =
 
 -- ---- the frames of a run
 
-runs_follow : (layout : Layout) (runs : List RunFrame) (before : ℕ) → before + length runs ≤ 1000000 → Follow (places.Runs layout before) (map frames.Run runs ++ frames.Terminate ∷ []) places.End
+runs_follow : (layout : Layout) (runs : List RunFrame) (before : ℕ) → before + length runs ≤ 1000000
+    → Follow (places.Runs layout before) (map frames.Run runs ++ frames.Terminate ∷ []) places.End
 runs_follow layout [] before few = (tt, refl)
 runs_follow layout (r ∷ runs) before few = (omega arith, runs_follow layout runs (before + 1) (omega arith))
 
@@ -113,17 +123,20 @@ nothing_follows : (fs : List Frame) → Follow places.End fs places.End → fs �
 nothing_follows [] h = refl
 nothing_follows (f ∷ fs) h = elim h.0 [ ]
 
-end_last : (layout : Layout) (before : ℕ) (fs : List Frame) → before ≤ 1000000 → Follow (places.Runs layout before) fs places.End → AreRuns before fs
+end_last : (layout : Layout) (before : ℕ) (fs : List Frame) → before ≤ 1000000 → Follow (places.Runs layout before) fs places.End
+    → AreRuns before fs
 end_last layout before [] few h = absurd cc
 end_last layout before (frames.Run r ∷ fs) few h =
     let i = end_last layout (before + 1) fs (omega (arith, h.0)) h.1 in
     record { runs = r ∷ i.runs; few = omega (arith, i.few); order = ap (λ (gs : List Frame). frames.Run r ∷ gs) i.order }
-end_last layout before (frames.Terminate ∷ fs) few h = record { runs = []; few = omega arith; order = ap (λ (gs : List Frame). frames.Terminate ∷ gs) (nothing_follows fs h.1) }
+end_last layout before (frames.Terminate ∷ fs) few h =
+    record { runs = []; few = omega arith; order = ap (λ (gs : List Frame). frames.Terminate ∷ gs) (nothing_follows fs h.1) }
 end_last layout before (frames.Register ∷ fs) few h = elim h.0 [ ]
 end_last layout before (frames.Discover ∷ fs) few h = elim h.0 [ ]
 end_last layout before (frames.Init elements ∷ fs) few h = elim h.0 [ ]
 
-behind_init : (layout : Layout) (fs : List Frame) → Follow (places.Init layout) fs places.End → (elements : List (List ℕ)) × (rest : List Frame) × (fs ≡ frames.Init elements ∷ rest) × AreRuns 0 rest
+behind_init : (layout : Layout) (fs : List Frame) → Follow (places.Init layout) fs places.End → (elements : List (List ℕ))
+    × (rest : List Frame) × (fs ≡ frames.Init elements ∷ rest) × AreRuns 0 rest
 behind_init layout [] h = absurd cc
 behind_init layout (frames.Init elements ∷ fs) h = (elements, fs, refl, end_last layout 0 fs (omega arith) h.1)
 behind_init layout (frames.Register ∷ fs) h = elim h.0 [ ]
@@ -131,7 +144,8 @@ behind_init layout (frames.Discover ∷ fs) h = elim h.0 [ ]
 behind_init layout (frames.Run r ∷ fs) h = elim h.0 [ ]
 behind_init layout (frames.Terminate ∷ fs) h = elim h.0 [ ]
 
-behind_discover : (layout : Layout) (fs : List Frame) → Follow (places.Discover layout) fs places.End → (rest : List Frame) × (fs ≡ frames.Discover ∷ rest) × Follow (places.Init layout) rest places.End
+behind_discover : (layout : Layout) (fs : List Frame) → Follow (places.Discover layout) fs places.End → (rest : List Frame)
+    × (fs ≡ frames.Discover ∷ rest) × Follow (places.Init layout) rest places.End
 behind_discover layout [] h = absurd cc
 behind_discover layout (frames.Discover ∷ fs) h = (fs, refl, h.1)
 behind_discover layout (frames.Register ∷ fs) h = elim h.0 [ ]
@@ -139,7 +153,8 @@ behind_discover layout (frames.Init elements ∷ fs) h = elim h.0 [ ]
 behind_discover layout (frames.Run r ∷ fs) h = elim h.0 [ ]
 behind_discover layout (frames.Terminate ∷ fs) h = elim h.0 [ ]
 
-behind_register : (layout : Layout) (fs : List Frame) → Follow (places.Register layout) fs places.End → (rest : List Frame) × (fs ≡ frames.Register ∷ rest) × Follow (places.Discover layout) rest places.End
+behind_register : (layout : Layout) (fs : List Frame) → Follow (places.Register layout) fs places.End → (rest : List Frame)
+    × (fs ≡ frames.Register ∷ rest) × Follow (places.Discover layout) rest places.End
 behind_register layout [] h = absurd cc
 behind_register layout (frames.Register ∷ fs) h = (fs, refl, h.1)
 behind_register layout (frames.Discover ∷ fs) h = elim h.0 [ ]
@@ -156,7 +171,9 @@ follows_run layout fs h =
       elements = c.0;
       runs = c.3.runs;
       few = omega (arith, c.3.few);
-      order = a.1 ∙ ap (λ (gs : List Frame). frames.Register ∷ gs) b.1 ∙ ap (λ (gs : List Frame). frames.Register ∷ frames.Discover ∷ gs) c.2 ∙ ap (λ (gs : List Frame). frames.Register ∷ frames.Discover ∷ frames.Init c.0 ∷ gs) c.3.order;
+      order =
+          a.1 ∙ ap (λ (gs : List Frame). frames.Register ∷ gs) b.1 ∙ ap (λ (gs : List Frame). frames.Register ∷ frames.Discover ∷ gs) c.2
+          ∙ ap (λ (gs : List Frame). frames.Register ∷ frames.Discover ∷ frames.Init c.0 ∷ gs) c.3.order;
     }
 
 -- ---- first frames
@@ -173,7 +190,8 @@ follow_append (f ∷ fs) more place to end h k = (h.0, follow_append fs more (af
 -- from each place behind a header some frames end the run
 ends : (layout : Layout) (to : Place) → IsBehind layout to → (fs : List Frame) × Follow to fs places.End
 ends layout places.Header b = absurd b
-ends layout (places.Register other) b = (frames.Register ∷ frames.Discover ∷ frames.Init [] ∷ frames.Terminate ∷ [], (tt, (tt, (tt, (tt, refl)))))
+ends layout (places.Register other) b =
+    (frames.Register ∷ frames.Discover ∷ frames.Init [] ∷ frames.Terminate ∷ [], (tt, (tt, (tt, (tt, refl)))))
 ends layout (places.Discover other) b = (frames.Discover ∷ frames.Init [] ∷ frames.Terminate ∷ [], (tt, (tt, (tt, refl))))
 ends layout (places.Init other) b = (frames.Init [] ∷ frames.Terminate ∷ [], (tt, (tt, refl)))
 ends layout (places.Runs other before) b = (frames.Terminate ∷ [], (tt, refl))
@@ -188,16 +206,19 @@ module _ (profile : ProfileValue) (fs : List Frame) (bytes : List ℕ) where
   same_spelling : (to : Place) → Follow start fs to → items_spelling places.Header (items_of profile fs) ≡ spelled profile fs
   same_spelling to h = ap (λ (xs : List ℕ). spelled_header profile ++ xs) (all_spelled (layout_of profile) fs start to h refl)
 
-  there : (to : Place) → Spells profile fs bytes → Follow start fs to → AreItems places.Header (items_of profile fs) to × (bytes ≡ items_spelling places.Header (items_of profile fs))
+  there : (to : Place) → Spells profile fs bytes → Follow start fs to → AreItems places.Header (items_of profile fs) to
+      × (bytes ≡ items_spelling places.Header (items_of profile fs))
   there to s h = ((s.header, are_items (layout_of profile) fs start to h refl s.fields), s.spelling ∙ sym (same_spelling to h))
 
-  begun_there : Spells profile fs bytes → (to : Place) × AreItems places.Header (items_of profile fs) to × (bytes ≡ items_spelling places.Header (items_of profile fs))
+  begun_there : Spells profile fs bytes → (to : Place) × AreItems places.Header (items_of profile fs) to
+      × (bytes ≡ items_spelling places.Header (items_of profile fs))
   begun_there s =
       let f = first_follow fs s.order.0 start places.End (run_follows (layout_of profile) (fs ++ s.order.0) s.order.1) in
       let t = there f.0 s f.1 in
       (f.0, t.0, t.1)
 
-  begun_back : (to : Place) → AreItems places.Header (items_of profile fs) to → bytes ≡ items_spelling places.Header (items_of profile fs) → Spells profile fs bytes × Follow start fs to
+  begun_back : (to : Place) → AreItems places.Header (items_of profile fs) to → bytes ≡ items_spelling places.Header (items_of profile fs)
+      → Spells profile fs bytes × Follow start fs to
   begun_back to h e =
       let f = follow (layout_of profile) fs start to h.1 refl in
       let last = ends (layout_of profile) to (behind_along (layout_of profile) fs start to f.0 refl) in (
@@ -213,5 +234,6 @@ module _ (profile : ProfileValue) (fs : List Frame) (bytes : List ℕ) where
   pub in_order : IsInOrder profile fs bytes
   in_order = record {
     begun = (begun_there, λ h. (begun_back h.0 h.1 h.2).0);
-    whole = ((λ s. there places.End s.0 (run_follows (layout_of profile) fs s.1)), λ h. let b = begun_back places.End h.0 h.1 in (b.0, follows_run (layout_of profile) fs b.1));
+    whole =
+        ((λ s. there places.End s.0 (run_follows (layout_of profile) fs s.1)), λ h. let b = begun_back places.End h.0 h.1 in (b.0, follows_run (layout_of profile) fs b.1));
   }

@@ -1,5 +1,6 @@
 -- Behind the version of a header, and behind the tag of a frame, each fault is Range.
-use Rattle.std.proofs.Common.{◌≡◌, ℕ, zero, suc, ◌-◌, ◌*◌, ◌+◌, Bool, true, false, cond, eqb, List, [], ◌∷◌, ◌++◌, length, Some, None, sym, inl, inr}
+use Rattle.std.proofs.Common.{◌≡◌, ℕ, zero, suc, ◌-◌, ◌*◌, ◌+◌, Bool, true, false, cond, eqb, List, [], ◌∷◌, ◌++◌, length, Some, None, sym}
+use Rattle.std.proofs.Common.{inl, inr}
 use Rattle.std.specs.Int.{w64, cast_signed}
 use Rattle.std.proofs.lemmas.Bool.{cases_lt}
 use Rattle.det_values.specs.declared.format.Format.{Format}
@@ -18,7 +19,10 @@ use Rattle.record_grammar.specs.declared.limits.Limits.TheVariants.{Between, Aro
 use Rattle.record_grammar.specs.declared.place.Layout.{Layout}
 use Rattle.record_grammar.specs.Read.{Read, Got, Bad, ◌>>=◌, raw_at, many, with_front}
 use Rattle.record_grammar.specs.Numbers.{number, number_from, can_be}
-use Rattle.record_grammar.specs.Grammar.{signed_at, sample_value_at, string_at, name_byte_at, name_at, policy_of, policy_at, event_at, params_at, events_at, element_at, drawn_at, time_at, sample_at, most_samples, samples_at, input_at, phase_of, most_pass, most_element, refusal_at, init_from, finished_from, init_at, finished_at, refused_at, run_at}
+use Rattle.record_grammar.specs.Grammar.{signed_at, sample_value_at, string_at, name_byte_at, name_at, policy_of, policy_at, event_at}
+use Rattle.record_grammar.specs.Grammar.{params_at, events_at, element_at, drawn_at, time_at, sample_at, most_samples, samples_at, input_at}
+use Rattle.record_grammar.specs.Grammar.{phase_of, most_pass, most_element, refusal_at, init_from, finished_from, init_at, finished_at}
+use Rattle.record_grammar.specs.Grammar.{refused_at, run_at}
 use Rattle.record_grammar.proofs.Steady.{bad, bad_is, bind_bad, raw_short, raw_long}
 
 -- Range is the only reason that the reader gives
@@ -28,7 +32,8 @@ pub record OnlyRange {A : Type 0} (read : List ℕ → Read A) : Type 0 where
 pub only_give : {A : Type 0} (a : A) → OnlyRange (λ bytes. Got (a, bytes))
 only_give a = record { only = λ bytes reason left e. absurd cc }
 
-pub only_then : {A B : Type 0} (r : List ℕ → Read A) (f : A → List ℕ → Read B) → OnlyRange r → ((a : A) → OnlyRange (f a)) → OnlyRange (λ bytes. r bytes >>= λ x. f x.0 x.1)
+pub only_then : {A B : Type 0} (r : List ℕ → Read A) (f : A → List ℕ → Read B) → OnlyRange r → ((a : A) → OnlyRange (f a))
+    → OnlyRange (λ bytes. r bytes >>= λ x. f x.0 x.1)
 only_then r f h k = record {
   only = λ bytes reason left e. elim (bind_bad (r bytes) (λ x. f x.0 x.1) reason left e) [
     | inl b ↦ h.only bytes reason left b
@@ -40,14 +45,18 @@ only_if : {A : Type 0} (t : Bool) (r s : List ℕ → Read A) → OnlyRange r �
 only_if true r s h k = record { only = h.only }
 only_if false r s h k = record { only = k.only }
 
-only_number_step : (limits : Limits) (left v b : ℕ) (bytes : List ℕ) (t : Bool) (reason : Reason) (n : ℕ) → OnlyRange (number_from limits left (v * 256 + b)) → cond t (number_from limits left (v * 256 + b) bytes) (bad Range (suc (length bytes))) ≡ Bad reason n → reason ≡ Range
+only_number_step : (limits : Limits) (left v b : ℕ) (bytes : List ℕ) (t : Bool) (reason : Reason) (n : ℕ)
+    → OnlyRange (number_from limits left (v * 256 + b))
+    → cond t (number_from limits left (v * 256 + b) bytes) (bad Range (suc (length bytes))) ≡ Bad reason n → reason ≡ Range
 only_number_step limits left v b bytes true reason n h e = h.only bytes reason n e
 only_number_step limits left v b bytes false reason n h e = let p = bad_is {A = ℕ} Range reason (suc (length bytes)) n e in sym p.0
 
-only_next : (limits : Limits) (left v : ℕ) → ((b : ℕ) → OnlyRange (number_from limits left (v * 256 + b))) → (bytes : List ℕ) (reason : Reason) (n : ℕ) → number_from limits (suc left) v bytes ≡ Bad reason n → reason ≡ Range
+only_next : (limits : Limits) (left v : ℕ) → ((b : ℕ) → OnlyRange (number_from limits left (v * 256 + b)))
+    → (bytes : List ℕ) (reason : Reason) (n : ℕ) → number_from limits (suc left) v bytes ≡ Bad reason n → reason ≡ Range
 unfolding number_from
 only_next limits left v h [] reason n e = absurd cc
-only_next limits left v h (b ∷ bytes) reason n e = only_number_step limits left v b bytes (can_be limits left (v * 256 + b)) reason n (h b) e
+only_next limits left v h (b ∷ bytes) reason n e =
+    only_number_step limits left v b bytes (can_be limits left (v * 256 + b)) reason n (h b) e
 
 only_number_from : (limits : Limits) (left v : ℕ) → OnlyRange (number_from limits left v)
 unfolding number_from
@@ -90,7 +99,8 @@ only_string width most = only_then (number width 0 most) raw_at (only_number wid
 
 -- ---- the header
 
-name_byte_says : (t : Bool) (b : ℕ) (bytes : List ℕ) (reason : Reason) (left : ℕ) → cond t (Got (b, bytes)) (bad Range (suc (length bytes))) ≡ Bad reason left → reason ≡ Range
+name_byte_says : (t : Bool) (b : ℕ) (bytes : List ℕ) (reason : Reason) (left : ℕ) → cond t (Got (b, bytes)) (bad Range (suc (length bytes)))
+    ≡ Bad reason left → reason ≡ Range
 name_byte_says true b bytes reason left e = absurd cc
 name_byte_says false b bytes reason left e = let p = bad_is {A = ℕ} Range reason (suc (length bytes)) left e in sym p.0
 
@@ -140,7 +150,8 @@ only_element = only_string 2 64
 
 only_drawn : (format : Format) → OnlyRange (drawn_at format)
 unfolding drawn_at
-only_drawn One = only_then element_at (λ e bytes. Got (record { bytes = e; draws = 0 }, bytes)) only_element (λ e. only_give (record { bytes = e; draws = 0 }))
+only_drawn One =
+    only_then element_at (λ e bytes. Got (record { bytes = e; draws = 0 }, bytes)) only_element (λ e. only_give (record { bytes = e; draws = 0 }))
 only_drawn Two =
     only_then element_at (λ e bytes. number 4 0 4294967295 bytes >>= λ d. Got (record { bytes = e; draws = d.0 }, d.1)) only_element (λ e.
     only_then (number 4 0 4294967295) (λ d bytes. Got (record { bytes = e; draws = d }, bytes)) (only_number 4 0 4294967295) (λ d. only_give (record { bytes = e; draws = d })))
@@ -181,17 +192,21 @@ only_refusal =
     only_then (number 4 0 4294967295) (λ code bytes. Got (record { phase = phase_of phase; pass = pass; element = element; code = code }, bytes)) (only_number 4 0 4294967295) (λ code.
     only_give (record { phase = phase_of phase; pass = pass; element = element; code = code })))))
 
-only_front : {A : Type 0} (item : List ℕ → Read A) → OnlyRange item → (front : List A) (n : ℕ) → OnlyRange (λ bytes. with_front front (many item n bytes))
-only_front item h front n = only_then (many item n) (λ xs bytes. Got (front ++ xs, bytes)) (only_many item h n) (λ xs. only_give (front ++ xs))
+only_front : {A : Type 0} (item : List ℕ → Read A) → OnlyRange item → (front : List A) (n : ℕ)
+    → OnlyRange (λ bytes. with_front front (many item n bytes))
+only_front item h front n =
+    only_then (many item n) (λ xs bytes. Got (front ++ xs, bytes)) (only_many item h n) (λ xs. only_give (front ++ xs))
 
 only_init_from : (done : List (List ℕ)) (left : ℕ) → OnlyRange (init_from done left)
 unfolding init_from
-only_init_from done left = only_then (λ bytes. with_front done (many element_at left bytes)) (λ es bytes. Got (frames.Init es, bytes)) (only_front element_at only_element done left) (λ es. only_give (frames.Init es))
+only_init_from done left =
+    only_then (λ bytes. with_front done (many element_at left bytes)) (λ es bytes. Got (frames.Init es, bytes)) (only_front element_at only_element done left) (λ es. only_give (frames.Init es))
 
 abbrev finished : CycleInput → List DrawnElement → List ℕ → Frame
 finished input elements output = frames.Run (record { input = input; outcome = Finished elements output })
 
-only_finished_from : (format : Format) (input : CycleInput) (done : List DrawnElement) (left : ℕ) → OnlyRange (finished_from format input done left)
+only_finished_from : (format : Format) (input : CycleInput) (done : List DrawnElement) (left : ℕ)
+    → OnlyRange (finished_from format input done left)
 unfolding finished_from
 only_finished_from format input done left =
     only_then (λ bytes. with_front done (many (drawn_at format) left bytes)) (λ es bytes. string_at 4 1048576 bytes >>= λ out. Got (finished input es out.0, out.1)) (only_front (drawn_at format) (only_drawn format) done left) (λ es.
@@ -199,15 +214,18 @@ only_finished_from format input done left =
 
 pub only_init : OnlyRange init_at
 unfolding init_at
-only_init = only_then (number 4 0 65536) (λ count bytes. init_from [] count bytes) (only_number 4 0 65536) (λ count. only_init_from [] count)
+only_init =
+    only_then (number 4 0 65536) (λ count bytes. init_from [] count bytes) (only_number 4 0 65536) (λ count. only_init_from [] count)
 
 only_finished : (format : Format) (input : CycleInput) → OnlyRange (finished_at format input)
 unfolding finished_at
-only_finished format input = only_then (number 4 0 65536) (λ count bytes. finished_from format input [] count bytes) (only_number 4 0 65536) (λ count. only_finished_from format input [] count)
+only_finished format input =
+    only_then (number 4 0 65536) (λ count bytes. finished_from format input [] count bytes) (only_number 4 0 65536) (λ count. only_finished_from format input [] count)
 
 only_refused : (input : CycleInput) → OnlyRange (refused_at input)
 unfolding refused_at
-only_refused input = only_then refusal_at (λ at bytes. Got (frames.Run (record { input = input; outcome = Refused at }), bytes)) only_refusal (λ at. only_give (frames.Run (record { input = input; outcome = Refused at })))
+only_refused input =
+    only_then refusal_at (λ at bytes. Got (frames.Run (record { input = input; outcome = Refused at }), bytes)) only_refusal (λ at. only_give (frames.Run (record { input = input; outcome = Refused at })))
 
 pub only_run : (layout : Layout) → OnlyRange (run_at layout)
 unfolding run_at

@@ -1,5 +1,6 @@
 -- Why an item is refused, by the place of the faulty byte.
-use Rattle.std.proofs.Common.{◌≡◌, ℕ, suc, ◌+◌, ◌<◌, ◌≤◌, Bool, true, false, cond, eqb, ltb, List, [], ◌∷◌, length, refl, sym, ap, ◌∙◌, arith, inl, inr, ◌⊎◌}
+use Rattle.std.proofs.Common.{◌≡◌, ℕ, suc, ◌+◌, ◌<◌, ◌≤◌, Bool, true, false, cond, eqb, ltb, List, [], ◌∷◌, length, refl, sym, ap, ◌∙◌}
+use Rattle.std.proofs.Common.{arith, inl, inr, ◌⊎◌}
 use Rattle.det_values.specs.declared.format.Format.{Format}
 use Rattle.det_values.specs.declared.format.Format.TheVariants.{One, Two}
 use Rattle.det_values.specs.declared.frames.Frame.{Frame}
@@ -14,7 +15,8 @@ use Rattle.record_grammar.specs.declared.item.Item.{Item}
 use Rattle.record_grammar.specs.declared.item.Item.TheVariants as items
 use Rattle.record_grammar.specs.Read.{Read, Got, More, Bad, ◌>>=◌}
 use Rattle.record_grammar.specs.Numbers.{number}
-use Rattle.record_grammar.specs.Grammar.{exactly_at, magic_at, format_at, version_at, params_at, events_at, profile_at, tag_reason, init_at, run_at, tagged_at, frame_at, item_at}
+use Rattle.record_grammar.specs.Grammar.{exactly_at, magic_at, format_at, version_at, params_at, events_at, profile_at, tag_reason, init_at}
+use Rattle.record_grammar.specs.Grammar.{run_at, tagged_at, frame_at, item_at}
 use Rattle.record_grammar.specs.Laws.{tag_reason_at}
 use Rattle.record_grammar.proofs.Steady.{IsSteady, steady_then, steady_give, got_is, bad, bad_is, bind_got, bind_bad}
 use Rattle.record_grammar.proofs.SteadyFields.{number_steady, params_steady, events_steady, init_steady, run_steady}
@@ -32,21 +34,29 @@ framed r = r >>= λ f. Got (items.Frame f.0, f.1)
 framed_bad : (r : Read Frame) (reason : Reason) (left : ℕ) → framed r ≡ Bad reason left → r ≡ Bad reason left
 framed_bad (Got x) reason left e = absurd cc
 framed_bad More reason left e = absurd cc
-framed_bad (Bad why n) reason left e = let p = bad_is {A = Item} why reason n left e in ap (λ (m : ℕ). bad {A = Frame} why m) p.1 ∙ ap (λ (w : Reason). bad {A = Frame} w left) p.0
+framed_bad (Bad why n) reason left e =
+    let p = bad_is {A = Item} why reason n left e in ap (λ (m : ℕ). bad {A = Frame} why m) p.1
+    ∙ ap (λ (w : Reason). bad {A = Frame} w left) p.0
 
 -- a reader behind the first byte
-says_behind : (bytes : List ℕ) (first : Reason) (r : List ℕ → Read Frame) (reason : Reason) (left : ℕ) → OnlyRange r → IsSteady 0 r → r bytes ≡ Bad reason left → Says bytes first reason left
-says_behind bytes first r reason left h s e = let w : left ≤ 0 + length bytes = s.within bytes reason left e in inr (h.only bytes reason left e, omega arith)
+says_behind : (bytes : List ℕ) (first : Reason) (r : List ℕ → Read Frame) (reason : Reason) (left : ℕ) → OnlyRange r → IsSteady 0 r
+    → r bytes ≡ Bad reason left → Says bytes first reason left
+says_behind bytes first r reason left h s e =
+    let w : left ≤ 0 + length bytes = s.within bytes reason left e in inr (h.only bytes reason left e, omega arith)
 
-says_first : (bytes : List ℕ) (first reason : Reason) (left : ℕ) → bad {A = Frame} first (suc (length bytes)) ≡ Bad reason left → Says bytes first reason left
+says_first : (bytes : List ℕ) (first reason : Reason) (left : ℕ) → bad {A = Frame} first (suc (length bytes)) ≡ Bad reason left
+    → Says bytes first reason left
 says_first bytes first reason left e = let p = bad_is {A = Frame} first reason (suc (length bytes)) left e in inl (sym p.0, sym p.1)
 
-says_if : (t : Bool) (bytes : List ℕ) (first : Reason) (r s : Read Frame) (reason : Reason) (left : ℕ) → (r ≡ Bad reason left → Says bytes first reason left) → (s ≡ Bad reason left → Says bytes first reason left) → cond t r s ≡ Bad reason left → Says bytes first reason left
+says_if : (t : Bool) (bytes : List ℕ) (first : Reason) (r s : Read Frame) (reason : Reason) (left : ℕ)
+    → (r ≡ Bad reason left → Says bytes first reason left) → (s ≡ Bad reason left → Says bytes first reason left) → cond t r s
+    ≡ Bad reason left → Says bytes first reason left
 says_if true bytes first r s reason left h k e = h e
 says_if false bytes first r s reason left h k e = k e
 
 -- a frame without fields, or else this reason
-bare_says : (t : Bool) (f : Frame) (bytes : List ℕ) (first reason : Reason) (left : ℕ) → cond t (Got (f, bytes)) (bad first (suc (length bytes))) ≡ Bad reason left → Says bytes first reason left
+bare_says : (t : Bool) (f : Frame) (bytes : List ℕ) (first reason : Reason) (left : ℕ)
+    → cond t (Got (f, bytes)) (bad first (suc (length bytes))) ≡ Bad reason left → Says bytes first reason left
 bare_says true f bytes first reason left e = absurd cc
 bare_says false f bytes first reason left e = says_first bytes first reason left e
 
@@ -56,7 +66,8 @@ runs_say layout before b bytes reason left true e =
     says_if (ltb before 1000000) bytes TooMany (run_at layout bytes) (bad TooMany (suc (length bytes))) reason left (says_behind bytes TooMany (run_at layout) reason left (only_run layout) (run_steady layout)) (says_first bytes TooMany reason left) e
 runs_say layout before b bytes reason left false e = bare_says (eqb b 5) frames.Terminate bytes (tag_reason b) reason left e
 
-tagged_says : (place : Place) (b : ℕ) (bytes : List ℕ) (reason : Reason) (left : ℕ) → tagged_at place b bytes ≡ Bad reason left → Says bytes (tag_reason_at place b) reason left
+tagged_says : (place : Place) (b : ℕ) (bytes : List ℕ) (reason : Reason) (left : ℕ) → tagged_at place b bytes ≡ Bad reason left
+    → Says bytes (tag_reason_at place b) reason left
 unfolding tagged_at
 tagged_says places.Header b bytes reason left e = absurd cc
 tagged_says (places.Register layout) b bytes reason left e = bare_says (eqb b 1) frames.Register bytes (tag_reason b) reason left e
@@ -66,7 +77,8 @@ tagged_says (places.Init layout) b bytes reason left e =
 tagged_says (places.Runs layout before) b bytes reason left e = runs_say layout before b bytes reason left (eqb b 4) e
 tagged_says places.End b bytes reason left e = says_first bytes Trailing reason left e
 
-frame_is : (place : Place) (b : ℕ) (bytes : List ℕ) → (place ≡ places.Header → ⊥) → item_at place (b ∷ bytes) ≡ framed (tagged_at place b bytes)
+frame_is : (place : Place) (b : ℕ) (bytes : List ℕ) → (place ≡ places.Header → ⊥) → item_at place (b ∷ bytes)
+    ≡ framed (tagged_at place b bytes)
 unfolding item_at frame_at
 frame_is places.Header b bytes ne = absurd (ne refl)
 frame_is (places.Register layout) b bytes ne = refl
@@ -75,16 +87,20 @@ frame_is (places.Init layout) b bytes ne = refl
 frame_is (places.Runs layout before) b bytes ne = refl
 frame_is places.End b bytes ne = refl
 
-pub frame_says : (place : Place) (b : ℕ) (bytes : List ℕ) (reason : Reason) (left : ℕ) → (place ≡ places.Header → ⊥) → item_at place (b ∷ bytes) ≡ Bad reason left → Says bytes (tag_reason_at place b) reason left
-frame_says place b bytes reason left ne e = tagged_says place b bytes reason left (framed_bad (tagged_at place b bytes) reason left (sym (frame_is place b bytes ne) ∙ e))
+pub frame_says : (place : Place) (b : ℕ) (bytes : List ℕ) (reason : Reason) (left : ℕ) → (place ≡ places.Header → ⊥)
+    → item_at place (b ∷ bytes) ≡ Bad reason left → Says bytes (tag_reason_at place b) reason left
+frame_says place b bytes reason left ne e =
+    tagged_says place b bytes reason left (framed_bad (tagged_at place b bytes) reason left (sym (frame_is place b bytes ne) ∙ e))
 
 -- ---- fields of a fixed width that are refused for one reason
 
 record IsField {A : Type 0} (width : ℕ) (why : Reason) (read : List ℕ → Read A) : Type 0 where
   pub takes : (bytes : List ℕ) (x : A × List ℕ) → read bytes ≡ Got x → length bytes ≡ width + length x.1
-  pub says : (bytes : List ℕ) (reason : Reason) (left : ℕ) → read bytes ≡ Bad reason left → (reason ≡ why) × (left ≤ length bytes) × (length bytes < left + width)
+  pub says : (bytes : List ℕ) (reason : Reason) (left : ℕ) → read bytes ≡ Bad reason left → (reason ≡ why) × (left ≤ length bytes)
+      × (length bytes < left + width)
 
-field_then : {A B : Type 0} (m n : ℕ) (why : Reason) (r : List ℕ → Read A) (f : A → List ℕ → Read B) → IsField m why r → ((a : A) → IsField n why (f a)) → IsField (m + n) why (λ bytes. r bytes >>= λ x. f x.0 x.1)
+field_then : {A B : Type 0} (m n : ℕ) (why : Reason) (r : List ℕ → Read A) (f : A → List ℕ → Read B) → IsField m why r
+    → ((a : A) → IsField n why (f a)) → IsField (m + n) why (λ bytes. r bytes >>= λ x. f x.0 x.1)
 field_then m n why r f h k = record {
   takes = λ bytes y e.
       let b = bind_got (r bytes) (λ x. f x.0 x.1) y e in
@@ -98,17 +114,22 @@ field_then m n why r f h k = record {
   ];
 }
 
-field_same : {A : Type 0} (m : ℕ) (why : Reason) (r s : List ℕ → Read A) → ((bytes : List ℕ) → r bytes ≡ s bytes) → IsField m why s → IsField m why r
+field_same : {A : Type 0} (m : ℕ) (why : Reason) (r s : List ℕ → Read A) → ((bytes : List ℕ) → r bytes ≡ s bytes) → IsField m why s
+    → IsField m why r
 field_same m why r s same h = record {
   takes = λ bytes x e. h.takes bytes x (sym (same bytes) ∙ e);
   says = λ bytes reason left e. h.says bytes reason left (sym (same bytes) ∙ e);
 }
 
-byte_takes : {A : Type 0} (t : Bool) (a : A) (bytes : List ℕ) (why : Reason) (left : ℕ) (x : A × List ℕ) → cond t (Got (a, bytes)) (bad why left) ≡ Got x → suc (length bytes) ≡ 1 + length x.1
-byte_takes {A = A} true a bytes why left x e = let l : length bytes ≡ length x.1 = ap (λ (y : A × List ℕ). length y.1) (got_is (a, bytes) x e) in omega arith
+byte_takes : {A : Type 0} (t : Bool) (a : A) (bytes : List ℕ) (why : Reason) (left : ℕ) (x : A × List ℕ)
+    → cond t (Got (a, bytes)) (bad why left) ≡ Got x → suc (length bytes) ≡ 1 + length x.1
+byte_takes {A = A} true a bytes why left x e = let l : length bytes
+    ≡ length x.1 = ap (λ (y : A × List ℕ). length y.1) (got_is (a, bytes) x e) in omega arith
 byte_takes false a bytes why left x e = absurd cc
 
-byte_says : {A : Type 0} (t : Bool) (a : A) (bytes : List ℕ) (why reason : Reason) (left : ℕ) → cond t (Got (a, bytes)) (bad why (suc (length bytes))) ≡ Bad reason left → (reason ≡ why) × (left ≤ suc (length bytes)) × (suc (length bytes) < left + 1)
+byte_says : {A : Type 0} (t : Bool) (a : A) (bytes : List ℕ) (why reason : Reason) (left : ℕ)
+    → cond t (Got (a, bytes)) (bad why (suc (length bytes))) ≡ Bad reason left → (reason ≡ why) × (left ≤ suc (length bytes))
+    × (suc (length bytes) < left + 1)
 byte_says true a bytes why reason left e = absurd cc
 byte_says {A = A} false a bytes why reason left e = let p = bad_is {A = A} why reason (suc (length bytes)) left e in (sym p.0, omega (arith, p.1), omega (arith, p.1))
 
@@ -119,7 +140,8 @@ exactly_field why k = record { takes = takes; says = says }
     takes [] x e = absurd cc
     takes (b ∷ bytes) x e = byte_takes (eqb b k) k bytes why (suc (length bytes)) x e
 
-    says : (bytes : List ℕ) (reason : Reason) (left : ℕ) → exactly_at why k bytes ≡ Bad reason left → (reason ≡ why) × (left ≤ length bytes) × (length bytes < left + 1)
+    says : (bytes : List ℕ) (reason : Reason) (left : ℕ) → exactly_at why k bytes ≡ Bad reason left → (reason ≡ why) × (left ≤ length bytes)
+        × (length bytes < left + 1)
     says [] reason left e = absurd cc
     says (b ∷ bytes) reason left e = byte_says (eqb b k) k bytes why reason left e
 
@@ -142,11 +164,13 @@ magic_field =
     field_then 1 2 Magic (exactly_at Magic 82) (λ r bytes. exactly_at Magic 69 bytes >>= λ f. exactly_at Magic 67 f.1) (exactly_field Magic 82) (λ r.
     field_then 1 1 Magic (exactly_at Magic 69) (λ f. exactly_at Magic 67) (exactly_field Magic 69) (λ f. exactly_field Magic 67))))))
 
-format_takes : (one two : Bool) (bytes : List ℕ) (left : ℕ) (x : Format × List ℕ) → cond one (Got (One, bytes)) (cond two (Got (Two, bytes)) (bad Version left)) ≡ Got x → suc (length bytes) ≡ 1 + length x.1
+format_takes : (one two : Bool) (bytes : List ℕ) (left : ℕ) (x : Format × List ℕ)
+    → cond one (Got (One, bytes)) (cond two (Got (Two, bytes)) (bad Version left)) ≡ Got x → suc (length bytes) ≡ 1 + length x.1
 format_takes true two bytes left x e = byte_takes true One bytes Version left x e
 format_takes false two bytes left x e = byte_takes two Two bytes Version left x e
 
-format_says : (one two : Bool) (bytes : List ℕ) (reason : Reason) (left : ℕ) → cond one (Got (One, bytes)) (cond two (Got (Two, bytes)) (bad Version (suc (length bytes)))) ≡ Bad reason left
+format_says : (one two : Bool) (bytes : List ℕ) (reason : Reason) (left : ℕ)
+    → cond one (Got (One, bytes)) (cond two (Got (Two, bytes)) (bad Version (suc (length bytes)))) ≡ Bad reason left
     → (reason ≡ Version) × (left ≤ suc (length bytes)) × (suc (length bytes) < left + 1)
 format_says true two bytes reason left e = absurd cc
 format_says false two bytes reason left e = byte_says two Two bytes Version reason left e
@@ -159,7 +183,8 @@ format_field = record { takes = takes; says = says }
     takes [] x e = absurd cc
     takes (b ∷ bytes) x e = format_takes (eqb b 1) (eqb b 2) bytes (suc (length bytes)) x e
 
-    says : (bytes : List ℕ) (reason : Reason) (left : ℕ) → format_at bytes ≡ Bad reason left → (reason ≡ Version) × (left ≤ length bytes) × (length bytes < left + 1)
+    says : (bytes : List ℕ) (reason : Reason) (left : ℕ) → format_at bytes ≡ Bad reason left → (reason ≡ Version) × (left ≤ length bytes)
+        × (length bytes < left + 1)
     says [] reason left e = absurd cc
     says (b ∷ bytes) reason left e = format_says (eqb b 1) (eqb b 2) bytes reason left e
 
@@ -197,7 +222,8 @@ profile_in_parts : (bytes : List ℕ) → profile_at bytes ≡ (magic_at bytes >
 unfolding profile_at
 profile_in_parts bytes = refl
 
-version_says : (last : ℕ) (bytes : List ℕ) (len : ℕ) (reason : Reason) (left : ℕ) → len ≡ 6 + length bytes → from_version last bytes ≡ Bad reason left → HeaderSays len left reason
+version_says : (last : ℕ) (bytes : List ℕ) (len : ℕ) (reason : Reason) (left : ℕ) → len ≡ 6 + length bytes → from_version last bytes
+    ≡ Bad reason left → HeaderSays len left reason
 version_says last bytes len reason left l e = elim (bind_bad (version_at bytes) (λ format. from_job format.0 format.1) reason left e) [
   | inl b ↦ let s = version_field.says bytes reason left b in in_version s.0 (omega (arith, s.1)) (omega (arith, s.2))
   | inr b ↦
@@ -207,16 +233,21 @@ version_says last bytes len reason left l e = elim (bind_bad (version_at bytes) 
 ]
 
 profile_says : (bytes : List ℕ) (reason : Reason) (left : ℕ) → profile_at bytes ≡ Bad reason left → HeaderSays (length bytes) left reason
-profile_says bytes reason left e = elim (bind_bad (magic_at bytes) (λ m. from_version m.0 m.1) reason left (sym (profile_in_parts bytes) ∙ e)) [
-  | inl b ↦ let s = magic_field.says bytes reason left b in in_magic s.0 s.2
-  | inr b ↦ version_says b.0.0 b.0.1 (length bytes) reason left (magic_field.takes bytes b.0 b.1) b.2
-]
+profile_says bytes reason left e =
+    elim (bind_bad (magic_at bytes) (λ m. from_version m.0 m.1) reason left (sym (profile_in_parts bytes) ∙ e)) [
+      | inl b ↦ let s = magic_field.says bytes reason left b in in_magic s.0 s.2
+      | inr b ↦ version_says b.0.0 b.0.1 (length bytes) reason left (magic_field.takes bytes b.0 b.1) b.2
+    ]
 
-header_bad : (r : Read ProfileValue) (reason : Reason) (left : ℕ) → (r >>= λ p. Got (items.Header p.0, p.1)) ≡ Bad reason left → r ≡ Bad reason left
+header_bad : (r : Read ProfileValue) (reason : Reason) (left : ℕ) → (r >>= λ p. Got (items.Header p.0, p.1)) ≡ Bad reason left → r
+    ≡ Bad reason left
 header_bad (Got x) reason left e = absurd cc
 header_bad More reason left e = absurd cc
-header_bad (Bad why n) reason left e = let p = bad_is {A = Item} why reason n left e in ap (λ (m : ℕ). bad {A = ProfileValue} why m) p.1 ∙ ap (λ (w : Reason). bad {A = ProfileValue} w left) p.0
+header_bad (Bad why n) reason left e =
+    let p = bad_is {A = Item} why reason n left e in ap (λ (m : ℕ). bad {A = ProfileValue} why m) p.1
+    ∙ ap (λ (w : Reason). bad {A = ProfileValue} w left) p.0
 
-pub header_says : (bytes : List ℕ) (reason : Reason) (left : ℕ) → item_at places.Header bytes ≡ Bad reason left → HeaderSays (length bytes) left reason
+pub header_says : (bytes : List ℕ) (reason : Reason) (left : ℕ) → item_at places.Header bytes ≡ Bad reason left
+    → HeaderSays (length bytes) left reason
 unfolding item_at
 header_says bytes reason left e = profile_says bytes reason left (header_bad (profile_at bytes) reason left e)

@@ -16,11 +16,14 @@ use Rattle.record_laws.proofs.Order.{in_order}
 use Rattle.record_laws.proofs.Whole.{nil_more, all_leads_on}
 
 -- items that lead to a place, and nothing behind them
-stops : (profile : ProfileValue) (frames : List Frame) (bytes : List ℕ) (to : Place) → AreItems places.Header (items_of profile frames) to → bytes ≡ items_spelling places.Header (items_of profile frames)
+stops : (profile : ProfileValue) (frames : List Frame) (bytes : List ℕ) (to : Place) → AreItems places.Header (items_of profile frames) to
+    → bytes ≡ items_spelling places.Header (items_of profile frames)
     → (items_in bytes ≡ items_of profile frames) × (fault_so_far bytes ≡ None) × (fault bytes ≡ fault_from (length bytes) (ending_at to))
-stops profile frames bytes to h e = all_at_more (items_of profile frames) to bytes [] (all_leads_on (items_of profile frames) to bytes h e) (nil_more to)
+stops profile frames bytes to h e =
+    all_at_more (items_of profile frames) to bytes [] (all_leads_on (items_of profile frames) to bytes h e) (nil_more to)
 
-pub spelled_is_read : (profile : ProfileValue) (frames : List Frame) (bytes : List ℕ) → Spells profile frames bytes → IsRead profile frames bytes
+pub spelled_is_read : (profile : ProfileValue) (frames : List Frame) (bytes : List ℕ) → Spells profile frames bytes
+    → IsRead profile frames bytes
 spelled_is_read profile frames bytes s =
     let o = in_order profile frames bytes in
     let b = o.begun.0 s in

@@ -1,5 +1,6 @@
 -- What is decoded, in terms of whole records.
-use Rattle.std.proofs.Common.{◌≡◌, ℕ, zero, suc, ◌+◌, ◌-◌, ◌<◌, ◌≤◌, List, [], ◌∷◌, ◌++◌, length, Option, Some, None, refl, sym, ap, subst, ◌∙◌, append_assoc, arith, inl, inr, ◌⊎◌, length-append}
+use Rattle.std.proofs.Common.{◌≡◌, ℕ, zero, suc, ◌+◌, ◌-◌, ◌<◌, ◌≤◌, List, [], ◌∷◌, ◌++◌, length, Option, Some, None, refl, sym, ap, subst}
+use Rattle.std.proofs.Common.{◌∙◌, append_assoc, arith, inl, inr, ◌⊎◌, length-append}
 use Rattle.std.proofs.lemmas.List.{append-nil}
 use Rattle.std.proofs.lemmas.List.Elements.{All-nil, All-cons}
 use Rattle.record_grammar.specs.declared.fault.Reason.{Reason}
@@ -21,13 +22,15 @@ use Rattle.record_laws.proofs.Lawful.{IsRefused, AreBytes-rest, AreBytes-head, A
 use Rattle.record_laws.proofs.LawfulItems.{item_lawful}
 use Rattle.record_laws.proofs.OneSpelling.{not_end}
 use Rattle.record_laws.proofs.Reasons.{frame_says, header_says, HeaderSays, in_magic, in_version, behind}
-use Rattle.record_laws.proofs.InPlaces.{FewEvents, few_fit, few_after, few_along, is_end, is_header, at_header, items_append, spelling_append, completed, long_enough}
+use Rattle.record_laws.proofs.InPlaces.{FewEvents, few_fit, few_after, few_along, is_end, is_header, at_header, items_append}
+use Rattle.record_laws.proofs.InPlaces.{spelling_append, completed, long_enough}
 
 abbrev pub IsStuck : Place → List ℕ → Type 0
 IsStuck to rest = (item_at to rest ≡ More) ⊎ ((reason : Reason) × (left : ℕ) × (item_at to rest ≡ Bad reason left))
 
 -- all bytes lead somewhere
-pub reads : (n : ℕ) (place : Place) (bytes : List ℕ) → length bytes < n → (r : Read Item) → item_at place bytes ≡ r → (given : List Item) × (to : Place) × (rest : List ℕ) × Leads place bytes given to rest × IsStuck to rest
+pub reads : (n : ℕ) (place : Place) (bytes : List ℕ) → length bytes < n → (r : Read Item) → item_at place bytes ≡ r → (given : List Item)
+    × (to : Place) × (rest : List ℕ) × Leads place bytes given to rest × IsStuck to rest
 reads zero place bytes h r e = absurd (omega arith)
 reads (suc n) place bytes h (Got x) e =
     let t : length x.1 < length bytes = item_takes place bytes x e in
@@ -57,9 +60,11 @@ end_stuck (b ∷ bytes) e = absurd cc
 
 -- ---- two ways to read the same bytes
 
-bad_never_whole : (given : List Item) (place to : Place) (bytes rest : List ℕ) (xs : List Item) (reason : Reason) (left : ℕ) → Leads place bytes given to rest → item_at to rest ≡ Bad reason left → Leads place bytes xs places.End [] → ⊥
+bad_never_whole : (given : List Item) (place to : Place) (bytes rest : List ℕ) (xs : List Item) (reason : Reason) (left : ℕ)
+    → Leads place bytes given to rest → item_at to rest ≡ Bad reason left → Leads place bytes xs places.End [] → ⊥
 bad_never_whole [] place to bytes rest [] reason left h b k =
-    let e : item_at places.End [] ≡ Bad reason left = ap (λ (p : Place). item_at p []) (sym k.0 ∙ h.0) ∙ ap (item_at to) (sym k.1 ∙ h.1) ∙ b in
+    let e : item_at places.End [] ≡ Bad reason left = ap (λ (p : Place). item_at p []) (sym k.0 ∙ h.0) ∙ ap (item_at to) (sym k.1 ∙ h.1)
+    ∙ b in
     absurd (cc (e, nil_more places.End))
 bad_never_whole [] place to bytes rest (x ∷ xs) reason left h b k =
     let e : item_at place bytes ≡ Bad reason left = ap (λ (p : Place). item_at p bytes) h.0 ∙ ap (item_at to) h.1 ∙ b in
@@ -71,7 +76,8 @@ bad_never_whole (g ∷ given) place to bytes rest (x ∷ xs) reason left h b k =
     let p = got_is (g, h.0) (x, k.0) (sym h.1 ∙ k.1) in
     bad_never_whole given (after place g) to h.0 rest xs reason left h.2 b (subst (λ (q : Item × List ℕ). Leads (after place q.0) q.1 xs places.End []) (sym p) k.2)
 
-same_stop : (given xs : List Item) (place to end : Place) (bytes rest others : List ℕ) → Leads place bytes given to rest → item_at to rest ≡ More → Leads place bytes xs end others → item_at end others ≡ More → (to ≡ end) × (rest ≡ others)
+same_stop : (given xs : List Item) (place to end : Place) (bytes rest others : List ℕ) → Leads place bytes given to rest → item_at to rest
+    ≡ More → Leads place bytes xs end others → item_at end others ≡ More → (to ≡ end) × (rest ≡ others)
 same_stop [] [] place to end bytes rest others h m k n = (sym h.0 ∙ k.0, sym h.1 ∙ k.1)
 same_stop [] (x ∷ xs) place to end bytes rest others h m k n =
     let e : item_at place bytes ≡ More = ap (λ (p : Place). item_at p bytes) h.0 ∙ ap (item_at to) h.1 ∙ m in
@@ -84,7 +90,8 @@ same_stop (g ∷ given) (x ∷ xs) place to end bytes rest others h m k n =
     same_stop given xs (after place g) to end h.0 rest others h.2 m (subst (λ (q : Item × List ℕ). Leads (after place q.0) q.1 xs end others) (sym p) k.2) n
 
 -- no other items lead further
-no_longer : (given : List Item) (place to : Place) (bytes rest : List ℕ) (ys : List Item) (end : Place) (others : List ℕ) → Leads place bytes given to rest → IsStuck to rest → Leads place bytes ys end others → length ys ≤ length given
+no_longer : (given : List Item) (place to : Place) (bytes rest : List ℕ) (ys : List Item) (end : Place) (others : List ℕ)
+    → Leads place bytes given to rest → IsStuck to rest → Leads place bytes ys end others → length ys ≤ length given
 no_longer given place to bytes rest [] end others h stuck k = omega arith
 no_longer [] place to bytes rest (y ∷ ys) end others h stuck k =
     let e : item_at to rest ≡ Got (y, k.0) = ap (λ (p : Place). item_at p rest) (sym h.0) ∙ ap (item_at place) (sym h.1) ∙ k.1 in
@@ -99,15 +106,18 @@ no_longer (g ∷ given) place to bytes rest (y ∷ ys) end others h stuck k =
 
 -- ---- what is spelled is read, and the other way round
 
-pub spelled_leads : (xs : List Item) (place to : Place) (rest : List ℕ) → FewEvents place → AreItems place xs to → Leads place (items_spelling place xs ++ rest) xs to rest
+pub spelled_leads : (xs : List Item) (place to : Place) (rest : List ℕ) → FewEvents place → AreItems place xs to
+    → Leads place (items_spelling place xs ++ rest) xs to rest
 spelled_leads [] place to rest few h = (h, refl)
 spelled_leads (x ∷ xs) place to rest few h = (
   items_spelling (after place x) xs ++ rest,
-  ap (item_at place) (append_assoc (item_spelling place x) (items_spelling (after place x) xs) rest) ∙ (item_lawful place (not_end place x h.0) (few_fit place few)).again x (items_spelling (after place x) xs ++ rest) h.0,
+  ap (item_at place) (append_assoc (item_spelling place x) (items_spelling (after place x) xs) rest)
+      ∙ (item_lawful place (not_end place x h.0) (few_fit place few)).again x (items_spelling (after place x) xs ++ rest) h.0,
   spelled_leads xs (after place x) to rest (few_after place x h.0 few) h.1,
 )
 
-pub leads_spelled : (xs : List Item) (place to : Place) (bytes rest : List ℕ) → FewEvents place → AreBytes bytes → Leads place bytes xs to rest → AreItems place xs to × (bytes ≡ items_spelling place xs ++ rest)
+pub leads_spelled : (xs : List Item) (place to : Place) (bytes rest : List ℕ) → FewEvents place → AreBytes bytes
+    → Leads place bytes xs to rest → AreItems place xs to × (bytes ≡ items_spelling place xs ++ rest)
 leads_spelled [] place to bytes rest few are h = (h.0, h.1)
 leads_spelled (x ∷ xs) place to bytes rest few are h =
     let ne : place ≡ places.End → ⊥ = λ e. end_never bytes (x, h.0) (ap (λ (p : Place). item_at p bytes) (sym e) ∙ h.1) in
@@ -116,11 +126,14 @@ leads_spelled (x ∷ xs) place to bytes rest few are h =
     ((s.0, i.0), s.1 ∙ ap (λ (b : List ℕ). item_spelling place x ++ b) i.1 ∙ sym (append_assoc (item_spelling place x) (items_spelling (after place x) xs) rest))
 
 -- the bytes of a list of items lead to its end
-pub all_leads_on : (xs : List Item) (to : Place) (bytes : List ℕ) → AreItems places.Header xs to → bytes ≡ items_spelling places.Header xs → Leads places.Header bytes xs to []
-all_leads_on xs to bytes h e = subst (λ (b : List ℕ). Leads places.Header b xs to []) (append-nil (items_spelling places.Header xs) ∙ sym e) (spelled_leads xs places.Header to [] tt h)
+pub all_leads_on : (xs : List Item) (to : Place) (bytes : List ℕ) → AreItems places.Header xs to → bytes ≡ items_spelling places.Header xs
+    → Leads places.Header bytes xs to []
+all_leads_on xs to bytes h e =
+    subst (λ (b : List ℕ). Leads places.Header b xs to []) (append-nil (items_spelling places.Header xs) ∙ sym e) (spelled_leads xs places.Header to [] tt h)
 
 -- where more is needed, some whole record goes on from there
-begins : (given : List Item) (to : Place) (bytes rest : List ℕ) → AreBytes bytes → Leads places.Header bytes given to rest → item_at to rest ≡ More → Begins bytes
+begins : (given : List Item) (to : Place) (bytes rest : List ℕ) → AreBytes bytes → Leads places.Header bytes given to rest → item_at to rest
+    ≡ More → Begins bytes
 begins given to bytes rest are h e =
     let s = leads_spelled given places.Header to bytes rest tt are h in
     elim (is_end to) [
@@ -147,15 +160,19 @@ begins given to bytes rest are h e =
 
 AreBytes-front : (xs ys : List ℕ) → AreBytes (xs ++ ys) → AreBytes xs
 AreBytes-front [] ys h = All-nil (λ b. b < 256)
-AreBytes-front (x ∷ xs) ys h = All-cons (λ b. b < 256) x xs (AreBytes-head x (xs ++ ys) h) (AreBytes-front xs ys (AreBytes-tail x (xs ++ ys) h))
+AreBytes-front (x ∷ xs) ys h =
+    All-cons (λ b. b < 256) x xs (AreBytes-head x (xs ++ ys) h) (AreBytes-front xs ys (AreBytes-tail x (xs ++ ys) h))
 
 -- where a byte is refused, the bytes before it begin a whole record, and with it they do not
-refused : (given : List Item) (to : Place) (bytes rest : List ℕ) (reason : Reason) (left : ℕ) → AreBytes bytes → Leads places.Header bytes given to rest → item_at to rest ≡ Bad reason left → (r : IsRefused (item_at to) rest reason left)
-    → (front : List ℕ) × (b : ℕ) × (behind : List ℕ) × (bytes ≡ front ++ b ∷ behind) × (left ≡ suc (length behind)) × Begins front × (Begins (front ++ b ∷ []) → ⊥) × (front ≡ items_spelling places.Header given ++ r.before) × (b ≡ r.byte)
+refused : (given : List Item) (to : Place) (bytes rest : List ℕ) (reason : Reason) (left : ℕ) → AreBytes bytes
+    → Leads places.Header bytes given to rest → item_at to rest ≡ Bad reason left → (r : IsRefused (item_at to) rest reason left)
+    → (front : List ℕ) × (b : ℕ) × (behind : List ℕ) × (bytes ≡ front ++ b ∷ behind) × (left ≡ suc (length behind)) × Begins front
+    × (Begins (front ++ b ∷ []) → ⊥) × (front ≡ items_spelling places.Header given ++ r.before) × (b ≡ r.byte)
 refused given to bytes rest reason left are h e r =
     let s = leads_spelled given places.Header to bytes rest tt are h in
     let all = items_spelling places.Header given in
-    let parts : bytes ≡ (all ++ r.before) ++ r.byte ∷ r.behind = s.1 ∙ ap (λ (xs : List ℕ). all ++ xs) r.parts ∙ sym (append_assoc all r.before (r.byte ∷ r.behind)) in (
+    let parts : bytes ≡ (all ++ r.before) ++ r.byte ∷ r.behind = s.1 ∙ ap (λ (xs : List ℕ). all ++ xs) r.parts
+    ∙ sym (append_assoc all r.before (r.byte ∷ r.behind)) in (
       all ++ r.before,
       r.byte,
       r.behind,
@@ -173,23 +190,28 @@ refused given to bytes rest reason left are h e r =
       refl,
     )
 
-end_refused : (rest : List ℕ) (reason : Reason) (left : ℕ) → item_at places.End rest ≡ Bad reason left → IsRefused (item_at places.End) rest reason left
+end_refused : (rest : List ℕ) (reason : Reason) (left : ℕ) → item_at places.End rest ≡ Bad reason left
+    → IsRefused (item_at places.End) rest reason left
 unfolding item_at frame_at tagged_at
 end_refused [] reason left e = absurd cc
 end_refused (b ∷ bytes) reason left e =
     let p = bad_is {A = Item} Trailing reason (suc (length bytes)) left e in
     record { before = []; byte = b; behind = bytes; parts = refl; counted = sym p.1; goes_on = refl; refused = λ other. ap (λ (r : Reason). bad {A = Item} r (suc (length other))) p.0 }
 
-refused_at : (to : Place) (rest : List ℕ) (reason : Reason) (left : ℕ) → FewEvents to → AreBytes rest → item_at to rest ≡ Bad reason left → IsRefused (item_at to) rest reason left
+refused_at : (to : Place) (rest : List ℕ) (reason : Reason) (left : ℕ) → FewEvents to → AreBytes rest → item_at to rest ≡ Bad reason left
+    → IsRefused (item_at to) rest reason left
 refused_at to rest reason left few are e =
     elim (is_end to) [
       | inl at ↦ subst (λ (p : Place). IsRefused (item_at p) rest reason left) (sym at) (end_refused rest reason left (ap (λ (p : Place). item_at p rest) (sym at) ∙ e))
       | inr ne ↦ (item_lawful to ne (few_fit to few)).bad rest reason left are e
     ]
 
-why_header : (rest : List ℕ) (byte : ℕ) (reason : Reason) → item_at places.Header rest ≡ More → (len : ℕ) → len ≡ length rest + length (byte ∷ []) → HeaderSays len 1 reason → IsReason rest byte reason
-why_header rest byte reason m len l (in_magic r lt) = record { magic = λ h. r; version = λ h k. absurd (omega arith); tag = λ h xs to items e. absurd (omega arith); field = λ h none. absurd (omega arith) }
-why_header rest byte reason m len l (in_version r le lt) = record { magic = λ h. absurd (omega arith); version = λ h k. r; tag = λ h xs to items e. absurd (omega arith); field = λ h none. absurd (omega arith) }
+why_header : (rest : List ℕ) (byte : ℕ) (reason : Reason) → item_at places.Header rest ≡ More → (len : ℕ) → len
+    ≡ length rest + length (byte ∷ []) → HeaderSays len 1 reason → IsReason rest byte reason
+why_header rest byte reason m len l (in_magic r lt) =
+    record { magic = λ h. r; version = λ h k. absurd (omega arith); tag = λ h xs to items e. absurd (omega arith); field = λ h none. absurd (omega arith) }
+why_header rest byte reason m len l (in_version r le lt) =
+    record { magic = λ h. absurd (omega arith); version = λ h k. r; tag = λ h xs to items e. absurd (omega arith); field = λ h none. absurd (omega arith) }
 why_header rest byte reason m len l (behind r le) = record {
   magic = λ h. absurd (omega arith);
   version = λ h k. absurd (omega arith);
@@ -200,8 +222,10 @@ why_header rest byte reason m len l (behind r le) = record {
   field = λ h none. r;
 }
 
-why_tag : (given : List Item) (to : Place) (rest : List ℕ) (byte : ℕ) (reason : Reason) → AreItems places.Header given to → item_at to rest ≡ More → item_at to (rest ++ byte ∷ []) ≡ Bad reason 1 → (to ≡ places.Header → ⊥)
-    → (xs : List Item) (end : Place) → AreItems places.Header xs end → items_spelling places.Header given ++ rest ≡ items_spelling places.Header xs → reason ≡ tag_reason_at end byte
+why_tag : (given : List Item) (to : Place) (rest : List ℕ) (byte : ℕ) (reason : Reason) → AreItems places.Header given to → item_at to rest
+    ≡ More → item_at to (rest ++ byte ∷ []) ≡ Bad reason 1 → (to ≡ places.Header → ⊥)
+    → (xs : List Item) (end : Place) → AreItems places.Header xs end → items_spelling places.Header given ++ rest
+    ≡ items_spelling places.Header xs → reason ≡ tag_reason_at end byte
 why_tag given to rest byte reason items m b ne xs end others e =
     let bytes = items_spelling places.Header given ++ rest in
     let s = same_stop given xs places.Header to end bytes rest [] (spelled_leads given places.Header to rest tt items) m (all_leads_on xs end bytes others e) (nil_more end) in
@@ -211,7 +235,8 @@ why_tag given to rest byte reason items m b ne xs end others e =
       | inr g ↦ absurd (omega (arith, g.1))
     ]
 
-why_field : (given : List Item) (to : Place) (rest : List ℕ) (byte : ℕ) (reason : Reason) → AreItems places.Header given to → item_at to (rest ++ byte ∷ []) ≡ Bad reason 1 → (to ≡ places.Header → ⊥)
+why_field : (given : List Item) (to : Place) (rest : List ℕ) (byte : ℕ) (reason : Reason) → AreItems places.Header given to
+    → item_at to (rest ++ byte ∷ []) ≡ Bad reason 1 → (to ≡ places.Header → ⊥)
     → ((xs : List Item) (end : Place) → AreItems places.Header xs end → items_spelling places.Header given ++ rest ≡ items_spelling places.Header xs → ⊥) → reason ≡ Range
 why_field given to [] byte reason items b ne none = absurd (none given to items (append-nil (items_spelling places.Header given)))
 why_field given to (c ∷ cs) byte reason items b ne none =
@@ -221,13 +246,15 @@ why_field given to (c ∷ cs) byte reason items b ne none =
     ]
 
 -- the reason, where the bytes before the fault lead to a place and a rest
-why : (given : List Item) (to : Place) (rest : List ℕ) (byte : ℕ) (reason : Reason) → AreItems places.Header given to → item_at to rest ≡ More → item_at to (rest ++ byte ∷ []) ≡ Bad reason 1 → IsReason (items_spelling places.Header given ++ rest) byte reason
+why : (given : List Item) (to : Place) (rest : List ℕ) (byte : ℕ) (reason : Reason) → AreItems places.Header given to → item_at to rest
+    ≡ More → item_at to (rest ++ byte ∷ []) ≡ Bad reason 1 → IsReason (items_spelling places.Header given ++ rest) byte reason
 why given to rest byte reason items m b =
     elim (is_header to) [
       | inl at ↦
           let none = (at_header given places.Header (subst (λ (p : Place). AreItems places.Header given p) at items)).1 in
           let m0 : item_at places.Header rest ≡ More = ap (λ (p : Place). item_at p rest) (sym at) ∙ m in
-          let b0 : item_at places.Header (rest ++ byte ∷ []) ≡ Bad reason 1 = ap (λ (p : Place). item_at p (rest ++ byte ∷ [])) (sym at) ∙ b in
+          let b0 : item_at places.Header (rest ++ byte ∷ []) ≡ Bad reason 1 = ap (λ (p : Place). item_at p (rest ++ byte ∷ [])) (sym at)
+          ∙ b in
           subst (λ (xs : List Item). IsReason (items_spelling places.Header xs ++ rest) byte reason) (sym none) (why_header rest byte reason m0 (length (rest ++ byte ∷ [])) (length-append rest (byte ∷ [])) (header_says (rest ++ byte ∷ []) reason 1 b0))
       | inr ne ↦
           let long : 8 ≤ length (items_spelling places.Header given ++ rest) = long_enough given to rest items ne in
@@ -267,7 +294,8 @@ module _ (bytes : List ℕ) (are : AreBytes bytes) (given : List Item) (to : Pla
     rest = rest;
     items = parts.0;
     spelling = parts.1;
-    longest = λ ys end others ay sy. no_longer given places.Header to bytes rest ys end others h stuck (subst (λ (b : List ℕ). Leads places.Header b ys end others) (sym sy) (spelled_leads ys places.Header end others tt ay));
+    longest =
+        λ ys end others ay sy. no_longer given places.Header to bytes rest ys end others h stuck (subst (λ (b : List ℕ). Leads places.Header b ys end others) (sym sy) (spelled_leads ys places.Header end others tt ay));
   })
 
   at_more : item_at to rest ≡ More → IsDecoded bytes
@@ -310,7 +338,8 @@ module _ (bytes : List ℕ) (are : AreBytes bytes) (given : List Item) (to : Pla
               why = subst (λ (c : ℕ). IsReason d.0 c f.reason) (sym d.8) (subst (λ (c : List ℕ). IsReason c r.byte f.reason) (sym d.7) y);
             };
         whole = λ e. absurd (cc (all.2, e));
-        no_fault = λ w. absurd (bad_never_whole given places.Header to bytes rest w.0 reason left h b (all_leads_on w.0 places.End bytes w.1 w.2));
+        no_fault =
+            λ w. absurd (bad_never_whole given places.Header to bytes rest w.0 reason left h b (all_leads_on w.0 places.End bytes w.1 w.2));
       }
 
 pub decoded_is : (bytes : List ℕ) → AreBytes bytes → IsDecoded bytes
@@ -318,6 +347,7 @@ decoded_is bytes are =
     let d = reads (suc (length bytes)) places.Header bytes (omega arith) (item_at places.Header bytes) refl in
     by_ending d.0 d.1 d.2 d.3 d.4
   where
-    by_ending : (given : List Item) (to : Place) (rest : List ℕ) → Leads places.Header bytes given to rest → IsStuck to rest → IsDecoded bytes
+    by_ending : (given : List Item) (to : Place) (rest : List ℕ) → Leads places.Header bytes given to rest → IsStuck to rest
+        → IsDecoded bytes
     by_ending given to rest h (inl m) = at_more bytes are given to rest h m
     by_ending given to rest h (inr b) = at_bad bytes are given to rest h b.0 b.1 b.2

@@ -18,17 +18,22 @@ EventsFit (places.Runs layout before) = layout.events ≤ 2 ^ 16
 EventsFit place = Unit {0}
 
 abbrev pub OneSpelling : Type 0
-OneSpelling = (place : Place) (a b : Item) (x y : List ℕ) → EventsFit place → HaveOneSpelling place a b x y
+OneSpelling =
+    (place : Place) (a b : Item) (x y : List ℕ) → EventsFit place → HaveOneSpelling place a b x y
 
 abbrev pub OneRecord : Type 0
-OneRecord = (p q : ProfileValue) (fs gs : List Frame) (bytes : List ℕ) → Spells p fs bytes → Spells q gs bytes → (p ≡ q) × (fs ≡ gs)
+OneRecord =
+    (p q : ProfileValue) (fs gs : List Frame) (bytes : List ℕ) → Spells p fs bytes
+    → Spells q gs bytes → (p ≡ q) × (fs ≡ gs)
 
 abbrev pub Decoding : Type 0
 Decoding = (bytes : List ℕ) → AreBytes bytes → IsDecoded bytes
 
 -- without a fault so far there is none, or the bytes end too early
 abbrev pub EarlyEnd : Type 0
-EarlyEnd = (bytes : List ℕ) → fault_so_far bytes ≡ None → (fault bytes ≡ None) ⊎ (fault bytes ≡ Some (record { offset = length bytes; reason = Truncated }))
+EarlyEnd =
+    (bytes : List ℕ) → fault_so_far bytes ≡ None → (fault bytes ≡ None)
+    ⊎ (fault bytes ≡ Some (record { offset = length bytes; reason = Truncated }))
 
 abbrev pub ItemsGrow : Type 0
 ItemsGrow = (bytes more : List ℕ) → IsPrefix (items bytes) (items (bytes ++ more))
@@ -40,10 +45,13 @@ pub record IsStillRefused (bytes more : List ℕ) (f : RecordFault) : Type 0 whe
   pub fault : fault (bytes ++ more) ≡ Some f
 
 abbrev pub FaultStays : Type 0
-FaultStays = (bytes more : List ℕ) (f : RecordFault) → fault_so_far bytes ≡ Some f → IsStillRefused bytes more f
+FaultStays =
+    (bytes more : List ℕ) (f : RecordFault) → fault_so_far bytes ≡ Some f
+    → IsStillRefused bytes more f
 
 abbrev pub InOrder : Type 0
-InOrder = (profile : ProfileValue) (frames : List Frame) (bytes : List ℕ) → IsInOrder profile frames bytes
+InOrder =
+    (profile : ProfileValue) (frames : List Frame) (bytes : List ℕ) → IsInOrder profile frames bytes
 
 -- what a spelling is read as
 pub record IsRead (profile : ProfileValue) (frames : List Frame) (bytes : List ℕ) : Type 0 where
@@ -52,4 +60,6 @@ pub record IsRead (profile : ProfileValue) (frames : List Frame) (bytes : List �
   pub whole : SpellsWhole profile frames bytes → fault bytes ≡ None
 
 abbrev pub SpelledIsRead : Type 0
-SpelledIsRead = (profile : ProfileValue) (frames : List Frame) (bytes : List ℕ) → Spells profile frames bytes → IsRead profile frames bytes
+SpelledIsRead =
+    (profile : ProfileValue) (frames : List Frame) (bytes : List ℕ) → Spells profile frames bytes
+    → IsRead profile frames bytes

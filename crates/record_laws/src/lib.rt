@@ -1,11 +1,13 @@
-//! Laws of the definitions of records: what reading from left to right means in terms of whole records and their one
-//! spelling. Each function is empty and its contract is the law.
+//! Laws of the definitions of records: what reading from left to right means in terms of whole
+//! records and their one spelling. Each function is empty and its contract is the law.
 #![tactic(auto)]
 
-ghost use Rattle.record_laws.specs.Statements.{OneSpelling, OneRecord, Decoding, EarlyEnd, ItemsGrow, FaultStays, InOrder, SpelledIsRead};
+ghost use Rattle.record_laws.specs.Statements.{OneSpelling, OneRecord, Decoding, EarlyEnd};
+ghost use Rattle.record_laws.specs.Statements.{ItemsGrow, FaultStays, InOrder, SpelledIsRead};
 
-/// In one place no item's spelling begins another's, and no two items have one spelling; so no two profiles with frames
-/// have one spelling either. A place is meant whose events can be numbered in two bytes; a header names at most 256.
+/// In one place no item's spelling begins another's, and no two items have one spelling; so no two
+/// profiles with frames have one spelling either. A place is meant whose events can be numbered in
+/// two bytes; a header names at most 256.
 pub fn one_spelling()
     ensures item { OneSpelling }
     ensures whole { OneRecord }
@@ -17,7 +19,8 @@ pub fn decoding()
     ensures early { EarlyEnd }
 {}
 
-/// More bytes add items behind those that are there, and a fault whose byte is there stays whatever comes after it.
+/// More bytes add items behind those that are there, and a fault whose byte is there stays whatever
+/// comes after it.
 pub fn more_bytes()
     ensures items { ItemsGrow }
     ensures fault { FaultStays }

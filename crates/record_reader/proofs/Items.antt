@@ -1,5 +1,5 @@
 -- The items that a reader gives, one after another.
-use Rattle.std.proofs.Common.{◌≡◌, ℕ, true, List, [], ◌∷◌, ◌++◌, length, None, refl, sym, ap, subst, ◌∙◌, arith, length-append}
+use Rattle.std.proofs.Common.{◌≡◌, ◌≤◌, ◌+◌, ℕ, zero, suc, true, List, [], ◌∷◌, ◌++◌, length, None, refl, ap, subst, ◌∙◌, arith}
 use Rattle.std.specs.List.{list_any}
 use Rattle.det_values.specs.declared.frames.Frame.{Frame}
 use Rattle.det_values.specs.declared.frames.Frame.TheVariants.{Register, Discover, Init, Run, Terminate}
@@ -12,11 +12,13 @@ use Rattle.record_grammar.specs.declared.item.Item.TheVariants as items
 use Rattle.record_grammar.specs.Read.{Read, Got, More, Bad}
 use Rattle.record_grammar.specs.Grammar.{item_at}
 use Rattle.record_grammar.specs.Places.{after, layout_of, CanFollow, may_come}
-use Rattle.record_grammar.specs.Record.{items as items_in, fault as fault_in, fault_from, ending_at, Decoded}
+use Rattle.record_grammar.specs.Record.{items as items_in, fault as fault_in, fault_from, ending_at, Decoded, Ending, whole, early, faulty}
+use Rattle.record_grammar.specs.Record.{with_next, decoded, decoded_all}
 use Rattle.record_grammar.specs.Leads.{Leads}
 use Rattle.record_grammar.specs.Spelling.{CanSpell}
-use Rattle.record_grammar.proofs.Leads.{can_follow, leads_grow, all_leads, all_at_more, all_at_bad, all_at_got}
+use Rattle.record_grammar.proofs.Leads.{can_follow, leads_grow, all_leads, room_falls}
 use Rattle.record_reader.specs.StandsFor.{StandsFor}
+use Rattle.record_reader.specs.Taking.{AreFirst}
 use Rattle.record_reader.specs.Salvaged.{is_init}
 use Rattle.record_reader.specs.declared.reader.RecordReader.{RecordReader}
 use Rattle.record_reader.proofs.Spellable.{spells_in_runs}
@@ -28,12 +30,20 @@ pub record LastItem (place : Place) (bytes : List ℕ) (given : List Item) (x : 
   pub leads : Leads place bytes given at here
   pub got : item_at at here ≡ Got (x, rest)
 
-pub last_item : (given : List Item) (place to : Place) (bytes rest : List ℕ) (x : Item) → Leads place bytes (given ++ x ∷ []) to rest → LastItem place bytes given x rest
-last_item [] place to bytes rest x h = record { at = place; here = bytes; leads = (refl, refl); got = h.1 ∙ ap (λ (xs : List ℕ). got_of x xs) h.2.1 }
+pub last_item : (given : List Item) (place to : Place) (bytes rest : List ℕ) (x : Item) → Leads place bytes (given ++ x ∷ []) to rest
+    → LastItem place bytes given x rest
+last_item [] place to bytes rest x h = record {
+  at = place;
+  here = bytes;
+  leads = (refl, refl);
+  got = h.1
+      ∙ ap (λ (xs : List ℕ). got_of x xs) h.2.1;
+}
   where
     got_of : Item → List ℕ → Read Item
     got_of x xs = Got (x, xs)
-last_item (y ∷ given) place to bytes rest x h = let l = last_item given (after place y) to h.0 rest x h.2 in record { at = l.at; here = l.here; leads = (h.0, h.1, l.leads); got = l.got }
+last_item (y ∷ given) place to bytes rest x h = let l = last_item given (after place y) to h.0 rest x h.2 in
+    record { at = l.at; here = l.here; leads = (h.0, h.1, l.leads); got = l.got }
 
 -- ---- the layout of a header stays
 
@@ -54,26 +64,32 @@ keeps_layout layout (places.Runs l before) (items.Frame Terminate) k h = tt
 keeps_layout layout places.Header x k h = absurd h
 keeps_layout layout place x k h = elim k [ ]
 
-all_layout : (layout : Layout) (xs : List Item) (place to : Place) (bytes rest : List ℕ) → Leads place bytes xs to rest → HasLayout layout place → HasLayout layout to
+all_layout : (layout : Layout) (xs : List Item) (place to : Place) (bytes rest : List ℕ) → Leads place bytes xs to rest
+    → HasLayout layout place → HasLayout layout to
 all_layout layout [] place to bytes rest l h = subst (HasLayout layout) l.0 h
-all_layout layout (x ∷ xs) place to bytes rest l h = all_layout layout xs (after place x) to l.0 rest l.2 (keeps_layout layout place x (can_follow place bytes x l.0 l.1) h)
+all_layout layout (x ∷ xs) place to bytes rest l h =
+    all_layout layout xs (after place x) to l.0 rest l.2 (keeps_layout layout place x (can_follow place bytes x l.0 l.1) h)
 
-spells_at : (layout : Layout) (place : Place) (bytes rest : List ℕ) (f : Frame) → HasLayout layout place → CanFollow place (items.Frame f) → item_at place bytes ≡ Got (items.Frame f, rest) → CanSpell layout.format layout.events f
+spells_at : (layout : Layout) (place : Place) (bytes rest : List ℕ) (f : Frame) → HasLayout layout place → CanFollow place (items.Frame f)
+    → item_at place bytes ≡ Got (items.Frame f, rest) → CanSpell layout.format layout.events f
 spells_at layout (places.Register l) bytes rest Register h k e = tt
 spells_at layout (places.Discover l) bytes rest Discover h k e = tt
 spells_at layout (places.Init l) bytes rest (Init elements) h k e = tt
-spells_at layout (places.Runs l before) bytes rest (Run r) h k e = subst (λ (x : Layout). CanSpell x.format x.events (Run r)) h (spells_in_runs l before bytes rest (Run r) e)
+spells_at layout (places.Runs l before) bytes rest (Run r) h k e =
+    subst (λ (x : Layout). CanSpell x.format x.events (Run r)) h (spells_in_runs l before bytes rest (Run r) e)
 spells_at layout (places.Runs l before) bytes rest Terminate h k e = tt
 spells_at layout place bytes rest f h k e = elim k [ ]
 
-header_first : (p : ProfileValue) (xs : List Item) (to : Place) (bytes rest : List ℕ) → Leads places.Header bytes (items.Header p ∷ xs) to rest → HasLayout (layout_of p) to
+header_first : (p : ProfileValue) (xs : List Item) (to : Place) (bytes rest : List ℕ)
+    → Leads places.Header bytes (items.Header p ∷ xs) to rest → HasLayout (layout_of p) to
 header_first p xs to bytes rest h = all_layout (layout_of p) xs (places.Register (layout_of p)) to h.0 rest h.2 refl
 
--- a frame that a reader gives behind a header can be spelled
-pub can_spell : (r : RecordReader) (read : List ℕ) (p : ProfileValue) (xs : List Item) (f : Frame) → StandsFor r read (items.Header p ∷ (xs ++ items.Frame f ∷ [])) → CanSpell p.format (length p.events) f
-can_spell r read p xs f h =
-    let l = last_item (items.Header p ∷ xs) places.Header r.decoder.place read h.decodes.rest (items.Frame f) h.decodes.leads in
-    spells_at (layout_of p) l.at l.here h.decodes.rest f (header_first p xs l.at read l.here l.leads) (can_follow l.at l.here (items.Frame f) h.decodes.rest l.got) l.got
+can_spell : (p : ProfileValue) (xs : List Item) (f : Frame) (to : Place) (bytes rest : List ℕ)
+    → Leads places.Header bytes (items.Header p ∷ (xs ++ items.Frame f ∷ [])) to rest → CanSpell p.format (length p.events) f
+can_spell p xs f to bytes rest h =
+    let l = last_item (items.Header p ∷ xs) places.Header to bytes rest (items.Frame f) h in
+    spells_at (layout_of p) l.at l.here rest f (header_first p xs l.at bytes l.here l.leads)
+    (can_follow l.at l.here (items.Frame f) rest l.got) l.got
 
 no_header : (layout : Layout) (place : Place) (p : ProfileValue) → HasLayout layout place → CanFollow place (items.Header p) → ⊥
 no_header layout places.Header p h k = h
@@ -84,10 +100,11 @@ no_header layout (places.Runs l before) p h k = k
 no_header layout places.End p h k = k
 
 -- behind a header comes no other
-pub one_header : (r : RecordReader) (read : List ℕ) (p q : ProfileValue) (xs : List Item) → StandsFor r read (items.Header p ∷ (xs ++ items.Header q ∷ [])) → ⊥
-one_header r read p q xs h =
-    let l = last_item (items.Header p ∷ xs) places.Header r.decoder.place read h.decodes.rest (items.Header q) h.decodes.leads in
-    no_header (layout_of p) l.at q (header_first p xs l.at read l.here l.leads) (can_follow l.at l.here (items.Header q) h.decodes.rest l.got)
+one_header : (p q : ProfileValue) (xs : List Item) (to : Place) (bytes rest : List ℕ)
+    → Leads places.Header bytes (items.Header p ∷ (xs ++ items.Header q ∷ [])) to rest → ⊥
+one_header p q xs to bytes rest h =
+    let l = last_item (items.Header p ∷ xs) places.Header to bytes rest (items.Header q) h in
+    no_header (layout_of p) l.at q (header_first p xs l.at bytes l.here l.leads) (can_follow l.at l.here (items.Header q) rest l.got)
 
 -- ---- the first item, and the last place
 
@@ -99,68 +116,105 @@ not_first (Run r) k = k
 not_first Terminate k = k
 
 -- the first item is no frame
-pub first_is_header : (r : RecordReader) (read : List ℕ) (f : Frame) → StandsFor r read (items.Frame f ∷ []) → ⊥
-first_is_header r read f h = let l = h.decodes.leads in not_first f (can_follow places.Header read (items.Frame f) l.0 l.1)
+first_is_header : (f : Frame) (xs : List Item) (to : Place) (bytes rest : List ℕ) → Leads places.Header bytes (items.Frame f ∷ xs) to rest
+    → ⊥
+first_is_header f xs to bytes rest l = not_first f (can_follow places.Header bytes (items.Frame f) l.0 l.1)
 
-count_more : (given : List Item) (x : Item) (others : List Item) → given ≡ given ++ x ∷ others → ⊥
-count_more given x others e = let n = ap length e in let m = length-append given (x ∷ others) in omega arith
+-- what an item is behind the first ones of a record: the header comes first and once, and a frame can be spelled behind it
+abbrev pub NextIs : List Item → Item → Type 0
+NextIs [] (items.Header p) = Unit {0}
+NextIs [] (items.Frame f) = ⊥
+NextIs (items.Header p ∷ xs) (items.Header q) = ⊥
+NextIs (items.Header p ∷ xs) (items.Frame f) = CanSpell p.format (length p.events) f
+NextIs (items.Frame f ∷ xs) x = ⊥
 
-is_end : (place : Place) (len : ℕ) → fault_from len (ending_at place) ≡ None → place ≡ places.End
-is_end places.Header len e = absurd cc
-is_end (places.Register layout) len e = absurd cc
-is_end (places.Discover layout) len e = absurd cc
-is_end (places.Init layout) len e = absurd cc
-is_end (places.Runs layout before) len e = absurd cc
-is_end places.End len e = refl
+pub next_is : (given : List Item) (x : Item) → AreFirst (given ++ x ∷ []) → NextIs given x
+next_is [] (items.Header p) h = tt
+next_is [] (items.Frame f) h = first_is_header f [] h.place h.bytes h.rest h.leads
+next_is (items.Header p ∷ xs) (items.Header q) h = one_header p q xs h.place h.bytes h.rest h.leads
+next_is (items.Header p ∷ xs) (items.Frame f) h = can_spell p xs f h.place h.bytes h.rest h.leads
+next_is (items.Frame f ∷ xs) x h = absurd (first_is_header f (xs ++ x ∷ []) h.place h.bytes h.rest h.leads)
 
--- where all items are given and the bytes are whole, the place is the end
-at_end : (given : List Item) (to : Place) (bytes rest : List ℕ) → Leads places.Header bytes given to rest → items_in bytes ≡ given → fault_in bytes ≡ None → to ≡ places.End
-at_end given to bytes rest h all whole = by (item_at to rest) refl
-  where
-    by : (r : Read Item) → item_at to rest ≡ r → to ≡ places.End
-    by (Got x) e = let more = all_at_got given to bytes rest x.0 x.1 h e in absurd (count_more given x.0 more.0 (sym all ∙ more.1))
-    by More e = is_end to (length bytes) (sym (all_at_more given to bytes rest h e).2 ∙ whole)
-    by (Bad reason left) e = let f = (all_at_bad given to bytes rest reason left h e).2 in absurd (let z = sym f ∙ whole in cc)
+-- ---- how many items there are
+
+room_leads : (xs : List Item) (place to : Place) (bytes rest : List ℕ) → Leads place bytes xs to rest
+    → length xs + may_come to ≤ may_come place
+room_leads [] place to bytes rest l = let e : may_come place ≡ may_come to = ap may_come l.0 in omega arith
+room_leads (x ∷ xs) place to bytes rest l =
+    let fell = room_falls place x (can_follow place bytes x l.0 l.1) in
+    let others : length xs + may_come to ≤ may_come (after place x) = room_leads xs (after place x) to l.0 rest l.2 in
+    omega (arith, fell, others)
+
+pub few_first : (given : List Item) → AreFirst given → length given ≤ 1000005
+few_first given h = let few = room_leads given places.Header h.place h.bytes h.rest h.leads in omega (arith, few)
+
+-- ---- where a record is whole
+
+is_end : (place : Place) → ending_at place ≡ whole → place ≡ places.End
+is_end places.Header e = absurd cc
+is_end (places.Register layout) e = absurd cc
+is_end (places.Discover layout) e = absurd cc
+is_end (places.Init layout) e = absurd cc
+is_end (places.Runs layout before) e = absurd cc
+is_end places.End e = refl
+
+no_fault : (len : ℕ) (ending : Ending) → fault_from len ending ≡ None → ending ≡ whole
+no_fault len whole e = refl
+no_fault len early e = absurd cc
+no_fault len (faulty reason left) e = absurd cc
+
+whole_by : (n : ℕ) (place : Place) (bytes : List ℕ)
+    → ((next : Place) (mid : List ℕ) → (decoded n next mid).ending ≡ whole → (rest : List ℕ)
+    × Leads next mid (decoded n next mid).items places.End rest)
+    → (r : Read Item) → item_at place bytes ≡ r → (with_next place r (decoded n)).ending ≡ whole
+    → (rest : List ℕ) × Leads place bytes (with_next place r (decoded n)).items places.End rest
+whole_by n place bytes on (Got x) is e = let more = on (after place x.0) x.1 e in (more.0, (x.1, is, more.1))
+whole_by n place bytes on More is e = (bytes, (is_end place e, refl))
+whole_by n place bytes on (Bad reason left) is e = absurd cc
+
+-- all items lead to the end
+whole_leads : (n : ℕ) (place : Place) (bytes : List ℕ) → (decoded n place bytes).ending ≡ whole
+    → (rest : List ℕ) × Leads place bytes (decoded n place bytes).items places.End rest
+unfolding decoded
+whole_leads zero place bytes e = absurd cc
+whole_leads (suc n) place bytes e = whole_by n place bytes (whole_leads n) (item_at place bytes) refl e
 
 abbrev BeforeInit : Place → Type 0
+BeforeInit places.Header = Unit {0}
 BeforeInit (places.Register layout) = Unit {0}
 BeforeInit (places.Discover layout) = Unit {0}
 BeforeInit (places.Init layout) = Unit {0}
 BeforeInit place = ⊥
 
-next_init : (place : Place) (x : Item) (xs : List Item) → CanFollow place x → BeforeInit place → (BeforeInit (after place x) → list_any is_init xs ≡ true) → list_any is_init (x ∷ xs) ≡ true
+next_init : (place : Place) (x : Item) (xs : List Item) → CanFollow place x → BeforeInit place
+    → (BeforeInit (after place x) → list_any is_init xs ≡ true) → list_any is_init (x ∷ xs) ≡ true
+next_init places.Header (items.Header p) xs k h next = next tt
 next_init (places.Register l) (items.Frame Register) xs k h next = next tt
 next_init (places.Discover l) (items.Frame Discover) xs k h next = next tt
 next_init (places.Init l) (items.Frame (Init elements)) xs k h next = refl
+next_init places.Header x xs k h next = elim k [ ]
 next_init (places.Register l) x xs k h next = elim k [ ]
 next_init (places.Discover l) x xs k h next = elim k [ ]
 next_init (places.Init l) x xs k h next = elim k [ ]
 next_init place x xs k h next = elim h [ ]
 
-passes_init : (xs : List Item) (place : Place) (bytes rest : List ℕ) → Leads place bytes xs places.End rest → BeforeInit place → list_any is_init xs ≡ true
+passes_init : (xs : List Item) (place : Place) (bytes rest : List ℕ) → Leads place bytes xs places.End rest → BeforeInit place
+    → list_any is_init xs ≡ true
 passes_init [] place bytes rest l h = absurd (subst BeforeInit l.0 h)
-passes_init (x ∷ xs) place bytes rest l h = next_init place x xs (can_follow place bytes x l.0 l.1) h (λ b. passes_init xs (after place x) l.0 rest l.2 b)
+passes_init (x ∷ xs) place bytes rest l h = next_init place x xs (can_follow place bytes x l.0 l.1) h
+    (λ b. passes_init xs (after place x) l.0 rest l.2 b)
 
--- a whole record has an item
-pub whole_is_some : (r : RecordReader) (read : List ℕ) → StandsFor r read [] → items_in read ≡ [] → fault_in read ≡ None → ⊥
-whole_is_some r read h all whole =
-    let e : r.decoder.place ≡ places.End = at_end [] r.decoder.place read h.decodes.rest h.decodes.leads all whole in
-    let b : places.Header ≡ places.End = h.decodes.leads.0 ∙ e in absurd cc
-
--- behind the header of a whole record stands Init
-pub whole_has_init : (r : RecordReader) (read : List ℕ) (p : ProfileValue) (xs : List Item) → StandsFor r read (items.Header p ∷ xs) → items_in read ≡ items.Header p ∷ xs → fault_in read ≡ None → list_any is_init xs ≡ true
-whole_has_init r read p xs h all whole =
-    let e : r.decoder.place ≡ places.End = at_end (items.Header p ∷ xs) r.decoder.place read h.decodes.rest h.decodes.leads all whole in
-    let l : Leads places.Header read (items.Header p ∷ xs) places.End h.decodes.rest = subst (λ (to : Place). Leads places.Header read (items.Header p ∷ xs) to h.decodes.rest) e h.decodes.leads in
-    passes_init xs (places.Register (layout_of p)) l.0 h.decodes.rest l.2 tt
+-- Init is among the items of a whole record
+pub whole_has_init : (bytes : List ℕ) → fault_in bytes ≡ None → list_any is_init (items_in bytes) ≡ true
+whole_has_init bytes e =
+    let leads = whole_leads (suc (length bytes)) places.Header bytes (no_fault (length bytes) (decoded_all bytes).ending e) in
+    passes_init (items_in bytes) places.Header bytes leads.0 leads.1 tt
 
 -- ---- what may still come
 
-pub room_first : (r : RecordReader) (read : List ℕ) (p : ProfileValue) → StandsFor r read (items.Header p ∷ []) → may_come r.decoder.place ≡ 1000004
-room_first r read p h = let l = h.decodes.leads in sym (ap may_come l.2.0)
-
 -- the items given are the first of all, whatever follows
-pub more_items : (r : RecordReader) (read : List ℕ) (given : List Item) → StandsFor r read given → (tail : List ℕ) → (others : List Item) × (items_in (read ++ tail) ≡ given ++ others)
+pub more_items : (r : RecordReader) (read : List ℕ) (given : List Item) → StandsFor r read given → (tail : List ℕ) → (others : List Item)
+    × (items_in (read ++ tail) ≡ given ++ others)
 more_items r read given h tail =
     let l = leads_grow given places.Header r.decoder.place read h.decodes.rest tail h.decodes.leads in
     let d = all_leads given r.decoder.place (read ++ tail) (h.decodes.rest ++ tail) l in

@@ -2,5 +2,7 @@ pub mod Unshort
 pub mod Reading
 pub mod Spellable
 pub mod Items
-pub mod Running
-pub mod Told
+pub mod Taking
+pub mod Pieces
+pub mod Kept
+pub mod Ending

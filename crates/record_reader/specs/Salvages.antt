@@ -1,19 +1,19 @@
--- What salvaging comes to, by the bytes that were read.
-use Rattle.std.specs.Prelude.{◌≡◌, ◌⊎◌, ℕ, List, [], ◌∷◌, ◌++◌, Option, Some, None, Result, Ok, Err}
+-- What salvaging comes to, by the bytes of a record.
+use Rattle.std.specs.Prelude.{◌≡◌, ◌⊎◌, ℕ, List, [], ◌++◌, Bool, true, Option, Some, None}
+use Rattle.std.specs.Prelude.{Result, Ok, Err}
+use Rattle.det_edges.specs.declared.failure.Failure.TheVariants.{Read, Write, OutOfMemory}
+use Rattle.det_edges.specs.declared.failure.Stopped.{Stopped}
+use Rattle.det_edges.specs.declared.failure.Stopped.TheVariants.{Refused, Failed}
 use Rattle.det_edges.specs.Prefix.{IsPrefix, IsProperPrefix}
+use Rattle.det_edges.specs.Shelf.{IsAtEnd}
 use Rattle.det_edges.specs.Sink.{Grew}
-use Rattle.det_values.specs.Values.{ProfileValue}
+use Rattle.det_edges.specs.Traffic.{ShelfRun, SinkRun}
 use Rattle.record_grammar.specs.declared.fault.RecordFault.{RecordFault}
-use Rattle.record_grammar.specs.declared.item.Item.TheVariants as items
 use Rattle.record_grammar.specs.Record.{items as items_in, fault as fault_in, fault_so_far}
-use Rattle.record_reader.specs.declared.reader.RecordReader.{RecordReader}
-use Rattle.record_reader.specs.declared.reader_end.ReaderEnd.{ReaderEnd}
-use Rattle.record_reader.specs.declared.reader_end.ReaderEnd.TheVariants as stops
-use Rattle.record_reader.specs.declared.salvage_end.Salvaged.{Salvaged}
-use Rattle.record_reader.specs.declared.salvage_end.SalvageEnd.{SalvageEnd}
-use Rattle.record_reader.specs.declared.salvage_end.SalvageEnd.TheVariants as ends
-use Rattle.record_reader.specs.StandsFor.{StandsFor, FoundFault}
+use Rattle.record_reader.specs.declared.salvage.Salvaged.{Salvaged}
+use Rattle.record_reader.specs.StandsFor.{IsFaulty}
 use Rattle.record_reader.specs.Salvaged.{salvaged, cycles_of, refused_of}
+use Rattle.record_reader.specs.Taking.{OfSlot}
 
 -- the beginning of a salvaged record: nothing where there is none
 abbrev pub IsFront : List ℕ → Option (List ℕ) → Type 0
@@ -25,54 +25,56 @@ abbrev pub IsCut : List ℕ → Option (List ℕ) → Type 0
 IsCut front None = ⊥
 IsCut front (Some bytes) = IsProperPrefix front bytes
 
--- the items of these bytes are those of all bytes of the slot
-abbrev pub HasAll : List ℕ → Type 0 → Type 0
-HasAll read at_end = ((tail : List ℕ) → items_in (read ++ tail) ≡ items_in read) ⊎ at_end
-
 -- all of the salvaged record was written, and counted
-pub record Salvages (record_bytes : List ℕ) (counts : Salvaged) (before now : List ℕ → Type 0) : Type 0 where
+pub record Salvages (record_bytes : List ℕ) (counts : Salvaged) (out : SinkRun) : Type 0 where
   pub bytes : List ℕ
   pub is : salvaged record_bytes ≡ Some bytes
-  pub grew : Grew before now bytes
+  pub grew : Grew out.before out.after bytes
   pub cycles : counts.cycles ≡ cycles_of (items_in record_bytes)
   pub refused : counts.refused ≡ refused_of (items_in record_bytes)
 
 -- there is nothing to salvage, and nothing was written
-pub record HasNothing (record_bytes : List ℕ) (f : RecordFault) (before now : List ℕ → Type 0) : Type 0 where
+pub record HasNothing (record_bytes : List ℕ) (f : RecordFault) (out : SinkRun) : Type 0 where
   pub is : salvaged record_bytes ≡ None
   pub fault : fault_in record_bytes ≡ Some f
-  pub grew : Grew before now []
+  pub grew : Grew out.before out.after []
 
--- what was written begins the salvaged record, whatever bytes follow
-pub record Begins (read : List ℕ) (before now : List ℕ → Type 0) : Type 0 where
+-- what was written begins the salvaged record
+pub record Begins (record_bytes : List ℕ) (out : SinkRun) : Type 0 where
   pub front : List ℕ
-  pub grew : Grew before now front
-  pub within : (tail : List ℕ) → IsFront front (salvaged (read ++ tail))
+  pub within : IsFront front (salvaged record_bytes)
+  pub grew : Grew out.before out.after front
 
 -- the same, and the salvaged record goes on
-pub record BreaksOff (read : List ℕ) (before now : List ℕ → Type 0) : Type 0 where
+pub record BreaksOff (record_bytes : List ℕ) (out : SinkRun) : Type 0 where
   pub front : List ℕ
-  pub grew : Grew before now front
-  pub within : (tail : List ℕ) → IsCut front (salvaged (read ++ tail))
+  pub within : IsCut front (salvaged record_bytes)
+  pub grew : Grew out.before out.after front
+
+-- what an answer says of a record, and of what the sink took
+abbrev pub Answers : Result Salvaged (Stopped RecordFault) → List ℕ → SinkRun → Type 0
+Answers (Ok counts) record_bytes out = Salvages record_bytes counts out
+Answers (Err (Refused f)) record_bytes out = HasNothing record_bytes f out
+Answers (Err (Failed Read)) record_bytes out = Begins record_bytes out
+Answers (Err (Failed Write)) record_bytes out = BreaksOff record_bytes out
+Answers (Err (Failed OutOfMemory)) record_bytes out = Begins record_bytes out
+
+-- how far the record was read: as far as all its items and its fault show whatever follows
+abbrev pub ReadsTo : Result Salvaged (Stopped RecordFault) → List ℕ → Type 0 → Type 0
+ReadsTo (Ok counts) read at_end =
+    ((tail : List ℕ) → items_in (read ++ tail) ≡ items_in read) ⊎ at_end
+ReadsTo (Err (Refused f)) read at_end = IsFaulty f read (items_in read) ⊎ at_end
+ReadsTo (Err (Failed Read)) read at_end = fault_so_far read ≡ None
+ReadsTo (Err stop) read at_end = Unit {0}
 
 -- how salvaging ended that read these bytes
-abbrev pub Ended : Result Salvaged SalvageEnd → List ℕ → Type 0 → (List ℕ → Type 0) → (List ℕ → Type 0) → Type 0
-Ended (Ok counts) read at_end before now = HasAll read at_end × Salvages read counts before now
-Ended (Err (ends.Nothing f)) read at_end before now = (((tail : List ℕ) → HasNothing (read ++ tail) f before now) ⊎ at_end) × HasNothing read f before now
-Ended (Err ends.ReadFault) read at_end before now = (fault_so_far read ≡ None) × Begins read before now
-Ended (Err ends.WriteFault) read at_end before now = BreaksOff read before now
-Ended (Err ends.OutOfMemory) read at_end before now = Begins read before now
+pub record Ended (result : Result Salvaged (Stopped RecordFault)) (read : List ℕ)
+    (shelf : ShelfRun) (slot : ℕ) (out : SinkRun) : Type 0 where
+  pub reads_to : ReadsTo result read (IsAtEnd shelf.last slot)
+  pub answers : OfSlot shelf slot read (λ bytes. Answers result bytes out)
 
--- the header was read, or there is none
-abbrev pub FirstIs : Result ProfileValue SalvageEnd → RecordReader → Type 0 → List ℕ → Type 0
-FirstIs (Ok profile) r at_end read = StandsFor r read (items.Header profile ∷ [])
-FirstIs (Err (ends.Nothing f)) r at_end read = FoundFault f at_end read []
-FirstIs (Err ends.ReadFault) r at_end read = fault_so_far read ≡ None
-FirstIs (Err ends.WriteFault) r at_end read = ⊥
-FirstIs (Err ends.OutOfMemory) r at_end read = Unit {0}
-
--- why salvaging stops where a reader gives no item and no more frames come
-abbrev pub end_of : ReaderEnd → SalvageEnd
-end_of (stops.BadRecord f) = ends.Nothing f
-end_of stops.ReadFault = ends.ReadFault
-end_of stops.OutOfMemory = ends.OutOfMemory
+-- a fault is no ground to stop where Init was read before it
+abbrev pub settled_by : Bool → Result (Unit {0}) (Stopped RecordFault)
+    → Result (Unit {0}) (Stopped RecordFault)
+settled_by true (Err (Refused f)) = Ok tt
+settled_by has_begun read = read

@@ -1,13 +1,16 @@
 -- What a reader keeps of the bytes that it read and of the items that it gave.
-use Rattle.std.specs.Prelude.{◌≡◌, ℕ, ◌<◌, ◌⊎◌, List, [], ◌∷◌, ◌++◌, Option, Some, None, Result, Ok, Err}
+use Rattle.std.specs.Prelude.{◌≡◌, ℕ, ◌<◌, ◌⊎◌, List, [], ◌∷◌, ◌++◌, Option, Some, None}
+use Rattle.std.specs.Prelude.{Result, Ok, Err}
+use Rattle.det_edges.specs.Shelf.{ShelfState, Reads}
+use Rattle.det_edges.specs.declared.failure.Failure.TheVariants.{Read, Write, OutOfMemory}
+use Rattle.det_edges.specs.declared.failure.Stopped.{Stopped}
+use Rattle.det_edges.specs.declared.failure.Stopped.TheVariants.{Refused, Failed}
 use Rattle.record_grammar.specs.declared.fault.Reason.TheVariants.{Truncated}
 use Rattle.record_grammar.specs.declared.fault.RecordFault.{RecordFault}
 use Rattle.record_grammar.specs.declared.item.Item.{Item}
 use Rattle.record_grammar.specs.Record.{items as items_in, fault as fault_in, fault_so_far}
 use Rattle.record_codec.specs.StandsFor.{StandsFor as Decodes, room as decoder_room}
 use Rattle.record_reader.specs.declared.reader.RecordReader.{RecordReader}
-use Rattle.record_reader.specs.declared.reader_end.ReaderEnd.{ReaderEnd}
-use Rattle.record_reader.specs.declared.reader_end.ReaderEnd.TheVariants as ends
 
 -- these bytes were read, these items given, and no fault was answered
 pub record StandsFor (r : RecordReader) (read : List ℕ) (given : List Item) : Type 0 where
@@ -28,24 +31,37 @@ room r = decoder_room r.decoder
 
 -- whatever bytes follow, these are the items, and this is the fault
 abbrev pub IsFaulty : RecordFault → List ℕ → List Item → Type 0
-IsFaulty f read given = (tail : List ℕ) → (items_in (read ++ tail) ≡ given) × (fault_in (read ++ tail) ≡ Some f)
+IsFaulty f read given = (tail : List ℕ)
+    → (items_in (read ++ tail) ≡ given) × (fault_in (read ++ tail) ≡ Some f)
 
 -- all items before the fault are given; the bytes read show it, or the slot has no more bytes
-pub record FoundFault (f : RecordFault) (at_end : Type 0) (read : List ℕ) (given : List Item) : Type 0 where
+pub record FoundFault (f : RecordFault) (at_end : Type 0) (read : List ℕ) (given : List Item)
+    : Type 0 where
   pub before : items_in read ≡ given
   pub is : fault_in read ≡ Some f
   pub found : IsFaulty f read given ⊎ at_end
   pub truncated : f.reason ≡ Truncated → at_end
 
-abbrev pub ItemIs : Result (Option Item) ReaderEnd → RecordReader → Type 0 → List ℕ → List Item → Type 0
-ItemIs (Ok (Some item)) r at_end read given = StandsFor r read (given ++ item ∷ []) × (others : List Item) × (items_in read ≡ given ++ item ∷ others)
-ItemIs (Ok None) r at_end read given = StandsFor r read given × at_end × (items_in read ≡ given) × (fault_in read ≡ None)
-ItemIs (Err (ends.BadRecord f)) r at_end read given = FoundFault f at_end read given × (told r ≡ Some f)
-ItemIs (Err ends.ReadFault) r at_end read given = StandsFor r read given × (items_in read ≡ given) × (fault_so_far read ≡ None)
-ItemIs (Err ends.OutOfMemory) r at_end read given = Unit {0}
+-- bytes were read, and what the reader stood for before is known of it afterwards
+abbrev pub HasRead : ShelfState → ShelfState → RecordReader → (List ℕ → List Item → Type 0) → Type 0
+HasRead before after r Then = (more : List ℕ) × Reads before after (slot_of r) more
+    × ((read : List ℕ) (given : List Item) → StandsFor r read given → Then (read ++ more) given)
+
+-- what an answer says of the bytes read and the items given
+abbrev pub ItemIs : Result (Option Item) (Stopped RecordFault) → RecordReader → Type 0
+    → List ℕ → List Item → Type 0
+ItemIs (Ok (Some item)) r at_end read given = StandsFor r read (given ++ item ∷ [])
+    × (others : List Item) × (items_in read ≡ given ++ item ∷ others)
+ItemIs (Ok None) r at_end read given = StandsFor r read given × at_end × (items_in read ≡ given)
+    × (fault_in read ≡ None)
+ItemIs (Err (Refused f)) r at_end read given = FoundFault f at_end read given × (told r ≡ Some f)
+ItemIs (Err (Failed Read)) r at_end read given = StandsFor r read given × (items_in read ≡ given)
+    × (fault_so_far read ≡ None)
+ItemIs (Err (Failed Write)) r at_end read given = ⊥
+ItemIs (Err (Failed OutOfMemory)) r at_end read given = Unit {0}
 
 -- an item leaves fewer that may come, and any other answer leaves as many
-abbrev pub RoomFell : Result (Option Item) ReaderEnd → ℕ → ℕ → Type 0
+abbrev pub RoomFell : Result (Option Item) (Stopped RecordFault) → ℕ → ℕ → Type 0
 RoomFell (Ok (Some item)) old new = new < old
 RoomFell (Ok None) old new = new ≡ old
-RoomFell (Err e) old new = new ≡ old
+RoomFell (Err stop) old new = new ≡ old

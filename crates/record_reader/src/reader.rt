@@ -1,15 +1,14 @@
 //! Records in slots.
 ghost use Rattle.std.specs.Prelude.{◌≡◌};
 
-use crate::reader_end::ReaderEnd;
-use det_edges::Slots;
+use det_edges::{Failure, Slots, Stopped};
 use record_codec::{DecodeError, Decoder, Item, RecordFault};
 use std::alloc::Global;
 
 const PIECE: usize = 4096;
 
-/// Gives the items of the record in a slot, which it reads in pieces of 4,096 bytes. It keeps the item that hasn't come
-/// whole, and one piece.
+/// Gives the items of the record in a slot, which it reads in pieces of 4,096 bytes. It keeps the
+/// item that hasn't come whole, and one piece.
 #[derive(Drop)]
 pub struct RecordReader {
     slot: u32,
@@ -28,13 +27,15 @@ enum Progress {
 }
 
 impl RecordReader {
-    ghost use Rattle.std.specs.Prelude.{ℕ, ◌<◌, ◌≤◌, List, [], ◌++◌, Option, Some, None, IsErrOf, Err};
-    ghost use Rattle.det_edges.specs.Count.{Rose};
+    ghost use Rattle.std.specs.Prelude.{ℕ, ◌<◌, List, [], ◌++◌, Option, Some, None, Err};
     ghost use Rattle.det_edges.specs.Shelf.{Reads, IsAtEnd};
+    ghost use Rattle.det_edges.specs.Traffic.{ShelfTraffic, shelf_run, failure_in};
     ghost use Rattle.record_grammar.specs.declared.fault.RecordFault.{RecordFault};
     ghost use Rattle.record_grammar.specs.declared.item.Item.{Item};
-    ghost use Rattle.record_reader.specs.StandsFor.{StandsFor, ItemIs, RoomFell, told, slot_of, room};
-    ghost use Rattle.record_reader.specs.Steps.{StepIs, Shrinks, GoesOn, IsHungry, GaveAll, FoundIs, StoppedIs};
+    ghost use Rattle.record_reader.specs.StandsFor.{StandsFor, HasRead, ItemIs, RoomFell};
+    ghost use Rattle.record_reader.specs.StandsFor.{told, slot_of, room};
+    ghost use Rattle.record_reader.specs.Steps.{StepIs, Shrinks, GoesOn, IsHungry, GaveAll};
+    ghost use Rattle.record_reader.specs.Steps.{FoundIs, StoppedIs};
 
     /// A reader of what a slot has left. It takes no memory, and reads nothing yet.
     pub fn at(alloc: Global, slot: u32) -> RecordReader
@@ -48,51 +49,51 @@ impl RecordReader {
         }
     }
 
-    /// The next item. None where the slot was read to its end and its record is whole. Once a fault was answered it is
-    /// answered again. After `OutOfMemory` the reader stands for nothing.
-    pub fn next_item<S: Slots>(&mut self, shelf: &mut S) -> Result<Option<Item>, ReaderEnd>
+    /// The next item. None where the slot was read to its end and its record is whole. `Refused`
+    /// tells the record's fault, which is answered again from then on. After a failed read the
+    /// reader goes on; after want of memory it stands for nothing.
+    pub fn next_item<S: Slots>(
+        &mut self,
+        shelf: &mut S,
+    ) -> Result<Option<Item>, Stopped<RecordFault>>
         requires { slot_of self.old < (S.sees shelf.old).slots }
-        ensures item { (more : List ℕ)
-            × Reads (S.sees shelf.old) (S.sees shelf.new) (slot_of self.old) more
-            × ((read : List ℕ) (given : List Item) → StandsFor self.old read given
-            → ItemIs result self.new (IsAtEnd (S.sees shelf.new) (slot_of self.old)) (read ++ more) given) }
+        ensures item { HasRead (S.sees shelf.old) (S.sees shelf.new) self.old
+            (ItemIs result self.new (IsAtEnd (S.sees shelf.new) (slot_of self.old))) }
         // Each item leaves fewer that may come.
-        ensures room { (read : List ℕ) (given : List Item) → StandsFor self.old read given → RoomFell result (room self.old) (room self.new) }
+        ensures room { (read : List ℕ) (given : List Item) → StandsFor self.old read given
+            → RoomFell result (room self.old) (room self.new) }
         ensures slot { slot_of self.new ≡ slot_of self.old }
         // Nothing is read where a fault is answered again.
         ensures again { (fault : RecordFault) → told self.old ≡ Some fault
-            → (result ≡ Err (ReaderEnd.BadRecord fault)) × (told self.new ≡ Some fault) × (S.sees shelf.new ≡ S.sees shelf.old) }
-        ensures cause { IsErrOf result ReaderEnd.ReadFault → Rose (S.sees shelf.old).faults (S.sees shelf.new).faults }
-        ensures counted { (S.sees shelf.old).faults ≤ (S.sees shelf.new).faults }
-        ensures stays { S.stays shelf.old shelf.new }
+            → (result ≡ Err (Stopped.Refused fault)) × (told self.new ≡ Some fault)
+            × (S.sees shelf.new ≡ S.sees shelf.old) }
+        ensures traffic { ShelfTraffic (shelf_run S.sees S.stays shelf.old shelf.new)
+            (failure_in result) }
     {
         if let Some(fault) = self.fault {
-            return Err(ReaderEnd::BadRecord(fault));
+            return Err(Stopped::Refused(fault));
         }
         'steps: loop {
-            match self.step(shelf) {
-                Ok(Progress::Piece) => (),
-                Ok(Progress::Item(item)) => return Ok(Some(item)),
-                Ok(Progress::End) => return Ok(None),
-                Err(end) => return Err(end),
+            match self.step(shelf)? {
+                Progress::Piece => (),
+                Progress::Item(item) => return Ok(Some(item)),
+                Progress::End => return Ok(None),
             }
         }
     }
 
     /// Gives an item of what was read, or reads on.
-    fn step<S: Slots>(&mut self, shelf: &mut S) -> Result<Progress, ReaderEnd>
+    fn step<S: Slots>(&mut self, shelf: &mut S) -> Result<Progress, Stopped<RecordFault>>
         requires slot { slot_of self.old < (S.sees shelf.old).slots }
         requires going { told self.old ≡ None }
-        ensures step { (more : List ℕ)
-            × Reads (S.sees shelf.old) (S.sees shelf.new) (slot_of self.old) more
-            × ((read : List ℕ) (given : List Item) → StandsFor self.old read given
-            → StepIs result self.new (IsAtEnd (S.sees shelf.new) (slot_of self.old)) (read ++ more) given) }
-        ensures shrinks { (read : List ℕ) (given : List Item) → StandsFor self.old read given → Shrinks result (room self.old) (room self.new) }
+        ensures step { HasRead (S.sees shelf.old) (S.sees shelf.new) self.old
+            (StepIs result self.new (IsAtEnd (S.sees shelf.new) (slot_of self.old))) }
+        ensures shrinks { (read : List ℕ) (given : List Item) → StandsFor self.old read given
+            → Shrinks result (room self.old) (room self.new) }
         ensures going { GoesOn result self.old self.new }
         ensures slot { slot_of self.new ≡ slot_of self.old }
-        ensures cause { IsErrOf result ReaderEnd.ReadFault → Rose (S.sees shelf.old).faults (S.sees shelf.new).faults }
-        ensures counted { (S.sees shelf.old).faults ≤ (S.sees shelf.new).faults }
-        ensures stays { S.stays shelf.old shelf.new }
+        ensures traffic { ShelfTraffic (shelf_run S.sees S.stays shelf.old shelf.new)
+            (failure_in result) }
     {
         let item = match self.decoder.next() {
             Ok(item) => item,
@@ -105,51 +106,46 @@ impl RecordReader {
     }
 
     /// Reads a piece, or finds the end of the slot.
-    fn read_on<S: Slots>(&mut self, shelf: &mut S) -> Result<Progress, ReaderEnd>
+    fn read_on<S: Slots>(&mut self, shelf: &mut S) -> Result<Progress, Stopped<RecordFault>>
         requires slot { slot_of self.old < (S.sees shelf.old).slots }
         requires hungry { IsHungry self.old }
         ensures step { (more : List ℕ)
             × Reads (S.sees shelf.old) (S.sees shelf.new) (slot_of self.old) more
             × ((read : List ℕ) (given : List Item) → GaveAll self.old read given
-            → StepIs result self.new (IsAtEnd (S.sees shelf.new) (slot_of self.old)) (read ++ more) given) }
+            → StepIs result self.new (IsAtEnd (S.sees shelf.new) (slot_of self.old))
+            (read ++ more) given) }
         ensures shrinks { Shrinks result (room self.old) (room self.new) }
         ensures going { GoesOn result self.old self.new }
         ensures slot { slot_of self.new ≡ slot_of self.old }
-        ensures cause { IsErrOf result ReaderEnd.ReadFault → Rose (S.sees shelf.old).faults (S.sees shelf.new).faults }
-        ensures counted { (S.sees shelf.old).faults ≤ (S.sees shelf.new).faults }
-        ensures stays { S.stays shelf.old shelf.new }
+        ensures traffic { ShelfTraffic (shelf_run S.sees S.stays shelf.old shelf.new)
+            (failure_in result) }
     {
         let mut buf = [0; PIECE];
-        let n = match shelf.read(self.slot, &mut buf) {
-            Ok(n) => n,
-            Err(_) => return Err(ReaderEnd::ReadFault),
-        };
+        let n = shelf.read(self.slot, &mut buf)?;
         if n == 0 {
             return match self.decoder.finish() {
                 Ok(()) => Ok(Progress::End),
                 Err(fault) => Err(self.found(fault)),
             };
         }
-        match self.decoder.feed(&buf[..n]) {
-            Ok(()) => Ok(Progress::Piece),
-            Err(_) => Err(ReaderEnd::OutOfMemory),
-        }
+        self.decoder.feed(&buf[..n])?;
+        Ok(Progress::Piece)
     }
 
     /// Remembers a fault.
-    fn found(&mut self, fault: RecordFault) -> ReaderEnd
+    fn found(&mut self, fault: RecordFault) -> Stopped<RecordFault>
         ensures { FoundIs fault self.old self.new result }
     {
         self.fault = Some(fault);
-        ReaderEnd::BadRecord(fault)
+        Stopped::Refused(fault)
     }
 
-    fn stopped(&mut self, error: DecodeError) -> ReaderEnd
+    fn stopped(&mut self, error: DecodeError) -> Stopped<RecordFault>
         ensures { StoppedIs error self.old self.new result }
     {
         match error {
             DecodeError::Fault(fault) => self.found(fault),
-            DecodeError::OutOfMemory => ReaderEnd::OutOfMemory,
+            DecodeError::OutOfMemory => Stopped::Failed(Failure::OutOfMemory),
         }
     }
 }

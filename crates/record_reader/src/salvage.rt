@@ -1,19 +1,26 @@
-//! A record on its way to a sink, frame by frame.
-ghost use Rattle.std.specs.Prelude.{◌≡◌, ◌+◌, ◌<◌, ◌≤◌, ◌||◌, ◌++◌, OnOk, IfOk, IfErr};
+//! A record on its way to a sink, item by item.
+ghost use Rattle.std.specs.Prelude.{◌≡◌, ◌+◌, ◌<◌, ◌≤◌, ◌||◌, ◌++◌, OnOk};
 ghost use Rattle.record_grammar.specs.declared.item.Item.TheVariants as items;
 ghost use Rattle.record_reader.specs.Salvaged.{is_init, runs_in, refusals_in};
 
-use crate::salvage_end::{SalvageEnd, Salvaged};
-use det_edges::{Sink, write_all};
-use det_values::{Format, Frame, OutOfMemory, Outcome, Profile};
-use record_codec::{Layout, encode_frame, encode_header};
+use det_edges::{Failure, Sink, Stopped, write_all};
+use det_values::{Format, Frame, OutOfMemory, Outcome};
+use record_codec::{Item, Layout, RecordFault, encode_frame, encode_header};
 use std::alloc::Global;
+
+/// How many cycles a salvaged record has, and how many of them were refused.
+#[derive(Clone, Copy, Debug, PartialEq, Eq, Drop)]
+pub struct Salvaged {
+    pub cycles: u32,
+    pub refused: u32,
+}
 
 /// What was read of a record. It keeps no frame that was written.
 #[derive(Drop)]
 pub struct Salvage {
     /// Bytes that are spelled and not yet written.
     pub out: Vec<u8>,
+    /// The header's, once that was read.
     pub layout: Layout,
     /// Init was read, and all that was spelled is written.
     pub has_begun: bool,
@@ -21,110 +28,127 @@ pub struct Salvage {
     pub refused: u32,
 }
 
-fn runs(frame: &Frame) -> u32
-    ensures value { result ≡ runs_in (items.Frame frame.now) }
+fn runs(item: &Item) -> u32
+    ensures value { result ≡ runs_in item.now }
     ensures most { result ≤ 1 }
 {
-    match frame {
-        Frame::Run(_) => 1,
-        Frame::Register | Frame::Discover | Frame::Init(_) | Frame::Terminate => 0,
-    }
-}
-
-fn refusals(frame: &Frame) -> u32
-    ensures value { result ≡ refusals_in (items.Frame frame.now) }
-    ensures most { result ≤ runs_in (items.Frame frame.now) }
-{
-    match frame {
-        Frame::Run(run) => match run.outcome {
-            Outcome::Finished { .. } => 0,
-            Outcome::Refused(_) => 1,
+    match item {
+        Item::Header(_) => 0,
+        Item::Frame(frame) => match frame {
+            Frame::Run(_) => 1,
+            Frame::Register | Frame::Discover | Frame::Init(_) | Frame::Terminate => 0,
         },
-        Frame::Register | Frame::Discover | Frame::Init(_) | Frame::Terminate => 0,
     }
 }
 
-fn has_begun_by(has_begun: bool, frame: &Frame) -> bool
-    ensures { result ≡ (is_init (items.Frame frame.now) || has_begun) }
+fn refusals(item: &Item) -> u32
+    ensures value { result ≡ refusals_in item.now }
+    ensures most { result ≤ runs_in item.now }
 {
-    match frame {
-        Frame::Init(_) => true,
-        Frame::Register | Frame::Discover | Frame::Run(_) | Frame::Terminate => has_begun,
+    match item {
+        Item::Header(_) => 0,
+        Item::Frame(frame) => match frame {
+            Frame::Run(run) => match run.outcome {
+                Outcome::Finished { .. } => 0,
+                Outcome::Refused(_) => 1,
+            },
+            Frame::Register | Frame::Discover | Frame::Init(_) | Frame::Terminate => 0,
+        },
+    }
+}
+
+fn has_begun_by(has_begun: bool, item: &Item) -> bool
+    ensures { result ≡ (is_init item.now || has_begun) }
+{
+    match item {
+        Item::Header(_) => has_begun,
+        Item::Frame(frame) => match frame {
+            Frame::Init(_) => true,
+            Frame::Register | Frame::Discover | Frame::Run(_) | Frame::Terminate => has_begun,
+        },
     }
 }
 
 impl Salvage {
-    ghost use Rattle.det_edges.specs.Count.{Rose};
+    ghost use Rattle.std.specs.Prelude.{List, [], ◌∷◌};
+    ghost use Rattle.det_edges.specs.Traffic.{SinkTraffic, sink_run, failure_in};
+    ghost use Rattle.record_grammar.specs.declared.item.Item.{Item};
     ghost use Rattle.record_grammar.specs.Spelling.{CanSpell};
-    ghost use Rattle.record_reader.specs.Keeping.{Holds, CutBy, spelled_unless_last, SameCounts, Counted, IsFresh, FinishIs};
+    ghost use Rattle.record_reader.specs.Taking.{AreFirst, Takes};
+    ghost use Rattle.record_reader.specs.Keeping.{Keeps, salvaging, CanKeep, piece_of};
+    ghost use Rattle.record_reader.specs.Keeping.{spelled_unless_last, Flushes, SameCounts};
+    ghost use Rattle.record_reader.specs.Keeping.{Counted, FinishIs};
 
-    /// Spells a header, and writes nothing.
-    pub fn new(alloc: Global, profile: &Profile) -> Result<Salvage, OutOfMemory>
-        ensures { IfOk result (λ salvage. IsFresh profile.now salvage) }
+    /// Behind no items. It takes no memory.
+    pub fn new(alloc: Global) -> Salvage
+        ensures { Keeps result [] }
     {
-        let mut out = Vec::new(alloc);
-        let layout = Layout {
-            format: profile.format,
-            events: profile.events.len() as u16,
-        };
-        match encode_header(profile, &mut out) {
-            Ok(()) => Ok(Salvage {
-                out,
-                layout,
-                has_begun: false,
-                cycles: 0,
-                refused: 0,
-            }),
-            Err(refused) => Err(refused),
+        Salvage {
+            out: Vec::new(alloc),
+            layout: Layout {
+                format: Format::One,
+                events: 0,
+            },
+            has_begun: false,
+            cycles: 0,
+            refused: 0,
         }
     }
 
-    /// Spells a frame, and writes it with all before it once Init was read. Terminate is left for the end.
-    pub fn keep<K: Sink>(&mut self, frame: Frame, sink: &mut K) -> Result<(), SalvageEnd>
-        requires spells { CanSpell self.old.layout.format self.old.layout.events frame }
-        requires few { self.old.cycles < 4294967295 }
-        requires refused { self.old.refused ≤ self.old.cycles }
-        ensures counted { OnOk result (Counted frame self.old self.new) }
-        ensures ok { OnOk result (Holds (is_init (items.Frame frame) || self.old.has_begun) self.new.out.items
-            (self.old.out.items ++ spelled_unless_last self.old.layout.format frame) (K.took sink.old) (K.took sink.new)) }
-        ensures err { IfErr result (λ end. CutBy end (is_init (items.Frame frame) || self.old.has_begun)
-            (self.old.out.items ++ spelled_unless_last self.old.layout.format frame) (K.took sink.old) (K.took sink.new)) }
-        ensures cause { IfErr result (λ end. end ≡ SalvageEnd.WriteFault → Rose (K.faults sink.old) (K.faults sink.new)) }
-        ensures faults { K.faults sink.old ≤ K.faults sink.new }
+    /// Spells an item, and writes it with all before it once Init was read. Terminate is left for
+    /// the end.
+    pub fn take<K: Sink>(&mut self, item: Item, sink: &mut K) -> Result<(), Stopped<RecordFault>>
+        requires { (given : List Item) × Keeps self.old given × AreFirst (given ++ item ∷ []) }
+        ensures takes { (given : List Item) → Keeps self.old given → AreFirst (given ++ item ∷ [])
+            → Takes result (salvaging self.new) given item []
+            (sink_run K.took K.faults sink.old sink.new) }
+        ensures traffic { SinkTraffic (sink_run K.took K.faults sink.old sink.new)
+            (failure_in result) }
     {
-        match self.spell(&frame) {
-            Ok(()) => {}
-            Err(_) => return Err(SalvageEnd::OutOfMemory),
-        }
-        self.count(&frame);
-        drop(frame);
+        self.spell(&item)?;
+        self.count(&item);
+        drop(item);
         self.flush(sink)
     }
 
     /// Writes Terminate behind all that is spelled.
-    pub fn finish<K: Sink>(&mut self, sink: &mut K) -> Result<Salvaged, SalvageEnd>
-        ensures finish { FinishIs result self.old (K.took sink.old) (K.took sink.new) }
-        ensures cause { IfErr result (λ end. end ≡ SalvageEnd.WriteFault → Rose (K.faults sink.old) (K.faults sink.new)) }
-        ensures faults { K.faults sink.old ≤ K.faults sink.new }
+    pub fn finish<K: Sink>(&mut self, sink: &mut K) -> Result<Salvaged, Stopped<RecordFault>>
+        ensures finish { FinishIs result self.old (sink_run K.took K.faults sink.old sink.new) }
+        ensures traffic { SinkTraffic (sink_run K.took K.faults sink.old sink.new)
+            (failure_in result) }
     {
         let Layout { format, events } = self.layout;
-        match encode_frame(format, events, &Frame::Terminate, &mut self.out) {
-            Ok(()) => {}
-            Err(_) => return Err(SalvageEnd::OutOfMemory),
-        }
-        match write_all(sink, &self.out) {
-            Ok(()) => Ok(Salvaged {
-                cycles: self.cycles,
-                refused: self.refused,
-            }),
-            Err(_) => Err(SalvageEnd::WriteFault),
+        encode_frame(format, events, &Frame::Terminate, &mut self.out)?;
+        write_all(sink, &self.out)?;
+        Ok(Salvaged {
+            cycles: self.cycles,
+            refused: self.refused,
+        })
+    }
+
+    fn spell(&mut self, item: &Item) -> Result<(), OutOfMemory>
+        requires { CanKeep self.old.layout item.now }
+        ensures ok { OnOk result (self.new.out.items ≡ self.old.out.items
+            ++ piece_of self.old.layout item.now) }
+        ensures same { SameCounts item.now self.old self.new }
+    {
+        match item {
+            Item::Header(profile) => {
+                self.layout = Layout {
+                    format: profile.format,
+                    events: profile.events.len() as u16,
+                };
+                encode_header(profile, &mut self.out)
+            }
+            Item::Frame(frame) => self.spell_frame(frame),
         }
     }
 
-    fn spell(&mut self, frame: &Frame) -> Result<(), OutOfMemory>
+    fn spell_frame(&mut self, frame: &Frame) -> Result<(), OutOfMemory>
         requires { CanSpell self.old.layout.format self.old.layout.events frame.now }
-        ensures ok { OnOk result (self.new.out.items ≡ self.old.out.items ++ spelled_unless_last self.old.layout.format frame.now) }
-        ensures same { SameCounts self.old self.new }
+        ensures ok { OnOk result (self.new.out.items ≡ self.old.out.items
+            ++ spelled_unless_last self.old.layout.format frame.now) }
+        ensures same { SameCounts (items.Frame frame.now) self.old self.new }
     {
         let Layout { format, events } = self.layout;
         match frame {
@@ -135,34 +159,30 @@ impl Salvage {
         }
     }
 
-    fn count(&mut self, frame: &Frame)
+    fn count(&mut self, item: &Item)
         requires few { self.old.cycles < 4294967295 }
         requires refused { self.old.refused ≤ self.old.cycles }
-        ensures counted { Counted frame.now self.old self.new }
+        ensures counted { Counted item.now self.old self.new }
         ensures out { self.new.out.items ≡ self.old.out.items }
     {
-        self.has_begun = has_begun_by(self.has_begun, frame);
-        self.cycles += runs(frame);
-        self.refused += refusals(frame);
+        self.has_begun = has_begun_by(self.has_begun, item);
+        self.cycles += runs(item);
+        self.refused += refusals(item);
     }
 
     /// Writes what is spelled, once Init was read.
-    fn flush<K: Sink>(&mut self, sink: &mut K) -> Result<(), SalvageEnd>
-        ensures ok { OnOk result (Holds self.old.has_begun self.new.out.items self.old.out.items (K.took sink.old) (K.took sink.new)) }
-        ensures err { IfErr result (λ end. CutBy end self.old.has_begun self.old.out.items (K.took sink.old) (K.took sink.new)) }
-        ensures same { SameCounts self.old self.new }
-        ensures cause { IfErr result (λ end. end ≡ SalvageEnd.WriteFault → Rose (K.faults sink.old) (K.faults sink.new)) }
-        ensures faults { K.faults sink.old ≤ K.faults sink.new }
+    fn flush<K: Sink>(&mut self, sink: &mut K) -> Result<(), Stopped<RecordFault>>
+        ensures flushes { Flushes result self.old.has_begun self.old.out.items self.new.out.items
+            (sink_run K.took K.faults sink.old sink.new) }
+        ensures traffic { SinkTraffic (sink_run K.took K.faults sink.old sink.new)
+            (failure_in result) }
+        ensures same { self.new ≡ record self.old { out = self.new.out } }
     {
         if !self.has_begun {
             return Ok(());
         }
-        match write_all(sink, &self.out) {
-            Ok(()) => {
-                self.out.clear();
-                Ok(())
-            }
-            Err(_) => Err(SalvageEnd::WriteFault),
-        }
+        write_all(sink, &self.out)?;
+        self.out.clear();
+        Ok(())
     }
 }

@@ -1,2 +1,4 @@
 mod Lines
-mod Running
+mod Parts
+mod Taken
+pub mod Answering

@@ -1,3 +1,3 @@
 pub mod Text
-pub mod Cuts
+pub mod Showing
 pub mod Ended

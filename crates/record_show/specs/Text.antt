@@ -1,15 +1,18 @@
--- The text of a record.
-use Rattle.std.specs.Prelude.{ℕ, List, [], ◌∷◌, ◌++◌, Option, Some, None}
+-- The text of a record, or of a part of it.
+use Rattle.std.specs.Prelude.{ℕ, zero, suc, List, [], ◌∷◌, ◌++◌, Option, Some, None, slice_get}
 use Rattle.std.specs.List.{flat_map}
 use Rattle.det_values.specs.declared.format.Format.{Format}
+use Rattle.det_values.specs.declared.format.Format.TheVariants.{One}
 use Rattle.det_values.specs.declared.frames.RunFrame.{RunFrame}
 use Rattle.det_values.specs.declared.frames.Frame.TheVariants.{Run}
 use Rattle.record_grammar.specs.declared.fault.RecordFault.{RecordFault}
 use Rattle.record_grammar.specs.declared.item.Item.{Item}
 use Rattle.record_grammar.specs.declared.item.Item.TheVariants as items
 use Rattle.record_grammar.specs.Record.{items as items_in, fault as fault_in}
-use Rattle.record_text.specs.Records.{record_lines}
-use Rattle.probes.specs.Reports.{ProbeLife, reports}
+use Rattle.record_text.specs.declared.part.ShowPart.{ShowPart}
+use Rattle.record_text.specs.declared.part.ShowPart.TheVariants.{All, Reports, Cycle}
+use Rattle.record_text.specs.Records.{run_lines, record_lines}
+use Rattle.probes.specs.Reports.{AudienceState, reported}
 
 -- the run of an item, or none
 abbrev pub run_in : Item → List RunFrame
@@ -20,20 +23,39 @@ run_in item = []
 abbrev pub runs_in : List Item → List RunFrame
 runs_in xs = flat_map run_in xs
 
-abbrev pub format_by : Format → Item → Format
-format_by format (items.Header profile) = profile.format
-format_by format (items.Frame frame) = format
+-- the format that a record's header tells
+abbrev pub format_in : List Item → Format
+format_in (items.Header profile ∷ rest) = profile.format
+format_in other = One
 
--- the format in which frames behind these items are printed
-unfoldable pub format_behind : Format → List Item → Format
-format_behind format [] = format
-format_behind format (x ∷ xs) = format_behind (format_by format x) xs
+abbrev pub lines_if : Format → ℕ → Option RunFrame → List ℕ
+lines_if format number (Some run) = run_lines format number run
+lines_if format number None = []
 
--- the lines of items, and behind those of a whole record what the probes report of its runs
-abbrev pub text_from : List ProbeLife → List Item → Option RecordFault → List ℕ
-text_from probes xs None = record_lines xs ++ reports probes (runs_in xs)
-text_from probes xs (Some fault) = record_lines xs
+-- the lines of the Run frame of this number, counted from 1, or nothing where it isn't there
+abbrev pub cycle_lines : ℕ → List Item → List ℕ
+cycle_lines zero xs = []
+cycle_lines (suc before) xs =
+    lines_if (format_in xs) (suc before) (slice_get (runs_in xs) before)
 
--- the text of a record: the lines of its items, and reports where it is whole
-abbrev pub text_of : List ProbeLife → List ℕ → List ℕ
-text_of probes record_bytes = text_from probes (items_in record_bytes) (fault_in record_bytes)
+-- the lines that are printed of items
+abbrev pub lines_of : ShowPart → List Item → List ℕ
+lines_of All xs = record_lines xs
+lines_of Reports xs = []
+lines_of (Cycle number) xs = cycle_lines number xs
+
+-- what an audience reports behind them; one run alone is printed without reports
+abbrev pub reports_of : ShowPart → AudienceState → List RunFrame → List ℕ
+reports_of All audience runs = reported audience runs
+reports_of Reports audience runs = reported audience runs
+reports_of (Cycle number) audience runs = []
+
+-- the lines of items, and behind those of a whole record what the audience reports of its runs
+abbrev pub text_from : ShowPart → AudienceState → List Item → Option RecordFault → List ℕ
+text_from part audience xs None = lines_of part xs ++ reports_of part audience (runs_in xs)
+text_from part audience xs (Some fault) = lines_of part xs
+
+-- the text of a part of a record: the lines of its items, and reports where it is whole
+abbrev pub text_of : ShowPart → AudienceState → List ℕ → List ℕ
+text_of part audience record_bytes =
+    text_from part audience (items_in record_bytes) (fault_in record_bytes)

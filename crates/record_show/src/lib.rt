@@ -1,9 +1,9 @@
-//! A record printed as text, item by item, and what probes report of its runs.
+//! A record printed as text, item by item, and what an audience reports of its runs.
 #![tactic(auto)]
 
-mod ends;
 mod printing;
 mod showing;
+mod shown;
 
-pub use ends::{ShowEnd, Shown};
 pub use showing::show_run;
+pub use shown::Shown;

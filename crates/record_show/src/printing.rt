@@ -1,109 +1,180 @@
-//! Items, printed one after another.
-ghost use Rattle.std.specs.Prelude.{◌≡◌, ◌≤◌, ◌<◌, ◌+◌, [], ◌∷◌, length, OnOk, IfErr, IsErrOf};
-ghost use Rattle.det_edges.specs.Count.{Rose};
-ghost use Rattle.det_edges.specs.Sink.{Grew};
+//! Items, printed one after another and shown to an audience.
+ghost use Rattle.std.specs.Prelude.{◌≡◌, ◌≤◌, ◌<◌, ◌+◌, ◌∷◌, [], ◌++◌, List, length};
+ghost use Rattle.std.specs.Prelude.{OnOk, IfSome, IfNone};
+ghost use Rattle.record_grammar.specs.declared.item.Item.{Item};
 ghost use Rattle.record_grammar.specs.declared.item.Item.TheVariants as items;
+ghost use Rattle.det_edges.specs.Traffic.{SinkTraffic, sink_run, failure_in};
+ghost use Rattle.probes.specs.Reports.{AudienceState};
+ghost use Rattle.probes.specs.Shows.{seen};
 ghost use Rattle.record_show.specs.Text.{run_in};
-ghost use Rattle.record_show.specs.Cuts.{Cuts};
+ghost use Rattle.record_show.specs.Showing.{Kept, is_printed, watched_of};
 
-use crate::ends::ShowEnd;
-use det_edges::{Sink, write_all};
-use det_values::{Format, Frame, OutOfMemory};
-use record_grammar::Item;
-use record_text::{put_frame_lines, put_header_lines};
+use det_edges::{Sink, Stopped, write_all};
+use det_values::{Format, Frame, OutOfMemory, RunFrame};
+use probes::{Audience, Probe};
+use record_grammar::{Item, RecordFault};
+use record_text::{ShowPart, put_frame_lines, put_header_lines};
 use std::alloc::Global;
 
 /// Where the items of a record are printed.
 #[derive(Drop)]
 pub struct Printer {
-    /// The lines of the last item, in room that is used again.
+    alloc: Global,
+    pub part: ShowPart,
+    /// The lines of the last item that was printed, in room that is used again.
     lines: Vec<u8>,
-    /// The header's, once that was printed.
+    /// The header's, once that was read.
     pub format: Format,
-    /// How many Run frames were printed.
+    /// How many Run frames came.
     pub cycles: u32,
 }
 
-/// Writes bytes of the text.
-pub fn write_text<K: Sink>(bytes: &[u8], sink: &mut K) -> Result<(), ShowEnd>
-    ensures ok { OnOk result (Grew (K.took sink.old) (K.took sink.new) bytes.now) }
-    ensures err { IfErr result (λ end. Cuts end (K.took sink.old) (K.took sink.new) bytes.now) }
-    ensures cause { IsErrOf result ShowEnd.WriteFault
-        → Rose (K.faults sink.old) (K.faults sink.new) }
-    ensures counted { K.faults sink.old ≤ K.faults sink.new }
+fn cycles_in(item: &Item) -> u32
+    ensures value { result ≡ length (run_in item.now) }
+    ensures most { result ≤ 1 }
 {
-    match write_all(sink, bytes) {
-        Ok(()) => Ok(()),
-        Err(_) => Err(ShowEnd::WriteFault),
+    match item {
+        Item::Header(_) => 0,
+        Item::Frame(frame) => match frame {
+            Frame::Run(_) => 1,
+            Frame::Register | Frame::Discover | Frame::Init(_) | Frame::Terminate => 0,
+        },
     }
 }
 
-fn cycles_in(frame: &Frame) -> u32
-    ensures value { result ≡ length (run_in (items.Frame frame.now)) }
-    ensures most { result ≤ 1 }
+/// Whether the lines of an item are printed.
+fn prints(part: ShowPart, number: u32, item: &Item) -> bool
+    ensures { result ≡ is_printed part number item.now }
 {
-    match frame {
-        Frame::Run(_) => 1,
-        Frame::Register | Frame::Discover | Frame::Init(_) | Frame::Terminate => 0,
+    match part {
+        ShowPart::All => true,
+        ShowPart::Reports => false,
+        ShowPart::Cycle(wanted) => match item {
+            Item::Header(_) => false,
+            Item::Frame(frame) => match frame {
+                Frame::Run(_) => number == wanted,
+                Frame::Register | Frame::Discover | Frame::Init(_) | Frame::Terminate => false,
+            },
+        },
+    }
+}
+
+/// The run of an item that an audience is shown: none where one run alone is printed.
+fn watched_run(part: ShowPart, item: &Item) -> Option<&RunFrame>
+    ensures some { IfSome result (λ run. watched_of part item.now ≡ run.now ∷ []) }
+    ensures none { IfNone result (watched_of part item.now ≡ []) }
+{
+    match part {
+        ShowPart::All | ShowPart::Reports => run_of(item),
+        ShowPart::Cycle(_) => None,
+    }
+}
+
+/// The run of an item.
+fn run_of(item: &Item) -> Option<&RunFrame>
+    ensures some { IfSome result (λ run. run_in item.now ≡ run.now ∷ []) }
+    ensures none { IfNone result (run_in item.now ≡ []) }
+{
+    match item {
+        Item::Header(_) => None,
+        Item::Frame(frame) => match frame {
+            Frame::Run(run) => Some(run),
+            Frame::Register | Frame::Discover | Frame::Init(_) | Frame::Terminate => None,
+        },
     }
 }
 
 impl Printer {
-    ghost use Rattle.det_values.specs.declared.format.Format.TheVariants.{One};
-    ghost use Rattle.record_text.specs.Records.{item_lines};
-    ghost use Rattle.record_show.specs.Text.{format_behind};
+    ghost use Rattle.record_reader.specs.Taking.{AreFirst, Wrote, Takes};
+    ghost use Rattle.record_show.specs.Showing.{AreShown, showing, format_by, lines_at};
+    ghost use Rattle.record_show.specs.Showing.{printed_of, IsFailed};
 
     /// A printer that printed nothing. It takes no memory.
-    pub fn new(alloc: Global) -> Printer
-        ensures format { result.format ≡ One }
-        ensures cycles { result.cycles ≡ 0 }
+    pub fn new(alloc: Global, part: ShowPart) -> Printer
+        ensures { (audience : AudienceState) → AreShown part audience audience result [] }
     {
         Printer {
+            alloc,
+            part,
             lines: Vec::new(alloc),
             format: Format::One,
             cycles: 0,
         }
     }
 
-    /// Prints the lines of an item. After an error some of them may have been written.
-    pub fn print<K: Sink>(&mut self, item: &Item, sink: &mut K) -> Result<(), ShowEnd>
-        requires few { self.old.cycles < 4294967295 }
-        ensures ok { OnOk result
-            (Grew (K.took sink.old) (K.took sink.new)
-            (item_lines self.old.format self.old.cycles (item.now ∷ []))) }
-        ensures format { OnOk result
-            (self.new.format ≡ format_behind self.old.format (item.now ∷ [])) }
-        ensures cycles { OnOk result
-            (self.new.cycles ≡ self.old.cycles + length (run_in item.now)) }
-        ensures err { IfErr result
-            (λ end. Cuts end (K.took sink.old) (K.took sink.new)
-            (item_lines self.old.format self.old.cycles (item.now ∷ []))) }
-        ensures cause { IsErrOf result ShowEnd.WriteFault
-            → Rose (K.faults sink.old) (K.faults sink.new) }
-        ensures counted { K.faults sink.old ≤ K.faults sink.new }
+    /// Prints the lines of an item, where they are printed, and then shows it to the audience,
+    /// where it is a Run frame.
+    pub fn take<K: Sink>(
+        &mut self,
+        item: Item,
+        sink: &mut K,
+        audience: &mut Audience,
+    ) -> Result<(), Stopped<RecordFault>>
+        requires { self.old.cycles < 4294967295 }
+        ensures takes { (first : AudienceState) (given : List Item)
+            → AreShown self.old.part first
+            (seen (λ b. life (b.vtable, b.value)) audience.old) self.old given
+            → AreFirst (given ++ item ∷ [])
+            → Takes result
+            (showing self.old.part first
+            (seen (λ b. life (b.vtable, b.value)) audience.new) self.new) given item []
+            (sink_run K.took K.faults sink.old sink.new) }
+        ensures traffic { SinkTraffic (sink_run K.took K.faults sink.old sink.new)
+            (failure_in result) }
+        ensures part { self.new.part ≡ self.old.part }
+        ensures kept { Kept self.old.part (seen (λ b. life (b.vtable, b.value)) audience.old)
+            (seen (λ b. life (b.vtable, b.value)) audience.new) }
     {
-        if self.put(item).is_err() {
-            return Err(ShowEnd::OutOfMemory);
+        self.count(&item);
+        self.print(&item, sink)?;
+        let Some(run) = watched_run(self.part, &item) else {
+            return Ok(());
+        };
+        audience.show(self.alloc, run)?;
+        Ok(())
+    }
+
+    fn count(&mut self, item: &Item)
+        requires { self.old.cycles < 4294967295 }
+        ensures { self.new ≡ record self.old {
+          format = format_by self.old.format item.now;
+          cycles = self.old.cycles + length (run_in item.now);
+        } }
+    {
+        if let Item::Header(profile) = item {
+            self.format = profile.format;
         }
-        write_text(&self.lines, sink)
+        self.cycles += cycles_in(item);
+    }
+
+    /// Prints the lines of an item that was counted, where they are printed.
+    fn print<K: Sink>(&mut self, item: &Item, sink: &mut K) -> Result<(), Stopped<RecordFault>>
+        ensures wrote { Wrote result []
+            (printed_of self.old.part self.old.format self.old.cycles item.now)
+            (sink_run K.took K.faults sink.old sink.new) }
+        ensures fails { IsFailed result }
+        ensures traffic { SinkTraffic (sink_run K.took K.faults sink.old sink.new)
+            (failure_in result) }
+        ensures same { self.new ≡ record self.old { lines = self.new.lines } }
+    {
+        if !prints(self.part, self.cycles, item) {
+            return Ok(());
+        }
+        self.put(item)?;
+        write_all(sink, &self.lines)?;
+        Ok(())
     }
 
     /// Puts the lines of an item in place of those before.
     fn put(&mut self, item: &Item) -> Result<(), OutOfMemory>
-        requires few { self.old.cycles < 4294967295 }
         ensures lines { OnOk result
-            (self.new.lines.items ≡ item_lines self.old.format self.old.cycles (item.now ∷ [])) }
-        ensures format { self.new.format ≡ format_behind self.old.format (item.now ∷ []) }
-        ensures cycles { self.new.cycles ≡ self.old.cycles + length (run_in item.now) }
+            (self.new.lines.items ≡ lines_at self.old.format self.old.cycles item.now) }
+        ensures same { self.new ≡ record self.old { lines = self.new.lines } }
     {
         self.lines.clear();
         match item {
-            Item::Header(profile) => {
-                self.format = profile.format;
-                put_header_lines(&mut self.lines, profile)
-            }
+            Item::Header(profile) => put_header_lines(&mut self.lines, profile),
             Item::Frame(frame) => {
-                self.cycles += cycles_in(frame);
                 put_frame_lines(&mut self.lines, self.format, self.cycles, frame)
             }
         }

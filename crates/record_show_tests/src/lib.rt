@@ -2,4 +2,10 @@
 #![tactic(auto)]
 
 #[cfg(test)]
+mod failing;
+#[cfg(test)]
+mod parts;
+#[cfg(test)]
+mod printing;
+#[cfg(test)]
 mod shown;

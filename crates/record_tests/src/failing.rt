@@ -1,14 +1,15 @@
 //! Shelves that fail in mid-record.
 use crate::salvages::salvage;
 use crate::sources::{items_of, shelf_of};
-use det_edges::{FailList, MemSink, Shelf};
-use record_reader::{ReaderEnd, RecordReader, SalvageEnd};
+use det_edges::{FailList, Failure, MemSink, Shelf, Stopped};
+use record_reader::RecordReader;
 use record_vectors::{first, two_cycles};
 use std::alloc::Global;
 use std::process::Abort;
 use std::test::*;
 
-/// How many items of two cycles stand whole in its first bytes, and how many bytes salvaging writes of them.
+/// How many items of two cycles stand whole in its first bytes, and how many bytes salvaging writes
+/// of them.
 fn whole_in(read: u64) -> (u32, usize) {
     match read {
         0..=49 => (0, 0),
@@ -36,7 +37,7 @@ fn reads_on(rt: &impl Abort, alloc: Global, fails: FailList, items: u32) -> Resu
     let mut reader = RecordReader::at(alloc, slot);
     let before = items_of(&mut reader, &mut shelf);
     let after = items_of(&mut reader, &mut shelf);
-    assert_eq!(rt; before, (items, Some(ReaderEnd::ReadFault)));
+    assert_eq!(rt; before, (items, Some(Stopped::Failed(Failure::Read))));
     assert_eq!(rt; after, (7u32.saturating_sub(items), None));
     Ok(())
 }
@@ -55,7 +56,7 @@ fn whole_items_come_before_a_failed_read(rt: HostRuntime) -> Result<(), Fail> {
             fails_after(alloc, reads)?,
             &mut sink,
         )?;
-        assert_eq!(rt; answer, Err(SalvageEnd::ReadFault));
+        assert_eq!(rt; answer, Err(Stopped::Failed(Failure::Read)));
         assert_eq!(rt; sink.bytes(), first(two_cycles(), written));
     }
     Ok(())

@@ -4,15 +4,15 @@ ghost use Rattle.std.specs.Prelude.{◌<◌};
 use crate::feeding::fed;
 use crate::sources::shelf_of;
 use crate::vectors::refused_runs;
-use det_edges::{FailList, MemSink, Shelf, Sink};
+use det_edges::{FailList, Failure, MemSink, Shelf, Sink, Stopped};
 use record_codec::{Reason, RecordFault};
-use record_reader::{DigestSink, RecordReader, SalvageEnd, Salvaged, salvage_run};
+use record_reader::{DigestSink, RecordReader, Salvaged, salvage_run};
 use record_vectors::{empty_run, first, two_cycles};
 use std::alloc::Global;
 use std::process::Abort;
 use std::test::*;
 
-type Answer = Result<Salvaged, SalvageEnd>;
+type Answer = Result<Salvaged, Stopped<RecordFault>>;
 
 /// What salvaging bytes comes to that come in pieces of at most `most`.
 pub fn salvage<K: Sink>(
@@ -47,7 +47,8 @@ fn salvages_in_pieces(
     Ok(())
 }
 
-/// Salvaging comes to this answer and writes these bytes, whether the record comes whole, byte by byte or in pieces of 7.
+/// Salvaging comes to this answer and writes these bytes, whether the record comes whole, byte by
+/// byte or in pieces of 7.
 fn salvages(
     rt: &impl Abort,
     alloc: Global,
@@ -81,7 +82,7 @@ fn nothing_is_written_before_init(rt: HostRuntime) -> Result<(), Fail> {
         offset: 60,
         reason: Reason::Truncated,
     };
-    let nothing = Err(SalvageEnd::Nothing(fault));
+    let nothing = Err(Stopped::Refused(fault));
     salvages(&rt, rt.alloc(), first(two_cycles(), 60), nothing, &[])
 }
 
@@ -90,7 +91,7 @@ fn a_full_sink_has_the_first_bytes(rt: HostRuntime) -> Result<(), Fail> {
     let alloc = rt.alloc();
     let mut sink = MemSink::new(alloc, 250, 10, FailList::new(alloc))?;
     let answer = salvage(alloc, two_cycles(), 7, FailList::new(alloc), &mut sink)?;
-    assert_eq!(rt; answer, Err(SalvageEnd::WriteFault));
+    assert_eq!(rt; answer, Err(Stopped::Failed(Failure::Write)));
     assert_eq!(rt; sink.bytes(), first(two_cycles(), 250));
     Ok(())
 }

@@ -3,13 +3,14 @@ ghost use Rattle.std.specs.Prelude.{◌<◌};
 ghost use Rattle.det_edges.specs.MemShelf.{mem_shelf_state};
 ghost use Rattle.record_reader.specs.StandsFor.{slot_of};
 
-use det_edges::{FailList, MemFile, MemFiles, MemShelf, Shelf};
+use det_edges::{FailList, MemFile, MemFiles, MemShelf, Shelf, Stopped};
 use record_codec::{Item, RecordFault};
-use record_reader::{ReaderEnd, RecordReader};
+use record_reader::RecordReader;
 use std::alloc::Global;
 use std::test::Fail;
 
-/// A shelf on which `r` has these bytes, of which a read gives at most `most`. The calls that are listed fail.
+/// A shelf on which `r` has these bytes, of which a read gives at most `most`. The calls that are
+/// listed fail.
 pub fn shelf_of(alloc: Global, bytes: &[u8], most: usize, fails: FailList) -> Result<MemShelf, Fail>
     requires { 0 < most }
 {
@@ -20,15 +21,22 @@ pub fn shelf_of(alloc: Global, bytes: &[u8], most: usize, fails: FailList) -> Re
     Ok(MemShelf::limited(alloc, files, fails, 1, most)?)
 }
 
-fn next(reader: &mut RecordReader, shelf: &mut MemShelf) -> Result<Option<Item>, ReaderEnd>
+fn next(
+    reader: &mut RecordReader,
+    shelf: &mut MemShelf,
+) -> Result<Option<Item>, Stopped<RecordFault>>
     requires { slot_of reader.old < (mem_shelf_state shelf.old).slots }
     ensures { slot_of reader.new < (mem_shelf_state shelf.new).slots }
 {
     reader.next_item(shelf)
 }
 
-/// How many items come before the next other answer, and what that is. None stands for the end of a whole record.
-pub fn items_of(reader: &mut RecordReader, shelf: &mut MemShelf) -> (u32, Option<ReaderEnd>)
+/// How many items come before the next other answer, and what that is. None stands for the end of a
+/// whole record.
+pub fn items_of(
+    reader: &mut RecordReader,
+    shelf: &mut MemShelf,
+) -> (u32, Option<Stopped<RecordFault>>)
     requires { slot_of reader.old < (mem_shelf_state shelf.old).slots }
     ensures { slot_of reader.new < (mem_shelf_state shelf.new).slots }
 {
@@ -36,7 +44,7 @@ pub fn items_of(reader: &mut RecordReader, shelf: &mut MemShelf) -> (u32, Option
         match next(reader, shelf) {
             Ok(Some(_)) => {}
             Ok(None) => return (count, None),
-            Err(end) => return (count, Some(end)),
+            Err(stop) => return (count, Some(stop)),
         }
     }
     (u32::MAX, None)
@@ -55,8 +63,8 @@ pub fn fault_of(alloc: Global, bytes: &[u8], most: usize) -> Result<Option<Recor
     }
     match end {
         None => Ok(None),
-        Some(ReaderEnd::BadRecord(fault)) => Ok(Some(fault)),
-        Some(ReaderEnd::ReadFault | ReaderEnd::OutOfMemory) => Err(Fail::new("another end")),
+        Some(Stopped::Refused(fault)) => Ok(Some(fault)),
+        Some(Stopped::Failed(_)) => Err(Fail::new("another end")),
     }
 }
 

@@ -6,10 +6,12 @@
 
 mod frame_lines;
 mod header_lines;
+mod part;
 mod put;
 mod summary_lines;
 
 pub use frame_lines::put_frame_lines;
 pub use header_lines::put_header_lines;
+pub use part::ShowPart;
 pub use put::{put_hex, put_number, put_number_line, put_words};
 pub use summary_lines::{Summary, put_salvaged_line, put_summary_lines};

@@ -1,5 +1,3 @@
 pub mod Running
-pub mod Framing
-pub mod Items
-pub mod Loop
+pub mod Ending
 pub mod Told

@@ -1,133 +1,141 @@
--- Runs, block by block.
-use Rattle.std.proofs.Common.{◌≡◌, ◌<◌, ℕ, cond, ◌+◌, ◌^◌, List, [], ◌∷◌, ◌++◌, length, map, refl, sym, ap, ◌∙◌, arith, append_assoc, append-nil, length-append}
-use Rattle.std.specs.Prelude.{true, false}
-use Rattle.std.specs.List.{flat_map, count_by}
-use Rattle.std.proofs.lemmas.List.{map-append}
-use Rattle.std.proofs.lemmas.List.Sums.{sum_by-append}
-use Rattle.std.proofs.lemmas.Grind.{flat_map-append}
+-- A run on its way: the stimulus read, its blocks run, and their frames written and shown.
+use Rattle.std.proofs.Common.{◌≡◌, ◌≤◌, ◌<◌, ℕ, List, [], ◌∷◌, ◌++◌, length, sym, ap, subst, ◌∙◌, arith, length-append}
+use Rattle.std.specs.Prelude.{false, Option, Some, None, Result, Ok, Err}
 use Rattle.det_values.specs.Values.{ProfileValue}
-use Rattle.det_edges.proofs.Growth.{grew-none, grew-then}
-use Rattle.det_values.specs.declared.format.Format.{Format}
 use Rattle.det_values.specs.declared.frames.CycleInput.{CycleInput}
 use Rattle.det_values.specs.declared.frames.RunFrame.{RunFrame}
-use Rattle.det_values.specs.declared.frames.Frame.{Frame}
-use Rattle.det_values.specs.declared.frames.Frame.TheVariants.{Register, Discover, Init, Run, Terminate}
+use Rattle.det_values.specs.declared.frames.Frame.TheVariants.{Run}
+use Rattle.det_edges.specs.Sink.{Grew}
+use Rattle.det_edges.specs.Shelf.{ShelfState, Reads, IsAtEnd}
+use Rattle.det_edges.specs.Traffic.{ShelfRun, SinkRun, ShelfTraffic, SinkTraffic, failure_in}
+use Rattle.det_edges.specs.declared.failure.Failure.{Failure}
+use Rattle.det_edges.specs.declared.failure.Failure.TheVariants.{Read, Write, OutOfMemory}
+use Rattle.det_edges.specs.declared.failure.Stopped.{Stopped}
+use Rattle.det_edges.specs.declared.failure.Stopped.TheVariants.{Refused, Failed}
+use Rattle.det_edges.proofs.Growth.{grew-then}
+use Rattle.det_edges.proofs.SlotReads.{reads-none, reads-then}
 use Rattle.job_trait.specs.Meaning.{Meaning}
-use Rattle.cycle_engine.specs.Engine.{EngineState, StandsFor as EngineStands}
-use Rattle.cycle_engine.specs.Frames.{first_state, state_of, runs, runs_behind, frame_of, init_of}
-use Rattle.cycle_engine.proofs.Standing.{state_behind-append, runs_behind-append}
-use Rattle.record_grammar.specs.Spelling.{spelled, spelled_header, spelled_frame}
-use Rattle.probes.specs.Reports.{ProbeLife}
-use Rattle.probes.specs.Shipped.{is_refused}
+use Rattle.cycle_engine.specs.Frames.{runs, frame_of, state_of}
+use Rattle.cycle_engine.proofs.Standing.{runs-append}
+use Rattle.record_grammar.specs.Spelling.{spelled_frame}
+use Rattle.stimulus.specs.declared.item.StimFault.{StimFault}
+use Rattle.probes.specs.Reports.{AudienceState}
+use Rattle.probes.specs.Shows.{Shows}
 use Rattle.probes.proofs.Shown.{shows-none, shows-then}
-use Rattle.recorder.specs.declared.ends.Counts.{Counts}
-use Rattle.recorder.specs.Record.{spelled_runs, counted, record_with, opening, runs_after}
-use Rattle.recorder.specs.Runs.{Ran}
+use Rattle.run_writer.specs.declared.counts.Counts.{Counts}
+use Rattle.run_writer.specs.declared.recording.Recording.{Recording}
+use Rattle.run_writer.specs.Record.{record_with, opening}
+use Rattle.run_writer.specs.Recording.{Cuts, Stands, Ran}
+use Rattle.run_writer.proofs.Growing.{runs-none, record-opened, record-next}
+use Rattle.stimulus_reader.specs.declared.reader.StimulusReader.{StimulusReader}
+use Rattle.stimulus_reader.specs.StandsFor.{StandsFor, InputIs, ReadsIfNeeded, slot_of, events_of}
 
--- counts
+-- what the reader answers, of all that it stands for
+abbrev pub Answered : Result (Option CycleInput) (Stopped StimFault) → ShelfState → ShelfState → StimulusReader → StimulusReader → Type 0
+Answered answer mid now old new = (more : List ℕ) × Reads mid now (slot_of old) more
+    × ((read : List ℕ) (given : List CycleInput) → StandsFor old read given
+    → ReadsIfNeeded (events_of old) read given more × InputIs answer new (IsAtEnd now (slot_of old)) (read ++ more) given)
 
-pub refusals-append : (xs ys : List RunFrame) → count_by is_refused (xs ++ ys) ≡ count_by is_refused xs + count_by is_refused ys
-refusals-append xs ys = sum_by-append (λ run. cond (is_refused run) 1 0) xs ys
-
-pub counted-twice : (n a b : ℕ) → counted (counted (n + a) + b) ≡ counted (n + (a + b))
-counted-twice n a b = omega arith
-
--- spelling
-
-pub spelled_runs-append : (format : Format) (xs ys : List RunFrame) → spelled_runs format (xs ++ ys) ≡ spelled_runs format xs ++ spelled_runs format ys
-spelled_runs-append format xs ys =
-    ap (flat_map (spelled_frame format)) (map-append (λ run. Run run) xs ys)
-    ∙ flat_map-append (spelled_frame format) (map (λ run. Run run) xs) (map (λ run. Run run) ys)
-
-pub spelled_runs-one : (format : Format) (run : RunFrame) → spelled_runs format (run ∷ []) ≡ spelled_frame format (Run run)
-spelled_runs-one format run = append-nil (spelled_frame format (Run run))
+pub answered-as : (answer other : Result (Option CycleInput) (Stopped StimFault)) (mid now : ShelfState) (old new : StimulusReader)
+    → answer ≡ other
+    → Answered answer mid now old new → Answered other mid now old new
+answered-as answer other mid now old new is h = subst (λ a. Answered a mid now old new) is h
 
 module _ {S G E L P : Type 0} (m : Meaning S G E L P) (profile : ProfileValue) where
-  -- runs
+  -- these bytes were read, and these inputs run
+  pub record Running (first now : ShelfState) (slot : ℕ) (before took : List ℕ → Type 0) (audience seeing : AudienceState)
+      (reader : StimulusReader) (recording : Recording S G E L P) (read : List ℕ) (given : List CycleInput) : Type 0 where
+    pub reads : Reads first now slot read
+    pub fed : StandsFor reader read given
+    pub stands : Stands m recording given
+    pub grew : Grew before took (record_with m profile given false)
+    pub shown : Shows audience seeing (runs m profile given)
 
-  pub runs_after-none : (given : List CycleInput) → runs_after m profile given [] ≡ []
-  unfolding runs_after runs_behind
-  runs_after-none given = refl
+  -- the frame of the run behind these inputs
+  abbrev pub next_run : List CycleInput → CycleInput → RunFrame
+  next_run given input = frame_of m profile given (state_of m profile given) input
 
-  pub runs_after-one : (given : List CycleInput) (input : CycleInput) → runs_after m profile given (input ∷ []) ≡ frame_of m profile given (state_of m profile given) input ∷ []
-  unfolding runs_after runs_behind
-  runs_after-one given input = refl
-
-  pub runs_after-append : (given xs ys : List CycleInput) → runs_after m profile given (xs ++ ys) ≡ runs_after m profile given xs ++ runs_after m profile (given ++ xs) ys
-  unfolding runs_after
-  runs_after-append given xs ys =
-      runs_behind-append m profile given xs ys (state_of m profile given)
-      ∙ ap (λ s. runs_behind m profile given (state_of m profile given) xs ++ runs_behind m profile (given ++ xs) s ys)
-      (sym (state_behind-append m profile [] given xs (first_state m profile)))
-
-  pub runs-more : (given more : List CycleInput) → runs m profile (given ++ more) ≡ runs m profile given ++ runs_after m profile given more
-  unfolding runs_after
-  runs-more given more = runs_behind-append m profile [] given more (first_state m profile)
-
-  pub frames-more : (given xs ys : List CycleInput) → spelled_runs profile.format (runs_after m profile given (xs ++ ys))
-      ≡ spelled_runs profile.format (runs_after m profile given xs) ++ spelled_runs profile.format (runs_after m profile (given ++ xs) ys)
-  frames-more given xs ys =
-      ap (spelled_runs profile.format) (runs_after-append given xs ys)
-      ∙ spelled_runs-append profile.format (runs_after m profile given xs) (runs_after m profile (given ++ xs) ys)
-
-  pub frames-one : (given : List CycleInput) (input : CycleInput) → spelled_runs profile.format (runs_after m profile given (input ∷ [])) ≡ spelled_frame profile.format (Run (frame_of m profile given (state_of m profile given) input))
-  frames-one given input = ap (spelled_runs profile.format) (runs_after-one given input) ∙ spelled_runs-one profile.format _
-
-  -- the record, input by input
-
-  pub record-more : (given more : List CycleInput) → record_with m profile (given ++ more) false ≡ record_with m profile given false ++ spelled_runs profile.format (runs_after m profile given more)
-  unfolding record_with
-  record-more given more =
-      let opens : List Frame = Register ∷ Discover ∷ Init (init_of m profile) ∷ [] in
-      let front : List Frame = opens ++ map (λ run. Run run) (runs m profile given) in
-      let behind : List Frame = map (λ run. Run run) (runs_after m profile given more) in
-      let all : opens ++ map (λ run. Run run) (runs m profile (given ++ more)) ≡ front ++ behind =
-      ap (λ rs. opens ++ map (λ run. Run run) rs) (runs-more given more)
-      ∙ ap (λ fs. opens ++ fs) (map-append (λ run. Run run) (runs m profile given) (runs_after m profile given more)) in
-      ap (λ fs. spelled profile fs) (append-nil (opens ++ map (λ run. Run run) (runs m profile (given ++ more))) ∙ all)
-      ∙ ap (λ s. spelled_header profile ++ s) (flat_map-append (spelled_frame profile.format) front behind)
-      ∙ sym (append_assoc (spelled_header profile) (flat_map (spelled_frame profile.format) front) (flat_map (spelled_frame profile.format) behind))
-      ∙ ap (λ fs. spelled profile fs ++ flat_map (spelled_frame profile.format) behind) (sym (append-nil front))
-
-  pub record-end : (inputs : List CycleInput) → record_with m profile inputs true ≡ record_with m profile inputs false ++ spelled_frame profile.format Terminate
-  unfolding record_with
-  record-end inputs =
-      let front : List Frame = (Register ∷ Discover ∷ Init (init_of m profile) ∷ []) ++ map (λ run. Run run) (runs m profile inputs) in
-      ap (λ s. spelled_header profile ++ s) (flat_map-append (spelled_frame profile.format) front (Terminate ∷ []))
-      ∙ sym (append_assoc (spelled_header profile) (flat_map (spelled_frame profile.format) front) (flat_map (spelled_frame profile.format) (Terminate ∷ [])))
-      ∙ ap (λ s. (spelled_header profile ++ flat_map (spelled_frame profile.format) front) ++ s) (append-nil (spelled_frame profile.format Terminate))
-      ∙ ap (λ fs. spelled profile fs ++ spelled_frame profile.format Terminate) (sym (append-nil front))
-
-  pub record-begin : record_with m profile [] false ≡ opening m profile
-  unfolding record_with opening runs_behind
-  record-begin = refl
-
-  -- blocks that were run
-
-  pub ran-none : (given : List CycleInput) (engine : EngineState S G E) (took : List ℕ → Type 0) (counts : Counts) (left : List ℕ) (probes : List ProbeLife)
-      → EngineStands m profile engine given → counts.bytes < 2 ^ 64 → Ran m profile given engine took took counts counts left probes left probes []
-  ran-none given engine took counts left probes stands fits = record {
-    stands = rw append-nil stands;
-    took = rw (runs_after-none given) (grew-none took);
-    refused = rw (runs_after-none given) (omega arith);
-    bytes = rw (runs_after-none given) (let n : counts.bytes ≡ counted (counts.bytes + 0) = omega arith in n);
-    shown = rw (runs_after-none given) (shows-none left probes);
+  pub running-opened : (shelf : ShelfState) (slot : ℕ) (before took : List ℕ → Type 0) (audience : AudienceState) (reader : StimulusReader)
+      (recording : Recording S G E L P)
+      → StandsFor reader [] [] → Stands m recording [] → Grew before took (opening m profile)
+      → Running shelf shelf slot before took audience audience reader recording [] []
+  running-opened shelf slot before took audience reader recording stands opened grew = record {
+    reads = reads-none shelf slot;
+    fed = stands;
+    stands = opened;
+    grew = subst (Grew before took) (sym (record-opened m profile)) grew;
+    shown = subst (Shows audience audience) (sym (runs-none m profile)) (shows-none audience);
   }
 
-  pub ran-then : (given : List CycleInput) (e1 e2 : EngineState S G E) (before mid after : List ℕ → Type 0) (c0 c1 c2 : Counts)
-      (left0 left1 left2 : List ℕ) (probes0 probes1 probes2 : List ProbeLife) (xs ys : List CycleInput)
-      → Ran m profile given e1 before mid c0 c1 left0 probes0 left1 probes1 xs → Ran m profile (given ++ xs) e2 mid after c1 c2 left1 probes1 left2 probes2 ys
-      → Ran m profile given e2 before after c0 c2 left0 probes0 left2 probes2 (xs ++ ys)
-  ran-then given e1 e2 before mid after c0 c1 c2 left0 left1 left2 probes0 probes1 probes2 xs ys p q =
-      let frames = frames-more given xs ys in
-      let runs_are = runs_after-append given xs ys in
-      let first = spelled_runs profile.format (runs_after m profile given xs) in
-      let second = spelled_runs profile.format (runs_after m profile (given ++ xs) ys) in
-      record {
-        stands = rw (← append_assoc) q.stands;
-        took = rw frames (grew-then p.took q.took);
-        refused = rw (runs_are, refusals-append) (let one = p.refused in let two = q.refused in omega arith);
-        bytes = q.bytes ∙ ap (λ n. counted (n + length second)) p.bytes ∙ counted-twice c0.bytes (length first) (length second)
-            ∙ ap (λ n. counted (c0.bytes + n)) (sym (ap length frames ∙ length-append first second));
-        shown = rw runs_are (shows-then p.shown q.shown);
-      }
+  -- the reader's answer, of all that was read
+  pub next-read : {first mid now : ShelfState} {slot : ℕ} {before took : List ℕ → Type 0} {audience seeing : AudienceState}
+      {reader : StimulusReader} {recording : Recording S G E L P} {read : List ℕ} {given : List CycleInput}
+      (next : StimulusReader) (answer : Result (Option CycleInput) (Stopped StimFault))
+      → Running first mid slot before took audience seeing reader recording read given
+      → Answered answer mid now reader next → slot_of reader ≡ slot
+      → (all : List ℕ) × Reads first now slot all × InputIs answer next (IsAtEnd now slot) all given
+  next-read {mid = mid} {now = now} {read = read} {given = given} next answer running h same = (
+    read ++ h.0,
+    reads-then running.reads (subst (λ s. Reads mid now s h.0) same h.1),
+    subst (λ s. InputIs answer next (IsAtEnd now s) (read ++ h.0) given) same (h.2 read given running.fed).1,
+  )
+
+  -- one input more was run
+  pub frames-next : {first mid : ShelfState} {slot : ℕ} {before took after : List ℕ → Type 0} {audience seeing : AudienceState}
+      {reader : StimulusReader} {recording : Recording S G E L P} {read : List ℕ} {given : List CycleInput} (input : CycleInput)
+      (run : RunFrame)
+      → Running first mid slot before took audience seeing reader recording read given
+      → run ≡ next_run given input → Grew took after (spelled_frame profile.format (Run run))
+      → Grew before after (record_with m profile (given ++ input ∷ []) false)
+  frames-next {before = before} {after = after} {given = given} input run running is grew =
+      subst (Grew before after)
+      (ap (λ r. record_with m profile given false ++ spelled_frame profile.format (Run r)) is ∙ sym (record-next m profile given input))
+      (grew-then running.grew grew)
+
+  pub runs-next : (given : List CycleInput) (input : CycleInput) (run : RunFrame) → run ≡ next_run given input → runs m profile given
+      ++ run ∷ [] ≡ runs m profile (given ++ input ∷ [])
+  runs-next given input run is = ap (λ r. runs m profile given ++ r ∷ []) is ∙ sym (runs-append m profile given input)
+
+  -- and shown
+  pub running-next : {first mid now : ShelfState} {slot : ℕ} {before took after : List ℕ → Type 0} {audience seeing last : AudienceState}
+      {reader : StimulusReader} {recording : Recording S G E L P} {read : List ℕ} {given : List CycleInput} (next : StimulusReader)
+      (ran : Recording S G E L P) (input : CycleInput) (run : RunFrame)
+      → Running first mid slot before took audience seeing reader recording read given
+      → Answered (Ok (Some input)) mid now reader next → slot_of reader ≡ slot
+      → Ran m profile given input ran run took after → Shows seeing last (run ∷ [])
+      → (all : List ℕ) × Running first now slot before after audience last next ran all (given ++ input ∷ [])
+  running-next {audience = audience} {last = last} {given = given} next ran input run running h same one shows =
+      let n = next-read next (Ok (Some input)) running h same in (
+        n.0,
+        record {
+          reads = n.1;
+          fed = n.2.0;
+          stands = one.stands;
+          grew = frames-next input run running one.run one.took;
+          shown = subst (Shows audience last) (runs-next given input run one.run) (shows-then running.shown shows);
+        },
+      )
+
+  -- fewer than 1,000,000 cycles were run before the next one
+  pub few-cycles : {first mid : ShelfState} {slot : ℕ} {before took : List ℕ → Type 0} {audience seeing : AudienceState}
+      {reader : StimulusReader} {recording : Recording S G E L P} {read : List ℕ} {given : List CycleInput} (input : CycleInput)
+      → Running first mid slot before took audience seeing reader recording read given
+      → length (given ++ input ∷ []) ≤ 1000000 → recording.engine.cycles < 1000000
+  few-cycles {given = given} input running few =
+      let cycles = running.stands.engine.cycles in let one = length-append given (input ∷ []) in omega arith
+
+-- no write failed where the reader stopped
+pub no-write : (why : Stopped StimFault) (next : StimulusReader) (at_end : Type 0) (read : List ℕ) (given : List CycleInput)
+    (sink : SinkRun)
+    → InputIs (Err why) next at_end read given → SinkTraffic sink None → SinkTraffic sink (failure_in {A = Counts} (Err why))
+no-write (Refused fault) next at_end read given sink h t = t
+no-write (Failed Read) next at_end read given sink h t = record { cause = λ e. cc; counted = t.counted }
+no-write (Failed Write) next at_end read given sink h t = absurd h
+no-write (Failed OutOfMemory) next at_end read given sink h t = record { cause = λ e. cc; counted = t.counted }
+
+-- no read failed where a frame wasn't written
+pub no-read : (failure : Failure) (before after : List ℕ → Type 0) (bytes : List ℕ) (shelf : ShelfRun)
+    → Cuts failure before after bytes → ShelfTraffic shelf None → ShelfTraffic shelf (Some failure)
+no-read Read before after bytes shelf h t = absurd h
+no-read Write before after bytes shelf h t = record { cause = λ e. cc; counted = t.counted; stays = t.stays }
+no-read OutOfMemory before after bytes shelf h t = record { cause = λ e. cc; counted = t.counted; stays = t.stays }

@@ -1,30 +1,26 @@
 -- How a recorded run ends.
 use Rattle.std.specs.Prelude.{◌≡◌, ◌⊎◌, ℕ, List, [], ◌++◌, length, true, false, Result, Ok, Err}
-use Rattle.std.specs.List.{count_by}
 use Rattle.det_values.specs.Values.{ProfileValue}
 use Rattle.det_edges.specs.Sink.{Grew, GrewByPrefix, GrewShort}
-use Rattle.det_values.specs.declared.frames.RunFrame.{RunFrame}
+use Rattle.det_edges.specs.declared.failure.Failure.TheVariants.{Read, Write, OutOfMemory}
+use Rattle.det_edges.specs.declared.failure.Stopped.{Stopped}
+use Rattle.det_edges.specs.declared.failure.Stopped.TheVariants.{Refused, Failed}
 use Rattle.job_trait.specs.Meaning.{Meaning}
 use Rattle.cycle_engine.specs.Frames.{runs}
+use Rattle.stimulus.specs.declared.item.StimFault.{StimFault}
 use Rattle.stimulus.specs.Reading.{Terminated, BadLine, blocks, ending, has_bad}
-use Rattle.probes.specs.Shipped.{is_refused}
-use Rattle.recorder.specs.declared.ends.Counts.{Counts}
-use Rattle.recorder.specs.declared.ends.RecordEnd.{RecordEnd}
-use Rattle.recorder.specs.declared.ends.RecordEnd.TheVariants.{Stimulus, ReadFault, WriteFault, OutOfMemory}
-use Rattle.recorder.specs.Record.{record_of, record_with, counted}
-
--- the counts of a record with these runs
-pub record Counted (counts : Counts) (done : List RunFrame) (spelling : List ℕ) : Type 0 where
-  pub cycles : counts.cycles ≡ length done
-  pub refused : counts.refused ≡ count_by is_refused done
-  pub bytes : counts.bytes ≡ counted (length spelling)
+use Rattle.run_writer.specs.declared.counts.Counts.{Counts}
+use Rattle.run_writer.specs.Record.{Counted, record_with}
+use Rattle.recorder.specs.Record.{record_of}
 
 module _ {S G E L P : Type 0} (m : Meaning S G E L P) (profile : ProfileValue) where
   -- the text is a whole stimulus, and all of its record was taken
-  pub record Finishes (text : List ℕ) (counts : Counts) (before after : List ℕ → Type 0) : Type 0 where
+  pub record Finishes (text : List ℕ) (counts : Counts) (before after : List ℕ → Type 0)
+      : Type 0 where
     pub good : ending (length profile.events) text ≡ Terminated
     pub grew : Grew before after (record_of m profile text)
-    pub counted : Counted counts (runs m profile (blocks (length profile.events) text)) (record_of m profile text)
+    pub counted : Counted counts (runs m profile (blocks (length profile.events) text))
+        (record_of m profile text)
 
   -- the text has this bad line, and all of the record before it was taken
   pub record Stops (text : List ℕ) (line : ℕ) (before after : List ℕ → Type 0) : Type 0 where
@@ -32,23 +28,33 @@ module _ {S G E L P : Type 0} (m : Meaning S G E L P) (profile : ProfileValue) w
     pub grew : Grew before after (record_of m profile text)
 
   -- what an answer says of a text and of what the sink took
-  abbrev pub Answers : Result Counts RecordEnd → List ℕ → (List ℕ → Type 0) → (List ℕ → Type 0) → Type 0
+  abbrev pub Answers : Result Counts (Stopped StimFault) → List ℕ → (List ℕ → Type 0)
+      → (List ℕ → Type 0) → Type 0
   Answers (Ok counts) text before after = Finishes text counts before after
-  Answers (Err (Stimulus line)) text before after = Stops text line before after
-  Answers (Err ReadFault) text before after = GrewByPrefix before after (record_of m profile text)
-  Answers (Err WriteFault) text before after = GrewShort before after (record_of m profile text)
-  Answers (Err OutOfMemory) text before after = GrewByPrefix before after (record_of m profile text)
+  Answers (Err (Refused fault)) text before after = Stops text fault.line before after
+  Answers (Err (Failed Read)) text before after =
+      GrewByPrefix before after (record_of m profile text)
+  Answers (Err (Failed Write)) text before after = GrewShort before after (record_of m profile text)
+  Answers (Err (Failed OutOfMemory)) text before after =
+      GrewByPrefix before after (record_of m profile text)
 
-  -- how far a text was read: to its end, or as far as its bad line counts as fed; and what was written where a read failed
-  abbrev pub ReadsTo : Result Counts RecordEnd → List ℕ → Type 0 → (List ℕ → Type 0) → (List ℕ → Type 0) → Type 0
+  -- How far a text was read: to its end, or as far as its bad line counts as fed; and what was
+  -- written where a read failed.
+  abbrev pub ReadsTo : Result Counts (Stopped StimFault) → List ℕ → Type 0 → (List ℕ → Type 0)
+      → (List ℕ → Type 0) → Type 0
   ReadsTo (Ok counts) read at_end before after = at_end
-  ReadsTo (Err (Stimulus line)) read at_end before after = (has_bad (length profile.events) read ≡ true) ⊎ at_end
-  ReadsTo (Err ReadFault) read at_end before after =
-      (has_bad (length profile.events) read ≡ false) × Grew before after (record_with m profile (blocks (length profile.events) read) false)
-  ReadsTo (Err WriteFault) read at_end before after = Unit {0}
-  ReadsTo (Err OutOfMemory) read at_end before after = Unit {0}
+  ReadsTo (Err (Refused fault)) read at_end before after =
+      (has_bad (length profile.events) read ≡ true) ⊎ at_end
+  ReadsTo (Err (Failed Read)) read at_end before after =
+      (has_bad (length profile.events) read ≡ false)
+      × Grew before after (record_with m profile (blocks (length profile.events) read) false)
+  ReadsTo (Err (Failed Write)) read at_end before after = Unit {0}
+  ReadsTo (Err (Failed OutOfMemory)) read at_end before after = Unit {0}
 
-  -- The answer after these bytes were read. It holds of every text that begins with them, or of them alone at the end.
-  pub record Ended (result : Result Counts RecordEnd) (read : List ℕ) (at_end : Type 0) (before after : List ℕ → Type 0) : Type 0 where
+  -- The answer after these bytes were read. It holds of every text that begins with them, or of
+  -- them alone at the end.
+  pub record Ended (result : Result Counts (Stopped StimFault)) (read : List ℕ) (at_end : Type 0)
+      (before after : List ℕ → Type 0) : Type 0 where
     pub reads_to : ReadsTo result read at_end before after
-    pub answers : (rest : List ℕ) → (at_end → rest ≡ []) → Answers result (read ++ rest) before after
+    pub answers : (rest : List ℕ) → (at_end → rest ≡ [])
+        → Answers result (read ++ rest) before after

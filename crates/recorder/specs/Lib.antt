@@ -1,4 +1,4 @@
 pub mod Record
 pub mod Ends
 pub mod Recorded
-pub mod Runs
+pub mod Begun

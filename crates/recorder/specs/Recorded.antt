@@ -1,31 +1,69 @@
--- What a recording says of the text that a slot had left, of the sink and of the probes.
-use Rattle.std.specs.Prelude.{◌≡◌, ℕ, List, [], ◌++◌, length, Result, Err, IfSome, IfOk, OnOk}
+-- What a recording says of the text that a slot had left, of the sink and of the audience.
+use Rattle.std.specs.Prelude.{◌≡◌, ◌⊎◌, ℕ, List, [], length, false, Result, Ok, Err, IfSome, IfOk, OnOk}
 use Rattle.det_values.specs.Values.{ProfileValue}
-use Rattle.det_edges.specs.Shelf.{ShelfState, Reads, IsAtEnd}
-use Rattle.det_edges.specs.Sink.{GrewByPrefix}
+use Rattle.det_values.specs.declared.frames.CycleInput.{CycleInput}
+use Rattle.det_edges.specs.Prefix.{IsPrefix}
+use Rattle.det_edges.specs.Shelf.{Reads, IsAtEnd}
+use Rattle.det_edges.specs.Sink.{Grew, GrewByPrefix}
+use Rattle.det_edges.specs.Traffic.{ShelfRun, SinkRun}
+use Rattle.det_edges.specs.declared.failure.Failure.TheVariants.{Read, Write, OutOfMemory}
+use Rattle.det_edges.specs.declared.failure.Stopped.{Stopped}
+use Rattle.det_edges.specs.declared.failure.Stopped.TheVariants.{Refused, Failed}
 use Rattle.job_trait.specs.Meaning.{Meaning}
 use Rattle.cycle_engine.specs.Frames.{runs}
+use Rattle.stimulus.specs.declared.item.StimFault.{StimFault}
 use Rattle.stimulus.specs.Reading.{blocks}
-use Rattle.probes.specs.Reports.{ProbeLife, reports}
-use Rattle.probes.specs.Shows.{Shows}
-use Rattle.recorder.specs.declared.ends.Counts.{Counts}
-use Rattle.recorder.specs.declared.ends.RecordEnd.{RecordEnd}
-use Rattle.recorder.specs.declared.ends.RecordEnd.TheVariants.{Stimulus}
+use Rattle.probes.specs.Reports.{AudienceState, reported}
+use Rattle.probes.specs.Shows.{Shows, ShowsFirst}
+use Rattle.run_writer.specs.declared.counts.Counts.{Counts}
+use Rattle.run_writer.specs.Record.{record_with}
 use Rattle.recorder.specs.Record.{record_of}
 use Rattle.recorder.specs.Ends.{Finishes, Stops, Ended}
 
+-- this holds unless a write failed or memory couldn't be had
+abbrev pub UnlessCut : Result Counts (Stopped StimFault) → Type 0 → Type 0
+UnlessCut (Ok counts) fact = fact
+UnlessCut (Err (Refused fault)) fact = fact
+UnlessCut (Err (Failed Read)) fact = fact
+UnlessCut (Err (Failed Write)) fact = Unit {0}
+UnlessCut (Err (Failed OutOfMemory)) fact = Unit {0}
+
 module _ {S G E L P : Type 0} (m : Meaning S G E L P) (profile : ProfileValue) where
-  pub record IsRecorded (slot : ℕ) (first last : ShelfState) (before after : List ℕ → Type 0)
-      (seeing stayed : List ProbeLife) (left : List ℕ) (result : Result Counts RecordEnd) : Type 0 where
+  -- the sink took the frames of the runs of all these inputs, where there is one
+  abbrev pub TookAll : List CycleInput → (List ℕ → Type 0) → (List ℕ → Type 0) → Type 0
+  TookAll inputs before after = (inputs ≡ [])
+      ⊎ ((bytes : List ℕ) × IsPrefix (record_with m profile inputs false) bytes
+      × Grew before after bytes)
+
+  -- first runs were shown, whose frames the sink took, and all unless the record was cut off
+  pub record IsShown (read : List ℕ) (before after : List ℕ → Type 0)
+      (audience last : AudienceState) (result : Result Counts (Stopped StimFault)) : Type 0 where
+    pub inputs : List CycleInput
+    pub first : IsPrefix inputs (blocks (length profile.events) read)
+    pub taken : TookAll inputs before after
+    pub shown : ShowsFirst audience last (runs m profile inputs)
+    pub whole : UnlessCut result
+        (Shows audience last (runs m profile (blocks (length profile.events) read)))
+
+  -- what was read of the text, and what the sink took and the audience was shown
+  abbrev pub HasRun : ℕ → ShelfRun → SinkRun → AudienceState → AudienceState
+      → Result Counts (Stopped StimFault) → Type 0
+  HasRun slot shelf sink audience last result =
+      (read : List ℕ) × Reads shelf.first shelf.last slot read
+      × Ended m profile result read (IsAtEnd shelf.last slot) sink.before sink.after
+      × IsShown read sink.before sink.after audience last result
+
+  pub record IsRecorded (slot : ℕ) (shelf : ShelfRun) (sink : SinkRun)
+      (audience last : AudienceState) (result : Result Counts (Stopped StimFault)) : Type 0 where
     -- where the shelf tells the text: it was recorded whole, or up to its bad line, or in part
-    pub ok : IfSome (first.left slot) (λ text. IfOk result (λ counts.
-        Finishes m profile text counts before after))
-    pub stimulus : IfSome (first.left slot) (λ text. (line : ℕ) → result ≡ Err (Stimulus line)
-        → Stops m profile text line before after)
-    pub part : IfSome (first.left slot) (λ text. GrewByPrefix before after (record_of m profile text))
-    pub probes : IfSome (first.left slot) (λ text. OnOk result (left ++ reports stayed []
-        ≡ reports seeing (runs m profile (blocks (length profile.events) text))))
+    pub ok : IfSome (shelf.first.left slot) (λ text. IfOk result (λ counts.
+        Finishes m profile text counts sink.before sink.after))
+    pub stimulus : IfSome (shelf.first.left slot) (λ text. (fault : StimFault)
+        → result ≡ Err (Refused fault)
+        → Stops m profile text fault.line sink.before sink.after)
+    pub part : IfSome (shelf.first.left slot) (λ text.
+        GrewByPrefix sink.before sink.after (record_of m profile text))
+    pub reports : IfSome (shelf.first.left slot) (λ text. OnOk result (reported last []
+        ≡ reported audience (runs m profile (blocks (length profile.events) text))))
     -- what was read, also where the shelf tells nothing
-    pub run : (read : List ℕ) × Reads first last slot read
-        × Ended m profile result read (IsAtEnd last slot) before after
-        × OnOk result (Shows [] seeing left stayed (runs m profile (blocks (length profile.events) read)))
+    pub run : HasRun slot shelf sink audience last result

@@ -1,5 +1,6 @@
 -- The records of `record` and of `demo` are read.
-use Rattle.std.proofs.Common.{◌≡◌, ℕ, ℤ, pos, List, [], ◌∷◌, length, Option, Some, None, Result, Ok, Err, refl, sym, ap, subst, arith, codes}
+use Rattle.std.proofs.Common.{◌≡◌, ℕ, ℤ, pos, List, [], ◌∷◌, length, Option, Some, None, Result, Ok, Err, refl, sym, ap, subst, arith}
+use Rattle.std.proofs.Common.{codes}
 use Rattle.std.specs.Prelude.{FitsSigned}
 use Rattle.std.specs.Int.{w64}
 use Rattle.std.specs.Option.{unwrap_or}
@@ -22,11 +23,11 @@ use Rattle.job_guard.specs.Ranges as guard_ranges
 use Rattle.job_guard.specs.Laws.{guard_laws}
 use Rattle.record_grammar.specs.Spelling.{IsHeader, IsEvent}
 use Rattle.manifest.specs.Values.{ManifestValue}
-use Rattle.manifest.specs.Meaning.{manifest_of}
 use Rattle.manifest.specs.Profiles.{profile_of}
 use Rattle.manifest.specs.declared.fault.ManifestFault.{ManifestFault}
 use Rattle.cli_answers.specs.declared.answer.BadManifest.{BadManifest}
-use Rattle.cmd_setup.specs.Setup.{bad_param, unless_bad, setup_from}
+use Rattle.cmd_setup.specs.Setup.{bad_param, unless_bad, setup_from, manifest_by}
+use Rattle.run_laws.proofs.Strictly.{taken_too}
 use Rattle.cmd_record.specs.Outcomes.{demo_profile, demo_outcome, recorded_by_kind, recorded_by}
 use Rattle.run_laws.specs.Statements.{frames_by_kind, IsRecordRead, RecordIsRead, DemoIsRead}
 use Rattle.run_laws.proofs.Shipped.{bank_spelled, cloud_spelled, guard_spelled}
@@ -37,9 +38,12 @@ use Rattle.run_laws.proofs.Reading.{record_is_read}
 -- the record of a good header, by the kind of its job
 kind_is_read : (kind : JobKind) (profile : ProfileValue) → IsHeader profile → (stimulus : List ℕ)
     → IsRecordRead profile (frames_by_kind kind profile) stimulus (recorded_by_kind kind profile stimulus).bytes
-kind_is_read Bank profile header stimulus = record_is_read bank.meaning bank_ranges.Covers bank_ranges.Own bank_ranges.Fit bank_laws bank_spelled profile header stimulus
-kind_is_read Cloud profile header stimulus = record_is_read cloud.meaning cloud_ranges.Covers cloud_ranges.Own cloud_ranges.Fit cloud_laws cloud_spelled profile header stimulus
-kind_is_read Guard profile header stimulus = record_is_read guard.meaning guard_ranges.Covers guard_ranges.Own guard_ranges.Fit guard_laws guard_spelled profile header stimulus
+kind_is_read Bank profile header stimulus =
+    record_is_read bank.meaning bank_ranges.Covers bank_ranges.Own bank_ranges.Fit bank_laws bank_spelled profile header stimulus
+kind_is_read Cloud profile header stimulus =
+    record_is_read cloud.meaning cloud_ranges.Covers cloud_ranges.Own cloud_ranges.Fit cloud_laws cloud_spelled profile header stimulus
+kind_is_read Guard profile header stimulus =
+    record_is_read guard.meaning guard_ranges.Covers guard_ranges.Own guard_ranges.Fit guard_laws guard_spelled profile header stimulus
 
 params_fit : (kind : JobKind) (params : List ℤ) (events : ℕ) → bad_param kind params events ≡ None → All (FitsSigned w64) params
 params_fit Bank params events good = bank_fits params events good
@@ -51,7 +55,8 @@ record IsTaken (read : Result ManifestValue ManifestFault) (m : ManifestValue) :
   said : read ≡ Ok m
   good : bad_param m.kind m.params (length m.events) ≡ None
 
-unless_taken : (bad : Option ℕ) (n m : ManifestValue) → bad_param n.kind n.params (length n.events) ≡ bad → unless_bad bad n ≡ Ok m → IsTaken (Ok n) m
+unless_taken : (bad : Option ℕ) (n m : ManifestValue) → bad_param n.kind n.params (length n.events) ≡ bad → unless_bad bad n ≡ Ok m
+    → IsTaken (Ok n) m
 unless_taken (Some index) n m is e = absurd cc
 unless_taken None n m is e = let same : n ≡ m = cc in
     record { said = ap Ok same; good = subst (λ (x : ManifestValue). bad_param x.kind x.params (length x.events) ≡ None) same is }
@@ -61,11 +66,14 @@ is_taken (Err fault) m e = absurd cc
 is_taken (Ok n) m e = unless_taken (bad_param n.kind n.params (length n.events)) n m refl e
 
 pub record_read : RecordIsRead
-record_read manifest stimulus seed m small set =
-    let taken = is_taken (manifest_of manifest) m set in
-    let header = header_is manifest m (unwrap_or seed 0) small taken.said (params_fit m.kind m.params (length m.events) taken.good) in
+record_read strict manifest stimulus seed m small set =
+    let taken = is_taken (manifest_by strict manifest) m set in
+    let header =
+    header_is manifest m (unwrap_or seed 0) small (taken_too strict manifest m taken.said)
+    (params_fit m.kind m.params (length m.events) taken.good) in
     let profile : ProfileValue = profile_of m (unwrap_or seed 0) in
-    let Reads : Result ManifestValue BadManifest → Type 0 = λ r. IsRecordRead profile (frames_by_kind m.kind profile) stimulus (recorded_by (unwrap_or seed 0) stimulus r).bytes in
+    let Reads : Result ManifestValue BadManifest → Type 0 =
+    λ r. IsRecordRead profile (frames_by_kind m.kind profile) stimulus (recorded_by (unwrap_or seed 0) stimulus r).bytes in
     subst Reads (sym set) (kind_is_read m.kind profile header stimulus)
 
 -- ---- the built-in profile

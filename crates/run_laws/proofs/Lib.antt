@@ -8,6 +8,8 @@ mod Inputs
 mod Keys
 mod Parameters
 mod Headers
+mod Strictly
 mod Unended
 mod Reading
 mod Commands
+mod Shown

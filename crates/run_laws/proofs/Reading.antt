@@ -10,7 +10,8 @@ use Rattle.record_grammar.specs.Spelling.{IsHeader, IsInput}
 use Rattle.record_laws.proofs.Spelled.{spelled_is_read}
 use Rattle.stimulus.specs.Reading.{blocks, ending}
 use Rattle.stimulus.proofs.Counting.{few_blocks}
-use Rattle.recorder.specs.Record.{is_terminated, record_with, record_of}
+use Rattle.run_writer.specs.Record.{record_with}
+use Rattle.recorder.specs.Record.{is_terminated, record_of}
 use Rattle.run_laws.specs.Statements.{IsRunRead, IsRecordRead}
 use Rattle.run_laws.proofs.SpelledJob.{IsSpelledJob}
 use Rattle.run_laws.proofs.Inputs.{all_held}
@@ -31,7 +32,8 @@ module _ {S G E L P : Type 0} (m : Meaning S G E L P) (Covers : S → P → ℕ 
       let read = spelled_is_read profile (frames m profile inputs false) (record_with m profile inputs false) s in
       record {
         items = read.items;
-        fault = ends_early profile (init_of m profile) (runs m profile inputs) (frames m profile inputs false) (record_with m profile inputs false) (append-nil _) s;
+        fault = ends_early profile (init_of m profile) (runs m profile inputs) (frames m profile inputs false)
+            (record_with m profile inputs false) (append-nil _) s;
       }
 
   pub record_is_read : (stimulus : List ℕ) → IsRecordRead profile (frames m profile) stimulus (record_of m profile stimulus)

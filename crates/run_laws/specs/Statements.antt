@@ -1,5 +1,6 @@
 -- What the record of a run is read as.
-use Rattle.std.specs.Prelude.{◌≡◌, ℕ, ◌^◌, ◌<◌, List, length, Bool, true, false, Option, Some, None, Ok}
+use Rattle.std.specs.Prelude.{◌≡◌, ℕ, ◌^◌, ◌<◌, List, length, Bool, true, false, Option, Some, None}
+use Rattle.std.specs.Prelude.{Ok}
 use Rattle.std.specs.Option.{unwrap_or}
 use Rattle.det_values.specs.declared.frames.CycleInput.{CycleInput}
 use Rattle.det_values.specs.declared.frames.Frame.{Frame}
@@ -20,6 +21,11 @@ use Rattle.manifest.specs.Values.{ManifestValue}
 use Rattle.manifest.specs.Profiles.{profile_of}
 use Rattle.cmd_setup.specs.Setup.{setup_of}
 use Rattle.cmd_record.specs.Outcomes.{demo_profile, demo_outcome, record_outcome}
+use Rattle.probes.specs.Reports.{AudienceState}
+use Rattle.record_text.specs.declared.part.ShowPart.TheVariants.{All}
+use Rattle.record_show.specs.Text.{text_from}
+use Rattle.cli_answers.specs.Outcome.{Outcome}
+use Rattle.cmd_show.specs.Show.{by_fault, show_outcome}
 
 -- the frames of a run, by the kind of its job
 abbrev pub frames_by_kind : JobKind → ProfileValue → List CycleInput → Bool → List Frame
@@ -33,21 +39,61 @@ fault_if true bytes = None
 fault_if false bytes = Some (record { offset = length bytes; reason = Truncated })
 
 -- bytes are read as a profile and the frames of a run, and as nothing else
-pub record IsRunRead (profile : ProfileValue) (run : List Frame) (ended : Bool) (bytes : List ℕ) : Type 0 where
+pub record IsRunRead (profile : ProfileValue) (run : List Frame) (ended : Bool) (bytes : List ℕ)
+    : Type 0 where
   pub items : items bytes ≡ items_of profile run
   pub fault : fault bytes ≡ fault_if ended bytes
 
 -- the same of the run over the blocks of a stimulus, ended where the stimulus is
-abbrev pub IsRecordRead : ProfileValue → (List CycleInput → Bool → List Frame) → List ℕ → List ℕ → Type 0
+abbrev pub IsRecordRead : ProfileValue → (List CycleInput → Bool → List Frame) → List ℕ → List ℕ
+    → Type 0
 IsRecordRead profile run stimulus bytes =
     let ended : Bool = is_terminated (ending (length profile.events) stimulus) in
     IsRunRead profile (run (blocks (length profile.events) stimulus) ended) ended bytes
 
 -- what `record` writes, where the manifest is taken; without a seed it is 0
 abbrev pub RecordIsRead : Type 0
-RecordIsRead = (manifest stimulus : List ℕ) (seed : Option ℕ) (m : ManifestValue) → unwrap_or seed 0 < 2 ^ 64 → setup_of manifest ≡ Ok m
-    → IsRecordRead (profile_of m (unwrap_or seed 0)) (frames_by_kind m.kind (profile_of m (unwrap_or seed 0))) stimulus (record_outcome manifest stimulus seed).bytes
+RecordIsRead = (strict : Bool) (manifest stimulus : List ℕ) (seed : Option ℕ) (m : ManifestValue)
+    → unwrap_or seed 0 < 2 ^ 64 → setup_of strict manifest ≡ Ok m
+    → IsRecordRead (profile_of m (unwrap_or seed 0))
+    (frames_by_kind m.kind (profile_of m (unwrap_or seed 0))) stimulus
+    (record_outcome strict manifest stimulus seed).bytes
 
 -- what `demo` writes
 abbrev pub DemoIsRead : Type 0
-DemoIsRead = (stimulus : List ℕ) → IsRecordRead demo_profile (frames bank.meaning demo_profile) stimulus (demo_outcome stimulus).bytes
+DemoIsRead =
+    (stimulus : List ℕ)
+    → IsRecordRead demo_profile (frames bank.meaning demo_profile) stimulus
+    (demo_outcome stimulus).bytes
+
+-- what `show` gives of the record of a run: the lines of its profile and of its frames, and, where
+-- it was ended, what an audience reports of its cycles
+abbrev pub shown_of : AudienceState → ProfileValue → List Frame → Option RecordFault → Outcome
+shown_of audience profile run end = record {
+  answer = by_fault end;
+  bytes = text_from All audience (items_of profile run) end;
+}
+
+-- the same of the run over the blocks of a stimulus
+abbrev pub IsRecordShown : ProfileValue → (List CycleInput → Bool → List Frame) → List ℕ → List ℕ
+    → Type 0
+IsRecordShown profile run stimulus bytes =
+    let ended : Bool = is_terminated (ending (length profile.events) stimulus) in
+    (audience : AudienceState) → show_outcome All audience bytes
+    ≡ shown_of audience profile (run (blocks (length profile.events) stimulus) ended)
+    (fault_if ended bytes)
+
+-- what `show` gives of what `record` writes, where the manifest is taken
+abbrev pub RecordIsShown : Type 0
+RecordIsShown =
+    (strict : Bool) (manifest stimulus : List ℕ) (seed : Option ℕ) (m : ManifestValue)
+    → unwrap_or seed 0 < 2 ^ 64 → setup_of strict manifest ≡ Ok m
+    → IsRecordShown (profile_of m (unwrap_or seed 0))
+    (frames_by_kind m.kind (profile_of m (unwrap_or seed 0))) stimulus
+    (record_outcome strict manifest stimulus seed).bytes
+
+-- and of what `demo` writes
+abbrev pub DemoIsShown : Type 0
+DemoIsShown =
+    (stimulus : List ℕ) → IsRecordShown demo_profile (frames bank.meaning demo_profile) stimulus
+    (demo_outcome stimulus).bytes

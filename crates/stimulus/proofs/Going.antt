@@ -1,5 +1,6 @@
 -- Reading on from a place.
-use Rattle.std.proofs.Common.{◌≡◌, ℕ, ◌<◌, ◌≤◌, List, [], ◌∷◌, ◌++◌, length, true, false, cond, nat_lt, Option, Some, None, refl, sym, ap, ◌∙◌, arith, append_assoc, append-nil}
+use Rattle.std.proofs.Common.{◌≡◌, ℕ, ◌<◌, ◌≤◌, List, [], ◌∷◌, ◌++◌, length, true, false, cond, nat_lt, Option, Some, None, refl, sym, ap}
+use Rattle.std.proofs.Common.{◌∙◌, arith, append_assoc, append-nil}
 use Rattle.std.proofs.lemmas.Bool.Decides.{nat_tests}
 use Rattle.std.specs.List.{onto_first}
 use Rattle.stimulus.specs.declared.line.Line.{Line}
@@ -12,7 +13,8 @@ use Rattle.stimulus.specs.Reading.{Reading, reading_from, parts, after, bad_at_o
 use Rattle.stimulus.specs.StandsFor.{found_bad}
 use Rattle.stimulus.proofs.Parts.{is_lf, some_parts}
 
-pub after_after : (h k : List (List ℕ)) (given more : List StimItem) (r : Reading) → after h given (after k more r) ≡ after (h ++ k) (given ++ more) r
+pub after_after : (h k : List (List ℕ)) (given more : List StimItem) (r : Reading) → after h given (after k more r)
+    ≡ after (h ++ k) (given ++ more) r
 after_after h k given more r = λ i. record {
   head = sym (append_assoc h k r.head) i;
   items = sym (append_assoc given more r.items) i;
@@ -21,13 +23,16 @@ after_after h k given more r = λ i. record {
 }
 
 -- a whole line is taken
-pub read_whole : (events : ℕ) (place : Place) (line ys : List ℕ) → reading_from events place (line ∷ parts ys) ≡ go_on line (taken_at events place line) (λ p. reading_from events p (parts ys))
+pub read_whole : (events : ℕ) (place : Place) (line ys : List ℕ) → reading_from events place (line ∷ parts ys)
+    ≡ go_on line (taken_at events place line) (λ p. reading_from events p (parts ys))
 unfolding reading_from
 read_whole events place line ys =
     let some = some_parts ys in
-    ap (λ t. reading_from events place (line ∷ t)) some.is ∙ ap (λ t. go_on line (taken_at events place line) (λ p. reading_from events p t)) (sym some.is)
+    ap (λ t. reading_from events place (line ∷ t)) some.is
+    ∙ ap (λ t. go_on line (taken_at events place line) (λ p. reading_from events p t)) (sym some.is)
 
-pub taken_there : (events : ℕ) (place : Place) (line : List ℕ) (l : Line) → length line ≤ 128 → line_of events line ≡ Some l → taken_at events place line ≡ taken place l
+pub taken_there : (events : ℕ) (place : Place) (line : List ℕ) (l : Line) → length line ≤ 128 → line_of events line ≡ Some l
+    → taken_at events place line ≡ taken place l
 taken_there events place line l short e =
     let test : nat_lt 128 (length line) ≡ false = grind (arith, nat_tests) in
     ap (λ t. cond t None (taken_if place (line_of events line))) test ∙ ap (taken_if place) e
@@ -57,15 +62,19 @@ ended_there events line = elim (nat_lt 128 (length line)) as (λ t. cond t None 
 ]
 
 -- a line that leads on
-pub goes_on : (events : ℕ) (place p : Place) (line xs ys : List ℕ) (given : List StimItem) → parts xs ≡ line ∷ parts ys → taken_at events place line ≡ step given p
+pub goes_on : (events : ℕ) (place p : Place) (line xs ys : List ℕ) (given : List StimItem) → parts xs ≡ line ∷ parts ys
+    → taken_at events place line ≡ step given p
     → reading_from events place (parts xs) ≡ after (line ∷ []) given (reading_from events p (parts ys))
 goes_on events place p line xs ys given cut taken =
-    ap (reading_from events place) cut ∙ read_whole events place line ys ∙ ap (λ s. go_on line s (λ q. reading_from events q (parts ys))) taken
+    ap (reading_from events place) cut ∙ read_whole events place line ys
+    ∙ ap (λ s. go_on line s (λ q. reading_from events q (parts ys))) taken
 
 -- a line that may not stand there
-pub is_bad : (events : ℕ) (place : Place) (line xs ys : List ℕ) → parts xs ≡ line ∷ parts ys → taken_at events place line ≡ None → reading_from events place (parts xs) ≡ bad_at_once true
+pub is_bad : (events : ℕ) (place : Place) (line xs ys : List ℕ) → parts xs ≡ line ∷ parts ys → taken_at events place line ≡ None
+    → reading_from events place (parts xs) ≡ bad_at_once true
 is_bad events place line xs ys cut taken =
-    ap (reading_from events place) cut ∙ read_whole events place line ys ∙ ap (λ s. go_on line s (λ q. reading_from events q (parts ys))) taken
+    ap (reading_from events place) cut ∙ read_whole events place line ys
+    ∙ ap (λ s. go_on line s (λ q. reading_from events q (parts ys))) taken
 
 at_end_long : (place : Place) (line : List ℕ) → 128 < length line → at_end place line ≡ bad_at_once true
 at_end_long Ended [] long = absurd (omega arith)
@@ -74,26 +83,31 @@ at_end_long First line long = let test : nat_lt 128 (length line) ≡ true = gri
 at_end_long Between line long = let test : nat_lt 128 (length line) ≡ true = grind (arith, nat_tests) in ap bad_at_once test
 at_end_long (Inside n input) line long = let test : nat_lt 128 (length line) ≡ true = grind (arith, nat_tests) in ap bad_at_once test
 
-pub first_long : (events : ℕ) (place : Place) (line : List ℕ) (others : List (List ℕ)) → 128 < length line → reading_from events place (line ∷ others) ≡ bad_at_once true
+pub first_long : (events : ℕ) (place : Place) (line : List ℕ) (others : List (List ℕ)) → 128 < length line
+    → reading_from events place (line ∷ others) ≡ bad_at_once true
 unfolding reading_from
 first_long events place line [] long = at_end_long place line long
-first_long events place line (o ∷ os) long = ap (λ s. go_on line s (λ p. reading_from events p (o ∷ os))) (long_there events place line long)
+first_long events place line (o ∷ os) long =
+    ap (λ s. go_on line s (λ p. reading_from events p (o ∷ os))) (long_there events place line long)
 
 -- a line that is too long
 pub is_long : (events : ℕ) (place : Place) (xs : List ℕ) → IsLong (parts xs) → reading_from events place (parts xs) ≡ bad_at_once true
 is_long events place xs h = ap (reading_from events place) h.is ∙ first_long events place h.line h.others h.long
 
-pub first_ended : (events b : ℕ) (line : List ℕ) (others : List (List ℕ)) → reading_from events Ended ((b ∷ line) ∷ others) ≡ bad_at_once true
+pub first_ended : (events b : ℕ) (line : List ℕ) (others : List (List ℕ)) → reading_from events Ended ((b ∷ line) ∷ others)
+    ≡ bad_at_once true
 unfolding reading_from
 first_ended events b line [] = refl
 first_ended events b line (o ∷ os) = ap (λ s. go_on (b ∷ line) s (λ p. reading_from events p (o ∷ os))) (ended_there events (b ∷ line))
 
 -- a byte after the line `terminate`
 pub is_past : (events b : ℕ) (xs : List ℕ) → reading_from events Ended (parts (b ∷ xs)) ≡ bad_at_once true
-is_past events b xs = elim (is_lf b) as (λ t. reading_from events Ended (cond t ([] ∷ parts xs) (onto_first b (parts xs))) ≡ bad_at_once true) [
-  | true ↦ read_whole events Ended [] xs ∙ ap (λ s. go_on [] s (λ q. reading_from events q (parts xs))) (ended_there events [])
-  | false ↦ let some = some_parts xs in ap (λ t. reading_from events Ended (onto_first b t)) some.is ∙ first_ended events b some.line some.others
-]
+is_past events b xs =
+    elim (is_lf b) as (λ t. reading_from events Ended (cond t ([] ∷ parts xs) (onto_first b (parts xs))) ≡ bad_at_once true) [
+      | true ↦ read_whole events Ended [] xs ∙ ap (λ s. go_on [] s (λ q. reading_from events q (parts xs))) (ended_there events [])
+      | false ↦ let some =
+          some_parts xs in ap (λ t. reading_from events Ended (onto_first b t)) some.is ∙ first_ended events b some.line some.others
+    ]
 
 pub at_open : (events : ℕ) (place : Place) (line : List ℕ) → reading_from events place (line ∷ []) ≡ at_end place line
 unfolding reading_from
@@ -114,7 +128,8 @@ open_head First line = refl
 open_head Between line = refl
 open_head (Inside n input) line = refl
 
-pub open_fed : (place : Place) (line : List ℕ) → length line ≤ 128 → ¬ ((place ≡ Ended) × (0 < length line)) → (at_end place line).bad_is_fed ≡ false
+pub open_fed : (place : Place) (line : List ℕ) → length line ≤ 128 → ¬ ((place ≡ Ended) × (0 < length line))
+    → (at_end place line).bad_is_fed ≡ false
 open_fed Ended [] short other = refl
 open_fed Ended (b ∷ bs) short other = absurd (other (refl, omega arith))
 open_fed First line short other = grind (arith, nat_tests)

@@ -1,5 +1,6 @@
 -- Facts on decimal numbers.
-use Rattle.std.proofs.Common.{◌≡◌, ℕ, suc, ◌+◌, ◌-◌, ◌*◌, ◌^◌, ◌≢◌, ◌<◌, ◌≤◌, ◌⊎◌, List, [], ◌∷◌, length, drop, get_or, true, false, cond, nat_le, ◌&&◌, Some, None, refl, sym, ap, ◌∙◌, inl, inr, arith, drop-cons, add-one}
+use Rattle.std.proofs.Common.{◌≡◌, ℕ, suc, ◌+◌, ◌-◌, ◌*◌, ◌^◌, ◌≢◌, ◌<◌, ◌≤◌, ◌⊎◌, List, [], ◌∷◌, length, drop, get_or, true, false, cond}
+use Rattle.std.proofs.Common.{nat_le, ◌&&◌, Some, None, refl, sym, ap, ◌∙◌, inl, inr, arith, drop-cons, add-one}
 use Rattle.std.proofs.lemmas.Bool.Decides.{nat_tests}
 use Rattle.std.proofs.lemmas.List.{drop_all}
 use Rattle.stimulus.specs.Numbers.{number, number_after, below}
@@ -38,7 +39,8 @@ no_step n b bs (inl low) = grind (arith, nat_tests)
 no_step n b bs (inr high) = grind (arith, nat_tests)
 
 -- a digit more
-pub digit_more : (n : ℕ) (bs : List ℕ) (i b : ℕ) → i < length bs → b ≡ get_or bs i 0 → 48 ≤ b → b ≤ 57 → number_after n (drop i bs) ≡ number_after (n * 10 + (b - 48)) (drop (i + 1) bs)
+pub digit_more : (n : ℕ) (bs : List ℕ) (i b : ℕ) → i < length bs → b ≡ get_or bs i 0 → 48 ≤ b → b ≤ 57 → number_after n (drop i bs)
+    ≡ number_after (n * 10 + (b - 48)) (drop (i + 1) bs)
 unfolding number_after
 digit_more n bs i b within is low high = ap (number_after n) (at_digit bs i b within is) ∙ digit_step n b (drop (i + 1) bs) low high
 
@@ -50,10 +52,11 @@ no_digit n bs i b within is out = ap (number_after n) (at_digit bs i b within is
 pub too_large : (limit n : ℕ) (bs : List ℕ) → limit ≤ n → below limit (number_after n bs) ≡ None
 unfolding number_after
 too_large limit n [] large = grind (arith, nat_tests)
-too_large limit n (b ∷ bs) large = elim (nat_le 48 b && nat_le b 57) as (λ t. below limit (cond t (number_after (n * 10 + (b - 48)) bs) None) ≡ None) [
-  | true ↦ too_large limit (n * 10 + (b - 48)) bs (omega arith)
-  | false ↦ refl
-]
+too_large limit n (b ∷ bs) large =
+    elim (nat_le 48 b && nat_le b 57) as (λ t. below limit (cond t (number_after (n * 10 + (b - 48)) bs) None) ≡ None) [
+      | true ↦ too_large limit (n * 10 + (b - 48)) bs (omega arith)
+      | false ↦ refl
+    ]
 
 -- the loop over the digits
 pub record HasRead (limit value i : ℕ) (bs : List ℕ) : Type 0 where
@@ -64,7 +67,8 @@ pub record HasRead (limit value i : ℕ) (bs : List ℕ) : Type 0 where
 pub HasRead-begin : (limit : ℕ) (bs : List ℕ) → HasRead limit 0 0 bs
 HasRead-begin limit bs = record { same = refl; within = inl refl; small = omega arith }
 
-pub HasRead-next : (limit value i b : ℕ) (bs : List ℕ) → limit ≤ 2 ^ 64 → i < length bs → b ≡ get_or bs i 0 → 48 ≤ b → b ≤ 57 → value * 10 + (b - 48) < limit → HasRead limit value i bs
+pub HasRead-next : (limit value i b : ℕ) (bs : List ℕ) → limit ≤ 2 ^ 64 → i < length bs → b ≡ get_or bs i 0 → 48 ≤ b → b ≤ 57
+    → value * 10 + (b - 48) < limit → HasRead limit value i bs
     → HasRead limit (value * 10 + (b - 48)) (i + 1) bs
 HasRead-next limit value i b bs most within is low high small h = record {
   same = h.same ∙ digit_more value bs i b within is low high;
@@ -72,7 +76,8 @@ HasRead-next limit value i b bs most within is low high small h = record {
   small = omega arith;
 }
 
-pub HasRead-large : (limit value i b : ℕ) (bs : List ℕ) → i < length bs → b ≡ get_or bs i 0 → 48 ≤ b → b ≤ 57 → limit ≤ value * 10 + (b - 48) → HasRead limit value i bs
+pub HasRead-large : (limit value i b : ℕ) (bs : List ℕ) → i < length bs → b ≡ get_or bs i 0 → 48 ≤ b → b ≤ 57
+    → limit ≤ value * 10 + (b - 48) → HasRead limit value i bs
     → None ≡ below limit (number_after 0 bs)
 HasRead-large limit value i b bs within is low high large h =
     sym (ap (below limit) (h.same ∙ digit_more value bs i b within is low high) ∙ too_large limit (value * 10 + (b - 48)) (drop (i + 1) bs) large)
@@ -88,7 +93,8 @@ at_last value = refl
 is_below : (limit value : ℕ) → value < limit → below limit (Some value) ≡ Some value
 is_below limit value small = grind (arith, nat_tests)
 
-pub HasRead-done : (limit value i : ℕ) (bs : List ℕ) → 0 < length bs → length bs ≤ i → HasRead limit value i bs → Some value ≡ below limit (number_after 0 bs)
+pub HasRead-done : (limit value i : ℕ) (bs : List ℕ) → 0 < length bs → length bs ≤ i → HasRead limit value i bs → Some value
+    ≡ below limit (number_after 0 bs)
 HasRead-done limit value i bs some whole h =
     let small : value < limit = elim h.within [ inl none ↦ absurd (omega arith) | inr small ↦ small ] in
     sym (ap (below limit) (h.same ∙ ap (number_after value) (drop_all i bs whole) ∙ at_last value) ∙ is_below limit value small)

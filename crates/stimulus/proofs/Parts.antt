@@ -1,5 +1,7 @@
 -- The lines of a text.
-use Rattle.std.proofs.Common.{◌≡◌, ℕ, suc, ◌+◌, ◌<◌, ◌≤◌, List, [], ◌∷◌, ◌++◌, length, take, drop, get_or, Bool, true, false, cond, not, nat_eq, Some, None, refl, sym, ap, ◌∙◌, arith, drop-cons, add-one, append_assoc, take-append-drop, length-take}
+use Rattle.std.proofs.Common.{◌≡◌, ℕ, suc, ◌+◌, ◌<◌, ◌≤◌, List, [], ◌∷◌, ◌++◌, length, take, drop, get_or, Bool, true, false, cond, not}
+use Rattle.std.proofs.Common.{nat_eq, Some, None, refl, sym, ap, ◌∙◌, arith, drop-cons, add-one, append_assoc, take-append-drop}
+use Rattle.std.proofs.Common.{length-take}
 use Rattle.std.specs.List.{onto_first, position, position_or_len, All}
 use Rattle.std.proofs.lemmas.List.{get_or-take}
 use Rattle.std.proofs.lemmas.List.Quantifiers.{position-Some}
@@ -31,10 +33,11 @@ some_parts (x ∷ xs) = elim (is_lf x) as (λ t. IsSome_parts (cond t ([] ∷ pa
 -- a text in which no LF was found
 pub uncut : (xs : List ℕ) → length xs ≤ position_or_len is_lf xs → parts xs ≡ xs ∷ []
 uncut [] h = refl
-uncut (x ∷ xs) h = elim (is_lf x) as (λ t. length (x ∷ xs) ≤ cond (not t) (1 + position_or_len is_lf xs) 0 → cond t ([] ∷ parts xs) (onto_first x (parts xs)) ≡ (x ∷ xs) ∷ []) [
-  | true ↦ λ none. absurd (omega arith)
-  | false ↦ λ more. ap (onto_first x) (uncut xs (omega arith))
-] h
+uncut (x ∷ xs) h =
+    elim (is_lf x) as (λ t. length (x ∷ xs) ≤ cond (not t) (1 + position_or_len is_lf xs) 0 → cond t ([] ∷ parts xs) (onto_first x (parts xs)) ≡ (x ∷ xs) ∷ []) [
+      | true ↦ λ none. absurd (omega arith)
+      | false ↦ λ more. ap (onto_first x) (uncut xs (omega arith))
+    ] h
 
 pub record IsLongAs (n : ℕ) (texts : List (List ℕ)) : Type 0 where
   pub line : List ℕ
@@ -43,14 +46,16 @@ pub record IsLongAs (n : ℕ) (texts : List (List ℕ)) : Type 0 where
   pub long : n ≤ length line
 
 longer : (x n : ℕ) (texts : List (List ℕ)) → IsLongAs n texts → IsLongAs (suc n) (onto_first x texts)
-longer x n texts h = record { line = x ∷ h.line; others = h.others; is = ap (onto_first x) h.is; long = let l : n ≤ length h.line = h.long in omega arith }
+longer x n texts h =
+    record { line = x ∷ h.line; others = h.others; is = ap (onto_first x) h.is; long = let l : n ≤ length h.line = h.long in omega arith }
 
 pub uncut_long : (xs ys : List ℕ) → length xs ≤ position_or_len is_lf xs → IsLongAs (length xs) (parts (xs ++ ys))
 uncut_long [] ys h = let some = some_parts ys in record { line = some.line; others = some.others; is = some.is; long = omega arith }
-uncut_long (x ∷ xs) ys h = elim (is_lf x) as (λ t. length (x ∷ xs) ≤ cond (not t) (1 + position_or_len is_lf xs) 0 → IsLongAs (suc (length xs)) (cond t ([] ∷ parts (xs ++ ys)) (onto_first x (parts (xs ++ ys))))) [
-  | true ↦ λ none. absurd (omega arith)
-  | false ↦ λ more. longer x (length xs) (parts (xs ++ ys)) (uncut_long xs ys (omega arith))
-] h
+uncut_long (x ∷ xs) ys h =
+    elim (is_lf x) as (λ t. length (x ∷ xs) ≤ cond (not t) (1 + position_or_len is_lf xs) 0 → IsLongAs (suc (length xs)) (cond t ([] ∷ parts (xs ++ ys)) (onto_first x (parts (xs ++ ys))))) [
+      | true ↦ λ none. absurd (omega arith)
+      | false ↦ λ more. longer x (length xs) (parts (xs ++ ys)) (uncut_long xs ys (omega arith))
+    ] h
 
 pub none_found : (xs : List ℕ) → position is_lf xs ≡ None → length xs ≤ position_or_len is_lf xs
 none_found xs e = grind (arith, nat_tests)
@@ -58,11 +63,13 @@ none_found xs e = grind (arith, nat_tests)
 pub no_line : (bytes : List ℕ) → length bytes ≤ 128 → position is_lf bytes ≡ None → (length bytes ≤ 128) × (parts bytes ≡ bytes ∷ [])
 no_line bytes short e = (short, uncut bytes (none_found bytes e))
 
-pub long_line : (n : ℕ) (bytes : List ℕ) → 128 < n → n ≤ length bytes → position is_lf (take n bytes) ≡ None → (tail : List ℕ) → IsLong (parts (bytes ++ tail))
+pub long_line : (n : ℕ) (bytes : List ℕ) → 128 < n → n ≤ length bytes → position is_lf (take n bytes) ≡ None → (tail : List ℕ)
+    → IsLong (parts (bytes ++ tail))
 long_line n bytes large within e tail =
     let shown : List ℕ = take n bytes in
     let h : IsLongAs (length shown) (parts (shown ++ (drop n bytes ++ tail))) = uncut_long shown (drop n bytes ++ tail) (none_found shown e) in
-    let whole : shown ++ (drop n bytes ++ tail) ≡ bytes ++ tail = sym (append_assoc shown (drop n bytes) tail) ∙ ap (λ l. l ++ tail) (take-append-drop n bytes) in
+    let whole : shown ++ (drop n bytes ++ tail) ≡ bytes ++ tail = sym (append_assoc shown (drop n bytes) tail)
+    ∙ ap (λ l. l ++ tail) (take-append-drop n bytes) in
     let long : length shown ≤ length h.line = h.long in
     record { line = h.line; others = h.others; is = ap parts (sym whole) ∙ h.is; long = omega (arith, length-take n bytes) }
 
@@ -86,6 +93,7 @@ cut n bytes end few e =
       omega arith,
       λ tail.
           let rest : List ℕ = drop (end + 1) bytes ++ tail in
-          let whole : bytes ++ tail ≡ take end bytes ++ (get_or bytes end 0 ∷ rest) = ap (λ l. l ++ tail) (sym (take-append-drop end bytes) ∙ ap (λ l. take end bytes ++ l) (at_end bytes end within)) ∙ append_assoc (take end bytes) (get_or bytes end 0 ∷ drop (end + 1) bytes) tail in
+          let whole : bytes ++ tail ≡ take end bytes
+          ++ (get_or bytes end 0 ∷ rest) = ap (λ l. l ++ tail) (sym (take-append-drop end bytes) ∙ ap (λ l. take end bytes ++ l) (at_end bytes end within)) ∙ append_assoc (take end bytes) (get_or bytes end 0 ∷ drop (end + 1) bytes) tail in
           ap parts whole ∙ slice_split_at is_lf (take end bytes) (get_or bytes end 0) rest front at,
     )

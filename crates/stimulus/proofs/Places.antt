@@ -1,5 +1,6 @@
 -- The place after lines that stand in order.
-use Rattle.std.proofs.Common.{◌≡◌, ℕ, ◌+◌, ◌<◌, ◌≤◌, List, [], ◌∷◌, ◌++◌, length, Bool, true, false, cond, nat_lt, Option, Some, None, refl, sym, ap, ◌∙◌, arith, length-append}
+use Rattle.std.proofs.Common.{◌≡◌, ℕ, ◌+◌, ◌<◌, ◌≤◌, List, [], ◌∷◌, ◌++◌, length, Bool, true, false, cond, nat_lt, Option, Some, None, refl}
+use Rattle.std.proofs.Common.{sym, ap, ◌∙◌, arith, length-append}
 use Rattle.std.specs.List.{count_by}
 use Rattle.std.proofs.lemmas.Bool.Decides.{nat_tests}
 use Rattle.std.proofs.lemmas.List.Sums.{sum_by-append}
@@ -11,7 +12,8 @@ use Rattle.stimulus.specs.declared.item.StimItem.TheVariants as items
 use Rattle.stimulus.specs.Places.{Place, First, Between, Inside, Ended, Step, step, begun, with_sample, taken}
 use Rattle.stimulus.specs.Good.{is_cycle, is_end, cycles, ends, samples_from, IsOpen, MayStand}
 
-pub counted_more : (p : Line → Bool) (earlier : List Line) (l : Line) → count_by p (earlier ++ l ∷ []) ≡ count_by p earlier + count_by p (l ∷ [])
+pub counted_more : (p : Line → Bool) (earlier : List Line) (l : Line) → count_by p (earlier ++ l ∷ [])
+    ≡ count_by p earlier + count_by p (l ∷ [])
 counted_more p earlier l = sum_by-append (λ x. cond (p x) 1 0) earlier (l ∷ [])
 
 pub samples_after : (n : ℕ) (earlier later : List Line) → samples_from n (earlier ++ later) ≡ samples_from (samples_from n earlier) later
@@ -43,9 +45,12 @@ longer : (earlier : List Line) (l : Line) → 0 < length (earlier ++ l ∷ [])
 longer earlier l = omega (arith, length-append earlier (l ∷ []))
 
 no_end_more : (earlier : List Line) (l : Line) → is_end l ≡ false → ends (earlier ++ l ∷ []) ≡ ends earlier
-no_end_more earlier lines.Stim other = let e : ends (earlier ++ lines.Stim ∷ []) ≡ ends earlier + 0 = counted_more is_end earlier lines.Stim in omega arith
-no_end_more earlier (lines.Cycle time) other = let e : ends (earlier ++ lines.Cycle time ∷ []) ≡ ends earlier + 0 = counted_more is_end earlier (lines.Cycle time) in omega arith
-no_end_more earlier (lines.Sample s) other = let e : ends (earlier ++ lines.Sample s ∷ []) ≡ ends earlier + 0 = counted_more is_end earlier (lines.Sample s) in omega arith
+no_end_more earlier lines.Stim other =
+    let e : ends (earlier ++ lines.Stim ∷ []) ≡ ends earlier + 0 = counted_more is_end earlier lines.Stim in omega arith
+no_end_more earlier (lines.Cycle time) other =
+    let e : ends (earlier ++ lines.Cycle time ∷ []) ≡ ends earlier + 0 = counted_more is_end earlier (lines.Cycle time) in omega arith
+no_end_more earlier (lines.Sample s) other =
+    let e : ends (earlier ++ lines.Sample s ∷ []) ≡ ends earlier + 0 = counted_more is_end earlier (lines.Sample s) in omega arith
 no_end_more earlier lines.Terminate other = absurd (cc)
 
 open_more : (earlier : List Line) (l : Line) → IsOpen earlier → is_end l ≡ false → IsOpen (earlier ++ l ∷ [])
@@ -56,19 +61,25 @@ ended_more earlier h =
     (longer earlier lines.Terminate, let e : ends (earlier ++ lines.Terminate ∷ []) ≡ ends earlier + 1 = counted_more is_end earlier lines.Terminate in let none = h.1 in omega arith)
 
 -- a block more
-begun_more : (earlier : List Line) (n : ℕ) (time : Option ℕ) → IsOpen earlier → cycles earlier ≡ n → IsInside (earlier ++ lines.Cycle time ∷ []) (n + 1) (begun time)
+begun_more : (earlier : List Line) (n : ℕ) (time : Option ℕ) → IsOpen earlier → cycles earlier ≡ n
+    → IsInside (earlier ++ lines.Cycle time ∷ []) (n + 1) (begun time)
 begun_more earlier n time h count = record {
   opened = open_more earlier (lines.Cycle time) h refl;
-  cycles = let e : cycles (earlier ++ lines.Cycle time ∷ []) ≡ cycles earlier + 1 = counted_more is_cycle earlier (lines.Cycle time) in omega arith;
+  cycles =
+      let e : cycles (earlier ++ lines.Cycle time ∷ [])
+      ≡ cycles earlier + 1 = counted_more is_cycle earlier (lines.Cycle time) in omega arith;
   some = omega arith;
   samples = samples_after 0 earlier (lines.Cycle time ∷ []);
 }
 
 -- a sample more
-sampled_more : (earlier : List Line) (n : ℕ) (input : CycleInput) (s : SampleValue) → IsInside earlier n input → IsInside (earlier ++ lines.Sample s ∷ []) n (with_sample input s)
+sampled_more : (earlier : List Line) (n : ℕ) (input : CycleInput) (s : SampleValue) → IsInside earlier n input
+    → IsInside (earlier ++ lines.Sample s ∷ []) n (with_sample input s)
 sampled_more earlier n input s h = record {
   opened = open_more earlier (lines.Sample s) h.opened refl;
-  cycles = let e : cycles (earlier ++ lines.Sample s ∷ []) ≡ cycles earlier + 0 = counted_more is_cycle earlier (lines.Sample s) in let c = h.cycles in omega arith;
+  cycles =
+      let e : cycles (earlier ++ lines.Sample s ∷ [])
+      ≡ cycles earlier + 0 = counted_more is_cycle earlier (lines.Sample s) in let c = h.cycles in omega arith;
   some = h.some;
   samples = samples_after 0 earlier (lines.Sample s ∷ []) ∙ ap (λ n. n + 1) h.samples ∙ sym (length-append input.samples (s ∷ []));
 }
@@ -82,7 +93,8 @@ leads_first earlier lines.Stim h = (
   h,
   (
     (longer earlier lines.Stim, no_end_more earlier lines.Stim refl ∙ none_counted is_end earlier h),
-    let e : cycles (earlier ++ lines.Stim ∷ []) ≡ cycles earlier + 0 = counted_more is_cycle earlier lines.Stim in let none = none_counted is_cycle earlier h in omega arith,
+    let e : cycles (earlier ++ lines.Stim ∷ [])
+        ≡ cycles earlier + 0 = counted_more is_cycle earlier lines.Stim in let none = none_counted is_cycle earlier h in omega arith,
   ),
 )
 leads_first earlier (lines.Cycle time) h = λ k. let some = k.0.0 in omega arith
@@ -95,19 +107,27 @@ leads_between earlier (lines.Cycle time) h = ((h.0, let none = h.1 in omega arit
 leads_between earlier (lines.Sample s) h = λ k. let some = k.1 in omega arith
 leads_between earlier lines.Terminate h = (h.0, ended_more earlier h.0)
 
-leads_cycle : (earlier : List Line) (n : ℕ) (input : CycleInput) (time : Option ℕ) → IsInside earlier n input → Leads earlier (lines.Cycle time) (taken (Inside n input) (lines.Cycle time))
+leads_cycle : (earlier : List Line) (n : ℕ) (input : CycleInput) (time : Option ℕ) → IsInside earlier n input
+    → Leads earlier (lines.Cycle time) (taken (Inside n input) (lines.Cycle time))
 leads_cycle earlier n input time h = choice (nat_lt n 1000000) refl where
-  choice : (t : Bool) → nat_lt n 1000000 ≡ t → Leads earlier (lines.Cycle time) (cond t (step (items.Cycle input ∷ []) (Inside (n + 1) (begun time))) None)
-  choice true test = let few : n < 1000000 = grind (arith, nat_tests) in let count = h.cycles in ((h.opened, omega arith), begun_more earlier n time h.opened h.cycles)
+  choice : (t : Bool) → nat_lt n 1000000 ≡ t
+      → Leads earlier (lines.Cycle time) (cond t (step (items.Cycle input ∷ []) (Inside (n + 1) (begun time))) None)
+  choice true test =
+      let few : n < 1000000 = grind (arith, nat_tests) in let count = h.cycles in ((h.opened, omega arith), begun_more earlier n time h.opened h.cycles)
   choice false test = λ k. let few = k.1 in let count = h.cycles in let many : 1000000 ≤ n = grind (arith, nat_tests) in omega arith
 
-leads_sample : (earlier : List Line) (n : ℕ) (input : CycleInput) (s : SampleValue) → IsInside earlier n input → Leads earlier (lines.Sample s) (taken (Inside n input) (lines.Sample s))
+leads_sample : (earlier : List Line) (n : ℕ) (input : CycleInput) (s : SampleValue) → IsInside earlier n input
+    → Leads earlier (lines.Sample s) (taken (Inside n input) (lines.Sample s))
 leads_sample earlier n input s h = choice (nat_lt (length input.samples) 4096) refl where
-  choice : (t : Bool) → nat_lt (length input.samples) 4096 ≡ t → Leads earlier (lines.Sample s) (cond t (step [] (Inside n (with_sample input s))) None)
-  choice true test = let few : length input.samples < 4096 = grind (arith, nat_tests) in let count = h.cycles in let samples = h.samples in let some = h.some in ((h.opened, omega arith, omega arith), sampled_more earlier n input s h)
-  choice false test = λ k. let few = k.2 in let samples = h.samples in let many : 4096 ≤ length input.samples = grind (arith, nat_tests) in omega arith
+  choice : (t : Bool) → nat_lt (length input.samples) 4096 ≡ t
+      → Leads earlier (lines.Sample s) (cond t (step [] (Inside n (with_sample input s))) None)
+  choice true test =
+      let few : length input.samples < 4096 = grind (arith, nat_tests) in let count = h.cycles in let samples = h.samples in let some = h.some in ((h.opened, omega arith, omega arith), sampled_more earlier n input s h)
+  choice false test =
+      λ k. let few = k.2 in let samples = h.samples in let many : 4096 ≤ length input.samples = grind (arith, nat_tests) in omega arith
 
-leads_inside : (earlier : List Line) (n : ℕ) (input : CycleInput) (l : Line) → IsInside earlier n input → Leads earlier l (taken (Inside n input) l)
+leads_inside : (earlier : List Line) (n : ℕ) (input : CycleInput) (l : Line) → IsInside earlier n input
+    → Leads earlier l (taken (Inside n input) l)
 leads_inside earlier n input lines.Stim h = λ k. let some = h.opened.0 in omega arith
 leads_inside earlier n input (lines.Cycle time) h = leads_cycle earlier n input time h
 leads_inside earlier n input (lines.Sample s) h = leads_sample earlier n input s h

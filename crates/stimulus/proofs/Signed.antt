@@ -1,5 +1,6 @@
 -- A sample's value has one spelling.
-use Rattle.std.proofs.Common.{◌≡◌, ℕ, zero, suc, ◌^◌, ◌<◌, ◌≤◌, ℤ, pos, negsuc, List, [], ◌∷◌, ◌++◌, length, take, drop, Bool, true, false, cond, ◌&&◌, nat_lt, nat_eq, Option, Some, None, refl, sym, ap, ◌∙◌, arith, codes, take-append-drop}
+use Rattle.std.proofs.Common.{◌≡◌, ℕ, zero, suc, ◌^◌, ◌<◌, ◌≤◌, ℤ, pos, negsuc, List, [], ◌∷◌, ◌++◌, length, take, drop, Bool, true, false}
+use Rattle.std.proofs.Common.{cond, ◌&&◌, nat_lt, nat_eq, Option, Some, None, refl, sym, ap, ◌∙◌, arith, codes, take-append-drop}
 use Rattle.std.specs.Fmt.{decimal, signed_decimal}
 use Rattle.std.specs.Str.{bytes_eq}
 use Rattle.std.specs.Str.Parse.{AllDigits}
@@ -47,34 +48,41 @@ positive_value n small =
 
 negative_value : (n : ℕ) → suc n < 1000000000001 → value_of (45 ∷ decimal (suc n)) ≡ Some (negsuc n)
 unfolding value_of
-negative_value n small = ap (λ o. as_negative (below 1000000000001 o)) (number_of_decimal (suc n) (omega arith)) ∙ ap as_negative (is_below 1000000000001 (suc n) small)
+negative_value n small =
+    ap (λ o. as_negative (below 1000000000001 o)) (number_of_decimal (suc n) (omega arith))
+    ∙ ap as_negative (is_below 1000000000001 (suc n) small)
 
 -- a value is read as it is written
 pub value_of_decimal : (v : ℤ) → IsSampleValue v → value_of (signed_decimal v) ≡ Some v
 value_of_decimal (pos n) h = positive_value n (omega (arith, ints))
 value_of_decimal (negsuc n) h = negative_value n (omega (arith, ints))
 
-from_positive : (bytes : List ℕ) (o : Option ℕ) (v : ℤ) → below 1000000000001 (number bytes) ≡ o → as_positive o ≡ Some v → bytes ≡ signed_decimal v
+from_positive : (bytes : List ℕ) (o : Option ℕ) (v : ℤ) → below 1000000000001 (number bytes) ≡ o → as_positive o ≡ Some v → bytes
+    ≡ signed_decimal v
 from_positive bytes None v read e = absurd (cc)
 from_positive bytes (Some n) v read e =
     let found = below_some 1000000000001 n (number bytes) read in
     let same : pos n ≡ v = cc in
     decimal_of_number bytes n found.0 (let small : n < 1000000000001 = found.1 in omega arith) ∙ ap signed_decimal same
 
-from_negative : (bytes : List ℕ) (o : Option ℕ) (v : ℤ) → below 1000000000001 (number bytes) ≡ o → as_negative o ≡ Some v → 45 ∷ bytes ≡ signed_decimal v
+from_negative : (bytes : List ℕ) (o : Option ℕ) (v : ℤ) → below 1000000000001 (number bytes) ≡ o → as_negative o ≡ Some v → 45 ∷ bytes
+    ≡ signed_decimal v
 from_negative bytes None v read e = absurd (cc)
 from_negative bytes (Some zero) v read e = absurd (cc)
 from_negative bytes (Some (suc n)) v read e =
     let found = below_some 1000000000001 (suc n) (number bytes) read in
     let same : negsuc n ≡ v = cc in
-    ap (λ l. 45 ∷ l) (decimal_of_number bytes (suc n) found.0 (let small : suc n < 1000000000001 = found.1 in omega arith)) ∙ ap signed_decimal same
+    ap (λ l. 45 ∷ l) (decimal_of_number bytes (suc n) found.0 (let small : suc n < 1000000000001 = found.1 in omega arith))
+    ∙ ap signed_decimal same
 
 -- only the bytes that write a value are read as it
 pub decimal_of_value : (bytes : List ℕ) (v : ℤ) → value_of bytes ≡ Some v → bytes ≡ signed_decimal v
 unfolding value_of
 decimal_of_value bytes v e = choice (bytes_eq (take 1 bytes) (codes "-")) refl e where
   choice : (t : Bool) → bytes_eq (take 1 bytes) (codes "-") ≡ t
-      → cond t (as_negative (below 1000000000001 (number (drop 1 bytes)))) (as_positive (below 1000000000001 (number bytes))) ≡ Some v → bytes ≡ signed_decimal v
+      → cond t (as_negative (below 1000000000001 (number (drop 1 bytes)))) (as_positive (below 1000000000001 (number bytes))) ≡ Some v
+      → bytes ≡ signed_decimal v
   choice true dash found =
-      sym (take-append-drop 1 bytes) ∙ ap (λ l. l ++ drop 1 bytes) (same_bytes (take 1 bytes) (codes "-") dash) ∙ from_negative (drop 1 bytes) (below 1000000000001 (number (drop 1 bytes))) v refl found
+      sym (take-append-drop 1 bytes) ∙ ap (λ l. l ++ drop 1 bytes) (same_bytes (take 1 bytes) (codes "-") dash)
+      ∙ from_negative (drop 1 bytes) (below 1000000000001 (number (drop 1 bytes))) v refl found
   choice false dash found = from_positive bytes (below 1000000000001 (number bytes)) v refl found

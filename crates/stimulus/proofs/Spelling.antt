@@ -1,5 +1,6 @@
 -- A number has one spelling.
-use Rattle.std.proofs.Common.{◌≡◌, ℕ, zero, suc, ◌+◌, ◌-◌, ◌*◌, ◌^◌, ◌<◌, ◌≤◌, List, [], ◌∷◌, length, get_or, Bool, true, false, cond, nat_le, ◌&&◌, Some, None, refl, sym, ap, ◌∙◌, inl, inr, arith, rules, lit<}
+use Rattle.std.proofs.Common.{◌≡◌, ℕ, zero, suc, ◌+◌, ◌-◌, ◌*◌, ◌^◌, ◌<◌, ◌≤◌, List, [], ◌∷◌, length, get_or, Bool, true, false, cond}
+use Rattle.std.proofs.Common.{nat_le, ◌&&◌, Some, None, refl, sym, ap, ◌∙◌, inl, inr, arith, rules, lit<}
 use Rattle.std.specs.Fmt.{decimal}
 use Rattle.std.specs.Str.Parse.{AllDigits}
 use Rattle.std.proofs.lemmas.Fmt.{decimal_is_IsNumeral, decimal_digit, first_decimal, decimal-digits_value}
@@ -29,9 +30,12 @@ after_digits : (n m : ℕ) (bs : List ℕ) → number_after n bs ≡ Some m → 
 unfolding number_after
 after_digits n m [] e = (tells_digits.empty, cc)
 after_digits n m (b ∷ bs) e = choice (nat_le 48 b && nat_le b 57) refl (λ next. after_digits (n * 10 + (b - 48)) m bs next) where
-  choice : (t : Bool) → (nat_le 48 b && nat_le b 57) ≡ t → (number_after (n * 10 + (b - 48)) bs ≡ Some m → AllDigits 10 bs × (value_on (n * 10 + (b - 48)) bs ≡ m)) → AllDigits 10 (b ∷ bs) × (value_on n (b ∷ bs) ≡ m)
+  choice : (t : Bool) → (nat_le 48 b && nat_le b 57) ≡ t
+      → (number_after (n * 10 + (b - 48)) bs ≡ Some m → AllDigits 10 bs × (value_on (n * 10 + (b - 48)) bs ≡ m)) → AllDigits 10 (b ∷ bs)
+      × (value_on n (b ∷ bs) ≡ m)
   choice true test further =
-      let next : number_after (n * 10 + (b - 48)) bs ≡ Some m = ap (λ t. cond t (number_after (n * 10 + (b - 48)) bs) None) (sym test) ∙ e in
+      let next : number_after (n * 10 + (b - 48)) bs ≡ Some m = ap (λ t. cond t (number_after (n * 10 + (b - 48)) bs) None) (sym test)
+      ∙ e in
       let on = further next in
       let low : 48 ≤ b = grind (arith, nat_tests) in
       let high : b ≤ 57 = grind (arith, nat_tests) in

@@ -1,5 +1,6 @@
 -- What a reader stands for, and what its answers tell.
-use Rattle.std.proofs.Common.{◌≡◌, ◌↔◌, ℕ, ◌+◌, ◌<◌, ◌≤◌, List, [], ◌∷◌, ◌++◌, length, Bool, true, false, Option, Some, None, Ok, Err, refl, sym, ap, ◌∙◌, subst, append_assoc, append-nil}
+use Rattle.std.proofs.Common.{◌≡◌, ◌↔◌, ℕ, ◌+◌, ◌<◌, ◌≤◌, List, [], ◌∷◌, ◌++◌, length, Bool, true, false, Option, Some, None, Ok, Err, refl}
+use Rattle.std.proofs.Common.{sym, ap, ◌∙◌, subst, append_assoc, append-nil}
 use Rattle.stimulus.specs.declared.state.State.{State}
 use Rattle.stimulus.specs.declared.state.State.TheVariants as states
 use Rattle.stimulus.specs.declared.item.StimItem.{StimItem}
@@ -8,7 +9,8 @@ use Rattle.stimulus.specs.declared.item.StimError.TheVariants as errors
 use Rattle.stimulus.specs.declared.item.StimFault.{StimFault}
 use Rattle.stimulus.specs.declared.reader.StimReader.{StimReader}
 use Rattle.stimulus.specs.Places.{Place, Ended}
-use Rattle.stimulus.specs.Reading.{Reading, Terminated, BadLine, reading, reading_from, parts, after, bad_at_once, at_end, ending_of, ending, inputs_of}
+use Rattle.stimulus.specs.Reading.{Reading, Terminated, BadLine, reading, reading_from, parts, after, bad_at_once, at_end, ending_of}
+use Rattle.stimulus.specs.Reading.{ending, inputs_of}
 use Rattle.stimulus.specs.States.{place_of, owed}
 use Rattle.stimulus.specs.StandsFor.{StandsFor, Resumes, Gives, FoundBad, NextIs, IsSettled, left, found_bad}
 use Rattle.stimulus.specs.Steps.{BadIs, IsPastEnd}
@@ -20,10 +22,12 @@ use Rattle.stimulus.proofs.Going.{at_open, open_items, open_head, open_fed, open
 abbrev pub from : StimReader → List ℕ → Reading
 from r xs = reading_from r.events (place_of r.state) (parts xs)
 
-pub resumes : (r : StimReader) (bytes : List ℕ) (given : List StimItem) → r.fault ≡ None → (h : StandsFor r bytes given) → Resumes None r h.head bytes given
+pub resumes : (r : StimReader) (bytes : List ℕ) (given : List StimItem) → r.fault ≡ None → (h : StandsFor r bytes given)
+    → Resumes None r h.head bytes given
 resumes r bytes given none h = let P : Option StimFault → Type 0 = λ f. Resumes f r h.head bytes given in subst P none h.resumes
 
-pub found : (r : StimReader) (fault : StimFault) (bytes : List ℕ) (given : List StimItem) → r.fault ≡ Some fault → (h : StandsFor r bytes given) → Resumes (Some fault) r h.head bytes given
+pub found : (r : StimReader) (fault : StimFault) (bytes : List ℕ) (given : List StimItem) → r.fault ≡ Some fault
+    → (h : StandsFor r bytes given) → Resumes (Some fault) r h.head bytes given
 found r fault bytes given some h = let P : Option StimFault → Type 0 = λ f. Resumes f r h.head bytes given in subst P some h.resumes
 
 pub standing : (r : StimReader) (head : List (List ℕ)) (bytes : List ℕ) (given : List StimItem) → r.fault ≡ None → length head ≡ r.lines
@@ -35,7 +39,8 @@ standing r head bytes given none count all settled = record {
   settled = λ s _. settled s;
 }
 
-stays_bad : (r : StimReader) (fault : StimFault) (head : List (List ℕ)) (bytes : List ℕ) (given : List StimItem) → r.fault ≡ Some fault → Resumes (Some fault) r head bytes given → StandsFor r bytes given
+stays_bad : (r : StimReader) (fault : StimFault) (head : List (List ℕ)) (bytes : List ℕ) (given : List StimItem) → r.fault ≡ Some fault
+    → Resumes (Some fault) r head bytes given → StandsFor r bytes given
 stays_bad r fault head bytes given some all = record {
   head = head;
   resumes = let P : Option StimFault → Type 0 = λ f. Resumes f r head bytes given in subst P (sym some) all;
@@ -43,7 +48,8 @@ stays_bad r fault head bytes given some all = record {
 }
 
 -- a found bad line tells all
-told_bad : (events line : ℕ) (head : List (List ℕ)) (bytes : List ℕ) (given : List StimItem) → length head + 1 ≡ line → reading events (bytes ++ []) ≡ found_bad head given → FoundBad line events bytes given
+told_bad : (events line : ℕ) (head : List (List ℕ)) (bytes : List ℕ) (given : List StimItem) → length head + 1 ≡ line
+    → reading events (bytes ++ []) ≡ found_bad head given → FoundBad line events bytes given
 told_bad events line head bytes given count all =
     let e : reading events bytes ≡ found_bad head given = ap (reading events) (sym (append-nil bytes)) ∙ all in
     record {
@@ -55,39 +61,48 @@ told_bad events line head bytes given count all =
 
 -- a bad line comes next
 pub next_bad : (old new : StimReader) (error : StimError) (bytes : List ℕ) (given : List StimItem) → old.fault ≡ None → owed old.state ≡ []
-    → ((tail : List ℕ) → from old (left old ++ tail) ≡ bad_at_once true) → BadIs error old new → StandsFor old bytes given → NextIs (Err error) new bytes given
+    → ((tail : List ℕ) → from old (left old ++ tail) ≡ bad_at_once true) → BadIs error old new → StandsFor old bytes given
+    → NextIs (Err error) new bytes given
 next_bad old new (errors.Bad fault) bytes given none nothing bad (line, some, settled, events) h =
     let on = resumes old bytes given none h in
     let all : (tail : List ℕ) → reading new.events (bytes ++ tail) ≡ found_bad h.head given =
-    λ tail. ap (λ e. reading e (bytes ++ tail)) events ∙ on.1 tail ∙ ap (after h.head (given ++ owed old.state)) (bad tail) ∙ after_bad h.head (given ++ owed old.state)
+    λ tail. ap (λ e. reading e (bytes ++ tail)) events ∙ on.1 tail ∙ ap (after h.head (given ++ owed old.state)) (bad tail)
+    ∙ after_bad h.head (given ++ owed old.state)
     ∙ ap (λ l. found_bad h.head (given ++ l)) nothing ∙ ap (found_bad h.head) (append-nil given) in
     let count : length h.head + 1 ≡ fault.line = ap (λ n. n + 1) on.0 ∙ sym line in
     (stays_bad new fault h.head bytes given some (count, all), told_bad new.events fault.line h.head bytes given count (all []))
 next_bad old new errors.OutOfMemory bytes given none nothing bad h stands = absurd h
 
 -- the bad line is answered again
-pub next_again : (r : StimReader) (fault : StimFault) (bytes : List ℕ) (given : List StimItem) → r.fault ≡ Some fault → StandsFor r bytes given
+pub next_again : (r : StimReader) (fault : StimFault) (bytes : List ℕ) (given : List StimItem) → r.fault ≡ Some fault
+    → StandsFor r bytes given
     → NextIs (Err (errors.Bad fault)) r bytes given
-next_again r fault bytes given some h = let on = found r fault bytes given some h in (h, told_bad r.events fault.line h.head bytes given on.0 (on.1 []))
+next_again r fault bytes given some h =
+    let on = found r fault bytes given some h in (h, told_bad r.events fault.line h.head bytes given on.0 (on.1 []))
 
 -- what was read of a text without a whole line more
-read_to_open : (r : StimReader) (bytes : List ℕ) (given : List StimItem) → r.fault ≡ None → owed r.state ≡ [] → parts (left r) ≡ left r ∷ [] → (h : StandsFor r bytes given)
+read_to_open : (r : StimReader) (bytes : List ℕ) (given : List StimItem) → r.fault ≡ None → owed r.state ≡ [] → parts (left r) ≡ left r ∷ []
+    → (h : StandsFor r bytes given)
     → reading r.events bytes ≡ after h.head given (at_end (place_of r.state) (left r))
 read_to_open r bytes given none nothing one h =
-    ap (reading r.events) (sym (append-nil bytes)) ∙ (resumes r bytes given none h).1 [] ∙ ap (λ l. after h.head (given ++ owed r.state) (from r l)) (append-nil (left r))
+    ap (reading r.events) (sym (append-nil bytes)) ∙ (resumes r bytes given none h).1 []
+    ∙ ap (λ l. after h.head (given ++ owed r.state) (from r l)) (append-nil (left r))
     ∙ ap (λ l. after h.head (given ++ owed r.state) (reading_from r.events (place_of r.state) l)) one
     ∙ ap (after h.head (given ++ owed r.state)) (at_open r.events (place_of r.state) (left r))
-    ∙ ap (λ l. after h.head (given ++ l) (at_end (place_of r.state) (left r))) nothing ∙ ap (λ l. after h.head l (at_end (place_of r.state) (left r))) (append-nil given)
+    ∙ ap (λ l. after h.head (given ++ l) (at_end (place_of r.state) (left r))) nothing
+    ∙ ap (λ l. after h.head l (at_end (place_of r.state) (left r))) (append-nil given)
 
 -- only `Ended` has nothing to give at the end
-open_there : (s : State) (line : List ℕ) → owed s ≡ [] → ¬ ((s ≡ states.Ended) × (0 < length line)) → ¬ ((place_of s ≡ Ended) × (0 < length line))
+open_there : (s : State) (line : List ℕ) → owed s ≡ [] → ¬ ((s ≡ states.Ended) × (0 < length line))
+    → ¬ ((place_of s ≡ Ended) × (0 < length line))
 open_there states.First line nothing other = λ p. absurd (let e = p.0 in cc)
 open_there states.Between line nothing other = λ p. absurd (let e = p.0 in cc)
 open_there (states.Inside n input) line nothing other = λ p. absurd (let e = p.0 in cc)
 open_there states.Last line nothing other = absurd (cc)
 open_there states.Ended line nothing other = λ p. other (refl, p.1)
 
-missing_there : (s : State) (line : List ℕ) → owed s ≡ [] → ¬ ((s ≡ states.Ended) × (length line ≡ 0)) → ¬ ((place_of s ≡ Ended) × (length line ≡ 0))
+missing_there : (s : State) (line : List ℕ) → owed s ≡ [] → ¬ ((s ≡ states.Ended) × (length line ≡ 0))
+    → ¬ ((place_of s ≡ Ended) × (length line ≡ 0))
 missing_there states.First line nothing other = λ p. absurd (let e = p.0 in cc)
 missing_there states.Between line nothing other = λ p. absurd (let e = p.0 in cc)
 missing_there (states.Inside n input) line nothing other = λ p. absurd (let e = p.0 in cc)
@@ -95,13 +110,17 @@ missing_there states.Last line nothing other = absurd (cc)
 missing_there states.Ended line nothing other = λ p. other (refl, p.1)
 
 -- no whole line is left
-pub next_open : (old new : StimReader) (bytes : List ℕ) (given : List StimItem) → old.fault ≡ None → owed old.state ≡ [] → length (left old) ≤ 128 → parts (left old) ≡ left old ∷ []
-    → ¬ (IsPastEnd old.state (left old)) → new.events ≡ old.events → new.lines ≡ old.lines → new.state ≡ old.state → new.fault ≡ old.fault → left new ≡ left old
+pub next_open : (old new : StimReader) (bytes : List ℕ) (given : List StimItem) → old.fault ≡ None → owed old.state ≡ []
+    → length (left old) ≤ 128 → parts (left old) ≡ left old ∷ []
+    → ¬ (IsPastEnd old.state (left old)) → new.events ≡ old.events → new.lines ≡ old.lines → new.state ≡ old.state → new.fault ≡ old.fault
+    → left new ≡ left old
     → StandsFor old bytes given → NextIs (Ok None) new bytes given
 next_open old new bytes given none nothing short one other events lines state fault rest h =
     let on = resumes old bytes given none h in
-    let now : reading new.events bytes ≡ after h.head given (at_end (place_of old.state) (left old)) = ap (λ e. reading e bytes) events ∙ read_to_open old bytes given none nothing one h in
-    let all : (reading new.events bytes).items ≡ given = ap (λ (r : Reading). r.items) now ∙ ap (λ l. given ++ l) (open_items (place_of old.state) (left old)) ∙ append-nil given in (
+    let now : reading new.events bytes ≡ after h.head given (at_end (place_of old.state) (left old)) = ap (λ e. reading e bytes) events
+    ∙ read_to_open old bytes given none nothing one h in
+    let all : (reading new.events bytes).items ≡ given = ap (λ (r : Reading). r.items) now
+    ∙ ap (λ l. given ++ l) (open_items (place_of old.state) (left old)) ∙ append-nil given in (
       standing new h.head bytes given (fault ∙ none) (on.0 ∙ sym lines)
           (λ tail. ap (λ e. reading e (bytes ++ tail)) events ∙ on.1 tail
           ∙ (λ i. after h.head (given ++ owed (sym state i)) (reading_from (sym events i) (place_of (sym state i)) (parts (sym rest i ++ tail)))))
@@ -109,7 +128,9 @@ next_open old new bytes given none nothing short one other events lines state fa
       record {
         items = all;
         blocks = ap inputs_of all;
-        good = ap (λ (r : Reading). r.bad_is_fed) now ∙ open_fed (place_of old.state) (left old) short (open_there old.state (left old) nothing other);
+        good =
+            ap (λ (r : Reading). r.bad_is_fed) now
+            ∙ open_fed (place_of old.state) (left old) short (open_there old.state (left old) nothing other);
       },
     )
 
@@ -119,7 +140,8 @@ pub gives : (events : ℕ) (head : List (List ℕ)) (bytes : List ℕ) (given : 
 gives events head bytes given item more r e =
     let whole : reading events bytes ≡ after head ((given ++ item ∷ []) ++ more) r = ap (reading events) (sym (append-nil bytes)) ∙ e in
     let all : (reading events bytes).items ≡ given ++ item ∷ (more ++ r.items) =
-    ap (λ (x : Reading). x.items) whole ∙ append_assoc (given ++ item ∷ []) more r.items ∙ append_assoc given (item ∷ []) (more ++ r.items) in
+    ap (λ (x : Reading). x.items) whole ∙ append_assoc (given ++ item ∷ []) more r.items
+    ∙ append_assoc given (item ∷ []) (more ++ r.items) in
     record { others = more ++ r.items; items = all; within = next_within events bytes given (more ++ r.items) item all; few = next_few events bytes given (more ++ r.items) item all }
 
 -- the end of the input
@@ -127,21 +149,28 @@ at_last : (r : StimReader) (bytes : List ℕ) (given : List StimItem) → r.faul
     → reading r.events bytes ≡ after h.head given (at_end (place_of r.state) (left r))
 at_last r bytes given none settled h = let s = h.settled settled none in read_to_open r bytes given none s.1 s.0 h
 
-pub finish_found : (r : StimReader) (fault : StimFault) (bytes : List ℕ) (given : List StimItem) → r.fault ≡ Some fault → StandsFor r bytes given → ending r.events bytes ≡ BadLine fault.line
-finish_found r fault bytes given some h = let on = found r fault bytes given some h in (told_bad r.events fault.line h.head bytes given on.0 (on.1 [])).ending
+pub finish_found : (r : StimReader) (fault : StimFault) (bytes : List ℕ) (given : List StimItem) → r.fault ≡ Some fault
+    → StandsFor r bytes given → ending r.events bytes ≡ BadLine fault.line
+finish_found r fault bytes given some h =
+    let on = found r fault bytes given some h in (told_bad r.events fault.line h.head bytes given on.0 (on.1 [])).ending
 
-whole_ending : (head : List (List ℕ)) (given : List StimItem) (r : Reading) → r.is_whole ≡ true → ending_of (after head given r) ≡ Terminated
+whole_ending : (head : List (List ℕ)) (given : List StimItem) (r : Reading) → r.is_whole ≡ true → ending_of (after head given r)
+    ≡ Terminated
 whole_ending head given r e = rw e refl
 
-bad_ending : (head : List (List ℕ)) (given : List StimItem) (r : Reading) → r.is_whole ≡ false → r.head ≡ [] → ending_of (after head given r) ≡ BadLine (length head + 1)
-bad_ending head given r e nothing = rw e (ap (λ (l : List (List ℕ)). BadLine (length l + 1)) (ap (λ l. head ++ l) nothing ∙ append-nil head))
+bad_ending : (head : List (List ℕ)) (given : List StimItem) (r : Reading) → r.is_whole ≡ false → r.head ≡ []
+    → ending_of (after head given r) ≡ BadLine (length head + 1)
+bad_ending head given r e nothing =
+    rw e (ap (λ (l : List (List ℕ)). BadLine (length l + 1)) (ap (λ l. head ++ l) nothing ∙ append-nil head))
 
-pub finish_ended : (r : StimReader) (bytes : List ℕ) (given : List StimItem) → r.fault ≡ None → IsSettled r → r.state ≡ states.Ended → length (left r) ≡ 0 → StandsFor r bytes given → ending r.events bytes ≡ Terminated
+pub finish_ended : (r : StimReader) (bytes : List ℕ) (given : List StimItem) → r.fault ≡ None → IsSettled r → r.state ≡ states.Ended
+    → length (left r) ≡ 0 → StandsFor r bytes given → ending r.events bytes ≡ Terminated
 finish_ended r bytes given none settled ended nothing h =
     ap ending_of (at_last r bytes given none settled h)
     ∙ whole_ending h.head given (at_end (place_of r.state) (left r)) (ap (λ s. (at_end (place_of s) (left r)).is_whole) ended ∙ ended_whole (left r) nothing)
 
-pub finish_bad : (r : StimReader) (bytes : List ℕ) (given : List StimItem) → r.fault ≡ None → IsSettled r → ¬ ((r.state ≡ states.Ended) × (length (left r) ≡ 0)) → StandsFor r bytes given → ending r.events bytes ≡ BadLine (r.lines + 1)
+pub finish_bad : (r : StimReader) (bytes : List ℕ) (given : List StimItem) → r.fault ≡ None → IsSettled r
+    → ¬ ((r.state ≡ states.Ended) × (length (left r) ≡ 0)) → StandsFor r bytes given → ending r.events bytes ≡ BadLine (r.lines + 1)
 finish_bad r bytes given none settled other h =
     let p : Place = place_of r.state in
     ap ending_of (at_last r bytes given none settled h)

@@ -1,5 +1,6 @@
 -- What taking a line leaves a reader to stand for.
-use Rattle.std.proofs.Common.{◌≡◌, ℕ, ◌+◌, ◌<◌, ◌≤◌, List, [], ◌∷◌, ◌++◌, length, take, drop, true, Some, None, Result, Ok, Err, sym, ap, ◌∙◌, arith, append_assoc, append-nil, drop-drop, add-zero, length-append, length-drop}
+use Rattle.std.proofs.Common.{◌≡◌, ℕ, ◌+◌, ◌<◌, ◌≤◌, List, [], ◌∷◌, ◌++◌, length, take, drop, true, Some, None, Result, Ok, Err, sym, ap}
+use Rattle.std.proofs.Common.{◌∙◌, arith, append_assoc, append-nil, drop-drop, add-zero, length-append, length-drop}
 use Rattle.stimulus.specs.declared.line.Line.{Line}
 use Rattle.stimulus.specs.declared.state.State.{State}
 use Rattle.stimulus.specs.declared.state.State.TheVariants as states
@@ -33,9 +34,12 @@ pub record Begins (end : ℕ) (r : StimReader) : Type 0 where
   pub cut : (tail : List ℕ) → parts (left r ++ tail) ≡ take end (left r) ∷ parts (drop (end + 1) (left r) ++ tail)
 
 -- after a line was taken
-moved : (old new : StimReader) (bytes : List ℕ) (given more : List StimItem) (end : ℕ) → old.fault ≡ None → owed old.state ≡ [] → Begins end old
-    → taken_at old.events (place_of old.state) (take end (left old)) ≡ step more (place_of new.state) → Moves (end + 1) 1 old new → (h : StandsFor old bytes given)
-    → (tail : List ℕ) → reading new.events (bytes ++ tail) ≡ after (h.head ++ take end (left old) ∷ []) (given ++ more) (from new (left new ++ tail))
+moved : (old new : StimReader) (bytes : List ℕ) (given more : List StimItem) (end : ℕ) → old.fault ≡ None → owed old.state ≡ []
+    → Begins end old
+    → taken_at old.events (place_of old.state) (take end (left old)) ≡ step more (place_of new.state) → Moves (end + 1) 1 old new
+    → (h : StandsFor old bytes given)
+    → (tail : List ℕ) → reading new.events (bytes ++ tail)
+    ≡ after (h.head ++ take end (left old) ∷ []) (given ++ more) (from new (left new ++ tail))
 moved old new bytes given more end none nothing begins takes (keeps, read, count) h tail =
     let line : List ℕ = take end (left old) in
     let rest : List ℕ = drop (end + 1) (left old) in
@@ -46,17 +50,21 @@ moved old new bytes given more end none nothing begins takes (keeps, read, count
     ∙ after_after h.head (line ∷ []) given more (reading_from old.events (place_of new.state) (parts (rest ++ tail)))
     ∙ (λ i. after (h.head ++ line ∷ []) (given ++ more) (reading_from (sym keeps.events i) (place_of new.state) (parts (sym same i ++ tail))))
 
-counted : (old new : StimReader) (head : List (List ℕ)) (line : List ℕ) → length head ≡ old.lines → new.lines ≡ old.lines + 1 → length (head ++ line ∷ []) ≡ new.lines
+counted : (old new : StimReader) (head : List (List ℕ)) (line : List ℕ) → length head ≡ old.lines → new.lines ≡ old.lines + 1
+    → length (head ++ line ∷ []) ≡ new.lines
 counted old new head line count lines = length-append head (line ∷ []) ∙ ap (λ n. n + 1) count ∙ sym lines
 
-unsettled : (old new : StimReader) (bytes : List ℕ) (given : List StimItem) (end : ℕ) → old.fault ≡ None → new.settled ≡ old.settled → Begins end old → StandsFor old bytes given
+unsettled : (old new : StimReader) (bytes : List ℕ) (given : List StimItem) (end : ℕ) → old.fault ≡ None → new.settled ≡ old.settled
+    → Begins end old → StandsFor old bytes given
     → new.settled ≡ true → (parts (left new) ≡ left new ∷ []) × (owed new.state ≡ [])
 unsettled old new bytes given end none same begins h settled =
     absurd (two_parts (left old) (take end (left old)) (drop (end + 1) (left old) ++ []) (h.settled (sym same ∙ settled) none).0 (begins.cut []))
 
 -- a line that is spelled well
-pub line_taken : (old new : StimReader) (answer : Result Progress StimError) (l : Line) (end : ℕ) (bytes : List ℕ) (given : List StimItem) → old.fault ≡ None → owed old.state ≡ [] → Begins end old
-    → line_of old.events (take end (left old)) ≡ Some l → TookIs answer l (end + 1) old new → StandsFor old bytes given → LineIs answer new bytes given
+pub line_taken : (old new : StimReader) (answer : Result Progress StimError) (l : Line) (end : ℕ) (bytes : List ℕ) (given : List StimItem)
+    → old.fault ≡ None → owed old.state ≡ [] → Begins end old
+    → line_of old.events (take end (left old)) ≡ Some l → TookIs answer l (end + 1) old new → StandsFor old bytes given
+    → LineIs answer new bytes given
 line_taken old new (Ok progress.Line) l end bytes given none nothing begins spelled (moves, takes) h =
     let there = taken_there old.events (place_of old.state) (take end (left old)) l begins.short spelled in
     let line : List ℕ = take end (left old) in
@@ -66,7 +74,8 @@ line_taken old new (Ok progress.Line) l end bytes given none nothing begins spel
 line_taken old new (Ok (progress.Item item)) l end bytes given none nothing begins spelled (moves, takes) h =
     let there = taken_there old.events (place_of old.state) (take end (left old)) l begins.short spelled in
     let line : List ℕ = take end (left old) in
-    let all : (tail : List ℕ) → reading new.events (bytes ++ tail) ≡ after (h.head ++ line ∷ []) ((given ++ item ∷ []) ++ owed new.state) (from new (left new ++ tail)) =
+    let all : (tail : List ℕ) → reading new.events (bytes ++ tail)
+    ≡ after (h.head ++ line ∷ []) ((given ++ item ∷ []) ++ owed new.state) (from new (left new ++ tail)) =
     λ tail. moved old new bytes given (item ∷ owed new.state) end none nothing begins (there ∙ takes) moves h tail
     ∙ ap (λ l. after (h.head ++ line ∷ []) l (from new (left new ++ tail))) (sym (append_assoc given (item ∷ []) (owed new.state))) in (
       standing new (h.head ++ line ∷ []) bytes (given ++ item ∷ []) (moves.0.fault ∙ none) (counted old new h.head line (resumes old bytes given none h).0 moves.2) all
@@ -87,7 +96,8 @@ line_taken old new (Err errors.OutOfMemory) l end bytes given none nothing begin
     (unsettled old new bytes given end none keeps.settled begins h)
 
 -- a whole line that is not spelled well
-pub line_bad : (old new : StimReader) (error : StimError) (end : ℕ) (bytes : List ℕ) (given : List StimItem) → old.fault ≡ None → owed old.state ≡ [] → Begins end old
+pub line_bad : (old new : StimReader) (error : StimError) (end : ℕ) (bytes : List ℕ) (given : List StimItem) → old.fault ≡ None
+    → owed old.state ≡ [] → Begins end old
     → line_of old.events (take end (left old)) ≡ None → BadIs error old new → StandsFor old bytes given → NextIs (Err error) new bytes given
 line_bad old new error end bytes given none nothing begins spelled bad h =
     let line : List ℕ = take end (left old) in
@@ -95,8 +105,10 @@ line_bad old new error end bytes given none nothing begins spelled bad h =
     (λ tail. is_bad old.events (place_of old.state) line (left old ++ tail) (drop (end + 1) (left old) ++ tail) (begins.cut tail) (none_there old.events (place_of old.state) line spelled)) bad h
 
 pub line_long : (old new : StimReader) (error : StimError) (bytes : List ℕ) (given : List StimItem) → old.fault ≡ None → owed old.state ≡ []
-    → ((tail : List ℕ) → IsLong (parts (left old ++ tail))) → BadIs error old new → StandsFor old bytes given → NextIs (Err error) new bytes given
-line_long old new error bytes given none nothing long bad h = next_bad old new error bytes given none nothing (λ tail. is_long old.events (place_of old.state) (left old ++ tail) (long tail)) bad h
+    → ((tail : List ℕ) → IsLong (parts (left old ++ tail))) → BadIs error old new → StandsFor old bytes given
+    → NextIs (Err error) new bytes given
+line_long old new error bytes given none nothing long bad h =
+    next_bad old new error bytes given none nothing (λ tail. is_long old.events (place_of old.state) (left old ++ tail) (long tail)) bad h
 
 past : (events : ℕ) (xs tail : List ℕ) → 0 < length xs → reading_from events Ended (parts (xs ++ tail)) ≡ bad_at_once true
 past events [] tail some = absurd (omega arith)
@@ -108,12 +120,15 @@ line_past old new error bytes given none nothing (ended, some) bad h =
     next_bad old new error bytes given none nothing (λ tail. ap (λ s. reading_from old.events (place_of s) (parts (left old ++ tail))) ended ∙ past old.events (left old) tail some) bad h
 
 -- the end is given
-pub last_given : (old new : StimReader) (bytes : List ℕ) (given : List StimItem) → old.fault ≡ None → old.state ≡ states.Last → new.state ≡ states.Ended → new.fault ≡ old.fault
-    → new.events ≡ old.events → new.lines ≡ old.lines → new.settled ≡ old.settled → left new ≡ left old → StandsFor old bytes given → NextIs (Ok (Some items.Terminate)) new bytes given
+pub last_given : (old new : StimReader) (bytes : List ℕ) (given : List StimItem) → old.fault ≡ None → old.state ≡ states.Last → new.state
+    ≡ states.Ended → new.fault ≡ old.fault
+    → new.events ≡ old.events → new.lines ≡ old.lines → new.settled ≡ old.settled → left new ≡ left old → StandsFor old bytes given
+    → NextIs (Ok (Some items.Terminate)) new bytes given
 last_given old new bytes given none last ended fault events lines settled rest h =
     let on = resumes old bytes given none h in
     let t : List StimItem = items.Terminate ∷ [] in
-    let all : (tail : List ℕ) → reading new.events (bytes ++ tail) ≡ after h.head ((given ++ t) ++ owed new.state) (from new (left new ++ tail)) =
+    let all : (tail : List ℕ) → reading new.events (bytes ++ tail)
+    ≡ after h.head ((given ++ t) ++ owed new.state) (from new (left new ++ tail)) =
     λ tail. ap (λ e. reading e (bytes ++ tail)) events ∙ on.1 tail
     ∙ ap (λ s. after h.head (given ++ owed s) (reading_from old.events (place_of s) (parts (left old ++ tail)))) last
     ∙ (λ i. after h.head (sym (append-nil (given ++ t)) i) (reading_from old.events Ended (parts (left old ++ tail))))
@@ -130,17 +145,21 @@ owes_one (states.Inside n input) = omega arith
 owes_one states.Last = omega arith
 owes_one states.Ended = omega arith
 
-fewer_left : (old new : StimReader) (len : ℕ) → old.read + len ≤ length old.pending.items → new.pending.items ≡ old.pending.items → new.read ≡ old.read + len → length (left new) + len ≡ length (left old)
+fewer_left : (old new : StimReader) (len : ℕ) → old.read + len ≤ length old.pending.items → new.pending.items ≡ old.pending.items → new.read
+    ≡ old.read + len → length (left new) + len ≡ length (left old)
 fewer_left old new len within pending read =
     let same : length new.pending.items ≡ length old.pending.items = ap (λ (l : List ℕ). length l) pending in
     omega (arith, length-drop new.read new.pending.items, length-drop old.read old.pending.items)
 
 -- fewer items wait after a line was taken
-pub took_shrinks : (old new : StimReader) (answer : Result Progress StimError) (l : Line) (len : ℕ) → 0 < len → old.read + len ≤ length old.pending.items → owed old.state ≡ []
+pub took_shrinks : (old new : StimReader) (answer : Result Progress StimError) (l : Line) (len : ℕ) → 0 < len
+    → old.read + len ≤ length old.pending.items → owed old.state ≡ []
     → TookIs answer l len old new → Shrinks answer old new
-took_shrinks old new (Ok progress.Line) l len some within nothing ((keeps, read, count), takes) = let left : length (left new) + len ≡ length (left old) = fewer_left old new len within keeps.pending read in
+took_shrinks old new (Ok progress.Line) l len some within nothing ((keeps, read, count), takes) =
+    let left : length (left new) + len ≡ length (left old) = fewer_left old new len within keeps.pending read in
     let none : length (owed new.state) ≡ 0 = ap (λ (l : List StimItem). length l) takes.1 in omega arith
-took_shrinks old new (Ok (progress.Item item)) l len some within nothing ((keeps, read, count), takes) = let left : length (left new) + len ≡ length (left old) = fewer_left old new len within keeps.pending read in
+took_shrinks old new (Ok (progress.Item item)) l len some within nothing ((keeps, read, count), takes) =
+    let left : length (left new) + len ≡ length (left old) = fewer_left old new len within keeps.pending read in
     let one : length (owed new.state) ≤ 1 = owes_one new.state in omega arith
 took_shrinks old new (Ok progress.Open) l len some within nothing took = absurd took
 took_shrinks old new (Err error) l len some within nothing took = tt

@@ -1,5 +1,7 @@
 -- A line has one spelling.
-use Rattle.std.proofs.Common.{◌≡◌, ℕ, suc, ◌+◌, ◌^◌, ◌<◌, ◌≤◌, ℤ, List, [], ◌∷◌, ◌++◌, length, take, drop, get_or, Bool, true, false, cond, ◌&&◌, not, nat_lt, nat_eq, Option, Some, None, refl, sym, ap, ◌∙◌, subst, arith, codes, take-append-drop, length-append, drop-cons}
+use Rattle.std.proofs.Common.{◌≡◌, ℕ, suc, ◌+◌, ◌^◌, ◌<◌, ◌≤◌, ℤ, List, [], ◌∷◌, ◌++◌, length, take, drop, get_or, Bool, true, false, cond}
+use Rattle.std.proofs.Common.{◌&&◌, not, nat_lt, nat_eq, Option, Some, None, refl, sym, ap, ◌∙◌, subst, arith, codes, take-append-drop}
+use Rattle.std.proofs.Common.{length-append, drop-cons}
 use Rattle.std.specs.Fmt.{decimal, signed_decimal}
 use Rattle.std.specs.Str.{bytes_eq}
 use Rattle.std.specs.Str.Parse.{AllDigits}
@@ -25,26 +27,33 @@ first_space (b ∷ bs) rest h =
     let on = tells_digits.parts b bs h in
     let low : 48 ≤ b = on.0.0 in
     let other : nat_eq b 32 ≡ false = grind (arith, nat_tests) in
-    ap (λ t. cond (not t) (1 + position_or_len (λ b. nat_eq b 32) (bs ++ 32 ∷ rest)) 0) other ∙ (let next = first_space bs rest on.1 in omega arith)
+    ap (λ t. cond (not t) (1 + position_or_len (λ b. nat_eq b 32) (bs ++ 32 ∷ rest)) 0) other
+    ∙ (let next = first_space bs rest on.1 in omega arith)
 
 at_space : (bs rest : List ℕ) → AllDigits 10 bs → position (λ b. nat_eq b 32) (bs ++ 32 ∷ rest) ≡ Some (length bs)
 at_space bs rest h =
-    let within : nat_lt (length bs) (length (bs ++ 32 ∷ rest)) ≡ true = let count : length (bs ++ 32 ∷ rest) ≡ length bs + suc (length rest) = length-append bs (32 ∷ rest) in grind (arith, nat_tests) in
-    ap (λ n. cond (nat_lt n (length (bs ++ 32 ∷ rest))) (Some n) None) (first_space bs rest h) ∙ ap (λ t. cond t (Some (length bs)) None) within
+    let within : nat_lt (length bs) (length (bs ++ 32 ∷ rest)) ≡ true = let count : length (bs ++ 32 ∷ rest)
+    ≡ length bs + suc (length rest) = length-append bs (32 ∷ rest) in grind (arith, nat_tests) in
+    ap (λ n. cond (nat_lt n (length (bs ++ 32 ∷ rest))) (Some n) None) (first_space bs rest h)
+    ∙ ap (λ t. cond t (Some (length bs)) None) within
 
 past_space : (bs rest : List ℕ) → drop (length bs + 1) (bs ++ 32 ∷ rest) ≡ rest
 past_space [] rest = refl
-past_space (b ∷ bs) rest = ap (λ n. drop n (b ∷ (bs ++ 32 ∷ rest))) (let e : suc (length bs) + 1 ≡ suc (length bs + 1) = omega arith in e) ∙ past_space bs rest
+past_space (b ∷ bs) rest =
+    ap (λ n. drop n (b ∷ (bs ++ 32 ∷ rest))) (let e : suc (length bs) + 1 ≡ suc (length bs + 1) = omega arith in e) ∙ past_space bs rest
 
-sample_written : (events : ℕ) (s : SampleValue) → events ≤ 2 ^ 16 → IsSample events s → sample_line events (decimal s.event ++ (32 ∷ signed_decimal s.value)) ≡ Some (lines.Sample s)
+sample_written : (events : ℕ) (s : SampleValue) → events ≤ 2 ^ 16 → IsSample events s
+    → sample_line events (decimal s.event ++ (32 ∷ signed_decimal s.value)) ≡ Some (lines.Sample s)
 sample_written events s few h =
     let e : List ℕ = decimal s.event in
     let v : List ℕ = signed_decimal s.value in
     let in_range : s.event < events = h.event in
     let small : s.event < 2 ^ 64 = omega arith in
     let event : below events (number (take (length e) (e ++ 32 ∷ v))) ≡ Some s.event =
-    ap (λ l. below events (number l)) (take_at e (32 ∷ v) (length e) refl) ∙ ap (below events) (number_of_decimal s.event small) ∙ is_below events s.event in_range in
-    let value : value_of (drop (length e + 1) (e ++ 32 ∷ v)) ≡ Some s.value = ap value_of (past_space e v) ∙ value_of_decimal s.value h.value in
+    ap (λ l. below events (number l)) (take_at e (32 ∷ v) (length e) refl) ∙ ap (below events) (number_of_decimal s.event small)
+    ∙ is_below events s.event in_range in
+    let value : value_of (drop (length e + 1) (e ++ 32 ∷ v)) ≡ Some s.value = ap value_of (past_space e v)
+    ∙ value_of_decimal s.value h.value in
     ap (sample_words events (e ++ 32 ∷ v)) (at_space e v (digits_of s.event small)) ∙ (λ i. sampled (event i) (value i))
 
 no_dash_alone : (bs : List ℕ) → AllDigits 10 bs → bytes_eq bs (codes "-") ≡ false
@@ -73,10 +82,12 @@ unfolding line_of
 line_of_spelling events lines.Stim few h = refl
 line_of_spelling events (lines.Cycle None) few h = refl
 line_of_spelling events (lines.Cycle (Some time)) few h = cycle_prefix events (decimal time) ∙ cycle_written time h
-line_of_spelling events (lines.Sample s) few h = sample_prefix events (decimal s.event ++ (codes " " ++ signed_decimal s.value)) ∙ sample_written events s few h
+line_of_spelling events (lines.Sample s) few h =
+    sample_prefix events (decimal s.event ++ (codes " " ++ signed_decimal s.value)) ∙ sample_written events s few h
 line_of_spelling events lines.Terminate few h = refl
 
-from_time : (bytes : List ℕ) (o : Option ℕ) (l : Line) → below (2 ^ 64) (number bytes) ≡ o → timed o ≡ Some l → codes "cycle " ++ bytes ≡ spelling l
+from_time : (bytes : List ℕ) (o : Option ℕ) (l : Line) → below (2 ^ 64) (number bytes) ≡ o → timed o ≡ Some l → codes "cycle " ++ bytes
+    ≡ spelling l
 from_time bytes None l read e = absurd (cc)
 from_time bytes (Some time) l read e =
     let found = below_some (2 ^ 64) time (number bytes) read in
@@ -85,11 +96,14 @@ from_time bytes (Some time) l read e =
 
 from_cycle : (bytes : List ℕ) (l : Line) → cycle_line bytes ≡ Some l → codes "cycle " ++ bytes ≡ spelling l
 from_cycle bytes l e = choice (bytes_eq bytes (codes "-")) refl e where
-  choice : (t : Bool) → bytes_eq bytes (codes "-") ≡ t → cond t (Some (lines.Cycle None)) (timed (below (2 ^ 64) (number bytes))) ≡ Some l → codes "cycle " ++ bytes ≡ spelling l
-  choice true dash found = let same : lines.Cycle None ≡ l = cc in ap (λ b. codes "cycle " ++ b) (same_bytes bytes (codes "-") dash) ∙ ap spelling same
+  choice : (t : Bool) → bytes_eq bytes (codes "-") ≡ t → cond t (Some (lines.Cycle None)) (timed (below (2 ^ 64) (number bytes))) ≡ Some l
+      → codes "cycle " ++ bytes ≡ spelling l
+  choice true dash found =
+      let same : lines.Cycle None ≡ l = cc in ap (λ b. codes "cycle " ++ b) (same_bytes bytes (codes "-") dash) ∙ ap spelling same
   choice false dash found = from_time bytes (below (2 ^ 64) (number bytes)) l refl found
 
-from_sampled : (events : ℕ) (first second : List ℕ) (event : Option ℕ) (value : Option ℤ) (l : Line) → events ≤ 2 ^ 16 → below events (number first) ≡ event → value_of second ≡ value → sampled event value ≡ Some l
+from_sampled : (events : ℕ) (first second : List ℕ) (event : Option ℕ) (value : Option ℤ) (l : Line) → events ≤ 2 ^ 16
+    → below events (number first) ≡ event → value_of second ≡ value → sampled event value ≡ Some l
     → codes "sample " ++ (first ++ (32 ∷ second)) ≡ spelling l
 from_sampled events first second None value l few one two e = absurd (cc)
 from_sampled events first second (Some event) None l few one two e = absurd (cc)
@@ -97,15 +111,19 @@ from_sampled events first second (Some event) (Some value) l few one two e =
     let found = below_some events event (number first) one in
     let small : event < events = found.1 in
     let same : lines.Sample (record { event = event; value = value }) ≡ l = cc in
-    (λ i. codes "sample " ++ (decimal_of_number first event found.0 (omega arith) i ++ (32 ∷ decimal_of_value second value two i))) ∙ ap spelling same
+    (λ i. codes "sample " ++ (decimal_of_number first event found.0 (omega arith) i ++ (32 ∷ decimal_of_value second value two i)))
+    ∙ ap spelling same
 
-parted : (words : List ℕ) (space : ℕ) → position (λ b. nat_eq b 32) words ≡ Some space → words ≡ take space words ++ (32 ∷ drop (space + 1) words)
+parted : (words : List ℕ) (space : ℕ) → position (λ b. nat_eq b 32) words ≡ Some space → words ≡ take space words
+    ++ (32 ∷ drop (space + 1) words)
 parted words space e =
     let found = position-Some (λ b. nat_eq b 32) words space 0 e in
     let is : get_or words space 0 ≡ 32 = let test : nat_eq (get_or words space 0) 32 ≡ true = found.1 in grind (arith, nat_tests) in
-    sym (take-append-drop space words) ∙ ap (λ l. take space words ++ l) (drop-cons words space 0 found.0 ∙ (λ i. is i ∷ drop (suc space) words) ∙ ap (λ n. 32 ∷ drop n words) (let k : suc space ≡ space + 1 = omega arith in k))
+    sym (take-append-drop space words)
+    ∙ ap (λ l. take space words ++ l) (drop-cons words space 0 found.0 ∙ (λ i. is i ∷ drop (suc space) words) ∙ ap (λ n. 32 ∷ drop n words) (let k : suc space ≡ space + 1 = omega arith in k))
 
-from_words : (events : ℕ) (words : List ℕ) (o : Option ℕ) (l : Line) → events ≤ 2 ^ 16 → position (λ b. nat_eq b 32) words ≡ o → sample_words events words o ≡ Some l → codes "sample " ++ words ≡ spelling l
+from_words : (events : ℕ) (words : List ℕ) (o : Option ℕ) (l : Line) → events ≤ 2 ^ 16 → position (λ b. nat_eq b 32) words ≡ o
+    → sample_words events words o ≡ Some l → codes "sample " ++ words ≡ spelling l
 from_words events words None l few at e = absurd (cc)
 from_words events words (Some space) l few at e =
     ap (λ b. codes "sample " ++ b) (parted words space at)
@@ -114,17 +132,22 @@ from_words events words (Some space) l few at e =
 prefixed : (n : ℕ) (bytes front : List ℕ) → bytes_eq (take n bytes) front ≡ true → bytes ≡ front ++ drop n bytes
 prefixed n bytes front e = sym (take-append-drop n bytes) ∙ ap (λ l. l ++ drop n bytes) (same_bytes (take n bytes) front e)
 
-from_sample : (events : ℕ) (bytes : List ℕ) (l : Line) → events ≤ 2 ^ 16 → cond (bytes_eq (take 7 bytes) (codes "sample ")) (sample_line events (drop 7 bytes)) None ≡ Some l → bytes ≡ spelling l
+from_sample : (events : ℕ) (bytes : List ℕ) (l : Line) → events ≤ 2 ^ 16
+    → cond (bytes_eq (take 7 bytes) (codes "sample ")) (sample_line events (drop 7 bytes)) None ≡ Some l → bytes ≡ spelling l
 from_sample events bytes l few e = choice (bytes_eq (take 7 bytes) (codes "sample ")) refl e where
-  choice : (t : Bool) → bytes_eq (take 7 bytes) (codes "sample ") ≡ t → cond t (sample_line events (drop 7 bytes)) None ≡ Some l → bytes ≡ spelling l
-  choice true front found = prefixed 7 bytes (codes "sample ") front ∙ from_words events (drop 7 bytes) (position (λ b. nat_eq b 32) (drop 7 bytes)) l few refl found
+  choice : (t : Bool) → bytes_eq (take 7 bytes) (codes "sample ") ≡ t → cond t (sample_line events (drop 7 bytes)) None ≡ Some l → bytes
+      ≡ spelling l
+  choice true front found =
+      prefixed 7 bytes (codes "sample ") front
+      ∙ from_words events (drop 7 bytes) (position (λ b. nat_eq b 32) (drop 7 bytes)) l few refl found
   choice false front found = absurd (cc)
 
 from_prefixed : (events : ℕ) (bytes : List ℕ) (l : Line) → events ≤ 2 ^ 16
     → cond (bytes_eq (take 6 bytes) (codes "cycle ")) (cycle_line (drop 6 bytes)) (cond (bytes_eq (take 7 bytes) (codes "sample ")) (sample_line events (drop 7 bytes)) None) ≡ Some l → bytes ≡ spelling l
 from_prefixed events bytes l few e = choice (bytes_eq (take 6 bytes) (codes "cycle ")) refl e where
   choice : (t : Bool) → bytes_eq (take 6 bytes) (codes "cycle ") ≡ t
-      → cond t (cycle_line (drop 6 bytes)) (cond (bytes_eq (take 7 bytes) (codes "sample ")) (sample_line events (drop 7 bytes)) None) ≡ Some l → bytes ≡ spelling l
+      → cond t (cycle_line (drop 6 bytes)) (cond (bytes_eq (take 7 bytes) (codes "sample ")) (sample_line events (drop 7 bytes)) None)
+      ≡ Some l → bytes ≡ spelling l
   choice true front found = prefixed 6 bytes (codes "cycle ") front ∙ from_cycle (drop 6 bytes) l found
   choice false front found = from_sample events bytes l few found
 

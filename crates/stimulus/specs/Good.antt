@@ -1,5 +1,7 @@
--- Good lists of lines, said line by line: which line may stand after which others, and the blocks of such a list.
-use Rattle.std.specs.Prelude.{◌≡◌, ℕ, ◌+◌, ◌<◌, ◌≤◌, nat_lt, ◌↔◌, ◌⊎◌, Bool, true, false, List, [], ◌∷◌, ◌++◌, length, map, Some}
+-- Good lists of lines, said line by line: which line may stand after which others, and the blocks
+-- of such a list.
+use Rattle.std.specs.Prelude.{◌≡◌, ℕ, ◌+◌, ◌<◌, ◌≤◌, nat_lt, ◌↔◌, ◌⊎◌, Bool, true, false, List, []}
+use Rattle.std.specs.Prelude.{◌∷◌, ◌++◌, length, map, Some}
 use Rattle.std.specs.List.{All, count_by}
 use Rattle.det_values.specs.Values.{SampleValue}
 use Rattle.det_values.specs.declared.frames.CycleInput.{CycleInput}
@@ -42,7 +44,8 @@ IsOpen earlier = (0 < length earlier) × (ends earlier ≡ 0)
 abbrev pub MayStand : List Line → Line → Type 0
 MayStand earlier lines.Stim = length earlier ≡ 0
 MayStand earlier (lines.Cycle time) = IsOpen earlier × (cycles earlier < 1000000)
-MayStand earlier (lines.Sample s) = IsOpen earlier × (0 < cycles earlier) × (samples_from 0 earlier < 4096)
+MayStand earlier (lines.Sample s) =
+    IsOpen earlier × (0 < cycles earlier) × (samples_from 0 earlier < 4096)
 MayStand earlier lines.Terminate = IsOpen earlier
 
 -- each of these lines may stand after those before it
@@ -64,8 +67,13 @@ pub record Blocks : Type 0 where
 abbrev pub blocks_in : List Line → Blocks
 blocks_in [] = record { samples = []; inputs = [] }
 blocks_in (lines.Cycle time ∷ later) =
-    record { samples = []; inputs = record { time = time; samples = (blocks_in later).samples } ∷ (blocks_in later).inputs }
-blocks_in (lines.Sample s ∷ later) = record { samples = s ∷ (blocks_in later).samples; inputs = (blocks_in later).inputs }
+    record {
+      samples = [];
+      inputs = record { time = time; samples = (blocks_in later).samples }
+          ∷ (blocks_in later).inputs;
+    }
+blocks_in (lines.Sample s ∷ later) =
+    record { samples = s ∷ (blocks_in later).samples; inputs = (blocks_in later).inputs }
 blocks_in (lines.Stim ∷ later) = blocks_in later
 blocks_in (lines.Terminate ∷ later) = blocks_in later
 
@@ -80,8 +88,8 @@ without_last false (input ∷ next ∷ inputs) = input ∷ without_last false (n
 abbrev pub complete_blocks : List Line → List CycleInput
 complete_blocks says = without_last (nat_lt 0 (ends says)) (blocks_in says).inputs
 
--- after lines that say this, a line counts as fed once its LF was fed, or its 129th byte, or, after the line
--- `terminate`, its first byte
+-- after lines that say this, a line counts as fed once its LF was fed, or its 129th byte, or, after
+-- the line `terminate`, its first byte
 abbrev pub IsFed : List Line → List ℕ → List (List ℕ) → Type 0
 IsFed says line [] = (128 < length line) ⊎ ((ends says ≡ 1) × (0 < length line))
 IsFed says line (next ∷ later) = Unit {0}
@@ -96,9 +104,12 @@ pub record IsHead (events : ℕ) (text : List ℕ) : Type 0 where
   pub begins : parts text ≡ head events text ++ line ∷ others
   -- no more of its whole lines are good
   pub longest : (texts : List (List ℕ)) (next : List ℕ) (later : List (List ℕ)) (more : List Line)
-      → parts text ≡ texts ++ next ∷ later → IsGood events texts more → length texts ≤ length (head events text)
+      → parts text ≡ texts ++ next ∷ later → IsGood events texts more
+      → length texts ≤ length (head events text)
   pub blocks : blocks events text ≡ complete_blocks says
   -- they are all of it, and the last one is `terminate`
-  pub terminated : (ending events text ≡ Terminated) ↔ ((parts text ≡ head events text ++ [] ∷ []) × (ends says ≡ 1))
-  pub bad : (ending events text ≡ Terminated → ⊥) → ending events text ≡ BadLine (length (head events text) + 1)
+  pub terminated : (ending events text ≡ Terminated)
+      ↔ ((parts text ≡ head events text ++ [] ∷ []) × (ends says ≡ 1))
+  pub bad : (ending events text ≡ Terminated → ⊥) → ending events text
+      ≡ BadLine (length (head events text) + 1)
   pub fed : (has_bad events text ≡ true) ↔ IsFed says line others

@@ -1,5 +1,6 @@
 -- The lines of a stimulus, without their LF. The grammar is this project's own.
-use Rattle.std.specs.Prelude.{ℕ, ◌+◌, ◌^◌, ℤ, ◌==◌, List, ◌++◌, take, drop, position, Option, None, Some, if◌then◌else◌, codes}
+use Rattle.std.specs.Prelude.{ℕ, ◌+◌, ◌^◌, ℤ, ◌==◌, List, ◌++◌, take, drop, position, Option, None}
+use Rattle.std.specs.Prelude.{Some, if◌then◌else◌, codes}
 use Rattle.std.specs.Str.{bytes_eq}
 use Rattle.std.specs.Fmt.{decimal, signed_decimal}
 use Rattle.stimulus.specs.declared.line.Line.{Line}
@@ -12,7 +13,9 @@ timed (Some time) = Some (lines.Cycle (Some time))
 
 -- what follows `cycle `
 abbrev pub cycle_line : List ℕ → Option Line
-cycle_line time = if bytes_eq time (codes "-") then Some (lines.Cycle None) else timed (below (2 ^ 64) (number time))
+cycle_line time =
+    if bytes_eq time (codes "-") then Some (lines.Cycle None)
+    else timed (below (2 ^ 64) (number time))
 
 abbrev pub sampled : Option ℕ → Option ℤ → Option Line
 sampled None value = None
@@ -22,7 +25,8 @@ sampled (Some event) (Some value) = Some (lines.Sample (record { event = event; 
 -- two words, parted by the first space
 abbrev pub sample_words : ℕ → List ℕ → Option ℕ → Option Line
 sample_words events words None = None
-sample_words events words (Some space) = sampled (below events (number (take space words))) (value_of (drop (space + 1) words))
+sample_words events words (Some space) =
+    sampled (below events (number (take space words))) (value_of (drop (space + 1) words))
 
 -- what follows `sample `
 abbrev pub sample_line : ℕ → List ℕ → Option Line
@@ -42,5 +46,6 @@ abbrev pub spelling : Line → List ℕ
 spelling lines.Stim = codes "stim 1"
 spelling (lines.Cycle None) = codes "cycle -"
 spelling (lines.Cycle (Some time)) = codes "cycle " ++ decimal time
-spelling (lines.Sample s) = codes "sample " ++ (decimal s.event ++ (codes " " ++ signed_decimal s.value))
+spelling (lines.Sample s) =
+    codes "sample " ++ (decimal s.event ++ (codes " " ++ signed_decimal s.value))
 spelling lines.Terminate = codes "terminate"

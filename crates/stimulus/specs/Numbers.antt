@@ -1,11 +1,15 @@
--- Decimal numbers of a stimulus, whose grammar is this project's own: no leading zero, no plus sign, no `-0`.
-use Rattle.std.specs.Prelude.{ℕ, zero, suc, ◌+◌, ◌-◌, ◌*◌, ℤ, pos, negsuc, ◌==◌, nat_le, nat_lt, ◌&&◌, List, [], ◌∷◌, length, take, drop, Option, None, Some, if◌then◌else◌, codes}
+-- Decimal numbers of a stimulus, whose grammar is this project's own: no leading zero, no plus
+-- sign, no `-0`.
+use Rattle.std.specs.Prelude.{ℕ, zero, suc, ◌+◌, ◌-◌, ◌*◌, ℤ, pos, negsuc, ◌==◌, nat_le, nat_lt}
+use Rattle.std.specs.Prelude.{◌&&◌, List, [], ◌∷◌, length, take, drop, Option, None, Some}
+use Rattle.std.specs.Prelude.{if◌then◌else◌, codes}
 use Rattle.std.specs.Str.{bytes_eq}
 
 -- the number that digits write after those of n
 unfoldable pub number_after : ℕ → List ℕ → Option ℕ
 number_after n [] = Some n
-number_after n (b ∷ bs) = if nat_le 48 b && nat_le b 57 then number_after (n * 10 + (b - 48)) bs else None
+number_after n (b ∷ bs) =
+    if nat_le 48 b && nat_le b 57 then number_after (n * 10 + (b - 48)) bs else None
 
 -- the number that these bytes write, or none
 unfoldable pub number : List ℕ → Option ℕ
@@ -29,5 +33,6 @@ as_negative (Some (suc n)) = Some (negsuc n)
 -- the value of a sample that these bytes write, from -10^12 to 10^12, or none
 unfoldable pub value_of : List ℕ → Option ℤ
 value_of bytes =
-    if bytes_eq (take 1 bytes) (codes "-") then as_negative (below 1000000000001 (number (drop 1 bytes)))
+    if bytes_eq (take 1 bytes) (codes "-")
+    then as_negative (below 1000000000001 (number (drop 1 bytes)))
     else as_positive (below 1000000000001 (number bytes))

@@ -1,5 +1,6 @@
 -- Where a line may stand, and what it completes.
-use Rattle.std.specs.Prelude.{ℕ, ◌+◌, nat_lt, List, [], ◌∷◌, ◌++◌, length, Option, None, Some, if◌then◌else◌}
+use Rattle.std.specs.Prelude.{ℕ, ◌+◌, nat_lt, List, [], ◌∷◌, ◌++◌, length, Option, None, Some}
+use Rattle.std.specs.Prelude.{if◌then◌else◌}
 use Rattle.det_values.specs.Values.{SampleValue}
 use Rattle.det_values.specs.declared.frames.CycleInput.{CycleInput}
 use Rattle.stimulus.specs.declared.line.Line.{Line}
@@ -7,8 +8,8 @@ use Rattle.stimulus.specs.declared.line.Line.TheVariants as lines
 use Rattle.stimulus.specs.declared.item.StimItem.{StimItem}
 use Rattle.stimulus.specs.declared.item.StimItem.TheVariants as items
 
--- what stands before a line: nothing; the first line alone; so many blocks, of which the last one has this input so
--- far; all of a stimulus
+-- what stands before a line: nothing; the first line alone; so many blocks, of which the last one
+-- has this input so far; all of a stimulus
 pub data Place : Type 0 where
   First : Place
   Between : Place
@@ -36,8 +37,10 @@ taken First lines.Stim = step [] Between
 taken Between (lines.Cycle time) = step [] (Inside 1 (begun time))
 taken Between lines.Terminate = step (items.Terminate ∷ []) Ended
 taken (Inside blocks input) (lines.Cycle time) =
-    if nat_lt blocks 1000000 then step (items.Cycle input ∷ []) (Inside (blocks + 1) (begun time)) else None
+    if nat_lt blocks 1000000 then step (items.Cycle input ∷ []) (Inside (blocks + 1) (begun time))
+    else None
 taken (Inside blocks input) (lines.Sample s) =
-    if nat_lt (length input.samples) 4096 then step [] (Inside blocks (with_sample input s)) else None
+    if nat_lt (length input.samples) 4096 then step [] (Inside blocks (with_sample input s))
+    else None
 taken (Inside blocks input) lines.Terminate = step (items.Cycle input ∷ items.Terminate ∷ []) Ended
 taken _ _ = None

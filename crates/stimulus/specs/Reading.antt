@@ -1,5 +1,6 @@
 -- What a text comes to as a stimulus. The format is this project's own.
-use Rattle.std.specs.Prelude.{ℕ, ◌+◌, ◌==◌, nat_lt, Bool, true, false, List, [], ◌∷◌, ◌++◌, length, Option, None, Some, if◌then◌else◌}
+use Rattle.std.specs.Prelude.{ℕ, ◌+◌, ◌==◌, nat_lt, Bool, true, false, List, [], ◌∷◌, ◌++◌, length}
+use Rattle.std.specs.Prelude.{Option, None, Some, if◌then◌else◌}
 use Rattle.std.specs.List.{slice_split}
 use Rattle.det_values.specs.declared.frames.CycleInput.{CycleInput}
 use Rattle.stimulus.specs.declared.line.Line.{Line}
@@ -13,8 +14,8 @@ pub data Ending : Type 0 where
   Terminated : Ending
   BadLine : ℕ → Ending
 
--- the good lines at the beginning of a text, the items that they complete, whether they are all of a stimulus, and
--- whether the bad line counts as fed
+-- the good lines at the beginning of a text, the items that they complete, whether they are all of
+-- a stimulus, and whether the bad line counts as fed
 pub record Reading : Type 0 where
   pub head : List (List ℕ)
   pub items : List StimItem
@@ -27,7 +28,14 @@ parts text = slice_split (λ b. b == 10) text
 
 -- a reading, after good lines that gave these items
 abbrev pub after : List (List ℕ) → List StimItem → Reading → Reading
-after head given r = record { head = head ++ r.head; items = given ++ r.items; is_whole = r.is_whole; bad_is_fed = r.bad_is_fed }
+after head given r =
+    record {
+      head = head ++ r.head;
+      items = given
+          ++ r.items;
+      is_whole = r.is_whole;
+      bad_is_fed = r.bad_is_fed;
+    }
 
 -- the first line is bad
 abbrev pub bad_at_once : Bool → Reading
@@ -36,7 +44,8 @@ bad_at_once fed = record { head = []; items = []; is_whole = false; bad_is_fed =
 abbrev pub complete : Reading
 complete = record { head = []; items = []; is_whole = true; bad_is_fed = false }
 
--- what follows the last LF: it counts as fed from its 129th byte on, and after the end from its first
+-- what follows the last LF: it counts as fed from its 129th byte on, and after the end from its
+-- first
 abbrev pub at_end : Place → List ℕ → Reading
 at_end Ended [] = complete
 at_end Ended (b ∷ bs) = bad_at_once true
@@ -48,7 +57,8 @@ taken_if place (Some line) = taken place line
 
 -- a whole line at a place
 abbrev pub taken_at : ℕ → Place → List ℕ → Option Step
-taken_at events place line = if nat_lt 128 (length line) then None else taken_if place (line_of events line)
+taken_at events place line =
+    if nat_lt 128 (length line) then None else taken_if place (line_of events line)
 
 abbrev pub go_on : List ℕ → Option Step → (Place → Reading) → Reading
 go_on line None next = bad_at_once true
@@ -57,7 +67,8 @@ go_on line (Some s) next = after (line ∷ []) s.items (next s.place)
 unfoldable pub reading_from : ℕ → Place → List (List ℕ) → Reading
 reading_from events place [] = bad_at_once false
 reading_from events place (line ∷ []) = at_end place line
-reading_from events place (line ∷ next ∷ lines) = go_on line (taken_at events place line) (λ p. reading_from events p (next ∷ lines))
+reading_from events place (line ∷ next ∷ lines) =
+    go_on line (taken_at events place line) (λ p. reading_from events p (next ∷ lines))
 
 -- a whole text, with so many events
 abbrev pub reading : ℕ → List ℕ → Reading

@@ -1,5 +1,6 @@
 -- What a reader keeps of the bytes that were fed to it, and of the items that it gave.
-use Rattle.std.specs.Prelude.{◌≡◌, ℕ, ◌+◌, ◌-◌, ◌*◌, ◌<◌, ◌≤◌, List, [], ◌∷◌, ◌++◌, length, drop, Option, Some, None, Result, Ok, Err, true, false}
+use Rattle.std.specs.Prelude.{◌≡◌, ℕ, ◌+◌, ◌-◌, ◌*◌, ◌<◌, ◌≤◌, List, [], ◌∷◌, ◌++◌, length, drop}
+use Rattle.std.specs.Prelude.{Option, Some, None, Result, Ok, Err, true, false}
 use Rattle.stimulus.specs.declared.item.StimItem.{StimItem}
 use Rattle.stimulus.specs.declared.item.StimError.{StimError}
 use Rattle.stimulus.specs.declared.item.StimError.TheVariants as errors
@@ -7,7 +8,8 @@ use Rattle.stimulus.specs.declared.item.StimFault.{StimFault}
 use Rattle.stimulus.specs.declared.reader.StimReader.{StimReader}
 use Rattle.stimulus.specs.Limits.{IsItem}
 use Rattle.stimulus.specs.States.{place_of, owed, all_lines}
-use Rattle.stimulus.specs.Reading.{Reading, Terminated, BadLine, reading, reading_from, parts, after, inputs_of, blocks, ending, has_bad}
+use Rattle.stimulus.specs.Reading.{Reading, Terminated, BadLine, reading, reading_from, parts}
+use Rattle.stimulus.specs.Reading.{after, inputs_of, blocks, ending, has_bad}
 
 -- bytes that weren't read yet
 abbrev pub left : StimReader → List ℕ
@@ -17,22 +19,28 @@ left r = drop r.read r.pending.items
 abbrev pub found_bad : List (List ℕ) → List StimItem → Reading
 found_bad head given = record { head = head; items = given; is_whole = false; bad_is_fed = true }
 
--- A reader in which no bad line was found goes on as if all were read from the beginning, whatever follows.
+-- A reader in which no bad line was found goes on as if all were read from the beginning, whatever
+-- follows.
 abbrev pub Resumes : Option StimFault → StimReader → List (List ℕ) → List ℕ → List StimItem → Type 0
 Resumes None r head bytes given =
     (length head ≡ r.lines)
-    × ((tail : List ℕ) → reading r.events (bytes ++ tail) ≡ after head (given ++ owed r.state) (reading_from r.events (place_of r.state) (parts (left r ++ tail))))
+    × ((tail : List ℕ) → reading r.events (bytes ++ tail)
+    ≡ after head (given
+    ++ owed r.state) (reading_from r.events (place_of r.state) (parts (left r ++ tail))))
 Resumes (Some fault) r head bytes given =
-    (length head + 1 ≡ fault.line) × ((tail : List ℕ) → reading r.events (bytes ++ tail) ≡ found_bad head given)
+    (length head + 1 ≡ fault.line)
+    × ((tail : List ℕ) → reading r.events (bytes ++ tail) ≡ found_bad head given)
 
 -- these bytes were fed, and these items given
 pub record StandsFor (r : StimReader) (bytes : List ℕ) (given : List StimItem) : Type 0 where
   -- the good lines that it read
   pub head : List (List ℕ)
   pub resumes : Resumes r.fault r head bytes given
-  pub settled : r.settled ≡ true → r.fault ≡ None → (parts (left r) ≡ left r ∷ []) × (owed r.state ≡ [])
+  pub settled : r.settled ≡ true → r.fault ≡ None → (parts (left r) ≡ left r ∷ [])
+      × (owed r.state ≡ [])
 
--- Nothing was fed since the last answer, which was that nothing more can be given or that a line is bad.
+-- Nothing was fed since the last answer, which was that nothing more can be given or that a line is
+-- bad.
 abbrev pub IsSettled : StimReader → Type 0
 IsSettled r = r.settled ≡ true
 
@@ -40,7 +48,8 @@ IsSettled r = r.settled ≡ true
 abbrev pub waiting : StimReader → ℕ
 waiting r = 2 * length (left r) + length (owed r.state)
 
--- after so many bytes more a line is bad: a stimulus has at most so many lines, of at most 129 bytes
+-- after so many bytes more a line is bad: a stimulus has at most so many lines, of at most 129
+-- bytes
 abbrev pub room_before : Option StimFault → StimReader → ℕ
 room_before None r = 129 * (all_lines + 1 - r.lines) - length (left r)
 room_before (Some fault) r = 0
@@ -48,8 +57,10 @@ room_before (Some fault) r = 0
 abbrev pub room : StimReader → ℕ
 room r = room_before r.fault r
 
--- this item comes next, its samples are within their limits, and no more than 1,000,000 blocks were given with it
-pub record Gives (item : StimItem) (events : ℕ) (bytes : List ℕ) (given : List StimItem) : Type 0 where
+-- this item comes next, its samples are within their limits, and no more than 1,000,000 blocks were
+-- given with it
+pub record Gives (item : StimItem) (events : ℕ) (bytes : List ℕ) (given : List StimItem)
+    : Type 0 where
   pub others : List StimItem
   pub items : (reading events bytes).items ≡ given ++ item ∷ others
   pub within : IsItem events item
@@ -68,10 +79,13 @@ pub record FoundBad (line events : ℕ) (bytes : List ℕ) (given : List StimIte
   pub bad : has_bad events bytes ≡ true
   pub ending : ending events bytes ≡ BadLine line
 
-abbrev pub NextIs : Result (Option StimItem) StimError → StimReader → List ℕ → List StimItem → Type 0
-NextIs (Ok (Some item)) r bytes given = StandsFor r bytes (given ++ item ∷ []) × Gives item r.events bytes given
+abbrev pub NextIs : Result (Option StimItem) StimError → StimReader → List ℕ → List StimItem
+    → Type 0
+NextIs (Ok (Some item)) r bytes given =
+    StandsFor r bytes (given ++ item ∷ []) × Gives item r.events bytes given
 NextIs (Ok None) r bytes given = StandsFor r bytes given × GaveAll r.events bytes given
-NextIs (Err (errors.Bad fault)) r bytes given = StandsFor r bytes given × FoundBad fault.line r.events bytes given
+NextIs (Err (errors.Bad fault)) r bytes given =
+    StandsFor r bytes given × FoundBad fault.line r.events bytes given
 NextIs (Err errors.OutOfMemory) r bytes given = StandsFor r bytes given
 
 -- after None the reader is settled and has room, and after a bad line it is settled

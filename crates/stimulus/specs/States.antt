@@ -22,8 +22,10 @@ owed states.Last = items.Terminate ∷ []
 owed _ = []
 
 abbrev pub TakenIs : Taken → State → Line → Type 0
-TakenIs (answers.Line s) state line = (taken (place_of state) line ≡ step [] (place_of s)) × (owed s ≡ [])
-TakenIs (answers.Item item s) state line = taken (place_of state) line ≡ step (item ∷ owed s) (place_of s)
+TakenIs (answers.Line s) state line =
+    (taken (place_of state) line ≡ step [] (place_of s)) × (owed s ≡ [])
+TakenIs (answers.Item item s) state line =
+    taken (place_of state) line ≡ step (item ∷ owed s) (place_of s)
 TakenIs answers.Bad state line = taken (place_of state) line ≡ None
 TakenIs (answers.OutOfMemory s) state line = s ≡ state
 
@@ -45,7 +47,11 @@ limit_of (states.Inside blocks input) = 4097 * 1000000 + 4096
 limit_of _ = all_lines
 
 abbrev pub Counts : Taken → State → Type 0
-Counts (answers.Line s) state = most_lines state ≤ limit_of state → (most_lines state + 1 ≤ most_lines s) × (most_lines s ≤ limit_of s)
-Counts (answers.Item item s) state = most_lines state ≤ limit_of state → (most_lines state + 1 ≤ most_lines s) × (most_lines s ≤ limit_of s)
+Counts (answers.Line s) state =
+    most_lines state ≤ limit_of state → (most_lines state + 1 ≤ most_lines s)
+    × (most_lines s ≤ limit_of s)
+Counts (answers.Item item s) state =
+    most_lines state ≤ limit_of state → (most_lines state + 1 ≤ most_lines s)
+    × (most_lines s ≤ limit_of s)
 Counts answers.Bad state = Unit {0}
 Counts (answers.OutOfMemory s) state = Unit {0}

@@ -27,7 +27,9 @@ Shrinks (Err error) old new = Unit {0}
 
 -- the bad line comes next, and is remembered
 abbrev pub BadIs : StimError → StimReader → StimReader → Type 0
-BadIs (errors.Bad fault) old new = (fault.line ≡ old.lines + 1) × (new.fault ≡ Some fault) × (new.settled ≡ true) × (new.events ≡ old.events)
+BadIs (errors.Bad fault) old new =
+    (fault.line ≡ old.lines + 1) × (new.fault ≡ Some fault) × (new.settled ≡ true)
+    × (new.events ≡ old.events)
 BadIs errors.OutOfMemory old new = ⊥
 
 -- what stays the same while a line is taken
@@ -39,13 +41,17 @@ pub record Keeps (old new : StimReader) : Type 0 where
 
 -- so many bytes and lines were taken
 abbrev pub Moves : ℕ → ℕ → StimReader → StimReader → Type 0
-Moves len lines old new = Keeps old new × (new.read ≡ old.read + len) × (new.lines ≡ old.lines + lines)
+Moves len lines old new =
+    Keeps old new × (new.read ≡ old.read + len) × (new.lines ≡ old.lines + lines)
 
 abbrev pub TookIs : Result Progress StimError → Line → ℕ → StimReader → StimReader → Type 0
-TookIs (Ok progress.Line) line len old new = Moves len 1 old new × TakenIs (answers.Line new.state) old.state line
-TookIs (Ok (progress.Item item)) line len old new = Moves len 1 old new × TakenIs (answers.Item item new.state) old.state line
+TookIs (Ok progress.Line) line len old new =
+    Moves len 1 old new × TakenIs (answers.Line new.state) old.state line
+TookIs (Ok (progress.Item item)) line len old new =
+    Moves len 1 old new × TakenIs (answers.Item item new.state) old.state line
 TookIs (Ok progress.Open) line len old new = ⊥
-TookIs (Err (errors.Bad fault)) line len old new = BadIs (errors.Bad fault) old new × TakenIs answers.Bad old.state line
+TookIs (Err (errors.Bad fault)) line len old new =
+    BadIs (errors.Bad fault) old new × TakenIs answers.Bad old.state line
 TookIs (Err errors.OutOfMemory) line len old new = Moves 0 0 old new × (new.state ≡ old.state)
 
 -- `Terminate` is still to be given

@@ -11,21 +11,27 @@ ghost use Rattle.stimulus.specs.declared.line.Line.{Line};
 ghost use Rattle.stimulus.specs.Good.{IsHead};
 ghost use Rattle.stimulus.specs.Reading.{reading, blocks, has_bad};
 
-/// A number, a sample's value and a line have exactly one spelling each. Numbers and values are spelled as `Display`
-/// spells them.
+/// A number, a sample's value and a line have exactly one spelling each. Numbers and values are
+/// spelled as `Display` spells them.
 pub fn one_spelling()
     ensures number { (n : ℕ) → n < 2 ^ 64 → number (decimal n) ≡ Some n }
-    ensures only_number { (bytes : List ℕ) (n : ℕ) → number bytes ≡ Some n → n < 2 ^ 64 → bytes ≡ decimal n }
+    ensures only_number { (bytes : List ℕ) (n : ℕ) → number bytes ≡ Some n → n < 2 ^ 64 → bytes
+        ≡ decimal n }
     ensures value { (v : ℤ) → IsSampleValue v → value_of (signed_decimal v) ≡ Some v }
-    ensures only_value { (bytes : List ℕ) (v : ℤ) → value_of bytes ≡ Some v → bytes ≡ signed_decimal v }
-    ensures line { (events : ℕ) (l : Line) → events ≤ 2 ^ 16 → IsLine events l → line_of events (spelling l) ≡ Some l }
-    ensures only_line { (events : ℕ) (bytes : List ℕ) (l : Line) → events ≤ 2 ^ 16 → line_of events bytes ≡ Some l → (bytes ≡ spelling l) × IsLine events l }
+    ensures only_value { (bytes : List ℕ) (v : ℤ) → value_of bytes ≡ Some v → bytes
+        ≡ signed_decimal v }
+    ensures line { (events : ℕ) (l : Line) → events ≤ 2 ^ 16 → IsLine events l
+        → line_of events (spelling l) ≡ Some l }
+    ensures only_line { (events : ℕ) (bytes : List ℕ) (l : Line) → events ≤ 2 ^ 16
+        → line_of events bytes ≡ Some l → (bytes ≡ spelling l) × IsLine events l }
 {}
 
 /// More text only adds blocks, and mends no bad line that was fed.
 pub fn more_text()
-    ensures blocks { (events : ℕ) (text more : List ℕ) → IsPrefix (blocks events text) (blocks events (text ++ more)) }
-    ensures bad { (events : ℕ) (text more : List ℕ) → has_bad events text ≡ true → reading events (text ++ more) ≡ reading events text }
+    ensures blocks { (events : ℕ) (text more : List ℕ)
+        → IsPrefix (blocks events text) (blocks events (text ++ more)) }
+    ensures bad { (events : ℕ) (text more : List ℕ) → has_bad events text ≡ true
+        → reading events (text ++ more) ≡ reading events text }
 {}
 
 /// The blocks of every text keep to the limits of a run.
@@ -34,8 +40,9 @@ pub fn limits()
     ensures inputs { (events : ℕ) (text : List ℕ) → All (IsInput events) (blocks events text) }
 {}
 
-/// `head`, `blocks`, `ending` and `has_bad` are what the table of lines says: the longest list of good whole lines, the
-/// inputs of its complete blocks, the bad line or the end, and whether the line after them counts as fed.
+/// `head`, `blocks`, `ending` and `has_bad` are what the table of lines says: the longest list of
+/// good whole lines, the inputs of its complete blocks, the bad line or the end, and whether the
+/// line after them counts as fed.
 pub fn longest_head()
     ensures { (events : ℕ) (text : List ℕ) → IsHead events text }
 {}

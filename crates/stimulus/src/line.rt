@@ -51,7 +51,8 @@ fn sample(events: u16, words: &[u8]) -> Option<Line>
     }
 }
 
-/// Reads a line, without its LF, for a profile with so many events. None where no line is spelled so.
+/// Reads a line, without its LF, for a profile with so many events. None where no line is spelled
+/// so.
 #[tactic(auto, unfolding(crate::specs::Lines::line_of))]
 pub fn parse_line(events: u16, line: &[u8]) -> Option<Line>
     ensures { result ≡ line_of events line.now }

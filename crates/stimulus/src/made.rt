@@ -27,7 +27,8 @@ fn block(alloc: Global, time: u64, first: i64, second: i64) -> Result<String, Al
     format!(in alloc; "cycle {time}\nsample 0 {first}\nsample 1 {second}\n")
 }
 
-/// The stimulus that belongs to a number: 200 cycles of 10 ms, each with a sample of the events 0 and 1.
+/// The stimulus that belongs to a number: 200 cycles of 10 ms, each with a sample of the events 0
+/// and 1.
 pub fn made_stimulus(alloc: Global, number: u64) -> Result<Bytes, OutOfMemory>
     ensures { IfOk result (λ text. text ≡ made number) }
 {

@@ -19,7 +19,8 @@ pub enum State {
     Between,
     /// The last of so many blocks isn't complete. This much of it was read.
     Inside { blocks: u32, input: CycleInput },
-    /// The line `terminate` was read and the block before it given. `Terminate` is still to be given.
+    /// The line `terminate` was read and the block before it given. `Terminate` is still to be
+    /// given.
     Last,
     /// All was given.
     Ended,

@@ -2,16 +2,19 @@
 ghost use Rattle.std.specs.Prelude.{◌+◌, ◌<◌, ◌≤◌, ◌^◌, length, IfOk};
 ghost use Rattle.std.specs.Arc.{arc_value};
 ghost use Rattle.job_trait.specs.Passes.{IsReady, IsAnswer, block_in, blocks_in};
+ghost use Rattle.std.specs.List.{All};
 ghost use Rattle.pass_in_blocks.specs.Answers.{AreRight};
+ghost use Rattle.pass_in_blocks.specs.Showing.{AreBlocksOf, shown_in};
 
 use crate::gate::Gate;
 use crate::line::Line;
 use crate::lines::work_together;
+use crate::messages::Found;
 use crate::seat::PassTable;
 use crate::task::Task;
 use det_values::OutOfMemory;
 use job_trait::{Job, PassDone, PassOf, Pool, PoolFault};
-use pass_in_blocks::{BlockResult, finish_pass};
+use pass_in_blocks::{SpelledBlocks, finish_pass};
 use std::alloc::Global;
 use std::marker::Model;
 use std::sync::Arc;
@@ -45,19 +48,21 @@ impl<J: Job, B: Room, G: Gate> Model for Crew<J, B, G> {
         × (length c.lines.items < c.workers) };
 }
 
-/// The results of a pass by the caller and these kept threads. Some may be missing.
+/// What the caller and these kept threads find of a pass. Some blocks may be missing.
 fn shared_pass<J: Job, B: Room, G: Gate>(
     alloc: Global,
     keeper: &mut Keeper<Task<J>, B>,
     lines: &mut [Line<J, B>],
     pass: &Arc<PassOf<J>, Global>,
     gate: &G,
-) -> Result<Vec<BlockResult<J::Element, J::Part>>, OutOfMemory>
+) -> Result<Found<J::Element, J::Part>, OutOfMemory>
     requires few { length lines.old ≤ 63 }
     requires room { keeper.old.number < 2 ^ 63 }
     requires ready { IsReady J.meaning J.Covers J.Own J.Fit (arc_value pass.now) }
-    ensures { IfOk result (λ results. AreRight (block_in J.meaning (arc_value pass.now))
-        (blocks_in (arc_value pass.now)) results.items) }
+    ensures right { IfOk result (λ found. AreRight (block_in J.meaning (arc_value pass.now))
+        (blocks_in (arc_value pass.now)) found.results.items) }
+    ensures spelled { IfOk result (λ found.
+        All (AreBlocksOf (shown_in J.meaning (arc_value pass.now))) found.spelled.items) }
 {
     let blocks = (pass.elements.len() + 63) / 64;
     let (table, seat) = PassTable::new(alloc, blocks as u32)?;
@@ -66,6 +71,13 @@ fn shared_pass<J: Job, B: Room, G: Gate>(
         return Err(OutOfMemory);
     };
     work_together(alloc, keeper, lines, &task, seat, gate)
+}
+
+/// Keeps the memory of what was spelled for the next pass.
+fn give_back<J: Job, B: Room>(lines: &mut [Line<J, B>], mut spelled: Vec<SpelledBlocks>) {
+    'each: for line in lines {
+        line.spare = spelled.pop();
+    }
 }
 
 /// A pass by the caller and the kept threads. No more of these get work than there are blocks
@@ -89,13 +101,15 @@ fn crew_pass<J: Job, B: Room, G: Gate>(
         for worker in 0..workers {
             gate.enter(worker);
         }
-        return finish_pass(alloc, &**pass, Vec::new(alloc));
+        return finish_pass(alloc, &**pass, Vec::new(alloc), &[]);
     }
-    let results = shared_pass(alloc, keeper, &mut lines[..helpers], pass, gate)?;
+    let Found { results, spelled } = shared_pass(alloc, keeper, &mut lines[..helpers], pass, gate)?;
     for worker in helpers as u32 + 1..workers {
         gate.enter(worker);
     }
-    finish_pass(alloc, &**pass, results)
+    let done = finish_pass(alloc, &**pass, results, spelled.as_slice());
+    give_back(lines, spelled);
+    done
 }
 
 impl<J: Job, B: Room, G: Gate> Pool<J> for Crew<J, B, G> {

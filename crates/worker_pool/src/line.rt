@@ -2,17 +2,18 @@
 ghost use Rattle.std.specs.Prelude.{◌≡◌, ◌+◌, ◌≤◌, [], ◌∷◌, IfOk};
 ghost use Rattle.std.specs.Arc.{arc_value};
 ghost use Rattle.worker_pool.specs.Handles.{view_of, IsAt, IsSameSeat};
-ghost use Rattle.worker_pool.specs.Messages.{IsTask, IsWork, IsReply, AreOf};
+ghost use Rattle.std.specs.List.{All};
+ghost use Rattle.worker_pool.specs.Messages.{IsTask, IsWork, IsReply, AreOf, IsSpelledOf};
 ghost use Rattle.worker_pool.specs.Views.{IsNew};
 
 use crate::gate::Gate;
-use crate::messages::{Reply, ReplyFits, Work, WorkFits};
+use crate::messages::{Found, Reply, ReplyFits, Work, WorkFits};
 use crate::seat::PassSeat;
 use crate::task::Task;
 use crate::work::work_blocks;
 use det_values::OutOfMemory;
 use job_trait::Job;
-use pass_in_blocks::BlockResult;
+use pass_in_blocks::{BlockResult, BlockResults, SpelledBlocks};
 use rtrb::{Consumer, Producer};
 use std::alloc::Global;
 use std::sync::Arc;
@@ -23,27 +24,60 @@ use tickets::{Keeper, Room};
 pub struct Line<J: Job, B: Room> {
     pub(crate) works: Producer<Work<J, B>, Global, WorkFits>,
     pub(crate) replies: Consumer<Reply<J, B>, Global, ReplyFits>,
+    /// Memory in which the kept thread may spell its blocks.
+    pub(crate) spare: Option<SpelledBlocks>,
+}
+
+/// Claims, runs and spells blocks of a task.
+pub(crate) fn work_at<J: Job>(
+    alloc: Global,
+    task: &Task<J>,
+    seat: &mut PassSeat,
+    spelled: &mut SpelledBlocks,
+) -> Result<BlockResults<J::Element, J::Part>, OutOfMemory>
+    requires task { IsTask J.meaning J.Covers J.Own J.Fit task.now }
+    requires here { IsAt seat.old task.now.table }
+    requires new { IsNew (view_of seat.old) }
+    ensures seat { IsSameSeat seat.new seat.old }
+    ensures right { IfOk result (AreOf J.meaning task.now) }
+    ensures spelled { IfOk result (λ results. IsSpelledOf J.meaning task.now spelled.new) }
+{
+    let places = if task.pass.shows {
+        task.table.blocks()
+    } else {
+        0
+    };
+    spelled.begin(alloc, places as usize)?;
+    work_blocks(alloc, &task.table, seat, &*task.pass, spelled)
 }
 
 /// Does a piece of work. Where memory is short it has no results.
 fn reply_to<J: Job, B: Room>(alloc: Global, work: Work<J, B>) -> Reply<J, B>
     requires { IsWork J.meaning J.Covers J.Own J.Fit work.ticket.work
         (arc_value work.task) work.seat }
-    ensures { IsReply J.meaning result.ticket.work result.seat result.results.items }
+    ensures { IsReply J.meaning result.ticket.work result.seat result.results.items
+        result.spelled }
 {
     let Work {
         ticket,
         task,
         mut seat,
+        spare,
     } = work;
-    let results = match work_blocks(alloc, &task.table, &mut seat, &*task.pass) {
-        Ok(found) => found.into_vec(),
-        Err(_) => Vec::new(alloc),
-    };
-    Reply {
-        ticket,
-        seat,
-        results,
+    let mut spelled = spare.unwrap_or(SpelledBlocks::new(alloc));
+    match work_at(alloc, &*task, &mut seat, &mut spelled) {
+        Ok(found) => Reply {
+            ticket,
+            seat,
+            results: found.into_vec(),
+            spelled,
+        },
+        Err(_) => Reply {
+            ticket,
+            seat,
+            results: Vec::new(alloc),
+            spelled: SpelledBlocks::new(alloc),
+        },
     }
 }
 
@@ -100,50 +134,58 @@ pub(crate) fn give<J: Job, B: Room>(
         ticket,
         task: theirs,
         seat: newcomer,
+        spare: line.spare.take(),
     };
     line.works.push(work).is_ok()
 }
 
-/// The results of a reply to the task that was announced last. Its seat is joined to the caller's.
-fn results_of<J: Job, B: Room>(
+/// What a reply to the task that was announced last has found and spelled. Its seat is joined to the
+/// caller's.
+fn share_of<J: Job, B: Room>(
     keeper: &mut Keeper<Task<J>, B>,
     task: &Task<J>,
     seat: &mut PassSeat,
     reply: Reply<J, B>,
-) -> Vec<BlockResult<J::Element, J::Part>>
+) -> (Vec<BlockResult<J::Element, J::Part>>, SpelledBlocks)
     requires announced { keeper.old.work ≡ task.now ∷ [] }
     requires present { reply.ticket.number ≡ keeper.old.number }
-    requires reply { IsReply J.meaning reply.ticket.work reply.seat reply.results.items }
+    requires reply { IsReply J.meaning reply.ticket.work reply.seat reply.results.items
+        reply.spelled }
     requires here { IsAt seat.old task.now.table }
     ensures same { keeper.new ≡ keeper.old }
     ensures seat { IsSameSeat seat.new seat.old }
-    ensures right { AreOf J.meaning task.now result.items }
+    ensures right { AreOf J.meaning task.now result.0.items }
+    ensures spelled { IsSpelledOf J.meaning task.now result.1 }
 {
     let Reply {
         ticket,
         seat: other,
         results,
+        spelled,
     } = reply;
     keeper.check(ticket);
     task.table.join(seat, other);
-    results
+    (results, spelled)
 }
 
-/// Adds the results of a kept thread that has replied to the task announced last, and says whether
-/// it has. A reply to an earlier task is thrown away.
+/// Adds what a kept thread has found that has replied to the task announced last, and says whether it
+/// has. A reply to an earlier task is thrown away.
 pub(crate) fn take_reply<J: Job, B: Room>(
     keeper: &mut Keeper<Task<J>, B>,
     line: &mut Line<J, B>,
     task: &Task<J>,
     seat: &mut PassSeat,
-    results: &mut Vec<BlockResult<J::Element, J::Part>>,
+    found: &mut Found<J::Element, J::Part>,
 ) -> Result<bool, OutOfMemory>
     requires announced { keeper.old.work ≡ task.now ∷ [] }
     requires here { IsAt seat.old task.now.table }
-    requires right { AreOf J.meaning task.now results.old.items }
+    requires right { AreOf J.meaning task.now found.old.results.items }
+    requires spelled { All (IsSpelledOf J.meaning task.now) found.old.spelled.items }
     ensures same { keeper.new ≡ keeper.old }
     ensures seat { IsSameSeat seat.new seat.old }
-    ensures right { IfOk result (λ came. AreOf J.meaning task.now results.new.items) }
+    ensures right { IfOk result (λ came. AreOf J.meaning task.now found.new.results.items) }
+    ensures spelled { IfOk result (λ came.
+        All (IsSpelledOf J.meaning task.now) found.new.spelled.items) }
 {
     let Ok(reply) = line.replies.pop() else {
         return Ok(false);
@@ -151,7 +193,7 @@ pub(crate) fn take_reply<J: Job, B: Room>(
     if reply.ticket.number() != keeper.number() {
         return Ok(false);
     }
-    let mut found = results_of(keeper, task, seat, reply);
-    results.append(&mut found)?;
+    let (results, spelled) = share_of(keeper, task, seat, reply);
+    found.add(results, spelled)?;
     Ok(true)
 }

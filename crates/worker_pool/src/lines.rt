@@ -2,17 +2,18 @@
 ghost use Rattle.std.specs.Prelude.{◌≡◌, ◌+◌, ◌<◌, ◌≤◌, ◌^◌, [], ◌∷◌, length, IfOk};
 ghost use Rattle.std.specs.Arc.{arc_value};
 ghost use Rattle.worker_pool.specs.Handles.{view_of, IsAt, IsSameSeat};
-ghost use Rattle.worker_pool.specs.Messages.{IsTask, AreOf};
+ghost use Rattle.std.specs.List.{All};
+ghost use Rattle.worker_pool.specs.Messages.{IsTask, AreOf, IsSpelledOf};
 ghost use Rattle.worker_pool.specs.Views.{IsNew, fresh, all_shares};
 
 use crate::gate::Gate;
-use crate::line::{Line, give, take_reply};
+use crate::line::{Line, give, take_reply, work_at};
+use crate::messages::Found;
 use crate::seat::PassSeat;
 use crate::task::Task;
-use crate::work::work_blocks;
 use det_values::OutOfMemory;
 use job_trait::Job;
-use pass_in_blocks::BlockResult;
+use pass_in_blocks::SpelledBlocks;
 use std::alloc::Global;
 use std::sync::Arc;
 use std::{hint, slice, thread};
@@ -65,46 +66,52 @@ fn take_replies<J: Job, B: Room>(
     lines: &mut [Line<J, B>],
     task: &Task<J>,
     seat: &mut PassSeat,
-    results: &mut Vec<BlockResult<J::Element, J::Part>>,
+    found: &mut Found<J::Element, J::Part>,
 ) -> Result<u32, OutOfMemory>
     requires announced { keeper.old.work ≡ task.now ∷ [] }
     requires here { IsAt seat.old task.now.table }
-    requires right { AreOf J.meaning task.now results.old.items }
+    requires right { AreOf J.meaning task.now found.old.results.items }
+    requires spelled { All (IsSpelledOf J.meaning task.now) found.old.spelled.items }
     ensures same { keeper.new ≡ keeper.old }
     ensures seat { IsSameSeat seat.new seat.old }
-    ensures right { IfOk result (λ came. AreOf J.meaning task.now results.new.items) }
+    ensures right { IfOk result (λ came. AreOf J.meaning task.now found.new.results.items) }
+    ensures spelled { IfOk result (λ came.
+        All (IsSpelledOf J.meaning task.now) found.new.spelled.items) }
 {
     let mut came = 0u32;
     'each: for line in lines {
-        if take_reply(keeper, line, task, seat, results)? {
+        if take_reply(keeper, line, task, seat, found)? {
             came = came.saturating_add(1);
         }
     }
     Ok(came)
 }
 
-/// Adds the results that come while blocks are missing, as far as they come in time.
+/// Adds what comes while blocks are missing, as far as it comes in time.
 fn collect<J: Job, B: Room>(
     keeper: &mut Keeper<Task<J>, B>,
     lines: &mut [Line<J, B>],
     task: &Task<J>,
     seat: &mut PassSeat,
-    results: &mut Vec<BlockResult<J::Element, J::Part>>,
+    found: &mut Found<J::Element, J::Part>,
     given: u32,
 ) -> Result<(), OutOfMemory>
     requires announced { keeper.old.work ≡ task.now ∷ [] }
     requires here { IsAt seat.old task.now.table }
-    requires right { AreOf J.meaning task.now results.old.items }
-    ensures right { IfOk result (λ done. AreOf J.meaning task.now results.new.items) }
+    requires right { AreOf J.meaning task.now found.old.results.items }
+    requires spelled { All (IsSpelledOf J.meaning task.now) found.old.spelled.items }
+    ensures right { IfOk result (λ done. AreOf J.meaning task.now found.new.results.items) }
+    ensures spelled { IfOk result (λ done.
+        All (IsSpelledOf J.meaning task.now) found.new.spelled.items) }
 {
     let blocks = task.table.blocks() as usize;
     let elements = task.pass.elements.len() as u32;
     let mut missing = given;
     'look: for look in 0..FIRST_LOOKS + LOOKS_PER_ELEMENT * elements {
-        if missing == 0 || results.len() >= blocks {
+        if missing == 0 || found.results.len() >= blocks {
             break;
         }
-        let came = take_replies(keeper, lines, task, seat, results)?;
+        let came = take_replies(keeper, lines, task, seat, found)?;
         missing = missing.saturating_sub(came);
         if look % BUSY_LOOKS == BUSY_LOOKS - 1 {
             thread::yield_now();
@@ -115,7 +122,7 @@ fn collect<J: Job, B: Room>(
     Ok(())
 }
 
-/// The results of a task, by the caller and the kept threads. Some may be missing.
+/// What the caller and the kept threads find of a task. Some blocks may be missing.
 pub(crate) fn work_together<J: Job, B: Room, G: Gate>(
     alloc: Global,
     keeper: &mut Keeper<Task<J>, B>,
@@ -123,20 +130,23 @@ pub(crate) fn work_together<J: Job, B: Room, G: Gate>(
     task: &Arc<Task<J>, Global>,
     mut seat: PassSeat,
     gate: &G,
-) -> Result<Vec<BlockResult<J::Element, J::Part>>, OutOfMemory>
+) -> Result<Found<J::Element, J::Part>, OutOfMemory>
     requires room { keeper.old.number < 2 ^ 63 }
     requires few { length lines.old ≤ 63 }
     requires task { IsTask J.meaning J.Covers J.Own J.Fit (arc_value task.now) }
     requires here { IsAt seat (arc_value task.now).table }
     requires fresh { view_of seat ≡ fresh all_shares }
-    ensures right { IfOk result (λ results.
-        AreOf J.meaning (arc_value task.now) results.items) }
+    ensures right { IfOk result (λ found.
+        AreOf J.meaning (arc_value task.now) found.results.items) }
+    ensures spelled { IfOk result (λ found.
+        All (IsSpelledOf J.meaning (arc_value task.now)) found.spelled.items) }
 {
     keeper.announce(slice::from_ref(&**task));
     let given = give_all(keeper, lines, task, &mut seat, gate);
     gate.enter(0);
-    let found = work_blocks(alloc, &task.table, &mut seat, &*task.pass)?;
-    let mut results = found.into_vec();
-    collect(keeper, lines, &**task, &mut seat, &mut results, given)?;
-    Ok(results)
+    let mut mine = SpelledBlocks::new(alloc);
+    let results = work_at(alloc, &**task, &mut seat, &mut mine)?;
+    let mut found = Found::of(alloc, results.into_vec(), mine)?;
+    collect(keeper, lines, &**task, &mut seat, &mut found, given)?;
+    Ok(found)
 }

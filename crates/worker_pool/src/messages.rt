@@ -1,27 +1,80 @@
 //! What goes to a kept thread, and what comes back.
+ghost use Rattle.std.specs.Prelude.{◌≡◌, [], ◌∷◌, ◌++◌, IfOk, OnOk};
+
 use crate::seat::PassSeat;
 use crate::task::Task;
+use det_values::OutOfMemory;
 use job_trait::Job;
-use pass_in_blocks::BlockResult;
+use pass_in_blocks::{BlockResult, SpelledBlocks};
 use rtrb::Protocol;
 use std::alloc::Global;
 use std::sync::Arc;
 use tickets::{Room, Ticket};
 
-/// A task, a seat at its table, and a ticket for it.
+/// A task, a seat at its table, and a ticket for it. What was spelled before is there for its memory
+/// alone.
 #[derive(Drop)]
 pub struct Work<J: Job, B: Room> {
     pub ticket: Ticket<Task<J>, B>,
     pub task: Arc<Task<J>, Global>,
     pub seat: PassSeat,
+    pub spare: Option<SpelledBlocks>,
 }
 
-/// A ticket that came back, with the seat and the results of the blocks that were claimed with it.
+/// A ticket that came back, with the seat, the results of the blocks that were claimed with it, and
+/// what was spelled of them.
 #[derive(Drop)]
 pub struct Reply<J: Job, B: Room> {
     pub ticket: Ticket<Task<J>, B>,
     pub seat: PassSeat,
     pub results: Vec<BlockResult<J::Element, J::Part>>,
+    pub spelled: SpelledBlocks,
+}
+
+/// What the workers of a pass found in their blocks, and what they spelled of them.
+#[derive(Drop)]
+pub(crate) struct Found<E, P> {
+    pub(crate) results: Vec<BlockResult<E, P>>,
+    pub(crate) spelled: Vec<SpelledBlocks>,
+}
+
+impl<E: Drop, P: Drop> Found<E, P> {
+    /// What one worker found and spelled.
+    pub(crate) fn of(
+        alloc: Global,
+        results: Vec<BlockResult<E, P>>,
+        spelled: SpelledBlocks,
+    ) -> Result<Found<E, P>, OutOfMemory>
+        ensures results { IfOk result (λ found. found.results ≡ results) }
+        ensures spelled { IfOk result (λ found. found.spelled.items ≡ spelled ∷ []) }
+    {
+        let mut all = Vec::new(alloc);
+        match all.push(spelled) {
+            Ok(()) => Ok(Found {
+                results,
+                spelled: all,
+            }),
+            Err(_) => Err(OutOfMemory),
+        }
+    }
+
+    /// Adds what another worker found and spelled.
+    pub(crate) fn add(
+        &mut self,
+        mut results: Vec<BlockResult<E, P>>,
+        spelled: SpelledBlocks,
+    ) -> Result<(), OutOfMemory>
+        ensures results { OnOk result (
+            self.new.results.items ≡ self.old.results.items ++ results.items) }
+        ensures spelled { OnOk result (
+            self.new.spelled.items ≡ self.old.spelled.items ++ spelled ∷ []) }
+    {
+        self.results.append(&mut results)?;
+        match self.spelled.push(spelled) {
+            Ok(()) => Ok(()),
+            Err(_) => Err(OutOfMemory),
+        }
+    }
 }
 
 /// What is handed to a kept thread belongs together.
@@ -42,5 +95,5 @@ impl<J: Job, B: Room> Protocol<Reply<J, B>> for ReplyFits {
     ghost use Rattle.worker_pool.specs.Messages.{IsReply};
 
     ghost allows = { λ _ reply.
-        IsReply J.meaning reply.ticket.work reply.seat reply.results.items };
+        IsReply J.meaning reply.ticket.work reply.seat reply.results.items reply.spelled };
 }

@@ -64,7 +64,11 @@ where
     let Ok(handle) = thread::spawn(rt, thread) else {
         return Ok(None);
     };
-    let line = Line::<J, B> { works, replies };
+    let line = Line::<J, B> {
+        works,
+        replies,
+        spare: None,
+    };
     Ok(Some(Started { line, handle }))
 }
 

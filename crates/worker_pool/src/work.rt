@@ -2,6 +2,7 @@
 ghost use Rattle.std.specs.Prelude.{◌≡◌, ◌+◌, ◌<◌, ◌≤◌, ◌⊎◌, IfOk, OnErr, IsTrue};
 ghost use Rattle.job_trait.specs.Passes.{IsReady, block_in, blocks_in};
 ghost use Rattle.pass_in_blocks.specs.Answers.{AreRight};
+ghost use Rattle.pass_in_blocks.specs.Showing.{AreBlocksOf, shown_in};
 ghost use Rattle.worker_pool.specs.declared.view.PoolView.{PoolView};
 ghost use Rattle.worker_pool.specs.Handles.{view_of, block_count, IsAt, IsSameSeat};
 ghost use Rattle.worker_pool.specs.Results.{Stops, Tidy, Works};
@@ -10,27 +11,31 @@ ghost use Rattle.worker_pool.specs.Views.{taken, IsNew};
 use crate::seat::{PassSeat, PassTable};
 use det_values::OutOfMemory;
 use job_trait::{Job, PassOf};
-use pass_in_blocks::{BlockResult, BlockResults, run_block};
+use pass_in_blocks::{BlockResult, BlockResults, SpelledBlocks, run_and_spell};
 use std::alloc::Global;
 
-/// Tries the next block, and says whether to go on. A block above a known refusal is skipped.
+/// Tries the next block, runs and spells it, and says whether to go on. A block above a known refusal is skipped.
 fn try_block<J: Job>(
     alloc: Global,
     table: &PassTable,
     seat: &mut PassSeat,
     pass: &PassOf<J>,
     results: &mut BlockResults<J::Element, J::Part>,
+    spelled: &mut SpelledBlocks,
 ) -> Result<bool, OutOfMemory>
     requires here { IsAt seat.old table.now }
     requires ready { IsReady J.meaning J.Covers J.Own J.Fit pass.now }
     requires sized { block_count table.now ≡ blocks_in pass.now }
     requires more { (view_of seat.old).seen < block_count table.now }
     requires so_far { Works (block_in J.meaning pass.now) (view_of seat.old) results.old }
+    requires spelled { AreBlocksOf (shown_in J.meaning pass.now) spelled.old }
     ensures seat { IsSameSeat seat.new seat.old }
     ensures works { IfOk result (λ go.
         Works (block_in J.meaning pass.now) (view_of seat.new) results.new) }
     ensures seen { IfOk result (λ go. (view_of seat.new).seen ≡ (view_of seat.old).seen + 1) }
     ensures shares { IfOk result (λ go. (view_of seat.new).shares ≡ (view_of seat.old).shares) }
+    ensures spelled { IfOk result (λ go.
+        AreBlocksOf (shown_in J.meaning pass.now) spelled.new) }
     ensures stops { IfOk result (λ go. ¬ IsTrue go → Stops (view_of seat.new).entries) }
     ensures given_up { OnErr result (view_of seat.new ≡ taken (view_of seat.old)) }
 {
@@ -40,7 +45,7 @@ fn try_block<J: Job>(
     if table.look(seat, block) {
         return Ok(false);
     }
-    let answer = run_block(alloc, pass, block)?;
+    let answer = run_and_spell(alloc, pass, block, spelled)?;
     let refused = answer.is_refusal();
     results.push(BlockResult { block, answer })?;
     if refused {
@@ -52,23 +57,27 @@ fn try_block<J: Job>(
     }
 }
 
-/// Claims and runs blocks until each block of the pass was tried, or a refusal is known.
+/// Claims, runs and spells blocks until each block of the pass was tried, or a refusal is known.
 ///
 /// Where memory is short the worker stops with the block Open that it was at, and its results are
-/// lost.
+/// lost, and so is what it spelled.
 pub fn work_blocks<J: Job>(
     alloc: Global,
     table: &PassTable,
     seat: &mut PassSeat,
     pass: &PassOf<J>,
+    spelled: &mut SpelledBlocks,
 ) -> Result<BlockResults<J::Element, J::Part>, OutOfMemory>
     requires here { IsAt seat.old table.now }
     requires ready { IsReady J.meaning J.Covers J.Own J.Fit pass.now }
     requires sized { block_count table.now ≡ blocks_in pass.now }
     requires new { IsNew (view_of seat.old) }
+    requires spelled { AreBlocksOf (shown_in J.meaning pass.now) spelled.old }
     ensures seat { IsSameSeat seat.new seat.old }
     ensures right { IfOk result (AreRight (block_in J.meaning pass.now) (blocks_in pass.now)) }
     ensures works { IfOk result (Works (block_in J.meaning pass.now) (view_of seat.new)) }
+    ensures spelled { IfOk result (λ results.
+        AreBlocksOf (shown_in J.meaning pass.now) spelled.new) }
     ensures inside { IfOk result (λ results. (view_of seat.new).seen ≤ block_count table.now) }
     ensures shares { (view_of seat.new).shares ≡ (view_of seat.old).shares }
     ensures all_tried { IfOk result (λ results.
@@ -80,7 +89,7 @@ pub fn work_blocks<J: Job>(
 {
     let mut results = BlockResults::new(alloc);
     'each: while seat.seen() < table.blocks() {
-        if !try_block(alloc, table, seat, pass, &mut results)? {
+        if !try_block(alloc, table, seat, pass, &mut results, spelled)? {
             return Ok(results);
         }
     }

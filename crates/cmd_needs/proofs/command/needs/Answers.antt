@@ -1,19 +1,19 @@
 use Rattle.std.proofs.Common.{refl, sym, ap, ◌∙◌}
-use Rattle.std.specs.Prelude.{Err}
 use Rattle.cli_answers.specs.Outcome.{told, text_outcome}
 use Rattle.cli_answers.proofs.Meeting.{meets-whole}
-use Rattle.cmd_setup.proofs.Ending.{meets-end}
+use Rattle.cmd_setup.proofs.Ending.{meets-end, can-end}
 use Rattle.cmd_needs.specs.Needs.{needs_from, needs_work}
 use Rattle.cmd_needs.proofs.command.needs.Goals as goal
 
 pub returns-in-Err-clause-meets : goal.returns-in-Err-clause-meets
 returns-in-Err-clause-meets g c =
     let bytes = told (g.S.Slots.sees c.args.shelf.now) c.args.name.now in
-    rw c.answer.ensures.is
-    (meets-end needs_from (λ why. refl) bytes _ _ _ _ c.in-Err.end c.in-Err.ensures.refused (λ e. c.in-Err.ensures.cause (ap Err e)))
+    rw c.from.ensures
+    (meets-end needs_from (λ why. refl) c.args.strict bytes _ _ _ _ c.in-Err.end c.in-Err.ensures.refused
+    c.in-Err.ensures.traffic.cause c.in-Err.ensures.writes_nothing)
 
 pub returns-in-Err-clause-ends : goal.returns-in-Err-clause-ends
-returns-in-Err-clause-ends g c = c.answer.ensures.ends needs_work refl
+returns-in-Err-clause-ends g c = rw c.from.ensures (can-end c.in-Err.end needs_work refl)
 
 pub returns-in-Ok-write_all-clause-meets : goal.returns-in-Ok-write_all-clause-meets
 returns-in-Ok-write_all-clause-meets g c =

@@ -4,6 +4,7 @@ use Rattle.det_edges.proofs.Opening.{asks-then-prefix}
 use Rattle.manifest.specs.Profiles.{profile_of}
 use Rattle.cli_answers.specs.Outcome.{told}
 use Rattle.cmd_setup.specs.Setup.{setup_of}
+use Rattle.cmd_setup.proofs.Ending.{can-end}
 use Rattle.cmd_record.specs.Outcomes.{record_work}
 use Rattle.cmd_record.proofs.Meeting.{rose-later, meets-as}
 use Rattle.cmd_record.proofs.ByManifest.{by-told, still-told, met-end, asked-manifest, asked-both}
@@ -11,22 +12,23 @@ use Rattle.cmd_record.proofs.by_manifest.record_stimulus.Goals as goal
 
 pub returns-in-Err-clause-meets : goal.returns-in-Err-clause-meets
 returns-in-Err-clause-meets g c =
-    met-end (g.S.Slots.sees c.args.shelf.now) c.args.manifest.now c.args.stimulus.now c.args.seed _ _ _
-    c.in-Err.end c.answer.result c.answer.ensures.is
-    c.in-Err.ensures.refused (λ is. c.in-Err.ensures.cause (ap (λ e. Err e) is))
+    rw c.from.ensures (met-end c.args.strict (g.S.Slots.sees c.args.shelf.now) c.args.manifest.now c.args.stimulus.now c.args.seed _ _ _
+    c.in-Err.end c.in-Err.ensures.refused c.in-Err.ensures.traffic.cause c.in-Err.ensures.writes_nothing)
 
 pub returns-in-Err-clause-ends : goal.returns-in-Err-clause-ends
-returns-in-Err-clause-ends g c = c.answer.ensures.ends record_work refl
+returns-in-Err-clause-ends g c = rw c.from.ensures (can-end c.in-Err.end record_work refl)
 
 pub returns-in-Err-clause-judged : goal.returns-in-Err-clause-judged
 returns-in-Err-clause-judged g c = λ tells.
     let first = g.S.Slots.sees c.args.shelf.now in
-    asked-manifest first c.args.manifest.now c.args.stimulus.now _ (setup_of (told first c.args.manifest.now)) c.read_setup.ensures.asked
+    asked-manifest c.args.strict first c.args.manifest.now c.args.stimulus.now _
+    (setup_of c.args.strict (told first c.args.manifest.now)) c.read_setup.ensures.asked
 
 pub returns-in_default-clause-judged : goal.returns-in_default-clause-judged
 returns-in_default-clause-judged g c = λ tells.
     let first = g.S.Slots.sees c.args.shelf.now in
-    asked-manifest first c.args.manifest.now c.args.stimulus.now _ (setup_of (told first c.args.manifest.now)) c.read_setup.ensures.asked
+    asked-manifest c.args.strict first c.args.manifest.now c.args.stimulus.now _
+    (setup_of c.args.strict (told first c.args.manifest.now)) c.read_setup.ensures.asked
 
 pub returns-clause-meets : goal.returns-clause-meets
 returns-clause-meets g c =
@@ -34,10 +36,11 @@ returns-clause-meets g c =
     let mid = g.S.Slots.sees c.read_setup.new.shelf in
     let is = c.in-Ok.ensures.manifest in
     let profile = c.in-Ok-profile.ensures.profile ∙ ap (profile_of c.in-Ok.setup) c.unwrap_or.ensures in
-    meets-as _ _ _ _ _ _ _ _ _ _ (still-told first c.args.manifest.now c.args.stimulus.now c.in-Ok.setup is mid c.read_setup.ensures.holds)
-    (by-told first c.args.manifest.now c.args.stimulus.now c.in-Ok.setup is mid c.args.seed c.kind.result c.in-Ok-profile.profile
-    c.read_setup.ensures.holds c.kind.ensures profile)
-    (rose-later _ _ _ c.read_setup.ensures.counted) c.record_kind.ensures.meets
+    meets-as _ _ _ _ _ _ _ _ _ _
+    (still-told c.args.strict first c.args.manifest.now c.args.stimulus.now c.in-Ok.setup is mid c.read_setup.ensures.holds)
+    (by-told c.args.strict first c.args.manifest.now c.args.stimulus.now c.in-Ok.setup is mid c.args.seed c.kind.result
+    c.in-Ok-profile.profile c.read_setup.ensures.holds c.kind.ensures profile)
+    (rose-later _ _ _ c.read_setup.ensures.traffic.counted) c.record_kind.ensures.meets
 
 pub returns-clause-asked : goal.returns-clause-asked
 returns-clause-asked g c =
@@ -45,5 +48,6 @@ returns-clause-asked g c =
 
 pub returns-clause-judged : goal.returns-clause-judged
 returns-clause-judged g c =
-    asked-both (g.S.Slots.sees c.args.shelf.now) c.args.manifest.now c.args.stimulus.now c.in-Ok.setup c.in-Ok.ensures.manifest _
+    asked-both c.args.strict (g.S.Slots.sees c.args.shelf.now) c.args.manifest.now c.args.stimulus.now c.in-Ok.setup
+    c.in-Ok.ensures.manifest _
     (asks-then-prefix _ _ _ (c.args.manifest.now ∷ []) (c.args.stimulus.now ∷ []) c.read_setup.ensures.asked c.record_kind.ensures.asked)

@@ -8,26 +8,22 @@ use Rattle.cmd_setup.proofs.setup.read_setup.Goals as goal
 pub returns-in_err-slot-clause-piece : goal.returns-in_err-slot-clause-piece
 returns-in_err-slot-clause-piece g c = inl c.in_err-slot.ensures.slots
 
-pub returns-in-Err-ReadFault-clause-piece : goal.returns-in-Err-ReadFault-clause-piece
-returns-in-Err-ReadFault-clause-piece g c =
-    let piece = c.in-Err-ReadFault.ensures.piece in inr (takes c.in_ok-slot.ensures.opens piece.1 piece.2)
+pub returns-in-Err-Refused-clause-piece : goal.returns-in-Err-Refused-clause-piece
+returns-in-Err-Refused-clause-piece g c =
+    let piece = c.in-Err-Refused.ensures.piece in inr (takes c.in_ok-slot.ensures.opens piece.1 piece.2)
 
-pub returns-in-Err-TooLong-clause-piece : goal.returns-in-Err-TooLong-clause-piece
-returns-in-Err-TooLong-clause-piece g c =
-    let piece = c.in-Err-TooLong.ensures.piece in inr (takes c.in_ok-slot.ensures.opens piece.1 piece.2)
-
-pub returns-in-Err-OutOfMemory-clause-piece : goal.returns-in-Err-OutOfMemory-clause-piece
-returns-in-Err-OutOfMemory-clause-piece g c =
-    let piece = c.in-Err-OutOfMemory.ensures.piece in inr (takes c.in_ok-slot.ensures.opens piece.1 piece.2)
+pub returns-in-Err-Failed-clause-piece : goal.returns-in-Err-Failed-clause-piece
+returns-in-Err-Failed-clause-piece g c =
+    let piece = c.in-Err-Failed.ensures.piece in inr (takes c.in_ok-slot.ensures.opens piece.1 piece.2)
 
 pub returns-clause-piece : goal.returns-clause-piece
 returns-clause-piece g c =
     let piece = c.in-Ok.ensures.piece in inr (takes c.in_ok-slot.ensures.opens piece.1 piece.2)
 
-pub returns-in-Err-TooLong-clause-refused : goal.returns-in-Err-TooLong-clause-refused
-returns-in-Err-TooLong-clause-refused g c =
-    let read = c.in-Err-TooLong.ensures.read in
-    told-too-long _ _ _ _ _ _ c.in_ok-slot.ensures.opens read.1 (grind (arith, read.2))
+pub returns-in-Err-Refused-clause-refused : goal.returns-in-Err-Refused-clause-refused
+returns-in-Err-Refused-clause-refused g c =
+    let read = c.in-Err-Refused.ensures.read in
+    told-too-long _ _ _ _ _ _ _ c.in_ok-slot.ensures.opens read.1 (grind (arith, read.2))
 
 pub returns-clause-manifest : goal.returns-clause-manifest
 returns-clause-manifest g c =
@@ -36,7 +32,8 @@ returns-clause-manifest g c =
     let read = c.in-Ok.ensures.ok in
     let same : IsSome (first.holds name) → c.deref.result.now ≡ told first name = λ tells.
     c.deref.ensures.value ∙ whole-text first _ _ name c.in_ok-slot.slot c.in-Ok.text.items c.in_ok-slot.ensures.opens read.0 read.1 tells in
-    told-ok c.deref.result.now (told first name) (IsSome (first.holds name)) same c.setup_of.result c.setup_of.ensures.manifest
+    told-ok c.args.strict c.deref.result.now (told first name)
+    (IsSome (first.holds name)) same c.setup_of.result c.setup_of.ensures.manifest
 
 pub returns-clause-refused : goal.returns-clause-refused
 returns-clause-refused g c =
@@ -45,4 +42,5 @@ returns-clause-refused g c =
     let read = c.in-Ok.ensures.ok in
     let same : IsSome (first.holds name) → c.deref.result.now ≡ told first name = λ tells.
     c.deref.ensures.value ∙ whole-text first _ _ name c.in_ok-slot.slot c.in-Ok.text.items c.in_ok-slot.ensures.opens read.0 read.1 tells in
-    told-err c.deref.result.now (told first name) (IsSome (first.holds name)) same c.setup_of.result c.setup_of.ensures.refused
+    told-err c.args.strict c.deref.result.now (told first name)
+    (IsSome (first.holds name)) same c.setup_of.result c.setup_of.ensures.refused

@@ -1,15 +1,33 @@
-use Rattle.std.proofs.Common.{ap}
-use Rattle.cmd_show.proofs.Meeting.{show-meets-left, at-done}
+use Rattle.det_edges.specs.Traffic.{shelf_run, sink_run}
+use Rattle.probes.specs.Shows.{seen}
+use Rattle.record_reader.specs.StandsFor.{slot_of}
+use Rattle.cmd_show.proofs.Meeting.{meets-left, saw-left, at-done}
 use Rattle.cmd_show.proofs.showing.show_slot.Goals as goal
 
 pub returns-clause-meets : goal.returns-clause-meets
 returns-clause-meets g c bytes =
     let s = c.show_run-shown in
-    let same = ap (λ k. (g.S.Slots.sees c.args.shelf.now).left k) c.at-reader.ensures.slot in
-    show-meets-left _ bytes _ _ _ _ _ _ s.result _ same c.answer_of.ensures.is s.ensures.told s.ensures.part s.ensures.read_fault s.ensures.write_fault
+    let old = seen (λ b. (goal.Probe-dyn g (b.vtable, b.value)).life b.value) c.args.audience.now in
+    let now = seen (λ b. (goal.Probe-dyn g (b.vtable, b.value)).life b.value) s.new.audience in
+    meets-left s.result c.answer_of.result c.answer_of.ensures.is c.args.part old now s.ensures.run.0
+    (shelf_run g.S.Slots.sees g.S.Slots.stays c.args.shelf.now s.new.shelf) (slot_of c.at-reader.result) c.args.slot
+    (sink_run g.K.Sink.took g.K.Sink.faults c.args.out.now s.new.sink) c.at-reader.ensures.slot s.ensures.run.1 bytes
+    s.ensures.shelf_traffic s.ensures.sink_traffic
+
+pub returns-clause-saw : goal.returns-clause-saw
+returns-clause-saw g c bytes ne t =
+    let s = c.show_run-shown in
+    let old = seen (λ b. (goal.Probe-dyn g (b.vtable, b.value)).life b.value) c.args.audience.now in
+    let now = seen (λ b. (goal.Probe-dyn g (b.vtable, b.value)).life b.value) s.new.audience in
+    saw-left s.result c.answer_of.result c.answer_of.ensures.is c.args.part old now s.ensures.run.0
+    (shelf_run g.S.Slots.sees g.S.Slots.stays c.args.shelf.now s.new.shelf) (slot_of c.at-reader.result) c.args.slot
+    (sink_run g.K.Sink.took g.K.Sink.faults c.args.out.now s.new.sink) c.at-reader.ensures.slot s.ensures.run.1 bytes ne t
 
 pub returns-clause-asked : goal.returns-clause-asked
-returns-clause-asked g c = c.show_run-shown.ensures.run.1.asked
+returns-clause-asked g c = c.show_run-shown.ensures.run.1.answers.reads.asked
 
 pub returns-clause-gone : goal.returns-clause-gone
-returns-clause-gone g c = at-done c.show_run-shown.result c.answer_of.result c.answer_of.ensures.is c.show_run-shown.ensures.gone
+returns-clause-gone g c = at-done c.show_run-shown.result c.answer_of.result c.answer_of.ensures.is c.show_run-shown.ensures.run.1.gone
+
+pub returns-clause-kept : goal.returns-clause-kept
+returns-clause-kept g c = c.show_run-shown.ensures.run.1.kept

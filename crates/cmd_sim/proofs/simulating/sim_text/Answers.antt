@@ -1,3 +1,4 @@
+use Rattle.std.proofs.Common.{◌∙◌}
 use Rattle.cmd_sim.proofs.Simulated.{takes-params, is-whole, text-is}
 use Rattle.cmd_sim.proofs.simulating.sim_text.Goals as goal
 
@@ -10,5 +11,6 @@ run_over-requires-clause-whole g c κs lives =
 
 pub returns-clause-text : goal.returns-clause-text
 returns-clause-text g c =
-    text-is c.args.number c.in_ok-profile.profile c.in_ok-profile.ensures (λ lines. lines.items) c.lines_of.result _ c.in_ok-stimulus.stimulus _ c.in_ok-summary.summary
-    c.in_ok-stimulus.ensures c.in_ok-summary.ensures.summary c.in_ok-summary.ensures.reports c.lines_of.ensures.lines
+    text-is c.args.number c.in_ok-profile.profile c.in_ok-profile.ensures (λ lines. lines.items) c.lines_of.result _ c.in_ok-stimulus.stimulus _
+    c.in_ok-summary.summary c.in_ok-stimulus.ensures c.in_ok-summary.ensures.summary
+    (c.reports.ensures ∙ c.in_ok-finish.ensures.left ∙ c.in_ok-summary.ensures.reports) c.lines_of.ensures

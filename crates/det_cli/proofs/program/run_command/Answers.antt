@@ -1,79 +1,167 @@
-use Rattle.std.proofs.Common.{[], refl, ap, arith}
-use Rattle.det_edges.proofs.Opening.{asks-prefix-none}
+use Rattle.std.proofs.Common.{ℕ, List, [], ◌∷◌, Bool, cond, refl, sym, ap, ◌∙◌, arith, rules}
+use Rattle.std.specs.Prelude.{Option, Some, None, is_some}
+use Rattle.det_edges.proofs.Opening.{asks-all, asks-prefix-none}
 use Rattle.cli_answers.proofs.Meeting.{meets-under}
-use Rattle.cli_words.specs.Words.{command_seen}
+use Rattle.cli_words.specs.declared.table.CommandWord.TheVariants as words
+use Rattle.cli_words.specs.Command.{CommandValue, command_seen}
 use Rattle.det_cli.specs.Outcome.{built}
-use Rattle.det_cli.proofs.Joining.{meets-command, needs-command, meets-no-command}
+use Rattle.det_cli.proofs.Joining.{same-built, sole-name, no-name, both-names, workers-fit, is-kept, is-gone, help-is, runs-command}
+use Rattle.det_cli.proofs.Joining.{runs-no-command}
 use Rattle.det_cli.proofs.program.run_command.Goals as goal
 
-pub returns-in-Demo-clause-meets : goal.returns-in-Demo-clause-meets
-returns-in-Demo-clause-meets g c =
-    meets-command (g.S.Slots.sees c.args.shelf.now) _ _ _ _ _ _ _ _ (ap (λ x. built (command_seen x)) c.in-Demo.is) c.demo.ensures.meets
+pub record_stimulus-requires : goal.record_stimulus-requires
+record_stimulus-requires g c =
+    let workers = workers-fit (command_seen c.args.command) c.requires.range in search (rules, workers)
 
-pub returns-in-Record-clause-meets : goal.returns-in-Record-clause-meets
-returns-in-Record-clause-meets g c =
-    meets-command (g.S.Slots.sees c.args.shelf.now) _ _ _ _ _ _ _ _ (ap (λ x. built (command_seen x)) c.in-Record.is)
-    c.record_stimulus.ensures.meets
+pub sim-requires-after_bounds : goal.sim-requires-after_bounds
+sim-requires-after_bounds g c κs lives = workers-fit (command_seen c.args.command) c.requires.range
 
-pub returns-in-Record-clause-needed : goal.returns-in-Record-clause-needed
-returns-in-Record-clause-needed g c = needs-command _ _ _ _ (ap (λ x. built (command_seen x)) c.in-Record.is)
-    c.record_stimulus.ensures.judged
+pub returns-in-Demo : goal.returns-in-Demo
+returns-in-Demo g c =
+    let seen = command_seen c.args.command in
+    let names = c.name-first.result.now ∷ [] in
+    let is = sole-name seen words.Demo c.requires.range c.in-Demo.is refl refl c.name-first.result.now c.name-first.ensures in
+    runs-command (g.S.Slots.sees c.args.shelf.now) _ _ _ _ _ _ _ (built seen) _ (same-built seen words.Demo names c.in-Demo.is is) (record {
+      meets = c.demo.ensures.meets;
+      ends = c.demo.ensures.ends;
+      asked = c.demo.ensures.asked;
+      needed = λ t. c.demo.ensures.asked;
+      left = λ e. refl;
+      gone = λ e. absurd cc;
+    })
 
-pub returns-in-Show-clause-meets : goal.returns-in-Show-clause-meets
-returns-in-Show-clause-meets g c =
-    meets-command (g.S.Slots.sees c.args.shelf.now) _ _ _ _ _ _ _ _ (ap (λ x. built (command_seen x)) c.in-Show.is) c.show.ensures.meets
+pub returns-in-Record : goal.returns-in-Record
+returns-in-Record g c =
+    let seen = command_seen c.args.command in
+    let names = c.name-first.result.now ∷ c.name-second.result.now ∷ [] in
+    let is = both-names seen words.Record c.requires.range c.in-Record.is refl refl c.name-first.result.now c.name-second.result.now
+    c.name-first.ensures c.name-second.ensures in
+    runs-command (g.S.Slots.sees c.args.shelf.now) _ _ _ _ _ _ _ (built seen) _ (same-built seen words.Record names c.in-Record.is is)
+    (record {
+      meets = c.record_stimulus.ensures.meets;
+      ends = c.record_stimulus.ensures.ends;
+      asked = c.record_stimulus.ensures.asked;
+      needed = c.record_stimulus.ensures.judged;
+      left = λ e. refl;
+      gone = λ e. absurd cc;
+    })
 
-pub returns-in-Needs-clause-meets : goal.returns-in-Needs-clause-meets
-returns-in-Needs-clause-meets g c =
-    meets-command (g.S.Slots.sees c.args.shelf.now) _ _ _ _ _ _ _ _ (ap (λ x. built (command_seen x)) c.in-Needs.is)
-    (meets-under _ _ _ _ _ _ _ _ _ _ (λ t. t 0 c.in-Needs.manifest.now (omega arith)) (λ r. r) (λ o. o) c.needs.ensures.meets)
+pub returns-in-Needs : goal.returns-in-Needs
+returns-in-Needs g c =
+    let seen = command_seen c.args.command in
+    let names = c.name-first.result.now ∷ [] in
+    let is = sole-name seen words.Needs c.requires.range c.in-Needs.is refl refl c.name-first.result.now c.name-first.ensures in
+    let asked = asks-all _ _ names c.needs.ensures.asked in
+    runs-command (g.S.Slots.sees c.args.shelf.now) _ _ _ _ _ _ _ (built seen) _ (same-built seen words.Needs names c.in-Needs.is is)
+    (record {
+      meets = meets-under _ _ _ _ _ _ _ _ _ _ (λ t. t 0 c.name-first.result.now (omega arith)) (λ r. r) (λ o. o) c.needs.ensures.meets;
+      ends = c.needs.ensures.ends;
+      asked = asked;
+      needed = λ t. asked;
+      left = λ e. refl;
+      gone = λ e. absurd cc;
+    })
 
-pub returns-in-Sim-clause-meets : goal.returns-in-Sim-clause-meets
-returns-in-Sim-clause-meets g c =
-    meets-command (g.S.Slots.sees c.args.shelf.now) _ _ _ _ _ _ _ _ (ap (λ x. built (command_seen x)) c.in-Sim.is)
-    (meets-under _ _ _ _ _ _ _ _ _ _ (λ t. tt) (λ r. absurd r) (λ o. o) c.sim.ensures.meets)
+pub returns-in-Show : goal.returns-in-Show
+returns-in-Show g c =
+    let seen = command_seen c.args.command in
+    let names = c.name-first.result.now ∷ [] in
+    let is = sole-name seen words.Show c.requires.range c.in-Show.is refl refl c.name-first.result.now c.name-first.ensures in
+    let part = c.part.ensures in
+    runs-command (g.S.Slots.sees c.args.shelf.now) _ _ _ _ _ _ _ (built seen) _ (same-built seen words.Show names c.in-Show.is is)
+    (record {
+      meets = rw (← part) c.show.ensures.meets;
+      ends = c.show.ensures.ends;
+      asked = c.show.ensures.asked;
+      needed = λ t. c.show.ensures.asked;
+      left = rw (← part) (is-kept c.part.result _ _ c.show.ensures.kept);
+      gone = rw (← part) (λ e done. is-gone c.part.result _ (c.show.ensures.gone done) e);
+    })
 
-pub returns-in-Sim-clause-needed : goal.returns-in-Sim-clause-needed
-returns-in-Sim-clause-needed g c =
-    needs-command _ _ _ _ (ap (λ x. built (command_seen x)) c.in-Sim.is) (λ t. asks-prefix-none _ _ [] refl)
+pub returns-in-Sim : goal.returns-in-Sim
+returns-in-Sim g c =
+    let seen = command_seen c.args.command in
+    let first = g.S.Slots.sees c.args.shelf.now in
+    let number = c.number.ensures in
+    runs-command first _ _ _ _ _ _ _ (built seen) _ (same-built seen words.Sim seen.names c.in-Sim.is refl) (record {
+      meets = rw (sym number) (meets-under _ _ _ _ _ _ _ _ _ _ (λ t. tt) (λ r. absurd r) (λ o. o) c.sim.ensures.meets);
+      ends = c.sim.ensures.ends;
+      asked = asks-prefix-none first first [] refl;
+      needed = λ t. asks-prefix-none first first [] refl;
+      left = λ e. absurd cc;
+      gone = λ e done. c.sim.ensures.gone done;
+    })
 
-pub returns-in-Help-clause-meets : goal.returns-in-Help-clause-meets
-returns-in-Help-clause-meets g c =
-    meets-command (g.S.Slots.sees c.args.shelf.now) _ _ _ _ _ _ _ _ (ap (λ x. built (command_seen x)) c.in-Help.is)
-    (meets-under _ _ _ _ _ _ _ _ _ _ (λ t. tt) (λ r. absurd r) (λ o. o) c.print.ensures.meets)
+pub returns-in-Some : goal.returns-in-Some
+returns-in-Some g c =
+    let seen = command_seen c.args.command in
+    let first = g.S.Slots.sees c.args.shelf.now in
+    let same : CommandValue = record { word = words.Help; names = seen.names; options = seen.options } in
+    let text = help-is (Some c.in-Some.text.now) _ seen.names c.as_slice.ensures.names c.in-Some.ensures in
+    let is = same-built seen words.Help seen.names c.in-Help.is refl
+    ∙ ap (λ (t : Option (List ℕ)). cond (is_some t) (Some same) None) text in
+    runs-command first _ _ _ _ _ _ _ (built seen) (Some same) is (record {
+      meets = rw text (meets-under _ _ _ _ _ _ _ _ _ _ (λ t. tt) (λ r. absurd r) (λ o. o) c.print.ensures.meets);
+      ends = c.print.ensures.ends;
+      asked = asks-prefix-none first first [] refl;
+      needed = λ t. asks-prefix-none first first [] refl;
+      left = λ e. refl;
+      gone = λ e. absurd cc;
+    })
 
-pub returns-in-Help-clause-needed : goal.returns-in-Help-clause-needed
-returns-in-Help-clause-needed g c =
-    needs-command _ _ _ _ (ap (λ x. built (command_seen x)) c.in-Help.is) (λ t. asks-prefix-none _ _ [] refl)
+pub returns-in-None : goal.returns-in-None
+returns-in-None g c =
+    let seen = command_seen c.args.command in
+    let same : CommandValue = record { word = words.Help; names = seen.names; options = seen.options } in
+    let text = help-is None _ seen.names c.as_slice.ensures.names c.in-None.ensures in
+    runs-no-command (g.S.Slots.sees c.args.shelf.now) _ _ _ (built seen)
+    (same-built seen words.Help seen.names c.in-Help.is refl ∙ ap (λ (t : Option (List ℕ)). cond (is_some t) (Some same) None) text)
 
-pub returns-in-Version-clause-needed : goal.returns-in-Version-clause-needed
-returns-in-Version-clause-needed g c =
-    needs-command _ _ _ _ (ap (λ x. built (command_seen x)) c.in-Version.is) (λ t. asks-prefix-none _ _ [] refl)
+pub returns-in-Version : goal.returns-in-Version
+returns-in-Version g c =
+    let seen = command_seen c.args.command in
+    let first = g.S.Slots.sees c.args.shelf.now in
+    runs-command first _ _ _ _ _ _ _ (built seen) _
+    (same-built seen words.Version [] c.in-Version.is (no-name seen words.Version c.requires.range c.in-Version.is refl)) (record {
+      meets = meets-under _ _ _ _ _ _ _ _ _ _ (λ t. tt) (λ r. absurd r) (λ o. o) c.print-in-Version.ensures.meets;
+      ends = c.print-in-Version.ensures.ends;
+      asked = asks-prefix-none first first [] refl;
+      needed = λ t. asks-prefix-none first first [] refl;
+      left = λ e. refl;
+      gone = λ e. absurd cc;
+    })
 
-pub returns-in-Replay-clause-meets : goal.returns-in-Replay-clause-meets
-returns-in-Replay-clause-meets g c =
-    meets-no-command (g.S.Slots.sees c.args.shelf.now) _ _ _ _ _ (ap (λ x. built (command_seen x)) c.in-Replay.is)
+pub returns-in-Replay : goal.returns-in-Replay
+returns-in-Replay g c =
+    let seen = command_seen c.args.command in
+    runs-no-command (g.S.Slots.sees c.args.shelf.now) _ _ _ (built seen) (same-built seen words.Replay seen.names c.in-Replay.is refl)
 
-pub returns-in-Check-clause-meets : goal.returns-in-Check-clause-meets
-returns-in-Check-clause-meets g c =
-    meets-no-command (g.S.Slots.sees c.args.shelf.now) _ _ _ _ _ (ap (λ x. built (command_seen x)) c.in-Check.is)
+pub returns-in-Check : goal.returns-in-Check
+returns-in-Check g c =
+    let seen = command_seen c.args.command in
+    runs-no-command (g.S.Slots.sees c.args.shelf.now) _ _ _ (built seen) (same-built seen words.Check seen.names c.in-Check.is refl)
 
-pub returns-in-Compare-clause-meets : goal.returns-in-Compare-clause-meets
-returns-in-Compare-clause-meets g c =
-    meets-no-command (g.S.Slots.sees c.args.shelf.now) _ _ _ _ _ (ap (λ x. built (command_seen x)) c.in-Compare.is)
+pub returns-in-Compare : goal.returns-in-Compare
+returns-in-Compare g c =
+    let seen = command_seen c.args.command in
+    runs-no-command (g.S.Slots.sees c.args.shelf.now) _ _ _ (built seen) (same-built seen words.Compare seen.names c.in-Compare.is refl)
 
-pub returns-in-Salvage-clause-meets : goal.returns-in-Salvage-clause-meets
-returns-in-Salvage-clause-meets g c =
-    meets-no-command (g.S.Slots.sees c.args.shelf.now) _ _ _ _ _ (ap (λ x. built (command_seen x)) c.in-Salvage.is)
+pub returns-in-Salvage : goal.returns-in-Salvage
+returns-in-Salvage g c =
+    let seen = command_seen c.args.command in
+    runs-no-command (g.S.Slots.sees c.args.shelf.now) _ _ _ (built seen) (same-built seen words.Salvage seen.names c.in-Salvage.is refl)
 
-pub returns-in-Upgrade-clause-meets : goal.returns-in-Upgrade-clause-meets
-returns-in-Upgrade-clause-meets g c =
-    meets-no-command (g.S.Slots.sees c.args.shelf.now) _ _ _ _ _ (ap (λ x. built (command_seen x)) c.in-Upgrade.is)
+pub returns-in-Upgrade : goal.returns-in-Upgrade
+returns-in-Upgrade g c =
+    let seen = command_seen c.args.command in
+    runs-no-command (g.S.Slots.sees c.args.shelf.now) _ _ _ (built seen) (same-built seen words.Upgrade seen.names c.in-Upgrade.is refl)
 
-pub returns-in-Vote-clause-meets : goal.returns-in-Vote-clause-meets
-returns-in-Vote-clause-meets g c =
-    meets-no-command (g.S.Slots.sees c.args.shelf.now) _ _ _ _ _ (ap (λ x. built (command_seen x)) c.in-Vote.is)
+pub returns-in-Vote : goal.returns-in-Vote
+returns-in-Vote g c =
+    let seen = command_seen c.args.command in
+    runs-no-command (g.S.Slots.sees c.args.shelf.now) _ _ _ (built seen) (same-built seen words.Vote seen.names c.in-Vote.is refl)
 
-pub returns-in-Chain-clause-meets : goal.returns-in-Chain-clause-meets
-returns-in-Chain-clause-meets g c =
-    meets-no-command (g.S.Slots.sees c.args.shelf.now) _ _ _ _ _ (ap (λ x. built (command_seen x)) c.in-Chain.is)
+pub returns-in-Chain : goal.returns-in-Chain
+returns-in-Chain g c =
+    let seen = command_seen c.args.command in
+    runs-no-command (g.S.Slots.sees c.args.shelf.now) _ _ _ (built seen) (same-built seen words.Chain seen.names c.in-Chain.is refl)

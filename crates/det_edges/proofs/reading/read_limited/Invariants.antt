@@ -1,13 +1,13 @@
-use Rattle.std.proofs.Common.{◌≤◌, ◌-◌, length}
+use Rattle.std.proofs.Common.{◌≤◌, ◌-◌, length, None}
 use Rattle.det_edges.specs.Shelf.{Reads}
+use Rattle.det_edges.specs.Traffic.{ShelfTraffic, shelf_run}
 use Rattle.det_edges.proofs.reading.read_limited.Given as goal
 
 abbrev pub invariant-pieces : goal.invariant-pieces
 invariant-pieces g l = record {
   reads : Reads (g.S.Slots.sees l.fn.shelf) (g.S.Slots.sees l.shelf) l.slot l.bytes.items;
   within : length l.bytes.items ≤ l.most;
-  counted : (g.S.Slots.sees l.fn.shelf).faults ≤ (g.S.Slots.sees l.shelf).faults;
-  stays : g.S.Slots.stays l.fn.shelf l.shelf;
+  traffic : ShelfTraffic (shelf_run g.S.Slots.sees g.S.Slots.stays l.fn.shelf l.shelf) None;
 }
 
 abbrev pub decreases-pieces : goal.decreases-pieces

@@ -1,12 +1,25 @@
-use Rattle.std.proofs.Common.{rules, ◌<◌, length, sym, ap, subst, refl, arith}
+use Rattle.std.proofs.Common.{rules, ◌≡◌, ◌+◌, ◌*◌, ◌<◌, ◌∙◌, [], Ok, length, sym, ap, subst, refl, arith}
+use Rattle.std.specs.Arc.{arc_value}
+use Rattle.job_trait.specs.Cycle.{shown_with}
+use Rattle.job_trait.specs.Passes.{block_in, drawn_so_far}
 use Rattle.pass_in_blocks.specs.Answers.{left_by}
-use Rattle.pass_in_blocks.specs.Steps.{passed_by, CanJoin}
+use Rattle.pass_in_blocks.specs.Showing.{AreSpelled, shown_before}
+use Rattle.pass_in_blocks.specs.Steps.{beside, passed_by, CanJoin}
 use Rattle.pass_in_blocks.proofs.Sound.{can_join, all_answer, next_done, refusal_answer}
+use Rattle.pass_in_blocks.proofs.Shows.{shows_next, shows_all, shown_length}
 use Rattle.pass_in_blocks.proofs.finish.finish_pass.Goals as goal
 
 pub overflow_cast-b : goal.overflow_cast-b
 overflow_cast-b g c = let q = c.blocks-b-end.ensures.no_more c.join.b (omega arith) in let e = ap length c.deref-4.ensures in
     let f = c.requires.ready.few in let lt : c.join.b < 1024 = omega arith in omega arith
+
+pub overflow_cast-b-in-Done : goal.overflow_cast-b-in-Done
+overflow_cast-b-in-Done g c = let q = c.blocks-b-end.ensures.no_more c.join.b (omega arith) in let e = ap length c.deref-4.ensures in
+    let f = c.requires.ready.few in let lt : c.join.b < 1024 = omega arith in omega arith
+
+pub show_block-requires-clause-inside : goal.show_block-requires-clause-inside
+show_block-requires-clause-inside g c =
+    let q = c.blocks-b-end.ensures.no_more c.join.b (omega arith) in let e = ap length c.deref-4.ensures in omega arith
 
 pub answer_at-requires-clause-inside : goal.answer_at-requires-clause-inside
 answer_at-requires-clause-inside g c =
@@ -31,14 +44,38 @@ pub join-preserved : goal.join-preserved
 join-preserved g c =
     let q = c.blocks-b-end.ensures.no_more c.join.b (omega arith) in let e = ap length c.deref-4.ensures in
     let d = passed_by c.join.elements c.join.draws c.join.part in
-    let both = passed_by c.join_block.new.elements c.join_block.new.draws c.in_ok-part-in-Done.part in record {
+    let both = passed_by c.join_block.new.elements c.join_block.new.draws c.in_ok-part-in-Done.part in
+    let came : block_in g.J.Job.meaning c.args.pass.now c.join.b ≡ Ok (left_by c.in-Done.done) = search rules in
+    let same : both ≡ beside (g.J.Job.meaning.joined (arc_value c.args.pass.now.job)) d (left_by c.in-Done.done) = search rules in record {
       done = next_done g.met.J.Job.laws c.args.pass.now c.requires.ready c.join.b d c.join.invariant.done (omega arith)
-          (left_by c.in-Done.done) both (search rules) (search rules);
+          (left_by c.in-Done.done) both came same;
+      shown = λ shows. subst (λ x. AreSpelled (shown_before g.J.Job.meaning c.args.pass.now (64 * (c.join.b + 1)) x.elements x.draws) []
+          c.show_block.new.out.items) (sym same)
+          (shows_next g.met.J.Job.laws c.args.pass.now c.requires.ready c.join.b (omega arith) (left_by c.in-Done.done) came
+          d c.join.shown.items c.show_block.new.out.items c.join.invariant.done (c.join.invariant.shown shows)
+          (c.in_ok-show_block-in-Done.ensures shows));
       places = search rules;
     }
 
 pub returns : goal.returns
 returns g c = let q = c.blocks-b-end.ensures.enough in let e = ap length c.deref-4.ensures in
     let d = passed_by c.join.elements c.join.draws c.join.part in
-    all_answer g.met.J.Job.laws c.args.pass.now c.requires.ready c.join.b d c.join.invariant.done
-    (record { elements = c.join.elements; draws = c.join.draws; part = c.join.part }) refl (omega arith)
+    let laws = g.met.J.Job.laws in let t = c.args.pass.now in
+    let n : length c.join.elements ≡ c.len-count.result = sym c.len-count.ensures.len in
+    all_answer laws t c.requires.ready c.join.b d c.join.invariant.done
+    (record { elements = c.join.elements; draws = c.join.draws; part = c.join.part; shown = c.frame_of.result }) refl (omega arith)
+    (λ shows. c.frame_of.ensures shows _
+    (shows_all laws t c.requires.ready d (64 * c.join.b) c.join.invariant.done (omega arith) c.join.shown.items
+    (c.join.invariant.shown shows))
+    (shown_length laws t c.requires.ready d (64 * c.join.b) c.join.invariant.done (omega arith) ∙ n))
+
+pub frame_of-requires-clause-spelled : goal.frame_of-requires-clause-spelled
+frame_of-requires-clause-spelled g c shows = let q = c.blocks-b-end.ensures.enough in let e = ap length c.deref-4.ensures in
+    let d = passed_by c.join.elements c.join.draws c.join.part in
+    let laws = g.met.J.Job.laws in let t = c.args.pass.now in
+    let n : length c.join.elements ≡ c.len-count.result = sym c.len-count.ensures.len in (
+      shown_with g.J.Job.meaning (arc_value t.job) c.join.elements (drawn_so_far (arc_value t.earlier) c.join.draws),
+      shows_all laws t c.requires.ready d (64 * c.join.b) c.join.invariant.done (omega arith) c.join.shown.items
+          (c.join.invariant.shown shows),
+      shown_length laws t c.requires.ready d (64 * c.join.b) c.join.invariant.done (omega arith) ∙ n,
+    )

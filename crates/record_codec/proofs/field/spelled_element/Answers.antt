@@ -6,4 +6,5 @@ pub overflow_sub-len : goal.overflow_sub-len
 overflow_sub-len c = spelled_room c.args.bytes.now c.in_ok-rest.rest.now _ c.in_ok-rest.ensures.gives
 
 pub returns-clause-ok : goal.returns-clause-ok
-returns-clause-ok c = stands_spelled c.args.bytes.now c.in_ok-rest.rest.now _ _ (λ i. omega (arith, c.type_inv.bytes i)) c.in_ok-rest.ensures.gives refl
+returns-clause-ok c =
+    stands_spelled c.args.bytes.now c.in_ok-rest.rest.now _ _ (λ i. omega (arith, c.type_inv.bytes i)) c.in_ok-rest.ensures.gives refl

@@ -4,4 +4,5 @@ use Rattle.record_codec.proofs.Many.{HasMany}
 use Rattle.record_codec.proofs.header.all_events.Given as goal
 
 abbrev pub invariant-loop : goal.invariant-loop
-invariant-loop l = record { read : HasMany (event_at l.format) l.count l.counter l.events.items l.rest l.bytes; known : KnowsPolicies l.format l.events.items }
+invariant-loop l =
+    record { read : HasMany (event_at l.format) l.count l.counter l.events.items l.rest l.bytes; known : KnowsPolicies l.format l.events.items }

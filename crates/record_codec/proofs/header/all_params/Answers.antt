@@ -12,8 +12,10 @@ returns-in_err-param c =
 
 pub loop-preserved : goal.loop-preserved
 loop-preserved c =
-    let e : c.push.new.self.items ≡ c.loop.params.items ++ c.in_ok-param.param ∷ [] = grind (arith, to_z-of_z, c.in-Ok.ensures.items, c.signed.type_inv) in
+    let e : c.push.new.self.items ≡ c.loop.params.items ++ c.in_ok-param.param
+    ∷ [] = grind (arith, to_z-of_z, c.in-Ok.ensures.items, c.signed.type_inv) in
     rw e (HasMany-next signed_at c.args.count c.loop.counter c.loop.params.items c.loop.rest.now c.args.bytes.now c.in_ok-param.param c.in_ok-param.after.now c.loop-test.true c.in_ok-param.ensures c.loop.invariant)
 
 pub returns : goal.returns
-returns c = rw c.from_vec.ensures (HasMany-done signed_at c.args.count c.loop.counter c.loop.params.items c.loop.rest.now c.args.bytes.now c.loop-test.false c.loop.invariant)
+returns c =
+    rw c.from_vec.ensures (HasMany-done signed_at c.args.count c.loop.counter c.loop.params.items c.loop.rest.now c.args.bytes.now c.loop-test.false c.loop.invariant)

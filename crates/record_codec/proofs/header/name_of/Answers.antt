@@ -11,7 +11,8 @@ returns-in_err-after c =
     rw (p.1, p.2) (HasMany-stops name_byte_at c.args.len c.loop.counter (take c.loop.counter c.args.bytes.now) c.loop.rest.now c.args.bytes.now c.in_err-after.field-0.0 c.loop-test.true c.in_err-after.ensures c.loop.invariant.so_far)
 
 pub loop-preserved : goal.loop-preserved
-loop-preserved c = HasName-next c.args.len c.loop.counter c.loop.rest.now c.args.bytes.now c.in_ok-after.field-0-0 c.in_ok-after.after.now c.loop-test.true c.in_ok-after.ensures c.loop.invariant
+loop-preserved c =
+    HasName-next c.args.len c.loop.counter c.loop.rest.now c.args.bytes.now c.in_ok-after.field-0-0 c.in_ok-after.after.now c.loop-test.true c.in_ok-after.ensures c.loop.invariant
 
 pub returns : goal.returns
 returns c =

@@ -4,7 +4,8 @@ use Rattle.record_codec.proofs.Many.{HasMany-next, HasMany-stops, HasMany-done}
 use Rattle.record_codec.proofs.input.all_samples.Goals as goal
 
 pub returns : goal.returns
-returns c = rw c.from_vec.ensures (HasMany-done (sample_at c.args.events) c.args.count c.loop.counter c.loop.samples.items c.loop.rest.now c.args.bytes.now c.loop-test.false c.loop.invariant)
+returns c =
+    rw c.from_vec.ensures (HasMany-done (sample_at c.args.events) c.args.count c.loop.counter c.loop.samples.items c.loop.rest.now c.args.bytes.now c.loop-test.false c.loop.invariant)
 
 pub returns-in_err-rest : goal.returns-in_err-rest
 returns-in_err-rest c =

@@ -7,7 +7,8 @@ use Rattle.record_codec.proofs.Resumed.{init_resumes, init_stops, init_ends}
 use Rattle.record_codec.proofs.resume.go_on_init.Goals as goal
 
 pub returns-in-Err-clause-answers : goal.returns-in-Err-clause-answers
-returns-in-Err-clause-answers c = rw c.stopped.ensures (init_stops c.args.place (record { elements = c.loop-left.elements; left = c.loop-left.left; room = c.loop-left.invariant.room }) c.loop-left.read c.args.start.elements c.args.start.left c.args.bytes.now c.in-Err.stop c.loop-left-test.true (search (rules, c.rest_of.ensures, c.in-Err.ensures)) c.loop-left.invariant.read)
+returns-in-Err-clause-answers c =
+    rw c.stopped.ensures (init_stops c.args.place (record { elements = c.loop-left.elements; left = c.loop-left.left; room = c.loop-left.invariant.room }) c.loop-left.read c.args.start.elements c.args.start.left c.args.bytes.now c.in-Err.stop c.loop-left-test.true (search (rules, c.rest_of.ensures, c.in-Err.ensures)) c.loop-left.invariant.read)
 
 pub returns-in-Err-push-clause-answers : goal.returns-in-Err-push-clause-answers
 returns-in-Err-push-clause-answers c =
@@ -16,14 +17,17 @@ returns-in-Err-push-clause-answers c =
 
 pub overflow_sub-read : goal.overflow_sub-read
 overflow_sub-read c =
-    let e : element_at (drop c.loop-left.read c.args.bytes.now) ≡ Got (c.in-Ok.element, c.in-Ok.rest.now) = search (rules, c.rest_of.ensures, c.in-Ok.ensures) in
+    let e : element_at (drop c.loop-left.read c.args.bytes.now)
+    ≡ Got (c.in-Ok.element, c.in-Ok.rest.now) = search (rules, c.rest_of.ensures, c.in-Ok.ensures) in
     Continues-room element_at element_steady _ _ _ _ _ _ _ _ e c.loop-left.invariant.read
 
 pub loop-left-preserved : goal.loop-left-preserved
 loop-left-preserved c =
-    let e : element_at (drop c.loop-left.read c.args.bytes.now) ≡ Got (c.in-Ok.element, c.in-Ok.rest.now) = search (rules, c.rest_of.ensures, c.in-Ok.ensures) in
+    let e : element_at (drop c.loop-left.read c.args.bytes.now)
+    ≡ Got (c.in-Ok.element, c.in-Ok.rest.now) = search (rules, c.rest_of.ensures, c.in-Ok.ensures) in
     rw c.in-Ok-push.ensures.ok (record {
-      read = Continues-next element_at element_steady c.loop-left.elements c.loop-left.left c.loop-left.read c.args.start.elements c.args.start.left c.args.bytes.now c.in-Ok.element c.in-Ok.rest.now c.loop-left-test.true e c.loop-left.invariant.read;
+      read =
+          Continues-next element_at element_steady c.loop-left.elements c.loop-left.left c.loop-left.read c.args.start.elements c.args.start.left c.args.bytes.now c.in-Ok.element c.in-Ok.rest.now c.loop-left-test.true e c.loop-left.invariant.read;
       room = omega (arith, length-append c.loop-left.elements (c.in-Ok.element ∷ []), c.loop-left.invariant.room);
     })
 

@@ -14,21 +14,25 @@ returns-in-Err-clause-answers c =
 pub overflow_sub-read : goal.overflow_sub-read
 overflow_sub-read c =
     let p = c.in-Ok.ensures.ok in
-    let e : drawn_at c.args.start.format (drop c.loop-left.read c.args.bytes.now) ≡ Got (p.0, c.in-Ok.rest.now) = search (rules, c.rest_of.ensures, p.1) in
+    let e : drawn_at c.args.start.format (drop c.loop-left.read c.args.bytes.now)
+    ≡ Got (p.0, c.in-Ok.rest.now) = search (rules, c.rest_of.ensures, p.1) in
     Continues-room (drawn_at c.args.start.format) (drawn_steady c.args.start.format) _ _ _ _ _ _ _ _ e c.loop-left.invariant.read
 
 pub loop-left-preserved : goal.loop-left-preserved
 loop-left-preserved c =
     let p = c.in-Ok.ensures.ok in
-    let e : drawn_at c.args.start.format (drop c.loop-left.read c.args.bytes.now) ≡ Got (p.0, c.in-Ok.rest.now) = search (rules, c.rest_of.ensures, p.1) in
+    let e : drawn_at c.args.start.format (drop c.loop-left.read c.args.bytes.now)
+    ≡ Got (p.0, c.in-Ok.rest.now) = search (rules, c.rest_of.ensures, p.1) in
     rw p.2 (record {
-      read = Continues-next (drawn_at c.args.start.format) (drawn_steady c.args.start.format) c.loop-left.elements c.loop-left.left c.loop-left.read c.args.start.elements c.args.start.left c.args.bytes.now p.0 c.in-Ok.rest.now c.loop-left-test.true e c.loop-left.invariant.read;
+      read =
+          Continues-next (drawn_at c.args.start.format) (drawn_steady c.args.start.format) c.loop-left.elements c.loop-left.left c.loop-left.read c.args.start.elements c.args.start.left c.args.bytes.now p.0 c.in-Ok.rest.now c.loop-left-test.true e c.loop-left.invariant.read;
       room = omega (arith, length-append c.loop-left.elements (p.0 ∷ []), c.loop-left.invariant.room);
     })
 
 pub overflow_sub-result : goal.overflow_sub-result
 overflow_sub-result c =
-    let e : string_at 4 1048576 (drop c.loop-left.read c.args.bytes.now) ≡ Got (c.in-Ok-output.output, c.in-Ok-output.rest.now) = search (rules, c.rest_of-2.ensures, c.in-Ok-output.ensures) in
+    let e : string_at 4 1048576 (drop c.loop-left.read c.args.bytes.now)
+    ≡ Got (c.in-Ok-output.output, c.in-Ok-output.rest.now) = search (rules, c.rest_of-2.ensures, c.in-Ok-output.ensures) in
     (run_ends c.args.start.format c.args.start.input c.loop-left.elements c.loop-left.left c.loop-left.read c.args.start.elements c.args.start.left c.args.bytes.now c.in-Ok-output.output c.in-Ok-output.rest.now c.loop-left-test.false e c.loop-left.invariant.read).0
 
 pub returns-in-Err-output-clause-answers : goal.returns-in-Err-output-clause-answers
@@ -37,5 +41,6 @@ returns-in-Err-output-clause-answers c =
 
 pub returns-in-Ok-output-clause-answers : goal.returns-in-Ok-output-clause-answers
 returns-in-Ok-output-clause-answers c =
-    let e : string_at 4 1048576 (drop c.loop-left.read c.args.bytes.now) ≡ Got (c.in-Ok-output.output, c.in-Ok-output.rest.now) = search (rules, c.rest_of-2.ensures, c.in-Ok-output.ensures) in
+    let e : string_at 4 1048576 (drop c.loop-left.read c.args.bytes.now)
+    ≡ Got (c.in-Ok-output.output, c.in-Ok-output.rest.now) = search (rules, c.rest_of-2.ensures, c.in-Ok-output.ensures) in
     (refl, (run_ends c.args.start.format c.args.start.input c.loop-left.elements c.loop-left.left c.loop-left.read c.args.start.elements c.args.start.left c.args.bytes.now c.in-Ok-output.output c.in-Ok-output.rest.now c.loop-left-test.false e c.loop-left.invariant.read).1)

@@ -53,7 +53,7 @@ returns-then-refused-clause-works g c =
     let e : view_of c.look.new.seat ≡ view_of c.claim.new.seat = (c.look.ensures.stays (λ t. true≢false (sym t ∙ c.if-look.false))).0 in
     works_marked (block_in g.J.Job.meaning c.args.pass.now) Reported (view_of c.args.seat.now) (view_of c.claim.new.seat)
     (view_of c.look.new.seat) (view_of c.report.new.seat) c.in-Some.block _ _ c.in_ok-answer.answer
-    c.requires.so_far a.0 a.2 e c.report.ensures.view c.in_ok-answer.ensures c.in_ok-push.ensures.ok
+    c.requires.so_far a.0 a.2 e c.report.ensures.view c.in_ok-answer.ensures.answer c.in_ok-push.ensures.ok
     (λ same. sym same ∙ sym c.is_refusal-refused.ensures ∙ c.if-refused.true) refl
 
 pub returns-then-refused-clause-stops : goal.returns-then-refused-clause-stops
@@ -72,5 +72,5 @@ returns-else-refused-clause-works g c =
     let e : view_of c.look.new.seat ≡ view_of c.claim.new.seat = (c.look.ensures.stays (λ t. true≢false (sym t ∙ c.if-look.false))).0 in
     works_marked (block_in g.J.Job.meaning c.args.pass.now) Finished (view_of c.args.seat.now) (view_of c.claim.new.seat)
     (view_of c.look.new.seat) (view_of c.finish.new.seat) c.in-Some.block _ _ c.in_ok-answer.answer
-    c.requires.so_far a.0 a.2 e c.finish.ensures.view c.in_ok-answer.ensures c.in_ok-push.ensures.ok
+    c.requires.so_far a.0 a.2 e c.finish.ensures.view c.in_ok-answer.ensures.answer c.in_ok-push.ensures.ok
     (λ same. sym same ∙ sym c.is_refusal-refused.ensures ∙ c.if-refused.false) refl

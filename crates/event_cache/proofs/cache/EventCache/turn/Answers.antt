@@ -6,7 +6,8 @@ use Rattle.event_cache.proofs.cache.EventCache.turn.Goals as goal
 
 pub invariant_of-self : goal.invariant_of-self
 invariant_of-self c =
-    let e : c.loop-event.self-inside.rings.items ≡ map turned c.self.inside.rings.items = turned_whole _ _ c.loop-event.event (omega arith) c.loop-event.invariant in
+    let e : c.loop-event.self-inside.rings.items
+    ≡ map turned c.self.inside.rings.items = turned_whole _ _ c.loop-event.event (omega arith) c.loop-event.invariant in
     turned_fit c.self.inside.rings.items _ e c.self.invariant
 
 pub returns-clause-turned : goal.returns-clause-turned
@@ -14,11 +15,13 @@ returns-clause-turned c = turned_whole _ _ c.loop-event.event (omega arith) c.lo
 
 pub returns-clause-count : goal.returns-clause-count
 returns-clause-count c =
-    let e : c.loop-event.self-inside.rings.items ≡ map turned c.self.inside.rings.items = turned_whole _ _ c.loop-event.event (omega arith) c.loop-event.invariant in
+    let e : c.loop-event.self-inside.rings.items
+    ≡ map turned c.self.inside.rings.items = turned_whole _ _ c.loop-event.event (omega arith) c.loop-event.invariant in
     ap (λ (l : List Rings). length l) e ∙ length-map c.self.inside.rings.items turned ∙ ap (λ (l : List Rings). length l) c.self.view_is
 
 pub returns-clause-next : goal.returns-clause-next
-returns-clause-next c specs rounds arrived has_seen = seen_next_windows c.args.self.now _ specs rounds arrived (returns-clause-turned c) has_seen
+returns-clause-next c specs rounds arrived has_seen =
+    seen_next_windows c.args.self.now _ specs rounds arrived (returns-clause-turned c) has_seen
 
 pub returns-clause-seen : goal.returns-clause-seen
 returns-clause-seen c specs rounds arrived has_seen = seen_turned c.args.self.now _ specs rounds arrived (returns-clause-turned c) has_seen

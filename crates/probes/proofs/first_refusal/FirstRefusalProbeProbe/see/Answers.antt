@@ -9,7 +9,8 @@ returns-in-Refused-clause-sees c =
     refused_seen c.args.self.now.seen c.args.self.now.at c.args.run.now c.in-Refused.at c.saturating_add-self.result c.in-Refused.is count
 
 pub returns-in-Refused-clause-leaves : goal.returns-in-Refused-clause-leaves
-returns-in-Refused-clause-leaves c = ((λ e. refused_alone c.args.self.now.seen c.args.self.now.at c.args.run.now (ap outcome_refused c.in-Refused.is)), (λ e. refl))
+returns-in-Refused-clause-leaves c =
+    ((λ e. refused_alone c.args.self.now.seen c.args.self.now.at c.args.run.now (ap outcome_refused c.in-Refused.is)), (λ e. refl))
 
 pub returns-in-Finished-clause-sees : goal.returns-in-Finished-clause-sees
 returns-in-Finished-clause-sees c =

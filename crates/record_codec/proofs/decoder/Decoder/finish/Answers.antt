@@ -10,7 +10,9 @@ pub returns-in-Some : goal.returns-in-Some
 returns-in-Some c bytes given h = (next_again c.args.self.now bytes given c.in-Some.fault c.in-Some.is h).1
 
 pub returns-in-End : goal.returns-in-End
-returns-in-End c bytes given h = (finish_is c.args.self.now bytes given c.in_default.is (c.requires c.in_default.is) h).0 ∙ ap (λ (place : Place). fault_from (length bytes) (ending_at place)) c.in-End.is
+returns-in-End c bytes given h =
+    (finish_is c.args.self.now bytes given c.in_default.is (c.requires c.in_default.is) h).0
+    ∙ ap (λ (place : Place). fault_from (length bytes) (ending_at place)) c.in-End.is
 
 abbrev truncated : ℕ → Option RecordFault
 truncated len = Some (record { offset = len; reason = Truncated })

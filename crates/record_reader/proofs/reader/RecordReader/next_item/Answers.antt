@@ -1,56 +1,76 @@
-use Rattle.std.proofs.Common.{◌<◌, ℕ, ◌++◌, Some, None, Ok, Err, subst, ◌∙◌, arith}
+use Rattle.std.proofs.Common.{◌<◌, ℕ, ◌++◌, Option, Some, None, Result, Ok, Err, subst, ◌∙◌, rules}
+use Rattle.det_edges.specs.declared.failure.Stopped.{Stopped}
 use Rattle.det_edges.specs.Shelf.{IsAtEnd}
+use Rattle.record_grammar.specs.declared.fault.RecordFault.{RecordFault}
+use Rattle.record_grammar.specs.declared.item.Item.{Item}
 use Rattle.record_reader.specs.declared.reader.Progress.{Progress}
-use Rattle.record_reader.specs.StandsFor.{StandsFor, ItemIs, slot_of, room}
+use Rattle.record_reader.specs.StandsFor.{StandsFor, HasRead, ItemIs, RoomFell, slot_of, room}
 use Rattle.record_reader.specs.Steps.{StepIs, Shrinks, GoesOn}
-use Rattle.record_reader.proofs.Reading.{HasRead, read_then}
+use Rattle.record_reader.proofs.Reading.{read_then, passed-on}
 use Rattle.record_reader.proofs.reader.RecordReader.next_item.Goals as goal
+
+pub returns-in_err-step-clause-item : goal.returns-in_err-step-clause-item
+returns-in_err-step-clause-item g c =
+    let h = c.steps.invariant in
+    passed-on (λ (r : Result (Option Item) (Stopped RecordFault)). HasRead (g.S.Slots.sees c.args.shelf.now)
+    (g.S.Slots.sees c.step.new.shelf) c.args.self.now
+    (ItemIs r c.step.new.self (IsAtEnd (g.S.Slots.sees c.step.new.shelf) (slot_of c.args.self.now)))) c.from_residual.result
+    c.from_residual.ensures.1
+    (read_then c.args.self.now c.steps.self (λ slot. ItemIs (Err c.in_err-step.field-0.0) c.step.new.self
+    (IsAtEnd (g.S.Slots.sees c.step.new.shelf) slot)) h.slot h.read c.in_err-step.ensures.step)
+
+pub returns-in_err-step-clause-room : goal.returns-in_err-step-clause-room
+returns-in_err-step-clause-room g c read given stands =
+    let h = c.steps.invariant in
+    passed-on (λ (r : Result (Option Item) (Stopped RecordFault)). RoomFell r (room c.args.self.now) (room c.step.new.self))
+    c.from_residual.result c.from_residual.ensures.1
+    (c.in_err-step.ensures.shrinks (read ++ h.read.0) given (h.read.2 read given stands) ∙ h.room read given stands)
+
+pub returns-in-Item-clause-item : goal.returns-in-Item-clause-item
+returns-in-Item-clause-item g c =
+    let h = c.steps.invariant in
+    read_then c.args.self.now c.steps.self (λ slot. ItemIs (Ok (Some c.in-Item.item)) c.step.new.self
+    (IsAtEnd (g.S.Slots.sees c.step.new.shelf) slot)) h.slot h.read
+    (subst (λ (p : Progress). HasRead (g.S.Slots.sees c.steps.shelf) (g.S.Slots.sees c.step.new.shelf) c.steps.self
+    (StepIs (Ok p) c.step.new.self (IsAtEnd (g.S.Slots.sees c.step.new.shelf) (slot_of c.steps.self)))) c.in-Item.is
+    c.in_ok-step.ensures.step)
+
+pub returns-in-Item-clause-room : goal.returns-in-Item-clause-room
+returns-in-Item-clause-room g c read given stands =
+    let h = c.steps.invariant in
+    let less : room c.step.new.self < room c.steps.self =
+    subst (λ (p : Progress). Shrinks (Ok p) (room c.steps.self) (room c.step.new.self)) c.in-Item.is
+    (c.in_ok-step.ensures.shrinks (read ++ h.read.0) given (h.read.2 read given stands)) in
+    subst (λ (n : ℕ). room c.step.new.self < n) (h.room read given stands) less
+
+pub returns-in-End-clause-item : goal.returns-in-End-clause-item
+returns-in-End-clause-item g c =
+    let h = c.steps.invariant in
+    read_then c.args.self.now c.steps.self (λ slot. ItemIs (Ok None) c.step.new.self (IsAtEnd (g.S.Slots.sees c.step.new.shelf) slot))
+    h.slot h.read
+    (subst (λ (p : Progress). HasRead (g.S.Slots.sees c.steps.shelf) (g.S.Slots.sees c.step.new.shelf) c.steps.self
+    (StepIs (Ok p) c.step.new.self (IsAtEnd (g.S.Slots.sees c.step.new.shelf) (slot_of c.steps.self)))) c.in-End.is
+    c.in_ok-step.ensures.step)
+
+pub returns-in-End-clause-room : goal.returns-in-End-clause-room
+returns-in-End-clause-room g c read given stands =
+    let h = c.steps.invariant in
+    subst (λ (p : Progress). Shrinks (Ok p) (room c.steps.self) (room c.step.new.self)) c.in-End.is
+    (c.in_ok-step.ensures.shrinks (read ++ h.read.0) given (h.read.2 read given stands)) ∙ h.room read given stands
 
 pub steps-preserved : goal.steps-preserved
 steps-preserved g c =
     let h = c.steps.invariant in
-    let s = c.in-Ok-Piece.ensures in
-    let on = subst (λ (p : Progress). GoesOn (Ok p) c.steps.self c.step.new.self) c.in-Ok-Piece.field-0-is s.going in
+    let s = c.in_ok-step.ensures in
+    let on = subst (λ (p : Progress). GoesOn (Ok p) c.steps.self c.step.new.self) c.in-Piece.is s.going in
     let step : HasRead (g.S.Slots.sees c.steps.shelf) (g.S.Slots.sees c.step.new.shelf) c.steps.self (StandsFor c.step.new.self) =
-    subst (λ (p : Progress). HasRead (g.S.Slots.sees c.steps.shelf) (g.S.Slots.sees c.step.new.shelf) c.steps.self (StepIs (Ok p) c.step.new.self (IsAtEnd (g.S.Slots.sees c.step.new.shelf) (slot_of c.steps.self)))) c.in-Ok-Piece.field-0-is s.step in
+    subst (λ (p : Progress). HasRead (g.S.Slots.sees c.steps.shelf) (g.S.Slots.sees c.step.new.shelf) c.steps.self
+    (StepIs (Ok p) c.step.new.self (IsAtEnd (g.S.Slots.sees c.step.new.shelf) (slot_of c.steps.self)))) c.in-Piece.is s.step in
     record {
       read = read_then c.args.self.now c.steps.self (λ slot. StandsFor c.step.new.self) h.slot h.read step;
       going = on.0;
       slot = s.slot ∙ h.slot;
-      room = λ read given stands. subst (λ (p : Progress). Shrinks (Ok p) (room c.steps.self) (room c.step.new.self)) c.in-Ok-Piece.field-0-is (s.shrinks (read ++ h.read.0) given (h.read.2 read given stands)) ∙ h.room read given stands;
-      counted = omega (arith, h.counted, s.counted);
-      stays = g.met.S.Slots.stays_on _ _ _ h.stays s.stays;
+      room = λ read given stands. subst (λ (p : Progress). Shrinks (Ok p) (room c.steps.self) (room c.step.new.self)) c.in-Piece.is
+          (s.shrinks (read ++ h.read.0) given (h.read.2 read given stands)) ∙ h.room read given stands;
+      traffic = search rules;
     }
-
-pub returns-in-Ok-Item-clause-item : goal.returns-in-Ok-Item-clause-item
-returns-in-Ok-Item-clause-item g c =
-    let h = c.steps.invariant in
-    read_then c.args.self.now c.steps.self (λ slot. ItemIs (Ok (Some c.in-Ok-Item.item)) c.step.new.self (IsAtEnd (g.S.Slots.sees c.step.new.shelf) slot)) h.slot h.read
-    (subst (λ (p : Progress). HasRead (g.S.Slots.sees c.steps.shelf) (g.S.Slots.sees c.step.new.shelf) c.steps.self (StepIs (Ok p) c.step.new.self (IsAtEnd (g.S.Slots.sees c.step.new.shelf) (slot_of c.steps.self)))) c.in-Ok-Item.field-0-is c.in-Ok-Item.ensures.step)
-
-pub returns-in-Ok-Item-clause-room : goal.returns-in-Ok-Item-clause-room
-returns-in-Ok-Item-clause-room g c read given stands =
-    let h = c.steps.invariant in
-    let less : room c.step.new.self < room c.steps.self =
-    subst (λ (p : Progress). Shrinks (Ok p) (room c.steps.self) (room c.step.new.self)) c.in-Ok-Item.field-0-is (c.in-Ok-Item.ensures.shrinks (read ++ h.read.0) given (h.read.2 read given stands)) in
-    subst (λ (n : ℕ). room c.step.new.self < n) (h.room read given stands) less
-
-pub returns-in-Ok-End-clause-item : goal.returns-in-Ok-End-clause-item
-returns-in-Ok-End-clause-item g c =
-    let h = c.steps.invariant in
-    read_then c.args.self.now c.steps.self (λ slot. ItemIs (Ok None) c.step.new.self (IsAtEnd (g.S.Slots.sees c.step.new.shelf) slot)) h.slot h.read
-    (subst (λ (p : Progress). HasRead (g.S.Slots.sees c.steps.shelf) (g.S.Slots.sees c.step.new.shelf) c.steps.self (StepIs (Ok p) c.step.new.self (IsAtEnd (g.S.Slots.sees c.step.new.shelf) (slot_of c.steps.self)))) c.in-Ok-End.field-0-is c.in-Ok-End.ensures.step)
-
-pub returns-in-Ok-End-clause-room : goal.returns-in-Ok-End-clause-room
-returns-in-Ok-End-clause-room g c read given stands =
-    let h = c.steps.invariant in
-    subst (λ (p : Progress). Shrinks (Ok p) (room c.steps.self) (room c.step.new.self)) c.in-Ok-End.field-0-is (c.in-Ok-End.ensures.shrinks (read ++ h.read.0) given (h.read.2 read given stands)) ∙ h.room read given stands
-
-pub returns-in-Err-clause-item : goal.returns-in-Err-clause-item
-returns-in-Err-clause-item g c =
-    let h = c.steps.invariant in
-    read_then c.args.self.now c.steps.self (λ slot. ItemIs (Err c.in-Err.end) c.step.new.self (IsAtEnd (g.S.Slots.sees c.step.new.shelf) slot)) h.slot h.read c.in-Err.ensures.step
-
-pub returns-in-Err-clause-room : goal.returns-in-Err-clause-room
-returns-in-Err-clause-room g c read given stands =
-    let h = c.steps.invariant in c.in-Err.ensures.shrinks (read ++ h.read.0) given (h.read.2 read given stands) ∙ h.room read given stands

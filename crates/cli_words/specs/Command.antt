@@ -1,0 +1,67 @@
+-- A command with its names and options.
+use Rattle.std.specs.Prelude.{ℕ, List, [], get_or, Bool, true, false, Option, Some, None, is_some}
+use Rattle.std.specs.Prelude.{unwrap_or}
+use Rattle.cli_words.specs.declared.table.CommandWord.{CommandWord}
+use Rattle.cli_words.specs.declared.table.NameKind.{NameKind}
+use Rattle.cli_words.specs.declared.table.NameKind.TheVariants.{File}
+use Rattle.cli_words.specs.declared.table.OptionWord.{OptionWord}
+use Rattle.cli_words.specs.declared.table.OptionWord.TheVariants.{Workers, Seed, Cycle}
+use Rattle.cli_words.specs.declared.table.OptionWord.TheVariants.{Reports, Dissent, Strict}
+use Rattle.cli_words.specs.declared.options.Options.{Options}
+use Rattle.record_text.specs.declared.part.ShowPart.{ShowPart}
+use Rattle.record_text.specs.declared.part.ShowPart.TheVariants as parts
+use Rattle.cli_words.specs.declared.command.Command as code
+use Rattle.cli_words.specs.Number.{number_of}
+use Rattle.cli_words.specs.Names.{texts_of}
+use Rattle.cli_words.specs.Table.{row}
+
+pub record CommandValue : Type 0 where
+  pub word : CommandWord
+  pub names : List (List ℕ)
+  pub options : Options
+
+abbrev pub command_seen : code.Command → CommandValue
+command_seen c = record { word = c.word; names = texts_of c.names; options = c.options }
+
+-- the name at a place, empty where there is none
+abbrev pub name_at : ℕ → CommandValue → List ℕ
+name_at place c = get_or c.names place []
+
+-- the number that the first name spells
+abbrev pub number_in : CommandValue → ℕ
+number_in c = unwrap_or (number_of (name_at 0 c)) 0
+
+abbrev pub files_by : NameKind → List (List ℕ) → List (List ℕ)
+files_by File names = names
+files_by other names = []
+
+-- the files that a command speaks of, in the order in which it opens them
+abbrev pub files_of : CommandValue → List (List ℕ)
+files_of c = files_by (row c.word).names c.names
+
+-- whether an option is told
+abbrev pub is_told : OptionWord → Options → Bool
+is_told Workers options = is_some options.workers
+is_told Seed options = is_some options.seed
+is_told Cycle options = is_some options.cycle
+is_told Reports options = options.reports
+is_told Dissent options = options.dissent
+is_told Strict options = options.strict
+
+-- with this option, and its value where it takes one
+abbrev pub with_told : OptionWord → ℕ → Options → Options
+with_told Workers n options = record options { workers = Some n }
+with_told Seed n options = record options { seed = Some n }
+with_told Cycle n options = record options { cycle = Some n }
+with_told Reports n options = record options { reports = true }
+with_told Dissent n options = record options { dissent = true }
+with_told Strict n options = record options { strict = true }
+
+abbrev pub part_by : Bool → Option ℕ → ShowPart
+part_by true cycle = parts.Reports
+part_by false (Some cycle) = parts.Cycle cycle
+part_by false None = parts.All
+
+-- which part of a record is shown
+abbrev pub part_of : Options → ShowPart
+part_of options = part_by options.reports options.cycle

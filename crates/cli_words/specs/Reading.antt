@@ -1,0 +1,116 @@
+-- Which words are a command.
+use Rattle.std.specs.Prelude.{ℕ, List, [], ◌∷◌, ◌++◌, Bool, false, ◌&&◌, ◌||◌, not, nat_lt, nat_le}
+use Rattle.std.specs.Prelude.{length, Option, Some, None, is_some, is_none, option_and_then, codes}
+use Rattle.std.specs.Prelude.{if◌then◌else◌}
+use Rattle.std.specs.Str.{bytes_eq}
+use Rattle.cli_words.specs.declared.table.CommandWord.{CommandWord}
+use Rattle.cli_words.specs.declared.table.OptionWord.{OptionWord}
+use Rattle.cli_words.specs.declared.reading.Reading as code
+use Rattle.cli_words.specs.declared.options.TheConstants.{UNTOLD}
+use Rattle.cli_words.specs.Number.{number_of}
+use Rattle.cli_words.specs.Names.{is_name_of}
+use Rattle.cli_words.specs.Table.{row, command_word, option_row, option_in}
+use Rattle.cli_words.specs.Command.{CommandValue, command_seen, is_told, with_told}
+
+-- what the words told so far, and the option whose value is the next one
+pub record Reading : Type 0 where
+  pub command : CommandValue
+  pub awaited : Option OptionWord
+
+abbrev pub reading_seen : code.Reading → Reading
+reading_seen r = record { command = command_seen r.command; awaited = r.awaited }
+
+abbrev pub settled : CommandValue → Reading
+settled c = record { command = c; awaited = None }
+
+-- nothing behind the command is told yet
+abbrev pub begun : CommandWord → Reading
+begun word = settled (record { word = word; names = []; options = UNTOLD })
+
+abbrev pub with_name : List ℕ → CommandValue → Option Reading
+with_name word c =
+    if is_name_of (row c.word).names word && nat_lt (length c.names) (row c.word).most
+    then Some (settled (record c { names = c.names ++ word ∷ [] })) else None
+
+abbrev pub is_in_range : Option (ℕ × ℕ) → ℕ → Bool
+is_in_range (Some (least, most)) n = nat_le least n && nat_le n most
+is_in_range None n = false
+
+abbrev pub with_number : OptionWord → ℕ → CommandValue → Option Reading
+with_number option n c =
+    if is_in_range (option_row option).range n
+    then Some (settled (record c { options = with_told option n c.options })) else None
+
+abbrev pub with_value : OptionWord → List ℕ → CommandValue → Option Reading
+with_value option word c = option_and_then (λ n. with_number option n c) (number_of word)
+
+-- an option, at most once; one that takes a value awaits it
+abbrev pub with_option : OptionWord → CommandValue → Option Reading
+with_option option c =
+    if is_told option c.options then None
+    else if is_some (option_row option).range
+    then Some (record { command = c; awaited = Some option })
+    else Some (settled (record c { options = with_told option 0 c.options }))
+
+abbrev pub with_option_or_name : Option OptionWord → List ℕ → CommandValue → Option Reading
+with_option_or_name (Some option) word c = with_option option c
+with_option_or_name None word c = with_name word c
+
+-- one word more, where this option awaits its value
+abbrev pub with_next : Option OptionWord → List ℕ → CommandValue → Option Reading
+with_next (Some option) word c = with_value option word c
+with_next None word c =
+    with_option_or_name (option_in (row c.word).options word) word c
+
+abbrev pub with_word : List ℕ → Reading → Option Reading
+with_word word r = with_next r.awaited word r.command
+
+-- all words, one by one
+unfoldable pub with_words : List (List ℕ) → Reading → Option Reading
+with_words [] r = Some r
+with_words (word ∷ rest) r = option_and_then (with_words rest) (with_word word r)
+
+-- no option is left without its value, there are names enough, and of two options that exclude
+-- each other there is one
+abbrev pub is_whole : Reading → Bool
+is_whole r =
+    (is_none r.awaited && nat_le (row r.command.word).least (length r.command.names))
+    && not (r.command.options.reports && is_some r.command.options.cycle)
+
+abbrev pub finished : Reading → Option CommandValue
+finished r = if is_whole r then Some r.command else None
+
+abbrev pub read_by : List (List ℕ) → CommandWord → Option CommandValue
+read_by rest word = option_and_then finished (with_words rest (begun word))
+
+-- the command of the first word, with what the rest tells
+abbrev pub read : List ℕ → List (List ℕ) → Option CommandValue
+read first rest = option_and_then (read_by rest) (command_word first)
+
+-- `-h`, `help`, `-V` and `version` alone are other words for commands
+abbrev pub meant : List ℕ → List ℕ
+meant word =
+    if bytes_eq word (codes "-h") || bytes_eq word (codes "help") then codes "--help"
+    else if bytes_eq word (codes "-V") || bytes_eq word (codes "version") then codes "--version"
+    else word
+
+-- `help COMMAND` and `COMMAND --help` are other words for `--help COMMAND`
+abbrev pub meant_pair : List ℕ → List ℕ → List (List ℕ)
+meant_pair first second =
+    if bytes_eq first (codes "help") then codes "--help" ∷ second ∷ []
+    else if bytes_eq second (codes "--help") then codes "--help" ∷ first ∷ []
+    else first ∷ second ∷ []
+
+-- the words in the table's words
+abbrev pub in_full : List (List ℕ) → List (List ℕ)
+in_full (word ∷ []) = meant word ∷ []
+in_full (first ∷ second ∷ []) = meant_pair first second
+in_full words = words
+
+abbrev pub read_in_full : List (List ℕ) → Option CommandValue
+read_in_full [] = None
+read_in_full (first ∷ rest) = read first rest
+
+-- the command that the words are
+abbrev pub command_of : List (List ℕ) → Option CommandValue
+command_of words = read_in_full (in_full words)

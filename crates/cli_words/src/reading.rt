@@ -1,0 +1,201 @@
+//! The reading of the words, one by one, by the table of commands.
+ghost use Rattle.std.specs.Prelude.{◌≡◌, ◌∷◌, [], option_map};
+ghost use Rattle.cli_words.specs.Names.{texts};
+ghost use Rattle.cli_words.specs.Command.{command_seen};
+ghost use Rattle.cli_words.specs.Reading.{reading_seen, settled, begun};
+ghost use Rattle.cli_words.specs.Reading.{with_name, with_value, with_option};
+ghost use Rattle.cli_words.specs.Reading.{with_word, with_words, is_whole, finished};
+ghost use Rattle.cli_words.specs.Reading.{is_in_range, read, meant, meant_pair, read_in_full};
+ghost use Rattle.cli_words.specs.Reading.{command_of};
+
+use crate::command::Command;
+use crate::names::Names;
+use crate::number::number_of;
+use crate::options::UNTOLD;
+use crate::table::{CommandWord, OptionRow, OptionWord};
+
+/// What the words told so far, and the option whose value is the next one.
+#[derive(Clone, Copy)]
+pub(crate) struct Reading<'a> {
+    command: Command<'a>,
+    awaited: Option<OptionWord>,
+}
+
+impl OptionRow {
+    fn is_in_range(&self, number: u64) -> bool
+        ensures { result ≡ is_in_range self.now.range number }
+    {
+        match self.range {
+            Some((least, most)) => least <= number && number <= most,
+            None => false,
+        }
+    }
+}
+
+impl<'a> Command<'a> {
+    /// The command with nothing awaited.
+    fn settled(self) -> Reading<'a>
+        ensures { reading_seen result ≡ settled (command_seen self.entry) }
+    {
+        Reading {
+            command: self,
+            awaited: None,
+        }
+    }
+
+    /// The command with one name more.
+    fn with_name(self, word: &'a str) -> Option<Reading<'a>>
+        ensures { option_map reading_seen result ≡ with_name word.now (command_seen self.entry) }
+    {
+        let row = self.word.row();
+        if !row.names.takes(word) {
+            return None;
+        }
+        if self.names.count() >= row.most {
+            return None;
+        }
+        let mut names = self.names;
+        names.push(word);
+        Some(Command { names, ..self }.settled())
+    }
+
+    /// The command with the value of an option.
+    fn with_value(self, option: OptionWord, word: &str) -> Option<Reading<'a>>
+        ensures { option_map reading_seen result
+            ≡ with_value option word.now (command_seen self.entry) }
+    {
+        let number = number_of(word)?;
+        if !option.row().is_in_range(number) {
+            return None;
+        }
+        let options = self.options.with_value(option, number);
+        Some(Command { options, ..self }.settled())
+    }
+
+    /// The command with an option, which isn't told yet.
+    fn with_option(self, option: OptionWord) -> Option<Reading<'a>>
+        ensures { option_map reading_seen result ≡ with_option option (command_seen self.entry) }
+    {
+        if self.options.has(option) {
+            return None;
+        }
+        if option.row().range.is_some() {
+            return Some(Reading {
+                command: self,
+                awaited: Some(option),
+            });
+        }
+        let options = self.options.with_flag(option);
+        Some(Command { options, ..self }.settled())
+    }
+}
+
+impl<'a> Reading<'a> {
+    /// Nothing behind the command is told yet.
+    fn begun(word: CommandWord) -> Reading<'a>
+        ensures { reading_seen result ≡ begun word }
+    {
+        Command {
+            word,
+            names: Names::new(),
+            options: UNTOLD,
+        }
+        .settled()
+    }
+
+    /// What is told with one word more.
+    fn with_word(self, word: &'a str) -> Option<Reading<'a>>
+        ensures { option_map reading_seen result ≡ with_word word.now (reading_seen self.entry) }
+    {
+        match self.awaited {
+            Some(option) => self.command.with_value(option, word),
+            None => match self.command.word.row().options.option(word) {
+                Some(option) => self.command.with_option(option),
+                None => self.command.with_name(word),
+            },
+        }
+    }
+
+    /// What is told with all these words.
+    fn with_words(self, words: &'a [String]) -> Option<Reading<'a>>
+        ensures { option_map reading_seen result
+            ≡ with_words (texts words.now) (reading_seen self.entry) }
+    {
+        let mut reading = self;
+        for word in words {
+            reading = reading.with_word(word.as_str())?;
+        }
+        Some(reading)
+    }
+
+    fn is_whole(&self) -> bool
+        ensures { result ≡ is_whole (reading_seen self.now) }
+    {
+        let command = &self.command;
+        let least = command.word.row().least;
+        let apart = !(command.options.reports && command.options.cycle.is_some());
+        self.awaited.is_none() && least <= command.names.count() && apart
+    }
+
+    fn finished(self) -> Option<Command<'a>>
+        ensures { option_map command_seen result ≡ finished (reading_seen self.entry) }
+    {
+        if self.is_whole() {
+            Some(self.command)
+        } else {
+            None
+        }
+    }
+}
+
+/// The command of the first word, with what the rest tells.
+fn read<'a>(first: &str, rest: &'a [String]) -> Option<Command<'a>>
+    ensures { option_map command_seen result ≡ read first.now (texts rest.now) }
+{
+    let word = CommandWord::of(first)?;
+    Reading::begun(word).with_words(rest)?.finished()
+}
+
+/// The command of a word with one more behind it.
+#[tactic(auto, unfolding(crate::specs::Reading::with_words))]
+fn read_pair<'a>(first: &str, second: &'a str) -> Option<Command<'a>>
+    ensures { option_map command_seen result ≡ read first.now (second.now ∷ []) }
+{
+    let word = CommandWord::of(first)?;
+    Reading::begun(word).with_word(second)?.finished()
+}
+
+/// What a word that stands alone means.
+fn meant(word: &str) -> &str
+    ensures { result.now ≡ meant word.now }
+{
+    match word {
+        "-h" | "help" => "--help",
+        "-V" | "version" => "--version",
+        _ => word,
+    }
+}
+
+fn read_two<'a>(first: &'a str, second: &'a str) -> Option<Command<'a>>
+    ensures { option_map command_seen result ≡ read_in_full (meant_pair first.now second.now) }
+{
+    if first == "help" {
+        return read_pair("--help", second);
+    }
+    if second == "--help" {
+        return read_pair("--help", first);
+    }
+    read_pair(first, second)
+}
+
+/// Reads the words after the program's name. None where they are no command.
+pub fn read_words(words: &[String]) -> Option<Command<'_>>
+    ensures { option_map command_seen result ≡ command_of (texts words.now) }
+{
+    match words {
+        [] => None,
+        [word] => read(meant(word.as_str()), &[]),
+        [first, second] => read_two(first.as_str(), second.as_str()),
+        [first, _, _, ..] => read(first.as_str(), &words[1..]),
+    }
+}

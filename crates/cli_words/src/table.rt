@@ -1,0 +1,253 @@
+//! The table of commands and the table of options.
+ghost use Rattle.std.specs.Prelude.{◌≡◌, ◌≤◌};
+ghost use Rattle.cli_words.specs.Table.{row_of, row_seen, row, command_word};
+ghost use Rattle.cli_words.specs.Table.{option_row_seen, option_row, is_among, option_word};
+ghost use Rattle.cli_words.specs.Table.{option_in};
+
+/// A command by its word.
+#[derive(Clone, Copy, Debug, PartialEq, Eq)]
+pub enum CommandWord {
+    Demo,
+    Record,
+    Replay,
+    Check,
+    Compare,
+    Show,
+    Needs,
+    Sim,
+    Salvage,
+    Upgrade,
+    Vote,
+    Chain,
+    Help,
+    Version,
+}
+
+/// All commands.
+pub const COMMANDS: [CommandWord; 14] = [
+    CommandWord::Demo,
+    CommandWord::Record,
+    CommandWord::Replay,
+    CommandWord::Check,
+    CommandWord::Compare,
+    CommandWord::Show,
+    CommandWord::Needs,
+    CommandWord::Sim,
+    CommandWord::Salvage,
+    CommandWord::Upgrade,
+    CommandWord::Vote,
+    CommandWord::Chain,
+    CommandWord::Help,
+    CommandWord::Version,
+];
+
+/// An option by its word.
+#[derive(Clone, Copy, Debug, PartialEq, Eq)]
+pub enum OptionWord {
+    Workers,
+    Seed,
+    Cycle,
+    Reports,
+    Dissent,
+    Strict,
+}
+
+/// All options.
+pub const OPTIONS: [OptionWord; 6] = [
+    OptionWord::Workers,
+    OptionWord::Seed,
+    OptionWord::Cycle,
+    OptionWord::Reports,
+    OptionWord::Dissent,
+    OptionWord::Strict,
+];
+
+/// What the names of a command are.
+#[derive(Clone, Copy, Debug, PartialEq, Eq)]
+pub enum NameKind {
+    /// Names of files.
+    File,
+    /// A number of 64 bits in decimal.
+    Number,
+    /// The word of a command.
+    Command,
+}
+
+/// Which options a command has.
+#[derive(Clone, Copy)]
+pub struct OptionSet {
+    pub workers: bool,
+    pub seed: bool,
+    pub cycle: bool,
+    pub reports: bool,
+    pub dissent: bool,
+    pub strict: bool,
+}
+
+/// No option.
+pub const NONE: OptionSet = OptionSet {
+    workers: false,
+    seed: false,
+    cycle: false,
+    reports: false,
+    dissent: false,
+    strict: false,
+};
+
+impl OptionSet {
+    /// Whether an option is among them.
+    pub fn has(&self, option: OptionWord) -> bool
+        ensures { result ≡ is_among self.now option }
+    {
+        match option {
+            OptionWord::Workers => self.workers,
+            OptionWord::Seed => self.seed,
+            OptionWord::Cycle => self.cycle,
+            OptionWord::Reports => self.reports,
+            OptionWord::Dissent => self.dissent,
+            OptionWord::Strict => self.strict,
+        }
+    }
+
+    /// The option among these that a word is.
+    pub(crate) fn option(&self, word: &str) -> Option<OptionWord>
+        ensures { result ≡ option_in self.now word.now }
+    {
+        let option = OptionWord::of(word)?;
+        if self.has(option) { Some(option) } else { None }
+    }
+}
+
+/// A command's word, what its names are, the least and most number of them, and its options.
+#[derive(Clone, Copy)]
+pub struct Row {
+    pub word: &'static str,
+    pub names: NameKind,
+    pub least: usize,
+    pub most: usize,
+    pub options: OptionSet,
+}
+
+impl Row {
+    fn files(word: &'static str, least: usize, most: usize, options: OptionSet) -> Row
+        ensures { row_seen result ≡ row_of word.now NameKind.File least most options }
+    {
+        Row {
+            word,
+            names: NameKind::File,
+            least,
+            most,
+            options,
+        }
+    }
+}
+
+const WORKERS: OptionSet = OptionSet {
+    workers: true,
+    ..NONE
+};
+
+const RECORDING: OptionSet = OptionSet {
+    seed: true,
+    strict: true,
+    ..WORKERS
+};
+
+const STRICT: OptionSet = OptionSet {
+    strict: true,
+    ..NONE
+};
+
+const REPORTS: OptionSet = OptionSet {
+    reports: true,
+    ..NONE
+};
+
+const PARTS: OptionSet = OptionSet {
+    cycle: true,
+    ..REPORTS
+};
+
+const DISSENT: OptionSet = OptionSet {
+    dissent: true,
+    ..NONE
+};
+
+impl CommandWord {
+    /// The command's row of the table.
+    pub fn row(self) -> Row
+        ensures is { row_seen result ≡ row self }
+        ensures few { result.most ≤ 8 }
+    {
+        match self {
+            CommandWord::Demo => Row::files("demo", 1, 1, NONE),
+            CommandWord::Record => Row::files("record", 2, 2, RECORDING),
+            CommandWord::Replay => Row::files("replay", 1, 1, WORKERS),
+            CommandWord::Check => Row::files("check", 1, 1, WORKERS),
+            CommandWord::Compare => Row::files("compare", 2, 8, NONE),
+            CommandWord::Show => Row::files("show", 1, 1, PARTS),
+            CommandWord::Needs => Row::files("needs", 1, 1, STRICT),
+            CommandWord::Sim => Row {
+                names: NameKind::Number,
+                ..Row::files("sim", 1, 1, WORKERS)
+            },
+            CommandWord::Salvage => Row::files("salvage", 1, 1, REPORTS),
+            CommandWord::Upgrade => Row::files("upgrade", 1, 1, WORKERS),
+            CommandWord::Vote => Row::files("vote", 3, 7, DISSENT),
+            CommandWord::Chain => Row::files("chain", 3, 3, RECORDING),
+            CommandWord::Help => Row {
+                names: NameKind::Command,
+                ..Row::files("--help", 0, 1, NONE)
+            },
+            CommandWord::Version => Row::files("--version", 0, 0, NONE),
+        }
+    }
+
+    /// The command of a word.
+    pub fn of(word: &str) -> Option<CommandWord>
+        ensures { result ≡ command_word word.now }
+    {
+        for command in &COMMANDS {
+            if command.row().word == word {
+                return Some(*command);
+            }
+        }
+        None
+    }
+}
+
+/// An option's word and, where it takes a value, the least and greatest one.
+#[derive(Clone, Copy)]
+pub struct OptionRow {
+    pub word: &'static str,
+    pub range: Option<(u64, u64)>,
+}
+
+impl OptionWord {
+    /// The option's row of the table.
+    pub fn row(self) -> OptionRow
+        ensures { option_row_seen result ≡ option_row self }
+    {
+        let (word, range) = match self {
+            OptionWord::Workers => ("--workers", Some((1, 64))),
+            OptionWord::Seed => ("--seed", Some((0, u64::MAX))),
+            OptionWord::Cycle => ("--cycle", Some((1, 1_000_000))),
+            OptionWord::Reports => ("--reports", None),
+            OptionWord::Dissent => ("--dissent", None),
+            OptionWord::Strict => ("--strict", None),
+        };
+        OptionRow { word, range }
+    }
+
+    /// The option of a word.
+    pub fn of(word: &str) -> Option<OptionWord>
+        ensures { result ≡ option_word word.now }
+    {
+        for option in &OPTIONS {
+            if option.row().word == word {
+                return Some(*option);
+            }
+        }
+        None
+    }
+}

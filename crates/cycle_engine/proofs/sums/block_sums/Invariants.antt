@@ -1,6 +1,0 @@
-use Rattle.std.proofs.Common.{◌≡◌, ◌++◌, length, drop}
-use Rattle.job_trait.specs.Cycle.{added}
-use Rattle.cycle_engine.proofs.sums.block_sums.Given as goal
-
-abbrev pub invariant-loop-i : goal.invariant-loop-i
-invariant-loop-i l = (length l.sums.items ≡ l.i) × (added l.left l.right ≡ l.sums.items ++ added (drop l.i l.left) (drop l.i l.right))

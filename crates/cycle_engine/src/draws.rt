@@ -1,0 +1,64 @@
+//! The words that the elements of a cycle drew.
+ghost use Rattle.std.specs.Prelude.{◌≡◌, ◌≤◌, ◌⊎◌, [], length, IfOk};
+ghost use Rattle.std.specs.List.{All};
+ghost use Rattle.std.specs.Arc.{arc_value};
+ghost use Rattle.job_trait.specs.Cycle.{added};
+ghost use Rattle.job_trait.specs.Passes.{drawn_so_far};
+
+use crate::owners::shared;
+use det_values::{Container, OutOfMemory};
+use pass_in_blocks::sums;
+use std::alloc::Global;
+use std::marker::Model;
+use std::sync::Arc;
+
+/// The words that each element drew in all passes up to one. Contracts see them summed up.
+///
+/// Those of the pass and those of the passes before it are held apart, since behind the last pass
+/// nobody asks for the sums.
+#[derive(Drop)]
+pub struct Draws {
+    earlier: Arc<Container<u32>, Global>,
+    own: Container<u32>,
+}
+
+impl Model for Draws {
+    ghost use Rattle.std.specs.Prelude.{◌≡◌, ◌≤◌, ◌⊎◌, ℕ, List, [], length};
+    ghost use Rattle.std.specs.List.{All};
+    ghost use Rattle.std.specs.Arc.{arc_value};
+    ghost use Rattle.job_trait.specs.Passes.{drawn_so_far};
+
+    ghost Value = { List ℕ };
+
+    ghost view = { λ d. drawn_so_far (arc_value d.earlier) d.own };
+
+    ghost invariant = { λ d.
+        ((arc_value d.earlier ≡ []) ⊎ (length (arc_value d.earlier) ≡ length d.own))
+        × All (λ n. n ≤ 458745) (arc_value d.earlier) × All (λ n. n ≤ 65535) d.own };
+}
+
+impl Draws {
+    pub(crate) fn of(earlier: Arc<Container<u32>, Global>, own: Container<u32>) -> Draws
+        requires level { (arc_value earlier ≡ []) ⊎ (length (arc_value earlier) ≡ length own) }
+        requires few_earlier { All (λ n. n ≤ 458745) (arc_value earlier) }
+        requires few { All (λ n. n ≤ 65535) own }
+        ensures is { result ≡ drawn_so_far (arc_value earlier) own }
+        ensures first { arc_value earlier ≡ [] → result ≡ own }
+        ensures later { length (arc_value earlier) ≡ length own
+            → result ≡ added (arc_value earlier) own }
+    {
+        Draws { earlier, own }
+    }
+
+    /// The sums.
+    pub(crate) fn summed(self, alloc: Global) -> Result<Arc<Container<u32>, Global>, OutOfMemory>
+        ensures { IfOk result (λ all. arc_value all ≡ self) }
+    {
+        let Draws { earlier, own } = self;
+        if earlier.is_empty() {
+            return shared(alloc, own);
+        }
+        let all = sums(alloc, &*earlier, &own)?;
+        shared(alloc, all)
+    }
+}

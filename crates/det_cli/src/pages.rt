@@ -1,0 +1,112 @@
+//! The page of each command, at most 40 lines of at most 80 columns.
+
+/// `demo`.
+pub const DEMO: &str = "\
+det demo STIM
+
+Writes the record of the built-in filter bank over a stimulus. The bank has four
+channels, the shift 2 and one event `x` of capacity 2. A cycle takes 10 ms, and
+the seed is 0.
+
+  STIM        a file with the text of a stimulus
+
+Standard output takes the record, in binary. Where a line of the stimulus is bad
+the record ends behind the cycles that were complete before it.
+
+Exit statuses:
+  0  done                      6  read fault
+  2  bad words                 7  write fault
+  4  bad stimulus              8  out of memory
+";
+
+/// `record`.
+pub const RECORD: &str = "\
+det record MANIFEST STIM [--seed N] [--workers W] [--strict]
+
+Writes the record of a manifest's job over a stimulus.
+
+  MANIFEST    a file with the manifest, in TOML: the job, its parameters and its
+              events
+  STIM        a file with the text of a stimulus, which is opened once the
+              manifest is judged
+
+  --seed N       the seed of the random words, a number of 64 bits; 0 where none
+                 is given
+  --workers W    the number of workers, 1 to 64; the manifest's where none is
+                 given. The record is the same for each number
+  --strict       refuse a manifest with a key that isn't known
+
+Standard output takes the record, in binary. Where a line of the stimulus is bad
+the record ends behind the cycles that were complete before it.
+
+Exit statuses:
+  0  done                      6  read fault
+  2  bad words                 7  write fault
+  3  bad manifest              8  out of memory
+  4  bad stimulus
+";
+
+/// `show`.
+pub const SHOW: &str = "\
+det show RECORD [--reports | --cycle C]
+
+Prints a record as text, a line for each thing that it holds.
+
+  RECORD      a file with a record, in binary
+  --reports   prints the reports alone
+  --cycle C   prints the lines of cycle C alone, and no reports; C is 1 to
+              1,000,000, and nothing is printed where the record has fewer
+
+Standard output takes the lines of the header and of each frame in the record's
+order, and behind them three reports: how many runs were finished and refused,
+the greatest time between two runs that follow each other, and the first run
+that was refused. Where the record has a fault, the lines of all that is whole
+before it are printed, and no reports. The whole record is read in any case.
+
+Exit statuses:
+  0  done                      6  read fault
+  2  bad words                 7  write fault
+  5  bad record                8  out of memory
+";
+
+/// `needs`.
+pub const NEEDS: &str = "\
+det needs MANIFEST [--strict]
+
+Prints the resource needs of a manifest, which is judged as `record` does it.
+
+  MANIFEST    a file with the manifest, in TOML
+
+  --strict       refuse a manifest with a key that isn't known
+
+Standard output takes lines with the job, the cycle time in nanoseconds, the
+number of workers, the platform, and the needs of the initialisation and of a
+run: instructions, the sequential shares at begin and end, and the speedup in
+thousandths.
+
+Exit statuses:
+  0  done                      6  read fault
+  2  bad words                 7  write fault
+  3  bad manifest              8  out of memory
+";
+
+/// `sim`.
+pub const SIM: &str = "\
+det sim N [--workers W]
+
+Runs the built-in cloud of 10,000 particles over a stimulus of 200 cycles that
+is made of a number, and prints a summary of its record. No file is read.
+
+  N           the number, of 64 bits; it is the seed too
+
+  --workers W    the number of workers, 1 to 64; 1 where none is given. What is
+                 printed is the same for each number
+
+Standard output takes lines with the number, how many cycles were run and how
+many refused, and the length and the SHA-256 of the record; behind them three
+reports as `det show` prints them.
+
+Exit statuses:
+  0  done                      7  write fault
+  2  bad words                 8  out of memory
+";

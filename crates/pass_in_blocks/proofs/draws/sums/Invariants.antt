@@ -1,0 +1,6 @@
+use Rattle.std.proofs.Common.{◌≡◌, ◌*◌, take}
+use Rattle.job_trait.specs.Cycle.{added}
+use Rattle.pass_in_blocks.proofs.draws.sums.Given as goal
+
+abbrev pub invariant-loop-b : goal.invariant-loop-b
+invariant-loop-b l = l.sums ≡ added (take (64 * l.b) l.left) (take (64 * l.b) l.right)

@@ -1,0 +1,156 @@
+//! What the new elements of a pass show.
+ghost use Rattle.std.specs.Prelude.{◌≡◌, ◌<◌, ◌≤◌, ℕ, List, ◌++◌, [], length, Ok, true, OnOk, IfOk, IfSome};
+ghost use Rattle.std.specs.List.{All};
+ghost use Rattle.std.specs.Arc.{arc_value};
+ghost use Rattle.det_values.specs.declared.frames.DrawnElement.{DrawnElement};
+ghost use Rattle.det_values.specs.Spelling.{an_element, spelled_drawn, spelled_all, IsDrawn};
+ghost use Rattle.job_trait.specs.Cycle.{shown_with};
+ghost use Rattle.job_trait.specs.Passes.{IsReady, block_in, blocks_in};
+ghost use Rattle.pass_in_blocks.specs.Answers.{left_by};
+ghost use Rattle.pass_in_blocks.specs.Showing.{AreSpelled, AreBlocksOf, shown_in};
+
+use crate::answers::BlockDone;
+use crate::draws::block_sums;
+use crate::spelled_blocks::SpelledBlocks;
+use det_values::put::{fill_u16, put_u32};
+use det_values::{DrawnElements, OutOfMemory};
+use job_trait::{Job, PassOf};
+use std::alloc::Global;
+
+/// Appends an element's bytes and draws. Their length is put into its place when it is known.
+#[inline(always)]
+fn put_shown<J: Job>(
+    job: &J,
+    element: &J::Element,
+    draws: u32,
+    out: &mut Vec<u8>,
+) -> Result<(), OutOfMemory>
+    requires { J.Own job.now element.now }
+    ensures ok { OnOk result (out.new.items ≡ out.old.items
+        ++ spelled_drawn (an_element (J.meaning.shown job.now element.now) draws)) }
+    ensures fields { OnOk result (
+        IsDrawn (an_element (J.meaning.shown job.now element.now) draws)) }
+{
+    let at = out.len();
+    out.extend_from_slice(&[0, 0])?;
+    job.put_element(element, out)?;
+    let length = out.len() - at - 2;
+    fill_u16(out, at, length as u16);
+    put_u32(out, draws)?;
+    Ok(())
+}
+
+/// Appends the elements of a block.
+fn put_block<J: Job>(
+    job: &J,
+    elements: &[J::Element],
+    draws: &[u32],
+    out: &mut Vec<u8>,
+) -> Result<(), OutOfMemory>
+    requires own { All (J.Own job.now) elements.now }
+    requires drew { length draws.now ≡ length elements.now }
+    ensures ok { OnOk result (out.new.items ≡ out.old.items
+        ++ spelled_all (shown_with J.meaning job.now elements.now draws.now)) }
+    ensures fields { OnOk result (
+        All IsDrawn (shown_with J.meaning job.now elements.now draws.now)) }
+{
+    for i in 0..elements.len() {
+        put_shown(job, &elements[i], draws[i], out)?;
+    }
+    Ok(())
+}
+
+/// Appends what a block that was run shows.
+pub(crate) fn put_done<J: Job>(
+    alloc: Global,
+    pass: &PassOf<J>,
+    block: u32,
+    done: &BlockDone<J::Element, J::Part>,
+    out: &mut Vec<u8>,
+) -> Result<(), OutOfMemory>
+    requires ready { IsReady J.meaning J.Covers J.Own J.Fit pass.now }
+    requires inside { block < blocks_in pass.now }
+    requires done { block_in J.meaning pass.now block ≡ Ok (left_by done.now) }
+    ensures { OnOk result (
+        AreSpelled (shown_in J.meaning pass.now block) out.old.items out.new.items) }
+{
+    let job = &*pass.job;
+    let elements = done.elements.as_slice();
+    if pass.earlier.is_empty() {
+        return put_block(job, elements, done.draws.as_slice(), out);
+    }
+    let earlier = pass.earlier.block(block as usize);
+    let draws = block_sums(alloc, earlier, done.draws.as_slice())?;
+    put_block(job, elements, draws.as_slice(), out)
+}
+
+/// The bytes of a block, if one of the workers spelled it.
+fn spelled_by<'a>(workers: &'a [SpelledBlocks], block: usize) -> Option<&'a [u8]>
+    ensures { (shown : ℕ → List DrawnElement) → All (AreBlocksOf shown) workers.now
+        → IfSome result (λ bytes. AreSpelled (shown block) [] bytes.now) }
+{
+    for spelled in workers {
+        if let Some(bytes) = spelled.block(block) {
+            return Some(bytes);
+        }
+    }
+    None
+}
+
+/// Appends what a block shows, where the pass shows its elements: the bytes that a worker spelled, or
+/// else they are spelled here and now.
+pub(crate) fn show_block<J: Job>(
+    alloc: Global,
+    pass: &PassOf<J>,
+    block: u32,
+    done: &BlockDone<J::Element, J::Part>,
+    workers: &[SpelledBlocks],
+    out: &mut Vec<u8>,
+) -> Result<(), OutOfMemory>
+    requires ready { IsReady J.meaning J.Covers J.Own J.Fit pass.now }
+    requires inside { block < blocks_in pass.now }
+    requires done { block_in J.meaning pass.now block ≡ Ok (left_by done.now) }
+    requires spelled { All (AreBlocksOf (shown_in J.meaning pass.now)) workers.now }
+    ensures { OnOk result (pass.now.shows ≡ true →
+        AreSpelled (shown_in J.meaning pass.now block) out.old.items out.new.items) }
+{
+    if !pass.shows {
+        return Ok(());
+    }
+    match spelled_by(workers, block as usize) {
+        Some(bytes) => Ok(out.extend_from_slice(bytes)?),
+        None => put_done(alloc, pass, block, done, out),
+    }
+}
+
+/// No bytes, with room for what a pass shows, where the new elements are as long as the first old one.
+pub(crate) fn room_for<J: Job>(alloc: Global, pass: &PassOf<J>) -> Result<Vec<u8>, OutOfMemory>
+    requires { All (J.Own (arc_value pass.now.job)) (arc_value pass.now.elements) }
+    ensures { IfOk result (λ bytes. bytes.items ≡ []) }
+{
+    let mut bytes = Vec::new(alloc);
+    let count = pass.elements.len();
+    if !pass.shows || count == 0 {
+        return Ok(bytes);
+    }
+    pass.job.put_element(pass.elements.item(0), &mut bytes)?;
+    let room = count * (2 + bytes.len() + 4);
+    bytes.clear();
+    bytes.reserve(room)?;
+    Ok(bytes)
+}
+
+/// What a pass shows that has so many elements, from their bytes. One that doesn't show them has none.
+pub(crate) fn frame_of(alloc: Global, shows: bool, bytes: Vec<u8>, count: u32) -> DrawnElements
+    requires few { count ≤ 65536 }
+    requires spelled { shows ≡ true → (es : List DrawnElement) × AreSpelled es [] bytes.items
+        × (length es ≡ count) }
+    ensures { shows ≡ true → (es : List DrawnElement) → AreSpelled es [] bytes.items
+        → length es ≡ count → result ≡ es }
+{
+    if shows {
+        DrawnElements::from_spelled(bytes, count)
+    } else {
+        DrawnElements::new(alloc)
+    }
+}

@@ -1,0 +1,317 @@
+-- How a run ends.
+use Rattle.std.proofs.Common.{◌≡◌, ◌≤◌, inl, inr, ℕ, List, [], ◌∷◌, ◌++◌, length, refl, sym, ap, subst, ◌∙◌, append-nil}
+use Rattle.std.specs.Prelude.{Bool, true, false, Option, Some, None, Result, Ok, Err}
+use Rattle.det_values.specs.Values.{ProfileValue}
+use Rattle.det_values.specs.declared.frames.CycleInput.{CycleInput}
+use Rattle.det_values.specs.declared.frames.RunFrame.{RunFrame}
+use Rattle.det_values.specs.declared.frames.Frame.TheVariants.{Run, Terminate}
+use Rattle.det_edges.specs.Prefix.{IsPrefix}
+use Rattle.det_edges.specs.Sink.{Grew, GrewByPrefix, GrewShort, Same}
+use Rattle.det_edges.specs.Shelf.{ShelfState, Reads, IsAtEnd}
+use Rattle.det_edges.specs.Traffic.{ShelfRun, SinkRun}
+use Rattle.det_edges.specs.declared.failure.Failure.{Failure}
+use Rattle.det_edges.specs.declared.failure.Failure.TheVariants.{Read, Write, OutOfMemory}
+use Rattle.det_edges.specs.declared.failure.Stopped.{Stopped}
+use Rattle.det_edges.specs.declared.failure.Stopped.TheVariants.{Refused, Failed}
+use Rattle.det_edges.proofs.Prefixes.{prefix-none, prefix-same, prefix-then, prefix-append}
+use Rattle.det_edges.proofs.Growth.{grew-then, grew-same, grew-then-short, part-whole, part-wider, part-none, short-wider}
+use Rattle.det_edges.proofs.SlotReads.{reads-none}
+use Rattle.job_trait.specs.Meaning.{Meaning}
+use Rattle.cycle_engine.specs.Frames.{runs}
+use Rattle.record_grammar.specs.Spelling.{spelled_frame}
+use Rattle.stimulus.specs.declared.item.StimFault.{StimFault}
+use Rattle.stimulus.specs.Reading.{Reading, Ending, Terminated, BadLine, reading, inputs_of, ending_of, blocks, ending, has_bad}
+use Rattle.stimulus.proofs.Growing.{blocks_grow, bad_stays}
+use Rattle.probes.specs.Reports.{AudienceState}
+use Rattle.probes.specs.Shows.{Shows, ShowsPartly, ShowsFirst}
+use Rattle.probes.proofs.Shown.{shows-none}
+use Rattle.run_writer.specs.declared.counts.Counts.{Counts}
+use Rattle.run_writer.specs.declared.recording.Recording.{Recording}
+use Rattle.run_writer.specs.Record.{Counted, record_with, opening}
+use Rattle.run_writer.specs.Recording.{Cuts, Ran}
+use Rattle.run_writer.proofs.Growing.{runs-none, record-opened, record-next, record-ended, record-front}
+use Rattle.stimulus_reader.specs.declared.reader.StimulusReader.{StimulusReader}
+use Rattle.stimulus_reader.specs.StandsFor.{InputIs, IsNext, HasAll, IsWhole, IsBad, events_of}
+use Rattle.recorder.specs.Record.{is_terminated, record_of}
+use Rattle.recorder.specs.Ends.{Finishes, Stops, Ended}
+use Rattle.recorder.specs.Recorded.{TookAll, IsShown, HasRun}
+use Rattle.recorder.proofs.Running.{Running, next_run, frames-next, runs-next}
+
+-- a fact about what was read is one about the whole text where nothing follows
+at_text : (P : List ℕ → Type 0) (read rest : List ℕ) → rest ≡ [] → P read → P (read ++ rest)
+at_text P read rest none p = subst P (sym (ap (λ l. read ++ l) none ∙ append-nil read)) p
+
+-- a failure that cuts a record off
+abbrev IsCut : Failure → Type 0
+IsCut Read = ⊥
+IsCut Write = Unit {0}
+IsCut OutOfMemory = Unit {0}
+
+module _ {S G E L P : Type 0} (m : Meaning S G E L P) (profile : ProfileValue) where
+  -- what stands in the record of first inputs stands first in that of every text that goes on
+  record-within : (given : List CycleInput) (read rest : List ℕ) → IsPrefix given (blocks (length profile.events) read)
+      → IsPrefix (record_with m profile given false) (record_of m profile (read ++ rest))
+  record-within given read rest first =
+      record-front m profile given (blocks (length profile.events) (read ++ rest)) _
+      (prefix-then _ _ _ first (blocks_grow (length profile.events) read rest))
+
+  -- ---- a prefix of the record
+
+  -- the frames of first inputs were written
+  part-of-record : (before after : List ℕ → Type 0) (given : List CycleInput) (read : List ℕ) (at_end : Type 0)
+      → IsPrefix given (blocks (length profile.events) read)
+      → Grew before after (record_with m profile given false) → Ended m profile (Err (Failed OutOfMemory)) read at_end before after
+  part-of-record before after given read at_end first grew = record {
+    reads_to = tt;
+    answers = λ rest end. part-wider before after _ (record_of m profile (read ++ rest)) (part-whole before after _ grew)
+        (record-within given read rest first);
+  }
+
+  -- and then a part of the next one
+  short-of-record : (before after : List ℕ → Type 0) (given : List CycleInput) (read : List ℕ) (at_end : Type 0)
+      → IsPrefix given (blocks (length profile.events) read)
+      → GrewShort before after (record_with m profile given false) → Ended m profile (Err (Failed Write)) read at_end before after
+  short-of-record before after given read at_end first grew = record {
+    reads_to = tt;
+    answers = λ rest end. short-wider before after _ (record_of m profile (read ++ rest)) grew (record-within given read rest first);
+  }
+
+  -- ---- who was shown what
+
+  took-all : (before after : List ℕ → Type 0) (given : List CycleInput) → Grew before after (record_with m profile given false)
+      → TookAll m profile given before after
+  took-all before after given grew = inr (record_with m profile given false, prefix-same _, grew)
+
+  -- more was taken
+  took-more : (before mid after : List ℕ → Type 0) (given : List CycleInput) (bytes : List ℕ)
+      → Grew before mid (record_with m profile given false) → Grew mid after bytes
+      → TookAll m profile given before after
+  took-more before mid after given bytes grew more = inr
+      (record_with m profile given false ++ bytes, prefix-append _ bytes, grew-then grew more)
+
+  nothing-shown : (audience : AudienceState) → ShowsFirst audience audience (runs m profile [])
+  nothing-shown audience = inl (subst (Shows audience audience) (sym (runs-none m profile)) (shows-none audience))
+
+  -- all that was run was shown
+  shown-given : (read : List ℕ) (before after : List ℕ → Type 0) (audience last : AudienceState) (given : List CycleInput)
+      (failure : Failure) → IsCut failure
+      → IsPrefix given (blocks (length profile.events) read) → TookAll m profile given before after
+      → Shows audience last (runs m profile given)
+      → IsShown m profile read before after audience last (Err (Failed failure))
+  shown-given read before after audience last given Read cut first taken shows = absurd cut
+  shown-given read before after audience last given Write cut first taken shows = record
+      { inputs = given; first = first; taken = taken; shown = inl shows; whole = tt }
+  shown-given read before after audience last given OutOfMemory cut first taken shows = record
+      { inputs = given; first = first; taken = taken; shown = inl shows; whole = tt }
+
+  -- all that was read was run and shown
+  all-shown : (read : List ℕ) (audience last : AudienceState) (given : List CycleInput) → blocks (length profile.events) read ≡ given
+      → Shows audience last (runs m profile given)
+      → Shows audience last (runs m profile (blocks (length profile.events) read))
+  all-shown read audience last given is shows = subst (λ xs. Shows audience last (runs m profile xs)) (sym is) shows
+
+  all-first : (read : List ℕ) (given : List CycleInput) → blocks (length profile.events) read ≡ given
+      → IsPrefix given (blocks (length profile.events) read)
+  all-first read given is = subst (λ xs. IsPrefix given xs) (sym is) (prefix-same given)
+
+  record-is : (text : List ℕ) (given : List CycleInput) (ended : Ending) → blocks (length profile.events) text ≡ given
+      → ending (length profile.events) text ≡ ended
+      → record_of m profile text ≡ record_with m profile given (is_terminated ended)
+  record-is text given ended is ends =
+      ap (λ e. record_with m profile (blocks (length profile.events) text) (is_terminated e)) ends
+      ∙ ap (λ xs. record_with m profile xs (is_terminated ended)) is
+
+  stops-at : (before after : List ℕ → Type 0) (text : List ℕ) (given : List CycleInput) (line : ℕ)
+      → blocks (length profile.events) text ≡ given → ending (length profile.events) text ≡ BadLine line
+      → Grew before after (record_with m profile given false) → Stops m profile text line before after
+  stops-at before after text given line is ends grew = record
+      { bad = ends; grew = subst (Grew before after) (sym (record-is text given (BadLine line) is ends)) grew }
+
+  -- ---- the answers
+
+  -- the opening wasn't written
+  pub open-failed : (slot : ℕ) (state : ShelfState) (stays : Type 0) (sink : SinkRun) (audience : AudienceState) (failure : Failure)
+      → Cuts failure sink.before sink.after (opening m profile)
+      → HasRun m profile slot (record { first = state; last = state; stays = stays }) sink audience audience (Err (Failed failure))
+  open-failed slot state stays sink audience Read cut = absurd cut
+  open-failed slot state stays sink audience Write cut = (
+    [],
+    reads-none state slot,
+    short-of-record sink.before sink.after [] [] _ (prefix-none _)
+        (subst (GrewShort sink.before sink.after) (sym (record-opened m profile)) cut),
+    record { inputs = []; first = prefix-none _; taken = inl refl; shown = nothing-shown audience; whole = tt },
+  )
+  open-failed slot state stays sink audience OutOfMemory cut = (
+    [],
+    reads-none state slot,
+    record { reads_to = tt; answers = λ rest end. part-none sink.before sink.after (record_of m profile rest) cut },
+    record { inputs = []; first = prefix-none _; taken = inl refl; shown = nothing-shown audience; whole = tt },
+  )
+
+  module _ (slot : ℕ) (shelf : ShelfRun) (sink : SinkRun) (audience : AudienceState) where
+    -- a bad line, or a failure of the reader
+    pub reading-stopped : {mid : ShelfState} {last : AudienceState} {reader : StimulusReader} {recording : Recording S G E L P}
+        {read : List ℕ} {given : List CycleInput}
+        (next : StimulusReader) (why : Stopped StimFault)
+        → Running m profile shelf.first mid slot sink.before sink.after audience last reader recording read given
+        → (all : List ℕ) × Reads shelf.first shelf.last slot all × InputIs (Err why) next (IsAtEnd shelf.last slot) all given
+        → events_of next ≡ length profile.events → HasRun m profile slot shelf sink audience last (Err why)
+    reading-stopped {last = last} {given = given} next (Refused fault) running (all, reads, h) events =
+        let bad : IsBad fault.line (length profile.events) (IsAtEnd shelf.last slot) all given = subst
+        (λ n. IsBad fault.line n (IsAtEnd shelf.last slot) all given) events h in (
+          all,
+          reads,
+          elim bad.found as (λ _. Ended m profile (Err (Refused fault)) all (IsAtEnd shelf.last slot) sink.before sink.after) [
+            | inl fed ↦ record {
+              reads_to = inl fed;
+              answers = λ rest end. stops-at sink.before sink.after (all ++ rest) given fault.line
+                  (ap (λ (r : Reading). inputs_of r.items) (bad_stays (length profile.events) all rest fed) ∙ bad.blocks)
+                  (ap ending_of (bad_stays (length profile.events) all rest fed) ∙ bad.ending) running.grew;
+            }
+            | inr end ↦ record {
+              reads_to = inr end;
+              answers = λ rest none. at_text (λ text. Stops m profile text fault.line sink.before sink.after) all rest (none end)
+                  (stops-at sink.before sink.after all given fault.line bad.blocks bad.ending running.grew);
+            }
+          ],
+          record {
+            inputs = given;
+            first = all-first all given bad.blocks;
+            taken = took-all sink.before sink.after given running.grew;
+            shown = inl running.shown;
+            whole = all-shown all audience last given bad.blocks running.shown;
+          },
+        )
+    reading-stopped {last = last} {given = given} next (Failed Read) running (all, reads, h) events =
+        let has : HasAll (length profile.events) all given = subst (λ n. HasAll n all given) events h.1 in (
+          all,
+          reads,
+          record {
+            reads_to = (has.good, subst (λ xs. Grew sink.before sink.after (record_with m profile xs false)) (sym has.blocks) running.grew);
+            answers = λ rest end. part-wider sink.before sink.after _ (record_of m profile (all ++ rest))
+                (part-whole sink.before sink.after _ running.grew)
+                (record-within given all rest (all-first all given has.blocks));
+          },
+          record {
+            inputs = given;
+            first = all-first all given has.blocks;
+            taken = took-all sink.before sink.after given running.grew;
+            shown = inl running.shown;
+            whole = all-shown all audience last given has.blocks running.shown;
+          },
+        )
+    reading-stopped next (Failed Write) running (all, reads, h) events = absurd h
+    reading-stopped {last = last} {given = given} next (Failed OutOfMemory) running (all, reads, h) events =
+        let first : IsPrefix given (blocks (length profile.events) all) = subst (λ n. IsPrefix given (blocks n all)) events h in (
+          all,
+          reads,
+          part-of-record sink.before sink.after given all _ first running.grew,
+          shown-given all sink.before sink.after audience last given OutOfMemory tt first
+              (took-all sink.before sink.after given running.grew) running.shown,
+        )
+
+    module _ {mid : ShelfState} {took : List ℕ → Type 0} {seeing : AudienceState} {reader : StimulusReader}
+        {recording : Recording S G E L P} {read : List ℕ} {given : List CycleInput}
+        (running : Running m profile shelf.first mid slot sink.before took audience seeing reader recording read given) where
+      -- the next run wasn't written
+      pub cycle-failed : (input : CycleInput) (failure : Failure) (all : List ℕ) → Reads shelf.first shelf.last slot all
+          → IsNext input (length profile.events) all given
+          → Cuts failure took sink.after (spelled_frame profile.format (Run (next_run m profile given input)))
+          → HasRun m profile slot shelf sink audience seeing (Err (Failed failure))
+      cycle-failed input Read all reads next cut = absurd cut
+      cycle-failed input Write all reads next cut =
+          let first = prefix-then given _ _ (prefix-append given (input ∷ [])) next.first in (
+            all,
+            reads,
+            short-of-record sink.before sink.after (given ++ input ∷ []) all _ next.first
+                (subst (GrewShort sink.before sink.after) (sym (record-next m profile given input))
+                (grew-then-short sink.before took sink.after _ _ running.grew cut)),
+            shown-given all sink.before sink.after audience seeing given Write tt first
+                (took-more sink.before took sink.after given cut.0 running.grew cut.2) running.shown,
+          )
+      cycle-failed input OutOfMemory all reads next cut =
+          let first = prefix-then given _ _ (prefix-append given (input ∷ [])) next.first in
+          let grew = grew-same running.grew cut in (
+            all,
+            reads,
+            part-of-record sink.before sink.after given all _ first grew,
+            shown-given all sink.before sink.after audience seeing given OutOfMemory tt first (took-all sink.before sink.after given grew)
+                running.shown,
+          )
+
+      -- it was written, and couldn't be shown to all
+      pub show-failed : {last : AudienceState} {ran : Recording S G E L P} (input : CycleInput) (run : RunFrame) (all : List ℕ)
+          → Reads shelf.first shelf.last slot all
+          → IsNext input (length profile.events) all given → Ran m profile given input ran run took sink.after → ShowsPartly seeing last run
+          → HasRun m profile slot shelf sink audience last (Err (Failed OutOfMemory))
+      show-failed input run all reads next ran partly =
+          let grew = frames-next m profile input run running ran.run ran.took in (
+            all,
+            reads,
+            part-of-record sink.before sink.after (given ++ input ∷ []) all _ next.first grew,
+            record {
+              inputs = given ++ input ∷ [];
+              first = next.first;
+              taken = took-all sink.before sink.after (given ++ input ∷ []) grew;
+              shown = inr (runs m profile given, run, seeing, sym (runs-next m profile given input run ran.run), running.shown, partly);
+              whole = tt;
+            },
+          )
+
+      -- Terminate wasn't written
+      pub close-failed : (failure : Failure) (all : List ℕ) → Reads shelf.first shelf.last slot all
+          → IsWhole (length profile.events) (IsAtEnd shelf.last slot) all given
+          → Cuts failure took sink.after (spelled_frame profile.format Terminate)
+          → HasRun m profile slot shelf sink audience seeing (Err (Failed failure))
+      close-failed Read all reads whole cut = absurd cut
+      close-failed Write all reads whole cut =
+          let first = all-first all given whole.blocks in
+          let is = record-is all given Terminated whole.blocks whole.ending ∙ record-ended m profile given in (
+            all,
+            reads,
+            record {
+              reads_to = tt;
+              answers = λ rest none. at_text (λ text. GrewShort sink.before sink.after (record_of m profile text)) all rest (none whole.end)
+                  (subst (GrewShort sink.before sink.after) (sym is) (grew-then-short sink.before took sink.after _ _ running.grew cut));
+            },
+            shown-given all sink.before sink.after audience seeing given Write tt first
+                (took-more sink.before took sink.after given cut.0 running.grew cut.2) running.shown,
+          )
+      close-failed OutOfMemory all reads whole cut =
+          let first = all-first all given whole.blocks in
+          let grew = grew-same running.grew cut in (
+            all,
+            reads,
+            part-of-record sink.before sink.after given all _ first grew,
+            shown-given all sink.before sink.after audience seeing given OutOfMemory tt first (took-all sink.before sink.after given grew)
+                running.shown,
+          )
+
+      -- the record is whole
+      pub closed : (counts : Counts) (all : List ℕ) → Reads shelf.first shelf.last slot all
+          → IsWhole (length profile.events) (IsAtEnd shelf.last slot) all given
+          → Counted counts (runs m profile given) (record_with m profile given true)
+          → Grew took sink.after (spelled_frame profile.format Terminate)
+          → HasRun m profile slot shelf sink audience seeing (Ok counts)
+      closed counts all reads whole counted grew =
+          let is = record-is all given Terminated whole.blocks whole.ending in
+          let finishes : Finishes m profile all counts sink.before sink.after = record {
+            good = whole.ending;
+            grew = subst (Grew sink.before sink.after) (sym (is ∙ record-ended m profile given)) (grew-then running.grew grew);
+            counted = rw (is, whole.blocks) counted;
+          } in (
+            all,
+            reads,
+            record {
+              reads_to = whole.end;
+              answers = λ rest none. at_text (λ text. Finishes m profile text counts sink.before sink.after)
+                  all rest (none whole.end) finishes;
+            },
+            record {
+              inputs = given;
+              first = all-first all given whole.blocks;
+              taken = took-more sink.before took sink.after given _ running.grew grew;
+              shown = inl running.shown;
+              whole = all-shown all audience seeing given whole.blocks running.shown;
+            },
+          )

@@ -1,0 +1,9 @@
+//! The record of a run, written frame by frame.
+#![tactic(auto)]
+
+mod counts;
+mod frames;
+mod recording;
+
+pub use counts::Counts;
+pub use recording::Recording;

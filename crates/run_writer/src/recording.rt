@@ -1,0 +1,209 @@
+//! A run whose record is being written.
+ghost use Rattle.std.specs.Prelude.{◌≡◌};
+
+use crate::counts::Counts;
+use crate::frames::{frame_of, refusals, run_in};
+use cycle_engine::Engine;
+use det_edges::{Failure, Sink, write_all};
+use det_values::{CycleInput, Frame, OutOfMemory, Profile, RunFrame};
+use job_trait::{Job, Pool};
+use record_codec::{encode_frame, encode_header};
+use std::alloc::Global;
+
+/// An engine with the profile of its run, and the counts of the record that was written of it.
+#[derive(Drop)]
+pub struct Recording<J: Job> {
+    alloc: Global,
+    engine: Engine<J>,
+    profile: Profile,
+    /// The bytes that are written next.
+    buffer: Vec<u8>,
+    counts: Counts,
+}
+
+impl<J: Job> Recording<J> {
+    ghost use Rattle.std.specs.Prelude.{◌≡◌, ◌<◌, ◌≤◌, ◌+◌, List, [], ◌∷◌, ◌++◌, map, length};
+    ghost use Rattle.std.specs.Prelude.{true, false, OnOk, IfOk, IfErr};
+    ghost use Rattle.std.specs.List.{All};
+    ghost use Rattle.det_values.specs.declared.frames.CycleInput.{CycleInput as Input};
+    ghost use Rattle.det_edges.specs.Sink.{Grew};
+    ghost use Rattle.det_edges.specs.Traffic.{SinkTraffic, sink_run, failure_of};
+    ghost use Rattle.cycle_engine.specs.Engine.{StandsFor as EngineStands};
+    ghost use Rattle.cycle_engine.specs.Frames.{frame_of, state_of, runs};
+    ghost use Rattle.record_grammar.specs.Spelling.{CanSpell, spelled, spelled_frame};
+    ghost use Rattle.run_writer.specs.Record.{opening, record_with, Counted};
+    ghost use Rattle.run_writer.specs.Recording.{IsNew, Stands, Cuts, Ran, Keeps, wrote};
+
+    /// The record of this engine's run, of which nothing was written yet. It takes no memory.
+    pub fn of(alloc: Global, engine: Engine<J>, profile: Profile) -> Recording<J>
+        requires stands { EngineStands J.meaning profile engine [] }
+        requires going { engine.stopped ≡ false }
+        ensures new { IsNew J.meaning result }
+        ensures profile { result.profile ≡ profile }
+        ensures engine { result.engine ≡ engine }
+    {
+        Recording {
+            alloc,
+            engine,
+            profile,
+            buffer: Vec::new(alloc),
+            counts: Counts {
+                cycles: 0,
+                refused: 0,
+                bytes: 0,
+            },
+        }
+    }
+
+    /// Writes the header and the frames Register, Discover and Init. After a failure the recording
+    /// isn't to be used.
+    pub fn open<K: Sink>(&mut self, sink: &mut K) -> Result<(), Failure>
+        requires new { IsNew J.meaning self.old }
+        ensures opened { OnOk result (Stands J.meaning self.new []
+            × Grew (K.took sink.old) (K.took sink.new) (opening J.meaning self.old.profile)) }
+        ensures cut { IfErr result (λ failure. Cuts failure (K.took sink.old) (K.took sink.new)
+            (opening J.meaning self.old.profile)) }
+        ensures profile { self.new.profile ≡ self.old.profile }
+        ensures traffic { SinkTraffic (sink_run K.took K.faults sink.old sink.new)
+            (failure_of result) }
+    {
+        self.encode_opening()?;
+        self.write(sink)
+    }
+
+    /// Runs the next cycle on a pool and writes its frame, which it answers. A refused cycle is a
+    /// cycle too. After a failure the recording isn't to be used; of `OutOfMemory` nothing was
+    /// written.
+    pub fn cycle<P: Pool<J>, K: Sink>(
+        &mut self,
+        pool: &mut P,
+        input: CycleInput,
+        sink: &mut K,
+    ) -> Result<RunFrame, Failure>
+        requires stands { (given : List Input) × Stands J.meaning self.old given }
+        requires few { self.old.engine.cycles < 1000000 }
+        requires known { All (λ s. s.event < length self.old.profile.events) input.samples }
+        ensures ran { IfOk result (λ run. (given : List Input) → Stands J.meaning self.old given
+            → Ran J.meaning self.old.profile given input self.new run
+            (K.took sink.old) (K.took sink.new)) }
+        ensures cut { IfErr result (λ failure. (given : List Input)
+            → Stands J.meaning self.old given → Cuts failure (K.took sink.old) (K.took sink.new)
+            (spelled_frame self.old.profile.format (Frame.Run
+            (frame_of J.meaning self.old.profile given
+            (state_of J.meaning self.old.profile given) input)))) }
+        ensures cycles { OnOk result (self.new.engine.cycles ≡ self.old.engine.cycles + 1) }
+        ensures profile { self.new.profile ≡ self.old.profile }
+        ensures traffic { SinkTraffic (sink_run K.took K.faults sink.old sink.new)
+            (failure_of result) }
+    {
+        let run = self.engine.cycle(self.alloc, pool, input)?;
+        self.counts.cycles = self.engine.cycles();
+        self.counts.refused += refusals(&run);
+        let frame = frame_of(run);
+        self.write_frame(&frame, sink)?;
+        Ok(run_in(frame))
+    }
+
+    /// Ends the run, writes Terminate, and answers the counts of the whole record. The recording
+    /// isn't to be used afterwards.
+    pub fn close<K: Sink>(&mut self, sink: &mut K) -> Result<Counts, Failure>
+        ensures closed { IfOk result (λ counts. (given : List Input)
+            → Stands J.meaning self.old given
+            → Counted counts (runs J.meaning self.old.profile given)
+            (record_with J.meaning self.old.profile given true)) }
+        ensures took { OnOk result (Grew (K.took sink.old) (K.took sink.new)
+            (spelled_frame self.old.profile.format Frame.Terminate)) }
+        ensures cut { IfErr result (λ failure. Cuts failure (K.took sink.old) (K.took sink.new)
+            (spelled_frame self.old.profile.format Frame.Terminate)) }
+        ensures profile { self.new.profile ≡ self.old.profile }
+        ensures traffic { SinkTraffic (sink_run K.took K.faults sink.old sink.new)
+            (failure_of result) }
+    {
+        self.engine.stop();
+        self.write_frame(&Frame::Terminate, sink)?;
+        Ok(self.counts)
+    }
+
+    /// What was counted so far.
+    pub fn counts(&self) -> Counts
+        ensures { result ≡ self.now.counts }
+    {
+        self.counts
+    }
+
+    /// The number of elements, which stays over a run.
+    pub fn elements(&self) -> usize
+        ensures { result ≤ 65536 }
+    {
+        self.engine.elements()
+    }
+
+    /// Where it takes memory from.
+    pub fn alloc(&self) -> Global {
+        self.alloc
+    }
+
+    /// Makes the opening what is written next.
+    fn encode_opening(&mut self) -> Result<(), OutOfMemory>
+        ensures bytes { OnOk result (self.new.buffer.items ≡ spelled self.old.profile
+            (Frame.Register ∷ Frame.Discover
+            ∷ Frame.Init (map (J.meaning.shown self.old.engine.job) self.old.engine.state.elements)
+            ∷ [])) }
+        ensures keeps { Keeps self.old self.new }
+    {
+        let init = Frame::Init(self.engine.shown(self.alloc)?);
+        self.buffer.clear();
+        encode_header(&self.profile, &mut self.buffer)?;
+        self.append(&Frame::Register)?;
+        self.append(&Frame::Discover)?;
+        self.append(&init)
+    }
+
+    /// Appends a frame to what is written next.
+    fn append(&mut self, frame: &Frame) -> Result<(), OutOfMemory>
+        requires { CanSpell self.old.profile.format (length self.old.profile.events) frame.now }
+        ensures bytes { OnOk result (self.new.buffer.items
+            ≡ self.old.buffer.items ++ spelled_frame self.old.profile.format frame.now) }
+        ensures keeps { Keeps self.old self.new }
+    {
+        let events = self.profile.events.len() as u16;
+        encode_frame(self.profile.format, events, frame, &mut self.buffer)
+    }
+
+    /// Writes a frame and counts its bytes.
+    fn write_frame<K: Sink>(&mut self, frame: &Frame, sink: &mut K) -> Result<(), Failure>
+        requires { CanSpell self.old.profile.format (length self.old.profile.events) frame.now }
+        ensures took { OnOk result (Grew (K.took sink.old) (K.took sink.new)
+            (spelled_frame self.old.profile.format frame.now)) }
+        ensures wrote { OnOk result (self.new.counts ≡ wrote self.old.counts
+            (spelled_frame self.old.profile.format frame.now)) }
+        ensures engine { self.new.engine ≡ self.old.engine }
+        ensures profile { self.new.profile ≡ self.old.profile }
+        ensures cut { IfErr result (λ failure. Cuts failure (K.took sink.old) (K.took sink.new)
+            (spelled_frame self.old.profile.format frame.now)) }
+        ensures traffic { SinkTraffic (sink_run K.took K.faults sink.old sink.new)
+            (failure_of result) }
+    {
+        self.buffer.clear();
+        self.append(frame)?;
+        self.write(sink)
+    }
+
+    /// Writes what is written next, and counts its bytes.
+    fn write<K: Sink>(&mut self, sink: &mut K) -> Result<(), Failure>
+        ensures took { OnOk result
+            (Grew (K.took sink.old) (K.took sink.new) self.old.buffer.items) }
+        ensures wrote { OnOk result
+            (self.new.counts ≡ wrote self.old.counts self.old.buffer.items) }
+        ensures engine { self.new.engine ≡ self.old.engine }
+        ensures profile { self.new.profile ≡ self.old.profile }
+        ensures cut { IfErr result (λ failure.
+            Cuts failure (K.took sink.old) (K.took sink.new) self.old.buffer.items) }
+        ensures traffic { SinkTraffic (sink_run K.took K.faults sink.old sink.new)
+            (failure_of result) }
+    {
+        write_all(sink, &self.buffer)?;
+        self.counts.bytes = self.counts.bytes.saturating_add(self.buffer.len() as u64);
+        Ok(())
+    }
+}
