@@ -1,6 +1,6 @@
 -- What an answer of a command tells: its exit status, and its line for `err`.
 use Rattle.std.specs.Prelude.{ℕ, List, [], ◌++◌, min, map, take, ◌&&◌, nat_le, codes, decimal}
-use Rattle.std.specs.Prelude.{if◌then◌else◌}
+use Rattle.std.specs.Prelude.{if◌then◌else◌, Option, Some, None}
 use Rattle.det_edges.specs.declared.failure.Failure.{Failure}
 use Rattle.det_edges.specs.declared.failure.Failure.TheVariants as failures
 use Rattle.det_edges.specs.declared.failure.Stopped.{Stopped}
@@ -34,6 +34,11 @@ abbrev pub failed : Failure → Answer
 failed failures.Read = ReadFault
 failed failures.Write = WriteFault
 failed failures.OutOfMemory = OutOfMemory
+
+-- a record without a fault is done; the one record that is read is copy 0
+abbrev pub by_fault : Option RecordFault → Answer
+by_fault None = Done
+by_fault (Some fault) = BadRecord 0 fault
 
 -- what a command answers that has no manifest
 abbrev pub without_manifest : Stopped refusals.BadManifest → Answer

@@ -10,21 +10,17 @@ use Rattle.det_edges.specs.declared.failure.Stopped.{Stopped}
 use Rattle.det_edges.specs.declared.failure.Stopped.TheVariants.{Refused, Failed}
 use Rattle.det_edges.proofs.Opening.{asks-all, asks-prefix-none, asks-then-prefix}
 use Rattle.det_values.specs.declared.job_kind.JobKind.{JobKind}
-use Rattle.det_values.specs.declared.job_kind.JobKind.TheVariants.{Bank, Cloud, Guard}
-use Rattle.job_bank.specs.Meaning as bank
-use Rattle.job_cloud.specs.Meaning as cloud
-use Rattle.job_guard.specs.Meaning as guard
+use Rattle.det_values.specs.declared.job_kind.JobKind.TheVariants.{Bank}
+use Rattle.shipped_jobs.specs.Kinds.{bad_param}
 use Rattle.manifest.specs.Values.{ManifestValue}
 use Rattle.manifest.specs.Profiles.{profile_of}
-use Rattle.manifest.specs.declared.fault.ManifestFault.{ManifestFault}
 use Rattle.cli_answers.specs.Answers.{without_manifest}
 use Rattle.cli_answers.specs.declared.answer.BadManifest.{BadManifest}
 use Rattle.cli_answers.specs.Outcome.{Meets, Tells, told}
-use Rattle.cmd_setup.specs.Setup.{bad_param, unless_bad, setup_from, manifest_by, setup_of}
+use Rattle.cmd_setup.specs.Setup.{IsGood, setup_of}
 use Rattle.cmd_setup.proofs.Ending.{meets-end}
-use Rattle.cmd_record.specs.Outcomes.{recorded_if_good, demo_profile, demo_outcome, good_by_kind, recorded_by_kind, recorded_by}
+use Rattle.cmd_record.specs.Outcomes.{demo_profile, demo_outcome, recorded_by_kind, recorded_by}
 use Rattle.cmd_record.specs.Outcomes.{record_names, record_outcome}
-use Rattle.cmd_record.proofs.Recorded.{if-good}
 
 -- the first of some told names, and the second
 pub tells-first : (shelf : ShelfState) (name : List ℕ) (names : List (List ℕ)) → Tells shelf (name ∷ names) → IsSome (shelf.holds name)
@@ -35,32 +31,19 @@ pub tells-second : (shelf : ShelfState) (first name : List ℕ) (names : List (L
 tells-second shelf first name names t = t 1 name (omega arith)
 
 -- the outcome of the built-in profile
-pub is-demo_outcome : (p : ProfileValue) (text : List ℕ) → p ≡ demo_profile → demo_outcome text ≡ recorded_if_good bank.meaning p text
+pub is-demo_outcome : (p : ProfileValue) (text : List ℕ) → p ≡ demo_profile → demo_outcome text ≡ recorded_by_kind Bank p text
 unfolding demo_outcome
-is-demo_outcome p text is = sym (ap (λ q. recorded_if_good bank.meaning q text) is ∙ if-good bank.meaning demo_profile text refl)
+is-demo_outcome p text is = sym (ap (λ q. recorded_by_kind Bank q text) is)
 
-kept : (bad : Option ℕ) (n m : ManifestValue) → unless_bad bad n ≡ Ok m → (bad ≡ None) × (n ≡ m)
-kept (Some index) n m e = cc
-kept None n m e = (refl, cc)
+-- its job takes its parameters
+pub demo-good : (p : ProfileValue) → p ≡ demo_profile → bad_param Bank p.params (length p.events) ≡ None
+demo-good p is = ap (λ q. bad_param Bank q.params (length q.events)) is
 
--- the job of a manifest that is set up refuses no parameter
-setup-good : (read : Result ManifestValue ManifestFault) (m : ManifestValue) → setup_from read ≡ Ok m
-    → bad_param m.kind m.params (length m.events) ≡ None
-setup-good (Err fault) m e = cc
-setup-good (Ok n) m e = let k = kept (bad_param n.kind n.params (length n.events)) n m e in
-    subst (λ (x : ManifestValue). bad_param x.kind x.params (length x.events) ≡ None) k.1 k.0
-
-kind-good : (kind : JobKind) (p : ProfileValue) (text : List ℕ) → bad_param kind p.params (length p.events) ≡ None
-    → good_by_kind kind p text ≡ recorded_by_kind kind p text
-kind-good Bank p text good = if-good bank.meaning p text good
-kind-good Cloud p text good = if-good cloud.meaning p text good
-kind-good Guard p text good = if-good guard.meaning p text good
-
--- the outcome of a manifest that was read, by the job of its kind
-by-setup : (strict : Bool) (bytes text : List ℕ) (seed : ℕ) (m : ManifestValue) → setup_of strict bytes ≡ Ok m
-    → recorded_by seed text (setup_of strict bytes) ≡ good_by_kind m.kind (profile_of m seed) text
-by-setup strict bytes text seed m is =
-    ap (recorded_by seed text) is ∙ sym (kind-good m.kind (profile_of m seed) text (setup-good (manifest_by strict bytes) m is))
+-- the job of a manifest's profile takes its parameters
+pub profile-good : (m : ManifestValue) (p : ProfileValue) (kind : JobKind) (seed : ℕ) → IsGood m → kind ≡ m.kind
+    → p ≡ profile_of m seed → bad_param kind p.params (length p.events) ≡ None
+profile-good m p kind seed good same is =
+    ap (λ k. bad_param k p.params (length p.events)) same ∙ ap (λ q. bad_param m.kind q.params (length q.events)) is ∙ good
 
 module _ (strict : Bool) (first : ShelfState) (name stimulus : List ℕ) where
   -- the names that are opened, by what the manifest is
@@ -96,12 +79,12 @@ module _ (strict : Bool) (first : ShelfState) (name stimulus : List ℕ) where
     -- the same outcome, where the manifest and the stimulus are told
     pub by-told : (mid : ShelfState) (seed : Option ℕ) (kind : JobKind) (p : ProfileValue) → mid.holds ≡ first.holds
         → kind ≡ m.kind → p ≡ profile_of m (unwrap_or seed 0) → Tells first (names (setup_of strict (told first name)))
-        → record_outcome strict (told first name) (told first stimulus) seed ≡ good_by_kind kind p (told mid stimulus)
+        → record_outcome strict (told first name) (told first stimulus) seed ≡ recorded_by_kind kind p (told mid stimulus)
     by-told mid seed kind p holds same profile tells =
-        by-setup strict (told first name) (told first stimulus) (unwrap_or seed 0) m (is-told tells)
-        ∙ ap (λ k. good_by_kind k (profile_of m (unwrap_or seed 0)) (told first stimulus)) (sym same)
-        ∙ ap (λ q. good_by_kind kind q (told first stimulus)) (sym profile)
-        ∙ ap (λ h. good_by_kind kind p (unwrap_or (h stimulus) [])) (sym holds)
+        ap (recorded_by (unwrap_or seed 0) (told first stimulus)) (is-told tells)
+        ∙ ap (λ k. recorded_by_kind k (profile_of m (unwrap_or seed 0)) (told first stimulus)) (sym same)
+        ∙ ap (λ q. recorded_by_kind kind q (told first stimulus)) (sym profile)
+        ∙ ap (λ h. recorded_by_kind kind p (unwrap_or (h stimulus) [])) (sym holds)
 
     -- the stimulus is told behind the manifest
     pub still-told : (mid : ShelfState) → mid.holds ≡ first.holds → Tells first (names (setup_of strict (told first name)))

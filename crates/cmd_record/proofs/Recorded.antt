@@ -1,6 +1,6 @@
 -- A run of the recorder meets the outcome of its profile and of its stimulus.
-use Rattle.std.proofs.Common.{◌≡◌, ℕ, List, length, refl, sym, ap, inr}
-use Rattle.std.specs.Prelude.{Option, Some, None, Result, Ok, Err, IfSome}
+use Rattle.std.proofs.Common.{◌≡◌, ℕ, List, refl, sym, ap, inr}
+use Rattle.std.specs.Prelude.{true, Option, Some, Result, Ok, Err, IfSome}
 use Rattle.det_edges.specs.Count.{Rose}
 use Rattle.det_edges.specs.Sink.{GrewByPrefix}
 use Rattle.det_edges.specs.Traffic.{ShelfRun, SinkRun, ShelfTraffic, SinkTraffic, failure_in}
@@ -15,26 +15,16 @@ use Rattle.recorder.specs.Ends.{Finishes, Stops}
 use Rattle.recorder.specs.Recorded.{IsRecorded}
 use Rattle.det_values.specs.Values.{ProfileValue}
 use Rattle.job_trait.specs.Meaning.{Meaning}
-use Rattle.cli_answers.specs.declared.answer.BadManifest.TheVariants.{Parameter}
+use Rattle.det_values.specs.declared.job_kind.JobKind.{JobKind}
+use Rattle.shipped_jobs.specs.Kinds.{of_kind}
+use Rattle.shipped_jobs.proofs.ByKinds.{by_kind-then, of_kind-gives}
 use Rattle.cli_answers.specs.declared.answer.Answer.{Answer}
 use Rattle.cli_answers.specs.declared.answer.Answer.TheVariants as answers
+use Rattle.cli_answers.specs.Ends.{can_end}
 use Rattle.cli_answers.specs.Outcome.{Meets}
-use Rattle.cli_answers.proofs.Meeting.{meets-refusal, meets-read-fault-part, meets-write-fault, meets-no-memory-part}
+use Rattle.cli_answers.proofs.Meeting.{meets-read-fault-part, meets-write-fault, meets-no-memory-part}
 use Rattle.cmd_record.proofs.Meeting.{meets-as}
-use Rattle.cmd_record.specs.Outcomes.{unless_refused, answer_to, answer_of, recorded, recorded_if_good}
-
-module _ {S G E L P : Type 0} (m : Meaning S G E L P) (profile : ProfileValue) (text : List ℕ) where
-  -- a job that refuses no parameter records
-  pub if-good : m.bad_param profile.params (length profile.events) ≡ None → recorded_if_good m profile text ≡ recorded m profile text
-  if-good good = ap (λ bad. unless_refused bad (recorded m profile text)) good
-
-  -- a job that refuses a parameter
-  pub met-refused : (tells rose failed : Type 0) (before : List ℕ → Type 0) (index : ℕ)
-      → m.bad_param profile.params (length profile.events) ≡ Some index
-      → Meets (recorded_if_good m profile text) tells rose failed before before (answers.BadManifest (Parameter index))
-  met-refused tells rose failed before index refused =
-      meets-refusal (recorded_if_good m profile text) tells rose failed before (answers.BadManifest (Parameter index)) (λ e. cc) (λ e. cc)
-      (λ t. ap (λ bad. unless_refused bad (recorded m profile text)) refused)
+use Rattle.cmd_record.specs.Outcomes.{answer_to, answer_of, recorded, recorded_by_kind, demo_work, record_work}
 
 at-told : (left : Option (List ℕ)) (text : List ℕ) (P : List ℕ → Type 0) → left ≡ Some text → IfSome left P → P text
 at-told left text P e p = rw e at p
@@ -86,13 +76,47 @@ module _ {S G E L P : Type 0} (m : Meaning S G E L P) (profile : ProfileValue) (
       meets-no-memory-part (recorded m profile text) tells rose failed sink.before sink.after
       (λ t. at-told (shelf.first.left slot) text Part (told t) r.part)
 
-  -- and that of a profile whose parameters the job takes
-  pub met-good : (rose2 : Type 0) (result : Result Counts (Stopped StimFault)) (answer : Answer) → answer ≡ answer_of result
-      → m.bad_param profile.params (length profile.events) ≡ None → (rose → rose2)
-      → IsRecorded m profile slot shelf sink audience last result
+  -- the same, where an earlier call has counted faults too
+  pub met-later : (rose2 : Type 0) (result : Result Counts (Stopped StimFault)) → (rose → rose2)
       → ShelfTraffic shelf (failure_in result) → SinkTraffic sink (failure_in result)
-      → Meets (recorded_if_good m profile text) tells rose2 failed sink.before sink.after answer
-  met-good rose2 result answer is good later r read write =
-      rw is (meets-as (recorded m profile text) (recorded_if_good m profile text) tells rose failed tells rose2 sink.before sink.after
-      (answer_of result)
-      (λ t. t) (λ t. if-good m profile text good) later (met-recorded result r read write))
+      → IsRecorded m profile slot shelf sink audience last result
+      → Meets (recorded m profile text) tells rose2 failed sink.before sink.after (answer_of result)
+  met-later rose2 result later read write r =
+      meets-as (recorded m profile text) (recorded m profile text) tells rose failed tells rose2 sink.before sink.after
+      (answer_of result) (λ t. t) (λ t. refl) later (met-recorded result r read write)
+
+-- a recording with the job of a kind meets the outcome of that kind
+pub met-by-kind : (kind : JobKind) (profile : ProfileValue) (text : List ℕ) (slot : ℕ) (shelf : ShelfRun) (sink : SinkRun)
+    (audience last : AudienceState) (tells rose : Type 0) (result : Result Counts (Stopped StimFault)) (answer : Answer)
+    → (tells → shelf.first.left slot ≡ Some text) → answer ≡ answer_of result → (Rose shelf.first.faults shelf.last.faults → rose)
+    → ShelfTraffic shelf (failure_in result) → SinkTraffic sink (failure_in result)
+    → of_kind (λ S G E L P m. IsRecorded m profile slot shelf sink audience last result) kind
+    → Meets (recorded_by_kind kind profile text) tells rose (Rose sink.faults_before sink.faults_after) sink.before sink.after answer
+met-by-kind kind profile text slot shelf sink audience last tells rose result answer told is later read write r =
+    rw is (by_kind-then (λ S G E L P m. recorded m profile text)
+    (λ S G E L P m. IsRecorded m profile slot shelf sink audience last result)
+    (λ wanted. Meets wanted tells rose (Rose sink.faults_before sink.faults_after) sink.before sink.after (answer_of result))
+    (λ S G E L P m r. met-later m profile text slot shelf sink audience last tells told rose result later read write r) kind r)
+
+-- all that a run of the recorder read was of its slot
+pub kept-by-kind : (kind : JobKind) (profile : ProfileValue) (slot : ℕ) (shelf : ShelfRun) (sink : SinkRun)
+    (audience last : AudienceState) (result : Result Counts (Stopped StimFault))
+    → of_kind (λ S G E L P m. IsRecorded m profile slot shelf sink audience last result) kind
+    → shelf.last.asked ≡ shelf.first.asked
+kept-by-kind kind profile slot shelf sink audience last result r =
+    of_kind-gives (λ S G E L P m. IsRecorded m profile slot shelf sink audience last result)
+    (shelf.last.asked ≡ shelf.first.asked) (λ S G E L P m r. r.run.1.asked) kind r
+
+-- what ends `demo` ends `record`
+pub ends-record : (answer : Answer) → can_end demo_work answer ≡ true → can_end record_work answer ≡ true
+ends-record answers.Done ends = refl
+ends-record answers.Differs ends = ends
+ends-record answers.BadWords ends = ends
+ends-record (answers.BadManifest why) ends = refl
+ends-record (answers.BadStimulus line) ends = refl
+ends-record (answers.BadRecord copy fault) ends = ends
+ends-record answers.BadProfile ends = ends
+ends-record answers.ReadFault ends = refl
+ends-record answers.WriteFault ends = refl
+ends-record answers.OutOfMemory ends = refl
+ends-record (answers.NoMajority row) ends = ends

@@ -1,18 +1,16 @@
 -- What `demo` and `record` give.
-use Rattle.std.specs.Prelude.{ℕ, pos, Bool, true, List, [], ◌∷◌, length, codes, Option, Some, None}
+use Rattle.std.specs.Prelude.{ℕ, pos, Bool, true, List, [], ◌∷◌, length, codes, Option}
 use Rattle.std.specs.Prelude.{Result, Ok, Err}
 use Rattle.std.specs.Option.{unwrap_or}
 use Rattle.det_values.specs.Values.{ProfileValue}
 use Rattle.det_values.specs.declared.format.Format.TheVariants.{Two}
 use Rattle.det_values.specs.declared.event.Policy.TheVariants.{Last}
 use Rattle.det_values.specs.declared.job_kind.JobKind.{JobKind}
-use Rattle.det_values.specs.declared.job_kind.JobKind.TheVariants.{Bank, Cloud, Guard}
 use Rattle.det_edges.specs.declared.failure.Stopped.{Stopped}
 use Rattle.det_edges.specs.declared.failure.Stopped.TheVariants.{Refused, Failed}
 use Rattle.job_trait.specs.Meaning.{Meaning}
 use Rattle.job_bank.specs.Meaning as bank
-use Rattle.job_cloud.specs.Meaning as cloud
-use Rattle.job_guard.specs.Meaning as guard
+use Rattle.shipped_jobs.specs.Kinds.{by_kind}
 use Rattle.stimulus.specs.declared.item.StimFault.{StimFault}
 use Rattle.stimulus.specs.Reading.{Ending, Terminated, BadLine, ending}
 use Rattle.recorder.specs.Record.{record_of}
@@ -20,7 +18,6 @@ use Rattle.run_writer.specs.declared.counts.Counts.{Counts}
 use Rattle.manifest.specs.Values.{ManifestValue}
 use Rattle.manifest.specs.Profiles.{profile_of}
 use Rattle.cli_answers.specs.declared.answer.BadManifest.{BadManifest}
-use Rattle.cli_answers.specs.declared.answer.BadManifest.TheVariants.{Parameter}
 use Rattle.cli_answers.specs.declared.answer.Answer.{Answer}
 use Rattle.cli_answers.specs.declared.answer.Answer.TheVariants as answers
 use Rattle.cli_answers.specs.Answers.{failed}
@@ -46,11 +43,6 @@ answer_of (Ok counts) = answers.Done
 answer_of (Err (Refused fault)) = answers.BadStimulus fault.line
 answer_of (Err (Failed failure)) = failed failure
 
--- an outcome, where no parameter is refused
-abbrev pub unless_refused : Option ℕ → Outcome → Outcome
-unless_refused (Some index) outcome = refusal (answers.BadManifest (Parameter index))
-unless_refused None outcome = outcome
-
 module _ {S G E L P : Type 0} (m : Meaning S G E L P) (profile : ProfileValue) where
   -- the record of a text, also where a bad line ends it
   abbrev pub recorded : List ℕ → Outcome
@@ -58,11 +50,6 @@ module _ {S G E L P : Type 0} (m : Meaning S G E L P) (profile : ProfileValue) w
     answer = answer_to (ending (length profile.events) text);
     bytes = record_of m profile text;
   }
-
-  -- the same of a profile whose parameters the job may refuse
-  abbrev pub recorded_if_good : List ℕ → Outcome
-  recorded_if_good text =
-      unless_refused (m.bad_param profile.params (length profile.events)) (recorded text)
 
 -- a bank of 4 channels with the shift 2 and one event `x` of capacity 2; 10 ms, seed 0
 abbrev pub demo_profile : ProfileValue
@@ -81,15 +68,7 @@ demo_outcome stimulus = recorded bank.meaning demo_profile stimulus
 
 -- the same by the kind of the job
 abbrev pub recorded_by_kind : JobKind → ProfileValue → List ℕ → Outcome
-recorded_by_kind Bank profile text = recorded bank.meaning profile text
-recorded_by_kind Cloud profile text = recorded cloud.meaning profile text
-recorded_by_kind Guard profile text = recorded guard.meaning profile text
-
--- the same of a profile whose parameters the job may refuse
-abbrev pub good_by_kind : JobKind → ProfileValue → List ℕ → Outcome
-good_by_kind Bank profile text = recorded_if_good bank.meaning profile text
-good_by_kind Cloud profile text = recorded_if_good cloud.meaning profile text
-good_by_kind Guard profile text = recorded_if_good guard.meaning profile text
+recorded_by_kind kind profile text = by_kind (λ S G E L P m. recorded m profile text) kind
 
 -- a manifest's profile with a seed, over a stimulus, or the refusal of the manifest
 abbrev pub recorded_by : ℕ → List ℕ → Result ManifestValue BadManifest → Outcome

@@ -6,14 +6,13 @@ ghost use Rattle.cli_answers.specs.Ends.{can_end};
 ghost use Rattle.cli_answers.specs.Outcome.{Meets, Tells, told};
 ghost use Rattle.cmd_record.specs.Outcomes.{demo_outcome, demo_profile, demo_work};
 
-use crate::over_stimulus::record_job;
+use crate::over_stimulus::record_named;
 use cli_answers::Answer;
-use crew_recorder::Workers;
 use det_edges::{Shelf, Sink};
 use det_values::{
     EventName, EventSpec, Events, Format, JobKind, OutOfMemory, Params, Policy, Profile,
 };
-use job_bank::Bank;
+use shipped_crews::{ShippedRun, Workers};
 use std::alloc::Global;
 use std::sync::Arc;
 use std::thread::Threads;
@@ -77,6 +76,12 @@ pub fn demo<R: Threads + Sync, S: Shelf, K: Sink, G: Gate + Send + Sync + 'stati
     let Ok(profile) = demo_profile(alloc) else {
         return Answer::OutOfMemory;
     };
-    let workers = Workers { rt, count: 1, gate };
-    record_job::<Bank, S, K, R, G>(alloc, &workers, profile, stimulus, shelf, out)
+    let workers = Workers {
+        rt,
+        alloc,
+        count: 1,
+        gate,
+    };
+    let kind = JobKind::Bank;
+    record_named(&workers, ShippedRun { kind, profile }, stimulus, shelf, out)
 }

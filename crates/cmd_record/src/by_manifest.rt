@@ -1,23 +1,18 @@
 //! The command `record`.
-ghost use Rattle.std.specs.Prelude.{◌≡◌, ◌≤◌, ◌∷◌, [], IsSome, IfSome, true};
+ghost use Rattle.std.specs.Prelude.{◌≡◌, ◌∷◌, [], IfSome, true};
 ghost use Rattle.det_edges.specs.Count.{Rose};
 ghost use Rattle.det_edges.specs.Shelf.{AsksPrefix};
 ghost use Rattle.manifest.specs.Limits.{IsWorkers};
 ghost use Rattle.cli_answers.specs.Ends.{can_end};
 ghost use Rattle.cli_answers.specs.Outcome.{Meets, Tells, told};
 ghost use Rattle.cmd_setup.specs.Setup.{setup_of};
-ghost use Rattle.cmd_record.specs.Outcomes.{good_by_kind, record_names, record_outcome};
-ghost use Rattle.cmd_record.specs.Outcomes.{record_work};
+ghost use Rattle.cmd_record.specs.Outcomes.{record_names, record_outcome, record_work};
 
-use crate::over_stimulus::record_job;
+use crate::over_stimulus::record_named;
 use cli_answers::Answer;
 use cmd_setup::read_setup;
-use crew_recorder::Workers;
 use det_edges::{Shelf, Sink};
-use det_values::{JobKind, Profile};
-use job_bank::Bank;
-use job_cloud::Cloud;
-use job_guard::Guard;
+use shipped_crews::{ShippedRun, Workers};
 use std::alloc::Global;
 use std::sync::Arc;
 use std::thread::Threads;
@@ -32,40 +27,6 @@ fn workers_or(given: Option<u32>, own: u32) -> u32
     match given {
         Some(workers) => workers,
         None => own,
-    }
-}
-
-/// Records the stimulus under a name with the job of a kind.
-fn record_kind<R, S, K, G>(
-    alloc: Global,
-    workers: &Workers<'_, R, G>,
-    kind: JobKind,
-    profile: Profile,
-    stimulus: &str,
-    shelf: &mut S,
-    out: &mut K,
-) -> Answer
-where
-    R: Threads + Sync,
-    S: Shelf,
-    K: Sink,
-    G: Gate + Send + Sync + 'static,
-    ensures meets { Meets (good_by_kind kind profile (told (S.sees shelf.old) stimulus.now)) (IsSome ((S.sees shelf.old).holds stimulus.now))
-        (Rose (S.sees shelf.old).faults (S.sees shelf.new).faults) (Rose (K.faults out.old) (K.faults out.new))
-        (K.took out.old) (K.took out.new) result }
-    ensures ends { can_end record_work result ≡ true }
-    ensures asked { AsksPrefix (S.sees shelf.old) (S.sees shelf.new) (stimulus.now ∷ []) }
-{
-    match kind {
-        JobKind::Bank => {
-            record_job::<Bank, S, K, R, G>(alloc, workers, profile, stimulus, shelf, out)
-        }
-        JobKind::Cloud => {
-            record_job::<Cloud, S, K, R, G>(alloc, workers, profile, stimulus, shelf, out)
-        }
-        JobKind::Guard => {
-            record_job::<Guard, S, K, R, G>(alloc, workers, profile, stimulus, shelf, out)
-        }
     }
 }
 
@@ -89,8 +50,8 @@ pub fn record_stimulus<R: Threads + Sync, S: Shelf, K: Sink, G: Gate + Send + Sy
         (told (S.sees shelf.old) stimulus.now) seed)
         (Tells (S.sees shelf.old) (record_names manifest.now stimulus.now
         (setup_of strict (told (S.sees shelf.old) manifest.now))))
-        (Rose (S.sees shelf.old).faults (S.sees shelf.new).faults) (Rose (K.faults out.old) (K.faults out.new))
-        (K.took out.old) (K.took out.new) result }
+        (Rose (S.sees shelf.old).faults (S.sees shelf.new).faults)
+        (Rose (K.faults out.old) (K.faults out.new)) (K.took out.old) (K.took out.new) result }
     ensures ends { can_end record_work result ≡ true }
     ensures asked { AsksPrefix (S.sees shelf.old) (S.sees shelf.new) (manifest.now ∷ stimulus.now
         ∷ []) }
@@ -106,10 +67,12 @@ pub fn record_stimulus<R: Threads + Sync, S: Shelf, K: Sink, G: Gate + Send + Sy
     let Ok(profile) = setup.profile(alloc, seed.unwrap_or(0)) else {
         return Answer::OutOfMemory;
     };
+    let kind = setup.kind();
     let workers = Workers {
         rt,
+        alloc,
         count: workers_or(workers, setup.workers()),
         gate,
     };
-    record_kind(alloc, &workers, setup.kind(), profile, stimulus, shelf, out)
+    record_named(&workers, ShippedRun { kind, profile }, stimulus, shelf, out)
 }

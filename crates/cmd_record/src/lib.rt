@@ -1,4 +1,5 @@
-//! The commands `demo` and `record`: the record of a stimulus, by the built-in profile or by a manifest.
+//! The commands `demo` and `record`: the record of a stimulus, by the built-in profile or by a
+//! manifest.
 #![tactic(auto)]
 
 mod built_in;

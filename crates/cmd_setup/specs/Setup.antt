@@ -1,30 +1,24 @@
 -- The manifest that a text is, where its job takes its parameters.
-use Rattle.std.specs.Prelude.{ℕ, ◌≤◌, ℤ, Bool, true, false, List, length}
+use Rattle.std.specs.Prelude.{◌≡◌, ℕ, ◌≤◌, Bool, true, false, List, length}
 use Rattle.std.specs.Prelude.{Option, Some, None, Result, Ok, Err}
 use Rattle.det_edges.specs.Shelf.{ShelfState, Opens, Reads}
 use Rattle.det_edges.specs.declared.failure.Failure.{Failure}
 use Rattle.det_edges.specs.declared.failure.Failure.TheVariants.{OutOfMemory}
-use Rattle.det_values.specs.declared.job_kind.JobKind.{JobKind}
-use Rattle.det_values.specs.declared.job_kind.JobKind.TheVariants.{Bank, Cloud, Guard}
-use Rattle.job_bank.specs.Meaning as bank
-use Rattle.job_cloud.specs.Meaning as cloud
-use Rattle.job_guard.specs.Meaning as guard
+use Rattle.shipped_jobs.specs.Kinds.{bad_param}
 use Rattle.manifest.specs.Values.{ManifestValue}
 use Rattle.manifest.specs.Meaning.{manifest_of, strict_manifest_of}
 use Rattle.manifest.specs.declared.fault.ManifestFault.{ManifestFault}
 use Rattle.cli_answers.specs.declared.answer.BadManifest.{BadManifest}
 use Rattle.cli_answers.specs.declared.answer.BadManifest.TheVariants.{Fault, Parameter}
 
--- the least parameter that a job refuses, by its kind and the number of events
-abbrev pub bad_param : JobKind → List ℤ → ℕ → Option ℕ
-bad_param Bank params events = bank.bad_param params events
-bad_param Cloud params events = cloud.bad_param params events
-bad_param Guard params events = guard.bad_param params events
-
 -- the manifest, where its job refuses no parameter
 abbrev pub unless_bad : Option ℕ → ManifestValue → Result ManifestValue BadManifest
 unless_bad (Some index) m = Err (Parameter index)
 unless_bad None m = Ok m
+
+-- its job refuses no parameter
+abbrev pub IsGood : ManifestValue → Type 0
+IsGood m = bad_param m.kind m.params (length m.events) ≡ None
 
 abbrev pub judged : ManifestValue → Result ManifestValue BadManifest
 judged m = unless_bad (bad_param m.kind m.params (length m.events)) m

@@ -3,7 +3,7 @@ ghost use Rattle.std.specs.Prelude.{◌≡◌, ◌⊎◌, ◌∷◌, [], Some, O
 ghost use Rattle.det_edges.specs.Shelf.{Asks, SlotsStay};
 ghost use Rattle.det_edges.specs.Traffic.{ShelfTraffic, shelf_run, failure_in, IfRefused};
 ghost use Rattle.cli_answers.specs.Outcome.{told};
-ghost use Rattle.cmd_setup.specs.Setup.{setup_of, Takes};
+ghost use Rattle.cmd_setup.specs.Setup.{setup_of, IsGood, Takes};
 
 use crate::judging::setup_of;
 use cli_answers::BadManifest;
@@ -24,7 +24,9 @@ pub fn read_setup<S: Shelf>(
 ) -> Result<Manifest, Stopped<BadManifest>>
     ensures manifest { IfOk result (λ m. IsSome ((S.sees shelf.old).holds name.now)
         → setup_of strict (told (S.sees shelf.old) name.now) ≡ Ok m) }
-    ensures refused { IfErr result (λ e. IfRefused e (λ why. IsSome ((S.sees shelf.old).holds name.now)
+    ensures good { IfOk result IsGood }
+    ensures refused { IfErr result (λ e. IfRefused e (λ why.
+        IsSome ((S.sees shelf.old).holds name.now)
         → setup_of strict (told (S.sees shelf.old) name.now) ≡ Err why)) }
     ensures piece { SlotsStay (S.sees shelf.old) (S.sees shelf.new)
         ⊎ Takes (S.sees shelf.old) (S.sees shelf.new) name.now 69632 }

@@ -15,7 +15,8 @@ use Rattle.record_show.proofs.Answering.{answers-part, told-answers, told-sees}
 use Rattle.cli_answers.specs.declared.answer.Answer.{Answer}
 use Rattle.cli_answers.specs.declared.answer.Answer.TheVariants.{Done, OutOfMemory}
 use Rattle.cli_answers.specs.Outcome.{Meets}
-use Rattle.cmd_show.specs.Show.{by_fault, show_outcome, answer_of}
+use Rattle.cli_answers.specs.Answers.{by_fault}
+use Rattle.cmd_show.specs.Show.{show_outcome, answer_of}
 
 module _ (part : ShowPart) (audience : AudienceState) (bytes : List ℕ) (tells : Type 0) (shelf : ShelfRun) (out : SinkRun) where
   show-meets : (result : Result Shown (Stopped RecordFault)) → (tells → Answers result part audience bytes out)

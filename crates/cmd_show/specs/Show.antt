@@ -1,6 +1,5 @@
 -- What `show` gives by the bytes of a record: its text, and whether it is whole.
-use Rattle.std.specs.Prelude.{ℕ, true, List, Option, Some, None, Result, Ok, Err}
-use Rattle.det_edges.specs.declared.failure.Failure.TheVariants as failures
+use Rattle.std.specs.Prelude.{ℕ, true, List, Result, Ok, Err}
 use Rattle.det_edges.specs.declared.failure.Stopped.{Stopped}
 use Rattle.det_edges.specs.declared.failure.Stopped.TheVariants.{Refused, Failed}
 use Rattle.record_grammar.specs.declared.fault.RecordFault.{RecordFault}
@@ -10,19 +9,14 @@ use Rattle.record_text.specs.declared.part.ShowPart.{ShowPart}
 use Rattle.record_show.specs.declared.shown.Shown.{Shown}
 use Rattle.record_show.specs.Text.{text_of}
 use Rattle.cli_answers.specs.declared.answer.Answer.{Answer}
-use Rattle.cli_answers.specs.declared.answer.Answer.TheVariants.{Done, BadRecord, ReadFault}
-use Rattle.cli_answers.specs.declared.answer.Answer.TheVariants.{WriteFault, OutOfMemory}
+use Rattle.cli_answers.specs.declared.answer.Answer.TheVariants.{Done, BadRecord}
+use Rattle.cli_answers.specs.Answers.{failed, by_fault}
 use Rattle.cli_answers.specs.Ends.{Work, writes_alone}
 use Rattle.cli_answers.specs.Outcome.{Outcome}
 
 -- it reads a record
 abbrev pub show_work : Work
 show_work = record writes_alone { recorded = true }
-
--- a record without a fault is done
-abbrev pub by_fault : Option RecordFault → Answer
-by_fault None = Done
-by_fault (Some f) = BadRecord 0 f
 
 -- a part of the record's text, with what the audience reports of its runs
 abbrev pub show_outcome : ShowPart → AudienceState → List ℕ → Outcome
@@ -35,6 +29,4 @@ show_outcome part audience record_bytes = record {
 abbrev pub answer_of : Result Shown (Stopped RecordFault) → Answer
 answer_of (Ok shown) = Done
 answer_of (Err (Refused f)) = BadRecord 0 f
-answer_of (Err (Failed failures.Read)) = ReadFault
-answer_of (Err (Failed failures.Write)) = WriteFault
-answer_of (Err (Failed failures.OutOfMemory)) = OutOfMemory
+answer_of (Err (Failed failure)) = failed failure

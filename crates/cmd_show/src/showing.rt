@@ -11,7 +11,7 @@ ghost use Rattle.record_show.specs.Ended.{IsGone, SawFirst};
 ghost use Rattle.cmd_show.specs.Show.{show_outcome, show_work, answer_of};
 
 use cli_answers::Answer;
-use det_edges::{Failure, Shelf, Sink, Slots, Stopped};
+use det_edges::{Shelf, Sink, Slots, Stopped};
 use probes::{Audience, Probe};
 use record_grammar::RecordFault;
 use record_reader::RecordReader;
@@ -27,9 +27,7 @@ fn answer_of(shown: Result<Shown, Stopped<RecordFault>>) -> Answer
     match shown {
         Ok(_) => Answer::Done,
         Err(Stopped::Refused(fault)) => Answer::BadRecord { copy: 0, fault },
-        Err(Stopped::Failed(Failure::Read)) => Answer::ReadFault,
-        Err(Stopped::Failed(Failure::Write)) => Answer::WriteFault,
-        Err(Stopped::Failed(Failure::OutOfMemory)) => Answer::OutOfMemory,
+        Err(Stopped::Failed(failure)) => Answer::from(failure),
     }
 }
 

@@ -1,23 +1,21 @@
-//! A job run over a text in memory.
+//! A shipped job run over a text in memory.
 ghost use Rattle.std.specs.Prelude.{◌≡◌, [], length, None, Ok, OnOk, IfOk, IfErr};
 ghost use Rattle.stimulus.specs.Reading.{Terminated, ending};
 ghost use Rattle.probes.specs.Reports.{reported};
 ghost use Rattle.probes.specs.Shows.{seen};
+ghost use Rattle.shipped_jobs.specs.Kinds.{bad_param, by_kind};
 ghost use Rattle.cmd_sim.specs.Sim.{runs_over, summary_over};
 
-use crew_recorder::{Workers, record_by_crew};
-use cycle_engine::Engine;
+use crew_recorder::record_by_crew;
 use det_edges::{Failure, Stopped, TextShelf};
-use det_values::{Bytes, OutOfMemory, Profile};
-use job_trait::Job;
+use det_values::{Bytes, OutOfMemory};
 use probes::{Audience, Probe};
 use record_reader::DigestSink;
 use record_text::Summary;
-use run_writer::{Counts, Recording};
-use std::alloc::Global;
+use run_writer::Counts;
+use shipped_crews::{ShippedRun, Workers};
 use std::thread::Threads;
 use stimulus::StimFault;
-use stimulus_reader::StimulusReader;
 use worker_pool::Gate;
 
 /// The counts of a run that nothing but want of memory ends early.
@@ -31,50 +29,31 @@ fn counts_of(run: Result<Counts, Stopped<StimFault>>) -> Result<Counts, OutOfMem
     }
 }
 
-/// Runs a job over a whole stimulus before an audience, and sums up the record without keeping it.
-pub(crate) fn run_over<J, R, G>(
-    alloc: Global,
+/// Runs a shipped job over a whole stimulus before an audience, and sums up the record without
+/// keeping it.
+pub(crate) fn run_over<R, G>(
     workers: &Workers<'_, R, G>,
+    run: ShippedRun,
     number: u64,
-    profile: Profile,
     text: Bytes,
     audience: &mut Audience,
 ) -> Result<Summary, OutOfMemory>
 where
-    J: Job + Send + Sync + 'static,
-    J::Globals: Send + 'static,
-    J::Element: Send + Sync + 'static,
-    J::Plan: Send + Sync + 'static,
-    J::Part: Send + Sync + 'static,
     R: Threads,
     G: Gate + Send + Sync + 'static,
-    requires good { J.meaning.bad_param profile.params (length profile.events) ≡ None }
-    requires whole { ending (length profile.events) text ≡ Terminated }
+    requires good { bad_param run.kind run.profile.params (length run.profile.events) ≡ None }
+    requires whole { ending (length run.profile.events) text ≡ Terminated }
     ensures summary { IfOk result (λ summary.
-        summary ≡ summary_over J.meaning profile text number) }
+        summary ≡ by_kind (λ s g e l p m. summary_over m run.profile text number) run.kind) }
     ensures reports { OnOk result (reported
         (seen (λ b. life (b.vtable, b.value)) audience.new) []
         ≡ reported (seen (λ b. life (b.vtable, b.value)) audience.old)
-        (runs_over J.meaning profile text)) }
+        (by_kind (λ s g e l p m. runs_over m run.profile text) run.kind)) }
 {
-    let events = profile.events.len() as u16;
-    let Ok(job) = J::make(&profile.params, events) else {
-        unreachable!()
-    };
-    let engine = Engine::start(alloc, job, &profile)?;
-    let mut recording = Recording::of(alloc, engine, profile);
-    let mut stimulus = StimulusReader::at(alloc, 0, events);
     let mut shelf = TextShelf::new(text);
     let mut sink = DigestSink::new();
-    let run = record_by_crew(
-        &mut recording,
-        workers,
-        &mut stimulus,
-        &mut shelf,
-        &mut sink,
-        audience,
-    );
-    let counts = counts_of(run)?;
+    let recorded = record_by_crew(workers, run, 0, &mut shelf, &mut sink, audience);
+    let counts = counts_of(recorded)?;
     Ok(Summary {
         number,
         cycles: counts.cycles,

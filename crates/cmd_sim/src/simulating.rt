@@ -12,12 +12,11 @@ ghost use Rattle.cmd_sim.specs.Sim.{sim_text, sim_outcome};
 use crate::profile::sim_profile;
 use crate::run::run_over;
 use cli_answers::Answer;
-use crew_recorder::Workers;
 use det_edges::{Sink, write_all};
-use det_values::OutOfMemory;
-use job_cloud::Cloud;
+use det_values::{JobKind, OutOfMemory};
 use probes::{Audience, Probe};
 use record_text::{Summary, put_summary_lines};
+use shipped_crews::{ShippedRun, Workers};
 use std::alloc::Global;
 use std::sync::Arc;
 use std::thread::Threads;
@@ -52,12 +51,15 @@ fn sim_text<R: Threads + Sync, G: Gate + Send + Sync + 'static>(
 {
     let profile = sim_profile(alloc, number)?;
     let stimulus = made_stimulus(alloc, number)?;
+    let kind = JobKind::Cloud;
     let workers = Workers {
         rt,
+        alloc,
         count: workers,
         gate,
     };
-    let summary = run_over::<Cloud, R, G>(alloc, &workers, number, profile, stimulus, audience)?;
+    let run = ShippedRun { kind, profile };
+    let summary = run_over(&workers, run, number, stimulus, audience)?;
     audience.finish(alloc)?;
     lines_of(alloc, &summary, audience.reports())
 }

@@ -2,7 +2,5 @@
 #![tactic(auto)]
 
 mod recording;
-mod workers;
 
 pub use recording::record_by_crew;
-pub use workers::Workers;

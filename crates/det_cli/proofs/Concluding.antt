@@ -84,6 +84,7 @@ module _ (words : List (List ℕ)) (first last : ShelfState) (out_failed : Type 
         unfailed = λ tells calm taken. gives wanted before after p.answer status p.is
             (λ e. calm (read e)) (λ e. taken (write e)) (meets.whole tells);
         done = λ tells e. gives-all wanted before after p.answer status p.is (λ f. cc) (λ f. cc) (λ f. cc) (meets.whole tells);
+        differs = λ tells e. gives-all wanted before after p.answer status p.is (λ f. cc) (λ f. cc) (λ f. cc) (meets.whole tells);
         refused = λ tells e. gives-all wanted before after p.answer status p.is
             (no-refusal status statuses.ReadFault e (λ f. cc) (λ f. cc) (λ f. cc))
             (no-refusal status statuses.WriteFault e (λ f. cc) (λ f. cc) (λ f. cc))

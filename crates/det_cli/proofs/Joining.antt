@@ -1,8 +1,8 @@
 -- How a command's run meets the outcome of the words.
-use Rattle.std.proofs.Common.{◌≡◌, ◌≤◌, ℕ, List, [], ◌∷◌, length, get_or, refl, ap, ◌∙◌, sym, subst, arith}
+use Rattle.std.proofs.Common.{◌≡◌, ◌≤◌, ℕ, List, [], ◌∷◌, length, map, get_or, refl, ap, ◌∙◌, sym, subst, arith}
 use Rattle.std.specs.Prelude.{Option, Some, None, IfSome, Bool, true, false, not, ◌||◌, is_some, option_and_then, Result, Ok, Err, OnOk}
 use Rattle.std.specs.Prelude.{OnErr}
-use Rattle.std.proofs.lemmas.List.{nil_from_length}
+use Rattle.std.proofs.lemmas.List.{nil_from_length, length-map}
 use Rattle.det_edges.specs.Count.{Rose}
 use Rattle.det_edges.specs.Shelf.{ShelfState, AsksPrefix}
 use Rattle.det_edges.proofs.Opening.{asks-prefix-none}
@@ -37,6 +37,14 @@ same-built c word names is same =
     ap (λ (w : CommandWord). built (record { word = w; names = c.names; options = c.options })) is
     ∙ ap (λ (n : List (List ℕ)). built (record { word = word; names = n; options = c.options })) same
 
+-- the same, with what it says of reports
+pub same-reports : (c : CommandValue) (word : CommandWord) (names : List (List ℕ)) (reports : Bool) → c.word ≡ word → c.names ≡ names
+    → c.options.reports ≡ reports
+    → built c ≡ built (record { word = word; names = names; options = record c.options { reports = reports } })
+same-reports c word names reports is same told =
+    same-built c word names is same
+    ∙ ap (λ (r : Bool). built (record { word = word; names = names; options = record c.options { reports = r } })) told
+
 one-name : (names : List (List ℕ)) → 1 ≤ length names → length names ≤ 1 → names ≡ get_or names 0 [] ∷ []
 one-name [] least most = absurd (omega arith)
 one-name (a ∷ []) least most = refl
@@ -60,6 +68,14 @@ module _ (c : CommandValue) (word : CommandWord) (range : IsInRange c) (is : c.w
   no-name most =
       let high : length c.names ≤ (row word).most = subst (λ (w : CommandWord). length c.names ≤ (row w).most) is range.most in
       nil_from_length c.names (omega (arith, most, high))
+
+  -- the names, seen through a slice, are at least so many
+  pub names-enough : {A : Type 0} (names : List A) (text : A → List ℕ) → map text names ≡ c.names → (least : ℕ)
+      → (row word).least ≡ least → least ≤ length names
+  names-enough names text same least few =
+      let low : (row word).least ≤ length c.names = subst (λ (w : CommandWord). (row w).least ≤ length c.names) is range.least in
+      let long : length names ≡ length c.names = sym (length-map names text) ∙ ap length same in
+      omega (arith, few, low, long)
 
   pub both-names : (row word).least ≡ 2 → (row word).most ≡ 2 → (name other : List ℕ) → name ≡ name_at 0 c → other ≡ name_at 1 c
       → c.names ≡ name ∷ other ∷ []

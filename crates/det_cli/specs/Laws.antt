@@ -5,8 +5,8 @@ use Rattle.det_edges.specs.Sink.{Grew}
 use Rattle.det_edges.specs.Shelf.{ShelfState}
 use Rattle.probes.specs.Reports.{AudienceState}
 use Rattle.cli_answers.specs.declared.status.Status.{Status}
-use Rattle.cli_answers.specs.declared.status.Status.TheVariants.{Done, BadWords, BadManifest}
-use Rattle.cli_answers.specs.declared.status.Status.TheVariants.{BadStimulus, BadRecord}
+use Rattle.cli_answers.specs.declared.status.Status.TheVariants.{Done, Differs, BadWords}
+use Rattle.cli_answers.specs.declared.status.Status.TheVariants.{BadManifest, BadStimulus, BadRecord}
 use Rattle.cli_answers.specs.declared.status.Status.TheVariants.{ReadFault, WriteFault, OutOfMemory}
 use Rattle.cli_answers.specs.Answers.{status_of}
 use Rattle.cli_answers.specs.Outcome.{Outcome, Tells, told}
@@ -31,8 +31,10 @@ pub record Concludes (words : List (List ℕ)) (first last : ShelfState) (out_fa
   -- where neither the shelf nor `out` failed the outcome is given, or memory was wanting
   pub unfailed : TellsAll words first → ¬ Rose first.faults last.faults → ¬ out_failed
       → (status ≡ OutOfMemory) ⊎ Gives (outcome words (told first) seeing) before after status
-  -- done, or refused, only where the outcome is
+  -- done, or that something differs, or refused, only where the outcome is
   pub done : TellsAll words first → status ≡ Done
+      → Gives (outcome words (told first) seeing) before after status
+  pub differs : TellsAll words first → status ≡ Differs
       → Gives (outcome words (told first) seeing) before after status
   pub refused : TellsAll words first → IsRefusal status
       → Gives (outcome words (told first) seeing) before after status

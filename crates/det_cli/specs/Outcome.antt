@@ -1,12 +1,13 @@
 -- What the program gives: an answer and the bytes for `out`, by the words, the bytes under each
 -- name and the audience.
-use Rattle.std.specs.Prelude.{ℕ, Bool, true, false, List, [], Option, Some, None}
+use Rattle.std.specs.Prelude.{ℕ, Bool, true, false, List, [], map, Option, Some, None}
 use Rattle.std.specs.Prelude.{is_some, unwrap_or, option_and_then, if◌then◌else◌}
 use Rattle.cli_answers.specs.declared.answer.Answer.TheVariants.{BadWords}
 use Rattle.cli_answers.specs.Outcome.{Outcome, text_outcome, refusal}
 use Rattle.cli_answers.specs.Ends.{Work, writes_alone}
 use Rattle.cli_words.specs.declared.table.CommandWord.{CommandWord}
 use Rattle.cli_words.specs.declared.table.CommandWord.TheVariants.{Demo, Record, Show, Needs, Sim}
+use Rattle.cli_words.specs.declared.table.CommandWord.TheVariants.{Replay, Compare, Salvage}
 use Rattle.cli_words.specs.declared.table.CommandWord.TheVariants.{Help, Version}
 use Rattle.cli_words.specs.Command.{CommandValue, name_at, number_in, files_of, part_of}
 use Rattle.cli_words.specs.Reading.{command_of}
@@ -19,6 +20,9 @@ use Rattle.cmd_record.specs.Outcomes.{record_outcome, record_names, record_work}
 use Rattle.cmd_needs.specs.Needs.{needs_outcome, needs_work}
 use Rattle.cmd_show.specs.Show.{show_outcome, show_work}
 use Rattle.cmd_sim.specs.Sim.{sim_outcome}
+use Rattle.cmd_replay.specs.Replay.{replay_outcome, replay_work}
+use Rattle.cmd_compare.specs.Compare.{compare_outcome, compare_work}
+use Rattle.cmd_salvage.specs.Salvage.{salvage_outcome, salvage_reports_outcome, salvage_work}
 use Rattle.det_cli.specs.Texts.{version_text, page_of, help_text}
 
 -- whether the command is built: it has a page, or prints one that is there
@@ -56,6 +60,9 @@ work_of Demo = demo_work
 work_of Record = record_work
 work_of Show = show_work
 work_of Needs = needs_work
+work_of Replay = replay_work
+work_of Compare = compare_work
+work_of Salvage = salvage_work
 work_of other = writes_alone
 
 -- one run alone is printed without reports
@@ -67,11 +74,17 @@ has_reports other = true
 abbrev pub is_showing : CommandWord → CommandValue → Bool
 is_showing Show c = has_reports (part_of c.options)
 is_showing Sim c = true
+is_showing Salvage c = c.options.reports
 is_showing other c = false
 
 abbrev pub shows_runs : Option CommandValue → Bool
 shows_runs (Some c) = is_showing c.word c
 shows_runs None = false
+
+-- the salvaged record, or reports of it
+abbrev pub salvage_by : (reports : Bool) → AudienceState → List ℕ → Outcome
+salvage_by true audience recorded = salvage_reports_outcome audience recorded
+salvage_by false audience recorded = salvage_outcome recorded
 
 abbrev pub outcome_by : CommandWord → CommandValue → (List ℕ → List ℕ) → AudienceState
     → Outcome
@@ -82,6 +95,10 @@ outcome_by Show c holds audience =
     show_outcome (part_of c.options) audience (holds (name_at 0 c))
 outcome_by Needs c holds audience = needs_outcome c.options.strict (holds (name_at 0 c))
 outcome_by Sim c holds audience = sim_outcome audience (number_in c)
+outcome_by Replay c holds audience = replay_outcome (holds (name_at 0 c))
+outcome_by Compare c holds audience = compare_outcome (map holds (files_of c))
+outcome_by Salvage c holds audience =
+    salvage_by c.options.reports audience (holds (name_at 0 c))
 outcome_by Help c holds audience = text_outcome (unwrap_or (help_text c.names) [])
 outcome_by Version c holds audience = text_outcome version_text
 outcome_by other c holds audience = refusal BadWords

@@ -110,3 +110,79 @@ Exit statuses:
   0  done                      7  write fault
   2  bad words                 8  out of memory
 ";
+
+/// `salvage`.
+pub const SALVAGE: &str = "\
+det salvage RECORD [--reports]
+
+Writes a record that breaks off, made whole up to its last whole frame.
+
+  RECORD      a file with a record, in binary
+  --reports   prints, in place of the record, how many cycles can be saved, and
+              the reports of their runs
+
+Standard output takes the header and the frames that are whole before the fault
+of the record, and behind them the frame that ends a record; or the line
+`salvaged N` and three reports as `det show` prints them. A record without a
+fault is written as it is. One whose fault comes before its elements are whole
+can't be saved: its fault is told, and nothing is written.
+
+Exit statuses:
+  0  done                      6  read fault
+  2  bad words                 7  write fault
+  5  bad record                8  out of memory
+";
+
+/// `compare`.
+pub const COMPARE: &str = "\
+det compare RECORD RECORD ..
+
+Compares two to eight copies of a record, and tells the first place where they
+part.
+
+  RECORD      a file with a record, in binary; the first is copy 0
+
+Standard output takes one line: `agree N`, where all copies are equal and whole
+and have N cycles, or `differ copy K PLACE`, where K is the first copy that is
+not equal to copy 0 at that place. The places, in the order of a record:
+
+  header         the job, seed, parameters, events or the format
+  kind F         the kind of frame F, counted from 0
+  time C         the time that cycle C was given
+  samples C      the samples that cycle C was given
+  result C       whether, where or why cycle C was refused
+  element C E    element E after cycle C; cycle 0 is the beginning
+  output C       the output of cycle C
+
+Where a copy has a fault at that place it is a bad record, and the first copy
+with one is told. Each record is read only as far as the place.
+
+Exit statuses:
+  0  done                      6  read fault
+  1  differs                   7  write fault
+  2  bad words                 8  out of memory
+  5  bad record
+";
+
+/// `replay`.
+pub const REPLAY: &str = "\
+det replay RECORD [--workers W]
+
+Runs the job of a record again over the inputs in the record, and writes the
+record of that run, whatever outcomes the record read holds.
+
+  RECORD         a file with a record, in binary
+
+  --workers W    the number of workers, 1 to 64; 1 where none is given. The
+                 record is the same for each number
+
+Standard output takes the record of the run, in binary. Where the record read is
+whole the run is ended; where it has a fault the fault is told behind the run of
+the cycles that are whole before it. A record whose job isn't known, or takes
+its parameters for bad, is a bad record too, and nothing is written.
+
+Exit statuses:
+  0  done                      6  read fault
+  2  bad words                 7  write fault
+  5  bad record                8  out of memory
+";

@@ -1,6 +1,7 @@
 //! The whole program.
-ghost use Rattle.std.specs.Prelude.{◌≡◌, true, map, option_map};
+ghost use Rattle.std.specs.Prelude.{◌≡◌, true, map, option_map, IfSome};
 ghost use Rattle.det_edges.specs.Count.{Rose};
+ghost use Rattle.manifest.specs.Limits.{IsWorkers};
 ghost use Rattle.cli_answers.specs.Ends.{can_end, writes_alone};
 ghost use Rattle.cli_answers.specs.Outcome.{Meets, text_outcome};
 ghost use Rattle.cli_words.specs.Names.{texts};
@@ -11,17 +12,21 @@ ghost use Rattle.det_cli.specs.Texts.{page_of, help_text};
 ghost use Rattle.det_cli.specs.Outcome.{built, command_in};
 ghost use Rattle.det_cli.specs.Promise.{Runs, IsPromised};
 
-use crate::pages::{DEMO, NEEDS, RECORD, SHOW, SIM};
+use crate::pages::{COMPARE, DEMO, NEEDS, RECORD, REPLAY, SALVAGE, SHOW, SIM};
 use crate::texts::{USAGE, VERSION};
 use cli_answers::{Answer, Status};
 use cli_words::laws::ranges;
 use cli_words::{Command, CommandWord, Options, read_words};
+use cmd_compare::compare;
 use cmd_needs::needs;
 use cmd_record::{demo, record_stimulus};
+use cmd_replay::replay;
+use cmd_salvage::{salvage, salvage_reports};
 use cmd_show::show;
 use cmd_sim::sim;
 use det_edges::{Shelf, Sink, write_all};
 use probes::{Audience, Probe};
+use shipped_crews::Workers;
 use std::alloc::Global;
 use std::sync::Arc;
 use std::thread::Threads;
@@ -110,14 +115,36 @@ fn run_command<R: Threads + Sync, S: Shelf, K: Sink, G: Gate + Send + Sync + 'st
             None => Answer::BadWords,
         },
         CommandWord::Version => print(VERSION, out),
+        CommandWord::Replay => replay(&workers_of(rt, alloc, workers, gate), first, shelf, out),
+        CommandWord::Compare => compare(alloc, command.names.as_slice(), shelf, out),
+        CommandWord::Salvage => {
+            if command.options.reports {
+                return salvage_reports(alloc, first, shelf, out, audience);
+            }
+            salvage(alloc, first, shelf, out)
+        }
         // These aren't built yet.
-        CommandWord::Replay => Answer::BadWords,
         CommandWord::Check => Answer::BadWords,
-        CommandWord::Compare => Answer::BadWords,
-        CommandWord::Salvage => Answer::BadWords,
         CommandWord::Upgrade => Answer::BadWords,
         CommandWord::Vote => Answer::BadWords,
         CommandWord::Chain => Answer::BadWords,
+    }
+}
+
+/// One worker where no number is given.
+fn workers_of<'r, R, G>(
+    rt: &'r R,
+    alloc: Global,
+    given: Option<u32>,
+    gate: &'r Arc<G, Global>,
+) -> Workers<'r, R, G>
+    requires { IfSome given IsWorkers }
+{
+    Workers {
+        rt,
+        alloc,
+        count: given.unwrap_or(1),
+        gate,
     }
 }
 
@@ -131,6 +158,9 @@ fn page_of(word: CommandWord) -> Option<&'static str>
         CommandWord::Show => Some(SHOW),
         CommandWord::Needs => Some(NEEDS),
         CommandWord::Sim => Some(SIM),
+        CommandWord::Replay => Some(REPLAY),
+        CommandWord::Compare => Some(COMPARE),
+        CommandWord::Salvage => Some(SALVAGE),
         _ => None,
     }
 }

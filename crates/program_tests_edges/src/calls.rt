@@ -1,6 +1,7 @@
 //! Calls of the shelf and of the output that fail in turn, and pieces of few bytes.
 use crate::{
-    Case, failing_reads, failing_writes, needs_case, record_case, show_case, two_cycles_case,
+    Case, compare_case, failing_reads, failing_writes, needs_case, record_case, replay_case,
+    salvage_case, show_case, two_cycles_case,
 };
 use program_runs::{Edges, empty_run, run, two_cycles_stimulus};
 use std::alloc::Global;
@@ -38,6 +39,21 @@ fn each_read_of_needs_fails(rt: HostRuntime) -> Result<(), Fail> {
     each_read_fails(&rt, rt.alloc(), &needs_case(rt.alloc())?)
 }
 
+#[test]
+fn each_read_of_compare_fails(rt: HostRuntime) -> Result<(), Fail> {
+    each_read_fails(&rt, rt.alloc(), &compare_case(rt.alloc())?)
+}
+
+#[test]
+fn each_read_of_replay_fails(rt: HostRuntime) -> Result<(), Fail> {
+    each_read_fails(&rt, rt.alloc(), &replay_case(rt.alloc())?)
+}
+
+#[test]
+fn each_read_of_salvage_fails(rt: HostRuntime) -> Result<(), Fail> {
+    each_read_fails(&rt, rt.alloc(), &salvage_case(rt.alloc())?)
+}
+
 /// Each write fails, and there are at least so many: a write takes at most 10 bytes.
 fn each_write_fails<R: Threads + Sync + Abort>(
     rt: &R,
@@ -72,6 +88,21 @@ fn each_write_of_needs_fails(rt: HostRuntime) -> Result<(), Fail> {
     each_write_fails(&rt, rt.alloc(), &needs_case(rt.alloc())?, 24)
 }
 
+#[test]
+fn each_write_of_compare_fails(rt: HostRuntime) -> Result<(), Fail> {
+    each_write_fails(&rt, rt.alloc(), &compare_case(rt.alloc())?, 1)
+}
+
+#[test]
+fn each_write_of_replay_fails(rt: HostRuntime) -> Result<(), Fail> {
+    each_write_fails(&rt, rt.alloc(), &replay_case(rt.alloc())?, 29)
+}
+
+#[test]
+fn each_write_of_salvage_fails(rt: HostRuntime) -> Result<(), Fail> {
+    each_write_fails(&rt, rt.alloc(), &salvage_case(rt.alloc())?, 29)
+}
+
 fn same_in_pieces<R: Threads + Sync + Abort>(
     rt: &R,
     alloc: Global,
@@ -90,6 +121,9 @@ fn pieces_of_any_length_give_the_same(rt: HostRuntime) -> Result<(), Fail> {
     same_in_pieces(&rt, alloc, &two_cycles_case(alloc)?)?;
     same_in_pieces(&rt, alloc, &record_case(alloc)?)?;
     same_in_pieces(&rt, alloc, &show_case(alloc)?)?;
+    same_in_pieces(&rt, alloc, &compare_case(alloc)?)?;
+    same_in_pieces(&rt, alloc, &replay_case(alloc)?)?;
+    same_in_pieces(&rt, alloc, &salvage_case(alloc)?)?;
     same_in_pieces(&rt, alloc, &needs_case(alloc)?)
 }
 
@@ -117,7 +151,15 @@ fn a_shelf_fails_where_a_read_or_a_name_does(rt: HostRuntime) -> Result<(), Fail
         Edges::calm(500).failing_read(2),
     )?;
     assert!(rt; ran.ended(6, "read fault\n"));
-    for words in ["demo t", "show m", "needs m", "record m s"] {
+    for words in [
+        "demo t",
+        "show m",
+        "needs m",
+        "record m s",
+        "compare s m",
+        "replay m",
+        "salvage m",
+    ] {
         let ran = run(&rt, rt.alloc(), words, &files, Edges::calm(500))?;
         assert!(rt;
             ran.ended(6, "read fault\n") && ran.wrote(6, b""),

@@ -54,6 +54,40 @@ pub fn show_case(alloc: Global) -> Result<Case, AllocError> {
     })
 }
 
+/// Two copies of the record of two cycles, compared.
+pub fn compare_case(alloc: Global) -> Result<Case, AllocError> {
+    Ok(Case {
+        words: "compare m s",
+        manifest: Vec::from_slice(alloc, two_cycles_1())?,
+        stimulus: Vec::from_slice(alloc, two_cycles_1())?,
+        most_read: 7,
+        len: 8,
+        digest: "4153869138bfb5598ef9f2f5c70a8aa70fd9c33fa1b5d4f5c7987d7411492bd1",
+    })
+}
+
+/// The record of two cycles, run again.
+pub fn replay_case(alloc: Global) -> Result<Case, AllocError> {
+    given_again(alloc, "replay m")
+}
+
+/// The record of two cycles, which is whole, salvaged.
+pub fn salvage_case(alloc: Global) -> Result<Case, AllocError> {
+    given_again(alloc, "salvage m")
+}
+
+/// The record of two cycles, which these words give again.
+fn given_again(alloc: Global, words: &'static str) -> Result<Case, AllocError> {
+    Ok(Case {
+        words,
+        manifest: Vec::from_slice(alloc, two_cycles_1())?,
+        stimulus: Vec::new(alloc),
+        most_read: 7,
+        len: 282,
+        digest: "5034b79dac263730242ce46420d27371fc6aaf95f974ca75a1cbb26d44b6eb54",
+    })
+}
+
 /// The needs of the user's manifest.
 pub fn needs_case(alloc: Global) -> Result<Case, AllocError> {
     Ok(Case {

@@ -4,7 +4,10 @@
 mod case;
 mod failing;
 
-pub use case::{Case, needs_case, record_case, show_case, two_cycles_case};
+pub use case::{
+    Case, compare_case, needs_case, record_case, replay_case, salvage_case, show_case,
+    two_cycles_case,
+};
 pub use failing::{failing_reads, failing_writes};
 
 #[cfg(test)]

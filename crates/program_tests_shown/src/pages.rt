@@ -14,6 +14,9 @@ fn statuses_of(command: CommandWord) -> Option<&'static str> {
         CommandWord::Show => Some("025678"),
         CommandWord::Needs => Some("023678"),
         CommandWord::Sim => Some("0278"),
+        CommandWord::Replay => Some("025678"),
+        CommandWord::Compare => Some("0125678"),
+        CommandWord::Salvage => Some("025678"),
         _ => None,
     }
 }
@@ -29,15 +32,14 @@ fn text_of<R: Threads + Sync>(rt: &R, alloc: Global, words: &str) -> Result<Stri
 
 /// Whether a text has at most so many lines, of at most 80 columns.
 fn fits(text: &str, most: usize) -> bool {
-    let mut lines = 0;
-    let mut wide = false;
+    let mut left = most;
     for line in text.lines() {
-        lines += 1;
-        if line.len() > 80 {
-            wide = true;
+        if left == 0 || line.len() > 80 {
+            return false;
         }
+        left -= 1;
     }
-    lines <= most && !wide && text.ends_with('\n')
+    text.ends_with('\n')
 }
 
 /// Whether a page tells these statuses and no others.

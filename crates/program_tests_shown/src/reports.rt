@@ -134,8 +134,9 @@ fn a_part_of_a_torn_record_is_shown_before_its_fault(rt: HostRuntime) -> Result<
     let alloc = rt.alloc();
     let made = guard_record(&rt, alloc)?;
     let bytes = made.out.bytes();
-    let files = [("m", &bytes[..bytes.len() - 1])];
-    let line = format!(in alloc; "bad record: copy 0 offset {} truncated\n", bytes.len() - 1)?;
+    let len = bytes.len().saturating_sub(1);
+    let files = [("m", &bytes[..len])];
+    let line = format!(in alloc; "bad record: copy 0 offset {len} truncated\n")?;
     let ran = run(&rt, alloc, "show m --reports", &files, Edges::calm(20_000))?;
     assert!(rt; ran.wrote(5, b"") && ran.ended(5, &line));
     let ran = run(&rt, alloc, "show m --cycle 2", &files, Edges::calm(20_000))?;

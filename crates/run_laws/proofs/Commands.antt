@@ -26,7 +26,8 @@ use Rattle.manifest.specs.Values.{ManifestValue}
 use Rattle.manifest.specs.Profiles.{profile_of}
 use Rattle.manifest.specs.declared.fault.ManifestFault.{ManifestFault}
 use Rattle.cli_answers.specs.declared.answer.BadManifest.{BadManifest}
-use Rattle.cmd_setup.specs.Setup.{bad_param, unless_bad, setup_from, manifest_by}
+use Rattle.shipped_jobs.specs.Kinds.{bad_param}
+use Rattle.cmd_setup.specs.Setup.{unless_bad, setup_from, manifest_by}
 use Rattle.run_laws.proofs.Strictly.{taken_too}
 use Rattle.cmd_record.specs.Outcomes.{demo_profile, demo_outcome, recorded_by_kind, recorded_by}
 use Rattle.run_laws.specs.Statements.{frames_by_kind, IsRecordRead, RecordIsRead, DemoIsRead}
@@ -51,9 +52,9 @@ params_fit Cloud params events good = cloud_fits params events good
 params_fit Guard params events good = guard_fits params events good
 
 -- a manifest that is taken: what the text says, and no parameter is refused
-record IsTaken (read : Result ManifestValue ManifestFault) (m : ManifestValue) : Type 0 where
-  said : read ≡ Ok m
-  good : bad_param m.kind m.params (length m.events) ≡ None
+pub record IsTaken (read : Result ManifestValue ManifestFault) (m : ManifestValue) : Type 0 where
+  pub said : read ≡ Ok m
+  pub good : bad_param m.kind m.params (length m.events) ≡ None
 
 unless_taken : (bad : Option ℕ) (n m : ManifestValue) → bad_param n.kind n.params (length n.events) ≡ bad → unless_bad bad n ≡ Ok m
     → IsTaken (Ok n) m
@@ -61,7 +62,7 @@ unless_taken (Some index) n m is e = absurd cc
 unless_taken None n m is e = let same : n ≡ m = cc in
     record { said = ap Ok same; good = subst (λ (x : ManifestValue). bad_param x.kind x.params (length x.events) ≡ None) same is }
 
-is_taken : (read : Result ManifestValue ManifestFault) (m : ManifestValue) → setup_from read ≡ Ok m → IsTaken read m
+pub is_taken : (read : Result ManifestValue ManifestFault) (m : ManifestValue) → setup_from read ≡ Ok m → IsTaken read m
 is_taken (Err fault) m e = absurd cc
 is_taken (Ok n) m e = unless_taken (bad_param n.kind n.params (length n.events)) n m refl e
 

@@ -13,3 +13,6 @@ mod Unended
 mod Reading
 mod Commands
 mod Shown
+mod Replayed
+mod GivenAgain
+mod Compared

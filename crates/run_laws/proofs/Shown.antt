@@ -7,7 +7,8 @@ use Rattle.det_values.specs.declared.frames.Frame.{Frame}
 use Rattle.record_text.specs.declared.part.ShowPart.TheVariants.{All}
 use Rattle.record_show.specs.Text.{text_from}
 use Rattle.probes.specs.Reports.{AudienceState}
-use Rattle.cmd_show.specs.Show.{by_fault, show_outcome}
+use Rattle.cli_answers.specs.Answers.{by_fault}
+use Rattle.cmd_show.specs.Show.{show_outcome}
 use Rattle.job_bank.specs.Meaning as bank
 use Rattle.cycle_engine.specs.Frames.{frames}
 use Rattle.manifest.specs.Profiles.{profile_of}

@@ -1,15 +1,13 @@
--- What the record of a run is read as.
+-- What the record of a run is read as, what is printed of it, and what its replay gives.
 use Rattle.std.specs.Prelude.{◌≡◌, ℕ, ◌^◌, ◌<◌, List, length, Bool, true, false, Option, Some, None}
 use Rattle.std.specs.Prelude.{Ok}
 use Rattle.std.specs.Option.{unwrap_or}
 use Rattle.det_values.specs.declared.frames.CycleInput.{CycleInput}
 use Rattle.det_values.specs.declared.frames.Frame.{Frame}
 use Rattle.det_values.specs.declared.job_kind.JobKind.{JobKind}
-use Rattle.det_values.specs.declared.job_kind.JobKind.TheVariants.{Bank, Cloud, Guard}
 use Rattle.det_values.specs.Values.{ProfileValue}
 use Rattle.job_bank.specs.Meaning as bank
-use Rattle.job_cloud.specs.Meaning as cloud
-use Rattle.job_guard.specs.Meaning as guard
+use Rattle.shipped_jobs.specs.Kinds.{by_kind}
 use Rattle.cycle_engine.specs.Frames.{frames}
 use Rattle.record_grammar.specs.declared.fault.Reason.TheVariants.{Truncated}
 use Rattle.record_grammar.specs.declared.fault.RecordFault.{RecordFault}
@@ -25,13 +23,13 @@ use Rattle.probes.specs.Reports.{AudienceState}
 use Rattle.record_text.specs.declared.part.ShowPart.TheVariants.{All}
 use Rattle.record_show.specs.Text.{text_from}
 use Rattle.cli_answers.specs.Outcome.{Outcome}
-use Rattle.cmd_show.specs.Show.{by_fault, show_outcome}
+use Rattle.cli_answers.specs.Answers.{by_fault}
+use Rattle.cmd_show.specs.Show.{show_outcome}
+use Rattle.cmd_replay.specs.Replay.{replay_outcome}
 
 -- the frames of a run, by the kind of its job
 abbrev pub frames_by_kind : JobKind → ProfileValue → List CycleInput → Bool → List Frame
-frames_by_kind Bank profile inputs ended = frames bank.meaning profile inputs ended
-frames_by_kind Cloud profile inputs ended = frames cloud.meaning profile inputs ended
-frames_by_kind Guard profile inputs ended = frames guard.meaning profile inputs ended
+frames_by_kind kind profile = by_kind (λ S G E L P m. frames m profile) kind
 
 -- the record of a run that was ended has no fault, and that of another one only ends too early
 abbrev pub fault_if : Bool → List ℕ → Option RecordFault
@@ -97,3 +95,27 @@ abbrev pub DemoIsShown : Type 0
 DemoIsShown =
     (stimulus : List ℕ) → IsRecordShown demo_profile (frames bank.meaning demo_profile) stimulus
     (demo_outcome stimulus).bytes
+
+-- bytes that are given again, and the answer by this fault
+abbrev pub given_again : List ℕ → Option RecordFault → Outcome
+given_again bytes end = record { answer = by_fault end; bytes = bytes }
+
+-- what `replay` gives of the record of a stimulus: that record, and it is done where the stimulus
+-- is whole
+abbrev pub IsRecordReplayed : ProfileValue → List ℕ → List ℕ → Type 0
+IsRecordReplayed profile stimulus bytes =
+    let ended : Bool = is_terminated (ending (length profile.events) stimulus) in
+    replay_outcome bytes ≡ given_again bytes (fault_if ended bytes)
+
+-- what `replay` gives of what `record` writes, where the manifest is taken
+abbrev pub RecordIsReplayed : Type 0
+RecordIsReplayed =
+    (strict : Bool) (manifest stimulus : List ℕ) (seed : Option ℕ) (m : ManifestValue)
+    → unwrap_or seed 0 < 2 ^ 64 → setup_of strict manifest ≡ Ok m
+    → IsRecordReplayed (profile_of m (unwrap_or seed 0)) stimulus
+    (record_outcome strict manifest stimulus seed).bytes
+
+-- and of what `demo` writes
+abbrev pub DemoIsReplayed : Type 0
+DemoIsReplayed =
+    (stimulus : List ℕ) → IsRecordReplayed demo_profile stimulus (demo_outcome stimulus).bytes

@@ -25,3 +25,19 @@ pub of_all : (f : (S G E L P : Type 0) → Meaning S G E L P → Type 0) →
 of_all f all Bank = all _ _ _ _ _ _
 of_all f all Cloud = all _ _ _ _ _ _
 of_all f all Guard = all _ _ _ _ _ _
+
+-- what follows from a fact of each meaning, of a value that is made by kind
+pub by_kind-then : {A : Type 0} (f : (S G E L P : Type 0) → Meaning S G E L P → A)
+    (Fact : (S G E L P : Type 0) → Meaning S G E L P → Type 0) (P : A → Type 0) →
+    ((S G E L Q : Type 0) (m : Meaning S G E L Q) → Fact S G E L Q m → P (f S G E L Q m)) → (k : JobKind)
+    → of_kind Fact k → P (by_kind f k)
+by_kind-then f Fact P then Bank = then _ _ _ _ _ _
+by_kind-then f Fact P then Cloud = then _ _ _ _ _ _
+by_kind-then f Fact P then Guard = then _ _ _ _ _ _
+
+-- what follows from a fact of each meaning, whatever the job
+pub of_kind-gives : (Fact : (S G E L P : Type 0) → Meaning S G E L P → Type 0) (Q : Type 0) →
+    ((S G E L P : Type 0) (m : Meaning S G E L P) → Fact S G E L P m → Q) → (k : JobKind) → of_kind Fact k → Q
+of_kind-gives Fact Q then Bank = then _ _ _ _ _ _
+of_kind-gives Fact Q then Cloud = then _ _ _ _ _ _
+of_kind-gives Fact Q then Guard = then _ _ _ _ _ _

@@ -1,4 +1,5 @@
 -- The shipped jobs by their kinds.
+use Rattle.std.specs.Prelude.{ℕ, ℤ, List, Option}
 use Rattle.det_values.specs.declared.job_kind.JobKind.{JobKind}
 use Rattle.det_values.specs.declared.job_kind.JobKind.TheVariants.{Bank, Cloud, Guard}
 use Rattle.job_trait.specs.Meaning.{Meaning}
@@ -17,3 +18,7 @@ abbrev pub of_kind : ((S G E L P : Type 0) → Meaning S G E L P → Type 0) →
 of_kind f Bank = f _ _ _ _ _ bank.meaning
 of_kind f Cloud = f _ _ _ _ _ cloud.meaning
 of_kind f Guard = f _ _ _ _ _ guard.meaning
+
+-- the least parameter that the job of a kind refuses, beside so many events
+abbrev pub bad_param : JobKind → List ℤ → ℕ → Option ℕ
+bad_param kind params events = by_kind (λ S G E L P m. m.bad_param params events) kind

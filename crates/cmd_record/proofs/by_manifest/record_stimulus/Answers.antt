@@ -1,5 +1,5 @@
 use Rattle.std.proofs.Common.{[], ◌∷◌, refl, ap, ◌∙◌}
-use Rattle.std.specs.Prelude.{Err}
+use Rattle.std.specs.Option.{unwrap_or}
 use Rattle.det_edges.proofs.Opening.{asks-then-prefix}
 use Rattle.manifest.specs.Profiles.{profile_of}
 use Rattle.cli_answers.specs.Outcome.{told}
@@ -7,7 +7,8 @@ use Rattle.cmd_setup.specs.Setup.{setup_of}
 use Rattle.cmd_setup.proofs.Ending.{can-end}
 use Rattle.cmd_record.specs.Outcomes.{record_work}
 use Rattle.cmd_record.proofs.Meeting.{rose-later, meets-as}
-use Rattle.cmd_record.proofs.ByManifest.{by-told, still-told, met-end, asked-manifest, asked-both}
+use Rattle.cmd_record.proofs.ByManifest.{profile-good, by-told, still-told, met-end, asked-manifest, asked-both}
+use Rattle.cmd_record.proofs.Recorded.{ends-record}
 use Rattle.cmd_record.proofs.by_manifest.record_stimulus.Goals as goal
 
 pub returns-in-Err-clause-meets : goal.returns-in-Err-clause-meets
@@ -30,6 +31,14 @@ returns-in_default-clause-judged g c = λ tells.
     asked-manifest c.args.strict first c.args.manifest.now c.args.stimulus.now _
     (setup_of c.args.strict (told first c.args.manifest.now)) c.read_setup.ensures.asked
 
+pub record_named-requires-clause-good : goal.record_named-requires-clause-good
+record_named-requires-clause-good g c κs lives =
+    profile-good c.in-Ok.setup c.in-Ok-profile.profile c.kind-kind.result (unwrap_or c.args.seed 0) c.in-Ok.ensures.good c.kind-kind.ensures
+    (c.in-Ok-profile.ensures.profile ∙ ap (profile_of c.in-Ok.setup) c.unwrap_or.ensures)
+
+pub returns-clause-ends : goal.returns-clause-ends
+returns-clause-ends g c = ends-record _ c.record_named.ensures.ends
+
 pub returns-clause-meets : goal.returns-clause-meets
 returns-clause-meets g c =
     let first = g.S.Slots.sees c.args.shelf.now in
@@ -38,16 +47,16 @@ returns-clause-meets g c =
     let profile = c.in-Ok-profile.ensures.profile ∙ ap (profile_of c.in-Ok.setup) c.unwrap_or.ensures in
     meets-as _ _ _ _ _ _ _ _ _ _
     (still-told c.args.strict first c.args.manifest.now c.args.stimulus.now c.in-Ok.setup is mid c.read_setup.ensures.holds)
-    (by-told c.args.strict first c.args.manifest.now c.args.stimulus.now c.in-Ok.setup is mid c.args.seed c.kind.result
-    c.in-Ok-profile.profile c.read_setup.ensures.holds c.kind.ensures profile)
-    (rose-later _ _ _ c.read_setup.ensures.traffic.counted) c.record_kind.ensures.meets
+    (by-told c.args.strict first c.args.manifest.now c.args.stimulus.now c.in-Ok.setup is mid c.args.seed c.kind-kind.result
+    c.in-Ok-profile.profile c.read_setup.ensures.holds c.kind-kind.ensures profile)
+    (rose-later _ _ _ c.read_setup.ensures.traffic.counted) c.record_named.ensures.meets
 
 pub returns-clause-asked : goal.returns-clause-asked
 returns-clause-asked g c =
-    asks-then-prefix _ _ _ (c.args.manifest.now ∷ []) (c.args.stimulus.now ∷ []) c.read_setup.ensures.asked c.record_kind.ensures.asked
+    asks-then-prefix _ _ _ (c.args.manifest.now ∷ []) (c.args.stimulus.now ∷ []) c.read_setup.ensures.asked c.record_named.ensures.asked
 
 pub returns-clause-judged : goal.returns-clause-judged
 returns-clause-judged g c =
     asked-both c.args.strict (g.S.Slots.sees c.args.shelf.now) c.args.manifest.now c.args.stimulus.now c.in-Ok.setup
     c.in-Ok.ensures.manifest _
-    (asks-then-prefix _ _ _ (c.args.manifest.now ∷ []) (c.args.stimulus.now ∷ []) c.read_setup.ensures.asked c.record_kind.ensures.asked)
+    (asks-then-prefix _ _ _ (c.args.manifest.now ∷ []) (c.args.stimulus.now ∷ []) c.read_setup.ensures.asked c.record_named.ensures.asked)

@@ -1,4 +1,4 @@
-use Rattle.std.proofs.Common.{ℕ, List, [], ◌∷◌, Bool, cond, refl, sym, ap, ◌∙◌, arith, rules}
+use Rattle.std.proofs.Common.{ℕ, List, [], ◌∷◌, Bool, true, false, cond, refl, sym, ap, ◌∙◌, arith, rules}
 use Rattle.std.specs.Prelude.{Option, Some, None, is_some}
 use Rattle.det_edges.proofs.Opening.{asks-all, asks-prefix-none}
 use Rattle.cli_answers.proofs.Meeting.{meets-under}
@@ -6,7 +6,7 @@ use Rattle.cli_words.specs.declared.table.CommandWord.TheVariants as words
 use Rattle.cli_words.specs.Command.{CommandValue, command_seen}
 use Rattle.det_cli.specs.Outcome.{built}
 use Rattle.det_cli.proofs.Joining.{same-built, sole-name, no-name, both-names, workers-fit, is-kept, is-gone, help-is, runs-command}
-use Rattle.det_cli.proofs.Joining.{runs-no-command}
+use Rattle.det_cli.proofs.Joining.{same-reports, names-enough, runs-no-command}
 use Rattle.det_cli.proofs.program.run_command.Goals as goal
 
 pub record_stimulus-requires : goal.record_stimulus-requires
@@ -131,25 +131,10 @@ returns-in-Version g c =
       gone = λ e. absurd cc;
     })
 
-pub returns-in-Replay : goal.returns-in-Replay
-returns-in-Replay g c =
-    let seen = command_seen c.args.command in
-    runs-no-command (g.S.Slots.sees c.args.shelf.now) _ _ _ (built seen) (same-built seen words.Replay seen.names c.in-Replay.is refl)
-
 pub returns-in-Check : goal.returns-in-Check
 returns-in-Check g c =
     let seen = command_seen c.args.command in
     runs-no-command (g.S.Slots.sees c.args.shelf.now) _ _ _ (built seen) (same-built seen words.Check seen.names c.in-Check.is refl)
-
-pub returns-in-Compare : goal.returns-in-Compare
-returns-in-Compare g c =
-    let seen = command_seen c.args.command in
-    runs-no-command (g.S.Slots.sees c.args.shelf.now) _ _ _ (built seen) (same-built seen words.Compare seen.names c.in-Compare.is refl)
-
-pub returns-in-Salvage : goal.returns-in-Salvage
-returns-in-Salvage g c =
-    let seen = command_seen c.args.command in
-    runs-no-command (g.S.Slots.sees c.args.shelf.now) _ _ _ (built seen) (same-built seen words.Salvage seen.names c.in-Salvage.is refl)
 
 pub returns-in-Upgrade : goal.returns-in-Upgrade
 returns-in-Upgrade g c =
@@ -165,3 +150,72 @@ pub returns-in-Chain : goal.returns-in-Chain
 returns-in-Chain g c =
     let seen = command_seen c.args.command in
     runs-no-command (g.S.Slots.sees c.args.shelf.now) _ _ _ (built seen) (same-built seen words.Chain seen.names c.in-Chain.is refl)
+
+pub workers_of-requires : goal.workers_of-requires
+workers_of-requires g c = workers-fit (command_seen c.args.command) c.requires.range
+
+pub returns-in-Replay : goal.returns-in-Replay
+returns-in-Replay g c =
+    let seen = command_seen c.args.command in
+    let names = c.name-first.result.now ∷ [] in
+    let is = sole-name seen words.Replay c.requires.range c.in-Replay.is refl refl c.name-first.result.now c.name-first.ensures in
+    runs-command (g.S.Slots.sees c.args.shelf.now) _ _ _ _ _ _ _ (built seen) _ (same-built seen words.Replay names c.in-Replay.is is)
+    (record {
+      meets = c.replay.ensures.meets;
+      ends = c.replay.ensures.ends;
+      asked = c.replay.ensures.asked;
+      needed = λ t. c.replay.ensures.asked;
+      left = λ e. refl;
+      gone = λ e. absurd cc;
+    })
+
+pub compare-requires-clause-some : goal.compare-requires-clause-some
+compare-requires-clause-some g c =
+    names-enough (command_seen c.args.command) words.Compare c.requires.range c.in-Compare.is _ (λ name. name.now) c.as_slice-in-Compare.ensures.names 2 refl
+
+pub compare-requires-clause-few : goal.compare-requires-clause-few
+compare-requires-clause-few g c = c.as_slice-in-Compare.ensures.within
+
+pub returns-in-Compare : goal.returns-in-Compare
+returns-in-Compare g c =
+    let seen = command_seen c.args.command in
+    let names = c.as_slice-in-Compare.ensures.names in
+    runs-command (g.S.Slots.sees c.args.shelf.now) _ _ _ _ _ _ _ (built seen) _
+    (same-built seen words.Compare _ c.in-Compare.is (sym names)) (record {
+      meets = c.compare.ensures.meets;
+      ends = c.compare.ensures.ends;
+      asked = c.compare.ensures.asked;
+      needed = λ t. c.compare.ensures.asked;
+      left = λ e. refl;
+      gone = λ e. absurd cc;
+    })
+
+pub returns-then-command : goal.returns-then-command
+returns-then-command g c =
+    let seen = command_seen c.args.command in
+    let names = c.name-first.result.now ∷ [] in
+    let is = sole-name seen words.Salvage c.requires.range c.in-Salvage.is refl refl c.name-first.result.now c.name-first.ensures in
+    runs-command (g.S.Slots.sees c.args.shelf.now) _ _ _ _ _ _ _ (built seen) _
+    (same-reports seen words.Salvage names true c.in-Salvage.is is c.if-command.true) (record {
+      meets = c.salvage_reports.ensures.meets;
+      ends = c.salvage_reports.ensures.ends;
+      asked = c.salvage_reports.ensures.asked;
+      needed = λ t. c.salvage_reports.ensures.asked;
+      left = λ e. absurd cc;
+      gone = λ e done. c.salvage_reports.ensures.gone done;
+    })
+
+pub returns-else-command : goal.returns-else-command
+returns-else-command g c =
+    let seen = command_seen c.args.command in
+    let names = c.name-first.result.now ∷ [] in
+    let is = sole-name seen words.Salvage c.requires.range c.in-Salvage.is refl refl c.name-first.result.now c.name-first.ensures in
+    runs-command (g.S.Slots.sees c.args.shelf.now) _ _ _ _ _ _ _ (built seen) _
+    (same-reports seen words.Salvage names false c.in-Salvage.is is c.if-command.false) (record {
+      meets = c.salvage.ensures.meets;
+      ends = c.salvage.ensures.ends;
+      asked = c.salvage.ensures.asked;
+      needed = λ t. c.salvage.ensures.asked;
+      left = λ e. refl;
+      gone = λ e. absurd cc;
+    })

@@ -1,0 +1,6 @@
+//! The command `compare`.
+#![tactic(auto)]
+
+mod comparing;
+
+pub use comparing::compare;

@@ -1,0 +1,27 @@
+use Rattle.std.proofs.Common.{[], ◌∷◌}
+use Rattle.std.specs.Prelude.{IsSome}
+use Rattle.det_edges.proofs.Opening.{asks-all, asks-then-kept, opens-left}
+use Rattle.cli_answers.specs.Outcome.{told}
+use Rattle.cli_answers.proofs.Meeting.{meets-read-fault}
+use Rattle.cli_answers.proofs.Telling.{held}
+use Rattle.cmd_record.proofs.Meeting.{rose-later}
+use Rattle.cmd_record.proofs.Recorded.{met-by-kind, kept-by-kind}
+use Rattle.cmd_record.proofs.over_stimulus.record_named.Goals as goal
+
+pub returns-in_default-clause-meets : goal.returns-in_default-clause-meets
+returns-in_default-clause-meets g c = meets-read-fault _ _ _ _ _ c.in_default.ensures.cause
+
+pub returns-clause-meets : goal.returns-clause-meets
+returns-clause-meets g c =
+    let first = g.S.Slots.sees c.args.shelf.now in
+    let name = c.args.stimulus.now in
+    let opened = c.in-Ok.ensures in
+    let recorded = c.record_by_crew-recorded.ensures in
+    met-by-kind c.args.run.kind c.args.run.profile (told first name) _ _ _ _ _ (IsSome (first.holds name)) _ _ _
+    (λ t. opens-left (told first name) opened.opens (held (first.holds name) t)) c.answer_of.ensures.is
+    (rose-later _ _ _ opened.counted) recorded.shelf_traffic recorded.sink_traffic recorded.recorded
+
+pub returns-clause-asked : goal.returns-clause-asked
+returns-clause-asked g c =
+    asks-all _ _ (c.args.stimulus.now ∷ []) (asks-then-kept c.in-Ok.ensures.asked
+    (kept-by-kind c.args.run.kind c.args.run.profile _ _ _ _ _ _ c.record_by_crew-recorded.ensures.recorded))

@@ -1,0 +1,54 @@
+-- A replay from a name meets the outcome of the bytes under it.
+use Rattle.std.proofs.Common.{◌≡◌, ℕ, List, [], ◌∷◌, ◌++◌, sym, ap, ◌∙◌, arith}
+use Rattle.std.specs.Prelude.{Ok, Err, Some, IsSome}
+use Rattle.det_edges.specs.Shelf.{ShelfState}
+use Rattle.det_edges.specs.Traffic.{IfRefused}
+use Rattle.det_edges.specs.declared.failure.Stopped.{Stopped}
+use Rattle.det_edges.specs.declared.failure.Stopped.TheVariants.{Refused, Failed}
+use Rattle.record_reader.specs.StandsFor.{slot_of}
+use Rattle.cli_answers.specs.declared.answer.Answer.{Answer}
+use Rattle.cli_answers.specs.Outcome.{Outcome, Meets, Tells, told}
+use Rattle.recorded_run.specs.declared.bad_run.BadRun.{BadRun}
+use Rattle.recorded_run.specs.declared.run.RecordedRun.{RecordedRun}
+use Rattle.recorded_run.specs.Run.{run_of}
+use Rattle.recorded_run.specs.Begun.{HasBegun}
+use Rattle.recorded_run.proofs.Resting.{rest, rest-told}
+use Rattle.cmd_replay.specs.Replay.{replay_outcome, replayed, replayed_by}
+
+-- a run meets any outcome that is the same where the names are told
+meets-as : (wanted other : Outcome) (tells tells2 rose rose2 failed : Type 0) (before after : List ℕ → Type 0) (answer : Answer)
+    → (tells2 → tells) → (tells2 → other ≡ wanted) → (rose → rose2)
+    → Meets wanted tells rose failed before after answer → Meets other tells2 rose2 failed before after answer
+meets-as wanted other tells tells2 rose rose2 failed before after answer t same r m = record {
+  part = λ x. rw (same x) (m.part (t x));
+  whole = λ x. rw (same x) (m.whole (t x));
+  read_fault = λ e. r (m.read_fault e);
+  write_fault = λ e. m.write_fault e;
+}
+
+pub tells-name : (shelf : ShelfState) (name : List ℕ) → Tells shelf (name ∷ []) → IsSome (shelf.holds name)
+tells-name shelf name t = t 0 name (omega arith)
+
+module _ {first mid : ShelfState} {name : List ℕ} {run : RecordedRun} (begun : HasBegun first mid name run)
+    (is : IsSome (first.holds name) → run_of (told first name) ≡ Ok (record { kind = run.kind; profile = run.profile })) where
+  outcome-is : IsSome (first.holds name) → replay_outcome (told first name) ≡ replayed run.kind run.profile (begun.read ++ rest begun)
+  outcome-is tells =
+      ap (replayed_by (told first name)) (is tells)
+      ∙ ap (replayed run.kind run.profile) (sym (rest-told begun tells).1)
+
+  -- what the rest of the record gives is what the whole record does
+  pub meets-told : (rose rose2 failed : Type 0) (before after : List ℕ → Type 0) (answer : Answer) → (rose → rose2)
+      → Meets (replayed run.kind run.profile (begun.read ++ rest begun)) (mid.left (slot_of run.reader) ≡ Some (rest begun)) rose failed
+      before after answer
+      → Meets (replay_outcome (told first name)) (Tells first (name ∷ [])) rose2 failed before after answer
+  meets-told rose rose2 failed before after answer later met =
+      meets-as (replayed run.kind run.profile (begun.read ++ rest begun)) (replay_outcome (told first name))
+      (mid.left (slot_of run.reader) ≡ Some (rest begun)) (Tells first (name ∷ [])) rose rose2 failed before after answer
+      (λ t. (rest-told begun (tells-name first name t)).0) (λ t. outcome-is (tells-name first name t)) later met
+
+-- why there is no run, where the name is told
+pub if-refused : (first : ShelfState) (name : List ℕ) (end : Stopped BadRun)
+    → IfRefused end (λ why. IsSome (first.holds name) → run_of (told first name) ≡ Err why)
+    → IfRefused end (λ why. Tells first (name ∷ []) → run_of (told first name) ≡ Err why)
+if-refused first name (Refused why) bad = λ t. bad (tells-name first name t)
+if-refused first name (Failed failure) bad = bad

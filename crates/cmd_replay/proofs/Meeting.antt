@@ -1,0 +1,108 @@
+-- A record that was run again meets the outcome of its bytes.
+use Rattle.std.proofs.Common.{◌≡◌, ℕ, List, [], ◌∷◌, ◌++◌, refl, sym, ap, inr}
+use Rattle.std.specs.Prelude.{Option, Some, Result, Ok, Err, IfSome}
+use Rattle.det_values.specs.Values.{ProfileValue}
+use Rattle.det_values.specs.declared.job_kind.JobKind.{JobKind}
+use Rattle.det_edges.specs.Count.{Rose}
+use Rattle.det_edges.specs.Sink.{GrewByPrefix}
+use Rattle.det_edges.specs.Traffic.{ShelfRun, SinkRun, ShelfTraffic, SinkTraffic, failure_in}
+use Rattle.det_edges.specs.declared.failure.Failure.TheVariants.{Read, Write, OutOfMemory}
+use Rattle.det_edges.specs.declared.failure.Stopped.{Stopped}
+use Rattle.det_edges.specs.declared.failure.Stopped.TheVariants.{Refused, Failed}
+use Rattle.job_trait.specs.Meaning.{Meaning}
+use Rattle.shipped_jobs.specs.Kinds.{of_kind}
+use Rattle.shipped_jobs.proofs.ByKinds.{by_kind-then, of_kind-gives}
+use Rattle.record_grammar.specs.declared.fault.RecordFault.{RecordFault}
+use Rattle.record_grammar.specs.declared.item.Item.TheVariants.{Header}
+use Rattle.record_reader.specs.declared.reader.RecordReader.{RecordReader}
+use Rattle.record_reader.specs.StandsFor.{StandsFor, slot_of}
+use Rattle.run_writer.specs.declared.counts.Counts.{Counts}
+use Rattle.replayer.specs.Again.{again}
+use Rattle.replayer.specs.Ends.{Finishes, Stops}
+use Rattle.replayer.specs.Replayed.{IsReplayed}
+use Rattle.cli_answers.specs.declared.answer.Answer.{Answer}
+use Rattle.cli_answers.specs.Outcome.{Meets}
+use Rattle.cli_answers.proofs.Meeting.{meets-read-fault-part, meets-write-fault, meets-no-memory-part}
+use Rattle.cli_answers.specs.Answers.{by_fault}
+use Rattle.cmd_replay.specs.Replay.{replayed_with, replayed, answer_of}
+use Rattle.cmd_replay.specs.Visited.{HasReplayed}
+
+at-told : (left : Option (List ℕ)) (rest : List ℕ) (P : List ℕ → Type 0) → left ≡ Some rest → IfSome left P → P rest
+at-told left rest P e p = rw e at p
+
+module _ {S G E L P : Type 0} (m : Meaning S G E L P) (profile : ProfileValue) (read rest : List ℕ) (slot : ℕ) (shelf : ShelfRun)
+    (out : SinkRun) where
+  abbrev tells : Type 0
+  tells = shelf.first.left slot ≡ Some rest
+
+  abbrev rose : Type 0
+  rose = Rose shelf.first.faults shelf.last.faults
+
+  abbrev failed : Type 0
+  failed = Rose out.faults_before out.faults_after
+
+  part : (result : Result Counts (Stopped RecordFault)) → IsReplayed m profile read slot shelf out result → tells
+      → GrewByPrefix out.before out.after (again m profile (read ++ rest))
+  part result r told =
+      let Part : List ℕ → Type 0 = λ more. GrewByPrefix out.before out.after (again m profile (read ++ more)) in
+      at-told (shelf.first.left slot) rest Part told r.part
+
+  finished : (counts : Counts) → IsReplayed m profile read slot shelf out (Ok counts) → tells
+      → Finishes m profile (read ++ rest) counts out
+  finished counts r told =
+      let P : List ℕ → Type 0 = λ more. Finishes m profile (read ++ more) counts out in
+      at-told (shelf.first.left slot) rest P told r.ok
+
+  stopped : (fault : RecordFault) → IsReplayed m profile read slot shelf out (Err (Refused fault)) → tells
+      → Stops m profile (read ++ rest) fault out
+  stopped fault r told =
+      let Is : RecordFault → Type 0 = λ other. ◌≡◌ {A = Result Counts (Stopped RecordFault)} (Err (Refused fault)) (Err (Refused other)) in
+      let P : List ℕ → Type 0 = λ more. (other : RecordFault) → Is other → Stops m profile (read ++ more) other out in
+      at-told (shelf.first.left slot) rest P told r.refused fault refl
+
+  -- by its end
+  met-replayed : (result : Result Counts (Stopped RecordFault)) → IsReplayed m profile read slot shelf out result
+      → ShelfTraffic shelf (failure_in result) → SinkTraffic out (failure_in result)
+      → Meets (replayed_with m profile (read ++ rest)) tells rose failed out.before out.after (answer_of result)
+  met-replayed (Ok counts) r reads writes = record {
+    part = part (Ok counts) r;
+    whole = λ t. inr (inr (inr (ap by_fault (sym (finished counts r t).whole), (finished counts r t).grew)));
+    read_fault = λ e. cc;
+    write_fault = λ e. cc;
+  }
+  met-replayed (Err (Refused fault)) r reads writes = record {
+    part = part (Err (Refused fault)) r;
+    whole = λ t. inr (inr (inr (ap by_fault (sym (stopped fault r t).has), (stopped fault r t).grew)));
+    read_fault = λ e. cc;
+    write_fault = λ e. cc;
+  }
+  met-replayed (Err (Failed Read)) r reads writes =
+      meets-read-fault-part (replayed_with m profile (read ++ rest)) tells rose failed out.before out.after
+      (part (Err (Failed Read)) r) (reads.cause refl)
+  met-replayed (Err (Failed Write)) r reads writes =
+      meets-write-fault (replayed_with m profile (read ++ rest)) tells rose failed out.before out.after
+      (part (Err (Failed Write)) r) (writes.cause refl)
+  met-replayed (Err (Failed OutOfMemory)) r reads writes =
+      meets-no-memory-part (replayed_with m profile (read ++ rest)) tells rose failed out.before out.after
+      (part (Err (Failed OutOfMemory)) r)
+
+module _ (kind : JobKind) (profile : ProfileValue) (reader : RecordReader) (read : List ℕ) (shelf : ShelfRun) (out : SinkRun)
+    (result : Result Counts (Stopped RecordFault)) (stands : StandsFor reader read (Header profile ∷ []))
+    (visited : of_kind (λ S G E L P m. HasReplayed m profile reader shelf out result) kind) where
+  -- with the job of a kind it meets the outcome of that kind
+  pub met-by-kind : (rest : List ℕ) (answer : Answer) → answer ≡ answer_of result
+      → Meets (replayed kind profile (read ++ rest)) (shelf.first.left (slot_of reader) ≡ Some rest)
+      (Rose shelf.first.faults shelf.last.faults) (Rose out.faults_before out.faults_after) out.before out.after answer
+  met-by-kind rest answer is =
+      rw is (by_kind-then (λ S G E L P m. replayed_with m profile (read ++ rest))
+      (λ S G E L P m. HasReplayed m profile reader shelf out result)
+      (λ wanted. Meets wanted (shelf.first.left (slot_of reader) ≡ Some rest) (Rose shelf.first.faults shelf.last.faults)
+      (Rose out.faults_before out.faults_after) out.before out.after (answer_of result))
+      (λ S G E L P m r. met-replayed m profile read rest (slot_of reader) shelf out result (r.replayed read stands) r.shelf_traffic
+      r.sink_traffic) kind visited)
+
+  -- all that it read was of its slot
+  pub kept-by-kind : shelf.last.asked ≡ shelf.first.asked
+  kept-by-kind =
+      of_kind-gives (λ S G E L P m. HasReplayed m profile reader shelf out result) (shelf.last.asked ≡ shelf.first.asked)
+      (λ S G E L P m r. (r.replayed read stands).run.1.answers.reads.asked) kind visited

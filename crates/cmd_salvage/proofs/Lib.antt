@@ -1,0 +1,3 @@
+mod Watched
+mod Ending
+mod Meeting

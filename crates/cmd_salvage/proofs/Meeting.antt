@@ -1,0 +1,145 @@
+-- How salvaging meets its outcome, by its end.
+use Rattle.std.proofs.Common.{◌≡◌, ◌≢◌, ℕ, List, [], Option, Some, None, Result, Ok, Err, inl, inr, refl, sym, ap, subst, ◌∙◌}
+use Rattle.std.specs.Prelude.{IfSome, OnOk}
+use Rattle.det_edges.specs.declared.failure.Failure.TheVariants.{Read, Write, OutOfMemory}
+use Rattle.det_edges.specs.declared.failure.Stopped.{Stopped}
+use Rattle.det_edges.specs.declared.failure.Stopped.TheVariants.{Refused, Failed}
+use Rattle.det_edges.specs.Count.{Rose}
+use Rattle.det_edges.specs.Prefix.{IsPrefix}
+use Rattle.det_edges.specs.Traffic.{ShelfRun, SinkRun, ShelfTraffic, SinkTraffic, failure_in}
+use Rattle.det_edges.proofs.Growth.{part-whole}
+use Rattle.det_edges.proofs.Prefixes.{prefix-same, proper-prefix}
+use Rattle.record_grammar.specs.declared.fault.RecordFault.{RecordFault}
+use Rattle.record_grammar.specs.Record.{fault as fault_in}
+use Rattle.record_reader.specs.declared.salvage.Salvaged.{Salvaged}
+use Rattle.record_reader.specs.Salvaged.{salvaged}
+use Rattle.record_reader.specs.Salvages.{Answers, IsFront, IsCut}
+use Rattle.record_reader.specs.Taking.{OfSlot}
+use Rattle.record_reader.proofs.Taking.{told, of-slot}
+use Rattle.probes.specs.Reports.{AudienceState}
+use Rattle.cli_answers.specs.declared.answer.Answer.{Answer}
+use Rattle.cli_answers.specs.declared.answer.Answer.TheVariants as answers
+use Rattle.cli_answers.specs.Outcome.{Outcome, Meets}
+use Rattle.cmd_salvage.specs.Salvage.{outcome_by, salvage_outcome, answer_of}
+use Rattle.cmd_salvage.specs.Ended.{Gives, SawFirst, Sees}
+
+-- ---- the salvaged record
+
+module _ (bytes : List ℕ) (out : SinkRun) where
+  front-of : (front : List ℕ) (saved : Option (List ℕ)) (end : Option RecordFault) → IsFront front saved
+      → IsPrefix front (outcome_by saved end).bytes
+  front-of front (Some all) end h = h
+  front-of front None (Some f) h = subst (IsPrefix front) h (prefix-same front)
+  front-of front None None h = subst (IsPrefix front) h (prefix-same front)
+
+  cut-of : (front : List ℕ) (saved : Option (List ℕ)) (end : Option RecordFault) → IsCut front saved
+      → IsPrefix front (outcome_by saved end).bytes
+  cut-of front (Some all) end h = proper-prefix front all h
+  cut-of front None end h = absurd h
+
+  gives : (result : Result Salvaged (Stopped RecordFault)) (wanted : Outcome) → salvage_outcome bytes ≡ wanted → Gives result wanted out
+      → Gives result (salvage_outcome bytes) out
+  gives result wanted is h = subst (λ (o : Outcome). Gives result o out) (sym is) h
+
+  saved-gives : (result : Result Salvaged (Stopped RecordFault)) → Answers result bytes out → Gives result (salvage_outcome bytes) out
+  saved-gives (Ok counts) h =
+      gives (Ok counts) (outcome_by (Some h.bytes) (fault_in bytes))
+      (ap (λ (saved : Option (List ℕ)). outcome_by saved (fault_in bytes)) h.is)
+      (refl, h.grew)
+  saved-gives (Err (Refused f)) h =
+      gives (Err (Refused f)) (outcome_by None (Some f))
+      (ap (λ (saved : Option (List ℕ)). outcome_by saved (fault_in bytes)) h.is ∙ ap (outcome_by None) h.fault) (refl, h.grew)
+  saved-gives (Err (Failed Read)) h = (h.front, front-of h.front (salvaged bytes) (fault_in bytes) h.within, h.grew)
+  saved-gives (Err (Failed Write)) h = (h.front, cut-of h.front (salvaged bytes) (fault_in bytes) h.within, h.grew)
+  saved-gives (Err (Failed OutOfMemory)) h = (h.front, front-of h.front (salvaged bytes) (fault_in bytes) h.within, h.grew)
+
+pub slot-gives : (result : Result Salvaged (Stopped RecordFault)) (out : SinkRun) {read : List ℕ} {shelf : ShelfRun} {slot : ℕ}
+    → OfSlot shelf slot read (λ bytes. Answers result bytes out)
+    → OfSlot shelf slot read (λ bytes. Gives result (salvage_outcome bytes) out)
+slot-gives result out h =
+    of-slot (λ bytes. Answers result bytes out) (λ bytes. Gives result (salvage_outcome bytes) out)
+    (λ bytes a. saved-gives bytes out result a) h
+
+-- ---- the outcome is met
+
+module _ {T : Type 0} (wanted : Outcome) (tells : Type 0) (shelf : ShelfRun) (out : SinkRun) where
+  gives-meets : (result : Result T (Stopped RecordFault)) → (tells → Gives result wanted out)
+      → ShelfTraffic shelf (failure_in result) → SinkTraffic out (failure_in result)
+      → Meets wanted tells (Rose shelf.first.faults shelf.last.faults) (Rose out.faults_before out.faults_after) out.before out.after
+      (answer_of result)
+  gives-meets (Ok value) g r w = record {
+    part = λ t. part-whole out.before out.after wanted.bytes (g t).1;
+    whole = λ t. inr (inr (inr (sym (g t).0, (g t).1)));
+    read_fault = λ e. cc;
+    write_fault = λ e. cc;
+  }
+  gives-meets (Err (Refused f)) g r w = record {
+    part = λ t. part-whole out.before out.after wanted.bytes (g t).1;
+    whole = λ t. inr (inr (inr (sym (g t).0, (g t).1)));
+    read_fault = λ e. cc;
+    write_fault = λ e. cc;
+  }
+  gives-meets (Err (Failed Read)) g r w = record {
+    part = g;
+    whole = λ t. inl refl;
+    read_fault = λ e. r.cause refl;
+    write_fault = λ e. cc;
+  }
+  gives-meets (Err (Failed Write)) g r w = record {
+    part = g;
+    whole = λ t. inr (inl refl);
+    read_fault = λ e. cc;
+    write_fault = λ e. w.cause refl;
+  }
+  gives-meets (Err (Failed OutOfMemory)) g r w = record {
+    part = g;
+    whole = λ t. inr (inr (inl refl));
+    read_fault = λ e. cc;
+    write_fault = λ e. cc;
+  }
+
+told-at : (left : Option (List ℕ)) (bytes : List ℕ) (P : List ℕ → Type 0) → left ≡ Some bytes → IfSome left P → P bytes
+told-at left bytes P e p = rw e at p
+
+-- what the slot had left, where that is told
+pub meets-left : {T : Type 0} (result : Result T (Stopped RecordFault)) (answer : Answer) (wanted : List ℕ → Outcome) (read : List ℕ)
+    (shelf : ShelfRun) (slot here : ℕ) (out : SinkRun) → answer ≡ answer_of result → slot ≡ here
+    → OfSlot shelf slot read (λ bytes. Gives result (wanted bytes) out) → (bytes : List ℕ)
+    → ShelfTraffic shelf (failure_in result) → SinkTraffic out (failure_in result)
+    → Meets (wanted bytes) (shelf.first.left here ≡ Some bytes) (Rose shelf.first.faults shelf.last.faults)
+    (Rose out.faults_before out.faults_after) out.before out.after answer
+meets-left result answer wanted read shelf slot here out is same given bytes r w =
+    rw is
+    (gives-meets (wanted bytes) (shelf.first.left here ≡ Some bytes) shelf out result
+    (λ t. told-at (shelf.first.left slot) bytes (λ b. Gives result (wanted b) out) (ap shelf.first.left same ∙ t)
+    (told (λ b. Gives result (wanted b) out) given)) r w)
+
+sees-by : (result : Result (Unit {0}) (Stopped RecordFault)) (old now : AudienceState) (bytes : List ℕ)
+    → answer_of result ≢ answers.OutOfMemory → Sees result old now bytes → SawFirst old now bytes
+sees-by (Ok u) old now bytes ne h = h
+sees-by (Err (Refused f)) old now bytes ne h = h
+sees-by (Err (Failed Read)) old now bytes ne h = h
+sees-by (Err (Failed Write)) old now bytes ne h = h
+sees-by (Err (Failed OutOfMemory)) old now bytes ne h = absurd (ne refl)
+
+pub saw-left : (result : Result (Unit {0}) (Stopped RecordFault)) (answer : Answer) (old now : AudienceState) (read : List ℕ)
+    (shelf : ShelfRun) (slot here : ℕ) → answer ≡ answer_of result → slot ≡ here
+    → OfSlot shelf slot read (λ bytes. Sees result old now bytes)
+    → (bytes : List ℕ) → answer ≢ answers.OutOfMemory → shelf.first.left here ≡ Some bytes → SawFirst old now bytes
+saw-left result answer old now read shelf slot here is same given bytes ne t =
+    sees-by result old now bytes (λ e. ne (is ∙ e))
+    (told-at (shelf.first.left slot) bytes (λ b. Sees result old now b) (ap shelf.first.left same ∙ t)
+    (told (λ b. Sees result old now b) given))
+
+-- where the command is done the salvaging was
+pub at-done : (result : Result (Unit {0}) (Stopped RecordFault)) (answer : Answer) {P : Type 0} → answer ≡ answer_of result → OnOk result P
+    → answer ≡ answers.Done → P
+at-done (Ok u) answer is p done = p
+at-done (Err (Refused f)) answer is p done = absurd (cc)
+at-done (Err (Failed Read)) answer is p done = absurd (cc)
+at-done (Err (Failed Write)) answer is p done = absurd (cc)
+at-done (Err (Failed OutOfMemory)) answer is p done = absurd (cc)
+
+-- where nothing was read the audience has seen nothing
+pub saw-unread : (audience : AudienceState) (bytes : List ℕ) → SawFirst audience audience bytes
+saw-unread audience bytes = record { seen = []; first = (_, refl); saw = refl }

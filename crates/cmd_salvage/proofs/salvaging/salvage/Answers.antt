@@ -1,0 +1,24 @@
+use Rattle.std.proofs.Common.{arith, rules}
+use Rattle.det_edges.proofs.Opening.{asks-all, asks-then-kept, opens-left}
+use Rattle.det_edges.proofs.Counts.{rose-before}
+use Rattle.cli_answers.specs.Outcome.{told}
+use Rattle.cli_answers.proofs.Meeting.{meets-read-fault, meets-under}
+use Rattle.cli_answers.proofs.Telling.{held}
+use Rattle.cmd_salvage.proofs.salvaging.salvage.Goals as goal
+
+pub returns-in_default-clause-meets : goal.returns-in_default-clause-meets
+returns-in_default-clause-meets g c = meets-read-fault _ _ _ _ _ (search rules)
+
+pub returns-in_default-clause-asked : goal.returns-in_default-clause-asked
+returns-in_default-clause-asked g c = asks-all _ _ _ c.in_default.ensures.asked
+
+pub returns-clause-meets : goal.returns-clause-meets
+returns-clause-meets g c =
+    let first = g.S.Slots.sees c.args.shelf.now in
+    let name = c.args.recorded.now in
+    let text = told first name in
+    meets-under _ _ _ _ _ _ _ _ _ _ (λ t. opens-left text c.in-Ok.ensures.opens (held (first.holds name) (t 0 name (omega arith))))
+    (λ r. rose-before _ _ _ c.in-Ok.ensures.counted r) (λ o. o) (c.salvage_slot.ensures.meets text)
+
+pub returns-clause-asked : goal.returns-clause-asked
+returns-clause-asked g c = asks-all _ _ _ (asks-then-kept c.in-Ok.ensures.asked c.salvage_slot.ensures.asked)

@@ -1,0 +1,17 @@
+use Rattle.det_edges.specs.Traffic.{shelf_run, sink_run}
+use Rattle.record_reader.specs.StandsFor.{slot_of}
+use Rattle.cmd_salvage.specs.Salvage.{salvage_outcome}
+use Rattle.cmd_salvage.proofs.Meeting.{slot-gives, meets-left}
+use Rattle.cmd_salvage.proofs.salvaging.salvage_slot.Goals as goal
+
+pub returns-clause-meets : goal.returns-clause-meets
+returns-clause-meets g c bytes =
+    let s = c.salvage_run-saved in
+    let out = sink_run g.K.Sink.took g.K.Sink.faults c.args.out.now s.new.sink in
+    meets-left s.result c.answer_of.result salvage_outcome s.ensures.run.0
+    (shelf_run g.S.Slots.sees g.S.Slots.stays c.args.shelf.now s.new.shelf) (slot_of c.at-reader.result) c.args.slot
+    out c.answer_of.ensures.is c.at-reader.ensures.slot
+    (slot-gives s.result out s.ensures.run.1.answers) bytes s.ensures.shelf_traffic s.ensures.sink_traffic
+
+pub returns-clause-asked : goal.returns-clause-asked
+returns-clause-asked g c = c.salvage_run-saved.ensures.run.1.answers.reads.asked

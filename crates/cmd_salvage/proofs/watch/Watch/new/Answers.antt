@@ -1,0 +1,5 @@
+use Rattle.cmd_salvage.proofs.Watched.{watched-none}
+use Rattle.cmd_salvage.proofs.watch.Watch.new.Goals as goal
+
+pub returns : goal.returns
+returns c audience = watched-none audience

@@ -1,0 +1,367 @@
+-- Copies that are read one after another.
+use Rattle.std.proofs.Common.{◌≡◌, ◌≢◌, inl, inr, ◌<◌, ◌+◌, ℕ, List, [], ◌∷◌}
+use Rattle.std.proofs.Common.{◌++◌, map, length, get_or, set, Option, Some, None, Result, Ok, Err}
+use Rattle.std.proofs.Common.{refl, sym, ap, subst, ◌∙◌, append_assoc, length-append, zero, suc, arith}
+use Rattle.std.specs.Prelude.{IfSome}
+use Rattle.std.specs.Option.{option_map, option_or}
+use Rattle.std.specs.List.{AllByRecursion}
+use Rattle.det_edges.specs.declared.failure.Failure.{Failure}
+use Rattle.det_edges.specs.declared.failure.Failure.TheVariants.{Read, Write, OutOfMemory}
+use Rattle.det_edges.specs.declared.failure.Stopped.{Stopped}
+use Rattle.det_edges.specs.declared.failure.Stopped.TheVariants.{Refused, Failed}
+use Rattle.det_edges.specs.Prefix.{IsPrefix}
+use Rattle.det_edges.specs.Shelf.{ShelfState, Reads, Gave, IsAtEnd}
+use Rattle.det_edges.specs.Traffic.{failure_in, failure_of}
+use Rattle.det_edges.proofs.SlotReads.{gave-none, gave-reads, gave-told, reads-kept, kept-same, kept-then}
+use Rattle.record_grammar.specs.declared.item.Item.{Item}
+use Rattle.record_grammar.specs.Record.{items}
+use Rattle.record_reader.specs.declared.reader.RecordReader.{RecordReader}
+use Rattle.record_reader.specs.StandsFor.{StandsFor, HasRead, slot_of}
+use Rattle.record_reader.proofs.Items.{more_items}
+use Rattle.lockstep.specs.declared.row.Row.{Row}
+use Rattle.lockstep.specs.declared.row.Row.TheVariants as rows
+use Rattle.lockstep.specs.declared.verdict.BadCopy.{BadCopy}
+use Rattle.lockstep.specs.declared.verdict.Verdict.{Verdict}
+use Rattle.lockstep.specs.declared.verdict.Verdict.TheVariants.{Differ}
+use Rattle.lockstep.specs.Rows.{row_at, RowIs, RowShown, ShowsRow, Fell}
+use Rattle.lockstep.specs.Verdict.{row_difference, first_bad, first_other}
+use Rattle.lockstep.specs.Compared.{AreDifferent, AreLeft, ReadsAmong}
+use Rattle.lockstep.specs.Copies.{IsBehind, AreBehind, HasRow, HaveRows}
+use Rattle.lockstep.specs.Copies.{row_of, copy_answer, FellIf, CopyRow, FindsBad, OthersRead}
+
+-- ---- slots that are read
+
+pub among-one : {before after : ShelfState} {slot : ℕ} {bytes : List ℕ} → Reads before after slot bytes
+    → ReadsAmong before after (slot ∷ [])
+among-one p = record { kept = reads-kept p; others = λ k ne. p.others k ne.0 }
+
+pub among-none : (state : ShelfState) → ReadsAmong state state []
+among-none state = record { kept = kept-same state; others = λ k ne. refl }
+
+pub among-wider : {before after : ShelfState} (slot : ℕ) (slots : List ℕ) → ReadsAmong before after (slot ∷ [])
+    → ReadsAmong before after (slot ∷ slots)
+among-wider slot slots p = record { kept = p.kept; others = λ k ne. p.others k (ne.0, tt) }
+
+pub among-then : {before mid after : ShelfState} (slot : ℕ) (slots : List ℕ) → ReadsAmong before mid (slot ∷ [])
+    → ReadsAmong mid after slots → ReadsAmong before after (slot ∷ slots)
+among-then slot slots p q = record { kept = kept-then p.kept q.kept; others = λ k ne. q.others k ne.1 ∙ p.others k (ne.0, tt) }
+
+pub among-again : {before mid after : ShelfState} {slots : List ℕ} → ReadsAmong before mid slots → ReadsAmong mid after slots
+    → ReadsAmong before after slots
+among-again p q = record { kept = kept-then p.kept q.kept; others = λ k ne. q.others k ne ∙ p.others k ne }
+
+-- ---- what other reads leave
+
+gave-later : {first mid now : ShelfState} {slot : ℕ} {bytes : List ℕ} → Gave first mid slot bytes → now.left slot ≡ mid.left slot
+    → Gave first now slot bytes
+gave-later {bytes = bytes} p same = record { left = p.left ∙ ap (option_map (λ rest. bytes ++ rest)) (sym same) }
+
+behind-later : {first mid now : ShelfState} {given : List Item} {slot : ℕ} {reader : RecordReader} → IsBehind first mid given slot reader
+    → now.left slot ≡ mid.left slot → IsBehind first now given slot reader
+behind-later h same = record { read = h.read; at = h.at; gave = gave-later h.gave same; stands = h.stands }
+
+pub row-later : {first mid now : ShelfState} {given : List Item} {slot : ℕ} {reader : RecordReader} {row : Row}
+    → HasRow first mid given slot reader row → now.left slot ≡ mid.left slot → HasRow first now given slot reader row
+row-later {given = given} {reader = reader} {row = row} h same = record {
+  read = h.read;
+  at = h.at;
+  gave = gave-later h.gave same;
+  shown = subst (λ (left : Option (List ℕ)). RowShown row reader (IfSome left (λ rest. rest ≡ [])) h.read given) (sym same) h.shown;
+}
+
+pub all-later : (first : ShelfState) {mid now : ShelfState} (given : List Item) (slot : ℕ) (slots : List ℕ) (readers : List RecordReader)
+    → AllByRecursion (λ other. slot ≢ other) slots → ReadsAmong mid now (slot ∷ []) → AreBehind first mid given slots readers
+    → AreBehind first now given slots readers
+all-later first given slot [] [] ne p h = tt
+all-later first given slot [] (r ∷ readers) ne p h = absurd h
+all-later first given slot (other ∷ slots) [] ne p h = absurd h
+all-later first given slot (other ∷ slots) (r ∷ readers) ne p h =
+    (behind-later h.0 (p.others other (λ e. ne.0 (sym e), tt)), all-later first given slot slots readers ne.1 p h.1)
+
+-- ---- what is told of the copies
+
+pub behind-told : {first now : ShelfState} {given : List Item} {slot : ℕ} {reader : RecordReader} (copy : List ℕ)
+    → IsBehind first now given slot reader → first.left slot ≡ Some copy → IsPrefix given (items copy)
+behind-told {given = given} {reader = reader} copy h told =
+    let all = gave-told copy h.gave told in
+    let more = more_items reader h.read given h.stands all.0 in (more.0, sym more.1 ∙ ap items all.2)
+
+pub row-told : {first now : ShelfState} {given : List Item} {slot : ℕ} {reader : RecordReader} {row : Row} (copy : List ℕ)
+    → HasRow first now given slot reader row → first.left slot ≡ Some copy → ShowsRow given row copy
+row-told {now = now} {given = given} {slot = slot} {row = row} copy h told =
+    let all = gave-told copy h.gave told in
+    subst (ShowsRow given row) all.2
+    (h.shown.shows all.0 (λ end. subst (λ (left : Option (List ℕ)). IfSome left (λ rest. rest ≡ [])) all.1 end))
+
+pub rows-told : (first now : ShelfState) (given : List Item) (slots : List ℕ) (readers : List RecordReader) (more : List Row)
+    (copies : List (List ℕ)) → HaveRows first now given slots readers more → AreLeft first slots copies
+    → map (row_at (length given)) copies ≡ more
+rows-told first now given [] [] [] [] h l = refl
+rows-told first now given (s ∷ slots) (r ∷ readers) (row ∷ more) (c ∷ copies) h l =
+    ap (λ x. x ∷ map (row_at (length given)) copies) (row-told c h.0 l.0).is
+    ∙ ap (λ xs. row ∷ xs) (rows-told first now given slots readers more copies h.1 l.1)
+rows-told first now given [] [] [] (c ∷ copies) h l = absurd l
+rows-told first now given (s ∷ slots) (r ∷ readers) (row ∷ more) [] h l = absurd l
+rows-told first now given slots readers more copies h l = absurd h
+
+-- ---- one copy
+
+pub copy-row : {first mid now : ShelfState} {given : List Item} {slot : ℕ} {reader : RecordReader} (next : RecordReader) (copy : ℕ)
+    (answer : Result Row Failure) → slot_of next ≡ slot_of reader
+    → HasRead mid now reader (RowIs answer next (IsAtEnd now (slot_of reader)))
+    → IsBehind first mid given slot reader → CopyRow (copy_answer copy answer) copy first now given slot next
+copy-row {first} {mid} {now} {given} {slot} {reader} next copy answer at read h = by answer read
+  where
+    shown : (row : Row) → HasRead mid now reader (RowIs (Ok row) next (IsAtEnd now (slot_of reader)))
+        → HasRow first now given slot next row
+    shown row p = record {
+      read = h.read ++ p.0;
+      at = at ∙ h.at;
+      gave = gave-reads h.gave (subst (λ (k : ℕ). Reads mid now k p.0) h.at p.1);
+      shown = subst (λ (k : ℕ). RowShown row next (IsAtEnd now k) (h.read ++ p.0) given) h.at (p.2 h.read given h.stands);
+    }
+
+    by : (answer : Result Row Failure) → HasRead mid now reader (RowIs answer next (IsAtEnd now (slot_of reader)))
+        → CopyRow (copy_answer copy answer) copy first now given slot next
+    by (Ok (rows.Item item)) p = shown (rows.Item item) p
+    by (Ok rows.Whole) p = shown rows.Whole p
+    by (Ok (rows.Fault found)) p = (refl, shown (rows.Fault found) p)
+    by (Err Read) p = λ e. cc
+    by (Err Write) p = absurd (p.2 h.read given h.stands)
+    by (Err OutOfMemory) p = λ e. cc
+
+pub copy-fell : (copy : ℕ) (answer : Result Row Failure) (old new : ℕ) → Fell answer old new → FellIf (copy_answer copy answer) old new
+copy-fell copy (Ok (rows.Item item)) old new h = h
+copy-fell copy (Ok rows.Whole) old new h = tt
+copy-fell copy (Ok (rows.Fault found)) old new h = tt
+copy-fell copy (Err failure) old new h = tt
+
+pub copy-failure : (copy : ℕ) (answer : Result Row Failure) → failure_of answer ≡ failure_in (copy_answer copy answer)
+copy-failure copy (Ok (rows.Item item)) = refl
+copy-failure copy (Ok rows.Whole) = refl
+copy-failure copy (Ok (rows.Fault found)) = refl
+copy-failure copy (Err failure) = refl
+
+-- ---- rows that are held against another
+
+pub no-fault : (copy : ℕ) (item : Option Item) (more : List Row) → first_bad copy (row_of item ∷ more) ≡ first_bad (copy + 1) more
+no-fault copy (Some item) more = refl
+no-fault copy None more = refl
+
+-- a row without a fault is passed over
+passed-over : (copy : ℕ) (row : Row) (more : List Row) → first_bad copy (row ∷ more) ≡ None
+    → (first_bad (copy + 1) more ≡ None) × ((xs : List Row) → first_bad copy (row ∷ xs) ≡ first_bad (copy + 1) xs)
+passed-over copy (rows.Item item) more e = (e, λ xs. refl)
+passed-over copy rows.Whole more e = (e, λ xs. refl)
+passed-over copy (rows.Fault found) more e = absurd cc
+
+bad-next : (copy : ℕ) (more : List Row) (item : Option Item) → first_bad copy more ≡ None → first_bad copy (more ++ row_of item ∷ []) ≡ None
+bad-next copy [] item e = no-fault copy item []
+bad-next copy (row ∷ more) item e =
+    let p = passed-over copy row more e in p.1 (more ++ row_of item ∷ []) ∙ bad-next (copy + 1) more item p.0
+
+or-then : {A : Type 0} (a b c : Option A) → option_or a (option_or b c) ≡ option_or (option_or a b) c
+or-then (Some x) b c = refl
+or-then None b c = refl
+
+or-none : {A : Type 0} (a : Option A) → option_or a None ≡ a
+or-none (Some x) = refl
+or-none None = refl
+
+pub other-next : (n : ℕ) (row : Row) (base copy : ℕ) (more : List Row) (last : Row) → copy ≡ base + length more
+    → option_or (first_other n row base more) (option_map (Differ copy) (row_difference n row last))
+    ≡ first_other n row base (more ++ last ∷ [])
+other-next n row base copy [] last e =
+    let here : copy ≡ base = omega (arith, e) in
+    ap (λ k. option_map (Differ k) (row_difference n row last)) here ∙ sym (or-none (option_map (Differ base) (row_difference n row last)))
+other-next n row base copy (one ∷ more) last e =
+    let further : copy ≡ (base + 1) + length more = omega (arith, e) in
+    sym (or-then (option_map (Differ base) (row_difference n row one)) (first_other n row (base + 1) more)
+    (option_map (Differ copy) (row_difference n row last)))
+    ∙ ap (λ o. option_or (option_map (Differ base) (row_difference n row one)) o) (other-next n row (base + 1) copy more last further)
+
+-- ---- the others, one after another
+
+-- the first readers gave these rows, and the others are behind the items given
+abbrev pub HaveFirst : ShelfState → ShelfState → List Item → List ℕ → List RecordReader → List Row → Type 0
+HaveFirst first now given slots readers [] = AreBehind first now given slots readers
+HaveFirst first now given (slot ∷ slots) (reader ∷ readers) (row ∷ more) =
+    HasRow first now given slot reader row × HaveFirst first now given slots readers more
+HaveFirst first now given slots readers (row ∷ more) = ⊥
+
+-- the next reader's slot is among the slots
+slot-among : (P : ℕ → Type 0) (first now : ShelfState) (given : List Item) (slots : List ℕ) (readers : List RecordReader) (more : List Row)
+    (d : RecordReader) → HaveFirst first now given slots readers more → length more < length readers → AllByRecursion P slots
+    → P (slot_of (get_or readers (length more) d))
+slot-among P first now given slots [] [] d h less all = absurd (omega (arith, less))
+slot-among P first now given [] (r ∷ readers) [] d h less all = absurd h
+slot-among P first now given (s ∷ slots) (r ∷ readers) [] d h less all = subst P (sym h.0.at) all.0
+slot-among P first now given (s ∷ slots) (r ∷ readers) (row ∷ more) d h less all =
+    slot-among P first now given slots readers more d h.1 (omega (arith, less)) all.1
+slot-among P first now given [] readers (row ∷ more) d h less all = absurd h
+slot-among P first now given (s ∷ slots) [] (row ∷ more) d h less all = absurd h
+
+-- the next reader gave a row too
+pub first-next : (copy : ℕ) (first mid now : ShelfState) (given : List Item) (slots : List ℕ) (readers : List RecordReader)
+    (more : List Row) (d next : RecordReader) (item : Option Item) → HaveFirst first mid given slots readers more
+    → length more < length readers → AreDifferent slots
+    → ((slot : ℕ) → IsBehind first mid given slot (get_or readers (length more) d) → CopyRow (Ok item) copy first now given slot next)
+    → ReadsAmong mid now (slot_of (get_or readers (length more) d) ∷ [])
+    → HaveFirst first now given slots (set readers (length more) next) (more ++ row_of item ∷ [])
+first-next copy first mid now given slots [] [] d next item h less ne read among = absurd (omega (arith, less))
+first-next copy first mid now given [] (r ∷ readers) [] d next item h less ne read among = absurd h
+first-next copy first mid now given (s ∷ slots) (r ∷ readers) [] d next item h less ne read among =
+    (read s h.0, all-later first given s slots readers ne.0 (subst (λ (k : ℕ). ReadsAmong mid now (k ∷ [])) h.0.at among) h.1)
+first-next copy first mid now given (s ∷ slots) (r ∷ readers) (row ∷ more) d next item h less ne read among = (
+  row-later h.0 (among.others s (slot-among (λ k. s ≢ k) first mid given slots readers more d h.1 (omega (arith, less)) ne.0, tt)),
+  first-next copy first mid now given slots readers more d next item h.1 (omega (arith, less)) ne.1 read among,
+)
+first-next copy first mid now given [] readers (row ∷ more) d next item h less ne read among = absurd h
+first-next copy first mid now given (s ∷ slots) [] (row ∷ more) d next item h less ne read among = absurd h
+
+-- all of them gave rows
+pub first-all : (first now : ShelfState) (given : List Item) (slots : List ℕ) (readers : List RecordReader) (more : List Row)
+    → HaveFirst first now given slots readers more → length more ≡ length readers → HaveRows first now given slots readers more
+first-all first now given [] [] [] h e = tt
+first-all first now given (s ∷ slots) [] [] h e = absurd h
+first-all first now given slots (r ∷ readers) [] h e = absurd (omega (arith, e))
+first-all first now given (s ∷ slots) (r ∷ readers) (row ∷ more) h e =
+    (h.0, first-all first now given slots readers more h.1 (omega (arith, e)))
+first-all first now given [] readers (row ∷ more) h e = absurd h
+first-all first now given (s ∷ slots) [] (row ∷ more) h e = absurd h
+
+-- the next reader found a fault
+pub first-bad : (base copy : ℕ) (first mid now : ShelfState) (given : List Item) (slots : List ℕ) (readers : List RecordReader)
+    (more : List Row) (d next : RecordReader) (bad : BadCopy) → HaveFirst first mid given slots readers more
+    → length more < length readers → first_bad base more ≡ None → copy ≡ base + length more
+    → ((slot : ℕ) → IsBehind first mid given slot (get_or readers (length more) d)
+    → CopyRow (Err (Refused bad)) copy first now given slot next)
+    → FindsBad first now given base slots bad
+first-bad base copy first mid now given slots [] [] d next bad h less none at read = absurd (omega (arith, less))
+first-bad base copy first mid now given [] (r ∷ readers) [] d next bad h less none at read = absurd h
+first-bad base copy first mid now given (s ∷ slots) (r ∷ readers) [] d next bad h less none at read =
+    let p = read s h.0 in
+    let here : bad.copy ≡ base = omega (arith, p.0, at) in
+    record { is = is here p.1; truncated = λ t. inl (sym here, p.1.shown.on t) }
+  where
+    is : bad.copy ≡ base → HasRow first now given s next (rows.Fault bad.fault)
+        → (copies : List (List ℕ)) → AreLeft first (s ∷ slots) copies
+        → first_bad base (map (row_at (length given)) copies) ≡ Some bad
+    is here p [] l = absurd l
+    is here p (c ∷ copies) l = ap (λ x. first_bad base (x ∷ map (row_at (length given)) copies)) (row-told c p l.0).is
+        ∙ ap (λ (n : ℕ). Some (record { copy = n; fault = bad.fault })) (sym here)
+first-bad base copy first mid now given (s ∷ slots) (r ∷ readers) (row ∷ more) d next bad h less none at read =
+    let p = passed-over base row more none in
+    let q = first-bad (base + 1) copy first mid now given slots readers more d next bad h.1 (omega (arith, less)) p.0
+    (omega (arith, at)) read in
+    record { is = is p.1 q; truncated = λ t. inr (q.truncated t) }
+  where
+    is : ((xs : List Row) → first_bad base (row ∷ xs) ≡ first_bad (base + 1) xs) → FindsBad first now given (base + 1) slots bad
+        → (copies : List (List ℕ)) → AreLeft first (s ∷ slots) copies
+        → first_bad base (map (row_at (length given)) copies) ≡ Some bad
+    is over q [] l = absurd l
+    is over q (c ∷ copies) l = ap (λ x. first_bad base (x ∷ map (row_at (length given)) copies)) (row-told c h.0 l.0).is
+        ∙ over (map (row_at (length given)) copies) ∙ q.is copies l.1
+first-bad base copy first mid now given [] readers (row ∷ more) d next bad h less none at read = absurd h
+first-bad base copy first mid now given (s ∷ slots) [] (row ∷ more) d next bad h less none at read = absurd h
+
+-- ---- new readers
+
+-- a reader more, of the next slot
+pub readers-next : (state : ShelfState) (slots : List ℕ) (slot : ℕ) (left : List ℕ) (readers : List RecordReader) (reader : RecordReader)
+    → ((tail : List RecordReader) → AreBehind state state [] (slot ∷ left) tail → AreBehind state state [] slots (readers ++ tail))
+    → StandsFor reader [] [] → slot_of reader ≡ slot → (tail : List RecordReader) → AreBehind state state [] left tail
+    → AreBehind state state [] slots ((readers ++ reader ∷ []) ++ tail)
+readers-next state slots slot left readers reader before stands at tail h =
+    subst (λ rs. AreBehind state state [] slots rs) (sym (append_assoc readers (reader ∷ []) tail))
+    (before (reader ∷ tail) (record { read = []; at = at; gave = gave-none state slot; stands = stands }, h))
+
+-- ---- the loop over the others
+
+-- so many of the others gave rows
+pub record HaveOthers (index : ℕ) (found : Option Verdict) (ours : Row) (first now : ShelfState) (given : List Item) (slots : List ℕ)
+    (readers : List RecordReader) : Type 0 where
+  pub more : List Row
+  pub count : length more ≡ index
+  pub have : HaveFirst first now given slots readers more
+  pub sound : first_bad 1 more ≡ None
+  pub is : found ≡ first_other (length given) ours 1 more
+
+-- what holds of all slots holds of the slot of one reader
+pub given-at : (P : ℕ → Type 0) (readers : List RecordReader) (index : ℕ) (d : RecordReader) → index < length readers
+    → AllByRecursion P (map slot_of readers) → P (slot_of (get_or readers index d))
+given-at P [] index d less all = absurd (omega (arith, less))
+given-at P (r ∷ readers) zero d less all = all.0
+given-at P (r ∷ readers) (suc index) d less all = given-at P readers index d (omega (arith, less)) all.1
+
+pub slots-set : (readers : List RecordReader) (index : ℕ) (d next : RecordReader) → index < length readers
+    → slot_of next ≡ slot_of (get_or readers index d) → map slot_of (set readers index next) ≡ map slot_of readers
+slots-set [] index d next less e = absurd (omega (arith, less))
+slots-set (r ∷ readers) zero d next less e = ap (λ k. k ∷ map slot_of readers) e
+slots-set (r ∷ readers) (suc index) d next less e = ap (λ ks. slot_of r ∷ ks) (slots-set readers index d next (omega (arith, less)) e)
+
+pub among-more : {first mid now : ShelfState} (slots : List ℕ) (readers : List RecordReader) (index : ℕ) (d : RecordReader)
+    → index < length readers → map slot_of readers ≡ slots → ReadsAmong first mid slots
+    → ReadsAmong mid now (slot_of (get_or readers index d) ∷ []) → ReadsAmong first now slots
+among-more slots readers index d less same p q = record {
+  kept = kept-then p.kept q.kept;
+  others = λ k ne. q.others k (given-at (λ s. k ≢ s) readers index d less (subst (λ ks. AllByRecursion (λ s. k ≢ s) ks) (sym same) ne), tt)
+      ∙ p.others k ne;
+}
+
+-- the next reader is behind the items given
+one-behind : (first now : ShelfState) (given : List Item) (slots : List ℕ) (readers : List RecordReader) (more : List Row)
+    (d : RecordReader) → HaveFirst first now given slots readers more → length more < length readers
+    → (slot : ℕ) × IsBehind first now given slot (get_or readers (length more) d)
+one-behind first now given slots [] [] d h less = absurd (omega (arith, less))
+one-behind first now given [] (r ∷ readers) [] d h less = absurd h
+one-behind first now given (s ∷ slots) (r ∷ readers) [] d h less = (s, h.0)
+one-behind first now given (s ∷ slots) (r ∷ readers) (row ∷ more) d h less =
+    one-behind first now given slots readers more d h.1 (omega (arith, less))
+one-behind first now given [] readers (row ∷ more) d h less = absurd h
+one-behind first now given (s ∷ slots) [] (row ∷ more) d h less = absurd h
+
+module _ (copy index : ℕ) (found : Option Verdict) (row : Row) (first mid now : ShelfState) (given : List Item) (slots : List ℕ)
+    (readers : List RecordReader) (d next : RecordReader) (h : HaveOthers index found row first mid given slots readers)
+    (less : index < length readers) (at : copy ≡ 1 + index) where
+  less-more : length h.more < length readers
+  less-more = subst (λ (n : ℕ). n < length readers) (sym h.count) less
+
+  pub others-stop : (stop : Stopped BadCopy) (after : List RecordReader)
+      → ((slot : ℕ) → IsBehind first mid given slot (get_or readers index d) → CopyRow (Err stop) copy first now given slot next)
+      → OthersRead (Err stop) row first now given slots after
+  others-stop (Refused bad) after read =
+      first-bad 1 copy first mid now given slots readers h.more d next bad h.have less-more h.sound (at ∙ ap (λ n. 1 + n) (sym h.count))
+      (subst (λ n. (slot : ℕ) → IsBehind first mid given slot (get_or readers n d)
+      → CopyRow (Err (Refused bad)) copy first now given slot next) (sym h.count) read)
+  others-stop (Failed failure) after read =
+      let one = one-behind first mid given slots readers h.more d h.have less-more in
+      read one.0 (subst (λ n. IsBehind first mid given one.0 (get_or readers n d)) h.count one.1)
+
+  pub others-next : (item : Option Item) (after : Option Verdict)
+      → ((slot : ℕ) → IsBehind first mid given slot (get_or readers index d) → CopyRow (Ok item) copy first now given slot next)
+      → ReadsAmong mid now (slot_of (get_or readers index d) ∷ []) → AreDifferent slots
+      → after ≡ option_or found (option_map (Differ copy) (row_difference (length given) row (row_of item)))
+      → HaveOthers (index + 1) after row first now given slots (set readers index next)
+  others-next item after read among ne is = record {
+    more = h.more ++ row_of item ∷ [];
+    count = let all = length-append h.more (row_of item ∷ []) in let count = h.count in omega (arith, all, count);
+    have = subst (λ n. HaveFirst first now given slots (set readers n next) (h.more ++ row_of item ∷ [])) h.count
+        (first-next copy first mid now given slots readers h.more d next item h.have less-more ne
+        (subst (λ n. (slot : ℕ) → IsBehind first mid given slot (get_or readers n d) → CopyRow (Ok item) copy first now given slot next)
+        (sym h.count) read)
+        (subst (λ n. ReadsAmong mid now (slot_of (get_or readers n d) ∷ [])) (sym h.count) among));
+    sound = bad-next 1 h.more item h.sound;
+    is = is ∙ ap (λ o. option_or o (option_map (Differ copy) (row_difference (length given) row (row_of item)))) h.is
+        ∙ other-next (length given) (row) 1 copy h.more (row_of item) (at ∙ ap (λ n. 1 + n) (sym h.count));
+  }
+
+pub others-done : (index : ℕ) (found : Option Verdict) (row : Row) (first now : ShelfState) (given : List Item) (slots : List ℕ)
+    (readers : List RecordReader) → HaveOthers index found row first now given slots readers → index ≡ length readers
+    → OthersRead (Ok found) row first now given slots readers
+others-done index found row first now given slots readers h e =
+    (h.more, first-all first now given slots readers h.more h.have (h.count ∙ e), h.sound, h.is)
+
+pub others-new : (row : Row) (first now : ShelfState) (given : List Item) (slots : List ℕ) (readers : List RecordReader)
+    → AreBehind first now given slots readers → HaveOthers 0 None row first now given slots readers
+others-new row first now given slots readers h = record { more = []; count = refl; have = h; sound = refl; is = refl }

@@ -1,0 +1,37 @@
+//! Copies of a record, compared.
+ghost use Rattle.std.specs.Prelude.{◌≡◌, ◌≤◌, Some, length};
+ghost use Rattle.det_edges.specs.Traffic.{ShelfTraffic, shelf_run, failure_in};
+ghost use Rattle.det_edges.specs.declared.failure.Failure.TheVariants.{Write};
+ghost use Rattle.lockstep.specs.Compared.{AreDifferent, AreGiven, ReadsAmong, Compared};
+
+use crate::copies::Copies;
+use crate::{BadCopy, Verdict};
+use det_edges::{Slots, Stopped};
+use std::alloc::Global;
+
+/// Compares the copies of a record in these slots, row by row: a row is the header or a frame, or
+/// how the record ends. All copies are read at a row before it is decided. `Refused` tells the
+/// least copy with a fault in the first row in which not all hold an equal item. At most two rows
+/// are held at a time.
+pub fn compare<S: Slots>(
+    alloc: Global,
+    shelf: &mut S,
+    slots: &[u32],
+) -> Result<Verdict, Stopped<BadCopy>>
+    requires some { 2 ≤ length slots.now }
+    requires few { length slots.now ≤ 8 }
+    requires given { AreGiven (S.sees shelf.old) slots.now }
+    requires different { AreDifferent slots.now }
+    ensures compared { Compared result (S.sees shelf.old) (S.sees shelf.new) slots.now }
+    ensures reads { ReadsAmong (S.sees shelf.old) (S.sees shelf.new) slots.now }
+    ensures traffic { ShelfTraffic (shelf_run S.sees S.stays shelf.old shelf.new)
+        (failure_in result) }
+    ensures writes_nothing { failure_in result ≡ Some Write → ⊥ }
+{
+    let mut copies = Copies::at(alloc, slots)?;
+    'rows: loop {
+        if let Some(verdict) = copies.read_row(shelf)? {
+            return Ok(verdict);
+        }
+    }
+}

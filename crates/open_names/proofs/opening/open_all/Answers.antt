@@ -1,0 +1,29 @@
+use Rattle.std.proofs.Common.{subst, sym, ap, ◌∙◌, is_ok, List, ℕ, rules}
+use Rattle.open_names.specs.Opened.{Opened}
+use Rattle.open_names.proofs.Opened.{opened-next, pushed, texts-next, asks-next, asks-first}
+use Rattle.open_names.proofs.opening.open_all.Goals as goal
+
+pub returns-in_err-slot-clause-asked : goal.returns-in_err-slot-clause-asked
+returns-in_err-slot-clause-asked g c =
+    asks-first c.args.names.now c.names.name-index _ c.names-test.true c.names.invariant.asked c.in_err-slot.ensures.asked
+
+pub returns-in_err-map_err-clause-asked : goal.returns-in_err-map_err-clause-asked
+returns-in_err-map_err-clause-asked g c =
+    asks-first c.args.names.now c.names.name-index _ c.names-test.true c.names.invariant.asked c.in_ok-slot.ensures.asked
+
+pub names-preserved : goal.names-preserved
+names-preserved g c =
+    let first = g.S.Slots.sees c.args.shelf.now in
+    let mid = g.S.Slots.sees c.names.shelf in
+    let last = g.S.Slots.sees c.open_input.new.self in
+    let h = c.names.invariant in
+    record {
+      opened = subst (λ (names : List (List ℕ)). Opened first last names c.push.new.self.items)
+          (sym (texts-next c.args.names.now c.names.name-index _ c.names-test.true))
+          (subst (Opened first last _) (sym (pushed c.names.slots.items c.push.new.self.items c.in_ok-slot.slot _ c.push.ensures.items
+          (sym c.map_err.ensures.variant ∙ ap is_ok c.in_ok-map_err.was)))
+          (opened-next first mid last _ c.in_ok-slot.slot h.holds c.in_ok-slot.ensures.opens _ c.names.slots.items h.opened));
+      asked = asks-next c.args.names.now c.names.name-index _ c.names-test.true h.asked c.in_ok-slot.ensures.asked;
+      holds = c.in_ok-slot.ensures.holds ∙ h.holds;
+      traffic = search rules;
+    }

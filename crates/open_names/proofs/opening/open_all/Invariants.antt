@@ -1,0 +1,14 @@
+use Rattle.std.proofs.Common.{◌≡◌, map, take, None}
+use Rattle.det_edges.specs.Shelf.{Asks}
+use Rattle.det_edges.specs.Traffic.{ShelfTraffic, shelf_run}
+use Rattle.open_names.specs.Opened.{Opened}
+use Rattle.open_names.proofs.opening.open_all.Given as goal
+
+abbrev pub invariant-names : goal.invariant-names
+invariant-names g l = record {
+  opened : Opened (g.S.Slots.sees l.fn.shelf) (g.S.Slots.sees l.shelf) (map (λ name. name.now) (take l.name-index l.names))
+      l.slots.items;
+  asked : Asks (g.S.Slots.sees l.fn.shelf) (g.S.Slots.sees l.shelf) (map (λ name. name.now) (take l.name-index l.names));
+  holds : (g.S.Slots.sees l.shelf).holds ≡ (g.S.Slots.sees l.fn.shelf).holds;
+  traffic : ShelfTraffic (shelf_run g.S.Slots.sees g.S.Slots.stays l.fn.shelf l.shelf) None;
+}

@@ -1,0 +1,60 @@
+-- What the first answer of a reader is.
+use Rattle.std.proofs.Common.{◌≡◌, ℕ, true, List, [], subst}
+use Rattle.std.specs.Prelude.{Option, Some, None, Ok, Err}
+use Rattle.std.specs.List.{list_any}
+use Rattle.det_values.specs.Values.{ProfileValue}
+use Rattle.det_edges.specs.Shelf.{ShelfState, IsAtEnd}
+use Rattle.det_edges.specs.declared.failure.Failure.TheVariants.{Read, Write, OutOfMemory}
+use Rattle.det_edges.specs.declared.failure.Stopped.{Stopped}
+use Rattle.det_edges.specs.declared.failure.Stopped.TheVariants.{Refused, Failed}
+use Rattle.record_grammar.specs.declared.fault.RecordFault.{RecordFault}
+use Rattle.record_grammar.specs.declared.item.Item.{Item}
+use Rattle.record_grammar.specs.declared.item.Item.TheVariants as items
+use Rattle.record_reader.specs.declared.reader.RecordReader.{RecordReader}
+use Rattle.record_reader.specs.Salvaged.{is_init}
+use Rattle.record_reader.specs.StandsFor.{StandsFor, HasRead, ItemIs, slot_of}
+use Rattle.record_reader.proofs.Items.{next_is, whole_has_init}
+use Rattle.recorded_run.specs.Header.{IsHeader, HeaderIs, GaveHeader}
+
+no-init : list_any is_init [] ≡ true → ⊥
+no-init e = cc
+
+header-first : (first : Option Item) (r : RecordReader) (at_end : Type 0) (read : List ℕ) → ItemIs (Ok first) r at_end read []
+    → IsHeader first
+header-first (Some (items.Header p)) r at_end read h = tt
+header-first (Some (items.Frame f)) r at_end read h = next_is [] (items.Frame f) (record {
+  bytes = read;
+  place = r.decoder.place;
+  rest = h.0.decodes.rest;
+  leads = h.0.decodes.leads;
+})
+header-first None r at_end read h =
+    no-init (subst (λ (xs : List Item). list_any is_init xs ≡ true) h.2 (whole_has_init read h.3))
+
+header-of-none : (why : Stopped RecordFault) (r : RecordReader) (at_end : Type 0) (read : List ℕ) → ItemIs (Err why) r at_end read []
+    → HeaderIs (Err why) r at_end read
+header-of-none (Refused fault) r at_end read h = h.0
+header-of-none (Failed Read) r at_end read h = tt
+header-of-none (Failed Write) r at_end read h = h
+header-of-none (Failed OutOfMemory) r at_end read h = tt
+
+module _ {before after : ShelfState} {old : RecordReader} (r : RecordReader) (new : StandsFor old [] []) where
+  -- the first item of a record is its header
+  pub is-header : (first : Option Item) → HasRead before after old (ItemIs (Ok first) r (IsAtEnd after (slot_of old))) → IsHeader first
+  is-header first h = header-first first r (IsAtEnd after (slot_of old)) h.0 (h.2 [] [] new)
+
+  pub header-gave : (first : Option Item) (p : ProfileValue) → HasRead before after old (ItemIs (Ok first) r (IsAtEnd after (slot_of old)))
+      → first ≡ Some (items.Header p) → GaveHeader before after r (slot_of old) (Ok p)
+  header-gave first p h is = record {
+    read = h.0;
+    reads = h.1;
+    is = (subst (λ (x : Option Item). ItemIs (Ok x) r (IsAtEnd after (slot_of old)) h.0 []) is (h.2 [] [] new)).0;
+  }
+
+  pub no-header : (why : Stopped RecordFault) → HasRead before after old (ItemIs (Err why) r (IsAtEnd after (slot_of old)))
+      → GaveHeader before after r (slot_of old) (Err why)
+  no-header why h = record {
+    read = h.0;
+    reads = h.1;
+    is = header-of-none why r (IsAtEnd after (slot_of old)) h.0 (h.2 [] [] new);
+  }

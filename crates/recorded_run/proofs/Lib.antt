@@ -1,0 +1,5 @@
+pub mod Ending
+pub mod Resting
+mod Headers
+mod Taking
+mod Telling

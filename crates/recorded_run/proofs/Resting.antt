@@ -1,0 +1,29 @@
+-- What the slot of a record has left behind its header.
+use Rattle.std.proofs.Common.{◌≡◌, ◌<◌, ℕ, List, [], ◌++◌, sym, ap, ◌∙◌}
+use Rattle.std.specs.Prelude.{Option, Some, IsSome}
+use Rattle.std.specs.Option.{unwrap_or}
+use Rattle.det_edges.specs.Shelf.{ShelfState}
+use Rattle.det_edges.proofs.Opening.{opens-left, opens-new}
+use Rattle.det_edges.proofs.SlotReads.{reads-told, reads-given}
+use Rattle.record_reader.specs.StandsFor.{slot_of}
+use Rattle.cli_answers.specs.Outcome.{told}
+use Rattle.cli_answers.proofs.Telling.{held}
+use Rattle.recorded_run.specs.declared.run.RecordedRun.{RecordedRun}
+use Rattle.recorded_run.specs.Begun.{HasBegun}
+
+module _ {first last : ShelfState} {name : List ℕ} {run : RecordedRun} (begun : HasBegun first last name run) where
+  -- the bytes behind those that were read, where they are told
+  abbrev pub rest : List ℕ
+  rest = unwrap_or (last.left (slot_of run.reader)) []
+
+  -- they and the bytes that were read are the record
+  pub rest-told : IsSome (first.holds name) → (last.left (slot_of run.reader) ≡ Some rest) × (begun.read ++ rest ≡ told first name)
+  rest-told tells =
+      let left = opens-left (told first name) begun.opens (held (first.holds name) tells) in
+      let t = reads-told (told first name) begun.reads left in
+      let is : rest ≡ t.0 = ap (λ (o : Option (List ℕ)). unwrap_or o []) t.1 in
+      (t.1 ∙ ap Some (sym is), ap (λ (xs : List ℕ). begun.read ++ xs) is ∙ t.2)
+
+  -- the reader's slot was given
+  pub slot-given : slot_of run.reader < last.slots
+  slot-given = reads-given (slot_of run.reader) begun.reads (opens-new begun.opens)

@@ -1,0 +1,14 @@
+-- A record that was opened and of which the header was read.
+use Rattle.std.specs.Prelude.{ℕ, List, [], ◌∷◌}
+use Rattle.det_edges.specs.Shelf.{ShelfState, Opens, Reads}
+use Rattle.record_grammar.specs.declared.item.Item.TheVariants.{Header}
+use Rattle.record_reader.specs.StandsFor.{StandsFor, slot_of}
+use Rattle.recorded_run.specs.declared.run.RecordedRun.{RecordedRun}
+
+-- the name was opened in the reader's slot, these bytes were read of it and the header given
+pub record HasBegun (first last : ShelfState) (name : List ℕ) (run : RecordedRun) : Type 0 where
+  pub opened : ShelfState
+  pub read : List ℕ
+  pub opens : Opens first opened name (slot_of run.reader)
+  pub reads : Reads opened last (slot_of run.reader) read
+  pub gave : StandsFor run.reader read (Header run.profile ∷ [])

@@ -1,0 +1,27 @@
+//! Why the run of a record can't be had.
+ghost use Rattle.std.specs.Prelude.{◌≡◌};
+ghost use Rattle.recorded_run.specs.Run.{without_run};
+
+use cli_answers::Answer;
+use det_edges::Stopped;
+use record_grammar::RecordFault;
+
+/// Why a record's run can't be had.
+#[derive(Clone, Copy, Debug, PartialEq, Eq, Drop)]
+pub enum BadRun {
+    /// The record has this fault before its header is whole.
+    Fault(RecordFault),
+    /// No shipped job has the header's number, or that job refuses the header's parameters.
+    Profile,
+}
+
+/// What a command answers that has no run. The one record that it reads is copy 0.
+pub fn without_run(end: Stopped<BadRun>) -> Answer
+    ensures { result ≡ without_run end }
+{
+    match end {
+        Stopped::Refused(BadRun::Fault(fault)) => Answer::BadRecord { copy: 0, fault },
+        Stopped::Refused(BadRun::Profile) => Answer::BadProfile,
+        Stopped::Failed(failure) => Answer::from(failure),
+    }
+}

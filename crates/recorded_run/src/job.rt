@@ -1,0 +1,19 @@
+//! The shipped job that a header names.
+ghost use Rattle.std.specs.Prelude.{◌≡◌};
+ghost use Rattle.recorded_run.specs.Run.{kind_of};
+
+use det_values::{JobKind, Profile};
+use shipped_jobs::bad_param;
+
+/// The shipped job of a profile's number. None where no job has it, and where the job refuses a
+/// parameter of the profile.
+pub(crate) fn kind_of(profile: &Profile) -> Option<JobKind>
+    ensures { result ≡ kind_of profile.now }
+{
+    let kind = JobKind::of_number(profile.job)?;
+    let events = profile.events.len() as u16;
+    match bad_param(kind, &profile.params, events) {
+        None => Some(kind),
+        Some(_) => None,
+    }
+}

@@ -1,0 +1,5 @@
+mod Items
+mod Giving
+mod Running
+mod Ending
+mod Told

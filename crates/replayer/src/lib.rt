@@ -1,0 +1,8 @@
+//! Runs the inputs of a record again, and writes the record that they give now.
+#![tactic(auto)]
+
+mod inputs;
+mod replaying;
+
+pub use inputs::next_input;
+pub use replaying::replay_run;

@@ -1,0 +1,25 @@
+-- What comparing copies of a record comes to.
+use Rattle.std.specs.Prelude.{◌≡◌, ℕ, ◌↔◌, List, ◌∷◌}
+use Rattle.std.specs.List.{AllByRecursion}
+use Rattle.record_grammar.specs.Record.{items}
+use Rattle.record_grammar.specs.Spelling.{AreBytes}
+use Rattle.record_reader.specs.Salvaged.{cycles_of}
+use Rattle.lockstep.specs.declared.verdict.Verdict.TheVariants.{Agree}
+use Rattle.lockstep.specs.Laws.{AreOneRecord}
+use Rattle.verdict_text.specs.Verdicts.{verdict_line}
+use Rattle.cli_answers.specs.declared.answer.Answer.TheVariants.{Done}
+use Rattle.cmd_compare.specs.Compare.{compare_outcome}
+
+-- Copies are answered with Done exactly where all of them are one whole record, and then the line
+-- that they agree tells the number of its runs.
+pub record AreCompared (first : List ℕ) (others : List (List ℕ)) : Type 0 where
+  pub done : ((compare_outcome (first ∷ others)).answer ≡ Done)
+      ↔ AreOneRecord first others (cycles_of (items first))
+  pub line : (compare_outcome (first ∷ others)).answer ≡ Done
+      → (compare_outcome (first ∷ others)).bytes ≡ verdict_line (Agree (cycles_of (items first)))
+
+-- what `compare` gives of copies that are bytes
+abbrev pub CopiesAreCompared : Type 0
+CopiesAreCompared =
+    (first : List ℕ) (others : List (List ℕ)) → AllByRecursion AreBytes (first ∷ others)
+    → AreCompared first others

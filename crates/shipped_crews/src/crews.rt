@@ -1,0 +1,173 @@
+//! A run of a shipped job, and a crew for it.
+ghost use Rattle.std.specs.Prelude.{◌≡◌, length, None, IfOk, OnErr};
+ghost use Rattle.det_edges.specs.Traffic.{shelf_run, sink_run};
+ghost use Rattle.probes.specs.Shows.{seen};
+ghost use Rattle.run_writer.specs.Recording.{IsNew};
+ghost use Rattle.shipped_jobs.specs.Kinds.{bad_param, of_kind};
+ghost use Rattle.worker_pool.specs.Crews.{room_name};
+
+use crate::visit::Visit;
+use crate::workers::{Workers, busy};
+use cycle_engine::Engine;
+use det_edges::{Sink, Slots};
+use det_values::{JobKind, OutOfMemory, Profile};
+use job_trait::Job;
+use probes::{Audience, Probe};
+use run_writer::Recording;
+use shipped_jobs::{Bank, Cloud, Guard};
+use std::marker::Brand;
+use std::thread::Threads;
+use tickets::Room;
+use worker_pool::{Crew, CrewRoom, Gate};
+
+/// What a shipped job runs by.
+#[derive(Drop)]
+pub struct ShippedRun {
+    pub kind: JobKind,
+    pub profile: Profile,
+}
+
+/// A room, and the workers that share it.
+#[derive(Drop)]
+struct Team<'r, J: Job, R, G> {
+    room: CrewRoom<J>,
+    workers: Workers<'r, R, G>,
+}
+
+/// Does it by a crew in a team's room. The crew's threads end before the answer is given.
+fn in_room<J, B, V, S, K, R, G>(
+    recording: &mut Recording<J>,
+    team: Team<'_, J, R, G>,
+    visitor: V,
+    shelf: &mut S,
+    sink: &mut K,
+    audience: &mut Audience,
+) -> Result<V::Answer, OutOfMemory>
+where
+    J: Job + Send + Sync + 'static,
+    J::Globals: Send + 'static,
+    J::Element: Send + Sync + 'static,
+    J::Plan: Send + Sync + 'static,
+    J::Part: Send + Sync + 'static,
+    B: Room + Send + Sync + 'static,
+    V: Visit,
+    S: Slots,
+    K: Sink,
+    R: Threads,
+    G: Gate + Send + Sync + 'static,
+    requires room { room_name team.room ≡ B.table }
+    requires new { IsNew J.meaning recording.old }
+    requires can { V.Can visitor recording.old.profile (S.sees shelf.old) }
+    ensures given { IfOk result (λ answer.
+        V.Gives _ _ _ _ _ J.meaning recording.old.profile visitor
+        (shelf_run S.sees S.stays shelf.old shelf.new) (sink_run K.took K.faults sink.old sink.new)
+        (seen (λ b. (⟦<dyn Probe as Probe>⟧ b.vtable).life b.value) audience.old)
+        (seen (λ b. (⟦<dyn Probe as Probe>⟧ b.vtable).life b.value) audience.new) answer) }
+    ensures shelf { OnErr result (shelf.new ≡ shelf.old) }
+    ensures sink { OnErr result (sink.new ≡ sink.old) }
+    ensures audience { OnErr result
+        (seen (λ b. (⟦<dyn Probe as Probe>⟧ b.vtable).life b.value) audience.new
+        ≡ seen (λ b. (⟦<dyn Probe as Probe>⟧ b.vtable).life b.value) audience.old) }
+{
+    let Team { room, workers } = team;
+    let mut crew = Crew::<J, B, G>::start(
+        workers.rt,
+        workers.alloc,
+        room,
+        workers.count,
+        workers.gate,
+    )?;
+    let answer = visitor.visit::<J, Crew<J, B, G>, S, K>(
+        recording, &mut crew, shelf, sink, audience,
+    );
+    crew.stop(workers.rt);
+    Ok(answer)
+}
+
+/// Does it with the run of a job, on as many threads as there are blocks of elements for them.
+fn at<J, V, S, K, R, G>(
+    workers: &Workers<'_, R, G>,
+    profile: Profile,
+    visitor: V,
+    shelf: &mut S,
+    sink: &mut K,
+    audience: &mut Audience,
+) -> Result<V::Answer, OutOfMemory>
+where
+    J: Job + Send + Sync + 'static,
+    J::Globals: Send + 'static,
+    J::Element: Send + Sync + 'static,
+    J::Plan: Send + Sync + 'static,
+    J::Part: Send + Sync + 'static,
+    V: Visit,
+    S: Slots,
+    K: Sink,
+    R: Threads,
+    G: Gate + Send + Sync + 'static,
+    requires good { J.meaning.bad_param profile.params (length profile.events) ≡ None }
+    requires can { V.Can visitor profile (S.sees shelf.old) }
+    ensures given { IfOk result (λ answer. V.Gives _ _ _ _ _ J.meaning profile visitor
+        (shelf_run S.sees S.stays shelf.old shelf.new) (sink_run K.took K.faults sink.old sink.new)
+        (seen (λ b. (⟦<dyn Probe as Probe>⟧ b.vtable).life b.value) audience.old)
+        (seen (λ b. (⟦<dyn Probe as Probe>⟧ b.vtable).life b.value) audience.new) answer) }
+    ensures shelf { OnErr result (shelf.new ≡ shelf.old) }
+    ensures sink { OnErr result (sink.new ≡ sink.old) }
+    ensures audience { OnErr result
+        (seen (λ b. (⟦<dyn Probe as Probe>⟧ b.vtable).life b.value) audience.new
+        ≡ seen (λ b. (⟦<dyn Probe as Probe>⟧ b.vtable).life b.value) audience.old) }
+{
+    let events = profile.events.len() as u16;
+    let Ok(job) = J::make(&profile.params, events) else {
+        unreachable!()
+    };
+    let engine = Engine::start(workers.alloc, job, &profile)?;
+    let mut recording = Recording::of(workers.alloc, engine, profile);
+    let room = CrewRoom::<J>::new(workers.alloc)?;
+    let workers = busy(workers, recording.elements());
+    let team = Team { room, workers };
+    in_room::<J, Brand, V, S, K, R, G>(&mut recording, team, visitor, shelf, sink, audience)
+}
+
+/// Hands a visitor the run of the job of a kind and a crew for it, whose threads are kept from the
+/// first pass to the last, no more of them than there are blocks of elements. None of them is left
+/// running at any answer. Where memory couldn't be had nothing was done.
+pub fn with_crew<V, S, K, R, G>(
+    workers: &Workers<'_, R, G>,
+    run: ShippedRun,
+    visitor: V,
+    shelf: &mut S,
+    sink: &mut K,
+    audience: &mut Audience,
+) -> Result<V::Answer, OutOfMemory>
+where
+    V: Visit,
+    S: Slots,
+    K: Sink,
+    R: Threads,
+    G: Gate + Send + Sync + 'static,
+    requires good { bad_param run.kind run.profile.params (length run.profile.events) ≡ None }
+    requires can { V.Can visitor run.profile (S.sees shelf.old) }
+    ensures given { IfOk result (λ answer. of_kind
+        (λ s g e l p m. V.Gives s g e l p m run.profile visitor
+        (shelf_run S.sees S.stays shelf.old shelf.new) (sink_run K.took K.faults sink.old sink.new)
+        (seen (λ b. (⟦<dyn Probe as Probe>⟧ b.vtable).life b.value) audience.old)
+        (seen (λ b. (⟦<dyn Probe as Probe>⟧ b.vtable).life b.value) audience.new) answer) run.kind) }
+    ensures shelf { OnErr result (shelf.new ≡ shelf.old) }
+    ensures sink { OnErr result (sink.new ≡ sink.old) }
+    ensures audience { OnErr result
+        (seen (λ b. (⟦<dyn Probe as Probe>⟧ b.vtable).life b.value) audience.new
+        ≡ seen (λ b. (⟦<dyn Probe as Probe>⟧ b.vtable).life b.value) audience.old) }
+{
+    let ShippedRun { kind, profile } = run;
+    match kind {
+        JobKind::Bank => at::<Bank, V, S, K, R, G>(
+            workers, profile, visitor, shelf, sink, audience,
+        ),
+        JobKind::Cloud => {
+            at::<Cloud, V, S, K, R, G>(workers, profile, visitor, shelf, sink, audience)
+        }
+        JobKind::Guard => {
+            at::<Guard, V, S, K, R, G>(workers, profile, visitor, shelf, sink, audience)
+        }
+    }
+}
