@@ -1,8 +1,8 @@
 //! Records of one cycle.
 use std::alloc::{AllocError, Global};
 
-/// A header of format 2 without parameters and events, Register, Discover, Init without elements, and the beginning of a
-/// Run without a time and samples that is finished.
+/// A header of format 2 without parameters and events, Register, Discover, Init without elements,
+/// and the beginning of a Run without a time and samples that is finished.
 const FRONT: [u8; 44] = [
     0x44, 0x45, 0x54, 0x52, 0x45, 0x43, 0, 2, 0, 9, 0, 0, 0, 0, 0, 0, 0, 0, 0, 0, 0, 0, 0, 0, 0, 1,
     0, 0, 0, 0, 1, 2, 3, 0, 0, 0, 0, 4, 0, 0, 0, 0, 0, 0,

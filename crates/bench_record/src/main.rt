@@ -1,4 +1,5 @@
-//! The program `bench_record`: tells how long the decoder takes for one frame, by its length and by that of the pieces.
+//! The program `bench_record`: tells how long the decoder takes for one frame, by its length and by
+//! that of the pieces.
 #![tactic(auto)]
 
 mod decoding;

@@ -27,7 +27,8 @@ module _ (wanted : Outcome) (tells rose other : Type 0) where
   }
 
   -- the outcome was refused before anything was written
-  pub meets-refusal : (before : List ℕ → Type 0) (answer : Answer) → (answer ≡ ReadFault → ⊥) → (answer ≡ WriteFault → ⊥) → (tells → wanted ≡ refusal answer)
+  pub meets-refusal : (before : List ℕ → Type 0) (answer : Answer) → (answer ≡ ReadFault → ⊥) → (answer ≡ WriteFault → ⊥)
+      → (tells → wanted ≡ refusal answer)
       → Meets wanted tells rose other before before answer
   meets-refusal before answer not_read not_write refused = record {
     part = λ t. part-none before before wanted.bytes (same-none before);
@@ -37,7 +38,8 @@ module _ (wanted : Outcome) (tells rose other : Type 0) where
   }
 
   -- all bytes were written
-  pub meets-whole : (before after : List ℕ → Type 0) (answer : Answer) (bytes : List ℕ) → (answer ≡ ReadFault → ⊥) → (answer ≡ WriteFault → ⊥)
+  pub meets-whole : (before after : List ℕ → Type 0) (answer : Answer) (bytes : List ℕ) → (answer ≡ ReadFault → ⊥)
+      → (answer ≡ WriteFault → ⊥)
       → (tells → wanted ≡ record { answer = answer; bytes = bytes }) → Grew before after bytes
       → Meets wanted tells rose other before after answer
   meets-whole before after answer bytes not_read not_write is grew = record {
@@ -48,7 +50,8 @@ module _ (wanted : Outcome) (tells rose other : Type 0) where
   }
 
   -- a read failed, a part of the bytes was written
-  pub meets-read-fault-part : (before after : List ℕ → Type 0) → (tells → GrewByPrefix before after wanted.bytes) → rose → Meets wanted tells rose other before after ReadFault
+  pub meets-read-fault-part : (before after : List ℕ → Type 0) → (tells → GrewByPrefix before after wanted.bytes) → rose
+      → Meets wanted tells rose other before after ReadFault
   meets-read-fault-part before after part failed = record {
     part = part;
     whole = λ t. inl refl;
@@ -57,7 +60,8 @@ module _ (wanted : Outcome) (tells rose other : Type 0) where
   }
 
   -- a write failed
-  pub meets-write-fault : (before after : List ℕ → Type 0) → (tells → GrewByPrefix before after wanted.bytes) → other → Meets wanted tells rose other before after WriteFault
+  pub meets-write-fault : (before after : List ℕ → Type 0) → (tells → GrewByPrefix before after wanted.bytes) → other
+      → Meets wanted tells rose other before after WriteFault
   meets-write-fault before after part failed = record {
     part = part;
     whole = λ t. inr (inl refl);
@@ -66,7 +70,8 @@ module _ (wanted : Outcome) (tells rose other : Type 0) where
   }
 
   -- memory could not be had, a part of the bytes was written
-  pub meets-no-memory-part : (before after : List ℕ → Type 0) → (tells → GrewByPrefix before after wanted.bytes) → Meets wanted tells rose other before after OutOfMemory
+  pub meets-no-memory-part : (before after : List ℕ → Type 0) → (tells → GrewByPrefix before after wanted.bytes)
+      → Meets wanted tells rose other before after OutOfMemory
   meets-no-memory-part before after part = record {
     part = part;
     whole = λ t. inr (inr (inl refl));
@@ -86,12 +91,15 @@ meets-under wanted tells rose other tells2 rose2 other2 before after answer t r 
 }
 
 -- the cases of an answer
-pub met : {wanted : Outcome} {tells rose other : Type 0} {before after : List ℕ → Type 0} {answer : Answer} → Meets wanted tells rose other before after answer → tells
-    → (answer ≡ ReadFault) ⊎ ((answer ≡ WriteFault) ⊎ ((answer ≡ OutOfMemory) ⊎ ((answer ≡ wanted.answer) × Grew before after wanted.bytes)))
+pub met : {wanted : Outcome} {tells rose other : Type 0} {before after : List ℕ → Type 0} {answer : Answer}
+    → Meets wanted tells rose other before after answer → tells
+    → (answer ≡ ReadFault) ⊎ ((answer ≡ WriteFault) ⊎ ((answer ≡ OutOfMemory)
+    ⊎ ((answer ≡ wanted.answer) × Grew before after wanted.bytes)))
 met m t = m.whole t
 
 -- what the line for `err` says of an answer
-pub told-line : {wanted : Outcome} {tells rose other : Type 0} {before after : List ℕ → Type 0} {answer : Answer} → Meets wanted tells rose other before after answer → tells
+pub told-line : {wanted : Outcome} {tells rose other : Type 0} {before after : List ℕ → Type 0} {answer : Answer}
+    → Meets wanted tells rose other before after answer → tells
     → (answer ≡ ReadFault) ⊎ ((answer ≡ WriteFault) ⊎ ((answer ≡ OutOfMemory) ⊎ (answer ≡ wanted.answer)))
 told-line m t = elim (m.whole t) [
   | inl read ↦ inl read

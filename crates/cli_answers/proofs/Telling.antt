@@ -12,13 +12,15 @@ held (Some bytes) h = refl
 held None h = cc
 
 -- a text that was read to its end is what the name held
-pub whole-text : (first mid last : ShelfState) (name : List ℕ) (slot : ℕ) (text : List ℕ) → Opens first mid name slot → Reads mid last slot text → IsAtEnd last slot → IsSome (first.holds name)
+pub whole-text : (first mid last : ShelfState) (name : List ℕ) (slot : ℕ) (text : List ℕ) → Opens first mid name slot
+    → Reads mid last slot text → IsAtEnd last slot → IsSome (first.holds name)
     → text ≡ told first name
 whole-text first mid last name slot text opens reads end tells =
     reads-all (told first name) reads end (opens-left (told first name) opens (held (first.holds name) tells))
 
 -- what was read begins what the name held
-pub read-part : (first mid last : ShelfState) (name : List ℕ) (slot : ℕ) (text : List ℕ) → Opens first mid name slot → Reads mid last slot text → IsSome (first.holds name)
+pub read-part : (first mid last : ShelfState) (name : List ℕ) (slot : ℕ) (text : List ℕ) → Opens first mid name slot
+    → Reads mid last slot text → IsSome (first.holds name)
     → (more : List ℕ) × (text ++ more ≡ told first name)
 read-part first mid last name slot text opens reads tells =
     let t = reads-told (told first name) reads (opens-left (told first name) opens (held (first.holds name) tells)) in

@@ -1,7 +1,12 @@
--- With which answers a command ends, by what it reads and does. In each a write can fail and memory be wanting.
+-- With which answers a command ends, by what it reads and does. In each a write can fail and memory
+-- be wanting.
 use Rattle.std.specs.Prelude.{Bool, true, false, ◌||◌}
 use Rattle.cli_answers.specs.declared.answer.Answer.{Answer}
-use Rattle.cli_answers.specs.declared.answer.Answer.TheVariants.{Done, Differs, BadWords, BadManifest, BadStimulus, BadRecord, BadProfile, ReadFault, WriteFault, OutOfMemory, NoMajority}
+use Rattle.cli_answers.specs.declared.answer.Answer.TheVariants.{Done, Differs, BadWords}
+use Rattle.cli_answers.specs.declared.answer.Answer.TheVariants.{BadManifest, BadStimulus}
+use Rattle.cli_answers.specs.declared.answer.Answer.TheVariants.{BadRecord, BadProfile, ReadFault}
+use Rattle.cli_answers.specs.declared.answer.Answer.TheVariants.{WriteFault, OutOfMemory}
+use Rattle.cli_answers.specs.declared.answer.Answer.TheVariants.{NoMajority}
 
 pub record Work : Type 0 where
   -- it reads a manifest, a stimulus, records
@@ -27,4 +32,10 @@ can_end work (NoMajority row) = work.votes
 
 -- a command that writes what it makes of nothing that it reads
 abbrev pub writes_alone : Work
-writes_alone = record { manifest = false; stimulus = false; recorded = false; compares = false; votes = false }
+writes_alone = record {
+  manifest = false;
+  stimulus = false;
+  recorded = false;
+  compares = false;
+  votes = false;
+}

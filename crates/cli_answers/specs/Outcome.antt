@@ -5,7 +5,8 @@ use Rattle.std.specs.Option.{unwrap_or}
 use Rattle.det_edges.specs.Sink.{Grew, GrewByPrefix}
 use Rattle.det_edges.specs.Shelf.{ShelfState}
 use Rattle.cli_answers.specs.declared.answer.Answer.{Answer}
-use Rattle.cli_answers.specs.declared.answer.Answer.TheVariants.{Done, ReadFault, WriteFault, OutOfMemory}
+use Rattle.cli_answers.specs.declared.answer.Answer.TheVariants.{Done, ReadFault, WriteFault}
+use Rattle.cli_answers.specs.declared.answer.Answer.TheVariants.{OutOfMemory}
 
 pub record Outcome : Type 0 where
   pub answer : Answer
@@ -27,12 +28,14 @@ Tells shelf names = All (λ name. IsSome (shelf.holds name)) names
 abbrev pub told : ShelfState → List ℕ → List ℕ
 told shelf name = unwrap_or (shelf.holds name) []
 
--- How a run answers that ought to give an outcome: `tells` says that the bytes of its names are told, and the two
--- failures that the count of faults of the shelf, or of `out`, rose in the run.
-pub record Meets (wanted : Outcome) (tells read_failed write_failed : Type 0) (before after : List ℕ → Type 0) (answer : Answer) : Type 0 where
+-- How a run answers that ought to give an outcome: `tells` says that the bytes of its names are
+-- told, and the two failures that the count of faults of the shelf, or of `out`, rose in the run.
+pub record Meets (wanted : Outcome) (tells read_failed write_failed : Type 0)
+    (before after : List ℕ → Type 0) (answer : Answer) : Type 0 where
   -- `out` took a prefix of the bytes
   pub part : tells → GrewByPrefix before after wanted.bytes
   -- the answer is a failure's, or it is the outcome's and `out` took all its bytes
-  pub whole : tells → (answer ≡ ReadFault) ⊎ ((answer ≡ WriteFault) ⊎ ((answer ≡ OutOfMemory) ⊎ ((answer ≡ wanted.answer) × Grew before after wanted.bytes)))
+  pub whole : tells → (answer ≡ ReadFault) ⊎ ((answer ≡ WriteFault)
+      ⊎ ((answer ≡ OutOfMemory) ⊎ ((answer ≡ wanted.answer) × Grew before after wanted.bytes)))
   pub read_fault : answer ≡ ReadFault → read_failed
   pub write_fault : answer ≡ WriteFault → write_failed

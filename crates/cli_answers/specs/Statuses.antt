@@ -1,7 +1,10 @@
 -- The exit statuses of the program.
 use Rattle.std.specs.Prelude.{ℕ}
 use Rattle.cli_answers.specs.declared.status.Status.{Status}
-use Rattle.cli_answers.specs.declared.status.Status.TheVariants.{Done, Differs, BadWords, BadManifest, BadStimulus, BadRecord, ReadFault, WriteFault, OutOfMemory, NoMajority}
+use Rattle.cli_answers.specs.declared.status.Status.TheVariants.{Done, Differs, BadWords}
+use Rattle.cli_answers.specs.declared.status.Status.TheVariants.{BadManifest, BadStimulus}
+use Rattle.cli_answers.specs.declared.status.Status.TheVariants.{BadRecord, ReadFault, WriteFault}
+use Rattle.cli_answers.specs.declared.status.Status.TheVariants.{OutOfMemory, NoMajority}
 
 abbrev pub number_of : Status → ℕ
 number_of Done = 0

@@ -4,7 +4,8 @@ ghost use Rattle.cli_words.specs.Number.{number_of};
 
 use itoa::Buffer;
 
-/// The number that a word spells: decimal digits without a sign, and without a leading zero except `0` itself.
+/// The number that a word spells: decimal digits without a sign, and without a leading zero except
+/// `0` itself.
 pub fn number_of(word: &str) -> Option<u64>
     ensures { result ≡ number_of word.now }
 {

@@ -2,7 +2,8 @@
 use Rattle.std.proofs.Common.{◌≡◌, ℕ, List, ◌++◌, append_assoc, ap, ◌∙◌}
 
 -- four texts, each behind the same word
-pub four-appended : (out word a b c d : List ℕ) → (((out ++ (word ++ a)) ++ (word ++ b)) ++ (word ++ c)) ++ (word ++ d) ≡ out ++ (word ++ (a ++ (word ++ (b ++ (word ++ (c ++ (word ++ d)))))))
+pub four-appended : (out word a b c d : List ℕ) → (((out ++ (word ++ a)) ++ (word ++ b)) ++ (word ++ c)) ++ (word ++ d) ≡ out
+    ++ (word ++ (a ++ (word ++ (b ++ (word ++ (c ++ (word ++ d)))))))
 four-appended out word a b c d =
     append_assoc ((out ++ (word ++ a)) ++ (word ++ b)) (word ++ c) (word ++ d)
     ∙ append_assoc (out ++ (word ++ a)) (word ++ b) ((word ++ c) ++ (word ++ d))

@@ -21,7 +21,8 @@ module _ (strict : Bool) (text all : List ℕ) (tells : Type 0) (same : tells �
   told-ok (Ok m) is = λ t. ap (setup_of strict) (sym (same t)) ∙ is
   told-ok (Err end) is = is
 
-  told-bad : (end : Stopped BadManifest) → IfRefused end (λ why. setup_of strict text ≡ Err why) → IfRefused end (λ why. tells → setup_of strict all ≡ Err why)
+  told-bad : (end : Stopped BadManifest) → IfRefused end (λ why. setup_of strict text ≡ Err why)
+      → IfRefused end (λ why. tells → setup_of strict all ≡ Err why)
   told-bad (Refused why) is = λ t. ap (setup_of strict) (sym (same t)) ∙ is
   told-bad (Failed failure) is = is
 

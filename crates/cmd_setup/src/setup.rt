@@ -8,10 +8,8 @@ ghost use Rattle.cmd_setup.specs.Setup.{setup_of, IsGood, Takes};
 use crate::judging::setup_of;
 use cli_answers::BadManifest;
 use det_edges::{Failure, Shelf, Stopped, TooLong, read_limited};
-use manifest::{Manifest, ManifestFault};
+use manifest::{MOST_BYTES, Manifest, ManifestFault};
 use std::alloc::Global;
-
-const MOST_BYTES: usize = 65536;
 
 /// Opens a name and reads the manifest under it, where its job takes its parameters. At most one
 /// piece of 4,096 bytes is read beyond the greatest length of a manifest, which is 65,536 bytes.

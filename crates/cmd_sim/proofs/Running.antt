@@ -116,7 +116,8 @@ module _ (kind : JobKind) (profile : ProfileValue) (text : List ℕ) (shelf : Sh
       record { number = number; cycles = counts.cycles; refused = counts.refused; bytes = counts.bytes; digest = digest } in
       by_kind-then (λ S G E L P m. summary_over m profile text number)
       (λ S G E L P m. IsRecorded m profile 0 shelf sink old last run) (λ summary. told_of ≡ summary)
-      (λ S G E L P m r. summed m profile text (shelf.first.left 0) sink.before sink.after run number counts digest told is r.ok none digests)
+      (λ S G E L P m r. summed m profile text (shelf.first.left 0) sink.before sink.after run number counts digest told is r.ok none
+      digests)
       kind recorded
 
   pub all-reported-by : (counts : Counts) → run ≡ Ok counts

@@ -35,7 +35,8 @@ pub unrecorded : (kind : JobKind) (profile : ProfileValue) (slot : ℕ) (first l
     (before after : List ℕ → Type 0) (faults later : ℕ) (audience other : AudienceState)
     → last ≡ first → after ≡ before → other ≡ audience
     → of_kind (λ S G E L P m. IsRecorded m profile slot (record { first = first; last = last; stays = stays })
-    (record { before = before; after = after; faults_before = faults; faults_after = later }) audience other (Err (Failed OutOfMemory))) kind
+    (record { before = before; after = after; faults_before = faults; faults_after = later }) audience other (Err (Failed OutOfMemory)))
+    kind
 unrecorded kind profile slot first last stays before after faults later audience other shelf sink seen =
     rw shelf (rw sink (rw seen (of_all
     (λ S G E L P m. IsRecorded m profile slot (idle_shelf first stays) (idle_sink before faults later) audience audience

@@ -1,5 +1,6 @@
 -- How the run of a profile goes on by one more input, and an engine with it. What stands above an engine builds on these.
-use Rattle.std.proofs.Common.{◌≡◌, ℕ, suc, ℤ, ◌+◌, Option, Result, List, [], ◌∷◌, ◌++◌, length, refl, sym, ap, ◌∙◌, subst, map, append_assoc, append-nil, length-append, true, false}
+use Rattle.std.proofs.Common.{◌≡◌, ℕ, suc, ℤ, ◌+◌, Option, Result, List, [], ◌∷◌, ◌++◌, length, refl, sym, ap, ◌∙◌, subst, map}
+use Rattle.std.proofs.Common.{append_assoc, append-nil, length-append, true, false}
 use Rattle.std.proofs.lemmas.List.{map-append}
 use Rattle.det_values.specs.Values.{ProfileValue, SampleValue, EventSpecValue, RefusedAtValue}
 use Rattle.det_values.specs.Frames.{outcome_in_format}
@@ -14,7 +15,8 @@ use Rattle.event_cache.specs.Windows.{HasSeen, rings_from}
 use Rattle.event_cache.proofs.Rounds.{seen_windows}
 use Rattle.job_trait.specs.Meaning.{Meaning}
 use Rattle.job_trait.specs.Cycle.{State, Done, cycled, outcome_of, state_after}
-use Rattle.cycle_engine.specs.Frames.{first_state, cycle_of, frame_of, state_behind, runs_behind, state_of, runs, samples_of, init_of, frames}
+use Rattle.cycle_engine.specs.Frames.{first_state, cycle_of, frame_of, state_behind, runs_behind, state_of, runs, samples_of, init_of}
+use Rattle.cycle_engine.specs.Frames.{frames}
 use Rattle.cycle_engine.specs.Engine.{EngineState, StandsFor, IsAfter, next_cycle, next_frame}
 
 pub samples_of-append : (inputs more : List CycleInput) → samples_of (inputs ++ more) ≡ samples_of inputs ++ samples_of more
@@ -28,7 +30,8 @@ length-rings event [] rounds arrived = refl
 length-rings event (spec ∷ events) rounds arrived = ap suc (length-rings (suc event) events rounds arrived)
 
 -- what a cycle is made from, replaced by equals
-same_cycle : {S G E L P : Type 0} (m : Meaning S G E L P) {j k : S} {s t : State G E} {v w : List (List ℤ)} {a b : ℕ} (time : Option ℕ) {x y : Option ℕ}
+same_cycle : {S G E L P : Type 0} (m : Meaning S G E L P) {j k : S} {s t : State G E} {v w : List (List ℤ)} {a b : ℕ} (time : Option ℕ)
+    {x y : Option ℕ}
     → j ≡ k → s ≡ t → v ≡ w → a ≡ b → x ≡ y → cycled m j s v a time x ≡ cycled m k t w b time y
 same_cycle m time job state seen cycle next = λ i. cycled m (job i) (state i) (seen i) (cycle i) time (next i)
 
@@ -48,30 +51,35 @@ as_run run = Run run
 module _ {S G E L P : Type 0} (m : Meaning S G E L P) (profile : ProfileValue) where
   -- the state after two lists of inputs is that after the second one, begun behind the first one
   pub state_behind-append : (before inputs more : List CycleInput) (state : State G E)
-      → state_behind m profile before state (inputs ++ more) ≡ state_behind m profile (before ++ inputs) (state_behind m profile before state inputs) more
+      → state_behind m profile before state (inputs ++ more) ≡ state_behind m profile (before ++ inputs)
+      (state_behind m profile before state inputs) more
   unfolding state_behind
   state_behind-append before [] more state = ap (λ b. state_behind m profile b state more) (sym (append-nil before))
   state_behind-append before (input ∷ inputs) more state =
       state_behind-append (before ++ input ∷ []) inputs more (state_after state (cycle_of m profile before state input))
-      ∙ ap (λ b. state_behind m profile b (state_behind m profile (before ++ input ∷ []) (state_after state (cycle_of m profile before state input)) inputs) more)
+      ∙ ap (λ b. state_behind m profile b (state_behind m profile (before ++ input ∷ [])
+      (state_after state (cycle_of m profile before state input)) inputs) more)
       (append_assoc before (input ∷ []) inputs)
 
   -- and so are the frames
   pub runs_behind-append : (before inputs more : List CycleInput) (state : State G E)
       → runs_behind m profile before state (inputs ++ more)
-      ≡ runs_behind m profile before state inputs ++ runs_behind m profile (before ++ inputs) (state_behind m profile before state inputs) more
+      ≡ runs_behind m profile before state inputs ++ runs_behind m profile (before ++ inputs) (state_behind m profile before state inputs)
+      more
   unfolding state_behind runs_behind
   runs_behind-append before [] more state = ap (λ b. runs_behind m profile b state more) (sym (append-nil before))
   runs_behind-append before (input ∷ inputs) more state =
       ap (λ l. frame_of m profile before state input ∷ l)
       (runs_behind-append (before ++ input ∷ []) inputs more (state_after state (cycle_of m profile before state input))
       ∙ ap (λ b. runs_behind m profile (before ++ input ∷ []) (state_after state (cycle_of m profile before state input)) inputs
-      ++ runs_behind m profile b (state_behind m profile (before ++ input ∷ []) (state_after state (cycle_of m profile before state input)) inputs) more)
+      ++ runs_behind m profile b (state_behind m profile (before ++ input ∷ []) (state_after state (cycle_of m profile before state input))
+      inputs) more)
       (append_assoc before (input ∷ []) inputs))
 
   -- the state after one more input is that after its cycle
   pub state_of-append : (inputs : List CycleInput) (input : CycleInput)
-      → state_of m profile (inputs ++ input ∷ []) ≡ state_after (state_of m profile inputs) (cycle_of m profile inputs (state_of m profile inputs) input)
+      → state_of m profile (inputs ++ input ∷ []) ≡ state_after (state_of m profile inputs)
+      (cycle_of m profile inputs (state_of m profile inputs) input)
   unfolding state_behind
   state_of-append inputs input = state_behind-append [] inputs (input ∷ []) (first_state m profile)
 
@@ -82,14 +90,17 @@ module _ {S G E L P : Type 0} (m : Meaning S G E L P) (profile : ProfileValue) w
   runs-append inputs input = runs_behind-append [] inputs (input ∷ []) (first_state m profile)
 
   -- as many frames of cycles as inputs
-  pub length-runs : (before inputs : List CycleInput) (state : State G E) → length (runs_behind m profile before state inputs) ≡ length inputs
+  pub length-runs : (before inputs : List CycleInput) (state : State G E)
+      → length (runs_behind m profile before state inputs) ≡ length inputs
   unfolding runs_behind
   length-runs before [] state = refl
-  length-runs before (input ∷ inputs) state = ap suc (length-runs (before ++ input ∷ []) inputs (state_after state (cycle_of m profile before state input)))
+  length-runs before (input ∷ inputs) state = ap suc (length-runs (before ++ input ∷ []) inputs
+      (state_after state (cycle_of m profile before state input)))
 
   -- the frames of a run that goes on begin with those so far
   pub frames-append : (inputs : List CycleInput) (input : CycleInput)
-      → frames m profile (inputs ++ input ∷ []) false ≡ frames m profile inputs false ++ Run (frame_of m profile inputs (state_of m profile inputs) input) ∷ []
+      → frames m profile (inputs ++ input ∷ []) false ≡ frames m profile inputs false
+      ++ Run (frame_of m profile inputs (state_of m profile inputs) input) ∷ []
   frames-append inputs input =
       let start : List Frame = Register ∷ Discover ∷ Init (init_of m profile) ∷ [] in
       let frame : RunFrame = frame_of m profile inputs (state_of m profile inputs) input in
@@ -106,19 +117,22 @@ module _ {S G E L P : Type 0} (m : Meaning S G E L P) (profile : ProfileValue) w
       ap (λ l. l ++ Terminate ∷ []) (sym (append-nil (start ++ map as_run (runs m profile inputs))))
 
   -- what an engine shows at its start are the elements of Init
-  pub init_is : (engine : EngineState S G E) → StandsFor m profile engine [] → map (m.shown engine.job) engine.state.elements ≡ init_of m profile
+  pub init_is : (engine : EngineState S G E) → StandsFor m profile engine []
+      → map (m.shown engine.job) engine.state.elements ≡ init_of m profile
   unfolding state_behind
   init_is engine stands = λ i. map (m.shown (stands.job i)) (stands.state i).elements
 
   -- an engine in the run has as many events as the profile
-  pub stands_events : (engine : EngineState S G E) (inputs : List CycleInput) → StandsFor m profile engine inputs → length engine.rings ≡ length profile.events
+  pub stands_events : (engine : EngineState S G E) (inputs : List CycleInput) → StandsFor m profile engine inputs
+      → length engine.rings ≡ length profile.events
   stands_events engine inputs stands = ap length stands.rings.rings ∙ length-rings 0 profile.events (samples_of inputs) []
 
   -- the next cycle of an engine in the run is that of the run
   pub cycle_is : (engine : EngineState S G E) (inputs : List CycleInput) (input : CycleInput) → StandsFor m profile engine inputs
       → next_cycle m engine input.time ≡ cycle_of m profile inputs (state_of m profile inputs) input
   cycle_is engine inputs input stands =
-      same_cycle m input.time stands.job stands.state (seen_windows _ _ _ _ stands.rings) (ap (λ n. n + 1) stands.cycles) (ap (λ t. next_time t input.time) stands.cycle_time)
+      same_cycle m input.time stands.job stands.state (seen_windows _ _ _ _ stands.rings) (ap (λ n. n + 1) stands.cycles)
+      (ap (λ t. next_time t input.time) stands.cycle_time)
 
   -- and so is its frame
   pub frame_is : (engine : EngineState S G E) (inputs : List CycleInput) (input : CycleInput) → StandsFor m profile engine inputs

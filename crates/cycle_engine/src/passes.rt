@@ -43,8 +43,8 @@ impl<J: Job> Model for Passes<J> {
     ghost invariant = { λ p. J.Fit (arc_value p.job) (arc_value p.plan) × (p.cycle ≤ 1000000) };
 }
 
-/// What the passes up to one leave: the new elements, the words that each drew, the part, and, where
-/// it is the last pass, what the elements show.
+/// What the passes up to one leave: the new elements, the words that each drew, the part, and,
+/// where it is the last pass, what the elements show.
 #[derive(Drop)]
 pub struct SoFar<E, P> {
     pub(crate) elements: Container<E>,

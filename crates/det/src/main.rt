@@ -1,4 +1,5 @@
-//! The program `det`: the real shelf, standard output and standard error, the shipped probes, and `top`.
+//! The program `det`: the real shelf, standard output and standard error, the shipped probes, and
+//! `top`.
 #![tactic(auto)]
 
 use det_cli::{Answer, Status, top};

@@ -129,7 +129,8 @@ needs-command first last = of-same (λ c. Tells first (opened c (told first)) �
 pub runs-command : (first last : ShelfState) (other : Type 0) (before after : List ℕ → Type 0) (audience stayed : AudienceState)
     (answer : Answer) (command same : Option CommandValue) → command ≡ same
     → Runs same first last other before after audience stayed answer → Runs command first last other before after audience stayed answer
-runs-command first last other before after audience stayed answer = of-same (λ c. Runs c first last other before after audience stayed answer)
+runs-command first last other before after audience stayed answer = of-same
+    (λ c. Runs c first last other before after audience stayed answer)
 
 module _ (shelf : ShelfState) (other : Type 0) (before : List ℕ → Type 0) (audience : AudienceState) where
   -- words that are no command are refused

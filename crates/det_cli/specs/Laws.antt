@@ -6,7 +6,8 @@ use Rattle.det_edges.specs.Shelf.{ShelfState}
 use Rattle.probes.specs.Reports.{AudienceState}
 use Rattle.cli_answers.specs.declared.status.Status.{Status}
 use Rattle.cli_answers.specs.declared.status.Status.TheVariants.{Done, Differs, BadWords}
-use Rattle.cli_answers.specs.declared.status.Status.TheVariants.{BadManifest, BadStimulus, BadRecord}
+use Rattle.cli_answers.specs.declared.status.Status.TheVariants.{BadManifest, BadStimulus}
+use Rattle.cli_answers.specs.declared.status.Status.TheVariants.{BadRecord}
 use Rattle.cli_answers.specs.declared.status.Status.TheVariants.{ReadFault, WriteFault, OutOfMemory}
 use Rattle.cli_answers.specs.Answers.{status_of}
 use Rattle.cli_answers.specs.Outcome.{Outcome, Tells, told}

@@ -18,8 +18,8 @@ abbrev pub Ends : Option CommandValue → Answer → Type 0
 Ends None answer = answer ≡ BadWords
 Ends (Some command) answer = can_end (work_of command.word) answer ≡ true
 
--- A run of a command. `out` took what `before` and `after` say; the audience `seeing` was handed in,
--- and is `stayed` afterwards.
+-- A run of a command. `out` took what `before` and `after` say; the audience `seeing` was handed
+-- in, and is `stayed` afterwards.
 pub record Runs (command : Option CommandValue) (first last : ShelfState) (out_failed : Type 0)
     (before after : List ℕ → Type 0) (seeing stayed : AudienceState) (answer : Answer)
     : Type 0 where

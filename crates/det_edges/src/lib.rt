@@ -23,7 +23,7 @@ pub use faults::{ShelfFailed, SinkFailed};
 pub use mem_shelf::{MemFile, MemFiles, MemShelf};
 pub use mem_sink::MemSink;
 pub use planned_calls::FailList;
-pub use reading::{TooLong, read_limited};
+pub use reading::{PIECE, TooLong, read_limited};
 pub use shelf::Shelf;
 pub use sink::Sink;
 pub use slots::Slots;

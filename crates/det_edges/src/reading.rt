@@ -11,7 +11,8 @@ use std::alloc::Global;
 #[derive(Clone, Copy, Debug, PartialEq, Eq, Drop)]
 pub struct TooLong;
 
-const PIECE: usize = 4096;
+/// How many bytes of a slot are asked for at a time.
+pub const PIECE: usize = 4096;
 
 /// Reads what is left of a slot, where that is at most `most` bytes. Each byte is read once, and
 /// nothing beyond `most` is kept.

@@ -20,7 +20,8 @@ pub values_of-append : (event : ℕ) (xs ys : List SampleValue) → values_of ev
 unfolding values_of
 values_of-append event [] ys = refl
 values_of-append event (s ∷ xs) ys =
-    elim (nat_eq event s.event) as (λ b. cond b (s.value ∷ values_of event (xs ++ ys)) (values_of event (xs ++ ys)) ≡ cond b (s.value ∷ values_of event xs) (values_of event xs) ++ values_of event ys) [
+    elim (nat_eq event s.event) as (λ b. cond b (s.value ∷ values_of event (xs ++ ys)) (values_of event (xs ++ ys))
+    ≡ cond b (s.value ∷ values_of event xs) (values_of event xs) ++ values_of event ys) [
       | true ↦ ap (λ l. s.value ∷ l) (values_of-append event xs ys)
       | false ↦ values_of-append event xs ys
     ]
@@ -38,10 +39,12 @@ last_of-push (first ∷ second ∷ rounds) round = last_of-push (second ∷ roun
 
 -- a turn of one event's rings
 turned_window : (policy : Policy) (capacity event : ℕ) (rounds : List (List SampleValue)) (arrived : List SampleValue)
-    → seen_next policy capacity (keep_last capacity (values_of event (looked_at policy rounds))) (keep_last capacity (values_of event arrived)) ≡ keep_last capacity (values_of event (looked_at policy (rounds ++ arrived ∷ [])))
+    → seen_next policy capacity (keep_last capacity (values_of event (looked_at policy rounds)))
+    (keep_last capacity (values_of event arrived)) ≡ keep_last capacity (values_of event (looked_at policy (rounds ++ arrived ∷ [])))
 turned_window Last capacity event rounds arrived =
     kept_in capacity (values_of event (all_of rounds)) (values_of event arrived)
-    ∙ ap (keep_last capacity) (sym (values_of-append event (all_of rounds) arrived) ∙ ap (values_of event) (sym (all_of-push rounds arrived)))
+    ∙ ap (keep_last capacity) (sym (values_of-append event (all_of rounds) arrived)
+    ∙ ap (values_of event) (sym (all_of-push rounds arrived)))
 turned_window Fresh capacity event rounds arrived = ap (λ l. keep_last capacity (values_of event l)) (sym (last_of-push rounds arrived))
 
 pub turned_rings : (event : ℕ) (specs : List EventSpecValue) (rounds : List (List SampleValue)) (arrived : List SampleValue)
@@ -89,7 +92,8 @@ other_values event arrived sample other =
     ≡ [] = elim (eqb_tells event sample.event) [ inl p ↦ absurd (other p.1) | inr p ↦ rw p.0 refl ] in
     values_of-append event arrived (sample ∷ []) ∙ ap (λ l. values_of event arrived ++ l) none ∙ append-nil (values_of event arrived)
 
-later_rings : (first : ℕ) (specs : List EventSpecValue) (rounds : List (List SampleValue)) (arrived : List SampleValue) (sample : SampleValue)
+later_rings : (first : ℕ) (specs : List EventSpecValue) (rounds : List (List SampleValue)) (arrived : List SampleValue)
+    (sample : SampleValue)
     → sample.event < first → rings_from first specs rounds (arrived ++ sample ∷ []) ≡ rings_from first specs rounds arrived
 unfolding rings_from
 later_rings first [] rounds arrived sample below = refl
@@ -102,7 +106,8 @@ later_rings first (spec ∷ specs) rounds arrived sample below =
     } ∷ later_rings (suc first) specs rounds arrived sample (omega arith) i
 
 -- a sample that arrived
-joined_rings : (first : ℕ) (specs : List EventSpecValue) (rounds : List (List SampleValue)) (arrived : List SampleValue) (sample : SampleValue) (d : Rings) (i : ℕ)
+joined_rings : (first : ℕ) (specs : List EventSpecValue) (rounds : List (List SampleValue)) (arrived : List SampleValue)
+    (sample : SampleValue) (d : Rings) (i : ℕ)
     → first + i ≡ sample.event → i < length (rings_from first specs rounds arrived)
     → set (rings_from first specs rounds arrived) i (joined (get_or (rings_from first specs rounds arrived) i d) sample.value)
     ≡ rings_from first specs rounds (arrived ++ sample ∷ [])
@@ -162,7 +167,8 @@ limits_turned rings limits = record {
 
 pub limits_all_turned : (old new : List Rings) → new ≡ map turned old → All IsInLimits old → All IsInLimits new
 limits_all_turned old new e limits =
-    All-same IsInLimits new (map turned old) e (All-map IsInLimits turned old (All-weaker IsInLimits (λ r. IsInLimits (turned r)) limits_turned old limits))
+    All-same IsInLimits new (map turned old) e (All-map IsInLimits turned old
+    (All-weaker IsInLimits (λ r. IsInLimits (turned r)) limits_turned old limits))
 
 -- rings of an event without samples
 abbrev pub empty : EventSpecValue → Rings
@@ -193,7 +199,8 @@ limits_empty specs = All-map IsInLimits empty specs (λ k d below. record { seen
 
 pub all_windows : (cache : List Rings) → All IsInLimits cache → All (All IsSampleValue) (windows cache)
 all_windows cache limits =
-    All-map (All IsSampleValue) (λ (r : Rings). r.seen) cache (All-weaker IsInLimits (λ r. All IsSampleValue r.seen) (λ r l. l.seen) cache limits)
+    All-map (All IsSampleValue) (λ (r : Rings). r.seen) cache (All-weaker IsInLimits (λ r. All IsSampleValue r.seen) (λ r l. l.seen) cache
+    limits)
 
 pub seen_windows : (cache : List Rings) (specs : List EventSpecValue) (rounds : List (List SampleValue)) (arrived : List SampleValue)
     → HasSeen cache specs rounds arrived → windows cache ≡ windows_from 0 specs rounds
@@ -257,8 +264,10 @@ made_windows specs made i whole e = seen_windows made specs [] [] (seen_nothing 
 pub made_fit : (specs : List EventSpecValue) (made : List Rings) (i : ℕ) → length specs ≤ 256 → length specs ≤ i → made
     ≡ map empty (take i specs) → (length made ≤ 256) × All IsInLimits made
 made_fit specs made i few whole e =
-    let all : made ≡ map empty specs = made_whole specs made i whole e in
-    (omega (arith, ap (λ (l : List Rings). length l) all, length-map specs empty), All-same IsInLimits made (map empty specs) all (limits_empty specs))
+    let all : made ≡ map empty specs = made_whole specs made i whole e in (
+      omega (arith, ap (λ (l : List Rings). length l) all, length-map specs empty),
+      All-same IsInLimits made (map empty specs) all (limits_empty specs),
+    )
 
 pub turned_fit : (old new : List Rings) → new ≡ map turned old → (length old ≤ 256) × All IsInLimits old → (length new ≤ 256)
     × All IsInLimits new
@@ -283,7 +292,8 @@ pub seen_arrived : (cache : List Rings) (old new : Rings) (sample : SampleValue)
     → (specs : List EventSpecValue) (rounds : List (List SampleValue)) (arrived : List SampleValue) → HasSeen cache specs rounds arrived
     → HasSeen (set cache sample.event new) specs rounds (arrived ++ sample ∷ [])
 seen_arrived cache old new sample within at after specs rounds arrived has_seen =
-    let done : HasSeen (set cache sample.event (joined old sample.value)) specs rounds (arrived ++ sample ∷ []) = seen_joined cache old sample within at specs rounds arrived has_seen in
+    let done : HasSeen (set cache sample.event (joined old sample.value)) specs rounds (arrived ++ sample ∷ []) =
+    seen_joined cache old sample within at specs rounds arrived has_seen in
     record { rings = ap (set cache sample.event) after ∙ done.rings }
 
 pub are_windows : (cache : List Rings) (events : ℕ) → events ≡ length cache → All IsInLimits cache → AreWindows events (windows cache)

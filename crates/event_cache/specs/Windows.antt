@@ -88,7 +88,8 @@ rings_from event (spec ∷ specs) rounds arrived =
 
 -- A cache of these events was given the samples of these rounds, each before a turn, and since then
 -- those that arrived.
-pub record HasSeen (cache : List Rings) (specs : List EventSpecValue) (rounds : List (List SampleValue)) (arrived : List SampleValue)
+pub record HasSeen (cache : List Rings) (specs : List EventSpecValue)
+    (rounds : List (List SampleValue)) (arrived : List SampleValue)
     : Type 0 where
   pub rings : cache ≡ rings_from 0 specs rounds arrived
 

@@ -54,22 +54,30 @@ module _ {S G E L P : Type 0} (m : Meaning S G E L P) (j : S) where
   -- those drawn so far
   abbrev pub next_pass : L → ℕ → ℕ → ℕ → Passed E P → Result (Passed E P) RefusedAtValue
   next_pass plan seed cycle p done =
-      in_pool p (λ next. record { elements = next.elements; draws = added done.draws next.draws; part = next.part })
+      in_pool p (λ next. record {
+        elements = next.elements;
+        draws = added done.draws next.draws;
+        part = next.part;
+      })
       (passed m j plan done.part seed cycle p done.elements)
 
   -- pass 0, which carries the unit
   abbrev pub first_pass : L → ℕ → ℕ → List E → Result (Passed E P) RefusedAtValue
-  first_pass plan seed cycle es = in_pool 0 (λ first. first) (passed m j plan (m.unit_part j) seed cycle 0 es)
+  first_pass plan seed cycle es = in_pool 0 (λ first. first)
+      (passed m j plan (m.unit_part j) seed cycle 0 es)
 
   -- n more passes, the first of number p; a refusal ends them
-  abbrev pub passes_on : L → ℕ → ℕ → ℕ → ℕ → Result (Passed E P) RefusedAtValue → Result (Passed E P) RefusedAtValue
+  abbrev pub passes_on : L → ℕ → ℕ → ℕ → ℕ → Result (Passed E P) RefusedAtValue
+      → Result (Passed E P) RefusedAtValue
   passes_on plan seed cycle n p (Err at) = Err at
   passes_on plan seed cycle zero p (Ok done) = Ok done
-  passes_on plan seed cycle (suc n) p (Ok done) = passes_on plan seed cycle n (p + 1) (next_pass plan seed cycle p done)
+  passes_on plan seed cycle (suc n) p (Ok done) = passes_on plan seed cycle n (p + 1)
+      (next_pass plan seed cycle p done)
 
   -- all passes of a plan
   abbrev pub all_passes : L → ℕ → ℕ → List E → Result (Passed E P) RefusedAtValue
-  all_passes plan seed cycle es = passes_on plan seed cycle (m.passes_of j plan - 1) 1 (first_pass plan seed cycle es)
+  all_passes plan seed cycle es = passes_on plan seed cycle (m.passes_of j plan - 1) 1
+      (first_pass plan seed cycle es)
 
   -- the sequential end, after the last pass
   abbrev pub concluded : G → L → ℕ → Passed E P → Result (Done G E) RefusedAtValue
@@ -84,7 +92,8 @@ module _ {S G E L P : Type 0} (m : Meaning S G E L P) (j : S) where
       ]
 
   -- one cycle of a state, by the windows, the cycle's number, its time and the next time
-  abbrev pub cycled : State G E → List (List ℤ) → ℕ → Option ℕ → Option ℕ → Result (Done G E) RefusedAtValue
+  abbrev pub cycled : State G E → List (List ℤ) → ℕ → Option ℕ → Option ℕ
+      → Result (Done G E) RefusedAtValue
   cycled s windows cycle time next =
       elim (m.prepared j s.globals s.elements windows s.seed cycle time next) [
         | Ok p ↦ elim (all_passes p.plan p.seed cycle s.elements) [

@@ -29,7 +29,8 @@ pub record Meaning (S G E L P : Type 0) : Type 0 where
   pub started : S → ℕ → Begun G E
   -- of the globals, the elements, the window of each event, the seed, the number of the cycle, its
   -- time and the next time, the client standing at the beginning of its own words
-  pub prepared : S → G → List E → List (List ℤ) → ℕ → ℕ → Option ℕ → Option ℕ → Result (Prepared L) ℕ
+  pub prepared : S → G → List E → List (List ℤ) → ℕ → ℕ → Option ℕ → Option ℕ
+      → Result (Prepared L) ℕ
   -- the number of passes
   pub passes_of : S → L → ℕ
   -- the part of no elements

@@ -16,7 +16,8 @@ pub record Refusal : Type 0 where
   pub element : ℕ
   pub code : ℕ
 
-module _ {S G E L P : Type 0} (m : Meaning S G E L P) (j : S) (plan : L) (carry : P) (seed cycle pass : ℕ) where
+module _ {S G E L P : Type 0} (m : Meaning S G E L P) (j : S) (plan : L) (carry : P)
+    (seed cycle pass : ℕ) where
   -- what stands before any element
   abbrev pub nothing : Passed E P
   nothing = record { elements = []; draws = []; part = m.unit_part j }
@@ -35,7 +36,8 @@ module _ {S G E L P : Type 0} (m : Meaning S G E L P) (j : S) (plan : L) (carry 
   taken i [] done = Ok done
   taken i (e ∷ es) done =
       elim (m.worked j plan carry pass e (key seed cycle pass i)) [
-        | Ok w ↦ taken (i + 1) es (more done w (m.drawn j plan carry pass e (key seed cycle pass i)))
+        | Ok w ↦ taken (i + 1) es (more done w (m.drawn j plan carry pass e
+            (key seed cycle pass i)))
         | Err code ↦ Err (record { element = i; code = code })
       ]
 

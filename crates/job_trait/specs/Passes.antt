@@ -20,7 +20,8 @@ abbrev pub passed_of : {E P : Type 0} → PassDone E P → Passed E P
 passed_of done = record { elements = done.elements; draws = done.draws; part = done.part }
 
 -- the answer is what the pass gives; want of memory is free
-abbrev pub IsPass : {E P : Type 0} → Result (PassDone E P) PoolFault → Result (Passed E P) Refusal → Type 0
+abbrev pub IsPass : {E P : Type 0} → Result (PassDone E P) PoolFault → Result (Passed E P) Refusal
+    → Type 0
 IsPass (Ok done) pass = pass ≡ Ok (passed_of done)
 IsPass (Err (Refused element code)) pass = pass ≡ Err (record { element = element; code = code })
 IsPass (Err OutOfMemory) pass = Unit {0}
@@ -39,7 +40,8 @@ module _ {S G E L P : Type 0} where
   -- what the whole pass gives
   abbrev pub pass_of : Meaning S G E L P → PassOf S G E L P → Result (Passed E P) Refusal
   pass_of m t =
-      passed m (arc_value t.job) (arc_value t.plan) (arc_value t.carry) t.seed t.cycle t.number (arc_value t.elements)
+      passed m (arc_value t.job) (arc_value t.plan) (arc_value t.carry) t.seed t.cycle t.number
+      (arc_value t.elements)
 
   -- the number of its blocks
   abbrev pub blocks_in : PassOf S G E L P → ℕ
@@ -48,7 +50,8 @@ module _ {S G E L P : Type 0} where
   -- what its block b gives
   abbrev pub block_in : Meaning S G E L P → PassOf S G E L P → ℕ → Result (Passed E P) Refusal
   block_in m t b =
-      block m (arc_value t.job) (arc_value t.plan) (arc_value t.carry) t.seed t.cycle t.number b (arc_value t.elements)
+      block m (arc_value t.job) (arc_value t.plan) (arc_value t.carry) t.seed t.cycle t.number b
+      (arc_value t.elements)
 
   -- the conditions of a pass
   pub record IsReady (m : Meaning S G E L P) (Covers : S → P → ℕ → Type 0) (Own : S → E → Type 0)
@@ -59,7 +62,8 @@ module _ {S G E L P : Type 0} where
     pub own : All (Own (arc_value t.job)) (arc_value t.elements)
     pub carried : CoversSome (Covers (arc_value t.job)) (arc_value t.carry)
     pub early : t.cycle ≤ 1000000
-    pub level : (arc_value t.earlier ≡ []) ⊎ (length (arc_value t.earlier) ≡ length (arc_value t.elements))
+    pub level : (arc_value t.earlier ≡ []) ⊎ (length (arc_value t.earlier)
+        ≡ length (arc_value t.elements))
     pub few_earlier : All (λ draws. draws ≤ 458745) (arc_value t.earlier)
 
   -- an answer of a pass
@@ -70,7 +74,9 @@ module _ {S G E L P : Type 0} where
     pub many : IfOk answer (λ done. length done.elements ≡ length (arc_value t.elements))
     pub drew : IfOk answer (λ done. length done.draws ≡ length (arc_value t.elements))
     pub few_drawn : IfOk answer (λ done. All (λ draws. draws ≤ 65535) done.draws)
-    pub covers : IfOk answer (λ done. Covers (arc_value t.job) done.part (length (arc_value t.elements)))
+    pub covers : IfOk answer (λ done. Covers (arc_value t.job) done.part
+        (length (arc_value t.elements)))
     pub element : IfErr answer (RefusedBelow (length (arc_value t.elements)))
     pub shown : IfOk answer (λ done. t.shows ≡ true → done.shown
-        ≡ shown_with m (arc_value t.job) done.elements (drawn_so_far (arc_value t.earlier) done.draws))
+        ≡ shown_with m (arc_value t.job) done.elements
+        (drawn_so_far (arc_value t.earlier) done.draws))

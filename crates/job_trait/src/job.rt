@@ -1,6 +1,7 @@
 //! The trait.
 
-ghost use Rattle.std.specs.Prelude.{◌≡◌, ℕ, ◌<◌, ◌≤◌, ◌++◌, List, length, None, Some, MatchResult, IfOk, OnOk};
+ghost use Rattle.std.specs.Prelude.{◌≡◌, ℕ, ◌<◌, ◌≤◌, ◌++◌, List, length, None, Some, MatchResult};
+ghost use Rattle.std.specs.Prelude.{IfOk, OnOk};
 ghost use Rattle.std.specs.List.{All};
 ghost use Rattle.element_random.specs.Words.{StandsFor, key};
 ghost use Rattle.det_client.specs.State.{next_time, OwnAt, SameButSeed};
@@ -47,7 +48,8 @@ pub trait Job: Sized + Drop {
     /// The job of these parameters. It takes no memory.
     fn make(params: &Params, events: u16) -> Result<Self, BadParam>
         ensures { MatchResult result
-            (λ job. (meaning.bad_param params.now events ≡ None) × (job ≡ meaning.made params.now events))
+            (λ job. (meaning.bad_param params.now events ≡ None)
+            × (job ≡ meaning.made params.now events))
             (λ bad. meaning.bad_param params.now events ≡ Some bad.index) };
 
     /// The elements and globals of a new run. The client stands in Init, which belongs to cycle 0;
@@ -60,7 +62,11 @@ pub trait Job: Sized + Drop {
         requires init { client.old.last ≡ Some Activation.Init }
         requires beginning { StandsFor client.old.own (key client.old.seed 0 255 0) 0 }
         ensures gives { IfOk result (λ begun. meaning.started self.now client.old.seed
-            ≡ record { globals = begun.globals; elements = begun.elements; seed = client.new.seed }) }
+            ≡ record {
+              globals = begun.globals;
+              elements = begun.elements;
+              seed = client.new.seed;
+            }) }
         ensures own { IfOk result (λ begun. All (Own self.now) begun.elements) }
         ensures few { IfOk result (λ begun. length begun.elements ≤ 65536) }
         ensures same { SameButSeed client.old client.new };
@@ -131,7 +137,8 @@ pub trait Job: Sized + Drop {
     /// A refused call may leave some of them.
     fn put_element(&self, element: &Self::Element, out: &mut Vec<u8>) -> Result<(), OutOfMemory>
         requires { Own self.now element.now }
-        ensures ok { OnOk result (out.new.items ≡ out.old.items ++ meaning.shown self.now element.now) }
+        ensures ok { OnOk result (out.new.items ≡ out.old.items
+            ++ meaning.shown self.now element.now) }
         ensures short { OnOk result (length (meaning.shown self.now element.now) ≤ 64) }
         ensures grows { Grows out.old.items out.new.items };
 

@@ -25,8 +25,8 @@ pub struct PassOf<J: Job> {
 }
 
 /// What a pass leaves: the new elements, the parts joined, and the number of words that each
-/// element drew in it. Where the pass shows its elements, `shown` are they, each with the words that
-/// it drew in all passes up to this one.
+/// element drew in it. Where the pass shows its elements, `shown` are they, each with the words
+/// that it drew in all passes up to this one.
 #[derive(Drop)]
 pub struct PassDone<E, P> {
     pub elements: Container<E>,

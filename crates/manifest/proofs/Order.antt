@@ -10,7 +10,8 @@ use Rattle.manifest.proofs.Steps.{first_append}
 pub first_of_keys : (tree : Data) → first_fault tree (keys tree)
     ≡ option_or (fault_at tree Job) (option_or (fault_at tree CycleTime) (option_or (fault_at tree Workers)
     (option_or (first_fault tree (params_keys tree)) (option_or (first_fault tree (events_keys tree))
-    (option_or (fault_at tree Platform) (option_or (first_fault tree (needs_keys InitNeeds InitNeed)) (first_fault tree (needs_keys RunNeeds RunNeed))))))))
+    (option_or (fault_at tree Platform) (option_or (first_fault tree (needs_keys InitNeeds InitNeed))
+    (first_fault tree (needs_keys RunNeeds RunNeed))))))))
 first_of_keys tree =
     let e = first_append tree (needs_keys InitNeeds InitNeed) (needs_keys RunNeeds RunNeed) in
     ap (λ o. option_or (fault_at tree Job) (option_or (fault_at tree CycleTime) (option_or (fault_at tree Workers) o)))

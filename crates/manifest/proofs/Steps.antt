@@ -71,7 +71,8 @@ events_more tree i n done more x h e pushed = rw (pushed, append_assoc, events_v
 -- whether an event repeats an earlier one, and those after it
 pub duplicate_step : (events : List EventSpecValue) (i : ℕ) (d : EventSpecValue) → i < length events
     → duplicate_after (take i events) i (drop i events)
-    ≡ (if list_any (λ e. bytes_eq e.name (get_or events i d).name) (take i events) then Some i else duplicate_after (take (i + 1) events) (i + 1) (drop (i + 1) events))
+    ≡ (if list_any (λ e. bytes_eq e.name (get_or events i d).name) (take i events) then Some i else duplicate_after (take (i + 1) events)
+    (i + 1) (drop (i + 1) events))
 duplicate_step events i d h = rw (drop_more events i d h, take_more events i d h)
 
 pub is_duplicate : (events : List EventSpecValue) (i : ℕ) (d : EventSpecValue) → d ≡ get_or events i d → i < length events

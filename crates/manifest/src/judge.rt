@@ -159,7 +159,8 @@ pub(crate) fn count(found: Option<&Value>, key: Key, most: u16) -> Result<u16, M
 
 /// Whether a table is there.
 pub(crate) fn section(found: Option<&Value>, key: Key) -> Result<bool, ManifestFault>
-    ensures { IsJudged result (fault_by key false section (seen found.entry)) (is_some (seen found.entry)) }
+    ensures { IsJudged result (fault_by key false section (seen found.entry))
+        (is_some (seen found.entry)) }
 {
     match found {
         None => Ok(false),

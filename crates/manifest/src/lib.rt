@@ -25,5 +25,5 @@ pub use key_text::KeyText;
 pub use manifest::Manifest;
 pub use needs::Needs;
 pub use platform_name::PlatformName;
-pub use read::{read_manifest, read_strict_manifest};
+pub use read::{MOST_BYTES, read_manifest, read_strict_manifest};
 pub use unknown::{KeyTable, UnknownKey};

@@ -18,6 +18,9 @@ use det_values::JobKind;
 use std::alloc::Global;
 use toml::Value;
 
+/// The greatest length of a manifest in bytes.
+pub const MOST_BYTES: usize = 65_536;
+
 /// Whether a table of needs is there, so that the platform is needed.
 fn has_needs(tree: &Value) -> bool
     ensures { result ≡ (has (view tree.now) Key.InitNeeds || has (view tree.now) Key.RunNeeds) }
@@ -89,7 +92,7 @@ fn parse(alloc: Global, text: &str) -> Result<Value, ManifestError>
 fn document(alloc: Global, bytes: &[u8]) -> Result<Value, ManifestError>
     ensures { IsDocument result bytes.now }
 {
-    if bytes.len() > 65536 {
+    if bytes.len() > MOST_BYTES {
         return Err(ManifestError::Fault(ManifestFault::TooLong));
     }
     let text = match std::str::from_utf8(bytes) {

@@ -53,7 +53,8 @@ impl Stage {
     /// The number at a key of the table.
     fn need(self, needs: Option<&Value>, need: NeedKey) -> Result<u64, ManifestFault>
         ensures judged { let place = step (to_member (need_word need)) (seen needs.entry) in
-            IsJudged result (fault_by (need_key self need) true (need_kind need) place) (number_of place) }
+            IsJudged result (fault_by (need_key self need) true (need_kind need) place)
+            (number_of place) }
         ensures least { IfOk result (λ n. need_least need ≤ n) }
         ensures most { IfOk result (λ n. n ≤ need_most need) }
     {
@@ -64,7 +65,8 @@ impl Stage {
     /// The table, where its key is there.
     #[tactic(auto, using(crate::proofs::NeedKeys::need_found, crate::proofs::NeedKeys::need_fault, crate::proofs::NeedKeys::section_fault))]
     pub(crate) fn read_needs(self, tree: &Value) -> Result<Option<Needs>, ManifestFault>
-        ensures judged { IsJudged result (first_fault (view tree.now) (needs_keys (section_key self) (need_key self)))
+        ensures judged { IsJudged result (first_fault (view tree.now)
+            (needs_keys (section_key self) (need_key self)))
             (needs_of (view tree.now) (section_key self) (need_key self)) }
         ensures range { IfOk result (λ needs. ForSome needs IsNeeds) }
     {

@@ -22,7 +22,8 @@ All-added a b (x ∷ xs) (y ∷ ys) h k =
     All-cons (λ n. n ≤ a + b) (x + y) (added xs ys) (omega arith)
     (All-added a b xs ys (All-tail (λ n. n ≤ a) x xs h) (All-tail (λ n. n ≤ b) y ys k))
 
-pub added-append : (xs more ys others : List ℕ) → length xs ≡ length ys → added (xs ++ more) (ys ++ others) ≡ added xs ys ++ added more others
+pub added-append : (xs more ys others : List ℕ) → length xs ≡ length ys
+    → added (xs ++ more) (ys ++ others) ≡ added xs ys ++ added more others
 added-append [] more [] others e = refl
 added-append [] more (y ∷ ys) others e = absurd (omega (arith, e))
 added-append (x ∷ xs) more [] others e = absurd (omega (arith, e))

@@ -30,7 +30,8 @@ pub stands_last : (es : List DrawnElement) (old new : List ℕ) (s : Span) → A
 stands_last es old new s h from to =
     let whole : new ≡ old ++ spelled_all es = h.bytes in
     let n : length new ≡ length old + length (spelled_all es) = ap length whole ∙ length-append old (spelled_all es) in
-    let d : drop s.from new ≡ spelled_all es = ap (λ k. drop k new) from ∙ ap (drop (length old)) whole ∙ drop-append_seam old (spelled_all es) in
+    let d : drop s.from new ≡ spelled_all es = ap (λ k. drop k new) from ∙ ap (drop (length old)) whole
+    ∙ drop-append_seam old (spelled_all es) in
     let r : slice_range new s.from s.to ≡ spelled_all es =
     ap (take (s.to - s.from)) d ∙ take_all (s.to - s.from) (spelled_all es) (omega (arith, n, from, to)) in
     record {

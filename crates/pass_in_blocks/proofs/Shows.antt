@@ -1,5 +1,6 @@
 -- What the blocks of a pass show, one behind another.
-use Rattle.std.proofs.Common.{◌≡◌, ℕ, zero, suc, ◌+◌, ◌*◌, ◌<◌, ◌≤◌, ◌⊎◌, ◌≢◌, inl, inr, List, [], ◌∷◌, ◌++◌, length, take, drop, Result, Ok, Err}
+use Rattle.std.proofs.Common.{◌≡◌, ℕ, zero, suc, ◌+◌, ◌*◌, ◌<◌, ◌≤◌, ◌⊎◌, ◌≢◌, inl, inr, List, [], ◌∷◌, ◌++◌, length, take, drop, Result}
+use Rattle.std.proofs.Common.{Ok, Err}
 use Rattle.std.proofs.Common.{refl, sym, ap, ◌∙◌, subst, arith, length-take, length-drop, length-append}
 use Rattle.std.specs.Prelude.{OnOk}
 use Rattle.std.specs.Arc.{arc_value}
@@ -136,7 +137,8 @@ module _ {S G E L P : Type 0} {m : Meaning S G E L P} {Covers : S → P → ℕ 
         → AreSpelled (shown_with m (arc_value t.job) e.elements e.draws) old new → AreSpelled (shown_in m t b) old new
     shows_plain old new none spelled =
         subst (λ r. AreSpelled (shown_by m t b r) old new) (sym came)
-        (subst (λ (ds : List ℕ). AreSpelled (shown_with m job e.elements ds) old new) (sym (plain_block (64 * b) xs e.draws (empty xs none)))
+        (subst (λ (ds : List ℕ). AreSpelled (shown_with m job e.elements ds) old new)
+        (sym (plain_block (64 * b) xs e.draws (empty xs none)))
         spelled)
 
     -- one block more
@@ -187,7 +189,8 @@ pub own_same : {S E : Type 0} (Own : S → E → Type 0) (j k : S) (es fs : List
 own_same {S} {E} Own j k es fs job elements own =
     subst (λ (l : S). All (Own l) fs) (sym job) (subst (λ (gs : List E). All (Own j) gs) (sym elements) own)
 
-pub spelled_same : {S G E L P : Type 0} (m : Meaning S G E L P) (j k : S) (es fs : List E) (ds ns old new : List ℕ) → k ≡ j → fs ≡ es → ns ≡ ds
+pub spelled_same : {S G E L P : Type 0} (m : Meaning S G E L P) (j k : S) (es fs : List E) (ds ns old new : List ℕ) → k ≡ j → fs ≡ es
+    → ns ≡ ds
     → AreSpelled (shown_with m k fs ns) old new → AreSpelled (shown_with m j es ds) old new
 spelled_same m j k es fs ds ns old new job elements draws spelled =
     subst (λ l. AreSpelled l old new) (λ i. shown_with m (job i) (elements i) (draws i)) spelled

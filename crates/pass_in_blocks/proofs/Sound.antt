@@ -189,7 +189,8 @@ module _ {S G E L P : Type 0} {m : Meaning S G E L P} {Covers : S → P → ℕ 
   -- the blocks before number b are done
   module _ (b : ℕ) (d : Passed E P) (is : first_in m t (64 * b) ≡ Ok d) where
     -- and there are no more
-    pub all_answer : (x : PassDone E P) → d ≡ passed_of x → length (arc_value t.elements) ≤ 64 * b → Shows x → IsAnswer m Covers Own t (Ok x)
+    pub all_answer : (x : PassDone E P) → d ≡ passed_of x → length (arc_value t.elements) ≤ 64 * b → Shows x
+        → IsAnswer m Covers Own t (Ok x)
     all_answer x same none_left =
         done_answer x (ap (λ (xs : List E). from 0 xs none) (sym (take_all (64 * b) es none_left)) ∙ is ∙ ap Ok same)
 

@@ -1,5 +1,6 @@
 -- What a pass shows, block by block, and the bytes in which it stands.
-use Rattle.std.specs.Prelude.{◌≡◌, ℕ, ◌*◌, ◌≤◌, ◌<◌, List, [], ◌++◌, length, take, drop, slice_range, slice_index_or, Result, Ok, Err}
+use Rattle.std.specs.Prelude.{◌≡◌, ℕ, ◌*◌, ◌≤◌, ◌<◌, List, [], ◌++◌, length, take, drop}
+use Rattle.std.specs.Prelude.{slice_range, slice_index_or, Result, Ok, Err}
 use Rattle.std.specs.List.{All}
 use Rattle.std.specs.Arc.{arc_value}
 use Rattle.det_values.specs.declared.frames.DrawnElement.{DrawnElement}

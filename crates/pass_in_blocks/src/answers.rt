@@ -16,8 +16,8 @@ pub struct BlockDone<E, P> {
 #[derive(Drop)]
 pub enum BlockAnswer<E, P> {
     Done(BlockDone<E, P>),
-    /// The least element of the block that refuses, counted from the beginning of the container, and
-    /// its code.
+    /// The least element of the block that refuses, counted from the beginning of the container,
+    /// and its code.
     Refused { element: u32, code: u32 },
 }
 

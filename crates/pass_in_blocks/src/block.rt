@@ -36,8 +36,8 @@ struct Block<'a, J: Job> {
 }
 
 impl<'a, J: Job> Block<'a, J> {
-    /// Runs its element `k` with random words of its own, adds what it gives to the lists, and answers
-    /// the part. It is the body of the loop that time is spent in, so it is inlined there.
+    /// Runs its element `k` with random words of its own, adds what it gives to the lists, and
+    /// answers the part. It is the body of the loop that time is spent in, so it is inlined there.
     #[inline(always)]
     fn step(
         &self,

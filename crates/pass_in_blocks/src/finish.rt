@@ -95,8 +95,8 @@ fn join_block<J: Job>(
 }
 
 /// The answer of a pass from results of its blocks, and from what the workers spelled of them,
-/// whichever they are and in whatever order. A block that has no result is run here and now, and one
-/// that wasn't spelled is spelled. The first block that refuses ends it.
+/// whichever they are and in whatever order. A block that has no result is run here and now, and
+/// one that wasn't spelled is spelled. The first block that refuses ends it.
 pub fn finish_pass<J: Job>(
     alloc: Global,
     pass: &PassOf<J>,

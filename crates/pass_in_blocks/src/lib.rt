@@ -1,8 +1,8 @@
 //! A pass of a job, block by block, whoever runs which block.
 //!
 //! A block is 64 neighbouring elements, or those that are left. `run_block` runs one, and
-//! `finish_pass` makes the answer of the pass from the blocks that others have run, and runs the rest
-//! itself. Neither knows of a thread.
+//! `finish_pass` makes the answer of the pass from the blocks that others have run, and runs the
+//! rest itself. Neither knows of a thread.
 #![tactic(auto)]
 
 mod answers;

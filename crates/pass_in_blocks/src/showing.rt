@@ -1,5 +1,6 @@
 //! What the new elements of a pass show.
-ghost use Rattle.std.specs.Prelude.{◌≡◌, ◌<◌, ◌≤◌, ℕ, List, ◌++◌, [], length, Ok, true, OnOk, IfOk, IfSome};
+ghost use Rattle.std.specs.Prelude.{◌≡◌, ◌<◌, ◌≤◌, ℕ, List, ◌++◌, [], length, Ok, true, OnOk, IfOk};
+ghost use Rattle.std.specs.Prelude.{IfSome};
 ghost use Rattle.std.specs.List.{All};
 ghost use Rattle.std.specs.Arc.{arc_value};
 ghost use Rattle.det_values.specs.declared.frames.DrawnElement.{DrawnElement};
@@ -97,8 +98,8 @@ fn spelled_by<'a>(workers: &'a [SpelledBlocks], block: usize) -> Option<&'a [u8]
     None
 }
 
-/// Appends what a block shows, where the pass shows its elements: the bytes that a worker spelled, or
-/// else they are spelled here and now.
+/// Appends what a block shows, where the pass shows its elements: the bytes that a worker spelled,
+/// or else they are spelled here and now.
 pub(crate) fn show_block<J: Job>(
     alloc: Global,
     pass: &PassOf<J>,
@@ -123,7 +124,8 @@ pub(crate) fn show_block<J: Job>(
     }
 }
 
-/// No bytes, with room for what a pass shows, where the new elements are as long as the first old one.
+/// No bytes, with room for what a pass shows, where the new elements are as long as the first old
+/// one.
 pub(crate) fn room_for<J: Job>(alloc: Global, pass: &PassOf<J>) -> Result<Vec<u8>, OutOfMemory>
     requires { All (J.Own (arc_value pass.now.job)) (arc_value pass.now.elements) }
     ensures { IfOk result (λ bytes. bytes.items ≡ []) }
@@ -140,7 +142,8 @@ pub(crate) fn room_for<J: Job>(alloc: Global, pass: &PassOf<J>) -> Result<Vec<u8
     Ok(bytes)
 }
 
-/// What a pass shows that has so many elements, from their bytes. One that doesn't show them has none.
+/// What a pass shows that has so many elements, from their bytes. One that doesn't show them has
+/// none.
 pub(crate) fn frame_of(alloc: Global, shows: bool, bytes: Vec<u8>, count: u32) -> DrawnElements
     requires few { count ≤ 65536 }
     requires spelled { shows ≡ true → (es : List DrawnElement) × AreSpelled es [] bytes.items

@@ -1,5 +1,6 @@
 -- What the list job means.
-use Rattle.std.specs.Prelude.{ℕ, ◌≤◌, ◌%◌, ◌==◌, cond, ltb, if◌then◌else◌, List, [], ◌∷◌, ◌++◌, length, None, Result, Ok, Err}
+use Rattle.std.specs.Prelude.{ℕ, ◌≤◌, ◌%◌, ◌==◌, cond, ltb, if◌then◌else◌, List, [], ◌∷◌, ◌++◌}
+use Rattle.std.specs.Prelude.{length, None, Result, Ok, Err}
 use Rattle.element_random.specs.Words.{word}
 use Rattle.job_trait.specs.declared.answers.Worked.{Worked}
 use Rattle.job_trait.specs.Meaning.{Meaning}

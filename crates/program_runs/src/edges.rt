@@ -1,6 +1,7 @@
 //! How the shelf and the sinks of a run behave.
 
-/// How many bytes a call moves at most, the room of the output, and the numbers of the calls that fail, 0 for none.
+/// How many bytes a call moves at most, the room of the output, and the numbers of the calls that
+/// fail, 0 for none.
 #[derive(Clone, Copy, Debug)]
 pub struct Edges {
     pub(crate) most_read: usize,

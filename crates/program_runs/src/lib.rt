@@ -1,7 +1,8 @@
 //! Whole runs of the program over shelves and sinks in memory: worked examples with exact answers.
 //!
-//! The library runs the program and holds the records and texts of the examples. It has no tests itself: `program_tests_recorded` has
-//! those of records, `program_tests_shown` those of texts and words, `program_tests_edges` those of failing edges.
+//! The library runs the program and holds the records and texts of the examples. It has no tests
+//! itself: `program_tests_recorded` has those of records, `program_tests_shown` those of texts and
+//! words, `program_tests_edges` those of failing edges.
 #![tactic(auto)]
 
 mod edges;

@@ -14,7 +14,8 @@ capacity = 2
 "
 }
 
-/// A guard of 100 channels on 100 events `e00` to `e99`. It refuses at the first sample outside 0 to 1000.
+/// A guard of 100 channels on 100 events `e00` to `e99`. It refuses at the first sample outside 0
+/// to 1000.
 pub fn guard_manifest(alloc: Global) -> Result<String, AllocError> {
     let mut text = String::from_str(
         alloc,

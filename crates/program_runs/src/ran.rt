@@ -22,7 +22,8 @@ impl Ran {
         self.status == status && self.out.bytes() == bytes
     }
 
-    /// Whether it ended with this status, and all that it wrote are so many bytes of this SHA-256, in hex.
+    /// Whether it ended with this status, and all that it wrote are so many bytes of this SHA-256,
+    /// in hex.
     pub fn wrote_digest(&self, status: u8, len: usize, digest: &str) -> bool {
         let bytes = self.out.bytes();
         self.status == status && bytes.len() == len && has_digest(bytes, digest)

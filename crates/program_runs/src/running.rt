@@ -111,7 +111,8 @@ pub fn run<R: Threads + Sync>(
     run_with(rt, alloc, line, files, edges, &mut audience, &gate)
 }
 
-/// Runs the words of a line over a manifest `m` and a stimulus `s`, where nothing fails and there is room for a record.
+/// Runs the words of a line over a manifest `m` and a stimulus `s`, where nothing fails and there
+/// is room for a record.
 pub fn record<R: Threads + Sync>(
     rt: &R,
     alloc: Global,

@@ -6,8 +6,8 @@ use program_runs::{
 use std::alloc::{AllocError, Global};
 use std::thread::Threads;
 
-/// A command over the files `m` and `s`, how many bytes of them it reads a call, and what it writes where nothing fails: so
-/// many bytes of this SHA-256.
+/// A command over the files `m` and `s`, how many bytes of them it reads a call, and what it writes
+/// where nothing fails: so many bytes of this SHA-256.
 #[derive(Drop)]
 pub struct Case {
     words: &'static str,
@@ -100,7 +100,8 @@ pub fn needs_case(alloc: Global) -> Result<Case, AllocError> {
     })
 }
 
-/// The calls that read a file of so many bytes to its end: the opening, a read for each piece, and one that finds the end.
+/// The calls that read a file of so many bytes to its end: the opening, a read for each piece, and
+/// one that finds the end.
 fn calls_for(len: usize, most: usize) -> u64 {
     let pieces = len.div_ceil(most.max(1)) as u64;
     pieces.saturating_add(2)

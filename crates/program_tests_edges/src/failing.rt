@@ -4,13 +4,14 @@ use program_runs::{NoMemory, Ran};
 use std::alloc::Global;
 use std::thread::Threads;
 
-/// Whether a run ended with this status and line, and wrote the first of the bytes that it would have written.
+/// Whether a run ended with this status and line, and wrote the first of the bytes that it would
+/// have written.
 fn broke_off(ran: &Ran, whole: &Ran, status: u8, line: &str) -> bool {
     ran.ended(status, line) && whole.out.bytes().starts_with(ran.out.bytes())
 }
 
-/// How many calls of the shelf can fail: for each of them alone the run ends with a read fault, and for the next number it
-/// is done. None where a run ends otherwise.
+/// How many calls of the shelf can fail: for each of them alone the run ends with a read fault, and
+/// for the next number it is done. None where a run ends otherwise.
 pub fn failing_reads<R: Threads + Sync>(
     rt: &R,
     alloc: Global,
@@ -34,8 +35,8 @@ fn fits_writes(len: usize, writes: u64) -> bool {
     writes <= len as u64 && len as u64 <= writes.saturating_mul(10)
 }
 
-/// How many writes can fail: for each of them alone the run ends with a write fault once the writes before it were taken, and
-/// for the next number it is done. None where a run ends otherwise.
+/// How many writes can fail: for each of them alone the run ends with a write fault once the writes
+/// before it were taken, and for the next number it is done. None where a run ends otherwise.
 pub fn failing_writes<R: Threads + Sync>(
     rt: &R,
     alloc: Global,

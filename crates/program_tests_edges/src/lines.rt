@@ -24,7 +24,8 @@ fn told_first(ran: &Ran, status: u8, line: &str, len: usize) -> bool {
     ran.status == status && bytes.len() == len && line.as_bytes().starts_with(bytes)
 }
 
-/// The line is told. Where its first write fails, or its second after three bytes, the status is the same.
+/// The line is told. Where its first write fails, or its second after three bytes, the status is
+/// the same.
 fn status_stays<R: Threads + Sync + Abort>(
     rt: &R,
     alloc: Global,

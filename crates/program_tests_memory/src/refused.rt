@@ -17,7 +17,8 @@ fn is_whole(ran: &Ran) -> bool {
     ran.ended(0, "") && ran.wrote_digest(0, 6531, digest)
 }
 
-/// A run without memory wrote the first bytes of the record, and the same run finds all the memory the next time.
+/// A run without memory wrote the first bytes of the record, and the same run finds all the memory
+/// the next time.
 fn broke_off<R: Threads + Sync + Abort>(rt: &R, alloc: Global, ran: &Ran) -> Result<(), Fail> {
     assert!(rt; ran.ended(8, "out of memory\n"));
     let whole = guard_record(rt, alloc)?;

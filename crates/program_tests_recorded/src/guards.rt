@@ -44,7 +44,8 @@ fn a_refused_cycle_leaves_the_state_and_keeps_its_samples(rt: HostRuntime) -> Re
     Ok(())
 }
 
-/// The record of a guard of two channels that are both corrected in each cycle, where at most so many may be.
+/// The record of a guard of two channels that are both corrected in each cycle, where at most so
+/// many may be.
 fn corrected<R: Threads + Sync>(rt: &R, alloc: Global, most: u32) -> Result<Ran, Fail> {
     let manifest = format!(in alloc;
         "job = \"guard\"

@@ -1,4 +1,5 @@
-//! Tests of the records that the program writes: of banks, clouds and guards, by one worker and by several.
+//! Tests of the records that the program writes: of banks, clouds and guards, by one worker and by
+//! several.
 #![tactic(auto)]
 
 #[cfg(test)]

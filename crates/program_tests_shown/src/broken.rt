@@ -8,7 +8,8 @@ pub fn shown<R: Threads + Sync>(rt: &R, alloc: Global, record: &[u8]) -> Result<
     run(rt, alloc, "show m", &[("m", record)], Edges::calm(20_000))
 }
 
-/// How many bytes of the text of two cycles are those of items that stand whole in so many first bytes of the record.
+/// How many bytes of the text of two cycles are those of items that stand whole in so many first
+/// bytes of the record.
 pub fn shown_len(len: usize) -> usize {
     match len {
         0..=49 => 0,

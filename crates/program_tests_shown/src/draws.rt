@@ -15,7 +15,8 @@ fn draws_in(line: &str) -> Option<u32> {
     words.nth(2)?.parse().ok()
 }
 
-/// How many elements of a record's cycles drew nothing, an odd number of words from 3 to 17, and any other number.
+/// How many elements of a record's cycles drew nothing, an odd number of words from 3 to 17, and
+/// any other number.
 fn drawn<R: Threads + Sync>(rt: &R, alloc: Global, record: &[u8]) -> Result<(u32, u32, u32), Fail> {
     let ran = shown(rt, alloc, record)?;
     let (mut nothing, mut odd, mut other) = (0u32, 0u32, 0u32);

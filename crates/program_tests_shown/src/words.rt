@@ -19,8 +19,8 @@ pub(crate) fn run_words<R: Threads + Sync>(
     Ok(run(rt, alloc, words, &files, edges)?)
 }
 
-/// Lines of words that are no command. The first has no words, and a line that ends with a space has
-/// an empty word.
+/// Lines of words that are no command. The first has no words, and a line that ends with a space
+/// has an empty word.
 fn bad_words() -> &'static str {
     "
 record m

@@ -40,7 +40,11 @@ module _ {X : Type 0} (f : X → List ℕ) (P : X → Type 0) (xs : List X) wher
 
   pub HasPut-grows : (i : ℕ) (old new last : List ℕ) → HasPut f P xs i old new → Grows new last → Grows old last
   HasPut-grows i old new last h g =
-      record { added = flat_map f (take i xs) ++ g.added; is = g.is ∙ ap (λ (ys : List ℕ). ys ++ g.added) h.written ∙ append_assoc old (flat_map f (take i xs)) g.added }
+      record {
+        added = flat_map f (take i xs) ++ g.added;
+        is = g.is ∙ ap (λ (ys : List ℕ). ys ++ g.added) h.written
+            ∙ append_assoc old (flat_map f (take i xs)) g.added;
+      }
 
 pub grows_then : (a b c : List ℕ) → Grows a b → Grows b c → Grows a c
 grows_then a b c p q =

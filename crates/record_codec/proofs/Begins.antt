@@ -51,11 +51,15 @@ outcome_of layout input flag =
 begun_run_steady : (layout : Layout) → IsSteady 0 (begun_run layout)
 unfolding begun_run
 begun_run_steady layout =
-    steady_then 0 (input_at layout.events) (λ input bytes. number 1 0 1 bytes >>= outcome_of layout input) (input_steady layout.events) (λ input.
+    steady_then 0 (input_at layout.events) (λ input bytes. number 1 0 1 bytes >>= outcome_of layout input) (input_steady layout.events)
+    (λ input.
     steady_then 0 (number 1 0 1) (λ flag bytes. outcome_of layout input (flag, bytes)) (number_steady 1 0 1) (λ flag.
-    steady_if 0 (eqb flag 0) (λ bytes. number 4 0 65536 bytes >>= count_run layout.format input) (λ bytes. refused_at input bytes >>= ready_frame)
-    (steady_then 0 (number 4 0 65536) (λ n bytes. count_run layout.format input (n, bytes)) (number_steady 4 0 65536) (λ n. steady_give 0 (run_of layout.format input [] n)))
-    (steady_then 0 (refused_at input) (λ f bytes. ready_frame (f, bytes)) (refused_steady input) (λ f. steady_give 0 (ready (items.Frame f))))))
+    steady_if 0 (eqb flag 0) (λ bytes. number 4 0 65536 bytes >>= count_run layout.format input)
+    (λ bytes. refused_at input bytes >>= ready_frame)
+    (steady_then 0 (number 4 0 65536) (λ n bytes. count_run layout.format input (n, bytes)) (number_steady 4 0 65536)
+    (λ n. steady_give 0 (run_of layout.format input [] n)))
+    (steady_then 0 (refused_at input) (λ f bytes. ready_frame (f, bytes)) (refused_steady input)
+    (λ f. steady_give 0 (ready (items.Frame f))))))
 
 -- behind a tag
 abbrev behind_tag : Place → ℕ → List ℕ → Read BegunValue
@@ -64,7 +68,8 @@ behind_tag place b bytes = begun_tagged place b bytes (suc (length bytes))
 one_frame : (f : Frame) (b tag : ℕ) (why : Reason)
     → IsSteady 1 (λ bytes. cond (eqb b tag) (ready_frame (f, bytes)) (Bad why (suc (length bytes))))
 one_frame f b tag why =
-    steady_if 1 (eqb b tag) (λ bytes. ready_frame (f, bytes)) (λ bytes. Bad why (suc (length bytes))) (steady_give 1 (ready (items.Frame f))) (steady_refuse why)
+    steady_if 1 (eqb b tag) (λ bytes. ready_frame (f, bytes)) (λ bytes. Bad why (suc (length bytes)))
+    (steady_give 1 (ready (items.Frame f))) (steady_refuse why)
 
 tagged_steady : (place : Place) (b : ℕ) → IsSteady 1 (behind_tag place b)
 unfolding begun_tagged
@@ -73,11 +78,14 @@ tagged_steady (places.Register layout) b = one_frame frames.Register b 1 (tag_re
 tagged_steady (places.Discover layout) b = one_frame frames.Discover b 2 (tag_reason b)
 tagged_steady (places.Init layout) b =
     steady_if 1 (eqb b 3) (λ bytes. number 4 0 65536 bytes >>= count_init) (λ bytes. Bad (tag_reason b) (suc (length bytes)))
-    (steady_wider (λ bytes. number 4 0 65536 bytes >>= count_init) (steady_then 0 (number 4 0 65536) (λ n bytes. count_init (n, bytes)) (number_steady 4 0 65536) (λ n. steady_give 0 (init_of [] n))))
+    (steady_wider (λ bytes. number 4 0 65536 bytes >>= count_init) (steady_then 0 (number 4 0 65536) (λ n bytes. count_init (n, bytes))
+    (number_steady 4 0 65536) (λ n. steady_give 0 (init_of [] n))))
     (steady_refuse (tag_reason b))
 tagged_steady (places.Runs layout before) b =
-    steady_if 1 (eqb b 4) (λ bytes. cond (ltb before 1000000) (begun_run layout bytes) (Bad TooMany (suc (length bytes)))) (λ bytes. cond (eqb b 5) (ready_frame (frames.Terminate, bytes)) (Bad (tag_reason b) (suc (length bytes))))
-    (steady_if 1 (ltb before 1000000) (begun_run layout) (λ bytes. Bad TooMany (suc (length bytes))) (steady_wider (begun_run layout) (begun_run_steady layout)) (steady_refuse TooMany))
+    steady_if 1 (eqb b 4) (λ bytes. cond (ltb before 1000000) (begun_run layout bytes) (Bad TooMany (suc (length bytes))))
+    (λ bytes. cond (eqb b 5) (ready_frame (frames.Terminate, bytes)) (Bad (tag_reason b) (suc (length bytes))))
+    (steady_if 1 (ltb before 1000000) (begun_run layout) (λ bytes. Bad TooMany (suc (length bytes)))
+    (steady_wider (begun_run layout) (begun_run_steady layout)) (steady_refuse TooMany))
     (one_frame frames.Terminate b 5 (tag_reason b))
 tagged_steady places.End b = steady_refuse Trailing
 
@@ -150,12 +158,15 @@ run_goes_on : (layout : Layout) (bytes : List ℕ) → framed (run_at layout byt
 unfolding run_at begun_run
 run_goes_on layout bytes =
     let f : CycleInput × List ℕ
-    → Read Frame = λ input. number 1 0 1 input.1 >>= λ flag. cond (eqb flag.0 0) (finished_at layout.format input.0 flag.1) (refused_at input.0 flag.1) in
+    → Read Frame = λ input. number 1 0 1 input.1 >>= λ flag. cond (eqb flag.0 0) (finished_at layout.format input.0 flag.1)
+    (refused_at input.0 flag.1) in
     let g : CycleInput × List ℕ → Read BegunValue = λ input. number 1 0 1 input.1 >>= outcome_of layout input.0 in
     bind_bind (input_at layout.events bytes) f as_frame
     ∙ bind_same (input_at layout.events bytes) (λ input. f input >>= as_frame) (λ input. g input >>= go_on) (λ input.
-    bind_bind (number 1 0 1 input.1) (λ flag. cond (eqb flag.0 0) (finished_at layout.format input.0 flag.1) (refused_at input.0 flag.1)) as_frame
-    ∙ bind_same (number 1 0 1 input.1) (λ flag. cond (eqb flag.0 0) (finished_at layout.format input.0 flag.1) (refused_at input.0 flag.1) >>= as_frame) (λ flag. outcome_of layout input.0 flag >>= go_on) (λ flag. outcome_goes_on layout input.0 (eqb flag.0 0) flag.1)
+    bind_bind (number 1 0 1 input.1) (λ flag. cond (eqb flag.0 0) (finished_at layout.format input.0 flag.1) (refused_at input.0 flag.1))
+    as_frame
+    ∙ bind_same (number 1 0 1 input.1) (λ flag. cond (eqb flag.0 0) (finished_at layout.format input.0 flag.1) (refused_at input.0 flag.1)
+    >>= as_frame) (λ flag. outcome_of layout input.0 flag >>= go_on) (λ flag. outcome_goes_on layout input.0 (eqb flag.0 0) flag.1)
     ∙ sym (bind_bind (number 1 0 1 input.1) (outcome_of layout input.0) go_on))
     ∙ sym (bind_bind (input_at layout.events bytes) g go_on)
 
@@ -179,12 +190,16 @@ begun_goes_on (places.Discover layout) [] = refl
 begun_goes_on (places.Discover layout) (b ∷ bytes) = only_goes_on frames.Discover b 2 (tag_reason b) bytes (suc (length bytes))
 begun_goes_on (places.Init layout) [] = refl
 begun_goes_on (places.Init layout) (b ∷ bytes) =
-    either (eqb b 3) (init_at bytes) (Bad (tag_reason b) (suc (length bytes))) (number 4 0 65536 bytes >>= count_init) (Bad (tag_reason b) (suc (length bytes))) (init_goes_on bytes) refl
+    either (eqb b 3) (init_at bytes) (Bad (tag_reason b) (suc (length bytes))) (number 4 0 65536 bytes >>= count_init)
+    (Bad (tag_reason b) (suc (length bytes))) (init_goes_on bytes) refl
 begun_goes_on (places.Runs layout before) [] = refl
 begun_goes_on (places.Runs layout before) (b ∷ bytes) =
-    either (eqb b 4) (cond (ltb before 1000000) (run_at layout bytes) (Bad TooMany (suc (length bytes)))) (cond (eqb b 5) (Got (frames.Terminate, bytes)) (Bad (tag_reason b) (suc (length bytes))))
-    (cond (ltb before 1000000) (begun_run layout bytes) (Bad TooMany (suc (length bytes)))) (cond (eqb b 5) (ready_frame (frames.Terminate, bytes)) (Bad (tag_reason b) (suc (length bytes))))
-    (either (ltb before 1000000) (run_at layout bytes) (Bad TooMany (suc (length bytes))) (begun_run layout bytes) (Bad TooMany (suc (length bytes))) (run_goes_on layout bytes) refl)
+    either (eqb b 4) (cond (ltb before 1000000) (run_at layout bytes) (Bad TooMany (suc (length bytes))))
+    (cond (eqb b 5) (Got (frames.Terminate, bytes)) (Bad (tag_reason b) (suc (length bytes))))
+    (cond (ltb before 1000000) (begun_run layout bytes) (Bad TooMany (suc (length bytes))))
+    (cond (eqb b 5) (ready_frame (frames.Terminate, bytes)) (Bad (tag_reason b) (suc (length bytes))))
+    (either (ltb before 1000000) (run_at layout bytes) (Bad TooMany (suc (length bytes))) (begun_run layout bytes)
+    (Bad TooMany (suc (length bytes))) (run_goes_on layout bytes) refl)
     (only_goes_on frames.Terminate b 5 (tag_reason b) bytes (suc (length bytes)))
 begun_goes_on places.End [] = refl
 begun_goes_on places.End (b ∷ bytes) = refl

@@ -22,7 +22,8 @@ pub in_ranges : (format : Format) (es : List DrawnElement) → All flat.IsDrawn 
 in_ranges format [] h k = All-nil (IsDrawn format)
 in_ranges format (e ∷ es) h k =
     let i : flat.IsDrawn e = All-head flat.IsDrawn e es h in
-    All-cons (IsDrawn format) e es ((i.short, i.bytes), i.draws, All-head (λ d. MayDraw format d.draws) e es k) (in_ranges format es (All-tail flat.IsDrawn e es h) (All-tail (λ d. MayDraw format d.draws) e es k))
+    All-cons (IsDrawn format) e es ((i.short, i.bytes), i.draws, All-head (λ d. MayDraw format d.draws) e es k)
+    (in_ranges format es (All-tail flat.IsDrawn e es h) (All-tail (λ d. MayDraw format d.draws) e es k))
 
 -- what a walk has put so far
 pub record PutSoFar (es : List DrawnElement) (i : ℕ) (left : List DrawnElement) (old new : List ℕ) : Type 0 where
@@ -63,7 +64,8 @@ pub put_stops : (es : List DrawnElement) (i : ℕ) (left : List DrawnElement) (o
     → new ≡ old ++ flat_map (spelled_drawn One) es
 put_stops es i left old new h e =
     h.written
-    ∙ ap (λ (xs : List DrawnElement). old ++ flat_map (spelled_drawn One) xs) (sym (append-nil h.before) ∙ ap (λ (xs : List DrawnElement). h.before ++ xs) (sym e) ∙ sym h.parts)
+    ∙ ap (λ (xs : List DrawnElement). old ++ flat_map (spelled_drawn One) xs)
+    (sym (append-nil h.before) ∙ ap (λ (xs : List DrawnElement). h.before ++ xs) (sym e) ∙ sym h.parts)
 
 -- ---- an element of format Two, as it stands in the bytes
 

@@ -84,17 +84,19 @@ module _ {A : Type 0} where
       → Stops stop (item rest)
       → HasMany item count counter front rest bytes → Stops stop (many item count bytes)
   HasMany-stops item count counter front rest bytes stop lt s h =
-      same_stop stop (with_front front (many item (count - counter) rest)) (many item count bytes) h.so_far (many_stops item front (count - counter) rest stop (omega arith) s)
+      same_stop stop (with_front front (many item (count - counter) rest)) (many item count bytes) h.so_far
+      (many_stops item front (count - counter) rest stop (omega arith) s)
 
   pub HasMany-done : (item : List ℕ → Read A) (count counter : ℕ) (front : List A) (rest bytes : List ℕ) → count ≤ counter
       → HasMany item count counter front rest bytes → many item count bytes ≡ Got (front, rest)
   HasMany-done item count counter front rest bytes le h = sym h.so_far ∙ many_done item front (count - counter) rest (omega arith)
 
   -- what a loop keeps that may stop in mid-count, and be taken up again with more bytes
-  pub record Continues (item : List ℕ → Read A) (front : List A) (left read : ℕ) (start : List A) (count : ℕ) (bytes : List ℕ) : Type 0 where
-    pub in_range : read ≤ length bytes
-    pub same : (tail : List ℕ) → with_front front (many item left (drop read bytes ++ tail))
-        ≡ with_front start (many item count (bytes ++ tail))
+  pub record Continues (item : List ℕ → Read A) (front : List A) (left read : ℕ) (start : List A) (count : ℕ) (bytes : List ℕ) : Type 0
+    where
+      pub in_range : read ≤ length bytes
+      pub same : (tail : List ℕ) → with_front front (many item left (drop read bytes ++ tail))
+          ≡ with_front start (many item count (bytes ++ tail))
 
   pub Continues-begin : (item : List ℕ → Read A) (start : List A) (count : ℕ) (bytes : List ℕ)
       → Continues item start count 0 start count bytes
@@ -117,7 +119,8 @@ module _ {A : Type 0} where
         in_range = omega arith;
         same = λ tail.
             ap (λ (xs : List ℕ). with_front (front ++ first ∷ []) (many item (left - 1) (xs ++ tail))) d
-            ∙ sym (many_next item front (left - 1) (drop read bytes ++ tail) first (rest ++ tail) (steady.got (drop read bytes) tail (first, rest) got))
+            ∙ sym (many_next item front (left - 1) (drop read bytes ++ tail) first (rest ++ tail)
+            (steady.got (drop read bytes) tail (first, rest) got))
             ∙ ap (λ (i : ℕ). with_front front (many item i (drop read bytes ++ tail))) (sym k)
             ∙ h.same tail;
       }

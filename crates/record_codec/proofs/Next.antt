@@ -54,8 +54,10 @@ trans_fault : {a b c : Option RecordFault} → a ≡ b → b ≡ c → a ≡ c
 trans_fault p q = p ∙ q
 
 module _ (old new : Decoder) (bytes : List ℕ) (given : List Item) (step : Step) (old_reads : old.fault ≡ None)
-    (answers : AnswersBy (λ more. resume old.place old.partial more) old.place step.partial (drop step.read (unread old)) step.answer (unread old))
-    (same_pending : new.pending.items ≡ old.pending.items) (same_before : new.before ≡ old.before) (new_partial : new.partial ≡ step.partial) (new_read : new.read ≡ old.read + step.read) where
+    (answers : AnswersBy (λ more. resume old.place old.partial more) old.place step.partial (drop step.read (unread old)) step.answer
+    (unread old))
+    (same_pending : new.pending.items ≡ old.pending.items) (same_before : new.before ≡ old.before)
+    (new_partial : new.partial ≡ step.partial) (new_read : new.read ≡ old.read + step.read) where
   unread_is : drop step.read (unread old) ≡ unread new
   unread_is =
       drop-drop step.read old.read old.pending.items ∙ ap (λ (n : ℕ). drop n old.pending.items) (sym new_read)
@@ -69,15 +71,18 @@ module _ (old new : Decoder) (bytes : List ℕ) (given : List Item) (step : Step
     both : Stops stop (resume old.place step.partial (unread new))
         × Resumes (λ more. resume old.place old.partial more) old.place step.partial (unread new) (unread old)
     both =
-        subst (λ (xs : List ℕ). Stops stop (resume old.place step.partial xs) × Resumes (λ more. resume old.place old.partial more) old.place step.partial xs (unread old)) unread_is
-        (subst (λ (a : Result Item Stop). AnswersBy (λ more. resume old.place old.partial more) old.place step.partial (drop step.read (unread old)) a (unread old)) stopped answers)
+        subst (λ (xs : List ℕ). Stops stop (resume old.place step.partial xs)
+        × Resumes (λ more. resume old.place old.partial more) old.place step.partial xs (unread old)) unread_is
+        (subst (λ (a : Result Item Stop). AnswersBy (λ more. resume old.place old.partial more) old.place step.partial
+        (drop step.read (unread old)) a (unread old)) stopped answers)
 
     resumes_old : Resumes (item_at old.place) old.place step.partial (unread new) h.rest
     resumes_old tail = both.1 tail ∙ (old_is h).resumes tail
 
     pub resumes_new : Resumes (item_at new.place) new.place new.partial (unread new) h.rest
     resumes_new =
-        subst (λ (p : Place). Resumes (item_at p) p new.partial (unread new) h.rest) (sym same_place) (subst (λ (p : Partial). Resumes (item_at old.place) old.place p (unread new) h.rest) (sym new_partial) resumes_old)
+        subst (λ (p : Place). Resumes (item_at p) p new.partial (unread new) h.rest) (sym same_place)
+        (subst (λ (p : Partial). Resumes (item_at old.place) old.place p (unread new) h.rest) (sym new_partial) resumes_old)
 
     pub counted_new : new.before + length new.pending.items ≡ length bytes
     counted_new = rw (same_before, same_pending) (old_is h).counted
@@ -95,7 +100,12 @@ module _ (old new : Decoder) (bytes : List ℕ) (given : List Item) (step : Step
     rest = h.rest;
     leads = leads_new stops.Memory stopped same_place h;
     stands =
-        subst (λ (x : Option RecordFault). Stands x new bytes h.rest) (sym new_reads) (record { resumes = resumes_new stops.Memory stopped same_place h; counted = counted_new stops.Memory stopped same_place h; settled = λ e. absurd cc });
+        subst (λ (x : Option RecordFault). Stands x new bytes h.rest) (sym new_reads)
+        (record {
+          resumes = resumes_new stops.Memory stopped same_place h;
+          counted = counted_new stops.Memory stopped same_place h;
+          settled = λ e. absurd cc;
+        });
   }
 
   pub next_more : step.answer ≡ Err stops.More → new.place ≡ old.place → new.fault ≡ None → new.settled ≡ true → StandsFor old bytes given
@@ -107,7 +117,12 @@ module _ (old new : Decoder) (bytes : List ℕ) (given : List Item) (step : Step
           rest = h.rest;
           leads = leads_new stops.More stopped same_place h;
           stands =
-              subst (λ (x : Option RecordFault). Stands x new bytes h.rest) (sym new_reads) (record { resumes = resumes_new stops.More stopped same_place h; counted = counted_new stops.More stopped same_place h; settled = λ e. rw same_place at });
+              subst (λ (x : Option RecordFault). Stands x new bytes h.rest) (sym new_reads)
+              (record {
+                resumes = resumes_new stops.More stopped same_place h;
+                counted = counted_new stops.More stopped same_place h;
+                settled = λ e. rw same_place at;
+              });
         },
         all.0,
         all.1,
@@ -120,7 +135,8 @@ module _ (old new : Decoder) (bytes : List ℕ) (given : List Item) (step : Step
   next_bad reason left offset stopped same_place offset_is new_faulty settles h =
       let at : item_at old.place h.rest ≡ Bad reason left = stops_at (stops.Bad reason left) stopped same_place h in
       let c : old.before + length old.pending.items ≡ length bytes = (old_is h).counted in
-      let w : left ≤ 0 + length (unread new) = (resume_steady old.place step.partial).within (unread new) reason left (both (stops.Bad reason left) stopped same_place h).0 in
+      let w : left ≤ 0 + length (unread new) = (resume_steady old.place step.partial).within (unread new) reason left
+      (both (stops.Bad reason left) stopped same_place h).0 in
       let l : length (unread new) ≡ length old.pending.items - new.read = length-drop new.read new.pending.items
       ∙ ap (λ (xs : List ℕ). length xs - new.read) same_pending in
       let count : offset + left ≡ length bytes = omega arith in
@@ -132,17 +148,20 @@ module _ (old new : Decoder) (bytes : List ℕ) (given : List Item) (step : Step
           rest = h.rest;
           leads = leads_new (stops.Bad reason left) stopped same_place h;
           stands =
-              subst (λ (x : Option RecordFault). Stands x new bytes h.rest) (sym new_faulty) (record { left = left; bad = rw same_place at; counted = count; settled = settles });
+              subst (λ (x : Option RecordFault). Stands x new bytes h.rest) (sym new_faulty)
+              (record { left = left; bad = rw same_place at; counted = count; settled = settles });
         },
         all.0,
         trans_fault all.1 s,
       )
 
-  module _ (item : Item) (answered : step.answer ≡ Ok item) (follows : CanFollow old.place item → new.place ≡ after old.place item) (h : StandsFor old bytes given) where
+  module _ (item : Item) (answered : step.answer ≡ Ok item) (follows : CanFollow old.place item → new.place ≡ after old.place item)
+      (h : StandsFor old bytes given) where
     both_ok : (step.partial ≡ partials.Nothing) × (resume old.place old.partial (unread old) ≡ Got (item, unread new))
     both_ok =
         subst (λ (xs : List ℕ). (step.partial ≡ partials.Nothing) × (resume old.place old.partial (unread old) ≡ Got (item, xs))) unread_is
-        (subst (λ (a : Result Item Stop). AnswersBy (λ more. resume old.place old.partial more) old.place step.partial (drop step.read (unread old)) a (unread old)) answered answers)
+        (subst (λ (a : Result Item Stop). AnswersBy (λ more. resume old.place old.partial more) old.place step.partial
+        (drop step.read (unread old)) a (unread old)) answered answers)
 
     ok_at : item_at old.place h.rest ≡ Got (item, unread new)
     ok_at = sym (here old.place old.partial (unread old) h.rest (old_is h).resumes) ∙ both_ok.1
@@ -156,7 +175,8 @@ module _ (old new : Decoder) (bytes : List ℕ) (given : List Item) (step : Step
           record {
             rest = unread new;
             leads =
-                subst (λ (to : Place). Leads places.Header bytes (given ++ item ∷ []) to (unread new)) (sym (follows kind)) (leads_on given places.Header old.place bytes h.rest item (unread new) h.leads ok_at);
+                subst (λ (to : Place). Leads places.Header bytes (given ++ item ∷ []) to (unread new)) (sym (follows kind))
+                (leads_on given places.Header old.place bytes h.rest item (unread new) h.leads ok_at);
             stands = subst (λ (o : Option RecordFault). Stands o new bytes (unread new)) (sym new_reads) (record {
               resumes = λ tail. ap (λ (part : Partial). resume new.place part (unread new ++ tail)) (new_partial ∙ both_ok.0);
               counted = rw (same_before, same_pending) (old_is h).counted;
@@ -175,7 +195,8 @@ pub next_falls : (d : Decoder) (bytes : List ℕ) (given : List Item) (step : St
 next_falls d bytes given step item to reads answers answered follows h =
     let r = reading_of d.fault d bytes h.rest reads h.stands in
     let both : (step.partial ≡ partials.Nothing) × (resume d.place d.partial (unread d) ≡ Got (item, drop step.read (unread d))) =
-    subst (λ (a : Result Item Stop). AnswersBy (λ more. resume d.place d.partial more) d.place step.partial (drop step.read (unread d)) a (unread d)) answered answers in
+    subst (λ (a : Result Item Stop). AnswersBy (λ more. resume d.place d.partial more) d.place step.partial (drop step.read (unread d)) a
+    (unread d)) answered answers in
     let at : item_at d.place h.rest ≡ Got (item, drop step.read (unread d)) = sym (here d.place d.partial (unread d) h.rest r.resumes)
     ∙ both.1 in
     let kind : CanFollow d.place item = can_follow d.place h.rest item (drop step.read (unread d)) at in
@@ -230,7 +251,8 @@ fed_reading old new bytes piece given old_reads new_reads same_place same_partia
     grown : (tail : List ℕ) → IsReading old bytes h.rest → resume new.place new.partial (unread new ++ tail)
         ≡ item_at new.place ((h.rest ++ piece) ++ tail)
     grown tail r =
-        rw (same_place, same_partial, more, append_assoc (unread old) piece tail, append_assoc h.rest piece tail) (r.resumes (piece ++ tail))
+        rw (same_place, same_partial, more, append_assoc (unread old) piece tail, append_assoc h.rest piece tail)
+        (r.resumes (piece ++ tail))
 
 -- ---- the end
 
@@ -244,7 +266,8 @@ pub answers_at : (d : Decoder) (partial : Partial) (bytes : List ℕ) (step : St
     → AnswersBy (λ more. resume d.place partial more) d.place step.partial (drop step.read bytes) step.answer bytes
     → AnswersBy (λ more. resume d.place d.partial more) d.place step.partial (drop step.read (unread d)) step.answer (unread d)
 answers_at d partial bytes step p b h =
-    subst (λ (q : Partial). AnswersBy (λ more. resume d.place q more) d.place step.partial (drop step.read (unread d)) step.answer (unread d)) p
+    subst (λ (q : Partial). AnswersBy (λ more. resume d.place q more) d.place step.partial (drop step.read (unread d)) step.answer
+    (unread d)) p
     (subst (λ (xs : List ℕ). AnswersBy (λ more. resume d.place partial more) d.place step.partial (drop step.read xs) step.answer xs) b h)
 
 pub ends_early : (place : Place) → (place ≡ places.End → ⊥) → ending_at place ≡ early
@@ -261,6 +284,8 @@ pub bad_fits : (old : Decoder) (step : Step) (reason : Reason) (left : ℕ)
 bad_fits old step reason left answers stopped =
     let b : Stops (stops.Bad reason left) (resume old.place step.partial (drop step.read (unread old)))
     × Resumes (λ more. resume old.place old.partial more) old.place step.partial (drop step.read (unread old)) (unread old) =
-    subst (λ (a : Result Item Stop). AnswersBy (λ more. resume old.place old.partial more) old.place step.partial (drop step.read (unread old)) a (unread old)) stopped answers in
-    let w : left ≤ 0 + length (drop step.read (unread old)) = (resume_steady old.place step.partial).within (drop step.read (unread old)) reason left b.0 in
+    subst (λ (a : Result Item Stop). AnswersBy (λ more. resume old.place old.partial more) old.place step.partial
+    (drop step.read (unread old)) a (unread old)) stopped answers in
+    let w : left ≤ 0 + length (drop step.read (unread old)) = (resume_steady old.place step.partial).within (drop step.read (unread old))
+    reason left b.0 in
     omega (arith, length-drop step.read (unread old), length-drop old.read old.pending.items)

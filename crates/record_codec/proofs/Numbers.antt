@@ -64,7 +64,8 @@ unfolding highest
 HasFilled-room left counter low high value lt fits h =
     let k : left - counter ≡ suc (left - (counter + 1)) = omega arith in
     let e : highest (left - (counter + 1)) (high * 256 + 255) ≡ highest left value = ap (λ (n : ℕ). highest n high) (sym k) ∙ h.high_is in
-    let g : high * 256 + 255 ≤ highest (left - (counter + 1)) (high * 256 + 255) = highest-grows (left - (counter + 1)) (high * 256 + 255) in
+    let g : high * 256 + 255 ≤ highest (left - (counter + 1)) (high * 256 + 255) =
+    highest-grows (left - (counter + 1)) (high * 256 + 255) in
     omega arith
 
 pub HasFilled-done : (left counter low high value : ℕ) → left ≤ counter → HasFilled left counter low high value → (low ≡ lowest left value)
@@ -94,14 +95,16 @@ one_byte limits left value b after = refl
 HasRead-one : (limits : Limits) (width read value : ℕ) (bytes : List ℕ) → read < width → read < length bytes
     → HasRead limits width read value bytes
     → number_from limits width 0 bytes
-    ≡ (if can_be limits (width - 1 - read) (value * 256 + get_or bytes read 0) then number_from limits (width - 1 - read) (value * 256 + get_or bytes read 0) (drop (read + 1) bytes) else Bad Range (length bytes - read))
+    ≡ (if can_be limits (width - 1 - read) (value * 256 + get_or bytes read 0) then number_from limits (width - 1 - read)
+    (value * 256 + get_or bytes read 0) (drop (read + 1) bytes) else Bad Range (length bytes - read))
 HasRead-one limits width read value bytes lt within h =
     let k : width - read ≡ suc (width - 1 - read) = omega arith in
     let d : drop read bytes ≡ get_or bytes read 0 ∷ drop (read + 1) bytes = rw add-one (drop-cons bytes read 0 within) in
     let l : suc (length (drop (read + 1) bytes)) ≡ length bytes - read = omega (arith, length-drop (read + 1) bytes) in
     let one = one_byte limits (width - 1 - read) value (get_or bytes read 0) (drop (read + 1) bytes) in
     let two : number_from limits (suc (width - 1 - read)) value (get_or bytes read 0 ∷ drop (read + 1) bytes)
-    ≡ (if can_be limits (width - 1 - read) (value * 256 + get_or bytes read 0) then number_from limits (width - 1 - read) (value * 256 + get_or bytes read 0) (drop (read + 1) bytes) else Bad Range (length bytes - read)) = rw (← l) one in
+    ≡ (if can_be limits (width - 1 - read) (value * 256 + get_or bytes read 0) then number_from limits (width - 1 - read)
+    (value * 256 + get_or bytes read 0) (drop (read + 1) bytes) else Bad Range (length bytes - read)) = rw (← l) one in
     sym h.so_far ∙ ap (λ (n : ℕ). number_from limits n value (drop read bytes)) k
     ∙ ap (λ (xs : List ℕ). number_from limits (suc (width - 1 - read)) value xs) d ∙ two
 
@@ -111,7 +114,8 @@ pub HasRead-room : (limits : Limits) (width read value b : ℕ) (bytes : List �
 HasRead-room limits width read value b bytes lt small h =
     let k : width - read ≡ suc (width - 1 - read) = omega arith in
     let f : highest (suc (width - 1 - read)) value < 2 ^ 64 = rw (← k) h.fits in
-    let s : highest (width - 1 - read) (value * 256 + b) ≤ highest (suc (width - 1 - read)) value = highest-step (width - 1 - read) value b small in
+    let s : highest (width - 1 - read) (value * 256 + b) ≤ highest (suc (width - 1 - read)) value =
+    highest-step (width - 1 - read) value b small in
     let g : value * 256 + b ≤ highest (width - 1 - read) (value * 256 + b) = highest-grows (width - 1 - read) (value * 256 + b) in
     (omega arith, omega arith)
 
@@ -184,5 +188,6 @@ number_within limits (suc zero) v (b ∷ bytes) x h e =
     let g = chosen_got (can_be limits 0 (v * 256 + b)) (number_from limits 0 (v * 256 + b) bytes) (length (b ∷ bytes)) x e in
     last_within limits (v * 256 + b) bytes x g.0 g.1
 number_within limits (suc (suc left)) v (b ∷ bytes) x h e =
-    let g = chosen_got (can_be limits (suc left) (v * 256 + b)) (number_from limits (suc left) (v * 256 + b) bytes) (length (b ∷ bytes)) x e in
+    let g = chosen_got (can_be limits (suc left) (v * 256 + b)) (number_from limits (suc left) (v * 256 + b) bytes) (length (b ∷ bytes)) x e
+    in
     number_within limits (suc left) (v * 256 + b) bytes x (omega arith) g.1

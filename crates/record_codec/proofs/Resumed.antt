@@ -51,22 +51,28 @@ pub init_resumes : (place : Place) (p : InitSoFar) (read : ℕ) (start : List (L
     → Continues element_at p.elements p.left read start count bytes
     → Resumes (λ more. framed (init_from start count more)) place (partials.Init p) (drop read bytes) bytes
 init_resumes place p read start count bytes h tail =
-    ap framed (init_is p.elements p.left (drop read bytes ++ tail) ∙ ap (λ (q : Read (List (List ℕ))). q >>= to_init) (h.same tail) ∙ sym (init_is start count (bytes ++ tail)))
+    ap framed (init_is p.elements p.left (drop read bytes ++ tail) ∙ ap (λ (q : Read (List (List ℕ))). q >>= to_init) (h.same tail)
+    ∙ sym (init_is start count (bytes ++ tail)))
 
 pub init_stops : (place : Place) (p : InitSoFar) (read : ℕ) (start : List (List ℕ)) (count : ℕ) (bytes : List ℕ) (stop : Stop) → 0 < p.left
     → Stops stop (element_at (drop read bytes)) → Continues element_at p.elements p.left read start count bytes
     → AnswersBy (λ more. framed (init_from start count more)) place (partials.Init p) (drop read bytes) (Err stop) bytes
 init_stops place p read start count bytes stop positive s h =
     let front = p.elements in
-    let one : Stops stop (with_front front (many element_at p.left (drop read bytes)) >>= to_init) = stops_then stop (with_front front (many element_at p.left (drop read bytes))) to_init (many_stops element_at front p.left (drop read bytes) stop positive s) in
-    let two : Stops stop (init_from front p.left (drop read bytes)) = rw init_is one in
-    (stops_then stop (init_from front p.left (drop read bytes)) (λ x. Got (items.Frame x.0, x.1)) two, init_resumes place p read start count bytes h)
+    let one : Stops stop (with_front front (many element_at p.left (drop read bytes)) >>= to_init) =
+    stops_then stop (with_front front (many element_at p.left (drop read bytes))) to_init
+    (many_stops element_at front p.left (drop read bytes) stop positive s) in
+    let two : Stops stop (init_from front p.left (drop read bytes)) = rw init_is one in (
+      stops_then stop (init_from front p.left (drop read bytes)) (λ x. Got (items.Frame x.0, x.1)) two,
+      init_resumes place p read start count bytes h,
+    )
 
 pub init_ends : (front : List (List ℕ)) (left read : ℕ) (start : List (List ℕ)) (count : ℕ) (bytes : List ℕ) → left ≤ 0
     → Continues element_at front left read start count bytes
     → framed (init_from start count bytes) ≡ Got (items.Frame (frames.Init front), drop read bytes)
 init_ends front left read start count bytes none h =
-    ap framed (init_is start count bytes ∙ ap (λ (q : Read (List (List ℕ))). q >>= to_init) (all_read element_at front left read start count bytes none h))
+    ap framed (init_is start count bytes ∙ ap (λ (q : Read (List (List ℕ))). q >>= to_init)
+    (all_read element_at front left read start count bytes none h))
 
 abbrev to_item : Frame → List ℕ → Read Item
 to_item f rest = Got (items.Frame f, rest)
@@ -88,16 +94,22 @@ pub run_resumes : (place : Place) (p : RunSoFar) (read : ℕ) (start : List Draw
     → Continues (drawn_at p.format) p.elements p.left read start count bytes
     → Resumes (λ more. framed (finished_from p.format p.input start count more)) place (partials.Run p) (drop read bytes) bytes
 run_resumes place p read start count bytes h tail =
-    ap framed (run_is p.format p.input p.elements p.left (drop read bytes ++ tail) ∙ ap (λ (q : Read (List DrawnElement)). q >>= to_run p.input) (h.same tail) ∙ sym (run_is p.format p.input start count (bytes ++ tail)))
+    ap framed (run_is p.format p.input p.elements p.left (drop read bytes ++ tail)
+    ∙ ap (λ (q : Read (List DrawnElement)). q >>= to_run p.input) (h.same tail)
+    ∙ sym (run_is p.format p.input start count (bytes ++ tail)))
 
 pub run_stops : (place : Place) (p : RunSoFar) (read : ℕ) (start : List DrawnElement) (count : ℕ) (bytes : List ℕ) (stop : Stop)
     → 0 < p.left → Stops stop (drawn_at p.format (drop read bytes)) → Continues (drawn_at p.format) p.elements p.left read start count bytes
     → AnswersBy (λ more. framed (finished_from p.format p.input start count more)) place (partials.Run p) (drop read bytes) (Err stop) bytes
 run_stops place p read start count bytes stop positive s h =
     let elements = many (drawn_at p.format) p.left (drop read bytes) in
-    let one : Stops stop (with_front p.elements elements >>= to_run p.input) = stops_then stop (with_front p.elements elements) (to_run p.input) (many_stops (drawn_at p.format) p.elements p.left (drop read bytes) stop positive s) in
-    let two : Stops stop (finished_from p.format p.input p.elements p.left (drop read bytes)) = rw run_is one in
-    (stops_then stop (finished_from p.format p.input p.elements p.left (drop read bytes)) (λ x. Got (items.Frame x.0, x.1)) two, run_resumes place p read start count bytes h)
+    let one : Stops stop (with_front p.elements elements >>= to_run p.input) =
+    stops_then stop (with_front p.elements elements) (to_run p.input)
+    (many_stops (drawn_at p.format) p.elements p.left (drop read bytes) stop positive s) in
+    let two : Stops stop (finished_from p.format p.input p.elements p.left (drop read bytes)) = rw run_is one in (
+      stops_then stop (finished_from p.format p.input p.elements p.left (drop read bytes)) (λ x. Got (items.Frame x.0, x.1)) two,
+      run_resumes place p read start count bytes h,
+    )
 
 -- the output stops
 pub output_stops : (place : Place) (p : RunSoFar) (read : ℕ) (start : List DrawnElement) (count : ℕ) (bytes : List ℕ) (stop : Stop)
@@ -107,13 +119,21 @@ pub output_stops : (place : Place) (p : RunSoFar) (read : ℕ) (start : List Dra
 output_stops place p read start count bytes stop none s h =
     let one : with_front p.elements (many (drawn_at p.format) p.left (drop read bytes))
     ≡ Got (p.elements, drop read bytes) = many_done (drawn_at p.format) p.elements p.left (drop read bytes) none in
-    let two : Stops stop (to_run p.input (p.elements, drop read bytes)) = stops_then stop (string_at 4 1048576 (drop read bytes)) (λ output. Got (finished p.input p.elements output.0, output.1)) s in
-    let three : Stops stop (finished_from p.format p.input p.elements p.left (drop read bytes)) = rw (run_is, one) two in
-    (stops_then stop (finished_from p.format p.input p.elements p.left (drop read bytes)) (λ x. Got (items.Frame x.0, x.1)) three, run_resumes place p read start count bytes h)
+    let two : Stops stop (to_run p.input (p.elements, drop read bytes)) =
+    stops_then stop (string_at 4 1048576 (drop read bytes)) (λ output. Got (finished p.input p.elements output.0, output.1)) s in
+    let three : Stops stop (finished_from p.format p.input p.elements p.left (drop read bytes)) = rw (run_is, one) two in (
+      stops_then stop (finished_from p.format p.input p.elements p.left (drop read bytes)) (λ x. Got (items.Frame x.0, x.1)) three,
+      run_resumes place p read start count bytes h,
+    )
 
-pub run_ends : (format : Format) (input : CycleInput) (front : List DrawnElement) (left read : ℕ) (start : List DrawnElement) (count : ℕ) (bytes : List ℕ) (output rest : List ℕ) → left ≤ 0 → string_at 4 1048576 (drop read bytes) ≡ Got (output, rest) → Continues (drawn_at format) front left read start count bytes
+pub run_ends : (format : Format) (input : CycleInput) (front : List DrawnElement) (left read : ℕ) (start : List DrawnElement) (count : ℕ)
+    (bytes : List ℕ) (output rest : List ℕ) → left ≤ 0 → string_at 4 1048576 (drop read bytes) ≡ Got (output, rest)
+    → Continues (drawn_at format) front left read start count bytes
     → (length rest ≤ length bytes)
-    × (framed (finished_from format input start count bytes) ≡ Got (items.Frame (finished input front output), drop (length bytes - length rest) bytes))
+    × (framed (finished_from format input start count bytes) ≡ Got (
+      items.Frame (finished input front output),
+      drop (length bytes - length rest) bytes,
+    ))
 run_ends format input front left read start count bytes output rest none got h =
     let in_range : read ≤ length bytes = h.in_range in
     let r = (string_steady 4 1048576).rest (drop read bytes) (output, rest) got in
@@ -125,5 +145,9 @@ run_ends format input front left read start count bytes output rest none got h =
     let all : with_front start (many (drawn_at format) count bytes)
     ≡ Got (front, drop read bytes) = all_read (drawn_at format) front left read start count bytes none h in
     let one : to_run input (front, drop read bytes)
-    ≡ Got (finished input front output, rest) = ap (λ (q : Read (List ℕ)). q >>= λ output. Got (finished input front output.0, output.1)) got in
-    (omega (arith, r.1), ap framed (run_is format input start count bytes ∙ ap (λ (q : Read (List DrawnElement)). q >>= to_run input) all ∙ one) ∙ ap (λ (xs : List ℕ). to_item (finished input front output) xs) d)
+    ≡ Got (finished input front output, rest) = ap (λ (q : Read (List ℕ)). q >>= λ output. Got (finished input front output.0, output.1))
+    got in (
+      omega (arith, r.1),
+      ap framed (run_is format input start count bytes ∙ ap (λ (q : Read (List DrawnElement)). q >>= to_run input) all
+          ∙ one) ∙ ap (λ (xs : List ℕ). to_item (finished input front output) xs) d,
+    )

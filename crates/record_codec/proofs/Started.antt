@@ -52,7 +52,8 @@ module _ (reading after : List ℕ → Read Item) (place : Place) (partial : Par
       let one : reading bytes ≡ after rest = ap reading (sym (append-nil bytes)) ∙ same [] ∙ ap after (append-nil rest) in
       (h.0, one ∙ h.1 ∙ ap (λ (xs : List ℕ). to_got (item) xs) d)
   behind (Err stop) same d h =
-      let one : Stops stop (resume place partial (drop (n + m) bytes)) = subst (λ (xs : List ℕ). Stops stop (resume place partial xs)) d h.0 in
+      let one : Stops stop (resume place partial (drop (n + m) bytes)) =
+      subst (λ (xs : List ℕ). Stops stop (resume place partial xs)) d h.0 in
       (one, λ tail. ap (λ (xs : List ℕ). resume place partial (xs ++ tail)) (sym d) ∙ h.1 tail ∙ sym (same tail))
 
   pub answers_behind : (answer : Result Item Stop) → ((tail : List ℕ) → reading (bytes ++ tail) ≡ after (rest ++ tail)) → rest

@@ -53,7 +53,8 @@ wide limits zero v bytes h small within = refl
 wide limits (suc n) v [] h small within = absurd (omega arith)
 wide limits (suc n) v (b ∷ bytes) h small within =
     let test : can_be limits n (v * 256 + b) ≡ true =
-    possible limits n (v * 256 + b) (value n (v * 256 + b) bytes) (above n (v * 256 + b) bytes (omega arith)) (below n (v * 256 + b) bytes (omega arith) (λ i. small (suc i))) within in
+    possible limits n (v * 256 + b) (value n (v * 256 + b) bytes) (above n (v * 256 + b) bytes (omega arith))
+    (below n (v * 256 + b) bytes (omega arith) (λ i. small (suc i))) within in
     ap (λ (t : Bool). cond t (number_from limits n (v * 256 + b) bytes) (Bad Range (suc (length bytes)))) test
     ∙ wide limits n (v * 256 + b) bytes (omega arith) (λ i. small (suc i)) within
 
@@ -73,7 +74,8 @@ value_4 (a ∷ b ∷ c ∷ []) h = absurd (omega arith)
 value_4 (a ∷ b ∷ c ∷ d ∷ bytes) h = omega arith
 
 value_8 : (bytes : List ℕ) → 8 ≤ length bytes
-    → from_be_bytes w64 (get_or bytes 0 0 ∷ get_or bytes 1 0 ∷ get_or bytes 2 0 ∷ get_or bytes 3 0 ∷ get_or bytes 4 0 ∷ get_or bytes 5 0 ∷ get_or bytes 6 0 ∷ get_or bytes 7 0 ∷ []) ≡ value 8 0 bytes
+    → from_be_bytes w64 (get_or bytes 0 0 ∷ get_or bytes 1 0 ∷ get_or bytes 2 0 ∷ get_or bytes 3 0 ∷ get_or bytes 4 0 ∷ get_or bytes 5 0
+    ∷ get_or bytes 6 0 ∷ get_or bytes 7 0 ∷ []) ≡ value 8 0 bytes
 unfolding value
 value_8 [] h = absurd (omega arith)
 value_8 (a ∷ []) h = absurd (omega arith)
@@ -109,6 +111,7 @@ pub wide_4 : (limits : Limits) (bytes : List ℕ) (v : ℕ) → 4 ≤ length byt
 wide_4 limits bytes v h small e within = at_once limits 4 bytes v h small (e ∙ value_4 bytes h) within
 
 pub wide_8 : (limits : Limits) (bytes : List ℕ) (v : ℕ) → 8 ≤ length bytes → ((i : ℕ) → get_or bytes i 0 < 256)
-    → v ≡ from_be_bytes w64 (get_or bytes 0 0 ∷ get_or bytes 1 0 ∷ get_or bytes 2 0 ∷ get_or bytes 3 0 ∷ get_or bytes 4 0 ∷ get_or bytes 5 0 ∷ get_or bytes 6 0 ∷ get_or bytes 7 0 ∷ []) → IsWithin limits v
+    → v ≡ from_be_bytes w64 (get_or bytes 0 0 ∷ get_or bytes 1 0 ∷ get_or bytes 2 0 ∷ get_or bytes 3 0 ∷ get_or bytes 4 0 ∷ get_or bytes 5 0
+    ∷ get_or bytes 6 0 ∷ get_or bytes 7 0 ∷ []) → IsWithin limits v
     → number_from limits 8 0 bytes ≡ Got (v, take (length bytes - 8) (drop 8 bytes))
 wide_8 limits bytes v h small e within = at_once limits 8 bytes v h small (e ∙ value_8 bytes h) within

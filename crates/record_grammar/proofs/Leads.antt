@@ -59,13 +59,17 @@ exactly_takes (b ∷ bytes) x e = taken (eqb b 68) 68 bytes (suc (length bytes))
 -- what stands behind the first byte
 abbrev behind_first : ℕ → List ℕ → Read ℕ
 behind_first d bytes =
-    exactly_at Magic 69 bytes >>= λ e. exactly_at Magic 84 e.1 >>= λ t. exactly_at Magic 82 t.1 >>= λ r. exactly_at Magic 69 r.1 >>= λ f. exactly_at Magic 67 f.1
+    exactly_at Magic 69 bytes >>= λ e. exactly_at Magic 84 e.1 >>= λ t. exactly_at Magic 82 t.1 >>= λ r. exactly_at Magic 69 r.1 >>= λ f.
+    exactly_at Magic 67 f.1
 
 behind_first_steady : (d : ℕ) → IsSteady 0 (behind_first d)
 behind_first_steady d =
-    steady_then 0 (exactly_at Magic 69) (λ e bytes. exactly_at Magic 84 bytes >>= λ t. exactly_at Magic 82 t.1 >>= λ r. exactly_at Magic 69 r.1 >>= λ f. exactly_at Magic 67 f.1) (exactly_steady Magic 69) (λ e.
-    steady_then 0 (exactly_at Magic 84) (λ t bytes. exactly_at Magic 82 bytes >>= λ r. exactly_at Magic 69 r.1 >>= λ f. exactly_at Magic 67 f.1) (exactly_steady Magic 84) (λ t.
-    steady_then 0 (exactly_at Magic 82) (λ r bytes. exactly_at Magic 69 bytes >>= λ f. exactly_at Magic 67 f.1) (exactly_steady Magic 82) (λ r.
+    steady_then 0 (exactly_at Magic 69) (λ e bytes. exactly_at Magic 84 bytes >>= λ t. exactly_at Magic 82 t.1 >>= λ r.
+    exactly_at Magic 69 r.1 >>= λ f. exactly_at Magic 67 f.1) (exactly_steady Magic 69) (λ e.
+    steady_then 0 (exactly_at Magic 84) (λ t bytes. exactly_at Magic 82 bytes >>= λ r. exactly_at Magic 69 r.1 >>= λ f.
+    exactly_at Magic 67 f.1) (exactly_steady Magic 84) (λ t.
+    steady_then 0 (exactly_at Magic 82) (λ r bytes. exactly_at Magic 69 bytes >>= λ f. exactly_at Magic 67 f.1) (exactly_steady Magic 82)
+    (λ r.
     steady_then 0 (exactly_at Magic 69) (λ f bytes. exactly_at Magic 67 bytes) (exactly_steady Magic 69) (λ f. exactly_steady Magic 67))))
 
 magic_takes : (bytes : List ℕ) (x : ℕ × List ℕ) → magic_at bytes ≡ Got x → length x.1 < length bytes
@@ -81,7 +85,8 @@ frame_takes place bytes x e = first_takes (tagged_at place) bytes x (tagged_stea
 framed_takes : (place : Place) (bytes : List ℕ) (x : Item × List ℕ) → (frame_at place bytes >>= λ f. Got (items.Frame f.0, f.1)) ≡ Got x
     → length x.1 < length bytes
 framed_takes place bytes x e =
-    then_takes (frame_at place) (λ f rest. Got (items.Frame f, rest)) bytes x (frame_takes place bytes) (λ f. steady_give 0 (items.Frame f)) e
+    then_takes (frame_at place) (λ f rest. Got (items.Frame f, rest)) bytes x (frame_takes place bytes) (λ f. steady_give 0 (items.Frame f))
+    e
 
 pub item_takes : (place : Place) (bytes : List ℕ) (x : Item × List ℕ) → item_at place bytes ≡ Got x → length x.1 < length bytes
 unfolding item_at
@@ -215,15 +220,18 @@ IsKind place f = CanFollow place (items.Frame f)
 init_only : (layout : Layout) (bytes : List ℕ) → GivesOnly (IsKind (places.Init layout)) (init_at bytes)
 unfolding init_at init_from
 init_only layout bytes = only_then _ (number 4 0 65536 bytes) (λ count. init_from [] count.0 count.1) (λ count.
-    only_then _ (with_front [] (many element_at count.0 count.1)) (λ es. Got (frames.Init es.0, es.1)) (λ es. only_give (IsKind (places.Init layout)) (frames.Init es.0) es.1 tt))
+    only_then _ (with_front [] (many element_at count.0 count.1)) (λ es. Got (frames.Init es.0, es.1))
+    (λ es. only_give (IsKind (places.Init layout)) (frames.Init es.0) es.1 tt))
 
 finished_only : (layout : Layout) (before : ℕ) (input : CycleInput) (bytes : List ℕ) → before < 1000000
     → GivesOnly (IsKind (places.Runs layout before)) (finished_at layout.format input bytes)
 unfolding finished_at finished_from
 finished_only layout before input bytes few =
     only_then _ (number 4 0 65536 bytes) (λ count. finished_from layout.format input [] count.0 count.1) (λ count.
-    only_then _ (with_front [] (many (drawn_at layout.format) count.0 count.1)) (λ es. string_at 4 1048576 es.1 >>= λ out. Got (finished input es.0 out.0, out.1)) (λ es.
-    only_then _ (string_at 4 1048576 es.1) (λ out. Got (finished input es.0 out.0, out.1)) (λ out. only_give (IsKind (places.Runs layout before)) (finished input es.0 out.0) out.1 few)))
+    only_then _ (with_front [] (many (drawn_at layout.format) count.0 count.1))
+    (λ es. string_at 4 1048576 es.1 >>= λ out. Got (finished input es.0 out.0, out.1)) (λ es.
+    only_then _ (string_at 4 1048576 es.1) (λ out. Got (finished input es.0 out.0, out.1))
+    (λ out. only_give (IsKind (places.Runs layout before)) (finished input es.0 out.0) out.1 few)))
 
 refused_only : (layout : Layout) (before : ℕ) (input : CycleInput) (bytes : List ℕ) → before < 1000000
     → GivesOnly (IsKind (places.Runs layout before)) (refused_at input bytes)
@@ -236,23 +244,32 @@ run_only : (layout : Layout) (before : ℕ) (bytes : List ℕ) → before < 1000
     → GivesOnly (IsKind (places.Runs layout before)) (run_at layout bytes)
 unfolding run_at
 run_only layout before bytes few =
-    only_then _ (input_at layout.events bytes) (λ input. number 1 0 1 input.1 >>= λ flag. cond (eqb flag.0 0) (finished_at layout.format input.0 flag.1) (refused_at input.0 flag.1)) (λ input.
-    only_then _ (number 1 0 1 input.1) (λ flag. cond (eqb flag.0 0) (finished_at layout.format input.0 flag.1) (refused_at input.0 flag.1)) (λ flag.
-    only_if _ (eqb flag.0 0) (finished_at layout.format input.0 flag.1) (refused_at input.0 flag.1) (λ e. finished_only layout before input.0 flag.1 few) (refused_only layout before input.0 flag.1 few)))
+    only_then _ (input_at layout.events bytes) (λ input. number 1 0 1 input.1 >>= λ flag.
+    cond (eqb flag.0 0) (finished_at layout.format input.0 flag.1) (refused_at input.0 flag.1)) (λ input.
+    only_then _ (number 1 0 1 input.1) (λ flag. cond (eqb flag.0 0) (finished_at layout.format input.0 flag.1) (refused_at input.0 flag.1))
+    (λ flag.
+    only_if _ (eqb flag.0 0) (finished_at layout.format input.0 flag.1) (refused_at input.0 flag.1)
+    (λ e. finished_only layout before input.0 flag.1 few) (refused_only layout before input.0 flag.1 few)))
 
 tagged_only : (place : Place) (b : ℕ) (bytes : List ℕ) → GivesOnly (IsKind place) (tagged_at place b bytes)
 unfolding tagged_at
 tagged_only places.Header b bytes = only_more _
 tagged_only (places.Register layout) b bytes =
-    only_if _ (eqb b 1) (Got (frames.Register, bytes)) (Bad (tag_reason b) (suc (length bytes))) (λ e. only_give (IsKind (places.Register layout)) frames.Register bytes tt) (only_bad _ (tag_reason b) (suc (length bytes)))
+    only_if _ (eqb b 1) (Got (frames.Register, bytes)) (Bad (tag_reason b) (suc (length bytes)))
+    (λ e. only_give (IsKind (places.Register layout)) frames.Register bytes tt) (only_bad _ (tag_reason b) (suc (length bytes)))
 tagged_only (places.Discover layout) b bytes =
-    only_if _ (eqb b 2) (Got (frames.Discover, bytes)) (Bad (tag_reason b) (suc (length bytes))) (λ e. only_give (IsKind (places.Discover layout)) frames.Discover bytes tt) (only_bad _ (tag_reason b) (suc (length bytes)))
+    only_if _ (eqb b 2) (Got (frames.Discover, bytes)) (Bad (tag_reason b) (suc (length bytes)))
+    (λ e. only_give (IsKind (places.Discover layout)) frames.Discover bytes tt) (only_bad _ (tag_reason b) (suc (length bytes)))
 tagged_only (places.Init layout) b bytes =
-    only_if _ (eqb b 3) (init_at bytes) (Bad (tag_reason b) (suc (length bytes))) (λ e. init_only layout bytes) (only_bad _ (tag_reason b) (suc (length bytes)))
+    only_if _ (eqb b 3) (init_at bytes) (Bad (tag_reason b) (suc (length bytes))) (λ e. init_only layout bytes)
+    (only_bad _ (tag_reason b) (suc (length bytes)))
 tagged_only (places.Runs layout before) b bytes =
-    only_if _ (eqb b 4) (cond (ltb before 1000000) (run_at layout bytes) (Bad TooMany (suc (length bytes)))) (cond (eqb b 5) (Got (frames.Terminate, bytes)) (Bad (tag_reason b) (suc (length bytes))))
-    (λ e. only_if _ (ltb before 1000000) (run_at layout bytes) (Bad TooMany (suc (length bytes))) (λ few. run_only layout before bytes (ltb-true before 1000000 few)) (only_bad _ TooMany (suc (length bytes))))
-    (only_if _ (eqb b 5) (Got (frames.Terminate, bytes)) (Bad (tag_reason b) (suc (length bytes))) (λ e. only_give (IsKind (places.Runs layout before)) frames.Terminate bytes tt) (only_bad _ (tag_reason b) (suc (length bytes))))
+    only_if _ (eqb b 4) (cond (ltb before 1000000) (run_at layout bytes) (Bad TooMany (suc (length bytes))))
+    (cond (eqb b 5) (Got (frames.Terminate, bytes)) (Bad (tag_reason b) (suc (length bytes))))
+    (λ e. only_if _ (ltb before 1000000) (run_at layout bytes) (Bad TooMany (suc (length bytes)))
+    (λ few. run_only layout before bytes (ltb-true before 1000000 few)) (only_bad _ TooMany (suc (length bytes))))
+    (only_if _ (eqb b 5) (Got (frames.Terminate, bytes)) (Bad (tag_reason b) (suc (length bytes)))
+    (λ e. only_give (IsKind (places.Runs layout before)) frames.Terminate bytes tt) (only_bad _ (tag_reason b) (suc (length bytes))))
 tagged_only places.End b bytes = only_bad _ _ _
 
 frame_only : (place : Place) (bytes : List ℕ) → GivesOnly (IsKind place) (frame_at place bytes)
@@ -271,7 +288,8 @@ pub can_follow : (place : Place) (bytes : List ℕ) (item : Item) (mid : List �
     → CanFollow place item
 unfolding item_at
 can_follow places.Header bytes item mid e =
-    only_then (CanFollow places.Header) (profile_at bytes) (λ p. Got (items.Header p.0, p.1)) (λ p. only_give (CanFollow places.Header) (items.Header p.0) p.1 tt) (item, mid) e
+    only_then (CanFollow places.Header) (profile_at bytes) (λ p. Got (items.Header p.0, p.1))
+    (λ p. only_give (CanFollow places.Header) (items.Header p.0) p.1 tt) (item, mid) e
 can_follow (places.Register layout) bytes item mid e = framed_only (places.Register layout) bytes (item, mid) e
 can_follow (places.Discover layout) bytes item mid e = framed_only (places.Discover layout) bytes (item, mid) e
 can_follow (places.Init layout) bytes item mid e = framed_only (places.Init layout) bytes (item, mid) e

@@ -109,7 +109,13 @@ steady_if before false r s hr hs = record { got = hs.got; bad = hs.bad; rest = h
 
 pub steady_wider : {A : Type 0} (r : List ℕ → Read A) → IsSteady 0 r → IsSteady 1 r
 steady_wider r h =
-    record { got = h.got; bad = h.bad; rest = h.rest; within = λ bytes reason left e. let w : left ≤ 0 + length bytes = h.within bytes reason left e in omega arith }
+    record {
+      got = h.got;
+      bad = h.bad;
+      rest = h.rest;
+      within = λ bytes reason left e. let w : left ≤ 0 + length bytes =
+          h.within bytes reason left e in omega arith;
+    }
 
 -- a reader that looks at the first byte
 abbrev pub by_first : {A : Type 0} → (ℕ → List ℕ → Read A) → List ℕ → Read A
@@ -140,7 +146,8 @@ module _ {A : Type 0} (f : ℕ → List ℕ → Read A) (h : (b : ℕ) → IsSte
 -- ---- numbers, bytes, and values in a row
 
 pub number_is : (limits : Limits) (left v : ℕ) (bytes : List ℕ) → number_from limits (suc left) v bytes
-    ≡ by_first (λ b bytes. cond (can_be limits left (v * 256 + b)) (number_from limits left (v * 256 + b) bytes) (Bad Range (suc (length bytes)))) bytes
+    ≡ by_first (λ b bytes. cond (can_be limits left (v * 256 + b)) (number_from limits left (v * 256 + b) bytes)
+    (Bad Range (suc (length bytes)))) bytes
 unfolding number_from
 number_is limits left v [] = refl
 number_is limits left v (b ∷ bytes) = refl
@@ -150,9 +157,11 @@ unfolding number_from
 steady_number limits zero v = steady_same 0 (number_from limits zero v) (λ bytes. Got (v, bytes)) (λ bytes. refl) (steady_give 0 v)
 steady_number limits (suc left) v =
     let f : ℕ → List ℕ
-    → Read ℕ = λ b bytes. cond (can_be limits left (v * 256 + b)) (number_from limits left (v * 256 + b) bytes) (Bad Range (suc (length bytes))) in
+    → Read ℕ = λ b bytes. cond (can_be limits left (v * 256 + b)) (number_from limits left (v * 256 + b) bytes)
+    (Bad Range (suc (length bytes))) in
     steady_same 0 (number_from limits (suc left) v) (by_first f) (number_is limits left v) (steady_first f (λ b.
-    steady_if 1 (can_be limits left (v * 256 + b)) (number_from limits left (v * 256 + b)) (λ bytes. Bad Range (suc (length bytes))) (steady_wider (number_from limits left (v * 256 + b)) (steady_number limits left (v * 256 + b))) (steady_refuse Range)))
+    steady_if 1 (can_be limits left (v * 256 + b)) (number_from limits left (v * 256 + b)) (λ bytes. Bad Range (suc (length bytes)))
+    (steady_wider (number_from limits left (v * 256 + b)) (steady_number limits left (v * 256 + b))) (steady_refuse Range)))
 
 pub raw_short : (n : ℕ) (bytes : List ℕ) → length bytes < n → raw_at n bytes ≡ More
 unfolding raw_at
@@ -169,7 +178,11 @@ steady_raw n = record {
     | inr le ↦
         let p : (take n bytes, drop n bytes) ≡ x = got_is (take n bytes, drop n bytes) x (sym (raw_long n bytes le) ∙ e) in
         let q : raw_at n (bytes ++ tail)
-        ≡ Got (take n bytes, drop n bytes ++ tail) = rw (raw_long n (bytes ++ tail) (omega (arith, length-append bytes tail)), take-append-le n bytes tail le, drop-append-le n bytes tail le) refl in
+        ≡ Got (take n bytes, drop n bytes ++ tail) = rw (
+          raw_long n (bytes ++ tail) (omega (arith, length-append bytes tail)),
+          take-append-le n bytes tail le,
+          drop-append-le n bytes tail le,
+        ) refl in
         q ∙ ap (λ (y : List ℕ × List ℕ). got (y.0, y.1 ++ tail)) p
   ];
   bad = λ bytes tail reason left e. elim (cases_lt (length bytes) n) [
@@ -193,4 +206,5 @@ unfolding many
 steady_many {A} item h zero = steady_same 0 (many item zero) (λ bytes. Got ([], bytes)) (λ bytes. refl) (steady_give 0 [])
 steady_many {A} item h (suc n) =
     steady_then 0 item (λ first bytes. many item n bytes >>= λ others. Got (first ∷ others.0, others.1)) h (λ first.
-    steady_then 0 (many item n) (λ others bytes. Got (first ∷ others, bytes)) (steady_many item h n) (λ others. steady_give 0 (first ∷ others)))
+    steady_then 0 (many item n) (λ others bytes. Got (first ∷ others, bytes)) (steady_many item h n)
+    (λ others. steady_give 0 (first ∷ others)))

@@ -34,13 +34,15 @@ number_steady width least most = steady_number (Between least most) width 0
 pub signed_steady : IsSteady 0 signed_at
 unfolding signed_at
 signed_steady =
-    steady_then 0 (number 8 0 18446744073709551615) (λ n bytes. Got (cast_signed w64 n, bytes)) (number_steady 8 0 18446744073709551615) (λ n.
+    steady_then 0 (number 8 0 18446744073709551615) (λ n bytes. Got (cast_signed w64 n, bytes)) (number_steady 8 0 18446744073709551615)
+    (λ n.
     steady_give 0 (cast_signed w64 n))
 
 pub sample_value_steady : IsSteady 0 sample_value_at
 unfolding sample_value_at
 sample_value_steady =
-    steady_then 0 (number_from (Around 1000000000000) 8 0) (λ n bytes. Got (cast_signed w64 n, bytes)) (steady_number (Around 1000000000000) 8 0) (λ n.
+    steady_then 0 (number_from (Around 1000000000000) 8 0) (λ n bytes. Got (cast_signed w64 n, bytes))
+    (steady_number (Around 1000000000000) 8 0) (λ n.
     steady_give 0 (cast_signed w64 n))
 
 pub string_steady : (width most : ℕ) → IsSteady 0 (string_at width most)
@@ -59,16 +61,22 @@ exactly_same reason expected (b ∷ bytes) = refl
 
 pub exactly_steady : (reason : Reason) (expected : ℕ) → IsSteady 0 (exactly_at reason expected)
 exactly_steady reason expected =
-    steady_same 0 (exactly_at reason expected) (by_first (exactly_by reason expected)) (exactly_same reason expected) (steady_first (exactly_by reason expected) (λ b.
-    steady_if 1 (eqb b expected) (λ bytes. Got (expected, bytes)) (λ bytes. Bad reason (suc (length bytes))) (steady_give 1 expected) (steady_refuse reason)))
+    steady_same 0 (exactly_at reason expected) (by_first (exactly_by reason expected)) (exactly_same reason expected)
+    (steady_first (exactly_by reason expected) (λ b.
+    steady_if 1 (eqb b expected) (λ bytes. Got (expected, bytes)) (λ bytes. Bad reason (suc (length bytes))) (steady_give 1 expected)
+    (steady_refuse reason)))
 
 pub magic_steady : IsSteady 0 magic_at
 unfolding magic_at
 magic_steady =
-    steady_then 0 (exactly_at Magic 68) (λ d bytes. exactly_at Magic 69 bytes >>= λ e. exactly_at Magic 84 e.1 >>= λ t. exactly_at Magic 82 t.1 >>= λ r. exactly_at Magic 69 r.1 >>= λ f. exactly_at Magic 67 f.1) (exactly_steady Magic 68) (λ d.
-    steady_then 0 (exactly_at Magic 69) (λ e bytes. exactly_at Magic 84 bytes >>= λ t. exactly_at Magic 82 t.1 >>= λ r. exactly_at Magic 69 r.1 >>= λ f. exactly_at Magic 67 f.1) (exactly_steady Magic 69) (λ e.
-    steady_then 0 (exactly_at Magic 84) (λ t bytes. exactly_at Magic 82 bytes >>= λ r. exactly_at Magic 69 r.1 >>= λ f. exactly_at Magic 67 f.1) (exactly_steady Magic 84) (λ t.
-    steady_then 0 (exactly_at Magic 82) (λ r bytes. exactly_at Magic 69 bytes >>= λ f. exactly_at Magic 67 f.1) (exactly_steady Magic 82) (λ r.
+    steady_then 0 (exactly_at Magic 68) (λ d bytes. exactly_at Magic 69 bytes >>= λ e. exactly_at Magic 84 e.1 >>= λ t.
+    exactly_at Magic 82 t.1 >>= λ r. exactly_at Magic 69 r.1 >>= λ f. exactly_at Magic 67 f.1) (exactly_steady Magic 68) (λ d.
+    steady_then 0 (exactly_at Magic 69) (λ e bytes. exactly_at Magic 84 bytes >>= λ t. exactly_at Magic 82 t.1 >>= λ r.
+    exactly_at Magic 69 r.1 >>= λ f. exactly_at Magic 67 f.1) (exactly_steady Magic 69) (λ e.
+    steady_then 0 (exactly_at Magic 84) (λ t bytes. exactly_at Magic 82 bytes >>= λ r. exactly_at Magic 69 r.1 >>= λ f.
+    exactly_at Magic 67 f.1) (exactly_steady Magic 84) (λ t.
+    steady_then 0 (exactly_at Magic 82) (λ r bytes. exactly_at Magic 69 bytes >>= λ f. exactly_at Magic 67 f.1) (exactly_steady Magic 82)
+    (λ r.
     steady_then 0 (exactly_at Magic 69) (λ f bytes. exactly_at Magic 67 bytes) (exactly_steady Magic 69) (λ f.
     exactly_steady Magic 67)))))
 
@@ -83,8 +91,10 @@ format_same (b ∷ bytes) = refl
 pub format_steady : IsSteady 0 format_at
 format_steady =
     steady_same 0 format_at (by_first format_by) format_same (steady_first format_by (λ b.
-    steady_if 1 (eqb b 1) (λ bytes. Got (One, bytes)) (λ bytes. cond (eqb b 2) (Got (Two, bytes)) (Bad Version (suc (length bytes)))) (steady_give 1 One)
-    (steady_if 1 (eqb b 2) (λ bytes. Got (Two, bytes)) (λ bytes. Bad Version (suc (length bytes))) (steady_give 1 Two) (steady_refuse Version))))
+    steady_if 1 (eqb b 1) (λ bytes. Got (One, bytes)) (λ bytes. cond (eqb b 2) (Got (Two, bytes)) (Bad Version (suc (length bytes))))
+    (steady_give 1 One)
+    (steady_if 1 (eqb b 2) (λ bytes. Got (Two, bytes)) (λ bytes. Bad Version (suc (length bytes))) (steady_give 1 Two)
+    (steady_refuse Version))))
 
 pub version_steady : IsSteady 0 version_at
 unfolding version_at
@@ -103,7 +113,8 @@ name_byte_same (b ∷ bytes) = refl
 pub name_byte_steady : IsSteady 0 name_byte_at
 name_byte_steady =
     steady_same 0 name_byte_at (by_first name_byte_by) name_byte_same (steady_first name_byte_by (λ b.
-    steady_if 1 (may_stand_in_name b) (λ bytes. Got (b, bytes)) (λ bytes. Bad Range (suc (length bytes))) (steady_give 1 b) (steady_refuse Range)))
+    steady_if 1 (may_stand_in_name b) (λ bytes. Got (b, bytes)) (λ bytes. Bad Range (suc (length bytes))) (steady_give 1 b)
+    (steady_refuse Range)))
 
 pub name_steady : IsSteady 0 name_at
 unfolding name_at
@@ -120,9 +131,12 @@ policy_steady Two =
 pub event_steady : (format : Format) → IsSteady 0 (event_at format)
 unfolding event_at
 event_steady format =
-    steady_then 0 (number 2 1 1024) (λ capacity bytes. name_at bytes >>= λ name. policy_at format name.1 >>= λ policy. Got (record { capacity = capacity; name = name.0; policy = policy.0 }, policy.1)) (number_steady 2 1 1024) (λ capacity.
-    steady_then 0 (name_at) (λ name bytes. policy_at format bytes >>= λ policy. Got (record { capacity = capacity; name = name; policy = policy.0 }, policy.1)) (name_steady) (λ name.
-    steady_then 0 (policy_at format) (λ policy bytes. Got (record { capacity = capacity; name = name; policy = policy }, bytes)) (policy_steady format) (λ policy.
+    steady_then 0 (number 2 1 1024) (λ capacity bytes. name_at bytes >>= λ name. policy_at format name.1 >>= λ policy.
+    Got (record { capacity = capacity; name = name.0; policy = policy.0 }, policy.1)) (number_steady 2 1 1024) (λ capacity.
+    steady_then 0 (name_at) (λ name bytes. policy_at format bytes >>= λ policy.
+    Got (record { capacity = capacity; name = name; policy = policy.0 }, policy.1)) (name_steady) (λ name.
+    steady_then 0 (policy_at format) (λ policy bytes. Got (record { capacity = capacity; name = name; policy = policy }, bytes))
+    (policy_steady format) (λ policy.
     steady_give 0 (record { capacity = capacity; name = name; policy = policy }))))
 
 pub params_steady : IsSteady 0 params_at
@@ -140,16 +154,41 @@ events_steady format =
 -- what stands behind the magic
 abbrev pub behind_magic : ℕ → List ℕ → Read ProfileValue
 behind_magic magic bytes =
-    version_at bytes >>= λ format. number 2 0 65535 format.1 >>= λ job. number 8 0 18446744073709551615 job.1 >>= λ seed. number 8 1 9223372036854775807 seed.1 >>= λ cycle. params_at cycle.1 >>= λ params. events_at format.0 params.1 >>= λ events. Got (record { format = format.0; job = job.0; seed = seed.0; cycle_time = cycle.0; params = params.0; events = events.0 }, events.1)
+    version_at bytes >>= λ format. number 2 0 65535 format.1 >>= λ job. number 8 0 18446744073709551615 job.1 >>= λ seed.
+    number 8 1 9223372036854775807 seed.1 >>= λ cycle. params_at cycle.1 >>= λ params. events_at format.0 params.1 >>= λ events.
+    Got (record { format = format.0; job = job.0; seed = seed.0; cycle_time = cycle.0; params = params.0; events = events.0 }, events.1)
 
 pub behind_magic_steady : (magic : ℕ) → IsSteady 0 (behind_magic magic)
 behind_magic_steady magic =
-    steady_then 0 (version_at) (λ format bytes. number 2 0 65535 bytes >>= λ job. number 8 0 18446744073709551615 job.1 >>= λ seed. number 8 1 9223372036854775807 seed.1 >>= λ cycle. params_at cycle.1 >>= λ params. events_at format params.1 >>= λ events. Got (record { format = format; job = job.0; seed = seed.0; cycle_time = cycle.0; params = params.0; events = events.0 }, events.1)) (version_steady) (λ format.
-    steady_then 0 (number 2 0 65535) (λ job bytes. number 8 0 18446744073709551615 bytes >>= λ seed. number 8 1 9223372036854775807 seed.1 >>= λ cycle. params_at cycle.1 >>= λ params. events_at format params.1 >>= λ events. Got (record { format = format; job = job; seed = seed.0; cycle_time = cycle.0; params = params.0; events = events.0 }, events.1)) (number_steady 2 0 65535) (λ job.
-    steady_then 0 (number 8 0 18446744073709551615) (λ seed bytes. number 8 1 9223372036854775807 bytes >>= λ cycle. params_at cycle.1 >>= λ params. events_at format params.1 >>= λ events. Got (record { format = format; job = job; seed = seed; cycle_time = cycle.0; params = params.0; events = events.0 }, events.1)) (number_steady 8 0 18446744073709551615) (λ seed.
-    steady_then 0 (number 8 1 9223372036854775807) (λ cycle bytes. params_at bytes >>= λ params. events_at format params.1 >>= λ events. Got (record { format = format; job = job; seed = seed; cycle_time = cycle; params = params.0; events = events.0 }, events.1)) (number_steady 8 1 9223372036854775807) (λ cycle.
-    steady_then 0 (params_at) (λ params bytes. events_at format bytes >>= λ events. Got (record { format = format; job = job; seed = seed; cycle_time = cycle; params = params; events = events.0 }, events.1)) (params_steady) (λ params.
-    steady_then 0 (events_at format) (λ events bytes. Got (record { format = format; job = job; seed = seed; cycle_time = cycle; params = params; events = events }, bytes)) (events_steady format) (λ events.
+    steady_then 0 (version_at) (λ format bytes. number 2 0 65535 bytes >>= λ job. number 8 0 18446744073709551615 job.1 >>= λ seed.
+    number 8 1 9223372036854775807 seed.1 >>= λ cycle. params_at cycle.1 >>= λ params. events_at format params.1 >>= λ events.
+    Got (record { format = format; job = job.0; seed = seed.0; cycle_time = cycle.0; params = params.0; events = events.0 }, events.1))
+    (version_steady) (λ format.
+    steady_then 0 (number 2 0 65535) (λ job bytes. number 8 0 18446744073709551615 bytes >>= λ seed.
+    number 8 1 9223372036854775807 seed.1 >>= λ cycle. params_at cycle.1 >>= λ params. events_at format params.1 >>= λ events.
+    Got (record { format = format; job = job; seed = seed.0; cycle_time = cycle.0; params = params.0; events = events.0 }, events.1))
+    (number_steady 2 0 65535) (λ job.
+    steady_then 0 (number 8 0 18446744073709551615) (λ seed bytes. number 8 1 9223372036854775807 bytes >>= λ cycle.
+    params_at cycle.1 >>= λ params. events_at format params.1 >>= λ events.
+    Got (record { format = format; job = job; seed = seed; cycle_time = cycle.0; params = params.0; events = events.0 }, events.1))
+    (number_steady 8 0 18446744073709551615) (λ seed.
+    steady_then 0 (number 8 1 9223372036854775807) (λ cycle bytes. params_at bytes >>= λ params. events_at format params.1 >>= λ events.
+    Got (record { format = format; job = job; seed = seed; cycle_time = cycle; params = params.0; events = events.0 }, events.1))
+    (number_steady 8 1 9223372036854775807) (λ cycle.
+    steady_then 0 (params_at) (λ params bytes. events_at format bytes >>= λ events.
+    Got (record { format = format; job = job; seed = seed; cycle_time = cycle; params = params; events = events.0 }, events.1))
+    (params_steady) (λ params.
+    steady_then 0 (events_at format) (λ events bytes. Got (
+      record {
+        format = format;
+        job = job;
+        seed = seed;
+        cycle_time = cycle;
+        params = params;
+        events = events;
+      },
+      bytes,
+    )) (events_steady format) (λ events.
     steady_give 0 (record { format = format; job = job; seed = seed; cycle_time = cycle; params = params; events = events })))))))
 
 pub profile_is : (bytes : List ℕ) → profile_at bytes ≡ (magic_at bytes >>= λ magic. behind_magic magic.0 magic.1)
@@ -158,7 +197,8 @@ profile_is bytes = refl
 
 pub profile_steady : IsSteady 0 profile_at
 profile_steady =
-    steady_same 0 profile_at (λ bytes. magic_at bytes >>= λ magic. behind_magic magic.0 magic.1) profile_is (steady_then 0 magic_at behind_magic magic_steady behind_magic_steady)
+    steady_same 0 profile_at (λ bytes. magic_at bytes >>= λ magic. behind_magic magic.0 magic.1) profile_is
+    (steady_then 0 magic_at behind_magic magic_steady behind_magic_steady)
 
 -- ---- the parts of frames
 
@@ -168,45 +208,71 @@ element_steady = string_steady 2 64
 pub drawn_steady : (format : Format) → IsSteady 0 (drawn_at format)
 unfolding drawn_at
 drawn_steady One =
-    steady_then 0 element_at (λ e bytes. Got (record { bytes = e; draws = 0 }, bytes)) element_steady (λ e. steady_give 0 (record { bytes = e; draws = 0 }))
+    steady_then 0 element_at (λ e bytes. Got (record { bytes = e; draws = 0 }, bytes)) element_steady
+    (λ e. steady_give 0 (record { bytes = e; draws = 0 }))
 drawn_steady Two =
-    steady_then 0 element_at (λ e bytes. number 4 0 4294967295 bytes >>= λ d. Got (record { bytes = e; draws = d.0 }, d.1)) element_steady (λ e.
-    steady_then 0 (number 4 0 4294967295) (λ d bytes. Got (record { bytes = e; draws = d }, bytes)) (number_steady 4 0 4294967295) (λ d. steady_give 0 (record { bytes = e; draws = d })))
+    steady_then 0 element_at (λ e bytes. number 4 0 4294967295 bytes >>= λ d. Got (record { bytes = e; draws = d.0 }, d.1)) element_steady
+    (λ e.
+    steady_then 0 (number 4 0 4294967295) (λ d bytes. Got (record { bytes = e; draws = d }, bytes)) (number_steady 4 0 4294967295)
+    (λ d. steady_give 0 (record { bytes = e; draws = d })))
 
 pub time_steady : IsSteady 0 time_at
 unfolding time_at
 time_steady =
-    steady_then 0 (number 1 0 1) (λ flag bytes. cond (eqb flag 0) (Got (None, bytes)) (number 8 0 18446744073709551615 bytes >>= λ t. Got (Some t.0, t.1))) (number_steady 1 0 1) (λ flag.
-    steady_if 0 (eqb flag 0) (λ bytes. Got (None, bytes)) (λ bytes. number 8 0 18446744073709551615 bytes >>= λ t. Got (Some t.0, t.1)) (steady_give 0 None)
-    (steady_then 0 (number 8 0 18446744073709551615) (λ t bytes. Got (Some t, bytes)) (number_steady 8 0 18446744073709551615) (λ t. steady_give 0 (Some t))))
+    steady_then 0 (number 1 0 1) (λ flag bytes. cond (eqb flag 0) (Got (None, bytes))
+    (number 8 0 18446744073709551615 bytes >>= λ t. Got (Some t.0, t.1))) (number_steady 1 0 1) (λ flag.
+    steady_if 0 (eqb flag 0) (λ bytes. Got (None, bytes)) (λ bytes. number 8 0 18446744073709551615 bytes >>= λ t. Got (Some t.0, t.1))
+    (steady_give 0 None)
+    (steady_then 0 (number 8 0 18446744073709551615) (λ t bytes. Got (Some t, bytes)) (number_steady 8 0 18446744073709551615)
+    (λ t. steady_give 0 (Some t))))
 
 pub sample_steady : (events : ℕ) → IsSteady 0 (sample_at events)
 unfolding sample_at
 sample_steady events =
-    steady_then 0 (number 2 0 (events - 1)) (λ event bytes. sample_value_at bytes >>= λ value. Got (record { event = event; value = value.0 }, value.1)) (number_steady 2 0 (events - 1)) (λ event.
+    steady_then 0 (number 2 0 (events - 1)) (λ event bytes. sample_value_at bytes >>= λ value.
+    Got (record { event = event; value = value.0 }, value.1)) (number_steady 2 0 (events - 1)) (λ event.
     steady_then 0 (sample_value_at) (λ value bytes. Got (record { event = event; value = value }, bytes)) (sample_value_steady) (λ value.
     steady_give 0 (record { event = event; value = value })))
 
 pub samples_steady : (events : ℕ) → IsSteady 0 (samples_at events)
 unfolding samples_at
 samples_steady events =
-    steady_then 0 (number 4 0 (most_samples events)) (λ count bytes. many (sample_at events) count bytes) (number_steady 4 0 (most_samples events)) (λ count.
+    steady_then 0 (number 4 0 (most_samples events)) (λ count bytes. many (sample_at events) count bytes)
+    (number_steady 4 0 (most_samples events)) (λ count.
     steady_many (sample_at events) (sample_steady events) count)
 
 pub input_steady : (events : ℕ) → IsSteady 0 (input_at events)
 unfolding input_at
 input_steady events =
-    steady_then 0 (time_at) (λ time bytes. samples_at events bytes >>= λ samples. Got (record { time = time; samples = samples.0 }, samples.1)) (time_steady) (λ time.
-    steady_then 0 (samples_at events) (λ samples bytes. Got (record { time = time; samples = samples }, bytes)) (samples_steady events) (λ samples.
+    steady_then 0 (time_at) (λ time bytes. samples_at events bytes >>= λ samples.
+    Got (record { time = time; samples = samples.0 }, samples.1)) (time_steady) (λ time.
+    steady_then 0 (samples_at events) (λ samples bytes. Got (record { time = time; samples = samples }, bytes)) (samples_steady events)
+    (λ samples.
     steady_give 0 (record { time = time; samples = samples })))
 
 pub refusal_steady : IsSteady 0 refusal_at
 unfolding refusal_at
 refusal_steady =
-    steady_then 0 (number 1 0 2) (λ phase bytes. number 1 0 (most_pass (phase_of phase)) bytes >>= λ pass. number 4 0 (most_element (phase_of phase)) pass.1 >>= λ element. number 4 0 4294967295 element.1 >>= λ code. Got (record { phase = phase_of phase; pass = pass.0; element = element.0; code = code.0 }, code.1)) (number_steady 1 0 2) (λ phase.
-    steady_then 0 (number 1 0 (most_pass (phase_of phase))) (λ pass bytes. number 4 0 (most_element (phase_of phase)) bytes >>= λ element. number 4 0 4294967295 element.1 >>= λ code. Got (record { phase = phase_of phase; pass = pass; element = element.0; code = code.0 }, code.1)) (number_steady 1 0 (most_pass (phase_of phase))) (λ pass.
-    steady_then 0 (number 4 0 (most_element (phase_of phase))) (λ element bytes. number 4 0 4294967295 bytes >>= λ code. Got (record { phase = phase_of phase; pass = pass; element = element; code = code.0 }, code.1)) (number_steady 4 0 (most_element (phase_of phase))) (λ element.
-    steady_then 0 (number 4 0 4294967295) (λ code bytes. Got (record { phase = phase_of phase; pass = pass; element = element; code = code }, bytes)) (number_steady 4 0 4294967295) (λ code.
+    steady_then 0 (number 1 0 2) (λ phase bytes. number 1 0 (most_pass (phase_of phase)) bytes >>= λ pass.
+    number 4 0 (most_element (phase_of phase)) pass.1 >>= λ element. number 4 0 4294967295 element.1 >>= λ code.
+    Got (record { phase = phase_of phase; pass = pass.0; element = element.0; code = code.0 }, code.1)) (number_steady 1 0 2) (λ phase.
+    steady_then 0 (number 1 0 (most_pass (phase_of phase))) (λ pass bytes. number 4 0 (most_element (phase_of phase)) bytes >>= λ element.
+    number 4 0 4294967295 element.1 >>= λ code. Got (
+      record { phase = phase_of phase; pass = pass; element = element.0; code = code.0 },
+      code.1,
+    )) (number_steady 1 0 (most_pass (phase_of phase))) (λ pass.
+    steady_then 0 (number 4 0 (most_element (phase_of phase))) (λ element bytes. number 4 0 4294967295 bytes >>= λ code.
+    Got (record { phase = phase_of phase; pass = pass; element = element; code = code.0 }, code.1))
+    (number_steady 4 0 (most_element (phase_of phase))) (λ element.
+    steady_then 0 (number 4 0 4294967295) (λ code bytes. Got (
+      record {
+        phase = phase_of phase;
+        pass = pass;
+        element = element;
+        code = code;
+      },
+      bytes,
+    )) (number_steady 4 0 4294967295) (λ code.
     steady_give 0 (record { phase = phase_of phase; pass = pass; element = element; code = code })))))
 
 -- ---- the frames
@@ -219,7 +285,8 @@ front_steady item h front n =
 pub init_from_steady : (done : List (List ℕ)) (left : ℕ) → IsSteady 0 (init_from done left)
 unfolding init_from
 init_from_steady done left =
-    steady_then 0 (λ bytes. with_front done (many element_at left bytes)) (λ es bytes. Got (frames.Init es, bytes)) (front_steady element_at element_steady done left) (λ es. steady_give 0 (frames.Init es))
+    steady_then 0 (λ bytes. with_front done (many element_at left bytes)) (λ es bytes. Got (frames.Init es, bytes))
+    (front_steady element_at element_steady done left) (λ es. steady_give 0 (frames.Init es))
 
 abbrev pub finished : CycleInput → List DrawnElement → List ℕ → Frame
 finished input elements output = frames.Run (record { input = input; outcome = Finished elements output })
@@ -228,40 +295,55 @@ pub finished_from_steady : (format : Format) (input : CycleInput) (done : List D
     → IsSteady 0 (finished_from format input done left)
 unfolding finished_from
 finished_from_steady format input done left =
-    steady_then 0 (λ bytes. with_front done (many (drawn_at format) left bytes)) (λ es bytes. string_at 4 1048576 bytes >>= λ out. Got (finished input es out.0, out.1)) (front_steady (drawn_at format) (drawn_steady format) done left) (λ es.
-    steady_then 0 (string_at 4 1048576) (λ out bytes. Got (finished input es out, bytes)) (string_steady 4 1048576) (λ out. steady_give 0 (finished input es out)))
+    steady_then 0 (λ bytes. with_front done (many (drawn_at format) left bytes))
+    (λ es bytes. string_at 4 1048576 bytes >>= λ out. Got (finished input es out.0, out.1))
+    (front_steady (drawn_at format) (drawn_steady format) done left) (λ es.
+    steady_then 0 (string_at 4 1048576) (λ out bytes. Got (finished input es out, bytes)) (string_steady 4 1048576)
+    (λ out. steady_give 0 (finished input es out)))
 
 pub init_steady : IsSteady 0 init_at
 unfolding init_at
 init_steady =
-    steady_then 0 (number 4 0 65536) (λ count bytes. init_from [] count bytes) (number_steady 4 0 65536) (λ count. init_from_steady [] count)
+    steady_then 0 (number 4 0 65536) (λ count bytes. init_from [] count bytes) (number_steady 4 0 65536)
+    (λ count. init_from_steady [] count)
 
 pub finished_steady : (format : Format) (input : CycleInput) → IsSteady 0 (finished_at format input)
 unfolding finished_at
 finished_steady format input =
-    steady_then 0 (number 4 0 65536) (λ count bytes. finished_from format input [] count bytes) (number_steady 4 0 65536) (λ count. finished_from_steady format input [] count)
+    steady_then 0 (number 4 0 65536) (λ count bytes. finished_from format input [] count bytes) (number_steady 4 0 65536)
+    (λ count. finished_from_steady format input [] count)
 
 pub refused_steady : (input : CycleInput) → IsSteady 0 (refused_at input)
 unfolding refused_at
 refused_steady input =
-    steady_then 0 refusal_at (λ at bytes. Got (frames.Run (record { input = input; outcome = Refused at }), bytes)) refusal_steady (λ at. steady_give 0 (frames.Run (record { input = input; outcome = Refused at })))
+    steady_then 0 refusal_at (λ at bytes. Got (frames.Run (record { input = input; outcome = Refused at }), bytes)) refusal_steady
+    (λ at. steady_give 0 (frames.Run (record { input = input; outcome = Refused at })))
 
 pub run_steady : (layout : Layout) → IsSteady 0 (run_at layout)
 unfolding run_at
 run_steady layout =
-    steady_then 0 (input_at layout.events) (λ input bytes. number 1 0 1 bytes >>= λ flag. cond (eqb flag.0 0) (finished_at layout.format input flag.1) (refused_at input flag.1)) (input_steady layout.events) (λ input.
-    steady_then 0 (number 1 0 1) (λ flag bytes. cond (eqb flag 0) (finished_at layout.format input bytes) (refused_at input bytes)) (number_steady 1 0 1) (λ flag.
-    steady_if 0 (eqb flag 0) (finished_at layout.format input) (refused_at input) (finished_steady layout.format input) (refused_steady input)))
+    steady_then 0 (input_at layout.events) (λ input bytes. number 1 0 1 bytes >>= λ flag.
+    cond (eqb flag.0 0) (finished_at layout.format input flag.1) (refused_at input flag.1)) (input_steady layout.events) (λ input.
+    steady_then 0 (number 1 0 1) (λ flag bytes. cond (eqb flag 0) (finished_at layout.format input bytes) (refused_at input bytes))
+    (number_steady 1 0 1) (λ flag.
+    steady_if 0 (eqb flag 0) (finished_at layout.format input) (refused_at input) (finished_steady layout.format input)
+    (refused_steady input)))
 
 steady_more : {A : Type 0} → IsSteady {A = A} 1 (λ bytes. More)
 steady_more =
-    record { got = λ bytes tail x e. absurd cc; bad = λ bytes tail reason left e. absurd cc; rest = λ bytes x e. absurd cc; within = λ bytes reason left e. absurd cc }
+    record {
+      got = λ bytes tail x e. absurd cc;
+      bad = λ bytes tail reason left e. absurd cc;
+      rest = λ bytes x e. absurd cc;
+      within = λ bytes reason left e. absurd cc;
+    }
 
 -- one frame alone may stand in a place
 pub only_steady : {A : Type 0} (a : A) (b tag : ℕ)
     → IsSteady 1 (λ bytes. cond (eqb b tag) (Got (a, bytes)) (Bad (tag_reason b) (suc (length bytes))))
 only_steady a b tag =
-    steady_if 1 (eqb b tag) (λ bytes. Got (a, bytes)) (λ bytes. Bad (tag_reason b) (suc (length bytes))) (steady_give 1 a) (steady_refuse (tag_reason b))
+    steady_if 1 (eqb b tag) (λ bytes. Got (a, bytes)) (λ bytes. Bad (tag_reason b) (suc (length bytes))) (steady_give 1 a)
+    (steady_refuse (tag_reason b))
 
 pub tagged_steady : (place : Place) (b : ℕ) → IsSteady 1 (tagged_at place b)
 unfolding tagged_at
@@ -269,10 +351,13 @@ tagged_steady places.Header b = steady_more
 tagged_steady (places.Register layout) b = only_steady frames.Register b 1
 tagged_steady (places.Discover layout) b = only_steady frames.Discover b 2
 tagged_steady (places.Init layout) b =
-    steady_if 1 (eqb b 3) init_at (λ bytes. Bad (tag_reason b) (suc (length bytes))) (steady_wider init_at init_steady) (steady_refuse (tag_reason b))
+    steady_if 1 (eqb b 3) init_at (λ bytes. Bad (tag_reason b) (suc (length bytes))) (steady_wider init_at init_steady)
+    (steady_refuse (tag_reason b))
 tagged_steady (places.Runs layout before) b =
-    steady_if 1 (eqb b 4) (λ bytes. cond (ltb before 1000000) (run_at layout bytes) (Bad TooMany (suc (length bytes)))) (λ bytes. cond (eqb b 5) (Got (frames.Terminate, bytes)) (Bad (tag_reason b) (suc (length bytes))))
-    (steady_if 1 (ltb before 1000000) (run_at layout) (λ bytes. Bad TooMany (suc (length bytes))) (steady_wider (run_at layout) (run_steady layout)) (steady_refuse TooMany))
+    steady_if 1 (eqb b 4) (λ bytes. cond (ltb before 1000000) (run_at layout bytes) (Bad TooMany (suc (length bytes))))
+    (λ bytes. cond (eqb b 5) (Got (frames.Terminate, bytes)) (Bad (tag_reason b) (suc (length bytes))))
+    (steady_if 1 (ltb before 1000000) (run_at layout) (λ bytes. Bad TooMany (suc (length bytes)))
+    (steady_wider (run_at layout) (run_steady layout)) (steady_refuse TooMany))
     (only_steady frames.Terminate b 5)
 tagged_steady places.End b = steady_refuse Trailing
 

@@ -11,7 +11,8 @@ pub spelled_more : (profile : ProfileValue) (fs more : List Frame) → spelled p
     ++ flat_map (spelled_frame profile.format) more
 spelled_more profile fs more =
     ap (λ (xs : List ℕ). spelled_header profile ++ xs) (flat_map-append (spelled_frame profile.format) fs more)
-    ∙ sym (append_assoc (spelled_header profile) (flat_map (spelled_frame profile.format) fs) (flat_map (spelled_frame profile.format) more))
+    ∙ sym (append_assoc (spelled_header profile) (flat_map (spelled_frame profile.format) fs)
+    (flat_map (spelled_frame profile.format) more))
 
 first_all : (P : Frame → Type 0) (fs more : List Frame) → All P (fs ++ more) → All P fs
 first_all P [] more h = All-nil P

@@ -27,7 +27,8 @@ at_bad : (given : List Item) (to : Place) (bytes rest more : List ℕ) (reason :
     → IsStillRefused bytes more f
 at_bad given to bytes rest more reason left f h b e =
     let here = all_at_bad given to bytes rest reason left h b in
-    let there = all_at_bad given to (bytes ++ more) (rest ++ more) reason (left + length more) (leads_grow given places.Header to bytes rest more h) ((item_steady to).bad rest more reason left b) in
+    let there = all_at_bad given to (bytes ++ more) (rest ++ more) reason (left + length more)
+    (leads_grow given places.Header to bytes rest more h) ((item_steady to).bad rest more reason left b) in
     let o : length (bytes ++ more) - (left + length more) ≡ length bytes - left = omega (arith, length-append bytes more) in
     let same : a_fault (length (bytes ++ more) - (left + length more)) reason ≡ Some f = ap (λ (n : ℕ). a_fault n reason) o ∙ sym here.1
     ∙ e in
@@ -59,7 +60,8 @@ first_items given to bytes rest (Bad reason left) h e = ([], append-nil given �
 pub items_grow : ItemsGrow
 items_grow bytes more =
     let d = reads (suc (length bytes)) places.Header bytes (omega arith) (item_at places.Header bytes) refl in
-    let p = first_items d.0 d.1 (bytes ++ more) (d.2 ++ more) (item_at d.1 (d.2 ++ more)) (leads_grow d.0 places.Header d.1 bytes d.2 more d.3) refl in
+    let p = first_items d.0 d.1 (bytes ++ more) (d.2 ++ more) (item_at d.1 (d.2 ++ more))
+    (leads_grow d.0 places.Header d.1 bytes d.2 more d.3) refl in
     (p.0, ap (λ (xs : List Item). xs ++ p.0) (given_is d.0 d.1 d.2 d.3 d.4) ∙ p.1)
   where
     given_is : (given : List Item) (to : Place) (rest : List ℕ) → Leads places.Header bytes given to rest → IsStuck to rest → items_in bytes

@@ -98,17 +98,33 @@ least_profile = record { format = Two; job = 0; seed = 0; cycle_time = 1; params
 
 least_is : IsHeader least_profile
 least_is =
-    record { job = lit< tt; seed = lit< tt; cycle_time = (lit≤ tt, lit< tt); few_params = lit≤ tt; params = All-nil (FitsSigned w64); few_events = lit≤ tt; events = All-nil IsEvent; policies = tt }
+    record {
+      job = lit< tt;
+      seed = lit< tt;
+      cycle_time = (lit≤ tt, lit< tt);
+      few_params = lit≤ tt;
+      params = All-nil (FitsSigned w64);
+      few_events = lit≤ tt;
+      events = All-nil IsEvent;
+      policies = tt;
+    }
 
 -- from each place on some items end a record
 pub completed : (place : Place) → (xs : List Item) × AreItems place xs places.End
 unfolding IsFrame
-completed places.Header =
-    (items.Header least_profile ∷ items.Frame frames.Register ∷ items.Frame frames.Discover ∷ items.Frame (frames.Init []) ∷ items.Frame frames.Terminate ∷ [], (least_is, (tt, (tt, ((lit≤ tt, All-nil IsElement), (tt, refl))))))
-completed (places.Register layout) =
-    (items.Frame frames.Register ∷ items.Frame frames.Discover ∷ items.Frame (frames.Init []) ∷ items.Frame frames.Terminate ∷ [], (tt, (tt, ((lit≤ tt, All-nil IsElement), (tt, refl)))))
-completed (places.Discover layout) =
-    (items.Frame frames.Discover ∷ items.Frame (frames.Init []) ∷ items.Frame frames.Terminate ∷ [], (tt, ((lit≤ tt, All-nil IsElement), (tt, refl))))
+completed places.Header = (
+  items.Header least_profile ∷ items.Frame frames.Register ∷ items.Frame frames.Discover ∷ items.Frame (frames.Init [])
+      ∷ items.Frame frames.Terminate ∷ [],
+  (least_is, (tt, (tt, ((lit≤ tt, All-nil IsElement), (tt, refl))))),
+)
+completed (places.Register layout) = (
+  items.Frame frames.Register ∷ items.Frame frames.Discover ∷ items.Frame (frames.Init []) ∷ items.Frame frames.Terminate ∷ [],
+  (tt, (tt, ((lit≤ tt, All-nil IsElement), (tt, refl)))),
+)
+completed (places.Discover layout) = (
+  items.Frame frames.Discover ∷ items.Frame (frames.Init []) ∷ items.Frame frames.Terminate ∷ [],
+  (tt, ((lit≤ tt, All-nil IsElement), (tt, refl))),
+)
 completed (places.Init layout) =
     (items.Frame (frames.Init []) ∷ items.Frame frames.Terminate ∷ [], ((lit≤ tt, All-nil IsElement), (tt, refl)))
 completed (places.Runs layout before) = (items.Frame frames.Terminate ∷ [], (tt, refl))
@@ -128,7 +144,14 @@ header_long : (p : ProfileValue) → 8 ≤ length (spelled_header p)
 header_long p =
     let v = spelled_u16 (version p.format) in
     let l : length (spelled_header p) ≡ length (magic ++ (v ++ behind_version p)) = ap (λ (xs : List ℕ). length xs) (header_is p) in
-    omega (arith, l, length-append magic (v ++ behind_version p), length-append v (behind_version p), length_magic, length_u16 (version p.format))
+    omega (
+      arith,
+      l,
+      length-append magic (v ++ behind_version p),
+      length-append v (behind_version p),
+      length_magic,
+      length_u16 (version p.format),
+    )
 
 pub long_enough : (given : List Item) (to : Place) (rest : List ℕ) → AreItems places.Header given to → (to ≡ places.Header → ⊥)
     → 8 ≤ length (items_spelling places.Header given ++ rest)

@@ -56,7 +56,15 @@ lawful_read Fits spell r s same h = record {
   more = λ bytes are e. h.more bytes are (sym (same bytes) ∙ e);
   bad = λ bytes reason left are e.
       let b = h.bad bytes reason left are (sym (same bytes) ∙ e) in
-      record { before = b.before; byte = b.byte; behind = b.behind; parts = b.parts; counted = b.counted; goes_on = same b.before ∙ b.goes_on; refused = λ other. same (b.before ++ b.byte ∷ other) ∙ b.refused other };
+      record {
+        before = b.before;
+        byte = b.byte;
+        behind = b.behind;
+        parts = b.parts;
+        counted = b.counted;
+        goes_on = same b.before ∙ b.goes_on;
+        refused = λ other. same (b.before ++ b.byte ∷ other) ∙ b.refused other;
+      };
 }
 
 -- the same values and spellings, said in another way
@@ -76,7 +84,8 @@ lawful_values Fits Other spell say r there back h = record {
 }
 
 -- a value made of one that is read
-pub lawful_map : {A C : Type 0} (FitsA : A → Type 0) (spellA : A → List ℕ) (r : List ℕ → Read A) (Fits : C → Type 0) (part : C → A) (make : A → C)
+pub lawful_map : {A C : Type 0} (FitsA : A → Type 0) (spellA : A → List ℕ) (r : List ℕ → Read A) (Fits : C → Type 0) (part : C → A)
+    (make : A → C)
     → ((c : C) → Fits c → FitsA (part c) × (c ≡ make (part c))) → ((a : A) → FitsA a → Fits (make a) × (part (make a) ≡ a))
     → IsLawful FitsA spellA r → IsLawful Fits (λ c. spellA (part c)) (λ bytes. r bytes >>= λ x. Got (make x.0, x.1))
 lawful_map {A} {C} FitsA spellA r Fits part make there back h = record {
@@ -123,7 +132,8 @@ bind_more More f e = inl refl
 bind_more (Bad reason left) f e = absurd cc
 
 -- a part that is read first, and what depends on it
-pub lawful_then : {A C : Type 0} (FitsA : A → Type 0) (spellA : A → List ℕ) (r : List ℕ → Read A) (Fits : C → Type 0) (part : C → A) (spellC : C → List ℕ) (f : A → List ℕ → Read C)
+pub lawful_then : {A C : Type 0} (FitsA : A → Type 0) (spellA : A → List ℕ) (r : List ℕ → Read A) (Fits : C → Type 0) (part : C → A)
+    (spellC : C → List ℕ) (f : A → List ℕ → Read C)
     → ((c : C) → Fits c → FitsA (part c)) → ((a : A) → FitsA a → (c : C) × Fits c × (part c ≡ a))
     → IsLawful FitsA spellA r → ((a : A) → FitsA a → IsLawful (λ c. Fits c × (part c ≡ a)) spellC (f a))
     → IsLawful Fits (λ c. spellA (part c) ++ spellC c) (λ bytes. r bytes >>= λ x. f x.0 x.1)
@@ -136,18 +146,31 @@ lawful_then {A} {C} FitsA spellA r Fits part spellC f there example h k = record
   sound = λ bytes x are e.
       let b = bind_got (r bytes) (λ y. f y.0 y.1) x e in
       let s = h.sound bytes b.0 are b.1 in
-      let t = (k b.0.0 s.0).sound b.0.1 x (AreBytes-rest bytes (spellA b.0.0) b.0.1 s.1 are) b.2 in
-      (t.0.0, s.1 ∙ ap (λ (xs : List ℕ). spellA b.0.0 ++ xs) t.1 ∙ ap (λ (a : A). spellA a ++ (spellC x.0 ++ x.1)) (sym t.0.1) ∙ sym (append_assoc (spellA (part x.0)) (spellC x.0) x.1));
+      let t = (k b.0.0 s.0).sound b.0.1 x (AreBytes-rest bytes (spellA b.0.0) b.0.1 s.1 are) b.2 in (
+        t.0.0,
+        s.1 ∙ ap (λ (xs : List ℕ). spellA b.0.0 ++ xs) t.1 ∙ ap (λ (a : A). spellA a ++ (spellC x.0 ++ x.1)) (sym t.0.1)
+            ∙ sym (append_assoc (spellA (part x.0)) (spellC x.0) x.1),
+      );
   more = λ bytes are e.
       elim (bind_more (r bytes) (λ y. f y.0 y.1) e) [
         | inl m ↦
             let w = h.more bytes are m in
-            let c = example w.0 w.2 in
-            (c.0, w.1 ++ spellC c.0, c.1, sym (append_assoc bytes w.1 (spellC c.0)) ∙ ap (λ (xs : List ℕ). xs ++ spellC c.0) (w.3 ∙ ap spellA (sym c.2)))
+            let c = example w.0 w.2 in (
+              c.0,
+              w.1 ++ spellC c.0,
+              c.1,
+              sym (append_assoc bytes w.1 (spellC c.0))
+                  ∙ ap (λ (xs : List ℕ). xs ++ spellC c.0) (w.3 ∙ ap spellA (sym c.2)),
+            )
         | inr b ↦
             let s = h.sound bytes b.0 are b.1 in
-            let w = (k b.0.0 s.0).more b.0.1 (AreBytes-rest bytes (spellA b.0.0) b.0.1 s.1 are) b.2 in
-            (w.0, w.1, w.2.0, ap (λ (xs : List ℕ). xs ++ w.1) s.1 ∙ append_assoc (spellA b.0.0) b.0.1 w.1 ∙ ap (λ (xs : List ℕ). spellA b.0.0 ++ xs) w.3 ∙ ap (λ (a : A). spellA a ++ spellC w.0) (sym w.2.1))
+            let w = (k b.0.0 s.0).more b.0.1 (AreBytes-rest bytes (spellA b.0.0) b.0.1 s.1 are) b.2 in (
+              w.0,
+              w.1,
+              w.2.0,
+              ap (λ (xs : List ℕ). xs ++ w.1) s.1 ∙ append_assoc (spellA b.0.0) b.0.1 w.1
+                  ∙ ap (λ (xs : List ℕ). spellA b.0.0 ++ xs) w.3 ∙ ap (λ (a : A). spellA a ++ spellC w.0) (sym w.2.1),
+            )
       ];
   bad = λ bytes reason left are e.
       elim (bind_bad (r bytes) (λ y. f y.0 y.1) reason left e) [
@@ -174,7 +197,8 @@ lawful_then {A} {C} FitsA spellA r Fits part spellC f there example h k = record
               counted = b.counted;
               goes_on = ap (λ (q : Read A). q >>= λ x. f x.0 x.1) (h.again g.0.0 b.before s.0) ∙ b.goes_on;
               refused =
-                  λ other. ap (λ (q : Read A). q >>= λ x. f x.0 x.1) (ap r (append_assoc (spellA g.0.0) b.before (b.byte ∷ other)) ∙ h.again g.0.0 (b.before ++ b.byte ∷ other) s.0) ∙ b.refused other;
+                  λ other. ap (λ (q : Read A). q >>= λ x. f x.0 x.1) (ap r (append_assoc (spellA g.0.0) b.before (b.byte ∷ other))
+                  ∙ h.again g.0.0 (b.before ++ b.byte ∷ other) s.0) ∙ b.refused other;
             }
       ];
 }
@@ -182,7 +206,8 @@ lawful_then {A} {C} FitsA spellA r Fits part spellC f there example h k = record
 -- a first byte, and what depends on it
 pub lawful_first : {A : Type 0} (Fits : A → Type 0) (tag : A → ℕ) (spell : A → List ℕ) (f : ℕ → List ℕ → Read A) (why : ℕ → Reason)
     → (a : A) → Fits a
-    → ((b : ℕ) → b < 256 → (((bytes : List ℕ) → f b bytes ≡ Bad (why b) (suc (length bytes))) × ((c : A) → Fits c → tag c ≡ b → ⊥)) ⊎ IsLawful (λ c. Fits c × (tag c ≡ b)) spell (f b))
+    → ((b : ℕ) → b < 256 → (((bytes : List ℕ) → f b bytes ≡ Bad (why b) (suc (length bytes))) × ((c : A) → Fits c → tag c ≡ b → ⊥))
+    ⊎ IsLawful (λ c. Fits c × (tag c ≡ b)) spell (f b))
     → ((c : A) → Fits c → tag c < 256)
     → IsLawful Fits (λ c. tag c ∷ spell c) (by_first f)
 lawful_first {A} Fits tag spell f why example fits cases small = record {
@@ -203,7 +228,11 @@ lawful_first {A} Fits tag spell f why example fits cases small = record {
         elim (cases b (AreBytes-head b bytes are)) [
           | inl n ↦ absurd (cc (n.0 bytes))
           | inr l ↦ let s =
-              l.sound bytes x (AreBytes-tail b bytes are) e in (s.0.0, ap (λ (xs : List ℕ). b ∷ xs) s.1 ∙ ap (λ (t : ℕ). t ∷ (spell x.0 ++ x.1)) (sym s.0.1))
+              l.sound bytes x (AreBytes-tail b bytes are) e in (
+                s.0.0,
+                ap (λ (xs : List ℕ). b ∷ xs) s.1
+                    ∙ ap (λ (t : ℕ). t ∷ (spell x.0 ++ x.1)) (sym s.0.1),
+              )
         ]
 
     first_more : (bytes : List ℕ) → AreBytes bytes → by_first f bytes ≡ More → (a : A) × (tail : List ℕ) × Fits a
@@ -213,7 +242,13 @@ lawful_first {A} Fits tag spell f why example fits cases small = record {
         elim (cases b (AreBytes-head b bytes are)) [
           | inl n ↦ absurd (cc (n.0 bytes))
           | inr l ↦ let m =
-              l.more bytes (AreBytes-tail b bytes are) e in (m.0, m.1, m.2.0, ap (λ (xs : List ℕ). b ∷ xs) m.3 ∙ ap (λ (t : ℕ). t ∷ spell m.0) (sym m.2.1))
+              l.more bytes (AreBytes-tail b bytes are) e in (
+                m.0,
+                m.1,
+                m.2.0,
+                ap (λ (xs : List ℕ). b ∷ xs) m.3
+                    ∙ ap (λ (t : ℕ). t ∷ spell m.0) (sym m.2.1),
+              )
         ]
 
     first_bad : (bytes : List ℕ) (reason : Reason) (left : ℕ) → AreBytes bytes → by_first f bytes ≡ Bad reason left
@@ -223,8 +258,24 @@ lawful_first {A} Fits tag spell f why example fits cases small = record {
         elim (cases b (AreBytes-head b bytes are)) [
           | inl n ↦
               let p = bad_is (why b) reason (suc (length bytes)) left (sym (n.0 bytes) ∙ e) in
-              record { before = []; byte = b; behind = bytes; parts = refl; counted = sym p.1; goes_on = refl; refused = λ other. n.0 other ∙ ap (λ (r : Reason). bad r (suc (length other))) p.0 }
+              record {
+                before = [];
+                byte = b;
+                behind = bytes;
+                parts = refl;
+                counted = sym p.1;
+                goes_on = refl;
+                refused = λ other. n.0 other ∙ ap (λ (r : Reason). bad r (suc (length other))) p.0;
+              }
           | inr l ↦
               let d = l.bad bytes reason left (AreBytes-tail b bytes are) e in
-              record { before = b ∷ d.before; byte = d.byte; behind = d.behind; parts = ap (λ (xs : List ℕ). b ∷ xs) d.parts; counted = d.counted; goes_on = d.goes_on; refused = d.refused }
+              record {
+                before = b ∷ d.before;
+                byte = d.byte;
+                behind = d.behind;
+                parts = ap (λ (xs : List ℕ). b ∷ xs) d.parts;
+                counted = d.counted;
+                goes_on = d.goes_on;
+                refused = d.refused;
+              }
         ]

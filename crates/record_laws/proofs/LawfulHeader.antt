@@ -34,9 +34,12 @@ IsLast n = n ≡ 67
 pub magic_lawful : IsLawful IsLast (λ n. magic) magic_at
 unfolding magic_at magic
 magic_lawful =
-    fixed_then Magic 68 IsLast 67 _ (λ bytes. exactly_at Magic 69 bytes >>= λ e. exactly_at Magic 84 e.1 >>= λ t. exactly_at Magic 82 t.1 >>= λ r. exactly_at Magic 69 r.1 >>= λ f. exactly_at Magic 67 f.1) (lit< tt) refl
-    (fixed_then Magic 69 IsLast 67 _ (λ bytes. exactly_at Magic 84 bytes >>= λ t. exactly_at Magic 82 t.1 >>= λ r. exactly_at Magic 69 r.1 >>= λ f. exactly_at Magic 67 f.1) (lit< tt) refl
-    (fixed_then Magic 84 IsLast 67 _ (λ bytes. exactly_at Magic 82 bytes >>= λ r. exactly_at Magic 69 r.1 >>= λ f. exactly_at Magic 67 f.1) (lit< tt) refl
+    fixed_then Magic 68 IsLast 67 _ (λ bytes. exactly_at Magic 69 bytes >>= λ e. exactly_at Magic 84 e.1 >>= λ t.
+    exactly_at Magic 82 t.1 >>= λ r. exactly_at Magic 69 r.1 >>= λ f. exactly_at Magic 67 f.1) (lit< tt) refl
+    (fixed_then Magic 69 IsLast 67 _ (λ bytes. exactly_at Magic 84 bytes >>= λ t. exactly_at Magic 82 t.1 >>= λ r.
+    exactly_at Magic 69 r.1 >>= λ f. exactly_at Magic 67 f.1) (lit< tt) refl
+    (fixed_then Magic 84 IsLast 67 _ (λ bytes. exactly_at Magic 82 bytes >>= λ r. exactly_at Magic 69 r.1 >>= λ f. exactly_at Magic 67 f.1)
+    (lit< tt) refl
     (fixed_then Magic 82 IsLast 67 _ (λ bytes. exactly_at Magic 69 bytes >>= λ f. exactly_at Magic 67 f.1) (lit< tt) refl
     (fixed_then Magic 69 IsLast 67 _ (λ bytes. exactly_at Magic 67 bytes) (lit< tt) refl (exactly_lawful Magic 67 (lit< tt))))))
 
@@ -82,7 +85,8 @@ format_small Two h = lit< tt
 format_lawful : IsLawful AnyFormat (λ c. version c ∷ []) format_at
 format_lawful =
     lawful_read AnyFormat (λ c. version c ∷ []) format_at (by_first format_by) format_reads
-    (lawful_first AnyFormat version (λ c. []) format_by (λ b. Version) One tt (λ b small. format_case b (eqb b 1) (eqb b 2) refl refl) format_small)
+    (lawful_first AnyFormat version (λ c. []) format_by (λ b. Version) One tt (λ b small. format_case b (eqb b 1) (eqb b 2) refl refl)
+    format_small)
 
 version_is : (c : Format) → AnyFormat c → AnyFormat c × (spelled_u16 (version c) ≡ 0 ∷ version c ∷ [])
 unfolding spelled_u16
@@ -112,10 +116,14 @@ name_byte_case : (b : ℕ) (t : Bool) → may_stand_in_name b ≡ t
     → (((bytes : List ℕ) → name_byte_by b bytes ≡ Bad Range (suc (length bytes))) × ((c : ℕ) → IsNameByte c → c ≡ b → ⊥))
     ⊎ IsLawful (λ c. IsNameByte c × (c ≡ b)) (λ c. []) (name_byte_by b)
 name_byte_case b true e =
-    inr (lawful_read (λ c. IsNameByte c × (c ≡ b)) (λ c. []) (name_byte_by b) (λ bytes. Got (b, bytes)) (λ bytes. ap (λ (t : Bool). cond t (Got (b, bytes)) (Bad Range (suc (length bytes)))) e)
+    inr (lawful_read (λ c. IsNameByte c × (c ≡ b)) (λ c. []) (name_byte_by b) (λ bytes. Got (b, bytes))
+    (λ bytes. ap (λ (t : Bool). cond t (Got (b, bytes)) (Bad Range (suc (length bytes)))) e)
     (lawful_give (λ c. IsNameByte c × (c ≡ b)) b (e, refl) (λ c h. h.1)))
 name_byte_case b false e =
-    inl ((λ bytes. ap (λ (t : Bool). cond t (Got (b, bytes)) (Bad Range (suc (length bytes)))) e), (λ c h same. let no : may_stand_in_name c ≡ false = ap may_stand_in_name same ∙ e in absurd (cc (h, no))))
+    inl (
+      (λ bytes. ap (λ (t : Bool). cond t (Got (b, bytes)) (Bad Range (suc (length bytes)))) e),
+      (λ c h same. let no : may_stand_in_name c ≡ false = ap may_stand_in_name same ∙ e in absurd (cc (h, no))),
+    )
 
 name_byte_small : (b : ℕ) → IsNameByte b → b < 256
 name_byte_small b h = grind (arith, nat_tests, h)
@@ -123,7 +131,8 @@ name_byte_small b h = grind (arith, nat_tests, h)
 name_byte_lawful : IsLawful IsNameByte (λ b. b ∷ []) name_byte_at
 name_byte_lawful =
     lawful_read IsNameByte (λ b. b ∷ []) name_byte_at (by_first name_byte_by) name_byte_reads
-    (lawful_first IsNameByte (λ b. b) (λ b. []) name_byte_by (λ b. Range) 97 refl (λ b small. name_byte_case b (may_stand_in_name b) refl) name_byte_small)
+    (lawful_first IsNameByte (λ b. b) (λ b. []) name_byte_by (λ b. Range) 97 refl (λ b small. name_byte_case b (may_stand_in_name b) refl)
+    name_byte_small)
 
 all_name_bytes : (bytes : List ℕ) → list_all may_stand_in_name bytes ≡ true → All IsNameByte bytes
 all_name_bytes [] h = All-nil IsNameByte
@@ -157,9 +166,11 @@ name_back n h = ((grind (arith, nat_tests, h), grind (arith, nat_tests, h)), gri
 pub name_lawful : IsLawful IsName (λ n. length n ∷ n) name_at
 unfolding name_at
 name_lawful =
-    lawful_values (λ n. IsFrom 1 32 (length n) × All IsNameByte n) IsName (λ n. (length n ∷ []) ++ flat_map (λ b. b ∷ []) n) (λ n. length n ∷ n) name_at
+    lawful_values (λ n. IsFrom 1 32 (length n) × All IsNameByte n) IsName (λ n. (length n ∷ []) ++ flat_map (λ b. b ∷ []) n)
+    (λ n. length n ∷ n) name_at
     name_there (λ n h. let b = name_back n h in ((b.0, all_name_bytes n b.1), ap (λ (xs : List ℕ). length n ∷ xs) (sym (each_byte n))))
-    (counted_lawful IsNameByte (λ b. b ∷ []) name_byte_at 97 refl name_byte_lawful 1 1 32 (λ n. n ∷ []) (byte_lawful 1 32 (lit≤ tt) (lit≤ tt)))
+    (counted_lawful IsNameByte (λ b. b ∷ []) name_byte_at 97 refl name_byte_lawful 1 1 32 (λ n. n ∷ [])
+    (byte_lawful 1 32 (lit≤ tt) (lit≤ tt)))
 
 -- format 1 knows the policy Last alone
 abbrev KnowsPolicy : Format → Policy → Type 0
@@ -183,7 +194,8 @@ policy_lawful : (format : Format) → IsLawful (KnowsPolicy format) (spelled_pol
 unfolding policy_at
 policy_lawful One = lawful_give (KnowsPolicy One) Last refl (λ p h. h)
 policy_lawful Two =
-    lawful_map (IsFrom 0 1) (λ n. n ∷ []) (number 1 0 1) (KnowsPolicy Two) policy_number policy_of (λ p h. (policy_small p, policy_back p)) (λ n h. (tt, number_back n h)) (byte_lawful 0 1 (lit≤ tt) (lit≤ tt))
+    lawful_map (IsFrom 0 1) (λ n. n ∷ []) (number 1 0 1) (KnowsPolicy Two) policy_number policy_of (λ p h. (policy_small p, policy_back p))
+    (λ n h. (tt, number_back n h)) (byte_lawful 0 1 (lit≤ tt) (lit≤ tt))
 
 abbrev an_event : ℕ → List ℕ → Policy → EventSpecValue
 an_event capacity name policy = record { capacity = capacity; name = name; policy = policy }
@@ -207,11 +219,15 @@ some_name = refl
 event_lawful : (format : Format) → IsLawful (IsEventOf format) (spelled_event format) (event_at format)
 unfolding event_at
 event_lawful format =
-    lawful_then (IsFrom 1 1024) spelled_u16 (number 2 1 1024) (IsEventOf format) (λ e. e.capacity) (λ e. length e.name ∷ (e.name ++ spelled_policy format e.policy)) (from_name format)
-    (λ e h. h.0.0) (λ n h. (an_event n (97 ∷ []) Last, ((h, some_name), knows_last format), refl)) (u16_lawful 1 1024 (lit≤ tt) (lit≤ tt)) (λ capacity hc.
-    lawful_then IsName (λ n. length n ∷ n) name_at (λ e. IsEventOf format e × (e.capacity ≡ capacity)) (λ e. e.name) (λ e. spelled_policy format e.policy) (from_policy format capacity)
+    lawful_then (IsFrom 1 1024) spelled_u16 (number 2 1 1024) (IsEventOf format) (λ e. e.capacity)
+    (λ e. length e.name ∷ (e.name ++ spelled_policy format e.policy)) (from_name format)
+    (λ e h. h.0.0) (λ n h. (an_event n (97 ∷ []) Last, ((h, some_name), knows_last format), refl)) (u16_lawful 1 1024 (lit≤ tt) (lit≤ tt))
+    (λ capacity hc.
+    lawful_then IsName (λ n. length n ∷ n) name_at (λ e. IsEventOf format e × (e.capacity ≡ capacity)) (λ e. e.name)
+    (λ e. spelled_policy format e.policy) (from_policy format capacity)
     (λ e h. h.0.0.1) (λ n h. (an_event capacity n Last, (((hc, h), knows_last format), refl), refl)) name_lawful (λ name hn.
-    lawful_map (KnowsPolicy format) (spelled_policy format) (policy_at format) (λ e. (IsEventOf format e × (e.capacity ≡ capacity)) × (e.name ≡ name)) (λ e. e.policy) (an_event capacity name)
+    lawful_map (KnowsPolicy format) (spelled_policy format) (policy_at format)
+    (λ e. (IsEventOf format e × (e.capacity ≡ capacity)) × (e.name ≡ name)) (λ e. e.policy) (an_event capacity name)
     (λ e h. (h.0.0.1, ap (λ (c : ℕ). an_event c e.name e.policy) h.0.1 ∙ ap (λ (n : List ℕ). an_event capacity n e.policy) h.1))
     (λ p h. (((((hc, hn), h), refl), refl), refl)) (policy_lawful format)))
 
@@ -223,7 +239,8 @@ AreParams params = IsFrom 0 16 (length params) × All (FitsSigned w64) params
 params_lawful : IsLawful AreParams spelled_params params_at
 unfolding params_at
 params_lawful =
-    counted_lawful (FitsSigned w64) spelled_signed signed_at (pos 0) (sfits_lit tt) signed_lawful 2 0 16 spelled_u16 (u16_lawful 0 16 (lit≤ tt) (lit≤ tt))
+    counted_lawful (FitsSigned w64) spelled_signed signed_at (pos 0) (sfits_lit tt) signed_lawful 2 0 16 spelled_u16
+    (u16_lawful 0 16 (lit≤ tt) (lit≤ tt))
 
 abbrev AreEvents : Format → List EventSpecValue → Type 0
 AreEvents format events = IsFrom 0 256 (length events) × All (IsEventOf format) events
@@ -231,7 +248,8 @@ AreEvents format events = IsFrom 0 256 (length events) × All (IsEventOf format)
 events_lawful : (format : Format) → IsLawful (AreEvents format) (spelled_events format) (events_at format)
 unfolding events_at
 events_lawful format =
-    counted_lawful (IsEventOf format) (spelled_event format) (event_at format) (an_event 1 (97 ∷ []) Last) (((lit≤ tt, lit≤ tt), some_name), knows_last format) (event_lawful format)
+    counted_lawful (IsEventOf format) (spelled_event format) (event_at format) (an_event 1 (97 ∷ []) Last)
+    (((lit≤ tt, lit≤ tt), some_name), knows_last format) (event_lawful format)
     2 0 256 spelled_u16 (u16_lawful 0 256 (lit≤ tt) (lit≤ tt))
 
 -- ---- the header
@@ -252,17 +270,49 @@ abbrev IsIn : Format → ProfileValue → Type 0
 IsIn format p = AreFields format p × (p.format ≡ format)
 
 job_lawful : (format : Format)
-    → IsLawful (IsIn format) (λ p. spelled_u16 p.job ++ (spelled_u64 p.seed ++ (spelled_u64 p.cycle_time ++ (spelled_params p.params ++ spelled_events format p.events)))) (from_job format)
+    → IsLawful (IsIn format) (λ p. spelled_u16 p.job ++ (spelled_u64 p.seed
+    ++ (spelled_u64 p.cycle_time ++ (spelled_params p.params ++ spelled_events format p.events)))) (from_job format)
 job_lawful format =
-    lawful_then (IsFrom 0 65535) spelled_u16 (number 2 0 65535) (IsIn format) (λ p. p.job) (λ p. spelled_u64 p.seed ++ (spelled_u64 p.cycle_time ++ (spelled_params p.params ++ spelled_events format p.events))) (from_seed format)
-    (λ p h. h.0.0) (λ job hj. (a_profile format job 0 1 [] [], ((hj, (lit≤ tt, lit≤ tt), (lit≤ tt, lit≤ tt), no_params, no_events format), refl), refl)) (u16_lawful 0 65535 (lit≤ tt) (lit≤ tt)) (λ job hj.
-    lawful_then (IsFrom 0 18446744073709551615) spelled_u64 (number 8 0 18446744073709551615) (λ p. IsIn format p × (p.job ≡ job)) (λ p. p.seed) (λ p. spelled_u64 p.cycle_time ++ (spelled_params p.params ++ spelled_events format p.events)) (from_cycle format job)
-    (λ p h. h.0.0.1) (λ seed hs. (a_profile format job seed 1 [] [], (((hj, hs, (lit≤ tt, lit≤ tt), no_params, no_events format), refl), refl), refl)) (u64_lawful 0 18446744073709551615 (lit≤ tt) (lit≤ tt)) (λ seed hs.
-    lawful_then (IsFrom 1 9223372036854775807) spelled_u64 (number 8 1 9223372036854775807) (λ p. (IsIn format p × (p.job ≡ job)) × (p.seed ≡ seed)) (λ p. p.cycle_time) (λ p. spelled_params p.params ++ spelled_events format p.events) (from_params format job seed)
-    (λ p h. h.0.0.0.2) (λ cycle hc. (a_profile format job seed cycle [] [], ((((hj, hs, hc, no_params, no_events format), refl), refl), refl), refl)) (u64_lawful 1 9223372036854775807 (lit≤ tt) (lit≤ tt)) (λ cycle hc.
-    lawful_then AreParams spelled_params params_at (λ p. ((IsIn format p × (p.job ≡ job)) × (p.seed ≡ seed)) × (p.cycle_time ≡ cycle)) (λ p. p.params) (λ p. spelled_events format p.events) (from_events format job seed cycle)
-    (λ p h. h.0.0.0.0.3) (λ params hp. (a_profile format job seed cycle params [], (((((hj, hs, hc, hp, no_events format), refl), refl), refl), refl), refl)) params_lawful (λ params hp.
-    lawful_map (AreEvents format) (spelled_events format) (events_at format) (λ p. (((IsIn format p × (p.job ≡ job)) × (p.seed ≡ seed)) × (p.cycle_time ≡ cycle)) × (p.params ≡ params)) (λ p. p.events) (a_profile format job seed cycle params)
+    lawful_then (IsFrom 0 65535) spelled_u16 (number 2 0 65535) (IsIn format) (λ p. p.job)
+    (λ p. spelled_u64 p.seed ++ (spelled_u64 p.cycle_time ++ (spelled_params p.params ++ spelled_events format p.events)))
+    (from_seed format)
+    (λ p h. h.0.0) (λ job hj. (
+      a_profile format job 0 1 [] [],
+      (
+        (hj, (lit≤ tt, lit≤ tt), (lit≤ tt, lit≤ tt), no_params, no_events format),
+        refl,
+      ),
+      refl,
+    )) (u16_lawful 0 65535 (lit≤ tt) (lit≤ tt)) (λ job hj.
+    lawful_then (IsFrom 0 18446744073709551615) spelled_u64 (number 8 0 18446744073709551615) (λ p. IsIn format p × (p.job ≡ job))
+    (λ p. p.seed) (λ p. spelled_u64 p.cycle_time ++ (spelled_params p.params ++ spelled_events format p.events)) (from_cycle format job)
+    (λ p h. h.0.0.1) (λ seed hs. (
+      a_profile format job seed 1 [] [],
+      (
+        ((hj, hs, (lit≤ tt, lit≤ tt), no_params, no_events format), refl),
+        refl,
+      ),
+      refl,
+    )) (u64_lawful 0 18446744073709551615 (lit≤ tt) (lit≤ tt)) (λ seed hs.
+    lawful_then (IsFrom 1 9223372036854775807) spelled_u64 (number 8 1 9223372036854775807)
+    (λ p. (IsIn format p × (p.job ≡ job)) × (p.seed ≡ seed)) (λ p. p.cycle_time)
+    (λ p. spelled_params p.params ++ spelled_events format p.events) (from_params format job seed)
+    (λ p h. h.0.0.0.2) (λ cycle hc. (
+      a_profile format job seed cycle [] [],
+      ((((hj, hs, hc, no_params, no_events format), refl), refl), refl),
+      refl,
+    )) (u64_lawful 1 9223372036854775807 (lit≤ tt) (lit≤ tt))
+    (λ cycle hc.
+    lawful_then AreParams spelled_params params_at (λ p. ((IsIn format p × (p.job ≡ job)) × (p.seed ≡ seed)) × (p.cycle_time ≡ cycle))
+    (λ p. p.params) (λ p. spelled_events format p.events) (from_events format job seed cycle)
+    (λ p h. h.0.0.0.0.3) (λ params hp. (
+      a_profile format job seed cycle params [],
+      (((((hj, hs, hc, hp, no_events format), refl), refl), refl), refl),
+      refl,
+    )) params_lawful (λ params hp.
+    lawful_map (AreEvents format) (spelled_events format) (events_at format)
+    (λ p. (((IsIn format p × (p.job ≡ job)) × (p.seed ≡ seed)) × (p.cycle_time ≡ cycle)) × (p.params ≡ params)) (λ p. p.events)
+    (a_profile format job seed cycle params)
     (λ p h. (
       h.0.0.0.0.0.4,
       ap (λ (f : Format). a_profile f p.job p.seed p.cycle_time p.params p.events) h.0.0.0.0.1
@@ -291,9 +341,16 @@ fields_lawful =
     (λ p h. refl) (λ last h. let p = some_profile Two in (p.0, p.1, sym h)) magic_lawful (λ last h.
     lawful_then AnyFormat (λ f. spelled_u16 (version f)) version_at (λ p. IsAny p × (67 ≡ last)) (λ p. p.format) behind_version from_job
     (λ p k. tt) (λ f k. let p = some_profile f in (p.0, (p.1, sym h), p.2)) version_lawful (λ format k.
-    lawful_values (IsIn format) (λ p. (IsAny p × (67 ≡ last)) × (p.format ≡ format)) (λ p. spelled_u16 p.job ++ (spelled_u64 p.seed ++ (spelled_u64 p.cycle_time ++ (spelled_params p.params ++ spelled_events format p.events)))) behind_version (from_job format)
+    lawful_values (IsIn format) (λ p. (IsAny p × (67 ≡ last)) × (p.format ≡ format))
+    (λ p. spelled_u16 p.job ++ (spelled_u64 p.seed ++ (spelled_u64 p.cycle_time
+    ++ (spelled_params p.params ++ spelled_events format p.events)))) behind_version (from_job format)
     (λ p i. ((subst (λ (f : Format). AreFields f p) (sym i.1) i.0, sym h), i.1))
-    (λ p i. ((subst (λ (f : Format). AreFields f p) i.1 i.0.0, i.1), ap (λ (f : Format). spelled_u16 p.job ++ (spelled_u64 p.seed ++ (spelled_u64 p.cycle_time ++ (spelled_params p.params ++ spelled_events f p.events)))) i.1))
+    (λ p i. (
+      (subst (λ (f : Format). AreFields f p) i.1 i.0.0, i.1),
+      ap
+          (λ (f : Format). spelled_u16 p.job ++ (spelled_u64 p.seed ++ (spelled_u64 p.cycle_time
+          ++ (spelled_params p.params ++ spelled_events f p.events)))) i.1,
+    ))
     (job_lawful format)))
 
 -- each event of its format, and all events of it
@@ -307,17 +364,32 @@ events_back : (format : Format) (events : List EventSpecValue) → All IsEvent e
     → All (IsEventOf format) events
 events_back One [] h k = All-nil (IsEventOf One)
 events_back One (e ∷ events) h k =
-    All-cons (IsEventOf One) e events (All-head IsEvent e events h, All-head (λ (x : EventSpecValue). x.policy ≡ Last) e events k) (events_back One events (All-tail IsEvent e events h) (All-tail (λ (x : EventSpecValue). x.policy ≡ Last) e events k))
+    All-cons (IsEventOf One) e events (All-head IsEvent e events h, All-head (λ (x : EventSpecValue). x.policy ≡ Last) e events k)
+    (events_back One events (All-tail IsEvent e events h) (All-tail (λ (x : EventSpecValue). x.policy ≡ Last) e events k))
 events_back Two events h k = All-weaker IsEvent (IsEventOf Two) (λ e i. (i, tt)) events h
 
 header_there : (p : ProfileValue) → IsAny p → IsHeader p
 header_there p h =
     let e = events_there p.format p.events h.4.1 in
-    record { job = omega (arith, h.0.1); seed = omega (arith, h.1.1); cycle_time = (h.2.0, omega (arith, h.2.1)); few_params = h.3.0.1; params = h.3.1; few_events = h.4.0.1; events = e.0; policies = e.1 }
+    record {
+      job = omega (arith, h.0.1);
+      seed = omega (arith, h.1.1);
+      cycle_time = (h.2.0, omega (arith, h.2.1));
+      few_params = h.3.0.1;
+      params = h.3.1;
+      few_events = h.4.0.1;
+      events = e.0;
+      policies = e.1;
+    }
 
 header_back : (p : ProfileValue) → IsHeader p → IsAny p
-header_back p h =
-    ((omega arith, omega (arith, h.job)), (omega arith, omega (arith, h.seed)), (h.cycle_time.0, omega (arith, h.cycle_time.1)), ((omega arith, h.few_params), h.params), ((omega arith, h.few_events), events_back p.format p.events h.events h.policies))
+header_back p h = (
+  (omega arith, omega (arith, h.job)),
+  (omega arith, omega (arith, h.seed)),
+  (h.cycle_time.0, omega (arith, h.cycle_time.1)),
+  ((omega arith, h.few_params), h.params),
+  ((omega arith, h.few_events), events_back p.format p.events h.events h.policies),
+)
 
 pub header_is : (p : ProfileValue) → spelled_header p ≡ magic ++ (spelled_u16 (version p.format) ++ behind_version p)
 unfolding spelled_header spelled_numbers
@@ -328,8 +400,10 @@ header_is p =
     let d = spelled_u64 p.cycle_time in
     let e = spelled_params p.params ++ spelled_events p.format p.events in
     append_assoc magic (a ++ (b ++ (c ++ d))) e
-    ∙ ap (λ (xs : List ℕ). magic ++ xs) (append_assoc a (b ++ (c ++ d)) e ∙ ap (λ (xs : List ℕ). a ++ xs) (append_assoc b (c ++ d) e ∙ ap (λ (xs : List ℕ). b ++ xs) (append_assoc c d e)))
+    ∙ ap (λ (xs : List ℕ). magic ++ xs) (append_assoc a (b ++ (c ++ d)) e
+    ∙ ap (λ (xs : List ℕ). a ++ xs) (append_assoc b (c ++ d) e ∙ ap (λ (xs : List ℕ). b ++ xs) (append_assoc c d e)))
 
 pub header_lawful : IsLawful IsHeader spelled_header profile_at
 header_lawful =
-    lawful_values IsAny IsHeader (λ p. magic ++ (spelled_u16 (version p.format) ++ behind_version p)) spelled_header profile_at header_there (λ p h. (header_back p h, header_is p)) fields_lawful
+    lawful_values IsAny IsHeader (λ p. magic ++ (spelled_u16 (version p.format) ++ behind_version p)) spelled_header profile_at header_there
+    (λ p h. (header_back p h, header_is p)) fields_lawful

@@ -38,7 +38,8 @@ bare_lawful : (f : Frame) (tag : ℕ) (place : Place) → tag < 256
     → ((b : ℕ) (bytes : List ℕ) → tagged_at place b bytes ≡ cond (eqb b tag) (Got (f, bytes)) (Bad (tag_reason b) (suc (length bytes))))
     → IsLawful (λ g. g ≡ f) (λ g. tag ∷ []) (frame_at place)
 bare_lawful f tag place small same =
-    lawful_read (λ g. g ≡ f) (λ g. tag ∷ []) (frame_at place) (by_first (λ b bytes. cond (eqb b tag) (Got (f, bytes)) (Bad (tag_reason b) (suc (length bytes))))) reads
+    lawful_read (λ g. g ≡ f) (λ g. tag ∷ []) (frame_at place) (by_first
+    (λ b bytes. cond (eqb b tag) (Got (f, bytes)) (Bad (tag_reason b) (suc (length bytes))))) reads
     (lawful_tag (λ g. g ≡ f) tag (λ g. []) (λ bytes. Got (f, bytes)) tag_reason f refl small (lawful_give (λ g. g ≡ f) f refl (λ g h. h)))
   where
     by_tag : (bytes : List ℕ) → by_first (tagged_at place) bytes
@@ -72,7 +73,8 @@ elements_at bytes = number 4 0 65536 bytes >>= λ n. many element_at n.0 n.1
 init_reads : (bytes : List ℕ) → init_at bytes ≡ (elements_at bytes >>= λ es. Got (frames.Init es.0, es.1))
 unfolding init_at init_from
 init_reads bytes =
-    bind_same (number 4 0 65536 bytes) (λ n. with_front [] (many element_at n.0 n.1) >>= λ es. Got (frames.Init es.0, es.1)) (λ n. many element_at n.0 n.1 >>= λ es. Got (frames.Init es.0, es.1))
+    bind_same (number 4 0 65536 bytes) (λ n. with_front [] (many element_at n.0 n.1) >>= λ es. Got (frames.Init es.0, es.1))
+    (λ n. many element_at n.0 n.1 >>= λ es. Got (frames.Init es.0, es.1))
     (λ n. ap (λ (r : Read (List (List ℕ))). r >>= λ es. Got (frames.Init es.0, es.1)) (nothing_before (many element_at n.0 n.1)))
     ∙ sym (bind_bind (number 4 0 65536 bytes) (λ n. many element_at n.0 n.1) (λ es. Got (frames.Init es.0, es.1)))
 
@@ -108,11 +110,14 @@ init_tag layout (b ∷ bytes) = refl
 
 init_lawful : (layout : Layout) → IsLawful IsInit (λ f. 3 ∷ spelled_elements (elements_of f)) (frame_at (places.Init layout))
 init_lawful layout =
-    lawful_read IsInit (λ f. 3 ∷ spelled_elements (elements_of f)) (frame_at (places.Init layout)) (by_first (λ b bytes. cond (eqb b 3) (init_at bytes) (Bad (tag_reason b) (suc (length bytes))))) (init_tag layout)
+    lawful_read IsInit (λ f. 3 ∷ spelled_elements (elements_of f)) (frame_at (places.Init layout))
+    (by_first (λ b bytes. cond (eqb b 3) (init_at bytes) (Bad (tag_reason b) (suc (length bytes))))) (init_tag layout)
     (lawful_tag IsInit 3 (λ f. spelled_elements (elements_of f)) init_at tag_reason (frames.Init []) no_elements (lit< tt)
-    (lawful_read IsInit (λ f. spelled_elements (elements_of f)) init_at (λ bytes. elements_at bytes >>= λ es. Got (frames.Init es.0, es.1)) init_reads
+    (lawful_read IsInit (λ f. spelled_elements (elements_of f)) init_at (λ bytes. elements_at bytes >>= λ es. Got (frames.Init es.0, es.1))
+    init_reads
     (lawful_map AreElements spelled_elements elements_at IsInit elements_of (λ es. frames.Init es) init_there (λ xs h. (h, refl))
-    (counted_lawful IsElement spelled_element element_at [] (no_bytes 64) element_lawful 4 0 65536 spelled_u32 (u32_lawful 0 65536 (lit≤ tt) (lit≤ tt))))))
+    (counted_lawful IsElement spelled_element element_at [] (no_bytes 64) element_lawful 4 0 65536 spelled_u32
+    (u32_lawful 0 65536 (lit≤ tt) (lit≤ tt))))))
 
 -- ---- runs and the end
 
@@ -140,7 +145,8 @@ module _ (layout : Layout) (before : ℕ) where
 
   abbrev next_by : ℕ → List ℕ → Read Frame
   next_by b bytes =
-      cond (eqb b 4) (cond (ltb before 1000000) (run_at layout bytes) (Bad TooMany (suc (length bytes)))) (cond (eqb b 5) (Got (frames.Terminate, bytes)) (Bad (tag_reason b) (suc (length bytes))))
+      cond (eqb b 4) (cond (ltb before 1000000) (run_at layout bytes) (Bad TooMany (suc (length bytes))))
+      (cond (eqb b 5) (Got (frames.Terminate, bytes)) (Bad (tag_reason b) (suc (length bytes))))
 
   next_reason : ℕ → Reason
   next_reason b = cond (eqb b 4) TooMany (tag_reason b)
@@ -193,15 +199,21 @@ module _ (layout : Layout) (before : ℕ) where
   at_four : (t : Bool) → ltb before 1000000 ≡ t → layout.events ≤ 65536 → NextCase 4
   unfolding NextCase next_reason
   at_four true e few =
-      inr (lawful_read (λ c. IsNext c × (tag_of c ≡ 4)) behind_tag (next_by 4) (run_at layout) (λ bytes. ap (λ (t : Bool). cond t (run_at layout bytes) (Bad TooMany (suc (length bytes)))) e)
-      (lawful_values (IsRunFrame layout) (λ c. IsNext c × (tag_of c ≡ 4)) (λ c. spelled_run layout (run_of c)) behind_tag (run_at layout) (λ c h. run_there c h (ltb-true before 1000000 e)) run_back (run_lawful layout few)))
+      inr (lawful_read (λ c. IsNext c × (tag_of c ≡ 4)) behind_tag (next_by 4) (run_at layout)
+      (λ bytes. ap (λ (t : Bool). cond t (run_at layout bytes) (Bad TooMany (suc (length bytes)))) e)
+      (lawful_values (IsRunFrame layout) (λ c. IsNext c × (tag_of c ≡ 4)) (λ c. spelled_run layout (run_of c)) behind_tag (run_at layout)
+      (λ c h. run_there c h (ltb-true before 1000000 e)) run_back (run_lawful layout few)))
   at_four false e few =
-      inl ((λ bytes. ap (λ (t : Bool). cond t (run_at layout bytes) (Bad TooMany (suc (length bytes)))) e), (λ c h same. no_room c h same e))
+      inl (
+        (λ bytes. ap (λ (t : Bool). cond t (run_at layout bytes) (Bad TooMany (suc (length bytes)))) e),
+        (λ c h same. no_room c h same e),
+      )
 
   at_five : NextCase 5
   unfolding NextCase
   at_five =
-      inr (lawful_values (λ c. IsNext c × (tag_of c ≡ 5)) (λ c. IsNext c × (tag_of c ≡ 5)) (λ c. []) behind_tag (next_by 5) (λ c h. h) last_spelled (lawful_give (λ c. IsNext c × (tag_of c ≡ 5)) frames.Terminate (tt, refl) last_only))
+      inr (lawful_values (λ c. IsNext c × (tag_of c ≡ 5)) (λ c. IsNext c × (tag_of c ≡ 5)) (λ c. []) behind_tag (next_by 5) (λ c h. h)
+      last_spelled (lawful_give (λ c. IsNext c × (tag_of c ≡ 5)) frames.Terminate (tt, refl) last_only))
 
   at_other : (b : ℕ) → eqb b 4 ≡ false → eqb b 5 ≡ false → NextCase b
   unfolding NextCase next_reason
@@ -254,13 +266,17 @@ framed_lawful : (Fits : Frame → Type 0) (spell : Frame → List ℕ) (place : 
     → ((x : Item) → MayStand place x → item_spelling place x ≡ spell (frame_of x)) → IsLawful Fits spell (frame_at place)
     → IsLawful (MayStand place) (item_spelling place) (λ bytes. frame_at place bytes >>= λ f. Got (items.Frame f.0, f.1))
 framed_lawful Fits spell place there back spelled l =
-    lawful_values (MayStand place) (MayStand place) (λ x. spell (frame_of x)) (item_spelling place) (λ bytes. frame_at place bytes >>= λ f. Got (items.Frame f.0, f.1)) (λ x h. h) (λ x h. (h, spelled x h))
+    lawful_values (MayStand place) (MayStand place) (λ x. spell (frame_of x)) (item_spelling place)
+    (λ bytes. frame_at place bytes >>= λ f. Got (items.Frame f.0, f.1)) (λ x h. h) (λ x h. (h, spelled x h))
     (lawful_map Fits spell (frame_at place) (MayStand place) frame_of (λ f. items.Frame f) there (λ f h. (back f h, refl)) l)
 
-header_item_lawful : IsLawful (MayStand places.Header) (item_spelling places.Header) (λ bytes. profile_at bytes >>= λ p. Got (items.Header p.0, p.1))
+header_item_lawful : IsLawful (MayStand places.Header) (item_spelling places.Header)
+    (λ bytes. profile_at bytes >>= λ p. Got (items.Header p.0, p.1))
 header_item_lawful =
-    lawful_values (MayStand places.Header) (MayStand places.Header) (λ x. spelled_header (profile_of x)) (item_spelling places.Header) (λ bytes. profile_at bytes >>= λ p. Got (items.Header p.0, p.1)) (λ x h. h) spelled
-    (lawful_map IsHeader spelled_header profile_at (MayStand places.Header) profile_of (λ p. items.Header p) there (λ p h. (h, refl)) header_lawful)
+    lawful_values (MayStand places.Header) (MayStand places.Header) (λ x. spelled_header (profile_of x)) (item_spelling places.Header)
+    (λ bytes. profile_at bytes >>= λ p. Got (items.Header p.0, p.1)) (λ x h. h) spelled
+    (lawful_map IsHeader spelled_header profile_at (MayStand places.Header) profile_of (λ p. items.Header p) there (λ p h. (h, refl))
+    header_lawful)
   where
     spelled : (x : Item) → MayStand places.Header x → MayStand places.Header x
         × (item_spelling places.Header x ≡ spelled_header (profile_of x))
@@ -272,10 +288,12 @@ header_item_lawful =
     there (items.Frame f) h = absurd h
 
 register_item_lawful : (layout : Layout)
-    → IsLawful (MayStand (places.Register layout)) (item_spelling (places.Register layout)) (λ bytes. frame_at (places.Register layout) bytes >>= λ f. Got (items.Frame f.0, f.1))
+    → IsLawful (MayStand (places.Register layout)) (item_spelling (places.Register layout))
+    (λ bytes. frame_at (places.Register layout) bytes >>= λ f. Got (items.Frame f.0, f.1))
 unfolding spelled_frame
 register_item_lawful layout =
-    framed_lawful (λ g. g ≡ frames.Register) (λ g. 1 ∷ []) (places.Register layout) there (λ f h. subst (λ (g : Frame). MayStand (places.Register layout) (items.Frame g)) (sym h) tt) spelled (register_lawful layout)
+    framed_lawful (λ g. g ≡ frames.Register) (λ g. 1 ∷ []) (places.Register layout) there
+    (λ f h. subst (λ (g : Frame). MayStand (places.Register layout) (items.Frame g)) (sym h) tt) spelled (register_lawful layout)
   where
     there : (x : Item) → MayStand (places.Register layout) x → (frame_of x ≡ frames.Register) × (x ≡ items.Frame (frame_of x))
     there (items.Frame frames.Register) h = (refl, refl)
@@ -294,10 +312,12 @@ register_item_lawful layout =
     spelled (items.Header p) h = absurd h
 
 discover_item_lawful : (layout : Layout)
-    → IsLawful (MayStand (places.Discover layout)) (item_spelling (places.Discover layout)) (λ bytes. frame_at (places.Discover layout) bytes >>= λ f. Got (items.Frame f.0, f.1))
+    → IsLawful (MayStand (places.Discover layout)) (item_spelling (places.Discover layout))
+    (λ bytes. frame_at (places.Discover layout) bytes >>= λ f. Got (items.Frame f.0, f.1))
 unfolding spelled_frame
 discover_item_lawful layout =
-    framed_lawful (λ g. g ≡ frames.Discover) (λ g. 2 ∷ []) (places.Discover layout) there (λ f h. subst (λ (g : Frame). MayStand (places.Discover layout) (items.Frame g)) (sym h) tt) spelled (discover_lawful layout)
+    framed_lawful (λ g. g ≡ frames.Discover) (λ g. 2 ∷ []) (places.Discover layout) there
+    (λ f h. subst (λ (g : Frame). MayStand (places.Discover layout) (items.Frame g)) (sym h) tt) spelled (discover_lawful layout)
   where
     there : (x : Item) → MayStand (places.Discover layout) x → (frame_of x ≡ frames.Discover) × (x ≡ items.Frame (frame_of x))
     there (items.Frame frames.Discover) h = (refl, refl)
@@ -316,7 +336,8 @@ discover_item_lawful layout =
     spelled (items.Header p) h = absurd h
 
 init_item_lawful : (layout : Layout)
-    → IsLawful (MayStand (places.Init layout)) (item_spelling (places.Init layout)) (λ bytes. frame_at (places.Init layout) bytes >>= λ f. Got (items.Frame f.0, f.1))
+    → IsLawful (MayStand (places.Init layout)) (item_spelling (places.Init layout))
+    (λ bytes. frame_at (places.Init layout) bytes >>= λ f. Got (items.Frame f.0, f.1))
 unfolding spelled_frame IsFrame
 init_item_lawful layout =
     framed_lawful IsInit (λ f. 3 ∷ spelled_elements (elements_of f)) (places.Init layout) there back spelled (init_lawful layout)
@@ -346,10 +367,12 @@ init_item_lawful layout =
     spelled (items.Header p) h = absurd h
 
 runs_item_lawful : (layout : Layout) (before : ℕ) → layout.events ≤ 65536
-    → IsLawful (MayStand (places.Runs layout before)) (item_spelling (places.Runs layout before)) (λ bytes. frame_at (places.Runs layout before) bytes >>= λ f. Got (items.Frame f.0, f.1))
+    → IsLawful (MayStand (places.Runs layout before)) (item_spelling (places.Runs layout before))
+    (λ bytes. frame_at (places.Runs layout before) bytes >>= λ f. Got (items.Frame f.0, f.1))
 unfolding spelled_frame IsFrame
 runs_item_lawful layout before few =
-    framed_lawful (IsNext layout before) (λ f. tag_of layout before f ∷ behind_tag layout before f) (places.Runs layout before) there back spelled (runs_lawful layout before few)
+    framed_lawful (IsNext layout before) (λ f. tag_of layout before f ∷ behind_tag layout before f) (places.Runs layout before) there back
+    spelled (runs_lawful layout before few)
   where
     there : (x : Item) → MayStand (places.Runs layout before) x → IsNext layout before (frame_of x) × (x ≡ items.Frame (frame_of x))
     there (items.Frame (frames.Run r)) h = (h, refl)

@@ -7,7 +7,8 @@ use Rattle.record_grammar.specs.Read.{Read, Got, ◌>>=◌, many}
 use Rattle.record_laws.proofs.Lawful.{IsLawful, lawful_give, lawful_read, lawful_values, lawful_map, lawful_then}
 
 -- values in a row
-module _ {A : Type 0} (Fits : A → Type 0) (spell : A → List ℕ) (item : List ℕ → Read A) (a : A) (fits : Fits a) (h : IsLawful Fits spell item) where
+module _ {A : Type 0} (Fits : A → Type 0) (spell : A → List ℕ) (item : List ℕ → Read A) (a : A) (fits : Fits a)
+    (h : IsLawful Fits spell item) where
   abbrev AreMany : ℕ → List A → Type 0
   AreMany n xs = (length xs ≡ n) × All Fits xs
 
@@ -51,12 +52,19 @@ module _ {A : Type 0} (Fits : A → Type 0) (spell : A → List ℕ) (item : Lis
   pub lawful_many : (n : ℕ) → IsLawful (λ xs. (length xs ≡ n) × All Fits xs) (flat_map spell) (many item n)
   lawful_many zero =
       lawful_read (AreMany zero) (flat_map spell) (many item zero) (λ bytes. Got ([], bytes)) many_none
-      (lawful_values (AreMany zero) (AreMany zero) (λ c. []) (flat_map spell) (λ bytes. Got ([], bytes)) (λ c h. h) (λ c h. (h, ap (flat_map spell) (none_is c h)))
+      (lawful_values (AreMany zero) (AreMany zero) (λ c. []) (flat_map spell) (λ bytes. Got ([], bytes)) (λ c h. h)
+      (λ c h. (h, ap (flat_map spell) (none_is c h)))
       (lawful_give (AreMany zero) [] (refl, All-nil Fits) none_is))
   lawful_many (suc n) =
-      lawful_read (AreMany (suc n)) (flat_map spell) (many item (suc n)) (λ bytes. item bytes >>= λ first. many item n first.1 >>= λ others. Got (first.0 ∷ others.0, others.1)) (many_one n)
-      (lawful_values (AreMany (suc n)) (AreMany (suc n)) (λ c. spell (head c) ++ flat_map spell (tail c)) (flat_map spell) (λ bytes. item bytes >>= λ first. many item n first.1 >>= λ others. Got (first.0 ∷ others.0, others.1)) (λ c h. h) (λ c h. (h, spell_is n c h))
-      (lawful_then Fits spell item (AreMany (suc n)) head (λ c. flat_map spell (tail c)) (λ first bytes. many item n bytes >>= λ others. Got (first ∷ others.0, others.1))
+      lawful_read (AreMany (suc n)) (flat_map spell) (many item (suc n))
+      (λ bytes. item bytes >>= λ first. many item n first.1 >>= λ others. Got (first.0 ∷ others.0, others.1)) (many_one n)
+      (lawful_values (AreMany (suc n)) (AreMany (suc n)) (λ c. spell (head c) ++ flat_map spell (tail c)) (flat_map spell)
+      (λ bytes. item bytes >>= λ first. many item n first.1 >>= λ others. Got (first.0 ∷ others.0, others.1)) (λ c h. h)
+      (λ c h. (h, spell_is n c h))
+      (lawful_then Fits spell item (AreMany (suc n)) head (λ c. flat_map spell (tail c))
+      (λ first bytes. many item n bytes >>= λ others. Got (first ∷ others.0, others.1))
       (head_fits n) (λ x fx. let c = copies n in (x ∷ c.0, (ap suc c.1, All-cons Fits x c.0 fx c.2), refl)) h
-      (λ first ff. lawful_map (AreMany n) (flat_map spell) (many item n) (λ c. AreMany (suc n) c × (head c ≡ first)) tail (λ others. first ∷ others)
-      (λ c hc. tail_fits n c first hc.0 hc.1) (λ others ho. (((ap suc ho.0, All-cons Fits first others ff ho.1), refl), refl)) (lawful_many n))))
+      (λ first ff. lawful_map (AreMany n) (flat_map spell) (many item n) (λ c. AreMany (suc n) c × (head c ≡ first)) tail
+      (λ others. first ∷ others)
+      (λ c hc. tail_fits n c first hc.0 hc.1) (λ others ho. (((ap suc ho.0, All-cons Fits first others ff ho.1), refl), refl))
+      (lawful_many n))))

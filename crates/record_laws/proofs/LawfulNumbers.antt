@@ -63,12 +63,14 @@ only_front (suc k) q n l h =
     let i = in_ends k n in
     let low : q * 256 ≤ p = elim (cases_lt p (q * 256)) [
       | inl lt ↦ let a : highest k p < lowest k (p + 1) =
-          apart k p in let m : lowest k (p + 1) ≤ lowest k (q * 256) = lowest-mono k (p + 1) (q * 256) (omega arith) in absurd (omega (arith, i.1))
+          apart k p in let m : lowest k (p + 1) ≤ lowest k (q * 256) = lowest-mono k (p + 1) (q * 256) (omega arith) in
+          absurd (omega (arith, i.1))
       | inr le ↦ le
     ] in
     let high : p ≤ q * 256 + 255 = elim (cases_lt (q * 256 + 255) p) [
       | inl lt ↦ let a : highest k (q * 256 + 255) < lowest k (q * 256 + 255 + 1) =
-          apart k (q * 256 + 255) in let m : lowest k (q * 256 + 255 + 1) ≤ lowest k p = lowest-mono k (q * 256 + 255 + 1) p (omega arith) in absurd (omega (arith, i.0))
+          apart k (q * 256 + 255) in let m : lowest k (q * 256 + 255 + 1) ≤ lowest k p =
+          lowest-mono k (q * 256 + 255 + 1) p (omega arith) in absurd (omega (arith, i.0))
       | inr le ↦ le
     ] in
     omega arith
@@ -84,7 +86,8 @@ and_true false b e = absurd cc
 
 can_be_of : (limits : Limits) (k n : ℕ) → IsWithin limits n → can_be limits k (front k n) ≡ true
 can_be_of (Between least most) k n h =
-    let i = in_ends k n in let a : least ≤ highest k (front k n) = omega (arith, h.0, i.1) in let b : lowest k (front k n) ≤ most = omega (arith, h.1, i.0) in grind (arith, nat_tests, a, b)
+    let i = in_ends k n in let a : least ≤ highest k (front k n) = omega (arith, h.0, i.1) in let b : lowest k (front k n) ≤ most =
+    omega (arith, h.1, i.0) in grind (arith, nat_tests, a, b)
 can_be_of (Around most) k n (inl h) =
     let i = in_ends k n in let b : lowest k (front k n) ≤ most = omega (arith, i.0) in grind (arith, nat_tests, b)
 can_be_of (Around most) k n (inr h) =
@@ -107,14 +110,18 @@ can_be_has (Around most) k v proper e =
     ]
 
 lawful_case : (limits : Limits) (k v b : ℕ) → IsProper limits → b < 256 → (t : Bool) → can_be limits k (v * 256 + b) ≡ t
-    → ((n : ℕ) → IsWithin limits n → front k n ≡ v * 256 + b → IsLawful (λ m. IsWithin limits m × (front k m ≡ v * 256 + b)) (big_endian k) (number_from limits k (v * 256 + b)))
-    → (((bytes : List ℕ) → cond (can_be limits k (v * 256 + b)) (number_from limits k (v * 256 + b) bytes) (Bad Range (suc (length bytes))) ≡ Bad Range (suc (length bytes))) × ((c : ℕ) → IsWithin limits c × (front (suc k) c ≡ v) → front k c % 256 ≡ b → ⊥))
-    ⊎ IsLawful (λ c. (IsWithin limits c × (front (suc k) c ≡ v)) × (front k c % 256 ≡ b)) (big_endian k) (λ bytes. cond (can_be limits k (v * 256 + b)) (number_from limits k (v * 256 + b) bytes) (Bad Range (suc (length bytes))))
+    → ((n : ℕ) → IsWithin limits n → front k n ≡ v * 256 + b → IsLawful (λ m. IsWithin limits m × (front k m ≡ v * 256 + b)) (big_endian k)
+    (number_from limits k (v * 256 + b)))
+    → (((bytes : List ℕ) → cond (can_be limits k (v * 256 + b)) (number_from limits k (v * 256 + b) bytes) (Bad Range (suc (length bytes)))
+    ≡ Bad Range (suc (length bytes))) × ((c : ℕ) → IsWithin limits c × (front (suc k) c ≡ v) → front k c % 256 ≡ b → ⊥))
+    ⊎ IsLawful (λ c. (IsWithin limits c × (front (suc k) c ≡ v)) × (front k c % 256 ≡ b)) (big_endian k)
+    (λ bytes. cond (can_be limits k (v * 256 + b)) (number_from limits k (v * 256 + b) bytes) (Bad Range (suc (length bytes))))
 unfolding front
 lawful_case limits k v b proper small true e deeper =
     let w = can_be_has limits k (v * 256 + b) proper e in
     let l = deeper w.0 w.1 w.2 in
-    inr (lawful_read _ _ _ (number_from limits k (v * 256 + b)) (λ bytes. ap (λ (t : Bool). cond t (number_from limits k (v * 256 + b) bytes) (Bad Range (suc (length bytes)))) e)
+    inr (lawful_read _ _ _ (number_from limits k (v * 256 + b)) (λ bytes.
+    ap (λ (t : Bool). cond t (number_from limits k (v * 256 + b) bytes) (Bad Range (suc (length bytes)))) e)
     (lawful_values (λ m. IsWithin limits m × (front k m ≡ v * 256 + b)) _ (big_endian k) (big_endian k) (number_from limits k (v * 256 + b))
     (λ m h. ((h.0, omega (arith, h.1)), omega (arith, h.1)))
     (λ m h. ((h.0.0, omega (arith, h.0.1, h.1)), refl))
@@ -132,13 +139,18 @@ pub lawful_number_from : (limits : Limits) (k v n : ℕ) → IsProper limits →
     → IsLawful (λ m. IsWithin limits m × (front k m ≡ v)) (big_endian k) (number_from limits k v)
 unfolding front big_endian number_from
 lawful_number_from limits zero v n proper within e =
-    lawful_values (λ m. IsWithin limits m × (m ≡ v)) (λ m. IsWithin limits m × (m ≡ v)) (λ m. []) (big_endian zero) (number_from limits zero v) (λ m h. h) (λ m h. (h, refl))
+    lawful_values (λ m. IsWithin limits m × (m ≡ v)) (λ m. IsWithin limits m × (m ≡ v)) (λ m. []) (big_endian zero)
+    (number_from limits zero v) (λ m h. h) (λ m h. (h, refl))
     (lawful_give (λ m. IsWithin limits m × (m ≡ v)) v (subst (IsWithin limits) e within, refl) (λ m h. h.1))
 lawful_number_from limits (suc k) v n proper within e =
-    lawful_read _ _ (number_from limits (suc k) v) (by_first (λ b bytes. cond (can_be limits k (v * 256 + b)) (number_from limits k (v * 256 + b) bytes) (Bad Range (suc (length bytes))))) (number_is limits k v)
+    lawful_read _ _ (number_from limits (suc k) v) (by_first (λ b bytes.
+    cond (can_be limits k (v * 256 + b)) (number_from limits k (v * 256 + b) bytes) (Bad Range (suc (length bytes)))))
+    (number_is limits k v)
     (lawful_first (λ m. IsWithin limits m × (front (suc k) m ≡ v)) (λ m. front k m % 256) (big_endian k)
-    (λ b bytes. cond (can_be limits k (v * 256 + b)) (number_from limits k (v * 256 + b) bytes) (Bad Range (suc (length bytes)))) (λ b. Range) n (within, e)
-    (λ b small. lawful_case limits k v b proper small (can_be limits k (v * 256 + b)) refl (λ m w f. lawful_number_from limits k (v * 256 + b) m proper w f))
+    (λ b bytes. cond (can_be limits k (v * 256 + b)) (number_from limits k (v * 256 + b) bytes) (Bad Range (suc (length bytes))))
+    (λ b. Range) n (within, e)
+    (λ b small. lawful_case limits k v b proper small (can_be limits k (v * 256 + b)) refl
+    (λ m w f. lawful_number_from limits k (v * 256 + b) m proper w f))
     (λ m h. omega arith))
 
 lowest-zero : (k : ℕ) → lowest k 0 ≡ 0
@@ -153,13 +165,15 @@ no_front width n h = only_front width 0 n (omega (arith, lowest-zero width)) h
 pub number_lawful : (width least most : ℕ) → least ≤ most → most ≤ highest width 0
     → IsLawful (λ n. (least ≤ n) × (n ≤ most)) (big_endian width) (number width least most)
 number_lawful width least most proper fits =
-    lawful_values (λ n. ((least ≤ n) × (n ≤ most)) × (front width n ≡ 0)) (λ n. (least ≤ n) × (n ≤ most)) (big_endian width) (big_endian width) (number width least most) (λ n h. h.0) (λ n h. ((h, no_front width n (omega (arith, h.1))), refl))
+    lawful_values (λ n. ((least ≤ n) × (n ≤ most)) × (front width n ≡ 0)) (λ n. (least ≤ n) × (n ≤ most)) (big_endian width)
+    (big_endian width) (number width least most) (λ n h. h.0) (λ n h. ((h, no_front width n (omega (arith, h.1))), refl))
     (lawful_number_from (Between least most) width 0 least proper (omega arith, proper) (no_front width least (omega arith)))
 
 -- a number around 0 in two's complement
 pub around_lawful : (width most : ℕ)
     → IsLawful (λ n. IsWithin (Around most) n × (n ≤ highest width 0)) (big_endian width) (number_from (Around most) width 0)
 around_lawful width most =
-    lawful_values (λ n. IsWithin (Around most) n × (front width n ≡ 0)) (λ n. IsWithin (Around most) n × (n ≤ highest width 0)) (big_endian width) (big_endian width) (number_from (Around most) width 0)
+    lawful_values (λ n. IsWithin (Around most) n × (front width n ≡ 0)) (λ n. IsWithin (Around most) n × (n ≤ highest width 0))
+    (big_endian width) (big_endian width) (number_from (Around most) width 0)
     (λ n h. (h.0, subst (λ (f : ℕ). n ≤ highest width f) h.1 (in_ends width n).1)) (λ n h. ((h.0, no_front width n h.1), refl))
     (lawful_number_from (Around most) width 0 0 tt (inl (omega arith)) (no_front width 0 (omega arith)))

@@ -43,7 +43,8 @@ module _ (format : Format) where
 
   elements_lawful : IsLawful AreElements spelled_elements elements_at
   elements_lawful =
-      let d = some_drawn format in counted_lawful (IsDrawn format) (spelled_drawn format) (drawn_at format) d.0 d.1 (drawn_lawful format) 4 0 65536 spelled_u32 (u32_lawful 0 65536 (lit≤ tt) (lit≤ tt))
+      let d = some_drawn format in counted_lawful (IsDrawn format) (spelled_drawn format) (drawn_at format) d.0 d.1 (drawn_lawful format) 4
+      0 65536 spelled_u32 (u32_lawful 0 65536 (lit≤ tt) (lit≤ tt))
 
   abbrev output_at : List ℕ → Read (List ℕ)
   output_at bytes = string_at 4 1048576 bytes
@@ -94,16 +95,22 @@ module _ (format : Format) where
 
   finished_spelled : (o : Outcome) → EndsBy 0 o → EndsBy 0 o
       × (behind_flag o ≡ spelled_elements (elements_of o) ++ (spelled_u32 (length (output_of o)) ++ output_of o))
-  finished_spelled (Finished elements output) h =
-      (h, sym (append_assoc (spelled_u32 (length elements)) (flat_map (spelled_drawn format) elements) (spelled_u32 (length output) ++ output)))
+  finished_spelled (Finished elements output) h = (
+    h,
+    sym (append_assoc (spelled_u32 (length elements)) (flat_map (spelled_drawn format) elements)
+        (spelled_u32 (length output) ++ output)),
+  )
   finished_spelled (Refused r) h = absurd (omega (arith, h.1))
 
   finished_lawful : IsLawful (EndsBy 0) behind_flag finished_part
   finished_lawful =
-      lawful_values (EndsBy 0) (EndsBy 0) (λ o. spelled_elements (elements_of o) ++ (spelled_u32 (length (output_of o)) ++ output_of o)) behind_flag finished_part (λ o h. h) finished_spelled
-      (lawful_then AreElements spelled_elements elements_at (EndsBy 0) elements_of (λ o. spelled_u32 (length (output_of o)) ++ output_of o) with_output
+      lawful_values (EndsBy 0) (EndsBy 0) (λ o. spelled_elements (elements_of o) ++ (spelled_u32 (length (output_of o)) ++ output_of o))
+      behind_flag finished_part (λ o h. h) finished_spelled
+      (lawful_then AreElements spelled_elements elements_at (EndsBy 0) elements_of (λ o. spelled_u32 (length (output_of o)) ++ output_of o)
+      with_output
       finished_there (λ es h. (Finished es [], ((h.0.1, h.1, no_bytes 1048576), refl), refl)) elements_lawful
-      (λ es h. lawful_map (IsString 1048576) (λ xs. spelled_u32 (length xs) ++ xs) output_at (λ o. EndsBy 0 o × (elements_of o ≡ es)) output_of (λ output. Finished es output)
+      (λ es h. lawful_map (IsString 1048576) (λ xs. spelled_u32 (length xs) ++ xs) output_at (λ o. EndsBy 0 o × (elements_of o ≡ es))
+      output_of (λ output. Finished es output)
       (λ o k. output_there es o k.0 k.1) (λ output k. ((((h.0.1, h.1, k), refl), refl), refl)) output_lawful))
 
   refused_there : (o : Outcome) → EndsBy 1 o → IsRefusal (refusal_of o) × (o ≡ Refused (refusal_of o))
@@ -117,7 +124,8 @@ module _ (format : Format) where
   refused_lawful : IsLawful (EndsBy 1) behind_flag refused_part
   refused_lawful =
       lawful_values (EndsBy 1) (EndsBy 1) (λ o. spelled_refusal (refusal_of o)) behind_flag refused_part (λ o h. h) refused_spelled
-      (lawful_map IsRefusal spelled_refusal refusal_at (EndsBy 1) refusal_of Refused refused_there (λ r h. ((h, refl), refl)) refusal_lawful)
+      (lawful_map IsRefusal spelled_refusal refusal_at (EndsBy 1) refusal_of Refused refused_there (λ r h. ((h, refl), refl))
+      refusal_lawful)
 
   abbrev outcome_by : ℕ → List ℕ → Read Outcome
   outcome_by flag bytes = cond (eqb flag 0) (finished_part bytes) (refused_part bytes)
@@ -148,8 +156,10 @@ module _ (format : Format) where
 
   outcome_lawful : IsLawful (IsOutcome format) (spelled_outcome format) outcome_at
   outcome_lawful =
-      lawful_values (IsOutcome format) (IsOutcome format) (λ o. flag_of o ∷ behind_flag o) (spelled_outcome format) outcome_at (λ o h. h) outcome_spelled
-      (lawful_then (IsFrom 0 1) (λ n. n ∷ []) (number 1 0 1) (IsOutcome format) flag_of behind_flag outcome_by flag_there flag_example (byte_lawful 0 1 (lit≤ tt) (lit≤ tt)) by_lawful)
+      lawful_values (IsOutcome format) (IsOutcome format) (λ o. flag_of o ∷ behind_flag o) (spelled_outcome format) outcome_at (λ o h. h)
+      outcome_spelled
+      (lawful_then (IsFrom 0 1) (λ n. n ∷ []) (number 1 0 1) (IsOutcome format) flag_of behind_flag outcome_by flag_there flag_example
+      (byte_lawful 0 1 (lit≤ tt) (lit≤ tt)) by_lawful)
 
 -- ---- a run
 
@@ -174,9 +184,12 @@ some_run layout =
 
 parts_lawful : (layout : Layout) → layout.events ≤ 65536 → IsLawful (IsRun layout) (spelled_run layout) (parts_at layout)
 parts_lawful layout few =
-    lawful_then (IsInput layout.events) spelled_input (input_at layout.events) (IsRun layout) (λ r. r.input) (λ r. spelled_outcome layout.format r.outcome) (with_outcome layout)
-    (λ r h. h.0) (λ i h. (a_run i (Refused (a_refusal phases.Prepare 0 0 0)), (h, some_refusal layout.format), refl)) (input_lawful layout.events few)
-    (λ input hi. lawful_map (IsOutcome layout.format) (spelled_outcome layout.format) (outcome_at layout.format) (λ r. IsRun layout r × (r.input ≡ input)) (λ r. r.outcome) (a_run input)
+    lawful_then (IsInput layout.events) spelled_input (input_at layout.events) (IsRun layout) (λ r. r.input)
+    (λ r. spelled_outcome layout.format r.outcome) (with_outcome layout)
+    (λ r h. h.0) (λ i h. (a_run i (Refused (a_refusal phases.Prepare 0 0 0)), (h, some_refusal layout.format), refl))
+    (input_lawful layout.events few)
+    (λ input hi. lawful_map (IsOutcome layout.format) (spelled_outcome layout.format) (outcome_at layout.format)
+    (λ r. IsRun layout r × (r.input ≡ input)) (λ r. r.outcome) (a_run input)
     (λ r h. (h.0.1, ap (λ (i : CycleInput). a_run i r.outcome) h.1)) (λ o h. (((hi, h), refl), refl)) (outcome_lawful layout.format))
 
 -- ---- the reader, in these parts
@@ -191,9 +204,12 @@ finished_reads : (format : Format) (input : CycleInput) (bytes : List ℕ) → f
     ≡ (finished_part format bytes >>= as_run input)
 unfolding finished_at finished_from
 finished_reads format input bytes =
-    bind_same (number 4 0 65536 bytes) (λ n. with_front [] (many (drawn_at format) n.0 n.1) >>= (then input)) (λ n. many (drawn_at format) n.0 n.1 >>= (then input)) (λ n. ap (λ (r : Read (List DrawnElement)). r >>= (then input)) (nothing_before (many (drawn_at format) n.0 n.1)))
+    bind_same (number 4 0 65536 bytes) (λ n. with_front [] (many (drawn_at format) n.0 n.1) >>= (then input))
+    (λ n. many (drawn_at format) n.0 n.1 >>= (then input)) (λ n. ap (λ (r : Read (List DrawnElement)). r >>= (then input))
+    (nothing_before (many (drawn_at format) n.0 n.1)))
     ∙ sym (bind_bind (number 4 0 65536 bytes) (λ n. many (drawn_at format) n.0 n.1) (then input))
-    ∙ bind_same (elements_at format bytes) (then input) (λ es. with_output format es.0 es.1 >>= as_run input) (λ es. sym (bind_bind (output_at format es.1) (λ output. Got (Finished es.0 output.0, output.1)) (as_run input)))
+    ∙ bind_same (elements_at format bytes) (then input) (λ es. with_output format es.0 es.1 >>= as_run input)
+    (λ es. sym (bind_bind (output_at format es.1) (λ output. Got (Finished es.0 output.0, output.1)) (as_run input)))
     ∙ sym (bind_bind (elements_at format bytes) (λ es. with_output format es.0 es.1) (as_run input))
 
 refused_reads : (format : Format) (input : CycleInput) (bytes : List ℕ) → refused_at input bytes
@@ -211,7 +227,8 @@ outcome_reads : (format : Format) (input : CycleInput) (bytes : List ℕ)
     → (number 1 0 1 bytes >>= λ flag. cond (eqb flag.0 0) (finished_at format input flag.1) (refused_at input flag.1))
     ≡ (outcome_at format bytes >>= as_run input)
 outcome_reads format input bytes =
-    bind_same (number 1 0 1 bytes) (λ flag. cond (eqb flag.0 0) (finished_at format input flag.1) (refused_at input flag.1)) (λ flag. outcome_by format flag.0 flag.1 >>= as_run input) (λ flag. by_reads (eqb flag.0 0) format input flag.1)
+    bind_same (number 1 0 1 bytes) (λ flag. cond (eqb flag.0 0) (finished_at format input flag.1) (refused_at input flag.1))
+    (λ flag. outcome_by format flag.0 flag.1 >>= as_run input) (λ flag. by_reads (eqb flag.0 0) format input flag.1)
     ∙ sym (bind_bind (number 1 0 1 bytes) (λ flag. outcome_by format flag.0 flag.1) (as_run input))
 
 abbrev as_frame : RunFrame × List ℕ → Read Frame
@@ -220,8 +237,11 @@ as_frame r = Got (frames.Run r.0, r.1)
 run_reads : (layout : Layout) (bytes : List ℕ) → run_at layout bytes ≡ (parts_at layout bytes >>= λ r. Got (frames.Run r.0, r.1))
 unfolding run_at
 run_reads layout bytes =
-    bind_same (input_at layout.events bytes) (λ input. number 1 0 1 input.1 >>= λ flag. cond (eqb flag.0 0) (finished_at layout.format input.0 flag.1) (refused_at input.0 flag.1)) (λ input. with_outcome layout input.0 input.1 >>= as_frame)
-    (λ input. outcome_reads layout.format input.0 input.1 ∙ sym (bind_bind (outcome_at layout.format input.1) (λ outcome. Got (a_run input.0 outcome.0, outcome.1)) as_frame))
+    bind_same (input_at layout.events bytes) (λ input. number 1 0 1 input.1 >>= λ flag.
+    cond (eqb flag.0 0) (finished_at layout.format input.0 flag.1) (refused_at input.0 flag.1))
+    (λ input. with_outcome layout input.0 input.1 >>= as_frame)
+    (λ input. outcome_reads layout.format input.0 input.1 ∙ sym (bind_bind (outcome_at layout.format input.1)
+    (λ outcome. Got (a_run input.0 outcome.0, outcome.1)) as_frame))
     ∙ sym (bind_bind (input_at layout.events bytes) (λ input. with_outcome layout input.0 input.1) as_frame)
 
 -- ---- as a frame
@@ -250,5 +270,7 @@ run_there layout frames.Terminate h = absurd h
 pub run_lawful : (layout : Layout) → layout.events ≤ 65536
     → IsLawful (IsRunFrame layout) (λ f. spelled_run layout (run_of f)) (run_at layout)
 run_lawful layout few =
-    lawful_read (IsRunFrame layout) (λ f. spelled_run layout (run_of f)) (run_at layout) (λ bytes. parts_at layout bytes >>= λ r. Got (frames.Run r.0, r.1)) (run_reads layout)
-    (lawful_map (IsRun layout) (spelled_run layout) (parts_at layout) (IsRunFrame layout) run_of (λ r. frames.Run r) (run_there layout) (λ r h. (h, refl)) (parts_lawful layout few))
+    lawful_read (IsRunFrame layout) (λ f. spelled_run layout (run_of f)) (run_at layout)
+    (λ bytes. parts_at layout bytes >>= λ r. Got (frames.Run r.0, r.1)) (run_reads layout)
+    (lawful_map (IsRun layout) (spelled_run layout) (parts_at layout) (IsRunFrame layout) run_of (λ r. frames.Run r) (run_there layout)
+    (λ r h. (h, refl)) (parts_lawful layout few))

@@ -72,21 +72,25 @@ wide_8 most h = h
 
 pub byte_lawful : (least most : ℕ) → least ≤ most → most ≤ 255 → IsLawful (IsFrom least most) (λ n. n ∷ []) (number 1 least most)
 byte_lawful least most order small =
-    lawful_values (IsFrom least most) (IsFrom least most) (big_endian 1) (λ n. n ∷ []) (number 1 least most) (λ n h. h) (λ n h. (h, sym (byte_is n (omega (arith, h.1)))))
+    lawful_values (IsFrom least most) (IsFrom least most) (big_endian 1) (λ n. n ∷ []) (number 1 least most) (λ n h. h)
+    (λ n h. (h, sym (byte_is n (omega (arith, h.1)))))
     (number_lawful 1 least most order (wide_1 most small))
 
 pub u16_lawful : (least most : ℕ) → least ≤ most → most ≤ 65535 → IsLawful (IsFrom least most) spelled_u16 (number 2 least most)
 u16_lawful least most order small =
-    lawful_values (IsFrom least most) (IsFrom least most) (big_endian 2) spelled_u16 (number 2 least most) (λ n h. h) (λ n h. (h, u16_is n)) (number_lawful 2 least most order (wide_2 most small))
+    lawful_values (IsFrom least most) (IsFrom least most) (big_endian 2) spelled_u16 (number 2 least most) (λ n h. h) (λ n h. (h, u16_is n))
+    (number_lawful 2 least most order (wide_2 most small))
 
 pub u32_lawful : (least most : ℕ) → least ≤ most → most ≤ 4294967295 → IsLawful (IsFrom least most) spelled_u32 (number 4 least most)
 u32_lawful least most order small =
-    lawful_values (IsFrom least most) (IsFrom least most) (big_endian 4) spelled_u32 (number 4 least most) (λ n h. h) (λ n h. (h, u32_is n)) (number_lawful 4 least most order (wide_4 most small))
+    lawful_values (IsFrom least most) (IsFrom least most) (big_endian 4) spelled_u32 (number 4 least most) (λ n h. h) (λ n h. (h, u32_is n))
+    (number_lawful 4 least most order (wide_4 most small))
 
 pub u64_lawful : (least most : ℕ) → least ≤ most → most ≤ 18446744073709551615
     → IsLawful (IsFrom least most) spelled_u64 (number 8 least most)
 u64_lawful least most order small =
-    lawful_values (IsFrom least most) (IsFrom least most) (big_endian 8) spelled_u64 (number 8 least most) (λ n h. h) (λ n h. (h, u64_is n)) (number_lawful 8 least most order (wide_8 most small))
+    lawful_values (IsFrom least most) (IsFrom least most) (big_endian 8) spelled_u64 (number 8 least most) (λ n h. h) (λ n h. (h, u64_is n))
+    (number_lawful 8 least most order (wide_8 most small))
 
 -- ---- raw bytes
 
@@ -102,16 +106,26 @@ raw_lawful n = record {
   again = λ xs rest h.
       let l : n ≤ length (xs ++ rest) = omega (arith, length-append xs rest, h.0) in
       raw_long n (xs ++ rest) l
-      ∙ ap (λ (p : List ℕ × List ℕ). got p) (pair_is (take n (xs ++ rest)) xs (drop n (xs ++ rest)) rest (take_at xs rest n h.0) (drop_at xs rest n h.0));
+      ∙ ap (λ (p : List ℕ × List ℕ). got p) (pair_is (take n (xs ++ rest)) xs (drop n (xs ++ rest)) rest (take_at xs rest n h.0)
+      (drop_at xs rest n h.0));
   sound = λ bytes x are e. elim (cases_lt (length bytes) n) [
     | inl lt ↦ absurd (cc (raw_short n bytes lt))
     | inr le ↦
         let p : (take n bytes, drop n bytes) ≡ x = got_is (take n bytes, drop n bytes) x (sym (raw_long n bytes le) ∙ e) in
-        subst (λ (y : List ℕ × List ℕ). ((length y.0 ≡ n) × AreBytes y.0) × (bytes ≡ y.0 ++ y.1)) p ((omega (arith, length-take n bytes), All-take (λ b. b < 256) n bytes are), sym (take-append-drop n bytes))
+        subst (λ (y : List ℕ × List ℕ). ((length y.0 ≡ n) × AreBytes y.0) × (bytes ≡ y.0 ++ y.1)) p
+        ((omega (arith, length-take n bytes), All-take (λ b. b < 256) n bytes are), sym (take-append-drop n bytes))
   ];
   more = λ bytes are e. elim (cases_lt (length bytes) n) [
     | inl lt ↦ let z =
-        zeros (n - length bytes) in (bytes ++ z.0, z.0, (omega (arith, length-append bytes z.0, z.1), All-append (λ b. b < 256) bytes z.0 are z.2), refl)
+        zeros (n - length bytes) in (
+          bytes ++ z.0,
+          z.0,
+          (
+            omega (arith, length-append bytes z.0, z.1),
+            All-append (λ b. b < 256) bytes z.0 are z.2,
+          ),
+          refl,
+        )
     | inr le ↦ absurd (cc (raw_long n bytes le))
   ];
   bad = λ bytes reason left are e. elim (cases_lt (length bytes) n) [

@@ -73,7 +73,8 @@ are_items : (layout : Layout) (fs : List Frame) (place to : Place) → Follow pl
 are_items layout [] place to h b fields = h
 are_items layout (f ∷ fs) place to h b fields = (
   may_stand layout place f h.0 b (All-head (IsFrame layout.format layout.events) f fs fields),
-  are_items layout fs (after place (items.Frame f)) to h.1 (behind_after layout place f h.0 b) (All-tail (IsFrame layout.format layout.events) f fs fields),
+  are_items layout fs (after place (items.Frame f)) to h.1 (behind_after layout place f h.0 b)
+      (All-tail (IsFrame layout.format layout.events) f fs fields),
 )
 
 follow : (layout : Layout) (fs : List Frame) (place to : Place) → AreItems place (map items.Frame fs) to → IsBehind layout place
@@ -99,7 +100,8 @@ all_spelled layout [] place to h b = refl
 all_spelled layout (f ∷ fs) place to h b =
     let rest = items_spelling (after place (items.Frame f)) (map items.Frame fs) in
     ap (λ (xs : List ℕ). xs ++ rest) (one_spelled layout place f h.0 b)
-    ∙ ap (λ (xs : List ℕ). spelled_frame layout.format f ++ xs) (all_spelled layout fs (after place (items.Frame f)) to h.1 (behind_after layout place f h.0 b))
+    ∙ ap (λ (xs : List ℕ). spelled_frame layout.format f ++ xs) (all_spelled layout fs (after place (items.Frame f)) to h.1
+    (behind_after layout place f h.0 b))
     ∙ sym (flat_map-cons (spelled_frame layout.format) f fs)
 
 -- ---- the frames of a run
@@ -111,7 +113,8 @@ runs_follow layout (r ∷ runs) before few = (omega arith, runs_follow layout ru
 
 run_follows : (layout : Layout) (fs : List Frame) → AreRun fs → Follow (places.Register layout) fs places.End
 run_follows layout fs h =
-    subst (λ (gs : List Frame). Follow (places.Register layout) gs places.End) (sym h.order) (tt, (tt, (tt, runs_follow layout h.runs 0 (omega (arith, h.few)))))
+    subst (λ (gs : List Frame). Follow (places.Register layout) gs places.End) (sym h.order)
+    (tt, (tt, (tt, runs_follow layout h.runs 0 (omega (arith, h.few)))))
 
 -- the runs up to the end
 record AreRuns (before : ℕ) (fs : List Frame) : Type 0 where
@@ -234,6 +237,9 @@ module _ (profile : ProfileValue) (fs : List Frame) (bytes : List ℕ) where
   pub in_order : IsInOrder profile fs bytes
   in_order = record {
     begun = (begun_there, λ h. (begun_back h.0 h.1 h.2).0);
-    whole =
-        ((λ s. there places.End s.0 (run_follows (layout_of profile) fs s.1)), λ h. let b = begun_back places.End h.0 h.1 in (b.0, follows_run (layout_of profile) fs b.1));
+    whole = (
+      (λ s. there places.End s.0 (run_follows (layout_of profile) fs s.1)),
+      λ h. let b = begun_back places.End h.0 h.1 in
+          (b.0, follows_run (layout_of profile) fs b.1),
+    );
   }

@@ -75,7 +75,9 @@ only_many : {A : Type 0} (item : List ℕ → Read A) → OnlyRange item → (n 
 unfolding many
 only_many item h zero = record { only = λ bytes reason left e. absurd cc }
 only_many item h (suc n) =
-    let t = only_then item (λ first bytes. many item n bytes >>= λ others. Got (first ∷ others.0, others.1)) h (λ first. only_then (many item n) (λ others bytes. Got (first ∷ others, bytes)) (only_many item h n) (λ others. only_give (first ∷ others))) in
+    let t = only_then item (λ first bytes. many item n bytes >>= λ others. Got (first ∷ others.0, others.1)) h
+    (λ first. only_then (many item n) (λ others bytes. Got (first ∷ others, bytes)) (only_many item h n)
+    (λ others. only_give (first ∷ others))) in
     record { only = t.only }
 
 pub only_number : (width least most : ℕ) → OnlyRange (number width least most)
@@ -90,7 +92,8 @@ only_signed =
 only_sample_value : OnlyRange sample_value_at
 unfolding sample_value_at
 only_sample_value =
-    only_then (number_from (Around 1000000000000) 8 0) (λ n bytes. Got (cast_signed w64 n, bytes)) (only_number_from (Around 1000000000000) 8 0) (λ n.
+    only_then (number_from (Around 1000000000000) 8 0) (λ n bytes. Got (cast_signed w64 n, bytes))
+    (only_number_from (Around 1000000000000) 8 0) (λ n.
     only_give (cast_signed w64 n))
 
 only_string : (width most : ℕ) → OnlyRange (string_at width most)
@@ -126,9 +129,12 @@ only_policy Two = only_then (number 1 0 1) (λ n bytes. Got (policy_of n, bytes)
 only_event : (format : Format) → OnlyRange (event_at format)
 unfolding event_at
 only_event format =
-    only_then (number 2 1 1024) (λ capacity bytes. name_at bytes >>= λ name. policy_at format name.1 >>= λ policy. Got (record { capacity = capacity; name = name.0; policy = policy.0 }, policy.1)) (only_number 2 1 1024) (λ capacity.
-    only_then (name_at) (λ name bytes. policy_at format bytes >>= λ policy. Got (record { capacity = capacity; name = name; policy = policy.0 }, policy.1)) (only_name) (λ name.
-    only_then (policy_at format) (λ policy bytes. Got (record { capacity = capacity; name = name; policy = policy }, bytes)) (only_policy format) (λ policy.
+    only_then (number 2 1 1024) (λ capacity bytes. name_at bytes >>= λ name. policy_at format name.1 >>= λ policy.
+    Got (record { capacity = capacity; name = name.0; policy = policy.0 }, policy.1)) (only_number 2 1 1024) (λ capacity.
+    only_then (name_at) (λ name bytes. policy_at format bytes >>= λ policy.
+    Got (record { capacity = capacity; name = name; policy = policy.0 }, policy.1)) (only_name) (λ name.
+    only_then (policy_at format) (λ policy bytes. Got (record { capacity = capacity; name = name; policy = policy }, bytes))
+    (only_policy format) (λ policy.
     only_give (record { capacity = capacity; name = name; policy = policy }))))
 
 pub only_params : OnlyRange params_at
@@ -151,45 +157,65 @@ only_element = only_string 2 64
 only_drawn : (format : Format) → OnlyRange (drawn_at format)
 unfolding drawn_at
 only_drawn One =
-    only_then element_at (λ e bytes. Got (record { bytes = e; draws = 0 }, bytes)) only_element (λ e. only_give (record { bytes = e; draws = 0 }))
+    only_then element_at (λ e bytes. Got (record { bytes = e; draws = 0 }, bytes)) only_element
+    (λ e. only_give (record { bytes = e; draws = 0 }))
 only_drawn Two =
     only_then element_at (λ e bytes. number 4 0 4294967295 bytes >>= λ d. Got (record { bytes = e; draws = d.0 }, d.1)) only_element (λ e.
-    only_then (number 4 0 4294967295) (λ d bytes. Got (record { bytes = e; draws = d }, bytes)) (only_number 4 0 4294967295) (λ d. only_give (record { bytes = e; draws = d })))
+    only_then (number 4 0 4294967295) (λ d bytes. Got (record { bytes = e; draws = d }, bytes)) (only_number 4 0 4294967295)
+    (λ d. only_give (record { bytes = e; draws = d })))
 
 only_time : OnlyRange time_at
 unfolding time_at
 only_time =
-    only_then (number 1 0 1) (λ flag bytes. cond (eqb flag 0) (Got (None, bytes)) (number 8 0 18446744073709551615 bytes >>= λ t. Got (Some t.0, t.1))) (only_number 1 0 1) (λ flag.
-    only_if (eqb flag 0) (λ bytes. Got (None, bytes)) (λ bytes. number 8 0 18446744073709551615 bytes >>= λ t. Got (Some t.0, t.1)) (only_give None)
-    (only_then (number 8 0 18446744073709551615) (λ t bytes. Got (Some t, bytes)) (only_number 8 0 18446744073709551615) (λ t. only_give (Some t))))
+    only_then (number 1 0 1) (λ flag bytes. cond (eqb flag 0) (Got (None, bytes))
+    (number 8 0 18446744073709551615 bytes >>= λ t. Got (Some t.0, t.1))) (only_number 1 0 1) (λ flag.
+    only_if (eqb flag 0) (λ bytes. Got (None, bytes)) (λ bytes. number 8 0 18446744073709551615 bytes >>= λ t. Got (Some t.0, t.1))
+    (only_give None)
+    (only_then (number 8 0 18446744073709551615) (λ t bytes. Got (Some t, bytes)) (only_number 8 0 18446744073709551615)
+    (λ t. only_give (Some t))))
 
 only_sample : (events : ℕ) → OnlyRange (sample_at events)
 unfolding sample_at
 only_sample events =
-    only_then (number 2 0 (events - 1)) (λ event bytes. sample_value_at bytes >>= λ value. Got (record { event = event; value = value.0 }, value.1)) (only_number 2 0 (events - 1)) (λ event.
+    only_then (number 2 0 (events - 1)) (λ event bytes. sample_value_at bytes >>= λ value.
+    Got (record { event = event; value = value.0 }, value.1)) (only_number 2 0 (events - 1)) (λ event.
     only_then (sample_value_at) (λ value bytes. Got (record { event = event; value = value }, bytes)) (only_sample_value) (λ value.
     only_give (record { event = event; value = value })))
 
 only_samples : (events : ℕ) → OnlyRange (samples_at events)
 unfolding samples_at
 only_samples events =
-    only_then (number 4 0 (most_samples events)) (λ count bytes. many (sample_at events) count bytes) (only_number 4 0 (most_samples events)) (λ count.
+    only_then (number 4 0 (most_samples events)) (λ count bytes. many (sample_at events) count bytes)
+    (only_number 4 0 (most_samples events)) (λ count.
     only_many (sample_at events) (only_sample events) count)
 
 only_input : (events : ℕ) → OnlyRange (input_at events)
 unfolding input_at
 only_input events =
-    only_then (time_at) (λ time bytes. samples_at events bytes >>= λ samples. Got (record { time = time; samples = samples.0 }, samples.1)) (only_time) (λ time.
-    only_then (samples_at events) (λ samples bytes. Got (record { time = time; samples = samples }, bytes)) (only_samples events) (λ samples.
+    only_then (time_at) (λ time bytes. samples_at events bytes >>= λ samples. Got (record { time = time; samples = samples.0 }, samples.1))
+    (only_time) (λ time.
+    only_then (samples_at events) (λ samples bytes. Got (record { time = time; samples = samples }, bytes)) (only_samples events)
+    (λ samples.
     only_give (record { time = time; samples = samples })))
 
 only_refusal : OnlyRange refusal_at
 unfolding refusal_at
 only_refusal =
-    only_then (number 1 0 2) (λ phase bytes. number 1 0 (most_pass (phase_of phase)) bytes >>= λ pass. number 4 0 (most_element (phase_of phase)) pass.1 >>= λ element. number 4 0 4294967295 element.1 >>= λ code. Got (record { phase = phase_of phase; pass = pass.0; element = element.0; code = code.0 }, code.1)) (only_number 1 0 2) (λ phase.
-    only_then (number 1 0 (most_pass (phase_of phase))) (λ pass bytes. number 4 0 (most_element (phase_of phase)) bytes >>= λ element. number 4 0 4294967295 element.1 >>= λ code. Got (record { phase = phase_of phase; pass = pass; element = element.0; code = code.0 }, code.1)) (only_number 1 0 (most_pass (phase_of phase))) (λ pass.
-    only_then (number 4 0 (most_element (phase_of phase))) (λ element bytes. number 4 0 4294967295 bytes >>= λ code. Got (record { phase = phase_of phase; pass = pass; element = element; code = code.0 }, code.1)) (only_number 4 0 (most_element (phase_of phase))) (λ element.
-    only_then (number 4 0 4294967295) (λ code bytes. Got (record { phase = phase_of phase; pass = pass; element = element; code = code }, bytes)) (only_number 4 0 4294967295) (λ code.
+    only_then (number 1 0 2) (λ phase bytes. number 1 0 (most_pass (phase_of phase)) bytes >>= λ pass.
+    number 4 0 (most_element (phase_of phase)) pass.1 >>= λ element. number 4 0 4294967295 element.1 >>= λ code.
+    Got (record { phase = phase_of phase; pass = pass.0; element = element.0; code = code.0 }, code.1)) (only_number 1 0 2) (λ phase.
+    only_then (number 1 0 (most_pass (phase_of phase))) (λ pass bytes. number 4 0 (most_element (phase_of phase)) bytes >>= λ element.
+    number 4 0 4294967295 element.1 >>= λ code. Got (
+      record { phase = phase_of phase; pass = pass; element = element.0; code = code.0 },
+      code.1,
+    )) (only_number 1 0 (most_pass (phase_of phase))) (λ pass.
+    only_then (number 4 0 (most_element (phase_of phase))) (λ element bytes. number 4 0 4294967295 bytes >>= λ code.
+    Got (record { phase = phase_of phase; pass = pass; element = element; code = code.0 }, code.1))
+    (only_number 4 0 (most_element (phase_of phase))) (λ element.
+    only_then (number 4 0 4294967295) (λ code bytes. Got (
+      record { phase = phase_of phase; pass = pass; element = element; code = code },
+      bytes,
+    )) (only_number 4 0 4294967295) (λ code.
     only_give (record { phase = phase_of phase; pass = pass; element = element; code = code })))))
 
 only_front : {A : Type 0} (item : List ℕ → Read A) → OnlyRange item → (front : List A) (n : ℕ)
@@ -200,7 +226,8 @@ only_front item h front n =
 only_init_from : (done : List (List ℕ)) (left : ℕ) → OnlyRange (init_from done left)
 unfolding init_from
 only_init_from done left =
-    only_then (λ bytes. with_front done (many element_at left bytes)) (λ es bytes. Got (frames.Init es, bytes)) (only_front element_at only_element done left) (λ es. only_give (frames.Init es))
+    only_then (λ bytes. with_front done (many element_at left bytes)) (λ es bytes. Got (frames.Init es, bytes))
+    (only_front element_at only_element done left) (λ es. only_give (frames.Init es))
 
 abbrev finished : CycleInput → List DrawnElement → List ℕ → Frame
 finished input elements output = frames.Run (record { input = input; outcome = Finished elements output })
@@ -209,8 +236,11 @@ only_finished_from : (format : Format) (input : CycleInput) (done : List DrawnEl
     → OnlyRange (finished_from format input done left)
 unfolding finished_from
 only_finished_from format input done left =
-    only_then (λ bytes. with_front done (many (drawn_at format) left bytes)) (λ es bytes. string_at 4 1048576 bytes >>= λ out. Got (finished input es out.0, out.1)) (only_front (drawn_at format) (only_drawn format) done left) (λ es.
-    only_then (string_at 4 1048576) (λ out bytes. Got (finished input es out, bytes)) (only_string 4 1048576) (λ out. only_give (finished input es out)))
+    only_then (λ bytes. with_front done (many (drawn_at format) left bytes))
+    (λ es bytes. string_at 4 1048576 bytes >>= λ out. Got (finished input es out.0, out.1))
+    (only_front (drawn_at format) (only_drawn format) done left) (λ es.
+    only_then (string_at 4 1048576) (λ out bytes. Got (finished input es out, bytes)) (only_string 4 1048576)
+    (λ out. only_give (finished input es out)))
 
 pub only_init : OnlyRange init_at
 unfolding init_at
@@ -220,16 +250,20 @@ only_init =
 only_finished : (format : Format) (input : CycleInput) → OnlyRange (finished_at format input)
 unfolding finished_at
 only_finished format input =
-    only_then (number 4 0 65536) (λ count bytes. finished_from format input [] count bytes) (only_number 4 0 65536) (λ count. only_finished_from format input [] count)
+    only_then (number 4 0 65536) (λ count bytes. finished_from format input [] count bytes) (only_number 4 0 65536)
+    (λ count. only_finished_from format input [] count)
 
 only_refused : (input : CycleInput) → OnlyRange (refused_at input)
 unfolding refused_at
 only_refused input =
-    only_then refusal_at (λ at bytes. Got (frames.Run (record { input = input; outcome = Refused at }), bytes)) only_refusal (λ at. only_give (frames.Run (record { input = input; outcome = Refused at })))
+    only_then refusal_at (λ at bytes. Got (frames.Run (record { input = input; outcome = Refused at }), bytes)) only_refusal
+    (λ at. only_give (frames.Run (record { input = input; outcome = Refused at })))
 
 pub only_run : (layout : Layout) → OnlyRange (run_at layout)
 unfolding run_at
 only_run layout =
-    only_then (input_at layout.events) (λ input bytes. number 1 0 1 bytes >>= λ flag. cond (eqb flag.0 0) (finished_at layout.format input flag.1) (refused_at input flag.1)) (only_input layout.events) (λ input.
-    only_then (number 1 0 1) (λ flag bytes. cond (eqb flag 0) (finished_at layout.format input bytes) (refused_at input bytes)) (only_number 1 0 1) (λ flag.
+    only_then (input_at layout.events) (λ input bytes. number 1 0 1 bytes >>= λ flag.
+    cond (eqb flag.0 0) (finished_at layout.format input flag.1) (refused_at input flag.1)) (only_input layout.events) (λ input.
+    only_then (number 1 0 1) (λ flag bytes. cond (eqb flag 0) (finished_at layout.format input bytes) (refused_at input bytes))
+    (only_number 1 0 1) (λ flag.
     only_if (eqb flag 0) (finished_at layout.format input) (refused_at input) (only_finished layout.format input) (only_refused input)))

@@ -61,9 +61,13 @@ bare_says true f bytes first reason left e = absurd cc
 bare_says false f bytes first reason left e = says_first bytes first reason left e
 
 runs_say : (layout : Layout) (before b : ℕ) (bytes : List ℕ) (reason : Reason) (left : ℕ) (four : Bool)
-    → cond four (cond (ltb before 1000000) (run_at layout bytes) (bad TooMany (suc (length bytes)))) (cond (eqb b 5) (Got (frames.Terminate, bytes)) (bad (tag_reason b) (suc (length bytes)))) ≡ Bad reason left → Says bytes (cond four TooMany (tag_reason b)) reason left
+    → cond four (cond (ltb before 1000000) (run_at layout bytes) (bad TooMany (suc (length bytes))))
+    (cond (eqb b 5) (Got (frames.Terminate, bytes)) (bad (tag_reason b) (suc (length bytes)))) ≡ Bad reason left
+    → Says bytes (cond four TooMany (tag_reason b)) reason left
 runs_say layout before b bytes reason left true e =
-    says_if (ltb before 1000000) bytes TooMany (run_at layout bytes) (bad TooMany (suc (length bytes))) reason left (says_behind bytes TooMany (run_at layout) reason left (only_run layout) (run_steady layout)) (says_first bytes TooMany reason left) e
+    says_if (ltb before 1000000) bytes TooMany (run_at layout bytes) (bad TooMany (suc (length bytes))) reason left
+    (says_behind bytes TooMany (run_at layout) reason left (only_run layout) (run_steady layout)) (says_first bytes TooMany reason left)
+    e
 runs_say layout before b bytes reason left false e = bare_says (eqb b 5) frames.Terminate bytes (tag_reason b) reason left e
 
 tagged_says : (place : Place) (b : ℕ) (bytes : List ℕ) (reason : Reason) (left : ℕ) → tagged_at place b bytes ≡ Bad reason left
@@ -73,7 +77,8 @@ tagged_says places.Header b bytes reason left e = absurd cc
 tagged_says (places.Register layout) b bytes reason left e = bare_says (eqb b 1) frames.Register bytes (tag_reason b) reason left e
 tagged_says (places.Discover layout) b bytes reason left e = bare_says (eqb b 2) frames.Discover bytes (tag_reason b) reason left e
 tagged_says (places.Init layout) b bytes reason left e =
-    says_if (eqb b 3) bytes (tag_reason b) (init_at bytes) (bad (tag_reason b) (suc (length bytes))) reason left (says_behind bytes (tag_reason b) init_at reason left only_init init_steady) (says_first bytes (tag_reason b) reason left) e
+    says_if (eqb b 3) bytes (tag_reason b) (init_at bytes) (bad (tag_reason b) (suc (length bytes))) reason left
+    (says_behind bytes (tag_reason b) init_at reason left only_init init_steady) (says_first bytes (tag_reason b) reason left) e
 tagged_says (places.Runs layout before) b bytes reason left e = runs_say layout before b bytes reason left (eqb b 4) e
 tagged_says places.End b bytes reason left e = says_first bytes Trailing reason left e
 
@@ -131,7 +136,8 @@ byte_says : {A : Type 0} (t : Bool) (a : A) (bytes : List ℕ) (why reason : Rea
     → cond t (Got (a, bytes)) (bad why (suc (length bytes))) ≡ Bad reason left → (reason ≡ why) × (left ≤ suc (length bytes))
     × (suc (length bytes) < left + 1)
 byte_says true a bytes why reason left e = absurd cc
-byte_says {A = A} false a bytes why reason left e = let p = bad_is {A = A} why reason (suc (length bytes)) left e in (sym p.0, omega (arith, p.1), omega (arith, p.1))
+byte_says {A = A} false a bytes why reason left e = let p = bad_is {A = A} why reason (suc (length bytes)) left e in
+    (sym p.0, omega (arith, p.1), omega (arith, p.1))
 
 exactly_field : (why : Reason) (k : ℕ) → IsField 1 why (exactly_at why k)
 exactly_field why k = record { takes = takes; says = says }
@@ -161,7 +167,8 @@ magic_field =
     field_then 1 5 Magic (exactly_at Magic 68) (λ d. behind_d) (exactly_field Magic 68) (λ d.
     field_then 1 4 Magic (exactly_at Magic 69) (λ e bytes. exactly_at Magic 84 bytes >>= λ t. behind_t t.1) (exactly_field Magic 69) (λ e.
     field_then 1 3 Magic (exactly_at Magic 84) (λ t. behind_t) (exactly_field Magic 84) (λ t.
-    field_then 1 2 Magic (exactly_at Magic 82) (λ r bytes. exactly_at Magic 69 bytes >>= λ f. exactly_at Magic 67 f.1) (exactly_field Magic 82) (λ r.
+    field_then 1 2 Magic (exactly_at Magic 82) (λ r bytes. exactly_at Magic 69 bytes >>= λ f. exactly_at Magic 67 f.1)
+    (exactly_field Magic 82) (λ r.
     field_then 1 1 Magic (exactly_at Magic 69) (λ f. exactly_at Magic 67) (exactly_field Magic 69) (λ f. exactly_field Magic 67))))))
 
 format_takes : (one two : Bool) (bytes : List ℕ) (left : ℕ) (x : Format × List ℕ)
@@ -200,7 +207,8 @@ job_only format =
     only_then (number 8 0 18446744073709551615) (from_cycle format job) (only_number 8 0 18446744073709551615) (λ seed.
     only_then (number 8 1 9223372036854775807) (from_params format job seed) (only_number 8 1 9223372036854775807) (λ cycle.
     only_then params_at (from_events format job seed cycle) only_params (λ params.
-    only_then (events_at format) (λ events bytes. Got (a_profile format job seed cycle params events, bytes)) (only_events format) (λ events.
+    only_then (events_at format) (λ events bytes. Got (a_profile format job seed cycle params events, bytes)) (only_events format)
+    (λ events.
     only_give (a_profile format job seed cycle params events))))))
 
 job_steady : (format : Format) → IsSteady 0 (from_job format)
@@ -209,7 +217,8 @@ job_steady format =
     steady_then 0 (number 8 0 18446744073709551615) (from_cycle format job) (number_steady 8 0 18446744073709551615) (λ seed.
     steady_then 0 (number 8 1 9223372036854775807) (from_params format job seed) (number_steady 8 1 9223372036854775807) (λ cycle.
     steady_then 0 params_at (from_events format job seed cycle) params_steady (λ params.
-    steady_then 0 (events_at format) (λ events bytes. Got (a_profile format job seed cycle params events, bytes)) (events_steady format) (λ events.
+    steady_then 0 (events_at format) (λ events bytes. Got (a_profile format job seed cycle params events, bytes)) (events_steady format)
+    (λ events.
     steady_give 0 (a_profile format job seed cycle params events))))))
 
 -- by the number of bytes before the faulty one

@@ -74,7 +74,8 @@ bad_never_whole (g ∷ given) place to bytes rest [] reason left h b k =
     absurd (cc (e, h.1))
 bad_never_whole (g ∷ given) place to bytes rest (x ∷ xs) reason left h b k =
     let p = got_is (g, h.0) (x, k.0) (sym h.1 ∙ k.1) in
-    bad_never_whole given (after place g) to h.0 rest xs reason left h.2 b (subst (λ (q : Item × List ℕ). Leads (after place q.0) q.1 xs places.End []) (sym p) k.2)
+    bad_never_whole given (after place g) to h.0 rest xs reason left h.2 b
+    (subst (λ (q : Item × List ℕ). Leads (after place q.0) q.1 xs places.End []) (sym p) k.2)
 
 same_stop : (given xs : List Item) (place to end : Place) (bytes rest others : List ℕ) → Leads place bytes given to rest → item_at to rest
     ≡ More → Leads place bytes xs end others → item_at end others ≡ More → (to ≡ end) × (rest ≡ others)
@@ -87,7 +88,8 @@ same_stop (g ∷ given) [] place to end bytes rest others h m k n =
     absurd (cc (e, h.1))
 same_stop (g ∷ given) (x ∷ xs) place to end bytes rest others h m k n =
     let p = got_is (g, h.0) (x, k.0) (sym h.1 ∙ k.1) in
-    same_stop given xs (after place g) to end h.0 rest others h.2 m (subst (λ (q : Item × List ℕ). Leads (after place q.0) q.1 xs end others) (sym p) k.2) n
+    same_stop given xs (after place g) to end h.0 rest others h.2 m (subst
+    (λ (q : Item × List ℕ). Leads (after place q.0) q.1 xs end others) (sym p) k.2) n
 
 -- no other items lead further
 no_longer : (given : List Item) (place to : Place) (bytes rest : List ℕ) (ys : List Item) (end : Place) (others : List ℕ)
@@ -101,7 +103,8 @@ no_longer [] place to bytes rest (y ∷ ys) end others h stuck k =
     ]
 no_longer (g ∷ given) place to bytes rest (y ∷ ys) end others h stuck k =
     let p = got_is (y, k.0) (g, h.0) (sym k.1 ∙ h.1) in
-    let i : length ys ≤ length given = no_longer given (after place g) to h.0 rest ys end others h.2 stuck (subst (λ (q : Item × List ℕ). Leads (after place q.0) q.1 ys end others) p k.2) in
+    let i : length ys ≤ length given = no_longer given (after place g) to h.0 rest ys end others h.2 stuck
+    (subst (λ (q : Item × List ℕ). Leads (after place q.0) q.1 ys end others) p k.2) in
     omega arith
 
 -- ---- what is spelled is read, and the other way round
@@ -122,14 +125,19 @@ leads_spelled [] place to bytes rest few are h = (h.0, h.1)
 leads_spelled (x ∷ xs) place to bytes rest few are h =
     let ne : place ≡ places.End → ⊥ = λ e. end_never bytes (x, h.0) (ap (λ (p : Place). item_at p bytes) (sym e) ∙ h.1) in
     let s = (item_lawful place ne (few_fit place few)).sound bytes (x, h.0) are h.1 in
-    let i = leads_spelled xs (after place x) to h.0 rest (few_after place x s.0 few) (AreBytes-rest bytes (item_spelling place x) h.0 s.1 are) h.2 in
-    ((s.0, i.0), s.1 ∙ ap (λ (b : List ℕ). item_spelling place x ++ b) i.1 ∙ sym (append_assoc (item_spelling place x) (items_spelling (after place x) xs) rest))
+    let i = leads_spelled xs (after place x) to h.0 rest (few_after place x s.0 few)
+    (AreBytes-rest bytes (item_spelling place x) h.0 s.1 are) h.2 in (
+      (s.0, i.0),
+      s.1 ∙ ap (λ (b : List ℕ). item_spelling place x ++ b) i.1
+          ∙ sym (append_assoc (item_spelling place x) (items_spelling (after place x) xs) rest),
+    )
 
 -- the bytes of a list of items lead to its end
 pub all_leads_on : (xs : List Item) (to : Place) (bytes : List ℕ) → AreItems places.Header xs to → bytes ≡ items_spelling places.Header xs
     → Leads places.Header bytes xs to []
 all_leads_on xs to bytes h e =
-    subst (λ (b : List ℕ). Leads places.Header b xs to []) (append-nil (items_spelling places.Header xs) ∙ sym e) (spelled_leads xs places.Header to [] tt h)
+    subst (λ (b : List ℕ). Leads places.Header b xs to []) (append-nil (items_spelling places.Header xs) ∙ sym e)
+    (spelled_leads xs places.Header to [] tt h)
 
 -- where more is needed, some whole record goes on from there
 begins : (given : List Item) (to : Place) (bytes rest : List ℕ) → AreBytes bytes → Leads places.Header bytes given to rest → item_at to rest
@@ -138,10 +146,18 @@ begins given to bytes rest are h e =
     let s = leads_spelled given places.Header to bytes rest tt are h in
     elim (is_end to) [
       | inl at ↦
-          let none : rest ≡ [] = end_stuck rest (ap (λ (p : Place). item_at p rest) (sym at) ∙ e) in
-          ([], (given, subst (λ (p : Place). AreItems places.Header given p) at s.0, append-nil bytes ∙ s.1 ∙ ap (λ (xs : List ℕ). items_spelling places.Header given ++ xs) none ∙ append-nil (items_spelling places.Header given)))
+          let none : rest ≡ [] = end_stuck rest (ap (λ (p : Place). item_at p rest) (sym at) ∙ e) in (
+            [],
+            (
+              given,
+              subst (λ (p : Place). AreItems places.Header given p) at s.0,
+              append-nil bytes ∙ s.1
+                  ∙ ap (λ (xs : List ℕ). items_spelling places.Header given ++ xs) none ∙ append-nil (items_spelling places.Header given),
+            ),
+          )
       | inr ne ↦
-          let m = (item_lawful to ne (few_fit to (few_along given places.Header to s.0 tt))).more rest (AreBytes-rest bytes (items_spelling places.Header given) rest s.1 are) e in
+          let m = (item_lawful to ne (few_fit to (few_along given places.Header to s.0 tt))).more rest
+          (AreBytes-rest bytes (items_spelling places.Header given) rest s.1 are) e in
           let c = completed (after to m.0) in
           let last = items_spelling (after to m.0) c.0 in (
             m.1 ++ last,
@@ -150,7 +166,8 @@ begins given to bytes rest are h e =
               items_append given places.Header to places.End (m.0 ∷ c.0) s.0 (m.2, c.1),
               ap (λ (xs : List ℕ). xs ++ (m.1 ++ last)) s.1
                   ∙ append_assoc (items_spelling places.Header given) rest (m.1 ++ last)
-                  ∙ ap (λ (xs : List ℕ). items_spelling places.Header given ++ xs) (sym (append_assoc rest m.1 last) ∙ ap (λ (xs : List ℕ). xs ++ last) m.3)
+                  ∙ ap (λ (xs : List ℕ). items_spelling places.Header given ++ xs)
+                  (sym (append_assoc rest m.1 last) ∙ ap (λ (xs : List ℕ). xs ++ last) m.3)
                   ∙ sym (spelling_append given places.Header to (m.0 ∷ c.0) s.0),
             ),
           )
@@ -178,13 +195,16 @@ refused given to bytes rest reason left are h e r =
       r.behind,
       parts,
       r.counted,
-      begins given to (all ++ r.before) r.before (AreBytes-front (all ++ r.before) (r.byte ∷ r.behind) (subst AreBytes parts are)) (spelled_leads given places.Header to r.before tt s.0) r.goes_on,
+      begins given to (all ++ r.before) r.before (AreBytes-front (all ++ r.before) (r.byte ∷ r.behind) (subst AreBytes parts are))
+          (spelled_leads given places.Header to r.before tt s.0) r.goes_on,
       (λ goes.
           let w = goes.1 in
           let same : items_spelling places.Header w.0 ≡ all ++ (r.before ++ r.byte ∷ goes.0) =
           sym w.2 ∙ append_assoc (all ++ r.before) (r.byte ∷ []) goes.0 ∙ append_assoc all r.before (r.byte ∷ goes.0) in
-          let here : Leads places.Header (all ++ (r.before ++ r.byte ∷ goes.0)) given to (r.before ++ r.byte ∷ goes.0) = spelled_leads given places.Header to (r.before ++ r.byte ∷ goes.0) tt s.0 in
-          bad_never_whole given places.Header to (all ++ (r.before ++ r.byte ∷ goes.0)) (r.before ++ r.byte ∷ goes.0) w.0 reason (suc (length goes.0)) here (r.refused goes.0)
+          let here : Leads places.Header (all ++ (r.before ++ r.byte ∷ goes.0)) given to (r.before ++ r.byte ∷ goes.0) =
+          spelled_leads given places.Header to (r.before ++ r.byte ∷ goes.0) tt s.0 in
+          bad_never_whole given places.Header to (all ++ (r.before ++ r.byte ∷ goes.0)) (r.before ++ r.byte ∷ goes.0) w.0 reason
+          (suc (length goes.0)) here (r.refused goes.0)
           (all_leads_on w.0 places.End (all ++ (r.before ++ r.byte ∷ goes.0)) w.1 (sym same))),
       refl,
       refl,
@@ -196,22 +216,41 @@ unfolding item_at frame_at tagged_at
 end_refused [] reason left e = absurd cc
 end_refused (b ∷ bytes) reason left e =
     let p = bad_is {A = Item} Trailing reason (suc (length bytes)) left e in
-    record { before = []; byte = b; behind = bytes; parts = refl; counted = sym p.1; goes_on = refl; refused = λ other. ap (λ (r : Reason). bad {A = Item} r (suc (length other))) p.0 }
+    record {
+      before = [];
+      byte = b;
+      behind = bytes;
+      parts = refl;
+      counted = sym p.1;
+      goes_on = refl;
+      refused = λ other. ap (λ (r : Reason). bad {A = Item} r (suc (length other))) p.0;
+    }
 
 refused_at : (to : Place) (rest : List ℕ) (reason : Reason) (left : ℕ) → FewEvents to → AreBytes rest → item_at to rest ≡ Bad reason left
     → IsRefused (item_at to) rest reason left
 refused_at to rest reason left few are e =
     elim (is_end to) [
-      | inl at ↦ subst (λ (p : Place). IsRefused (item_at p) rest reason left) (sym at) (end_refused rest reason left (ap (λ (p : Place). item_at p rest) (sym at) ∙ e))
+      | inl at ↦ subst (λ (p : Place). IsRefused (item_at p) rest reason left) (sym at)
+          (end_refused rest reason left (ap (λ (p : Place). item_at p rest) (sym at) ∙ e))
       | inr ne ↦ (item_lawful to ne (few_fit to few)).bad rest reason left are e
     ]
 
 why_header : (rest : List ℕ) (byte : ℕ) (reason : Reason) → item_at places.Header rest ≡ More → (len : ℕ) → len
     ≡ length rest + length (byte ∷ []) → HeaderSays len 1 reason → IsReason rest byte reason
 why_header rest byte reason m len l (in_magic r lt) =
-    record { magic = λ h. r; version = λ h k. absurd (omega arith); tag = λ h xs to items e. absurd (omega arith); field = λ h none. absurd (omega arith) }
+    record {
+      magic = λ h. r;
+      version = λ h k. absurd (omega arith);
+      tag = λ h xs to items e. absurd (omega arith);
+      field = λ h none. absurd (omega arith);
+    }
 why_header rest byte reason m len l (in_version r le lt) =
-    record { magic = λ h. absurd (omega arith); version = λ h k. r; tag = λ h xs to items e. absurd (omega arith); field = λ h none. absurd (omega arith) }
+    record {
+      magic = λ h. absurd (omega arith);
+      version = λ h k. r;
+      tag = λ h xs to items e. absurd (omega arith);
+      field = λ h none. absurd (omega arith);
+    }
 why_header rest byte reason m len l (behind r le) = record {
   magic = λ h. absurd (omega arith);
   version = λ h k. absurd (omega arith);
@@ -228,7 +267,8 @@ why_tag : (given : List Item) (to : Place) (rest : List ℕ) (byte : ℕ) (reaso
     ≡ items_spelling places.Header xs → reason ≡ tag_reason_at end byte
 why_tag given to rest byte reason items m b ne xs end others e =
     let bytes = items_spelling places.Header given ++ rest in
-    let s = same_stop given xs places.Header to end bytes rest [] (spelled_leads given places.Header to rest tt items) m (all_leads_on xs end bytes others e) (nil_more end) in
+    let s = same_stop given xs places.Header to end bytes rest [] (spelled_leads given places.Header to rest tt items) m
+    (all_leads_on xs end bytes others e) (nil_more end) in
     let f : item_at to (byte ∷ []) ≡ Bad reason 1 = ap (λ (c : List ℕ). item_at to (c ++ byte ∷ [])) (sym s.1) ∙ b in
     elim (frame_says to byte [] reason 1 ne f) [
       | inl g ↦ g.0 ∙ ap (λ (p : Place). tag_reason_at p byte) s.0
@@ -237,7 +277,8 @@ why_tag given to rest byte reason items m b ne xs end others e =
 
 why_field : (given : List Item) (to : Place) (rest : List ℕ) (byte : ℕ) (reason : Reason) → AreItems places.Header given to
     → item_at to (rest ++ byte ∷ []) ≡ Bad reason 1 → (to ≡ places.Header → ⊥)
-    → ((xs : List Item) (end : Place) → AreItems places.Header xs end → items_spelling places.Header given ++ rest ≡ items_spelling places.Header xs → ⊥) → reason ≡ Range
+    → ((xs : List Item) (end : Place) → AreItems places.Header xs end → items_spelling places.Header given
+    ++ rest ≡ items_spelling places.Header xs → ⊥) → reason ≡ Range
 why_field given to [] byte reason items b ne none = absurd (none given to items (append-nil (items_spelling places.Header given)))
 why_field given to (c ∷ cs) byte reason items b ne none =
     elim (frame_says to c (cs ++ byte ∷ []) reason 1 ne b) [
@@ -255,7 +296,9 @@ why given to rest byte reason items m b =
           let m0 : item_at places.Header rest ≡ More = ap (λ (p : Place). item_at p rest) (sym at) ∙ m in
           let b0 : item_at places.Header (rest ++ byte ∷ []) ≡ Bad reason 1 = ap (λ (p : Place). item_at p (rest ++ byte ∷ [])) (sym at)
           ∙ b in
-          subst (λ (xs : List Item). IsReason (items_spelling places.Header xs ++ rest) byte reason) (sym none) (why_header rest byte reason m0 (length (rest ++ byte ∷ [])) (length-append rest (byte ∷ [])) (header_says (rest ++ byte ∷ []) reason 1 b0))
+          subst (λ (xs : List Item). IsReason (items_spelling places.Header xs ++ rest) byte reason) (sym none)
+          (why_header rest byte reason m0 (length (rest ++ byte ∷ [])) (length-append rest (byte ∷ []))
+          (header_says (rest ++ byte ∷ []) reason 1 b0))
       | inr ne ↦
           let long : 8 ≤ length (items_spelling places.Header given ++ rest) = long_enough given to rest items ne in
           record {
@@ -284,7 +327,8 @@ ended len (places.Init layout) e = absurd cc
 ended len (places.Runs layout before) e = absurd cc
 ended len places.End e = refl
 
-module _ (bytes : List ℕ) (are : AreBytes bytes) (given : List Item) (to : Place) (rest : List ℕ) (h : Leads places.Header bytes given to rest) where
+module _ (bytes : List ℕ) (are : AreBytes bytes) (given : List Item) (to : Place) (rest : List ℕ)
+    (h : Leads places.Header bytes given to rest) where
   parts : AreItems places.Header given to × (bytes ≡ items_spelling places.Header given ++ rest)
   parts = leads_spelled given places.Header to bytes rest tt are h
 
@@ -295,7 +339,8 @@ module _ (bytes : List ℕ) (are : AreBytes bytes) (given : List Item) (to : Pla
     items = parts.0;
     spelling = parts.1;
     longest =
-        λ ys end others ay sy. no_longer given places.Header to bytes rest ys end others h stuck (subst (λ (b : List ℕ). Leads places.Header b ys end others) (sym sy) (spelled_leads ys places.Header end others tt ay));
+        λ ys end others ay sy. no_longer given places.Header to bytes rest ys end others h stuck
+        (subst (λ (b : List ℕ). Leads places.Header b ys end others) (sym sy) (spelled_leads ys places.Header end others tt ay));
   })
 
   at_more : item_at to rest ≡ More → IsDecoded bytes
@@ -307,10 +352,15 @@ module _ (bytes : List ℕ) (are : AreBytes bytes) (given : List Item) (to : Pla
         first = λ f e. absurd (cc (all.1, e));
         whole = λ e.
             let at : to ≡ places.End = ended (length bytes) to (sym all.2 ∙ e) in
-            let none : rest ≡ [] = end_stuck rest (ap (λ (p : Place). item_at p rest) (sym at) ∙ m) in
-            (given, subst (λ (p : Place). AreItems places.Header given p) at parts.0, parts.1 ∙ ap (λ (xs : List ℕ). items_spelling places.Header given ++ xs) none ∙ append-nil (items_spelling places.Header given));
+            let none : rest ≡ [] = end_stuck rest (ap (λ (p : Place). item_at p rest) (sym at) ∙ m) in (
+              given,
+              subst (λ (p : Place). AreItems places.Header given p) at parts.0,
+              parts.1
+                  ∙ ap (λ (xs : List ℕ). items_spelling places.Header given ++ xs) none ∙ append-nil (items_spelling places.Header given),
+            );
         no_fault = λ w.
-            let s = same_stop given w.0 places.Header to places.End bytes rest [] h m (all_leads_on w.0 places.End bytes w.1 w.2) (nil_more places.End) in
+            let s = same_stop given w.0 places.Header to places.End bytes rest [] h m (all_leads_on w.0 places.End bytes w.1 w.2)
+            (nil_more places.End) in
             all.2 ∙ ap (λ (p : Place). fault_from (length bytes) (ending_at p)) s.0;
       }
 
@@ -321,12 +371,14 @@ module _ (bytes : List ℕ) (are : AreBytes bytes) (given : List Item) (to : Pla
         items = longest (inr (reason, left, b)) all.0;
         sound = λ e. absurd (cc (all.1, e));
         first = λ f e.
-            let r = refused_at to rest reason left (few_along given places.Header to parts.0 tt) (AreBytes-rest bytes (items_spelling places.Header given) rest parts.1 are) b in
+            let r = refused_at to rest reason left (few_along given places.Header to parts.0 tt)
+            (AreBytes-rest bytes (items_spelling places.Header given) rest parts.1 are) b in
             let d = refused given to bytes rest reason left are h b r in
             let o : length bytes - left ≡ f.offset = ap offset_of (sym all.1 ∙ e) in
             let l : length bytes ≡ length d.0 + suc (length d.2) = ap (λ (xs : List ℕ). length xs) d.3 ∙ length-append d.0 (d.1 ∷ d.2) in
             let y : IsReason (items_spelling places.Header given ++ r.before) r.byte f.reason =
-            subst (λ (w : Reason). IsReason (items_spelling places.Header given ++ r.before) r.byte w) (ap reason_of (sym all.1 ∙ e)) (why given to r.before r.byte reason parts.0 r.goes_on (r.refused [])) in
+            subst (λ (w : Reason). IsReason (items_spelling places.Header given ++ r.before) r.byte w) (ap reason_of (sym all.1 ∙ e))
+            (why given to r.before r.byte reason parts.0 r.goes_on (r.refused [])) in
             record {
               before = d.0;
               byte = d.1;

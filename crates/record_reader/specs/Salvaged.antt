@@ -1,5 +1,6 @@
 -- A record that breaks off, made whole up to its last whole frame.
-use Rattle.std.specs.Prelude.{ℕ, List, [], ◌∷◌, ◌++◌, Bool, true, false, Option, Some, None, sum_by, if◌then◌else◌}
+use Rattle.std.specs.Prelude.{ℕ, List, [], ◌∷◌, ◌++◌, Bool, true, false, Option, Some, None, sum_by}
+use Rattle.std.specs.Prelude.{if◌then◌else◌}
 use Rattle.std.specs.List.{flat_map, list_any}
 use Rattle.det_values.specs.declared.frames.Outcome.{Outcome}
 use Rattle.det_values.specs.declared.frames.Outcome.TheVariants.{Finished, Refused}
@@ -30,7 +31,8 @@ abbrev pub made_whole : ProfileValue → List Item → List ℕ
 made_whole profile rest = spelled profile (flat_map kept rest ++ Terminate ∷ [])
 
 abbrev pub salvaged_from : List Item → Option (List ℕ)
-salvaged_from (items.Header profile ∷ rest) = if list_any is_init rest then Some (made_whole profile rest) else None
+salvaged_from (items.Header profile ∷ rest) = if list_any is_init rest then Some
+    (made_whole profile rest) else None
 salvaged_from other = None
 
 -- none where Init isn't among the items

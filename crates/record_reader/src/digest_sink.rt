@@ -2,7 +2,8 @@
 use det_edges::{Sink, SinkFailed};
 use sha2::{Digest, Sha256};
 
-/// Takes everything, and keeps nothing of it but its SHA-256 state and a count. It never fails and takes no memory.
+/// Takes everything, and keeps nothing of it but its SHA-256 state and a count. It never fails and
+/// takes no memory.
 #[derive(Drop)]
 pub struct DigestSink {
     hasher: Sha256,
@@ -52,7 +53,8 @@ impl Sink for DigestSink {
     fn write(&mut self, piece: &[u8]) -> Result<usize, SinkFailed>
         ensures within { IfOk result (λ n. n ≤ length piece.now) }
         ensures some { IfOk result (λ n. 0 < length piece.now → 0 < n) }
-        ensures taken { IfOk result (λ n. Grew (Digested self.old) (Digested self.new) (take n piece.now)) }
+        ensures taken { IfOk result (λ n. Grew (Digested self.old) (Digested self.new)
+            (take n piece.now)) }
         ensures none { OnErr result (Same (Digested self.old) (Digested self.new)) }
         ensures cause { OnErr result (Rose 0 0) }
         ensures counted { 0 ≤ 0 }

@@ -1,11 +1,9 @@
 //! Records in slots.
 ghost use Rattle.std.specs.Prelude.{◌≡◌};
 
-use det_edges::{Failure, Slots, Stopped};
+use det_edges::{Failure, PIECE, Slots, Stopped};
 use record_codec::{DecodeError, Decoder, Item, RecordFault};
 use std::alloc::Global;
-
-const PIECE: usize = 4096;
 
 /// Gives the items of the record in a slot, which it reads in pieces of 4,096 bytes. It keeps the
 /// item that hasn't come whole, and one piece.

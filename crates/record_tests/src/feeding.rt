@@ -29,7 +29,8 @@ fn fault_of(decoder: &mut Decoder) -> Result<Option<RecordFault>, Fail> {
     }
 }
 
-/// How many items a decoder gives of bytes that are fed in pieces of at most `most`, and why they are no record.
+/// How many items a decoder gives of bytes that are fed in pieces of at most `most`, and why they
+/// are no record.
 pub fn fed(alloc: Global, bytes: &[u8], most: usize) -> Result<(u32, Option<RecordFault>), Fail>
     requires { 0 < most }
 {

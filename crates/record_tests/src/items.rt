@@ -12,7 +12,8 @@ fn fault(offset: u64, reason: Reason) -> Option<RecordFault> {
     Some(RecordFault { offset, reason })
 }
 
-/// A decoder gives so many items and then has this fault, whether the bytes are fed whole, one by one or in pieces of 7.
+/// A decoder gives so many items and then has this fault, whether the bytes are fed whole, one by
+/// one or in pieces of 7.
 fn gives(
     rt: &impl Abort,
     alloc: Global,

@@ -21,12 +21,14 @@ static TWO_CYCLES: [u8; 282] = [
     0, 0, 0, 0, 0, 0, 0x19, 0, 0, 0, 0, 0, 0, 0, 0x19, 5,
 ];
 
-/// A run without cycles: a header of 50 bytes, Register, Discover, Init with four elements, Terminate.
+/// A run without cycles: a header of 50 bytes, Register, Discover, Init with four elements,
+/// Terminate.
 pub fn empty_run() -> &'static [u8] {
     &EMPTY_RUN
 }
 
-/// The same run with two cycles, at the offsets 97 and 194, each with one element list of four and an output of 24 bytes.
+/// The same run with two cycles, at the offsets 97 and 194, each with one element list of four and
+/// an output of 24 bytes.
 pub fn two_cycles() -> &'static [u8] {
     &TWO_CYCLES
 }

@@ -1,5 +1,6 @@
 -- What a recording says of the text that a slot had left, of the sink and of the audience.
-use Rattle.std.specs.Prelude.{◌≡◌, ◌⊎◌, ℕ, List, [], length, false, Result, Ok, Err, IfSome, IfOk, OnOk}
+use Rattle.std.specs.Prelude.{◌≡◌, ◌⊎◌, ℕ, List, [], length, false, Result, Ok, Err, IfSome, IfOk}
+use Rattle.std.specs.Prelude.{OnOk}
 use Rattle.det_values.specs.Values.{ProfileValue}
 use Rattle.det_values.specs.declared.frames.CycleInput.{CycleInput}
 use Rattle.det_edges.specs.Prefix.{IsPrefix}

@@ -1,5 +1,6 @@
 -- The profile of a manifest that is taken is a good header.
-use Rattle.std.proofs.Common.{◌≡◌, ℕ, ◌^◌, ◌<◌, List, length, Bool, true, false, cond, Option, Some, None, Result, Ok, Err, refl, sym, subst, arith}
+use Rattle.std.proofs.Common.{◌≡◌, ℕ, ◌^◌, ◌<◌, List, length, Bool, true, false, cond, Option, Some, None, Result, Ok, Err, refl, sym}
+use Rattle.std.proofs.Common.{subst, arith}
 use Rattle.std.specs.Prelude.{nat_le, FitsSigned}
 use Rattle.std.specs.Int.{w64}
 use Rattle.std.specs.List.{All}
@@ -27,7 +28,8 @@ record IsSaid (m : ManifestValue) : Type 0 where
   good : first_fault tree (keys tree) ≡ None
   is : m ≡ said tree kind
 
-past : (o : Option ManifestFault) (answer : Result ManifestValue ManifestFault) (m : ManifestValue) → or_fault o answer ≡ Ok m → (o ≡ None) × (answer ≡ Ok m)
+past : (o : Option ManifestFault) (answer : Result ManifestValue ManifestFault) (m : ManifestValue) → or_fault o answer ≡ Ok m
+    → (o ≡ None) × (answer ≡ Ok m)
 past None answer m e = (refl, e)
 past (Some fault) answer m e = absurd cc
 
@@ -42,7 +44,8 @@ by_tree (Some tree) m e =
     let b = past _ (with_job tree (kind_of_name (text_of (found tree Job)))) m a.1 in
     by_job tree (kind_of_name (text_of (found tree Job))) m a.0 b.1
 
-by_text : (few utf8 : Bool) (o : Option Data) (m : ManifestValue) → cond few (cond utf8 (in_document o) (Err NotToml)) (Err TooLong) ≡ Ok m → IsSaid m
+by_text : (few utf8 : Bool) (o : Option Data) (m : ManifestValue) → cond few (cond utf8 (in_document o) (Err NotToml)) (Err TooLong) ≡ Ok m
+    → IsSaid m
 by_text true true o m e = by_tree o m e
 by_text true false o m e = absurd cc
 by_text false utf8 o m e = absurd cc
@@ -55,7 +58,8 @@ number_small Bank = omega arith
 number_small Cloud = omega arith
 number_small Guard = omega arith
 
-said_header : (tree : Data) (kind : JobKind) (seed : ℕ) → seed < 2 ^ 64 → AreGood tree → All (FitsSigned w64) (said tree kind).params → IsHeader (profile_of (said tree kind) seed)
+said_header : (tree : Data) (kind : JobKind) (seed : ℕ) → seed < 2 ^ 64 → AreGood tree → All (FitsSigned w64) (said tree kind).params
+    → IsHeader (profile_of (said tree kind) seed)
 said_header tree kind seed small good fit = record {
   job = number_small kind;
   seed = small;
@@ -67,7 +71,8 @@ said_header tree kind seed small good fit = record {
   policies = tt;
 }
 
-pub header_is : (bytes : List ℕ) (m : ManifestValue) (seed : ℕ) → seed < 2 ^ 64 → manifest_of bytes ≡ Ok m → All (FitsSigned w64) m.params → IsHeader (profile_of m seed)
+pub header_is : (bytes : List ℕ) (m : ManifestValue) (seed : ℕ) → seed < 2 ^ 64 → manifest_of bytes ≡ Ok m → All (FitsSigned w64) m.params
+    → IsHeader (profile_of m seed)
 header_is bytes m seed small e fit =
     let s = is_said bytes m e in
     subst (λ (x : ManifestValue). IsHeader (profile_of x seed)) (sym s.is)

@@ -24,7 +24,8 @@ abbrev AreTimed : List CycleInput → Type 0
 AreTimed inputs = All IsTimed inputs
 
 -- what lines of a stimulus say keeps to the limits of lines
-says_within : (events : ℕ) (texts : List (List ℕ)) (says : List Line) → map (line_of events) texts ≡ map Some says → All (IsLine events) says
+says_within : (events : ℕ) (texts : List (List ℕ)) (says : List Line) → map (line_of events) texts ≡ map Some says
+    → All (IsLine events) says
 says_within events [] [] e = All-nil (IsLine events)
 says_within events [] (l ∷ says) e = absurd cc
 says_within events (text ∷ texts) [] e = absurd cc
@@ -40,7 +41,8 @@ time_of events (Some t) h = h
 blocks_timed : (events : ℕ) (says : List Line) → All (IsLine events) says → AreTimed (blocks_in says).inputs
 blocks_timed events [] h = All-nil IsTimed
 blocks_timed events (lines.Cycle time ∷ says) h =
-    All-cons IsTimed _ _ (time_of events time (All-head (IsLine events) (lines.Cycle time) says h)) (blocks_timed events says (All-tail (IsLine events) (lines.Cycle time) says h))
+    All-cons IsTimed _ _ (time_of events time (All-head (IsLine events) (lines.Cycle time) says h))
+    (blocks_timed events says (All-tail (IsLine events) (lines.Cycle time) says h))
 blocks_timed events (lines.Sample s ∷ says) h = blocks_timed events says (All-tail (IsLine events) (lines.Sample s) says h)
 blocks_timed events (lines.Stim ∷ says) h = blocks_timed events says (All-tail (IsLine events) lines.Stim says h)
 blocks_timed events (lines.Terminate ∷ says) h = blocks_timed events says (All-tail (IsLine events) lines.Terminate says h)
@@ -50,15 +52,18 @@ without_timed true inputs h = h
 without_timed false [] h = All-nil IsTimed
 without_timed false (input ∷ []) h = All-nil IsTimed
 without_timed false (input ∷ next ∷ inputs) h =
-    All-cons IsTimed input (without_last false (next ∷ inputs)) (All-head IsTimed input (next ∷ inputs) h) (without_timed false (next ∷ inputs) (All-tail IsTimed input (next ∷ inputs) h))
+    All-cons IsTimed input (without_last false (next ∷ inputs)) (All-head IsTimed input (next ∷ inputs) h)
+    (without_timed false (next ∷ inputs) (All-tail IsTimed input (next ∷ inputs) h))
 
 all_timed : (events : ℕ) (text : List ℕ) → AreTimed (blocks events text)
 all_timed events text =
     let h = is_head events text in
     let all = blocks_timed events h.says (says_within events (head events text) h.says h.good.spelled) in
-    All-same IsTimed (blocks events text) (without_last (nat_lt 0 (ends h.says)) (blocks_in h.says).inputs) h.blocks (without_timed (nat_lt 0 (ends h.says)) (blocks_in h.says).inputs all)
+    All-same IsTimed (blocks events text) (without_last (nat_lt 0 (ends h.says)) (blocks_in h.says).inputs) h.blocks
+    (without_timed (nat_lt 0 (ends h.says)) (blocks_in h.says).inputs all)
 
-samples_held : (events : ℕ) (samples : List SampleValue) → All (λ s. s.event < events) samples → All (λ s. IsSampleValue s.value) samples → All (IsSample events) samples
+samples_held : (events : ℕ) (samples : List SampleValue) → All (λ s. s.event < events) samples → All (λ s. IsSampleValue s.value) samples
+    → All (IsSample events) samples
 samples_held events samples known values = λ k d below. (known k d below, values k d below)
 
 pub all_held : (events : ℕ) (text : List ℕ) → All (CanHold events) (blocks events text)

@@ -1,5 +1,6 @@
 -- What the keys of a manifest without a fault hold.
-use Rattle.std.proofs.Common.{◌≡◌, ℕ, zero, suc, ◌+◌, ◌^◌, ◌-◌, ◌≤◌, pos, negsuc, List, ◌∷◌, ◌++◌, length, Bool, true, false, Option, Some, None, refl, sym, ap, ◌∙◌, arith}
+use Rattle.std.proofs.Common.{◌≡◌, ℕ, zero, suc, ◌+◌, ◌^◌, ◌-◌, ◌≤◌, pos, negsuc, List, ◌∷◌, ◌++◌, length, Bool, true, false, Option, Some}
+use Rattle.std.proofs.Common.{None, refl, sym, ap, ◌∙◌, arith}
 use Rattle.std.specs.Prelude.{nat_le, ◌&&◌}
 use Rattle.std.specs.List.{All}
 use Rattle.std.specs.Option.{option_or}
@@ -13,7 +14,8 @@ use Rattle.manifest.specs.Keys.{text, whole, array_up_to, found, event_keys, par
 use Rattle.manifest.specs.Faults.{unless, value_fault, fault_by, fault_at, first_fault}
 use Rattle.manifest.specs.Meaning.{params_from, params_of, event_at, events_from, events_of}
 use Rattle.manifest.specs.declared.key.Key.{Key}
-use Rattle.manifest.specs.declared.key.Key.TheVariants.{Job, CycleTime, Workers, Params, Event, EventItem, EventName, EventCapacity, EventPolicy}
+use Rattle.manifest.specs.declared.key.Key.TheVariants.{Job, CycleTime, Workers, Params, Event, EventItem, EventName, EventCapacity}
+use Rattle.manifest.specs.declared.key.Key.TheVariants.{EventPolicy}
 use Rattle.manifest.specs.declared.fault.ManifestFault.{ManifestFault}
 use Rattle.manifest.specs.declared.fault.ManifestFault.TheVariants.{OutOfRange}
 use Rattle.manifest.proofs.Steps.{first_append}
@@ -29,7 +31,8 @@ within key least most n e =
     let t = and_parts (nat_le least n) (nat_le n most) (holds (nat_le least n && nat_le n most) (OutOfRange key) e) in
     (leb-true least n t.0, leb-true n most t.1)
 
-whole_value : (key : Key) (least most : ℕ) (value : Data) → value_fault key (whole least most) value ≡ None → (least ≤ number_of (Some value)) × (number_of (Some value) ≤ most)
+whole_value : (key : Key) (least most : ℕ) (value : Data) → value_fault key (whole least most) value ≡ None
+    → (least ≤ number_of (Some value)) × (number_of (Some value) ≤ most)
 whole_value key least most (string s) e = absurd cc
 whole_value key least most (integer (pos n)) e = within key least most n e
 whole_value key least most (integer (negsuc n)) e = absurd cc
@@ -39,11 +42,13 @@ whole_value key least most (datetime d) e = absurd cc
 whole_value key least most (array ds) e = absurd cc
 whole_value key least most (table ms) e = absurd cc
 
-whole_in : (key : Key) (least most : ℕ) (place : Option Data) → fault_by key true (whole least most) place ≡ None → (least ≤ number_of place) × (number_of place ≤ most)
+whole_in : (key : Key) (least most : ℕ) (place : Option Data) → fault_by key true (whole least most) place ≡ None
+    → (least ≤ number_of place) × (number_of place ≤ most)
 whole_in key least most None e = absurd cc
 whole_in key least most (Some value) e = whole_value key least most value e
 
-text_value : (key : Key) (fits : List ℕ → Bool) (value : Data) → value_fault key (text fits) value ≡ None → fits (text_of (Some value)) ≡ true
+text_value : (key : Key) (fits : List ℕ → Bool) (value : Data) → value_fault key (text fits) value ≡ None
+    → fits (text_of (Some value)) ≡ true
 text_value key fits (string s) e = holds (fits s) (OutOfRange key) e
 text_value key fits (integer z) e = absurd cc
 text_value key fits (float x) e = absurd cc
@@ -52,7 +57,8 @@ text_value key fits (datetime d) e = absurd cc
 text_value key fits (array ds) e = absurd cc
 text_value key fits (table ms) e = absurd cc
 
-text_in : (key : Key) (fits : List ℕ → Bool) (place : Option Data) → fault_by key true (text fits) place ≡ None → fits (text_of place) ≡ true
+text_in : (key : Key) (fits : List ℕ → Bool) (place : Option Data) → fault_by key true (text fits) place ≡ None
+    → fits (text_of place) ≡ true
 text_in key fits None e = absurd cc
 text_in key fits (Some value) e = text_value key fits value e
 
@@ -97,8 +103,10 @@ module _ (tree : Data) where
       let b = one (EventName i) (EventCapacity i ∷ EventPolicy i ∷ event_keys (i + 1) n) a.1 in
       let c = one (EventCapacity i) (EventPolicy i ∷ event_keys (i + 1) n) b.1 in
       let d = one (EventPolicy i) (event_keys (i + 1) n) c.1 in
-      All-cons IsEvent (event_at tree i) (events_from tree (i + 1) n)
-      (whole_in (EventCapacity i) 1 1024 (found tree (EventCapacity i)) c.0, text_in (EventName i) is_event_name (found tree (EventName i)) b.0)
+      All-cons IsEvent (event_at tree i) (events_from tree (i + 1) n) (
+        whole_in (EventCapacity i) 1 1024 (found tree (EventCapacity i)) c.0,
+        text_in (EventName i) is_event_name (found tree (EventName i)) b.0,
+      )
       (events_in (i + 1) n d.1)
 
   -- the ranges of what a header takes from a tree

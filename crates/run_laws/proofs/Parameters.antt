@@ -1,5 +1,6 @@
 -- Parameters that a shipped job takes are numbers of 64 bits.
-use Rattle.std.proofs.Common.{◌≡◌, ℕ, ℤ, zero, suc, ◌<◌, ◌≤◌, pos, negsuc, List, length, Bool, true, false, cond, Option, Some, None, refl, subst, sym, arith}
+use Rattle.std.proofs.Common.{◌≡◌, ℕ, ℤ, zero, suc, ◌<◌, ◌≤◌, pos, negsuc, List, length, Bool, true, false, cond, Option, Some, None, refl}
+use Rattle.std.proofs.Common.{subst, sym, arith}
 use Rattle.std.specs.Prelude.{not, ◌&&◌, nat_lt, int_le, ◌≤ℤ◌, FitsSigned, T}
 use Rattle.std.specs.Int.{w64}
 use Rattle.std.specs.Int.Signed.{le_z_yes}
@@ -23,7 +24,8 @@ below : (a b : ℤ) → int_le a b ≡ true → a ≤ℤ b
 below a b e = le_z_yes (subst T (sym e) tt)
 
 -- a parameter that isn't refused is in its range
-taken : (ps : List ℤ) (i index : ℕ) (low high : ℤ) (rest : Option ℕ) → cond (not (is_param ps i low high)) (Some index) rest ≡ None → IsWithin low high (param ps i) × (rest ≡ None)
+taken : (ps : List ℤ) (i index : ℕ) (low high : ℤ) (rest : Option ℕ) → cond (not (is_param ps i low high)) (Some index) rest ≡ None
+    → IsWithin low high (param ps i) × (rest ≡ None)
 taken ps i index low high rest e = by (is_param ps i low high) refl e where
   by : (t : Bool) → is_param ps i low high ≡ t → cond (not t) (Some index) rest ≡ None → IsWithin low high (param ps i) × (rest ≡ None)
   by true is k =
@@ -64,7 +66,8 @@ cloud_fits ps events e =
     let d = taken ps 3 3 (pos 0) (pos 4000000000000) _ c.1 in
     all_fit ps 4 (no_more ps 4 d.1) (each a.0 b.0 c.0 d.0)
   where
-    each : IsWithin (pos 1) (pos 65536) (param ps 0) → IsWithin (pos 1) (pos 1000000) (param ps 1) → IsWithin (pos 0) (pos 1000000) (param ps 2) → IsWithin (pos 0) (pos 4000000000000) (param ps 3)
+    each : IsWithin (pos 1) (pos 65536) (param ps 0) → IsWithin (pos 1) (pos 1000000) (param ps 1)
+        → IsWithin (pos 0) (pos 1000000) (param ps 2) → IsWithin (pos 0) (pos 4000000000000) (param ps 3)
         → (i : ℕ) → i < 4 → Fits (param ps i)
     each a b c d zero h = let l = a.0 in let m = a.1 in fits (param ps 0) (omega (arith, ints), omega (arith, ints))
     each a b c d (suc zero) h = let l = b.0 in let m = b.1 in fits (param ps 1) (omega (arith, ints), omega (arith, ints))
@@ -81,11 +84,14 @@ guard_fits ps events e =
     let f = taken ps 4 4 (pos 0) (pos 65536) _ d.1 in
     all_fit ps 5 (no_more ps 5 f.1) (each a.0 b.0 c.0 d.0 f.0)
   where
-    each : IsWithin (pos 1) (pos 65536) (param ps 0) → IsWithin (negsuc 999999999999) (pos 1000000000000) (param ps 1) → IsWithin (param ps 1) (pos 1000000000000) (param ps 2)
+    each : IsWithin (pos 1) (pos 65536) (param ps 0) → IsWithin (negsuc 999999999999) (pos 1000000000000) (param ps 1)
+        → IsWithin (param ps 1) (pos 1000000000000) (param ps 2)
         → IsWithin (pos 1) (pos 1000) (param ps 3) → IsWithin (pos 0) (pos 65536) (param ps 4) → (i : ℕ) → i < 5 → Fits (param ps i)
     each a b c d f zero h = let l = a.0 in let m = a.1 in fits (param ps 0) (omega (arith, ints), omega (arith, ints))
     each a b c d f (suc zero) h = let l = b.0 in let m = b.1 in fits (param ps 1) (omega (arith, ints), omega (arith, ints))
-    each a b c d f (suc (suc zero)) h = let k = b.0 in let l = c.0 in let m = c.1 in fits (param ps 2) (omega (arith, ints), omega (arith, ints))
+    each a b c d f (suc (suc zero)) h = let k = b.0 in let l = c.0 in let m = c.1 in
+        fits (param ps 2) (omega (arith, ints), omega (arith, ints))
     each a b c d f (suc (suc (suc zero))) h = let l = d.0 in let m = d.1 in fits (param ps 3) (omega (arith, ints), omega (arith, ints))
-    each a b c d f (suc (suc (suc (suc zero)))) h = let l = f.0 in let m = f.1 in fits (param ps 4) (omega (arith, ints), omega (arith, ints))
+    each a b c d f (suc (suc (suc (suc zero)))) h = let l = f.0 in let m = f.1 in
+        fits (param ps 4) (omega (arith, ints), omega (arith, ints))
     each a b c d f (suc (suc (suc (suc (suc i))))) h = absurd (omega arith)

@@ -1,5 +1,6 @@
 -- What a pass keeps of its elements, and where it may be refused.
-use Rattle.std.proofs.Common.{◌≡◌, ℕ, ◌+◌, ◌^◌, ◌<◌, ◌≤◌, List, [], ◌∷◌, length, Result, Ok, Err, refl, ap, ◌∙◌, subst, arith, length-append}
+use Rattle.std.proofs.Common.{◌≡◌, ℕ, ◌+◌, ◌^◌, ◌<◌, ◌≤◌, List, [], ◌∷◌, length, Result, Ok, Err, refl, ap, ◌∙◌, subst, arith}
+use Rattle.std.proofs.Common.{length-append}
 use Rattle.std.specs.List.{All}
 use Rattle.std.proofs.lemmas.List.Elements.{All-nil, All-head, All-tail, All-push}
 use Rattle.element_random.specs.Words.{key}
@@ -10,12 +11,13 @@ use Rattle.job_trait.specs.Pass.{Passed, Refusal, nothing, more, taken, passed}
 use Rattle.run_laws.proofs.SpelledJob.{IsSpelledJob}
 
 -- n elements that are the job's own, each with at most so many words, and a part that covers them
-pub record IsKept {S E P : Type 0} (Covers : S → P → ℕ → Type 0) (Own : S → E → Type 0) (j : S) (n most : ℕ) (done : Passed E P) : Type 0 where
-  pub own : All (Own j) done.elements
-  pub many : length done.elements ≡ n
-  pub drew : length done.draws ≡ n
-  pub few_drawn : All (λ d. d ≤ most) done.draws
-  pub covers : Covers j done.part n
+pub record IsKept {S E P : Type 0} (Covers : S → P → ℕ → Type 0) (Own : S → E → Type 0) (j : S) (n most : ℕ) (done : Passed E P) : Type 0
+  where
+    pub own : All (Own j) done.elements
+    pub many : length done.elements ≡ n
+    pub drew : length done.draws ≡ n
+    pub few_drawn : All (λ d. d ≤ most) done.draws
+    pub covers : Covers j done.part n
 
 -- a pass over n elements keeps them, or one of them refuses
 abbrev pub IsPassed : {S E P : Type 0} → (S → P → ℕ → Type 0) → (S → E → Type 0) → S → ℕ → Result (Passed E P) Refusal → Type 0
@@ -41,7 +43,8 @@ module _ {S G E L P : Type 0} (m : Meaning S G E L P) (Covers : S → P → ℕ 
     many = length-append done.elements (w.element ∷ []) ∙ ap (λ k. k + 1) kept.many;
     drew = length-append done.draws (_ ∷ []) ∙ ap (λ k. k + 1) kept.drew;
     few_drawn = All-push (λ d. d ≤ 65535) done.draws _ kept.few_drawn (laws.drawn_few j plan carry pass e (at i));
-    covers = laws.covers_joined j done.part w.part i 1 kept.covers (laws.covers_run j plan carry pass e (at i) w fit own below carried came) few;
+    covers = laws.covers_joined j done.part w.part i 1 kept.covers (laws.covers_run j plan carry pass e (at i) w fit own below carried came)
+        few;
   }
 
   -- the elements from one on, by what the job gives for it
@@ -65,7 +68,8 @@ module _ {S G E L P : Type 0} (m : Meaning S G E L P) (Covers : S → P → ℕ 
       (λ next k. all_from (i + 1) n es next (omega arith) few (All-tail (Own j) x es own) k)
       (m.worked j plan carry pass x (at i)) refl
 
-  pub pass_kept : (es : List E) → length es ≤ 65536 → All (Own j) es → IsPassed Covers Own j (length es) (passed m j plan carry seed cycle pass es)
+  pub pass_kept : (es : List E) → length es ≤ 65536 → All (Own j) es → IsPassed Covers Own j (length es)
+      (passed m j plan carry seed cycle pass es)
   pass_kept es few own = all_from 0 (length es) es (nothing m j plan carry seed cycle pass) (omega arith) few own (record {
     own = All-nil (Own j);
     many = refl;

@@ -1,5 +1,6 @@
 -- Numbers are spelled in bytes, and what the shipped jobs show can be spelled.
-use Rattle.std.proofs.Common.{◌≡◌, ℕ, ℤ, zero, suc, pos, ◌+◌, ◌^◌, ◌<◌, List, [], ◌∷◌, ◌++◌, length, Bool, true, false, cond, Option, Some, None, Result, Ok, Err, subst, arith}
+use Rattle.std.proofs.Common.{◌≡◌, ℕ, ℤ, zero, suc, pos, ◌+◌, ◌^◌, ◌<◌, List, [], ◌∷◌, ◌++◌, length, Bool, true, false, cond, Option, Some}
+use Rattle.std.proofs.Common.{None, Result, Ok, Err, subst, arith}
 use Rattle.std.specs.Prelude.{nat_le, nat_lt}
 use Rattle.std.specs.Int.{w16, w32, w64, bytes_high_first, byte_at, byte_len, cast_unsigned}
 use Rattle.std.proofs.lemmas.List.Elements.{All-nil, All-cons, All-append}
@@ -58,7 +59,8 @@ never a code h = absurd cc
 code_is : {T : Type 0} (a b : ℕ) → ◌≡◌ {A = Result T ℕ} (Err a) (Err b) → a ≡ b
 code_is a b h = cc
 
-code_if : {T : Type 0} (t : Bool) (c code : ℕ) (x : T) → c < 2 ^ 32 → ◌≡◌ {A = Result T ℕ} (cond t (Err c) (Ok x)) (Err code) → code < 2 ^ 32
+code_if : {T : Type 0} (t : Bool) (c code : ℕ) (x : T) → c < 2 ^ 32 → ◌≡◌ {A = Result T ℕ} (cond t (Err c) (Ok x)) (Err code)
+    → code < 2 ^ 32
 code_if {T = T} true c code x few e = subst (λ (k : ℕ). k < 2 ^ 32) (code_is {T = T} c code e) few
 code_if false c code x few e = never x code e
 
@@ -92,7 +94,8 @@ bank_spelled = record {
 -- ---- the cloud
 
 three : (n : ℕ) (x y : ℤ) → AreBytes (u32_bytes n ++ i64_bytes x ++ i64_bytes y)
-three n x y = both (u32_bytes n) (i64_bytes x ++ i64_bytes y) (four_bytes n) (both (i64_bytes x) (i64_bytes y) (signed_bytes x) (signed_bytes y))
+three n x y = both (u32_bytes n) (i64_bytes x ++ i64_bytes y) (four_bytes n)
+    (both (i64_bytes x) (i64_bytes y) (signed_bytes x) (signed_bytes y))
 
 four : (n : ℕ) (x y : ℤ) (k : ℕ) → AreBytes (u32_bytes n ++ i64_bytes x ++ i64_bytes y ++ u64_bytes k)
 four n x y k =
@@ -109,7 +112,8 @@ cloud_output part finished = both (cloud.best_bytes part) (u32_bytes finished) (
 pub cloud_spelled : IsSpelledJob cloud.meaning
 cloud_spelled = record {
   shown = λ j e. three e.number e.x e.y;
-  output = λ j g plan part d h. subst (λ (x : Concluded Finished). AreBytes x.output) (given_if (cloud.is_far j.far part) 2 _ d h) (cloud_output part (cloud.one_more g));
+  output = λ j g plan part d h. subst (λ (x : Concluded Finished). AreBytes x.output) (given_if (cloud.is_far j.far part) 2 _ d h)
+      (cloud_output part (cloud.one_more g));
   prepare_code = λ j g es windows seed cycle time next code h. code_if (cloud.is_held (newest windows 2)) 1 code _ (omega arith) h;
   work_code = λ j plan carry pass e key code h. never _ code h;
   conclude_code = λ j g plan part code h. code_if (cloud.is_far j.far part) 2 code _ (omega arith) h;
@@ -148,7 +152,8 @@ pub guard_spelled : IsSpelledJob guard.meaning
 guard_spelled = record {
   shown = λ j e. guard_shown e;
   output = λ j g plan part d h.
-      subst (λ (x : Concluded Total). AreBytes x.output) (given_if (nat_lt j.most (length part)) 2 _ d h) (guard_output (guard.total_after g part) part plan.next);
+      subst (λ (x : Concluded Total). AreBytes x.output) (given_if (nat_lt j.most (length part)) 2 _ d h)
+      (guard_output (guard.total_after g part) part plan.next);
   prepare_code = λ j g es windows seed cycle time next code h. never _ code h;
   work_code = λ j plan carry pass e key code h. judged_code j e (guard.reading plan.samples e) code h;
   conclude_code = λ j g plan part code h. code_if (nat_lt j.most (length part)) 2 code _ (omega arith) h;

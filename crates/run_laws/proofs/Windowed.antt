@@ -24,7 +24,8 @@ values_good event (s ∷ samples) h =
 all_good : (rounds : List (List SampleValue)) → All (All IsGood) rounds → All IsGood (all_of rounds)
 unfolding all_of
 all_good [] h = All-nil IsGood
-all_good (round ∷ rounds) h = All-append IsGood round (all_of rounds) (All-head (All IsGood) round rounds h) (all_good rounds (All-tail (All IsGood) round rounds h))
+all_good (round ∷ rounds) h = All-append IsGood round (all_of rounds) (All-head (All IsGood) round rounds h)
+    (all_good rounds (All-tail (All IsGood) round rounds h))
 
 last_good : (rounds : List (List SampleValue)) → All (All IsGood) rounds → All IsGood (last_of rounds)
 unfolding last_of
@@ -36,21 +37,27 @@ looked_good : (policy : Policy) (rounds : List (List SampleValue)) → All (All 
 looked_good Last rounds h = all_good rounds h
 looked_good Fresh rounds h = last_good rounds h
 
-window_good : (spec : EventSpecValue) (event : ℕ) (rounds : List (List SampleValue)) → All (All IsGood) rounds → All IsSampleValue (window spec event rounds)
+window_good : (spec : EventSpecValue) (event : ℕ) (rounds : List (List SampleValue)) → All (All IsGood) rounds
+    → All IsSampleValue (window spec event rounds)
 window_good spec event rounds h =
     let all = values_good event (looked_at spec.policy rounds) (looked_good spec.policy rounds h) in
-    All-drop IsSampleValue (length (values_of event (looked_at spec.policy rounds)) - spec.capacity) (values_of event (looked_at spec.policy rounds)) all
+    All-drop IsSampleValue (length (values_of event (looked_at spec.policy rounds)) - spec.capacity)
+    (values_of event (looked_at spec.policy rounds)) all
 
-windows_good : (event : ℕ) (specs : List EventSpecValue) (rounds : List (List SampleValue)) → All (All IsGood) rounds → All (All IsSampleValue) (windows_from event specs rounds)
+windows_good : (event : ℕ) (specs : List EventSpecValue) (rounds : List (List SampleValue)) → All (All IsGood) rounds
+    → All (All IsSampleValue) (windows_from event specs rounds)
 unfolding windows_from
 windows_good event [] rounds h = All-nil (All IsSampleValue)
 windows_good event (spec ∷ specs) rounds h =
-    All-cons (All IsSampleValue) (window spec event rounds) (windows_from (suc event) specs rounds) (window_good spec event rounds h) (windows_good (suc event) specs rounds h)
+    All-cons (All IsSampleValue) (window spec event rounds) (windows_from (suc event) specs rounds) (window_good spec event rounds h)
+    (windows_good (suc event) specs rounds h)
 
-length-windows : (event : ℕ) (specs : List EventSpecValue) (rounds : List (List SampleValue)) → length (windows_from event specs rounds) ≡ length specs
+length-windows : (event : ℕ) (specs : List EventSpecValue) (rounds : List (List SampleValue))
+    → length (windows_from event specs rounds) ≡ length specs
 unfolding windows_from
 length-windows event [] rounds = refl
 length-windows event (spec ∷ specs) rounds = ap suc (length-windows (suc event) specs rounds)
 
-pub are_windows : (specs : List EventSpecValue) (rounds : List (List SampleValue)) → All (All (λ (s : SampleValue). IsSampleValue s.value)) rounds → AreWindows (length specs) (windows_after specs rounds)
+pub are_windows : (specs : List EventSpecValue) (rounds : List (List SampleValue))
+    → All (All (λ (s : SampleValue). IsSampleValue s.value)) rounds → AreWindows (length specs) (windows_after specs rounds)
 are_windows specs rounds h = record { count = length-windows 0 specs rounds; values = windows_good 0 specs rounds h }

@@ -151,7 +151,8 @@ where
         (λ s g e l p m. V.Gives s g e l p m run.profile visitor
         (shelf_run S.sees S.stays shelf.old shelf.new) (sink_run K.took K.faults sink.old sink.new)
         (seen (λ b. (⟦<dyn Probe as Probe>⟧ b.vtable).life b.value) audience.old)
-        (seen (λ b. (⟦<dyn Probe as Probe>⟧ b.vtable).life b.value) audience.new) answer) run.kind) }
+        (seen (λ b. (⟦<dyn Probe as Probe>⟧ b.vtable).life b.value) audience.new) answer)
+        run.kind) }
     ensures shelf { OnErr result (shelf.new ≡ shelf.old) }
     ensures sink { OnErr result (sink.new ≡ sink.old) }
     ensures audience { OnErr result

@@ -95,7 +95,8 @@ reading_few events p (line ∷ []) h =
     let e : length (inputs_of (at_end p line).items)
     ≡ 0 = ap (λ (l : List StimItem). length (inputs_of l)) (open_items p line) in omega arith
 reading_few events p (line ∷ next ∷ texts) h =
-    go_on_few p line (taken_at events p line) (λ q. reading_from events q (next ∷ texts)) (taken_at_few events p line h) (λ q k. reading_few events q (next ∷ texts) k)
+    go_on_few p line (taken_at events p line) (λ q. reading_from events q (next ∷ texts)) (taken_at_few events p line h)
+    (λ q k. reading_few events q (next ∷ texts) k)
 
 pub few_blocks : (events : ℕ) (text : List ℕ) → length (inputs_of (reading events text).items) ≤ 1000000
 few_blocks events text = reading_few events First (parts text) tt

@@ -44,7 +44,8 @@ parts_append : (xs ys : List ℕ) (q : List ℕ) (qs : List (List ℕ)) → part
 unfolding join
 parts_append [] ys q qs is = is
 parts_append (x ∷ xs) ys q qs is =
-    elim (is_lf x) as (λ t. cond t ([] ∷ parts (xs ++ ys)) (onto_first x (parts (xs ++ ys))) ≡ join (cond t ([] ∷ parts xs) (onto_first x (parts xs))) q qs) [
+    elim (is_lf x) as (λ t. cond t ([] ∷ parts (xs ++ ys)) (onto_first x (parts (xs ++ ys)))
+    ≡ join (cond t ([] ∷ parts xs) (onto_first x (parts xs))) q qs) [
       | true ↦ ap (λ l. [] ∷ l) (parts_append xs ys q qs is) ∙ join_after (parts xs) q qs (some_parts xs)
       | false ↦ ap (onto_first x) (parts_append xs ys q qs is) ∙ join_onto x (parts xs) q qs (some_parts xs)
     ]
@@ -79,7 +80,8 @@ from_begins events place (line ∷ []) q qs = at_end_begins place line (reading_
 from_begins events place (line ∷ o ∷ ps) q qs =
     let P : List StimItem → Type 0 = λ l. IsPrefix (reading_from events place (line ∷ o ∷ ps)).items l in
     subst P (ap (λ (r : Reading). r.items) (sym (read_join events place line o ps q qs)))
-    (go_on_begins line (taken_at events place line) (λ p. reading_from events p (o ∷ ps)) (λ p. reading_from events p (join (o ∷ ps) q qs)) (λ p. from_begins events p (o ∷ ps) q qs))
+    (go_on_begins line (taken_at events place line) (λ p. reading_from events p (o ∷ ps)) (λ p. reading_from events p (join (o ∷ ps) q qs))
+    (λ p. from_begins events p (o ∷ ps) q qs))
 
 -- the items of a text are the first ones of every text that goes on
 pub items_grow : (events : ℕ) (text more : List ℕ) → IsPrefix (reading events text).items (reading events (text ++ more)).items
@@ -121,7 +123,8 @@ from_stays events place [] q qs bad = absurd (cc)
 from_stays events place (line ∷ []) q qs bad = stays_at_end events place line q qs bad
 from_stays events place (line ∷ o ∷ ps) q qs bad =
     read_join events place line o ps q qs
-    ∙ go_on_stays line (taken_at events place line) (λ p. reading_from events p (o ∷ ps)) (λ p. reading_from events p (join (o ∷ ps) q qs)) (λ p h. from_stays events p (o ∷ ps) q qs h) bad
+    ∙ go_on_stays line (taken_at events place line) (λ p. reading_from events p (o ∷ ps)) (λ p. reading_from events p (join (o ∷ ps) q qs))
+    (λ p h. from_stays events p (o ∷ ps) q qs h) bad
 
 -- once a bad line was fed, more text changes nothing
 pub bad_stays : (events : ℕ) (text more : List ℕ) → has_bad events text ≡ true → reading events (text ++ more) ≡ reading events text
@@ -141,8 +144,11 @@ inputs_end given = inputs_append given (items.Terminate ∷ []) ∙ append-nil (
 given_first : (fault : Option StimFault) (r : StimReader) (head : List (List ℕ)) (bytes : List ℕ) (given : List StimItem)
     → Resumes fault r head bytes given → IsPrefix given (reading r.events bytes).items
 given_first None r head bytes given on =
-    let rest : List StimItem = (from r (left r ++ [])).items in
-    (owed r.state ++ rest, sym (ap (λ l. (reading r.events l).items) (sym (append-nil bytes)) ∙ ap (λ (x : Reading). x.items) (on.1 []) ∙ append_assoc given (owed r.state) rest))
+    let rest : List StimItem = (from r (left r ++ [])).items in (
+      owed r.state ++ rest,
+      sym (ap (λ l. (reading r.events l).items) (sym (append-nil bytes)) ∙ ap (λ (x : Reading). x.items) (on.1 [])
+          ∙ append_assoc given (owed r.state) rest),
+    )
 given_first (Some fault) r head bytes given on =
     ([], append-nil given ∙ sym (ap (λ l. (reading r.events l).items) (sym (append-nil bytes)) ∙ ap (λ (x : Reading). x.items) (on.1 [])))
 
@@ -156,7 +162,8 @@ stands_within r bytes given h =
 inputs_within : (events : ℕ) (xs : List StimItem) → All (IsItem events) xs → All (IsInput events) (inputs_of xs)
 inputs_within events [] all = All-nil (IsInput events)
 inputs_within events (items.Cycle input ∷ xs) all =
-    All-cons (IsInput events) input (inputs_of xs) (All-head (IsItem events) (items.Cycle input) xs all) (inputs_within events xs (All-tail (IsItem events) (items.Cycle input) xs all))
+    All-cons (IsInput events) input (inputs_of xs) (All-head (IsItem events) (items.Cycle input) xs all)
+    (inputs_within events xs (All-tail (IsItem events) (items.Cycle input) xs all))
 inputs_within events (items.Terminate ∷ xs) all = inputs_within events xs (All-tail (IsItem events) items.Terminate xs all)
 
 -- the blocks of a text keep to their limits

@@ -78,7 +78,11 @@ stays_open : (events : ℕ) (earlier : List Line) (place : Place) (line : List �
 stays_open events earlier place line none =
     stops events earlier place (nat_lt 128 (length line)) line [] (λ same end. absurd (omega arith)) (
       (λ e. inl (let long : 128 < length line = grind (arith, nat_tests) in long)),
-      (λ fed. elim fed [ inl long ↦ (let e : nat_lt 128 (length line) ≡ true = grind (arith, nat_tests) in e) | inr ended ↦ absurd (let one = ended.0 in omega arith) ]),
+      (λ fed. elim fed [
+        | inl long ↦ (let e : nat_lt 128 (length line) ≡ true = grind (arith, nat_tests) in e)
+        | inr ended ↦
+            absurd (let one = ended.0 in omega arith)
+      ]),
     )
 
 ends_there : (events : ℕ) (earlier : List Line) (place : Place) (line : List ℕ) → At earlier place
@@ -119,10 +123,13 @@ same_input input = λ i. record { time = input.time; samples = append-nil input.
 blocks_cycle : (n : ℕ) (input : CycleInput) (time : Option ℕ) (later : List Line) (rest : List StimItem)
     → BlocksIf (Inside n input) (lines.Cycle time) later rest (taken (Inside n input) (lines.Cycle time))
 blocks_cycle n input time later rest =
-    elim (nat_lt n 1000000) as (λ t. BlocksIf (Inside n input) (lines.Cycle time) later rest (cond t (step (items.Cycle input ∷ []) (Inside (n + 1) (begun time))) None)) [
+    elim (nat_lt n 1000000) as (λ t. BlocksIf (Inside n input) (lines.Cycle time) later rest
+    (cond t (step (items.Cycle input ∷ []) (Inside (n + 1) (begun time))) None)) [
       | true ↦ λ ended same. ap (λ l. input ∷ l) same
-          ∙ one_complete (nat_lt 0 (ends (lines.Cycle time ∷ later))) input (record { time = time; samples = (blocks_in later).samples }) (blocks_in later).inputs
-          ∙ ap (λ i. without_last (nat_lt 0 (ends (lines.Cycle time ∷ later))) (i ∷ (blocks_in (lines.Cycle time ∷ later)).inputs)) (sym (same_input input))
+          ∙ one_complete (nat_lt 0 (ends (lines.Cycle time ∷ later))) input (record { time = time; samples = (blocks_in later).samples })
+          (blocks_in later).inputs
+          ∙ ap (λ i. without_last (nat_lt 0 (ends (lines.Cycle time ∷ later))) (i ∷ (blocks_in (lines.Cycle time ∷ later)).inputs))
+          (sym (same_input input))
       | false ↦ tt
     ]
 
@@ -144,15 +151,19 @@ blocks_step Between lines.Terminate later rest = λ ended same.
 blocks_step (Inside n input) lines.Stim later rest = tt
 blocks_step (Inside n input) (lines.Cycle time) later rest = blocks_cycle n input time later rest
 blocks_step (Inside n input) (lines.Sample s) later rest =
-    elim (nat_lt (length input.samples) 4096) as (λ t. BlocksIf (Inside n input) (lines.Sample s) later rest (cond t (step [] (Inside n (with_sample input s))) None)) [
+    elim (nat_lt (length input.samples) 4096) as (λ t. BlocksIf (Inside n input) (lines.Sample s) later rest
+    (cond t (step [] (Inside n (with_sample input s))) None)) [
       | true ↦ λ ended same. same
-          ∙ ap (λ l. without_last (nat_lt 0 (ends (lines.Sample s ∷ later))) (record { time = input.time; samples = l } ∷ (blocks_in later).inputs)) (append_assoc input.samples (s ∷ []) (blocks_in later).samples)
+          ∙ ap (λ l. without_last (nat_lt 0 (ends (lines.Sample s ∷ later)))
+          (record { time = input.time; samples = l } ∷ (blocks_in later).inputs))
+          (append_assoc input.samples (s ∷ []) (blocks_in later).samples)
       | false ↦ tt
     ]
 blocks_step (Inside n input) lines.Terminate later rest = λ ended same.
     ap (λ l. input ∷ l) (blocks_end rest later (ended refl) same)
     ∙ ap (λ i. i ∷ []) (sym (same_input input))
-    ∙ sym (ap (λ l. without_last (nat_lt 0 (ends (lines.Terminate ∷ l))) (record { time = input.time; samples = input.samples ++ (blocks_in l).samples } ∷ (blocks_in l).inputs)) (ended refl))
+    ∙ sym (ap (λ l. without_last (nat_lt 0 (ends (lines.Terminate ∷ l)))
+    (record { time = input.time; samples = input.samples ++ (blocks_in l).samples } ∷ (blocks_in l).inputs)) (ended refl))
 blocks_step Ended lines.Stim later rest = tt
 blocks_step Ended (lines.Cycle time) later rest = tt
 blocks_step Ended (lines.Sample s) later rest = tt
@@ -217,7 +228,8 @@ unfolding reading_from
 head_from events earlier place [] some h = let none = some.is in absurd (cc)
 head_from events earlier place (line ∷ []) some h = ends_there events earlier place line h
 head_from events earlier place (line ∷ next ∷ texts) some h =
-    choice (taken_at events place line) refl (λ earlier p k. head_from events earlier p (next ∷ texts) (record { line = next; others = texts; is = refl }) k) where
+    choice (taken_at events place line) refl (λ earlier p k. head_from events earlier p (next ∷ texts)
+    (record { line = next; others = texts; is = refl }) k) where
       choice : (o : Option Step) → taken_at events place line ≡ o
           → ((e : List Line) (p : Place) → At e p → HeadFrom events e p (next ∷ texts) (reading_from events p (next ∷ texts)))
           → HeadFrom events earlier place (line ∷ next ∷ texts) (go_on line o (λ p. reading_from events p (next ∷ texts)))
@@ -226,7 +238,8 @@ head_from events earlier place (line ∷ next ∷ texts) some h =
           let t = took events place line s e in
           let P : Option Step → Type 0 = λ o. Leads earlier t.says o in
           let led : Leads earlier t.says (Some s) = subst P t.taken (leads earlier place t.says h) in
-          goes_on events earlier place line (next ∷ texts) s t (reading_from events s.place (next ∷ texts)) (further (earlier ++ t.says ∷ []) s.place led.1)
+          goes_on events earlier place line (next ∷ texts) s t (reading_from events s.place (next ∷ texts))
+          (further (earlier ++ t.says ∷ []) s.place led.1)
           (λ is. ap (λ p. (reading_from events p (next ∷ texts)).head) is ∙ ended_head events (next ∷ texts)) led.0
 
 read_front : (events : ℕ) (place : Place) (line : List ℕ) (texts : List (List ℕ)) (next : List ℕ) (later : List (List ℕ))
@@ -236,7 +249,8 @@ unfolding reading_from
 read_front events place line [] next later = refl
 read_front events place line (text ∷ texts) next later = refl
 
-longest_from : (events : ℕ) (earlier : List Line) (place : Place) (texts : List (List ℕ)) (next : List ℕ) (later : List (List ℕ)) (more : List Line) → At earlier place → IsGoodAfter events earlier texts more
+longest_from : (events : ℕ) (earlier : List Line) (place : Place) (texts : List (List ℕ)) (next : List ℕ) (later : List (List ℕ))
+    (more : List Line) → At earlier place → IsGoodAfter events earlier texts more
     → length texts ≤ length (reading_from events place (texts ++ next ∷ later)).head
 longest_from events earlier place [] next later more h good = omega arith
 longest_from events earlier place (line ∷ texts) next later [] h good = let e = good.spelled in absurd (cc)
@@ -247,10 +261,12 @@ longest_from events earlier place (line ∷ texts) next later (l ∷ more) h goo
     let there : taken_at events place line
     ≡ Some led.to = taken_there events place line l (All-head (λ text. length text ≤ 128) line texts good.short) spelled ∙ led.is in
     let rest : length texts ≤ length (reading_from events led.to.place (texts ++ next ∷ later)).head =
-    longest_from events (earlier ++ l ∷ []) led.to.place texts next later more led.there (record { short = All-tail (λ text. length text ≤ 128) line texts good.short; spelled = others; order = good.order.1 }) in
+    longest_from events (earlier ++ l ∷ []) led.to.place texts next later more led.there
+    (record { short = All-tail (λ text. length text ≤ 128) line texts good.short; spelled = others; order = good.order.1 }) in
     let head : (reading_from events place (line ∷ (texts ++ next ∷ later))).head ≡ line
     ∷ (reading_from events led.to.place (texts ++ next ∷ later)).head =
-    ap (λ (r : Reading). r.head) (read_front events place line texts next later ∙ ap (λ o. go_on line o (λ p. reading_from events p (texts ++ next ∷ later))) there) in
+    ap (λ (r : Reading). r.head) (read_front events place line texts next later
+    ∙ ap (λ o. go_on line o (λ p. reading_from events p (texts ++ next ∷ later))) there) in
     let count : length (reading_from events place (line ∷ (texts ++ next ∷ later))).head
     ≡ suc (length (reading_from events led.to.place (texts ++ next ∷ later)).head) = ap (λ (l : List (List ℕ)). length l) head in
     omega arith
@@ -282,7 +298,8 @@ is_head events text =
       begins = h.begins;
       longest = λ texts next later more is good.
           let within : length texts ≤ length (reading_from events First (texts ++ next ∷ later)).head =
-          longest_from events [] First texts next later more refl (record { short = good.short; spelled = good.spelled; order = good.order }) in
+          longest_from events [] First texts next later more refl (record
+          { short = good.short; spelled = good.spelled; order = good.order }) in
           let same : length (reading_from events First (parts text)).head
           ≡ length (reading_from events First (texts ++ next ∷ later)).head = ap (λ l. length (reading_from events First l).head) is in
           omega arith;

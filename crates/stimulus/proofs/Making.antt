@@ -32,7 +32,9 @@ pub made_more : (k n : ℕ) (text lines : List ℕ) (first second : ℤ) → tex
     → text ++ lines ≡ codes "stim 1\n" ++ made_blocks k (n + 1)
 unfolding made_blocks
 made_more k n text lines first second before one two is =
-    rw add-one ((λ i. before i ++ (is ∙ (λ j. block_text (10000000 * n) (one j) (two j))) i) ∙ append_assoc (codes "stim 1\n") (made_blocks k n) (block_text (10000000 * n) (made_value (word k (2 * n))) (made_value (word k (2 * n + 1)))))
+    rw add-one ((λ i. before i ++ (is ∙ (λ j. block_text (10000000 * n) (one j) (two j))) i)
+    ∙ append_assoc (codes "stim 1\n") (made_blocks k n) (block_text (10000000 * n) (made_value (word k (2 * n)))
+    (made_value (word k (2 * n + 1)))))
 
 pub lines_short : (bytes : List ℕ) (time : ℕ) (first second : ℤ) → bytes ≡ block_text time first second → time < 2 ^ 64 → mag first < 2 ^ 63
     → mag second < 2 ^ 63 → length bytes ≤ 100

@@ -80,7 +80,8 @@ pub HasRead-large : (limit value i b : ℕ) (bs : List ℕ) → i < length bs �
     → limit ≤ value * 10 + (b - 48) → HasRead limit value i bs
     → None ≡ below limit (number_after 0 bs)
 HasRead-large limit value i b bs within is low high large h =
-    sym (ap (below limit) (h.same ∙ digit_more value bs i b within is low high) ∙ too_large limit (value * 10 + (b - 48)) (drop (i + 1) bs) large)
+    sym (ap (below limit) (h.same ∙ digit_more value bs i b within is low high)
+    ∙ too_large limit (value * 10 + (b - 48)) (drop (i + 1) bs) large)
 
 pub HasRead-other : (limit value i b : ℕ) (bs : List ℕ) → i < length bs → b ≡ get_or bs i 0 → (b < 48) ⊎ (57 < b) → HasRead limit value i bs
     → None ≡ below limit (number_after 0 bs)

@@ -34,7 +34,8 @@ some_parts (x ∷ xs) = elim (is_lf x) as (λ t. IsSome_parts (cond t ([] ∷ pa
 pub uncut : (xs : List ℕ) → length xs ≤ position_or_len is_lf xs → parts xs ≡ xs ∷ []
 uncut [] h = refl
 uncut (x ∷ xs) h =
-    elim (is_lf x) as (λ t. length (x ∷ xs) ≤ cond (not t) (1 + position_or_len is_lf xs) 0 → cond t ([] ∷ parts xs) (onto_first x (parts xs)) ≡ (x ∷ xs) ∷ []) [
+    elim (is_lf x) as (λ t. length (x ∷ xs) ≤ cond (not t) (1 + position_or_len is_lf xs) 0
+    → cond t ([] ∷ parts xs) (onto_first x (parts xs)) ≡ (x ∷ xs) ∷ []) [
       | true ↦ λ none. absurd (omega arith)
       | false ↦ λ more. ap (onto_first x) (uncut xs (omega arith))
     ] h
@@ -52,7 +53,8 @@ longer x n texts h =
 pub uncut_long : (xs ys : List ℕ) → length xs ≤ position_or_len is_lf xs → IsLongAs (length xs) (parts (xs ++ ys))
 uncut_long [] ys h = let some = some_parts ys in record { line = some.line; others = some.others; is = some.is; long = omega arith }
 uncut_long (x ∷ xs) ys h =
-    elim (is_lf x) as (λ t. length (x ∷ xs) ≤ cond (not t) (1 + position_or_len is_lf xs) 0 → IsLongAs (suc (length xs)) (cond t ([] ∷ parts (xs ++ ys)) (onto_first x (parts (xs ++ ys))))) [
+    elim (is_lf x) as (λ t. length (x ∷ xs) ≤ cond (not t) (1 + position_or_len is_lf xs) 0
+    → IsLongAs (suc (length xs)) (cond t ([] ∷ parts (xs ++ ys)) (onto_first x (parts (xs ++ ys))))) [
       | true ↦ λ none. absurd (omega arith)
       | false ↦ λ more. longer x (length xs) (parts (xs ++ ys)) (uncut_long xs ys (omega arith))
     ] h
@@ -67,7 +69,8 @@ pub long_line : (n : ℕ) (bytes : List ℕ) → 128 < n → n ≤ length bytes 
     → IsLong (parts (bytes ++ tail))
 long_line n bytes large within e tail =
     let shown : List ℕ = take n bytes in
-    let h : IsLongAs (length shown) (parts (shown ++ (drop n bytes ++ tail))) = uncut_long shown (drop n bytes ++ tail) (none_found shown e) in
+    let h : IsLongAs (length shown) (parts (shown ++ (drop n bytes ++ tail))) =
+    uncut_long shown (drop n bytes ++ tail) (none_found shown e) in
     let whole : shown ++ (drop n bytes ++ tail) ≡ bytes ++ tail = sym (append_assoc shown (drop n bytes) tail)
     ∙ ap (λ l. l ++ tail) (take-append-drop n bytes) in
     let long : length shown ≤ length h.line = h.long in
@@ -94,6 +97,8 @@ cut n bytes end few e =
       λ tail.
           let rest : List ℕ = drop (end + 1) bytes ++ tail in
           let whole : bytes ++ tail ≡ take end bytes
-          ++ (get_or bytes end 0 ∷ rest) = ap (λ l. l ++ tail) (sym (take-append-drop end bytes) ∙ ap (λ l. take end bytes ++ l) (at_end bytes end within)) ∙ append_assoc (take end bytes) (get_or bytes end 0 ∷ drop (end + 1) bytes) tail in
+          ++ (get_or bytes end 0 ∷ rest) = ap (λ l. l ++ tail) (sym (take-append-drop end bytes)
+          ∙ ap (λ l. take end bytes ++ l) (at_end bytes end within))
+          ∙ append_assoc (take end bytes) (get_or bytes end 0 ∷ drop (end + 1) bytes) tail in
           ap parts whole ∙ slice_split_at is_lf (take end bytes) (get_or bytes end 0) rest front at,
     )

@@ -57,8 +57,11 @@ open_more : (earlier : List Line) (l : Line) → IsOpen earlier → is_end l ≡
 open_more earlier l h other = (longer earlier l, no_end_more earlier l other ∙ h.1)
 
 ended_more : (earlier : List Line) → IsOpen earlier → At (earlier ++ lines.Terminate ∷ []) Ended
-ended_more earlier h =
-    (longer earlier lines.Terminate, let e : ends (earlier ++ lines.Terminate ∷ []) ≡ ends earlier + 1 = counted_more is_end earlier lines.Terminate in let none = h.1 in omega arith)
+ended_more earlier h = (
+  longer earlier lines.Terminate,
+  let e : ends (earlier ++ lines.Terminate ∷ []) ≡ ends earlier + 1 =
+      counted_more is_end earlier lines.Terminate in let none = h.1 in omega arith,
+)
 
 -- a block more
 begun_more : (earlier : List Line) (n : ℕ) (time : Option ℕ) → IsOpen earlier → cycles earlier ≡ n
@@ -113,7 +116,8 @@ leads_cycle earlier n input time h = choice (nat_lt n 1000000) refl where
   choice : (t : Bool) → nat_lt n 1000000 ≡ t
       → Leads earlier (lines.Cycle time) (cond t (step (items.Cycle input ∷ []) (Inside (n + 1) (begun time))) None)
   choice true test =
-      let few : n < 1000000 = grind (arith, nat_tests) in let count = h.cycles in ((h.opened, omega arith), begun_more earlier n time h.opened h.cycles)
+      let few : n < 1000000 = grind (arith, nat_tests) in let count = h.cycles in
+      ((h.opened, omega arith), begun_more earlier n time h.opened h.cycles)
   choice false test = λ k. let few = k.1 in let count = h.cycles in let many : 1000000 ≤ n = grind (arith, nat_tests) in omega arith
 
 leads_sample : (earlier : List Line) (n : ℕ) (input : CycleInput) (s : SampleValue) → IsInside earlier n input
@@ -122,7 +126,8 @@ leads_sample earlier n input s h = choice (nat_lt (length input.samples) 4096) r
   choice : (t : Bool) → nat_lt (length input.samples) 4096 ≡ t
       → Leads earlier (lines.Sample s) (cond t (step [] (Inside n (with_sample input s))) None)
   choice true test =
-      let few : length input.samples < 4096 = grind (arith, nat_tests) in let count = h.cycles in let samples = h.samples in let some = h.some in ((h.opened, omega arith, omega arith), sampled_more earlier n input s h)
+      let few : length input.samples < 4096 = grind (arith, nat_tests) in let count = h.cycles in let samples = h.samples in let some =
+      h.some in ((h.opened, omega arith, omega arith), sampled_more earlier n input s h)
   choice false test =
       λ k. let few = k.2 in let samples = h.samples in let many : 4096 ≤ length input.samples = grind (arith, nat_tests) in omega arith
 

@@ -42,7 +42,8 @@ below_some limit n (Some m) e = choice (nat_lt m limit) refl e where
 positive_value : (n : ℕ) → n < 1000000000001 → value_of (decimal n) ≡ Some (pos n)
 unfolding value_of
 positive_value n small =
-    ap (λ t. cond t (as_negative (below 1000000000001 (number (drop 1 (decimal n))))) (as_positive (below 1000000000001 (number (decimal n)))))
+    ap (λ t. cond t (as_negative (below 1000000000001 (number (drop 1 (decimal n)))))
+    (as_positive (below 1000000000001 (number (decimal n)))))
     (no_dash (decimal n) (digits_of n (omega arith)) (some_digits_of n (omega arith)))
     ∙ ap (λ o. as_positive (below 1000000000001 o)) (number_of_decimal n (omega arith)) ∙ ap as_positive (is_below 1000000000001 n small)
 

@@ -123,7 +123,8 @@ next_open old new bytes given none nothing short one other events lines state fa
     ∙ ap (λ l. given ++ l) (open_items (place_of old.state) (left old)) ∙ append-nil given in (
       standing new h.head bytes given (fault ∙ none) (on.0 ∙ sym lines)
           (λ tail. ap (λ e. reading e (bytes ++ tail)) events ∙ on.1 tail
-          ∙ (λ i. after h.head (given ++ owed (sym state i)) (reading_from (sym events i) (place_of (sym state i)) (parts (sym rest i ++ tail)))))
+          ∙ (λ i. after h.head (given ++ owed (sym state i)) (reading_from (sym events i) (place_of (sym state i))
+          (parts (sym rest i ++ tail)))))
           (λ s. (ap parts rest ∙ one ∙ ap (λ l. l ∷ []) (sym rest), ap owed state ∙ nothing)),
       record {
         items = all;
@@ -135,14 +136,20 @@ next_open old new bytes given none nothing short one other events lines state fa
     )
 
 -- the items that follow are there
-pub gives : (events : ℕ) (head : List (List ℕ)) (bytes : List ℕ) (given : List StimItem) (item : StimItem) (more : List StimItem) (r : Reading)
+pub gives : (events : ℕ) (head : List (List ℕ)) (bytes : List ℕ) (given : List StimItem) (item : StimItem) (more : List StimItem)
+    (r : Reading)
     → reading events (bytes ++ []) ≡ after head ((given ++ item ∷ []) ++ more) r → Gives item events bytes given
 gives events head bytes given item more r e =
     let whole : reading events bytes ≡ after head ((given ++ item ∷ []) ++ more) r = ap (reading events) (sym (append-nil bytes)) ∙ e in
     let all : (reading events bytes).items ≡ given ++ item ∷ (more ++ r.items) =
     ap (λ (x : Reading). x.items) whole ∙ append_assoc (given ++ item ∷ []) more r.items
     ∙ append_assoc given (item ∷ []) (more ++ r.items) in
-    record { others = more ++ r.items; items = all; within = next_within events bytes given (more ++ r.items) item all; few = next_few events bytes given (more ++ r.items) item all }
+    record {
+      others = more ++ r.items;
+      items = all;
+      within = next_within events bytes given (more ++ r.items) item all;
+      few = next_few events bytes given (more ++ r.items) item all;
+    }
 
 -- the end of the input
 at_last : (r : StimReader) (bytes : List ℕ) (given : List StimItem) → r.fault ≡ None → IsSettled r → (h : StandsFor r bytes given)
@@ -167,14 +174,16 @@ pub finish_ended : (r : StimReader) (bytes : List ℕ) (given : List StimItem) �
     → length (left r) ≡ 0 → StandsFor r bytes given → ending r.events bytes ≡ Terminated
 finish_ended r bytes given none settled ended nothing h =
     ap ending_of (at_last r bytes given none settled h)
-    ∙ whole_ending h.head given (at_end (place_of r.state) (left r)) (ap (λ s. (at_end (place_of s) (left r)).is_whole) ended ∙ ended_whole (left r) nothing)
+    ∙ whole_ending h.head given (at_end (place_of r.state) (left r)) (ap (λ s. (at_end (place_of s) (left r)).is_whole) ended
+    ∙ ended_whole (left r) nothing)
 
 pub finish_bad : (r : StimReader) (bytes : List ℕ) (given : List StimItem) → r.fault ≡ None → IsSettled r
     → ¬ ((r.state ≡ states.Ended) × (length (left r) ≡ 0)) → StandsFor r bytes given → ending r.events bytes ≡ BadLine (r.lines + 1)
 finish_bad r bytes given none settled other h =
     let p : Place = place_of r.state in
     ap ending_of (at_last r bytes given none settled h)
-    ∙ bad_ending h.head given (at_end p (left r)) (open_missing p (left r) (missing_there r.state (left r) (h.settled settled none).1 other)) (open_head p (left r))
+    ∙ bad_ending h.head given (at_end p (left r)) (open_missing p (left r)
+    (missing_there r.state (left r) (h.settled settled none).1 other)) (open_head p (left r))
     ∙ ap (λ n. BadLine (n + 1)) (resumes r bytes given none h).0
 
 -- where the end isn't still to be given, nothing is

@@ -46,9 +46,11 @@ moved old new bytes given more end none nothing begins takes (keeps, read, count
     let same : left new ≡ rest = (λ i. drop (read i) (keeps.pending i)) ∙ sym (drop-drop (end + 1) old.read old.pending.items) in
     ap (λ e. reading e (bytes ++ tail)) keeps.events ∙ (resumes old bytes given none h).1 tail
     ∙ ap (λ l. after h.head l (from old (left old ++ tail))) (ap (λ l. given ++ l) nothing ∙ append-nil given)
-    ∙ ap (after h.head given) (goes_on old.events (place_of old.state) (place_of new.state) line (left old ++ tail) (rest ++ tail) more (begins.cut tail) takes)
+    ∙ ap (after h.head given) (goes_on old.events (place_of old.state) (place_of new.state) line (left old ++ tail) (rest ++ tail) more
+    (begins.cut tail) takes)
     ∙ after_after h.head (line ∷ []) given more (reading_from old.events (place_of new.state) (parts (rest ++ tail)))
-    ∙ (λ i. after (h.head ++ line ∷ []) (given ++ more) (reading_from (sym keeps.events i) (place_of new.state) (parts (sym same i ++ tail))))
+    ∙ (λ i. after (h.head ++ line ∷ []) (given ++ more) (reading_from (sym keeps.events i) (place_of new.state)
+    (parts (sym same i ++ tail))))
 
 counted : (old new : StimReader) (head : List (List ℕ)) (line : List ℕ) → length head ≡ old.lines → new.lines ≡ old.lines + 1
     → length (head ++ line ∷ []) ≡ new.lines
@@ -58,7 +60,8 @@ unsettled : (old new : StimReader) (bytes : List ℕ) (given : List StimItem) (e
     → Begins end old → StandsFor old bytes given
     → new.settled ≡ true → (parts (left new) ≡ left new ∷ []) × (owed new.state ≡ [])
 unsettled old new bytes given end none same begins h settled =
-    absurd (two_parts (left old) (take end (left old)) (drop (end + 1) (left old) ++ []) (h.settled (sym same ∙ settled) none).0 (begins.cut []))
+    absurd (two_parts (left old) (take end (left old)) (drop (end + 1) (left old) ++ []) (h.settled (sym same ∙ settled) none).0
+    (begins.cut []))
 
 -- a line that is spelled well
 pub line_taken : (old new : StimReader) (answer : Result Progress StimError) (l : Line) (end : ℕ) (bytes : List ℕ) (given : List StimItem)
@@ -68,8 +71,10 @@ pub line_taken : (old new : StimReader) (answer : Result Progress StimError) (l 
 line_taken old new (Ok progress.Line) l end bytes given none nothing begins spelled (moves, takes) h =
     let there = taken_there old.events (place_of old.state) (take end (left old)) l begins.short spelled in
     let line : List ℕ = take end (left old) in
-    standing new (h.head ++ line ∷ []) bytes given (moves.0.fault ∙ none) (counted old new h.head line (resumes old bytes given none h).0 moves.2)
-    (λ tail. moved old new bytes given [] end none nothing begins (there ∙ takes.0) moves h tail ∙ ap (λ l. after (h.head ++ line ∷ []) (given ++ l) (from new (left new ++ tail))) (sym takes.1))
+    standing new (h.head ++ line ∷ []) bytes given (moves.0.fault ∙ none)
+    (counted old new h.head line (resumes old bytes given none h).0 moves.2)
+    (λ tail. moved old new bytes given [] end none nothing begins (there ∙ takes.0) moves h tail
+    ∙ ap (λ l. after (h.head ++ line ∷ []) (given ++ l) (from new (left new ++ tail))) (sym takes.1))
     (unsettled old new bytes given end none moves.0.settled begins h)
 line_taken old new (Ok (progress.Item item)) l end bytes given none nothing begins spelled (moves, takes) h =
     let there = taken_there old.events (place_of old.state) (take end (left old)) l begins.short spelled in
@@ -78,7 +83,8 @@ line_taken old new (Ok (progress.Item item)) l end bytes given none nothing begi
     ≡ after (h.head ++ line ∷ []) ((given ++ item ∷ []) ++ owed new.state) (from new (left new ++ tail)) =
     λ tail. moved old new bytes given (item ∷ owed new.state) end none nothing begins (there ∙ takes) moves h tail
     ∙ ap (λ l. after (h.head ++ line ∷ []) l (from new (left new ++ tail))) (sym (append_assoc given (item ∷ []) (owed new.state))) in (
-      standing new (h.head ++ line ∷ []) bytes (given ++ item ∷ []) (moves.0.fault ∙ none) (counted old new h.head line (resumes old bytes given none h).0 moves.2) all
+      standing new (h.head ++ line ∷ []) bytes (given ++ item ∷ []) (moves.0.fault ∙ none)
+          (counted old new h.head line (resumes old bytes given none h).0 moves.2) all
           (unsettled old new bytes given end none moves.0.settled begins h),
       gives new.events (h.head ++ line ∷ []) bytes given item (owed new.state) (from new (left new ++ [])) (all []),
     )
@@ -86,13 +92,15 @@ line_taken old new (Ok progress.Open) l end bytes given none nothing begins spel
 line_taken old new (Err (errors.Bad fault)) l end bytes given none nothing begins spelled (bad, takes) h =
     let there = taken_there old.events (place_of old.state) (take end (left old)) l begins.short spelled in
     next_bad old new (errors.Bad fault) bytes given none nothing
-    (λ tail. is_bad old.events (place_of old.state) (take end (left old)) (left old ++ tail) (drop (end + 1) (left old) ++ tail) (begins.cut tail) (there ∙ takes)) bad h
+    (λ tail. is_bad old.events (place_of old.state) (take end (left old)) (left old ++ tail) (drop (end + 1) (left old) ++ tail)
+    (begins.cut tail) (there ∙ takes)) bad h
 line_taken old new (Err errors.OutOfMemory) l end bytes given none nothing begins spelled ((keeps, read, count), same) h =
     let on = resumes old bytes given none h in
     let rest : left new ≡ left old = λ i. drop ((read ∙ add-zero old.read) i) (keeps.pending i) in
     standing new h.head bytes given (keeps.fault ∙ none) (on.0 ∙ sym (count ∙ add-zero old.lines))
     (λ tail. ap (λ e. reading e (bytes ++ tail)) keeps.events ∙ on.1 tail
-    ∙ (λ i. after h.head (given ++ owed (sym same i)) (reading_from (sym keeps.events i) (place_of (sym same i)) (parts (sym rest i ++ tail)))))
+    ∙ (λ i. after h.head (given ++ owed (sym same i)) (reading_from (sym keeps.events i) (place_of (sym same i))
+    (parts (sym rest i ++ tail)))))
     (unsettled old new bytes given end none keeps.settled begins h)
 
 -- a whole line that is not spelled well
@@ -102,7 +110,8 @@ pub line_bad : (old new : StimReader) (error : StimError) (end : ℕ) (bytes : L
 line_bad old new error end bytes given none nothing begins spelled bad h =
     let line : List ℕ = take end (left old) in
     next_bad old new error bytes given none nothing
-    (λ tail. is_bad old.events (place_of old.state) line (left old ++ tail) (drop (end + 1) (left old) ++ tail) (begins.cut tail) (none_there old.events (place_of old.state) line spelled)) bad h
+    (λ tail. is_bad old.events (place_of old.state) line (left old ++ tail) (drop (end + 1) (left old) ++ tail) (begins.cut tail)
+    (none_there old.events (place_of old.state) line spelled)) bad h
 
 pub line_long : (old new : StimReader) (error : StimError) (bytes : List ℕ) (given : List StimItem) → old.fault ≡ None → owed old.state ≡ []
     → ((tail : List ℕ) → IsLong (parts (left old ++ tail))) → BadIs error old new → StandsFor old bytes given
@@ -117,7 +126,8 @@ past events (b ∷ xs) tail some = is_past events b (xs ++ tail)
 pub line_past : (old new : StimReader) (error : StimError) (bytes : List ℕ) (given : List StimItem) → old.fault ≡ None → owed old.state ≡ []
     → IsPastEnd old.state (left old) → BadIs error old new → StandsFor old bytes given → NextIs (Err error) new bytes given
 line_past old new error bytes given none nothing (ended, some) bad h =
-    next_bad old new error bytes given none nothing (λ tail. ap (λ s. reading_from old.events (place_of s) (parts (left old ++ tail))) ended ∙ past old.events (left old) tail some) bad h
+    next_bad old new error bytes given none nothing (λ tail. ap (λ s. reading_from old.events (place_of s) (parts (left old ++ tail))) ended
+    ∙ past old.events (left old) tail some) bad h
 
 -- the end is given
 pub last_given : (old new : StimReader) (bytes : List ℕ) (given : List StimItem) → old.fault ≡ None → old.state ≡ states.Last → new.state
@@ -132,9 +142,11 @@ last_given old new bytes given none last ended fault events lines settled rest h
     λ tail. ap (λ e. reading e (bytes ++ tail)) events ∙ on.1 tail
     ∙ ap (λ s. after h.head (given ++ owed s) (reading_from old.events (place_of s) (parts (left old ++ tail)))) last
     ∙ (λ i. after h.head (sym (append-nil (given ++ t)) i) (reading_from old.events Ended (parts (left old ++ tail))))
-    ∙ (λ i. after h.head ((given ++ t) ++ owed (sym ended i)) (reading_from (sym events i) (place_of (sym ended i)) (parts (sym rest i ++ tail)))) in (
+    ∙ (λ i. after h.head ((given ++ t) ++ owed (sym ended i)) (reading_from (sym events i) (place_of (sym ended i))
+    (parts (sym rest i ++ tail)))) in (
       standing new h.head bytes (given ++ t) (fault ∙ none) (on.0 ∙ sym lines) all
-          (λ s. let old_settled : owed old.state ≡ [] = (h.settled (sym settled ∙ s) none).1 in let no : t ≡ [] = ap owed (sym last) ∙ old_settled in absurd (cc)),
+          (λ s. let old_settled : owed old.state ≡ [] = (h.settled (sym settled ∙ s) none).1 in let no : t ≡ [] = ap owed (sym last)
+          ∙ old_settled in absurd (cc)),
       gives new.events h.head bytes given items.Terminate (owed new.state) (from new (left new ++ [])) (all []),
     )
 

@@ -65,7 +65,8 @@ no_dash_alone (b ∷ bs) h =
 
 cycle_written : (time : ℕ) → time < 2 ^ 64 → cycle_line (decimal time) ≡ Some (lines.Cycle (Some time))
 cycle_written time small =
-    ap (λ t. cond t (Some (lines.Cycle None)) (timed (below (2 ^ 64) (number (decimal time))))) (no_dash_alone (decimal time) (digits_of time small))
+    ap (λ t. cond t (Some (lines.Cycle None)) (timed (below (2 ^ 64) (number (decimal time)))))
+    (no_dash_alone (decimal time) (digits_of time small))
     ∙ ap (λ o. timed (below (2 ^ 64) o)) (number_of_decimal time small) ∙ ap timed (is_below (2 ^ 64) time small)
 
 cycle_prefix : (events : ℕ) (bytes : List ℕ) → line_of events (codes "cycle " ++ bytes) ≡ cycle_line bytes
@@ -120,14 +121,16 @@ parted words space e =
     let found = position-Some (λ b. nat_eq b 32) words space 0 e in
     let is : get_or words space 0 ≡ 32 = let test : nat_eq (get_or words space 0) 32 ≡ true = found.1 in grind (arith, nat_tests) in
     sym (take-append-drop space words)
-    ∙ ap (λ l. take space words ++ l) (drop-cons words space 0 found.0 ∙ (λ i. is i ∷ drop (suc space) words) ∙ ap (λ n. 32 ∷ drop n words) (let k : suc space ≡ space + 1 = omega arith in k))
+    ∙ ap (λ l. take space words ++ l) (drop-cons words space 0 found.0 ∙ (λ i. is i ∷ drop (suc space) words)
+    ∙ ap (λ n. 32 ∷ drop n words) (let k : suc space ≡ space + 1 = omega arith in k))
 
 from_words : (events : ℕ) (words : List ℕ) (o : Option ℕ) (l : Line) → events ≤ 2 ^ 16 → position (λ b. nat_eq b 32) words ≡ o
     → sample_words events words o ≡ Some l → codes "sample " ++ words ≡ spelling l
 from_words events words None l few at e = absurd (cc)
 from_words events words (Some space) l few at e =
     ap (λ b. codes "sample " ++ b) (parted words space at)
-    ∙ from_sampled events (take space words) (drop (space + 1) words) (below events (number (take space words))) (value_of (drop (space + 1) words)) l few refl refl e
+    ∙ from_sampled events (take space words) (drop (space + 1) words) (below events (number (take space words)))
+    (value_of (drop (space + 1) words)) l few refl refl e
 
 prefixed : (n : ℕ) (bytes front : List ℕ) → bytes_eq (take n bytes) front ≡ true → bytes ≡ front ++ drop n bytes
 prefixed n bytes front e = sym (take-append-drop n bytes) ∙ ap (λ l. l ++ drop n bytes) (same_bytes (take n bytes) front e)
@@ -143,7 +146,8 @@ from_sample events bytes l few e = choice (bytes_eq (take 7 bytes) (codes "sampl
   choice false front found = absurd (cc)
 
 from_prefixed : (events : ℕ) (bytes : List ℕ) (l : Line) → events ≤ 2 ^ 16
-    → cond (bytes_eq (take 6 bytes) (codes "cycle ")) (cycle_line (drop 6 bytes)) (cond (bytes_eq (take 7 bytes) (codes "sample ")) (sample_line events (drop 7 bytes)) None) ≡ Some l → bytes ≡ spelling l
+    → cond (bytes_eq (take 6 bytes) (codes "cycle ")) (cycle_line (drop 6 bytes))
+    (cond (bytes_eq (take 7 bytes) (codes "sample ")) (sample_line events (drop 7 bytes)) None) ≡ Some l → bytes ≡ spelling l
 from_prefixed events bytes l few e = choice (bytes_eq (take 6 bytes) (codes "cycle ")) refl e where
   choice : (t : Bool) → bytes_eq (take 6 bytes) (codes "cycle ") ≡ t
       → cond t (cycle_line (drop 6 bytes)) (cond (bytes_eq (take 7 bytes) (codes "sample ")) (sample_line events (drop 7 bytes)) None)
@@ -157,7 +161,8 @@ unfolding line_of
 spelling_of_line events bytes l few e = choice (bytes_eq bytes (codes "stim 1")) (bytes_eq bytes (codes "terminate")) refl refl e where
   choice : (t u : Bool) → bytes_eq bytes (codes "stim 1") ≡ t → bytes_eq bytes (codes "terminate") ≡ u
       → cond t (Some lines.Stim) (cond u (Some lines.Terminate)
-      (cond (bytes_eq (take 6 bytes) (codes "cycle ")) (cycle_line (drop 6 bytes)) (cond (bytes_eq (take 7 bytes) (codes "sample ")) (sample_line events (drop 7 bytes)) None))) ≡ Some l
+      (cond (bytes_eq (take 6 bytes) (codes "cycle ")) (cycle_line (drop 6 bytes))
+      (cond (bytes_eq (take 7 bytes) (codes "sample ")) (sample_line events (drop 7 bytes)) None))) ≡ Some l
       → bytes ≡ spelling l
   choice true u first last found = let same : lines.Stim ≡ l = cc in same_bytes bytes (codes "stim 1") first ∙ ap spelling same
   choice false true first last found = let same : lines.Terminate ≡ l = cc in same_bytes bytes (codes "terminate") last ∙ ap spelling same

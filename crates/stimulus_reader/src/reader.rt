@@ -2,13 +2,10 @@
 ghost use Rattle.std.specs.Prelude.{◌≡◌};
 ghost use Rattle.stimulus_reader.specs.Steps.{stopped_by};
 
-use det_edges::{Failure, Slots, Stopped};
+use det_edges::{Failure, PIECE, Slots, Stopped};
 use det_values::CycleInput;
 use std::alloc::Global;
 use stimulus::{StimError, StimFault, StimItem, StimReader};
-
-/// The bytes that are read at a time.
-const PIECE: usize = 4096;
 
 /// Gives the inputs of the stimulus in a slot, which it reads in pieces of 4,096 bytes. It keeps
 /// one block and one piece.

@@ -1,5 +1,7 @@
 -- Each kind of step changes the state that a table shows as one event of the machine does, or leaves it.
-use Rattle.std.proofs.Common.{◌≡◌, ℕ, zero, suc, ◌+◌, ◌<◌, ◌≤◌, ◌≢◌, ◌⊎◌, Bool, cond, min, List, [], ◌∷◌, ◌++◌, get_or, set, sym, refl, ap, ◌∙◌, subst, inl, inr, ⊎_elim, arith, length-append, length-set, get_or-set_same, get_or-set_other, lt_of_not-le}
+use Rattle.std.proofs.Common.{◌≡◌, ℕ, zero, suc, ◌+◌, ◌<◌, ◌≤◌, ◌≢◌, ◌⊎◌, Bool, cond, min, List, [], ◌∷◌, ◌++◌, get_or, set, sym, refl, ap}
+use Rattle.std.proofs.Common.{◌∙◌, subst, inl, inr, ⊎_elim, arith, length-append, length-set, get_or-set_same, get_or-set_other}
+use Rattle.std.proofs.Common.{lt_of_not-le}
 use mathlib.Core.Logic.{dite}
 use mathlib.Core.Option.{some, some-injective, some-ne-none}
 use native.Mathlib.Decide.{ℕ_discrete, dec_le}
@@ -10,7 +12,8 @@ use Rattle.worker_pool.specs.declared.view.Mark.{Mark}
 use Rattle.worker_pool.specs.declared.view.Mark.TheVariants.{Open, Finished, Reported, Skipped}
 use Rattle.worker_pool.specs.declared.view.PoolEntry.{PoolEntry}
 use Rattle.worker_pool.specs.declared.view.PoolView.{PoolView}
-use Rattle.worker_pool.specs.Views.{entry, fresh, times, reported, Stands, IsAbove, marked, total, taken, passed, with_mark, one_less, newcomer, joined}
+use Rattle.worker_pool.specs.Views.{entry, fresh, times, reported, Stands, IsAbove, marked, total, taken, passed, with_mark, one_less}
+use Rattle.worker_pool.specs.Views.{newcomer, joined}
 use Rattle.worker_pool.specs.Rule.{PoolState}
 use Rattle.worker_pool.specs.Machine.{Machine, machine, next, claim, finish, look, report, Has, after}
 use Rattle.worker_pool.specs.Moves.{moved, regrouped}

@@ -1,6 +1,7 @@
 -- The pool as a machine: which blocks are claimed, and what became of them. It knows no workers, so
 -- every schedule of any number of workers is a list of its events.
-use Rattle.std.specs.Prelude.{◌≡◌, ℕ, ◌<◌, ◌⊎◌, min, Bool, true, false, cond, ltb, List, [], ◌∷◌, ◌++◌, length, slice_set}
+use Rattle.std.specs.Prelude.{◌≡◌, ℕ, ◌<◌, ◌⊎◌, min, Bool, true, false, cond, ltb, List, [], ◌∷◌}
+use Rattle.std.specs.Prelude.{◌++◌, length, slice_set}
 use mathlib.Core.Option.{some}
 use lib.ListN.{get_elem?}
 use Rattle.worker_pool.specs.declared.view.Mark.{Mark}

@@ -1,15 +1,19 @@
 //! What holds of the machine and of the rule, whatever the workers do. Each law is a function that
 //! computes nothing, and its contract is the law.
-ghost use Rattle.std.specs.Prelude.{◌≡◌, ◌≢◌, ℕ, ◌+◌, ◌<◌, ◌≤◌, List, [], ◌∷◌, ◌++◌, length, min, slice_index, slice_set, Result};
+ghost use Rattle.std.specs.Prelude.{◌≡◌, ◌≢◌, ℕ, ◌+◌, ◌<◌, ◌≤◌, List, [], ◌∷◌, ◌++◌, length, min};
+ghost use Rattle.std.specs.Prelude.{slice_index, slice_set, Result};
 ghost use mathlib.Core.Option.{some};
 ghost use lib.ListN.{get_elem?};
 ghost use Rattle.job_trait.specs.Passes.{blocks_of};
 ghost use Rattle.job_trait.specs.Pass.{Passed, Refusal, passed as passed_in_order, block};
 ghost use Rattle.worker_pool.specs.Gather.{gather, refuses};
-ghost use Rattle.worker_pool.specs.Machine.{Machine, Event, claim, finish, look, report, Has, after, next, start, Leads, HasEnded};
-ghost use Rattle.worker_pool.specs.declared.view.Mark.TheVariants.{Open, Finished, Reported, Skipped};
+ghost use Rattle.worker_pool.specs.Machine.{Machine, Event, claim, finish, look, report, Has};
+ghost use Rattle.worker_pool.specs.Machine.{after, next, start, Leads, HasEnded};
+ghost use Rattle.worker_pool.specs.declared.view.Mark.TheVariants.{Open, Finished, Reported};
+ghost use Rattle.worker_pool.specs.declared.view.Mark.TheVariants.{Skipped};
 ghost use Rattle.worker_pool.specs.declared.view.PoolView.{PoolView};
-ghost use Rattle.worker_pool.specs.Views.{Stands, taken, passed, with_mark, one_less, newcomer, joined, fresh};
+ghost use Rattle.worker_pool.specs.Views.{Stands, taken, passed, with_mark, one_less, newcomer};
+ghost use Rattle.worker_pool.specs.Views.{joined, fresh};
 ghost use Rattle.worker_pool.specs.Rule.{PoolState};
 ghost use Rattle.worker_pool.specs.Shown.{At, Becomes};
 ghost use Rattle.worker_pool.specs.Moves.{begun, moved, regrouped};

@@ -139,8 +139,8 @@ pub(crate) fn give<J: Job, B: Room>(
     line.works.push(work).is_ok()
 }
 
-/// What a reply to the task that was announced last has found and spelled. Its seat is joined to the
-/// caller's.
+/// What a reply to the task that was announced last has found and spelled. Its seat is joined to
+/// the caller's.
 fn share_of<J: Job, B: Room>(
     keeper: &mut Keeper<Task<J>, B>,
     task: &Task<J>,
@@ -168,8 +168,8 @@ fn share_of<J: Job, B: Room>(
     (results, spelled)
 }
 
-/// Adds what a kept thread has found that has replied to the task announced last, and says whether it
-/// has. A reply to an earlier task is thrown away.
+/// Adds what a kept thread has found that has replied to the task announced last, and says whether
+/// it has. A reply to an earlier task is thrown away.
 pub(crate) fn take_reply<J: Job, B: Room>(
     keeper: &mut Keeper<Task<J>, B>,
     line: &mut Line<J, B>,

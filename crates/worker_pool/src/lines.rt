@@ -19,10 +19,10 @@ use std::sync::Arc;
 use std::{hint, slice, thread};
 use tickets::{Keeper, Room};
 
-/// The looks for replies after which the caller runs the missing blocks itself: so many, and so many
-/// more for each element of the pass. When it finds no more block to claim, each other worker is at
-/// one block at most, so on a machine with a processor for each this is enough for blocks of a fifth
-/// of a millisecond and more, and on a busy one the caller soon goes on alone.
+/// The looks for replies after which the caller runs the missing blocks itself: so many, and so
+/// many more for each element of the pass. When it finds no more block to claim, each other worker
+/// is at one block at most, so on a machine with a processor for each this is enough for blocks of
+/// a fifth of a millisecond and more, and on a busy one the caller soon goes on alone.
 const FIRST_LOOKS: u32 = 20_000;
 
 const LOOKS_PER_ELEMENT: u32 = 2;

@@ -11,8 +11,8 @@ use std::alloc::Global;
 use std::sync::Arc;
 use tickets::{Room, Ticket};
 
-/// A task, a seat at its table, and a ticket for it. What was spelled before is there for its memory
-/// alone.
+/// A task, a seat at its table, and a ticket for it. What was spelled before is there for its
+/// memory alone.
 #[derive(Drop)]
 pub struct Work<J: Job, B: Room> {
     pub ticket: Ticket<Task<J>, B>,

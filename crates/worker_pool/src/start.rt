@@ -16,11 +16,12 @@ use std::thread;
 use std::thread::{JoinHandle, Threads};
 use tickets::{Keeper, Room};
 
-/// The most threads that a crew uses, the caller's among them, where the processors can't be counted.
+/// The most threads that a crew uses, the caller's among them, where the processors can't be
+/// counted.
 const MOST_THREADS: usize = 64;
 
-/// The threads that so many workers use, the caller's among them: no more than there are processors,
-/// since more would only take turns, and two at least where there are two workers.
+/// The threads that so many workers use, the caller's among them: no more than there are
+/// processors, since more would only take turns, and two at least where there are two workers.
 fn threads_for<R: Threads>(rt: &R, workers: u32) -> u32
     requires { 1 ≤ workers }
     ensures some { 1 ≤ result }

@@ -1,7 +1,8 @@
 //! The steps of a worker on the table. Each is one atomic step on one word, takes no memory, and
 //! changes the view of its own seat alone. It keeps the rule: it is a `Turn` of the table.
 ghost use Rattle.std.specs.Prelude.{◌≡◌, ℕ, ◌+◌, ◌<◌, ◌≤◌, min, MatchOption, IsTrue};
-ghost use Rattle.worker_pool.specs.declared.view.Mark.TheVariants.{Open, Finished, Reported, Skipped};
+ghost use Rattle.worker_pool.specs.declared.view.Mark.TheVariants.{Open, Finished, Reported};
+ghost use Rattle.worker_pool.specs.declared.view.Mark.TheVariants.{Skipped};
 ghost use Rattle.worker_pool.specs.Handles.{view_of, number_of, block_count, IsAt, IsSameSeat};
 ghost use Rattle.worker_pool.specs.Steps.{Turn, TurnOf};
 ghost use Rattle.worker_pool.specs.Views.{Stands, taken, passed, with_mark, least_in};

@@ -14,7 +14,8 @@ use job_trait::{Job, PassOf};
 use pass_in_blocks::{BlockResult, BlockResults, SpelledBlocks, run_and_spell};
 use std::alloc::Global;
 
-/// Tries the next block, runs and spells it, and says whether to go on. A block above a known refusal is skipped.
+/// Tries the next block, runs and spells it, and says whether to go on. A block above a known
+/// refusal is skipped.
 fn try_block<J: Job>(
     alloc: Global,
     table: &PassTable,

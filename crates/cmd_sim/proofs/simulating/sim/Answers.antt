@@ -12,4 +12,5 @@ returns-in-Ok-write_all-clause-meets g c =
 
 pub returns-clause-meets : goal.returns-clause-meets
 returns-clause-meets g c =
-    meets-failed _ c.args.number _ _ _ c.deref.result.now (c.deref.ensures.value ∙ c.in-Ok.ensures.text) c.write_all.ensures.part c.in-Err.ensures.cause
+    meets-failed _ c.args.number _ _ _ c.deref.result.now (c.deref.ensures.value ∙ c.in-Ok.ensures.text) c.write_all.ensures.part
+    c.in-Err.ensures.cause

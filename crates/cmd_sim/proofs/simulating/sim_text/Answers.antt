@@ -11,6 +11,7 @@ run_over-requires-clause-whole g c κs lives =
 
 pub returns-clause-text : goal.returns-clause-text
 returns-clause-text g c =
-    text-is c.args.number c.in_ok-profile.profile c.in_ok-profile.ensures (λ lines. lines.items) c.lines_of.result _ c.in_ok-stimulus.stimulus _
+    text-is c.args.number c.in_ok-profile.profile c.in_ok-profile.ensures (λ lines. lines.items) c.lines_of.result _
+    c.in_ok-stimulus.stimulus _
     c.in_ok-summary.summary c.in_ok-stimulus.ensures c.in_ok-summary.ensures.summary
     (c.reports.ensures ∙ c.in_ok-finish.ensures.left ∙ c.in_ok-summary.ensures.reports) c.lines_of.ensures

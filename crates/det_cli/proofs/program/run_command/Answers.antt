@@ -171,7 +171,8 @@ returns-in-Replay g c =
 
 pub compare-requires-clause-some : goal.compare-requires-clause-some
 compare-requires-clause-some g c =
-    names-enough (command_seen c.args.command) words.Compare c.requires.range c.in-Compare.is _ (λ name. name.now) c.as_slice-in-Compare.ensures.names 2 refl
+    names-enough (command_seen c.args.command) words.Compare c.requires.range c.in-Compare.is _ (λ name. name.now)
+    c.as_slice-in-Compare.ensures.names 2 refl
 
 pub compare-requires-clause-few : goal.compare-requires-clause-few
 compare-requires-clause-few g c = c.as_slice-in-Compare.ensures.within

@@ -11,10 +11,14 @@ probes-init g c = record { done = sym (append-nil c.args.left.now); room = omega
 pub probes-preserved : goal.probes-preserved
 probes-preserved g c = record {
   done =
-      staying-step (λ b. (goal.Probe-dyn g (b.vtable, b.value)).life b.value) c.deref-probe-items.result.now c.probes.probe-index c.probe-item.result c.args.left.now c.probes.left c.extend_from_slice.new.self c.in_ok-report.report
-      c.probes-test.true c.probe-item.is c.in_ok-report.ensures.stays c.in_ok-report.ensures.bytes c.probes.invariant.done (c.in_ok-extend_from_slice.ensures.ok ∙ ap (λ xs. c.probes.left ++ xs) c.as_slice.ensures.items);
+      staying-step (λ b. (goal.Probe-dyn g (b.vtable, b.value)).life b.value) c.deref-probe-items.result.now c.probes.probe-index
+      c.probe-item.result c.args.left.now c.probes.left c.extend_from_slice.new.self c.in_ok-report.report
+      c.probes-test.true c.probe-item.is c.in_ok-report.ensures.stays c.in_ok-report.ensures.bytes c.probes.invariant.done
+      (c.in_ok-extend_from_slice.ensures.ok ∙ ap (λ xs. c.probes.left ++ xs) c.as_slice.ensures.items);
   room =
       let short = c.in_ok-report.ensures.short in let size : length c.extend_from_slice.new.self
-      ≡ length c.probes.left + length c.in_ok-report.report = ap length (c.in_ok-extend_from_slice.ensures.ok ∙ ap (λ xs. c.probes.left ++ xs) c.as_slice.ensures.items) ∙ length-append c.probes.left c.in_ok-report.report in
+      ≡ length c.probes.left + length c.in_ok-report.report = ap length
+      (c.in_ok-extend_from_slice.ensures.ok ∙ ap (λ xs. c.probes.left ++ xs) c.as_slice.ensures.items)
+      ∙ length-append c.probes.left c.in_ok-report.report in
       let l = c.probes.invariant.room in omega arith;
 }

@@ -5,4 +5,7 @@ use Rattle.record_codec.proofs.header.all_events.Given as goal
 
 abbrev pub invariant-loop : goal.invariant-loop
 invariant-loop l =
-    record { read : HasMany (event_at l.format) l.count l.counter l.events.items l.rest l.bytes; known : KnowsPolicies l.format l.events.items }
+    record {
+      read : HasMany (event_at l.format) l.count l.counter l.events.items l.rest l.bytes;
+      known : KnowsPolicies l.format l.events.items;
+    }

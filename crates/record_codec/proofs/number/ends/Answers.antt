@@ -4,7 +4,8 @@ use Rattle.record_codec.proofs.number.ends.Goals as goal
 
 pub overflow_mul-low : goal.overflow_mul-low
 overflow_mul-low c =
-    let o : c.loop.low ≤ c.loop.high = c.loop.invariant.order in omega (arith, HasFilled-room _ _ _ _ _ c.loop-test.true c.requires c.loop.invariant)
+    let o : c.loop.low ≤ c.loop.high = c.loop.invariant.order in omega
+    (arith, HasFilled-room _ _ _ _ _ c.loop-test.true c.requires c.loop.invariant)
 
 pub overflow_mul-high : goal.overflow_mul-high
 overflow_mul-high c = omega (arith, HasFilled-room _ _ _ _ _ c.loop-test.true c.requires c.loop.invariant)

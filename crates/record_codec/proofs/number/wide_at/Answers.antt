@@ -10,7 +10,8 @@ may_begin-requires c = search rules
 
 pub returns-then-may_begin-clause-gives : goal.returns-then-may_begin-clause-gives
 returns-then-may_begin-clause-gives c =
-    wide_8 c.args.limits c.args.bytes.now c.from_be_bytes-n.result c.in-len8-up.len_at_least (λ i. omega (arith, c.type_inv.bytes i)) c.from_be_bytes-n.ensures (can_be-within c.args.limits c.from_be_bytes-n.result (sym c.may_begin.ensures ∙ c.if-may_begin.true))
+    wide_8 c.args.limits c.args.bytes.now c.from_be_bytes-n.result c.in-len8-up.len_at_least (λ i. omega (arith, c.type_inv.bytes i))
+    c.from_be_bytes-n.ensures (can_be-within c.args.limits c.from_be_bytes-n.result (sym c.may_begin.ensures ∙ c.if-may_begin.true))
 
 pub returns-then-may_begin-clause-within : goal.returns-then-may_begin-clause-within
 returns-then-may_begin-clause-within c =

@@ -6,4 +6,6 @@ use Rattle.record_codec.proofs.put_frame.put_all_drawn.Goals as goal
 
 pub returns-in-Two-clause-ok : goal.returns-in-Two-clause-ok
 returns-in-Two-clause-ok c =
-    subst (λ xs. OnOk c.put_slice.result (c.put_slice.new.out.items ≡ c.args.out.now.items ++ xs)) (c.spelled-spelled.ensures.bytes ∙ ap (λ f. flat_map (spelled_drawn f) c.args.elements.now) (sym c.in-Two.is)) c.put_slice.ensures.ok
+    subst (λ xs. OnOk c.put_slice.result (c.put_slice.new.out.items ≡ c.args.out.now.items ++ xs))
+    (c.spelled-spelled.ensures.bytes ∙ ap (λ f. flat_map (spelled_drawn f) c.args.elements.now) (sym c.in-Two.is))
+    c.put_slice.ensures.ok

@@ -4,4 +4,5 @@ use Rattle.record_codec.proofs.put_frame.put_elements.Goals as goal
 
 pub loop-element-preserved : goal.loop-element-preserved
 loop-element-preserved c =
-    HasPut-next spelled_element IsElement _ _ _ _ _ _ c.loop-element-test.true c.element-item.is c.loop-element.invariant c.in_ok-put_element.ensures.ok c.in_ok-put_element.ensures.fields
+    HasPut-next spelled_element IsElement _ _ _ _ _ _ c.loop-element-test.true c.element-item.is c.loop-element.invariant
+    c.in_ok-put_element.ensures.ok c.in_ok-put_element.ensures.fields

@@ -4,4 +4,5 @@ use Rattle.record_codec.proofs.put_frame.put_samples.Goals as goal
 
 pub loop-sample-preserved : goal.loop-sample-preserved
 loop-sample-preserved c =
-    HasPut-next spelled_sample (IsSample c.args.events) _ _ _ _ _ _ c.loop-sample-test.true c.sample-item.is c.loop-sample.invariant c.in_ok-put_sample.ensures.ok c.in_ok-put_sample.ensures.fields
+    HasPut-next spelled_sample (IsSample c.args.events) _ _ _ _ _ _ c.loop-sample-test.true c.sample-item.is c.loop-sample.invariant
+    c.in_ok-put_sample.ensures.ok c.in_ok-put_sample.ensures.fields

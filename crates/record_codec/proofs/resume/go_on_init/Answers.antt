@@ -8,12 +8,23 @@ use Rattle.record_codec.proofs.resume.go_on_init.Goals as goal
 
 pub returns-in-Err-clause-answers : goal.returns-in-Err-clause-answers
 returns-in-Err-clause-answers c =
-    rw c.stopped.ensures (init_stops c.args.place (record { elements = c.loop-left.elements; left = c.loop-left.left; room = c.loop-left.invariant.room }) c.loop-left.read c.args.start.elements c.args.start.left c.args.bytes.now c.in-Err.stop c.loop-left-test.true (search (rules, c.rest_of.ensures, c.in-Err.ensures)) c.loop-left.invariant.read)
+    rw c.stopped.ensures (init_stops c.args.place (record {
+      elements = c.loop-left.elements;
+      left = c.loop-left.left;
+      room = c.loop-left.invariant.room;
+    }) c.loop-left.read c.args.start.elements c.args.start.left c.args.bytes.now c.in-Err.stop
+    c.loop-left-test.true (search (rules, c.rest_of.ensures, c.in-Err.ensures)) c.loop-left.invariant.read)
 
 pub returns-in-Err-push-clause-answers : goal.returns-in-Err-push-clause-answers
 returns-in-Err-push-clause-answers c =
-    let h : Continues element_at c.push.new.self c.loop-left.left c.loop-left.read c.args.start.elements c.args.start.left c.args.bytes.now = rw c.in-Err-push.ensures.err c.loop-left.invariant.read in
-    rw c.stopped-in-Err-push.ensures (tt, init_resumes c.args.place (record { elements = c.push.new.self; left = c.loop-left.left; room = rw c.in-Err-push.ensures.err c.loop-left.invariant.room }) c.loop-left.read c.args.start.elements c.args.start.left c.args.bytes.now h)
+    let h : Continues element_at c.push.new.self c.loop-left.left c.loop-left.read c.args.start.elements c.args.start.left c.args.bytes.now
+    = rw c.in-Err-push.ensures.err c.loop-left.invariant.read in
+    rw c.stopped-in-Err-push.ensures (
+      tt,
+      init_resumes c.args.place (record
+          { elements = c.push.new.self; left = c.loop-left.left; room = rw c.in-Err-push.ensures.err c.loop-left.invariant.room })
+          c.loop-left.read c.args.start.elements c.args.start.left c.args.bytes.now h,
+    )
 
 pub overflow_sub-read : goal.overflow_sub-read
 overflow_sub-read c =
@@ -27,7 +38,8 @@ loop-left-preserved c =
     ≡ Got (c.in-Ok.element, c.in-Ok.rest.now) = search (rules, c.rest_of.ensures, c.in-Ok.ensures) in
     rw c.in-Ok-push.ensures.ok (record {
       read =
-          Continues-next element_at element_steady c.loop-left.elements c.loop-left.left c.loop-left.read c.args.start.elements c.args.start.left c.args.bytes.now c.in-Ok.element c.in-Ok.rest.now c.loop-left-test.true e c.loop-left.invariant.read;
+          Continues-next element_at element_steady c.loop-left.elements c.loop-left.left c.loop-left.read c.args.start.elements
+          c.args.start.left c.args.bytes.now c.in-Ok.element c.in-Ok.rest.now c.loop-left-test.true e c.loop-left.invariant.read;
       room = omega (arith, length-append c.loop-left.elements (c.in-Ok.element ∷ []), c.loop-left.invariant.room);
     })
 

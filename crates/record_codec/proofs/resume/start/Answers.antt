@@ -28,8 +28,10 @@ returns-in-Init-clause-answers c =
     let e : begun_at c.args.place c.args.bytes.now
     ≡ Got (init_of p.elements p.left, c.in-Ok.rest.now) = rw c.in-Init.is at c.in-Ok.ensures in
     let step = c.go_on_init.result in
-    rw c.behind.ensures (answers_behind (λ more. item_at c.args.place more) (λ more. framed (init_from p.elements p.left more)) c.args.place step.partial c.args.bytes.now c.in-Ok.rest.now (length c.args.bytes.now - length c.in-Ok.rest.now) step.read step.answer
-    (start_goes_on c.args.place c.args.bytes.now (init_of p.elements p.left) c.in-Ok.rest.now e) (begun_room c.args.place c.args.bytes.now _ c.in-Ok.rest.now e).1 c.go_on_init.ensures.answers)
+    rw c.behind.ensures (answers_behind (λ more. item_at c.args.place more) (λ more. framed (init_from p.elements p.left more)) c.args.place
+    step.partial c.args.bytes.now c.in-Ok.rest.now (length c.args.bytes.now - length c.in-Ok.rest.now) step.read step.answer
+    (start_goes_on c.args.place c.args.bytes.now (init_of p.elements p.left) c.in-Ok.rest.now e)
+    (begun_room c.args.place c.args.bytes.now _ c.in-Ok.rest.now e).1 c.go_on_init.ensures.answers)
 
 pub returns-in-Run-clause-within : goal.returns-in-Run-clause-within
 returns-in-Run-clause-within c =
@@ -43,5 +45,8 @@ returns-in-Run-clause-answers c =
     let e : begun_at c.args.place c.args.bytes.now
     ≡ Got (run_of p.format p.input p.elements p.left, c.in-Ok.rest.now) = rw c.in-Run.is at c.in-Ok.ensures in
     let step = c.go_on_run.result in
-    rw c.behind-in-Run.ensures (answers_behind (λ more. item_at c.args.place more) (λ more. framed (finished_from p.format p.input p.elements p.left more)) c.args.place step.partial c.args.bytes.now c.in-Ok.rest.now (length c.args.bytes.now - length c.in-Ok.rest.now) step.read step.answer
-    (start_goes_on c.args.place c.args.bytes.now (run_of p.format p.input p.elements p.left) c.in-Ok.rest.now e) (begun_room c.args.place c.args.bytes.now _ c.in-Ok.rest.now e).1 c.go_on_run.ensures.answers)
+    rw c.behind-in-Run.ensures (answers_behind (λ more. item_at c.args.place more)
+    (λ more. framed (finished_from p.format p.input p.elements p.left more)) c.args.place step.partial c.args.bytes.now c.in-Ok.rest.now
+    (length c.args.bytes.now - length c.in-Ok.rest.now) step.read step.answer
+    (start_goes_on c.args.place c.args.bytes.now (run_of p.format p.input p.elements p.left) c.in-Ok.rest.now e)
+    (begun_room c.args.place c.args.bytes.now _ c.in-Ok.rest.now e).1 c.go_on_run.ensures.answers)

@@ -7,7 +7,8 @@ use Rattle.stimulus.proofs.first_line.first_line.Goals as goal
 pub returns-in-Some : goal.returns-in-Some
 returns-in-Some c =
     let b : List ℕ = c.args.bytes.now in
-    cut (length b) b c.in-Some.end (omega arith) (ap (position is_lf) (take_all (length b) b (omega arith)) ∙ sym c.find.ensures ∙ c.in-Some.is)
+    cut (length b) b c.in-Some.end (omega arith) (ap (position is_lf) (take_all (length b) b (omega arith)) ∙ sym c.find.ensures
+    ∙ c.in-Some.is)
 
 pub returns-in-None : goal.returns-in-None
 returns-in-None c = no_line c.args.bytes.now c.if-bytes-le-MAX_LINE.true (sym c.find.ensures ∙ c.in-None.is)

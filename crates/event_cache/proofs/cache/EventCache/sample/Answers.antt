@@ -10,6 +10,12 @@ returns-clause-limits c =
     let at : c.index.result.now ≡ get_or c.self.inside.rings.items c.args.event c.index.result.now = cc in
     let window : get_or (windows c.self.inside.rings.items) c.args.event []
     ≡ c.index.result.now.seen = window_is c.self.inside.rings.items c.args.event c.index.result.now (search rules) at in
-    let inside : c.args.index < length c.index.result.now.seen = omega (arith, ap (λ (l : List ℤ). length l) window, ap (λ (l : List Rings). length (get_or (windows l) c.args.event [])) c.self.view_is, c.requires.index) in
-    let good : IsSampleValue c.value.result = value_in_limits c.self.inside.rings.items c.args.event c.args.index c.index.result.now c.value.result (search rules) at inside c.value.ensures c.self.invariant.1 in
+    let inside : c.args.index < length c.index.result.now.seen = omega (
+      arith,
+      ap (λ (l : List ℤ). length l) window,
+      ap (λ (l : List Rings). length (get_or (windows l) c.args.event [])) c.self.view_is,
+      c.requires.index,
+    ) in
+    let good : IsSampleValue c.value.result = value_in_limits c.self.inside.rings.items c.args.event c.args.index c.index.result.now
+    c.value.result (search rules) at inside c.value.ensures c.self.invariant.1 in
     grind (arith, to_z-of_z)

@@ -15,7 +15,8 @@ returns-in-Refused-clause-leaves c =
 pub returns-in-Finished-clause-sees : goal.returns-in-Finished-clause-sees
 returns-in-Finished-clause-sees c =
     let count : c.saturating_add-self.result ≡ counted (c.args.self.now.seen + 1) = omega arith in
-    finished_seen c.args.self.now.seen c.args.self.now.at c.args.run.now c.saturating_add-self.result (ap outcome_refused c.in-Finished.is) count
+    finished_seen c.args.self.now.seen c.args.self.now.at c.args.run.now c.saturating_add-self.result (ap outcome_refused c.in-Finished.is)
+    count
 
 pub returns-in-Finished-clause-leaves : goal.returns-in-Finished-clause-leaves
 returns-in-Finished-clause-leaves c =

@@ -7,6 +7,7 @@ use Rattle.probes.proofs.gap.GapProbeProbe.see.Goals as goal
 pub returns-clause-sees : goal.returns-clause-sees
 returns-clause-sees c = λ runs. (
   ap gap_text (gap_more c.args.self.now.last c.args.self.now.gap c.args.run.now runs
-      ∙ ap (λ g. greater g (greatest_gap c.args.run.now.input.time runs)) (sym (c.greater_of-self.ensures ∙ ap (greater c.args.self.now.gap) c.between.ensures))),
+      ∙ ap (λ g. greater g (greatest_gap c.args.run.now.input.time runs))
+      (sym (c.greater_of-self.ensures ∙ ap (greater c.args.self.now.gap) c.between.ensures))),
   refl,
 )

@@ -16,7 +16,8 @@ returns-then-is_last-clause-line c bytes given h =
 
 pub returns-then-is_past_end-clause-line : goal.returns-then-is_past_end-clause-line
 returns-then-is_past_end-clause-line c bytes given h =
-    line_past c.args.self.now c.bad_line-then-is_past_end.new.self c.bad_line-then-is_past_end.result bytes given c.in_default.is (owes_nothing c.args.self.now.state _ c.if-is_last.ensures refl)
+    line_past c.args.self.now c.bad_line-then-is_past_end.new.self c.bad_line-then-is_past_end.result bytes given c.in_default.is
+    (owes_nothing c.args.self.now.state _ c.if-is_last.ensures refl)
     ((c.if-is_past_end.ensures).0 refl) c.bad_line-then-is_past_end.ensures h
 
 pub returns-in-TooLong-clause-line : goal.returns-in-TooLong-clause-line
@@ -24,37 +25,56 @@ returns-in-TooLong-clause-line c bytes given h =
     let same : c.rest_of-bytes.result.now ≡ left c.args.self.now = c.rest_of-bytes.ensures
     ∙ ap (drop c.args.self.now.read) c.deref.ensures.value in
     let first : FirstLineIs TooLong (left c.args.self.now) = subst (FirstLineIs TooLong) same c.in-TooLong.ensures in
-    line_long c.args.self.now c.bad_line.new.self c.bad_line.result bytes given c.in_default.is (owes_nothing c.args.self.now.state _ c.if-is_last.ensures refl) first c.bad_line.ensures h
+    line_long c.args.self.now c.bad_line.new.self c.bad_line.result bytes given c.in_default.is
+    (owes_nothing c.args.self.now.state _ c.if-is_last.ensures refl) first c.bad_line.ensures h
 
 pub returns-else-is_past_end-clause-line : goal.returns-else-is_past_end-clause-line
 returns-else-is_past_end-clause-line c bytes given h =
     let same : c.rest_of-bytes.result.now ≡ left c.args.self.now = c.rest_of-bytes.ensures
     ∙ ap (drop c.args.self.now.read) c.deref.ensures.value in
     let first : FirstLineIs Open (left c.args.self.now) = subst (FirstLineIs Open) same c.in-Open.ensures in
-    next_open c.args.self.now _ bytes given c.in_default.is (owes_nothing c.args.self.now.state _ c.if-is_last.ensures refl) first.0 first.1 (λ p. let e : false ≡ true = (c.if-is_past_end.ensures).1 p in cc) refl refl refl refl refl h
+    next_open c.args.self.now _ bytes given c.in_default.is (owes_nothing c.args.self.now.state _ c.if-is_last.ensures refl) first.0 first.1
+    (λ p. let e : false ≡ true = (c.if-is_past_end.ensures).1 p in cc) refl refl refl refl refl h
 
 pub returns-in-None-clause-line : goal.returns-in-None-clause-line
 returns-in-None-clause-line c bytes given h =
     let same : c.rest_of-bytes.result.now ≡ left c.args.self.now = c.rest_of-bytes.ensures
     ∙ ap (drop c.args.self.now.read) c.deref.ensures.value in
-    let first : FirstLineIs (Whole c.in-Whole.end) (left c.args.self.now) = subst (FirstLineIs (Whole c.in-Whole.end)) same c.in-Whole.ensures in
-    let begins : Begins c.in-Whole.end c.args.self.now = record { short = omega (arith, length-take c.in-Whole.end (left c.args.self.now), first.1); cut = first.2 } in
-    line_bad c.args.self.now c.bad_line-in-None.new.self c.bad_line-in-None.result c.in-Whole.end bytes given c.in_default.is (owes_nothing c.args.self.now.state _ c.if-is_last.ensures refl) begins
-    (ap (λ l. line_of c.args.self.now.events (take c.in-Whole.end l)) (sym same) ∙ sym c.parse_line.ensures ∙ c.in-None.is) c.bad_line-in-None.ensures h
+    let first : FirstLineIs (Whole c.in-Whole.end) (left c.args.self.now) =
+    subst (FirstLineIs (Whole c.in-Whole.end)) same c.in-Whole.ensures in
+    let begins : Begins c.in-Whole.end c.args.self.now = record {
+      short =
+          omega (arith, length-take c.in-Whole.end (left c.args.self.now), first.1);
+      cut = first.2;
+    } in
+    line_bad c.args.self.now c.bad_line-in-None.new.self c.bad_line-in-None.result c.in-Whole.end bytes given c.in_default.is
+    (owes_nothing c.args.self.now.state _ c.if-is_last.ensures refl) begins
+    (ap (λ l. line_of c.args.self.now.events (take c.in-Whole.end l)) (sym same) ∙ sym c.parse_line.ensures ∙ c.in-None.is)
+    c.bad_line-in-None.ensures h
 
 pub returns-in-Some-parse_line-clause-line : goal.returns-in-Some-parse_line-clause-line
 returns-in-Some-parse_line-clause-line c bytes given h =
     let same : c.rest_of-bytes.result.now ≡ left c.args.self.now = c.rest_of-bytes.ensures
     ∙ ap (drop c.args.self.now.read) c.deref.ensures.value in
-    let first : FirstLineIs (Whole c.in-Whole.end) (left c.args.self.now) = subst (FirstLineIs (Whole c.in-Whole.end)) same c.in-Whole.ensures in
-    let begins : Begins c.in-Whole.end c.args.self.now = record { short = omega (arith, length-take c.in-Whole.end (left c.args.self.now), first.1); cut = first.2 } in
-    line_taken c.args.self.now c.take.new.self c.take.result c.in-Some-parse_line.line c.in-Whole.end bytes given c.in_default.is (owes_nothing c.args.self.now.state _ c.if-is_last.ensures refl) begins
-    (ap (λ l. line_of c.args.self.now.events (take c.in-Whole.end l)) (sym same) ∙ sym c.parse_line.ensures ∙ c.in-Some-parse_line.is) c.take.ensures.taken h
+    let first : FirstLineIs (Whole c.in-Whole.end) (left c.args.self.now) =
+    subst (FirstLineIs (Whole c.in-Whole.end)) same c.in-Whole.ensures in
+    let begins : Begins c.in-Whole.end c.args.self.now = record {
+      short =
+          omega (arith, length-take c.in-Whole.end (left c.args.self.now), first.1);
+      cut = first.2;
+    } in
+    line_taken c.args.self.now c.take.new.self c.take.result c.in-Some-parse_line.line c.in-Whole.end bytes given c.in_default.is
+    (owes_nothing c.args.self.now.state _ c.if-is_last.ensures refl) begins
+    (ap (λ l. line_of c.args.self.now.events (take c.in-Whole.end l)) (sym same) ∙ sym c.parse_line.ensures ∙ c.in-Some-parse_line.is)
+    c.take.ensures.taken h
 
 pub returns-in-Some-parse_line-clause-shrinks : goal.returns-in-Some-parse_line-clause-shrinks
 returns-in-Some-parse_line-clause-shrinks c =
     let same : c.rest_of-bytes.result.now ≡ left c.args.self.now = c.rest_of-bytes.ensures
     ∙ ap (drop c.args.self.now.read) c.deref.ensures.value in
-    let first : FirstLineIs (Whole c.in-Whole.end) (left c.args.self.now) = subst (FirstLineIs (Whole c.in-Whole.end)) same c.in-Whole.ensures in
-    let within : c.args.self.now.read + (c.in-Whole.end + 1) ≤ length c.args.self.now.pending.items = ends_within c.args.self.now c.in-Whole.end first.0 in
-    took_shrinks c.args.self.now c.take.new.self c.take.result c.in-Some-parse_line.line (c.in-Whole.end + 1) (omega arith) within (owes_nothing c.args.self.now.state _ c.if-is_last.ensures refl) c.take.ensures.taken
+    let first : FirstLineIs (Whole c.in-Whole.end) (left c.args.self.now) =
+    subst (FirstLineIs (Whole c.in-Whole.end)) same c.in-Whole.ensures in
+    let within : c.args.self.now.read + (c.in-Whole.end + 1) ≤ length c.args.self.now.pending.items =
+    ends_within c.args.self.now c.in-Whole.end first.0 in
+    took_shrinks c.args.self.now c.take.new.self c.take.result c.in-Some-parse_line.line (c.in-Whole.end + 1) (omega arith) within
+    (owes_nothing c.args.self.now.state _ c.if-is_last.ensures refl) c.take.ensures.taken
