@@ -1,7 +1,7 @@
 //! The frames of a record, format 2.
 
 use crate::common::profile::{Input, Profile, Sample};
-use crate::common::spelling::{put, put_header, put_input};
+use crate::common::spelling::{put, put_header, put_input, tags, FORMAT};
 use crate::jobs::{Cycle, Job, Refusal};
 
 /// Appends the elements, each with its length before it and, in a run, its draws behind it.
@@ -20,15 +20,7 @@ fn put_elements<J: Job>(job: &J, is_run: bool, bytes: &mut Vec<u8>) {
 }
 
 fn put_refusal(refusal: Refusal, bytes: &mut Vec<u8>) {
-    let (phase, pass, element, code) = match refusal {
-        Refusal::Prepare { code } => (0, 0, 0, code),
-        Refusal::Pool {
-            pass,
-            element,
-            code,
-        } => (1, pass, element, code),
-        Refusal::Conclude { code } => (2, 0, 0, code),
-    };
+    let (phase, pass, element, code) = refusal.parts();
     bytes.extend_from_slice(&[1, phase, pass]);
     put(element.to_be_bytes(), bytes);
     put(code.to_be_bytes(), bytes);
@@ -57,11 +49,19 @@ impl<'a, J: Job> Recorder<'a, J> {
         }
     }
 
-    /// The header and the frames before the first cycle.
-    pub fn beginning(&mut self) -> &[u8] {
+    /// The header, Register and Discover.
+    pub fn head(&mut self) -> &[u8] {
         self.frame.clear();
-        put_header(J::NUMBER, self.profile, &mut self.frame);
-        self.frame.extend_from_slice(&[1, 2, 3]);
+        put_header(FORMAT, J::NUMBER, self.profile, &mut self.frame);
+        self.frame
+            .extend_from_slice(&[tags::REGISTER, tags::DISCOVER]);
+        &self.frame
+    }
+
+    /// The frame of the elements before the first cycle.
+    pub fn init_frame(&mut self) -> &[u8] {
+        self.frame.clear();
+        self.frame.push(tags::INIT);
         put_elements(&self.job, false, &mut self.frame);
         &self.frame
     }
@@ -80,7 +80,7 @@ impl<'a, J: Job> Recorder<'a, J> {
         };
         let outcome = self.job.run(&cycle, &mut self.output);
         self.frame.clear();
-        self.frame.push(4);
+        self.frame.push(tags::RUN);
         put_input(input, &mut self.frame);
         match outcome {
             Ok(()) => {

@@ -1,9 +1,25 @@
 //! What a recording asks of a job.
 
+#[derive(Clone, Copy)]
 pub enum Refusal {
     Prepare { code: u32 },
     Pool { pass: u8, element: u32, code: u32 },
     Conclude { code: u32 },
+}
+
+impl Refusal {
+    /// The number of its phase, its pass and its element, which are 0 outside the pool, and its code.
+    pub fn parts(self) -> (u8, u8, u32, u32) {
+        match self {
+            Refusal::Prepare { code } => (0, 0, 0, code),
+            Refusal::Pool {
+                pass,
+                element,
+                code,
+            } => (1, pass, element, code),
+            Refusal::Conclude { code } => (2, 0, 0, code),
+        }
+    }
 }
 
 /// What a job sees of one cycle.

@@ -28,10 +28,6 @@ impl<T> Container<T> {
         &self.blocks
     }
 
-    pub fn blocks_mut(&mut self) -> &mut [Vec<T>] {
-        &mut self.blocks
-    }
-
     /// Adds a block behind whole ones.
     pub fn push_block(&mut self, block: Vec<T>) {
         self.blocks.push(block);

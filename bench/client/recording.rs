@@ -2,7 +2,7 @@
 
 use crate::common::profile::{Input, Profile};
 use crate::common::program::Failure;
-use crate::common::spelling::put_header;
+use crate::common::spelling::{put_header, FORMAT};
 use crate::common::stimulus::{Place, Stimulus};
 use crate::encode::encode_frame;
 use crate::engine::Engine;
@@ -29,7 +29,7 @@ struct Recording<J: Job, W> {
 impl<J: Job + 'static, W: Write> Recording<J, W> {
     /// Writes the header and the frames before the first cycle.
     fn begin(&mut self, profile: &Profile) -> io::Result<()> {
-        put_header(J::NUMBER, profile, &mut self.bytes);
+        put_header(FORMAT, J::NUMBER, profile, &mut self.bytes);
         let init = Frame::Init(self.engine.shown());
         for frame in [Frame::Register, Frame::Discover, init] {
             encode_frame(&frame, &mut self.bytes);
@@ -55,13 +55,13 @@ impl<J: Job + 'static, W: Write> Recording<J, W> {
     }
 }
 
-/// Records a stimulus. Answers the number of its bad line, where it has one.
+/// Records a stimulus, up to its end or its bad line.
 pub fn record<J: Job + 'static>(
     profile: &Profile,
     workers: usize,
     stimulus: File,
     out: impl Write,
-) -> Result<Option<u64>, Failure> {
+) -> Result<(), Failure> {
     let events = profile.events.len();
     let job = J::make(&profile.params, events)?;
     let mut recording = Recording {
@@ -79,9 +79,9 @@ pub fn record<J: Job + 'static>(
         recording.run(std::mem::take(&mut input))?;
     }
     if let Place::BadLine(line) = stimulus.place {
-        return Ok(Some(line));
+        return Err(Failure::bad_stimulus(line));
     }
     recording.write(&Frame::Terminate)?;
     recording.crew.stop();
-    Ok(None)
+    Ok(())
 }

@@ -48,7 +48,7 @@ pub struct Input {
 fn parse_event(text: &str) -> Result<Event, Failure> {
     let parts: Vec<&str> = text.split(':').collect();
     let [name, capacity, policy] = parts[..] else {
-        return Err(format!("no event: {text}").into());
+        return Err(Failure::other(format!("no event: {text}")));
     };
     Ok(Event {
         name: name.to_string(),

@@ -1,6 +1,21 @@
-//! The spelling of headers and of inputs, format 2.
+//! The spelling of headers and of inputs.
 
 use super::profile::{Input, Profile};
+
+/// What each record begins with.
+pub const MAGIC: &[u8] = b"DETREC";
+
+/// The format of the records that are made today.
+pub const FORMAT: u16 = 2;
+
+/// What each kind of frame begins with.
+pub mod tags {
+    pub const REGISTER: u8 = 1;
+    pub const DISCOVER: u8 = 2;
+    pub const INIT: u8 = 3;
+    pub const RUN: u8 = 4;
+    pub const TERMINATE: u8 = 5;
+}
 
 pub fn put<const N: usize>(part: [u8; N], bytes: &mut Vec<u8>) {
     bytes.extend_from_slice(&part);
@@ -13,9 +28,10 @@ pub fn put_time(time: Option<u64>, bytes: &mut Vec<u8>) {
     }
 }
 
-/// Appends the header of a record, given the job's number.
-pub fn put_header(number: u16, profile: &Profile, bytes: &mut Vec<u8>) {
-    bytes.extend_from_slice(b"DETREC\x00\x02");
+/// Appends the header of a record of a format, 1 or 2, given the job's number.
+pub fn put_header(format: u16, number: u16, profile: &Profile, bytes: &mut Vec<u8>) {
+    bytes.extend_from_slice(MAGIC);
+    put(format.to_be_bytes(), bytes);
     put(number.to_be_bytes(), bytes);
     put(profile.seed.to_be_bytes(), bytes);
     put(profile.cycle_time.to_be_bytes(), bytes);
@@ -28,7 +44,9 @@ pub fn put_header(number: u16, profile: &Profile, bytes: &mut Vec<u8>) {
         put(event.capacity.to_be_bytes(), bytes);
         bytes.push(event.name.len() as u8);
         bytes.extend_from_slice(event.name.as_bytes());
-        bytes.push(u8::from(event.is_fresh));
+        if format == FORMAT {
+            bytes.push(u8::from(event.is_fresh));
+        }
     }
 }
 

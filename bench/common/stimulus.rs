@@ -1,11 +1,9 @@
 //! The reader of a stimulus, line by line.
 
 use super::profile::{Input, Sample};
-use super::MOST_VALUE;
+use super::{MOST_CYCLES, MOST_SAMPLES, MOST_VALUE};
 use std::io::{self, BufRead, Read};
 
-const MOST_CYCLES: u32 = 1_000_000;
-const MOST_SAMPLES: usize = 4_096;
 const MOST_LINE: usize = 128;
 
 enum Line {

@@ -6,6 +6,7 @@ mod timed;
 use crate::timed::timed_passes;
 use anyhow::Context;
 use det_values::Params;
+use job_heavy::Heavy;
 use shipped_jobs::Cloud;
 use std::env;
 
@@ -19,6 +20,9 @@ const CASES: [(i64, u32, u32); 7] = [
     (65_536, 4, 1),
     (12, 4, 10_000),
 ];
+
+/// A number of heavy elements, of workers, and of passes over them.
+const HEAVY_CASES: [(i64, u32, u32); 3] = [(10_000, 1, 1), (10_000, 2, 1), (10_000, 4, 1)];
 
 fn main(rt: HostRuntime) -> anyhow::Result<()> {
     let word = env::args(&rt)?.nth(1);
@@ -37,6 +41,13 @@ fn main(rt: HostRuntime) -> anyhow::Result<()> {
         let workers = workers.clamp(1, 64);
         let time = timed_passes::<Cloud, _>(&rt, alloc, &params, workers, passes)?;
         println!(rt; "{particles} particles, {workers} workers, {passes} passes: {time:?}")?;
+    }
+    for (elements, workers, passes) in HEAVY_CASES {
+        let mut params = Params::new(alloc);
+        params.push(elements).ok().context("out of memory")?;
+        let workers = workers.clamp(1, 64);
+        let time = timed_passes::<Heavy, _>(&rt, alloc, &params, workers, passes)?;
+        println!(rt; "{elements} heavy elements, {workers} workers, {passes} passes: {time:?}")?;
     }
     Ok(())
 }

@@ -1,4 +1,4 @@
-//! Tests of the shipped jobs, each through all calls of the trait of jobs.
+//! Tests of the shipped jobs and of the heavy one, each through all calls of the trait of jobs.
 #![tactic(auto)]
 
 #[cfg(test)]
@@ -7,5 +7,7 @@ mod bank;
 mod cloud;
 #[cfg(test)]
 mod guard;
+#[cfg(test)]
+mod heavy;
 pub mod pass;
 pub mod trial;

@@ -1,0 +1,111 @@
+"""What is aimed at, and whether it was reached."""
+
+import os
+from dataclasses import dataclass
+from typing import Optional
+
+from inputs import RECORDED, SIM_NUMBER
+from running import Result
+from suites import BY_CLIENT, CYCLES_DIVISOR, IN_PLAIN, WORKERS
+
+ABSENT = "not in this program"
+
+# A line of the table, by its name and its number of workers.
+Key = tuple[str, Optional[int]]
+
+
+@dataclass(frozen=True)
+class Goal:
+    """A bound on what one line found by what another one found."""
+
+    what: str
+    of: Key
+    beside: Key
+    bound: float
+    is_memory: bool = False
+    is_least: bool = False
+    processors: int = 1
+
+    def figure(self, of: Result, beside: Result) -> Optional[float]:
+        """The ratio of both, or None where the program hasn't got one of them."""
+        if of.trial is None or beside.trial is None or of.seconds is None or beside.seconds is None:
+            return None
+        return of.trial.memory / beside.trial.memory if self.is_memory else of.seconds / beside.seconds
+
+    def verdict(self, figure: Optional[float], processors: int) -> str:
+        if figure is None:
+            return ABSENT
+        if processors < self.processors:
+            return f"needs {self.processors} processors"
+        holds = figure >= self.bound if self.is_least else figure <= self.bound
+        return "holds" if holds else "missed"
+
+    def cells(self, of: Result, beside: Result, processors: int) -> list[str]:
+        figure = self.figure(of, beside)
+        told = "" if figure is None else f"{figure:.3f}"
+        bound = f"at {'least' if self.is_least else 'most'} {self.bound}"
+        return [self.what, told, bound, self.verdict(figure, processors)]
+
+
+def workers_goals(what: str) -> list[Goal]:
+    """That more workers are not slower than one, and take not much more memory."""
+    one, goals = (what, 1), []
+    for workers in WORKERS[1:]:
+        more, many = (what, workers), f"{what}, {workers} workers"
+        goals.append(Goal(f"{many}: time, of one worker", more, one, 1.05))
+        goals.append(Goal(f"{many}: memory, of one worker", more, one, 2.0, is_memory=True))
+    return goals
+
+
+def gain_goal(name: str) -> Goal:
+    most = WORKERS[-1]
+    what = f"record {name}: gain of {most} workers"
+    return Goal(what, (f"record {name}", 1), (f"record {name}", most), 2.9, is_least=True, processors=most)
+
+
+def record_goals(name: str) -> list[Goal]:
+    what, show = f"record {name}", f"show {name}"
+    one = (what, 1)
+    again = [
+        Goal(f"{command} {name}: time, of {what}", (f"{command} {name}", None), one, 1.1)
+        for command in ("replay", "check")
+    ]
+    return [
+        Goal(f"{what}: time, of the same interfaces in plain Rust", one, (what + BY_CLIENT, 1), 1.0),
+        *workers_goals(what),
+        *again,
+        Goal(f"{show}: time, of plain Rust", (show, None), (show + IN_PLAIN, None), 1.0),
+    ]
+
+
+def copies_goals() -> list[Goal]:
+    return [
+        Goal("compare 2: time, of cmp", ("compare 2", None), ("cmp", None), 1.5),
+        *(
+            Goal(f"{what}: time, of plain Rust", (what, None), (what + IN_PLAIN, None), 1.5)
+            for what in ("salvage", "upgrade")
+        ),
+    ]
+
+
+def all_goals() -> list[Goal]:
+    part = f"record cycles / {CYCLES_DIVISOR}"
+    return [
+        *(goal for name in RECORDED for goal in record_goals(name)),
+        gain_goal("cloud"),
+        gain_goal("large"),
+        Goal(f"record cycles: memory, of {part}", ("record cycles", 1), (part, 1), 1.2, is_memory=True),
+        *copies_goals(),
+        *workers_goals(f"sim {SIM_NUMBER}"),
+    ]
+
+
+def judged(results: list[Result]) -> list[list[str]]:
+    """The cells of each goal of which both lines were asked for."""
+    found = {(result.command.what, result.command.workers): result for result in results}
+    processors = len(os.sched_getaffinity(0))
+    return [
+        goal.cells(found[goal.of], found[goal.beside], processors)
+        for goal in all_goals()
+        if goal.of in found and goal.beside in found
+    ]

@@ -1,0 +1,110 @@
+"""The inputs: manifests and stimuli, as values."""
+
+from dataclasses import dataclass
+from pathlib import Path
+from typing import Callable, Iterator
+
+SIM_NUMBER = 7
+CYCLE_TIME = 10_000_000
+WORD = (1 << 64) - 1
+
+
+@dataclass(frozen=True)
+class Recording:
+    """A manifest and a stimulus."""
+
+    name: str
+    job: str
+    params: list[int]
+    events: list[str]
+    lines: list[str]
+    seed: int = 0
+
+    def cycles(self) -> int:
+        return sum(line.startswith("cycle ") for line in self.lines)
+
+    def manifest(self) -> str:
+        head = f'job = "{self.job}"\ncycle_time_ns = {CYCLE_TIME}\nworkers = 1\nparams = {self.params}\n'
+        return head + "".join(f'\n[[event]]\nname = "{event}"\ncapacity = 1\n' for event in self.events)
+
+    def stimulus(self) -> str:
+        return "".join(f"{line}\n" for line in self.lines)
+
+    def plain_words(self, stimulus: Path) -> list[str]:
+        """The words by which the plain programs record it."""
+        params = ",".join(str(param) for param in self.params)
+        events = ",".join(f"{event}:1:last" for event in self.events)
+        return ["record", self.job, str(CYCLE_TIME), params, events, str(self.seed), str(stimulus)]
+
+
+def split_mix(state: int) -> Iterator[int]:
+    """The outputs of the generator SplitMix64."""
+    while True:
+        state = (state + 0x9E3779B97F4A7C15) & WORD
+        word = state
+        word = (word ^ (word >> 30)) * 0xBF58476D1CE4E5B9 & WORD
+        word = (word ^ (word >> 27)) * 0x94D049BB133111EB & WORD
+        yield word ^ (word >> 31)
+
+
+def made_lines(number: int, cycles: int) -> list[str]:
+    """The first cycles of the stimulus that `sim` makes of a number. It has 200."""
+    words = split_mix(number)
+    lines = ["stim 1"]
+    for cycle in range(cycles):
+        lines.append(f"cycle {CYCLE_TIME * cycle}")
+        lines += [f"sample {event} {next(words) % 2_000_001 - 1_000_000}" for event in (0, 1)]
+    return [*lines, "terminate"]
+
+
+def sampled_lines(cycles: int, value: Callable[[int], int]) -> list[str]:
+    """A sample of event 0 in each cycle."""
+    lines = ["stim 1"]
+    for cycle in range(cycles):
+        lines += [f"cycle {CYCLE_TIME * cycle}", f"sample 0 {value(cycle)}"]
+    return [*lines, "terminate"]
+
+
+def wave(cycle: int) -> int:
+    return cycle * 7_919 % 2_001 - 1_000
+
+
+def spiky(cycle: int) -> int:
+    """A wave of which every fifth value is out of the guard's range."""
+    return 5_000 if cycle % 5 == 3 else wave(cycle)
+
+
+def bank(is_quick: bool) -> Recording:
+    return Recording("bank", "bank", [65_536, 2], ["x"], sampled_lines(4 if is_quick else 20, wave))
+
+
+def moving(name: str, particles: int, cycles: int) -> Recording:
+    """A cloud over the first cycles of the stimulus that `sim` makes, with its seed."""
+    params, events = [particles, 1_000, 50, 4_000_000_000_000], ["x", "y", "hold"]
+    return Recording(name, "cloud", params, events, made_lines(SIM_NUMBER, cycles), seed=SIM_NUMBER)
+
+
+def cloud(is_quick: bool) -> Recording:
+    return moving("cloud", 10_000, 20 if is_quick else 200)
+
+
+def large(is_quick: bool) -> Recording:
+    """Passes so long that what is done once in each of them counts for less."""
+    return moving("large", 65_536, 8 if is_quick else 40)
+
+
+def guard(is_quick: bool) -> Recording:
+    """A bad sample has all channels corrected in the cycle after it."""
+    params = [65_536, -1_000, 1_000, 3, 65_536]
+    return Recording("guard", "guard", params, ["x"], sampled_lines(4 if is_quick else 20, spiky))
+
+
+def cycles(is_quick: bool, divisor: int = 1) -> Recording:
+    """Short cycles, and of their number the part that a divisor leaves."""
+    number = (20_000 if is_quick else 200_000) // divisor
+    name = "cycles" if divisor == 1 else f"cycles / {divisor}"
+    return Recording(name, "bank", [4, 2], ["x"], sampled_lines(number, wave))
+
+
+RECORDED = {"bank": bank, "cloud": cloud, "large": large, "guard": guard, "cycles": cycles}
+NAMES = (*RECORDED, "copies", "sim")

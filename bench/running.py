@@ -1,0 +1,159 @@
+"""Commands that are run and measured."""
+
+import ctypes
+import hashlib
+import os
+import subprocess
+import sys
+import time
+from dataclasses import dataclass
+from pathlib import Path
+from typing import Optional
+
+BAD_WORDS = 2
+MEMORY_RUNS = 3
+
+
+class Failure(Exception):
+    """What ends the measuring, in a line for the user."""
+
+
+@dataclass(frozen=True)
+class Command:
+    """A command, and the line of the table that it fills.
+
+    `gives` names what it writes: commands that give the same have to write the same bytes. `records` says how many
+    records it reads or writes, of those that a group of commands is about.
+    """
+
+    what: str
+    words: list[str]
+    workers: Optional[int] = None
+    gives: Optional[str] = None
+    records: float = 1
+    keep: Optional[Path] = None
+
+
+@dataclass(frozen=True)
+class Trial:
+    """What a run for the output showed. The memory is the greatest that was resident, in bytes."""
+
+    memory: int
+    digest: str
+
+
+@dataclass(frozen=True)
+class Result:
+    """What was found of a command. There is nothing where the program hasn't got it."""
+
+    command: Command
+    trial: Optional[Trial]
+    seconds: Optional[float]
+
+
+def size(path: Path) -> int:
+    return path.stat().st_size
+
+
+def digest_of(path: Path) -> str:
+    digest = hashlib.sha256()
+    with path.open("rb") as file:
+        while piece := file.read(1 << 20):
+            digest.update(piece)
+    return digest.hexdigest()
+
+
+def digest_of_text(text: str) -> str:
+    return hashlib.sha256(text.encode()).hexdigest()
+
+
+def failure(words: list[str], status: int) -> Failure:
+    return Failure(f"status {status}: {' '.join(words)}")
+
+
+def text_of(words: list[str]) -> str:
+    """What a command prints."""
+    done = subprocess.run(words, stdout=subprocess.PIPE, text=True)
+    if done.returncode != 0:
+        raise failure(words, done.returncode)
+    return done.stdout
+
+
+def run_into(path: Path, words: list[str]) -> None:
+    with path.open("wb") as file:
+        status = subprocess.run(words, stdout=file).returncode
+    if status != 0:
+        raise failure(words, status)
+
+
+def adopt_orphans() -> None:
+    """Makes this process the parent of what its children leave behind (Linux)."""
+    set_child_subreaper = 36
+    if ctypes.CDLL(None).prctl(set_child_subreaper, 1, 0, 0, 0) != 0:
+        raise Failure("this system doesn't hand over orphans")
+
+
+def memory_of(words: list[str], output: Path, errors: Path) -> Optional[int]:
+    """Runs a command into a file, and answers the greatest resident memory in bytes, or None for bad words.
+
+    A child begins as a copy of its parent, and this counts as the child's memory. So a shell, which is small, starts
+    the command and ends, and this process takes it in.
+    """
+    start = ["sh", "-c", 'out=$0 err=$1; shift; "$@" >"$out" 2>"$err" & echo $!', str(output), str(errors), *words]
+    number = int(subprocess.run(start, stdout=subprocess.PIPE, check=True).stdout)
+    _, status, usage = os.wait4(number, 0)
+    code = os.waitstatus_to_exitcode(status)
+    told = errors.read_text()
+    if code == BAD_WORDS and told == "bad words\n":
+        return None
+    if code != 0:
+        print(told, end="", file=sys.stderr)
+        raise failure(words, code)
+    return usage.ru_maxrss * 1024
+
+
+def wall_time(words: list[str]) -> float:
+    """The wall time of a run whose output goes nowhere."""
+    begun = time.perf_counter()
+    status = subprocess.run(words, stdout=subprocess.DEVNULL).returncode
+    seconds = time.perf_counter() - begun
+    if status != 0:
+        raise failure(words, status)
+    return seconds
+
+
+def least_times(commands: list[Command], rounds: int) -> list[float]:
+    """The least wall time of each command. They take turns, so that what else the host does hits all of them alike."""
+    walls: list[list[float]] = [[] for _ in commands]
+    turns = list(zip(commands, walls))
+    for number in range(rounds):
+        for command, found in turns if number % 2 == 0 else reversed(turns):
+            found.append(wall_time(command.words))
+    return [min(found) for found in walls]
+
+
+class Runner:
+    """Runs commands, in a folder for what they write."""
+
+    def __init__(self, room: Path, rounds: int) -> None:
+        self.room = room
+        self.rounds = rounds
+        self.errors = room / "errors"
+
+    def trial(self, command: Command) -> Optional[Trial]:
+        """Runs a command into a file, and for the least memory of some runs a few times more into nothing."""
+        print(f"{command.what} {command.workers or ''} ..", file=sys.stderr)
+        output = command.keep or self.room / "output"
+        memory = memory_of(command.words, output, self.errors)
+        if memory is None:
+            return None
+        for _ in range(min(self.rounds, MEMORY_RUNS) - 1):
+            memory = min(memory, memory_of(command.words, Path(os.devnull), self.errors) or memory)
+        return Trial(memory, digest_of(output))
+
+    def measure(self, commands: list[Command]) -> list[Result]:
+        """Tries the commands one after another, and then takes the times of those that the programs have."""
+        trials = [self.trial(command) for command in commands]
+        present = [command for command, trial in zip(commands, trials) if trial]
+        times = iter(least_times(present, self.rounds))
+        return [Result(command, trial, next(times) if trial else None) for command, trial in zip(commands, trials)]

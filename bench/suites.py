@@ -1,0 +1,205 @@
+"""What is measured on each input, and which outputs have to be equal."""
+
+import os
+import shutil
+import subprocess
+from dataclasses import dataclass
+from pathlib import Path
+from typing import Optional
+
+from inputs import RECORDED, SIM_NUMBER, Recording, cloud, cycles
+from running import Command, Result, Runner, digest_of, digest_of_text, run_into, size, text_of
+
+PLAIN = Path(__file__).resolve().parent
+WORKERS = (1, 2, 4)
+CLIENT_WORKERS = (1, 4)
+MOST_COPIES = 8
+CYCLES_DIVISOR = 10
+
+# Endings of the names of lines, for those of the plain programs.
+IN_PLAIN = ", plain Rust"
+BY_CLIENT = ", same interfaces"
+
+
+@dataclass(frozen=True)
+class Programs:
+    """The program that is measured, and the plain ones, where there is a compiler for them."""
+
+    det: Path
+    baseline: Optional[Path]
+    client: Optional[Path]
+
+
+def build_plain(name: str, room: Path) -> Optional[Path]:
+    """One of the plain Rust programs, where there is a compiler for it."""
+    program = room / name
+    words = ["rustc", "-O", "--edition", "2021", "-o", str(program), str(PLAIN / name / "main.rs")]
+    if not shutil.which("rustc") or subprocess.run(words).returncode != 0:
+        return None
+    return program
+
+
+@dataclass(frozen=True)
+class Row:
+    """A line of the table: what was found, the bytes of the record that it is about, and the time that is 1."""
+
+    result: Result
+    size: int
+    first: Optional[float]
+
+
+class Bench:
+    """The measurements, and what they found."""
+
+    def __init__(self, runner: Runner, programs: Programs, is_quick: bool) -> None:
+        self.runner = runner
+        self.programs = programs
+        self.is_quick = is_quick
+        self.rows: list[Row] = []
+        self.remarks: list[str] = []
+        self.is_same = True
+
+    def room(self, name: str) -> Path:
+        return self.runner.room / name
+
+    def det(self, *words: object) -> list[str]:
+        return [str(self.programs.det), *map(str, words)]
+
+    def in_plain(self, what: str, gives: str, *words: object) -> list[Command]:
+        """A command of the least plain program, where there is one."""
+        if self.programs.baseline is None:
+            return []
+        return [Command(what + IN_PLAIN, [str(self.programs.baseline), *map(str, words)], gives=gives)]
+
+    def add_rows(self, results: list[Result], size: int, first: Optional[float] = None) -> None:
+        self.rows += [Row(result, size, first) for result in results]
+
+    def judge(self, results: list[Result], expected: dict[str, str]) -> None:
+        """Tells of each thing that was given whether its bytes were equal, and equal to those that are expected."""
+        found: dict[str, list[str]] = {gives: [digest] for gives, digest in expected.items()}
+        for result in results:
+            if result.trial and result.command.gives:
+                found.setdefault(result.command.gives, []).append(result.trial.digest)
+        for gives, digests in found.items():
+            if len(digests) > 1:
+                self.tell_whether_same(f"{gives}, {len(digests)} times", digests)
+
+    def tell_whether_same(self, what: str, digests: list[str]) -> None:
+        is_same = len(set(digests)) == 1
+        self.is_same = self.is_same and is_same
+        self.remarks.append(f"{what}: {'equal, byte for byte' if is_same else 'THEY DIFFER'}")
+
+    # ---- a stimulus recorded ----
+
+    def inputs(self, recording: Recording) -> tuple[Path, list[str]]:
+        """Writes a manifest and a stimulus. Answers the stimulus, and the words that record it."""
+        name = recording.name.replace(" / ", "_")
+        manifest, stimulus = self.room(f"{name}.toml"), self.room(f"{name}.stim")
+        manifest.write_text(recording.manifest())
+        stimulus.write_text(recording.stimulus())
+        return stimulus, self.det("record", manifest, stimulus, "--seed", recording.seed)
+
+    def recorded(self, recording: Recording, record: Path) -> list[Command]:
+        """The recording by each number of workers, the first of which keeps the record, and by plain Rust."""
+        stimulus, words = self.inputs(recording)
+        what, gives, plain = f"record {recording.name}", f"record of {recording.name}", recording.plain_words(stimulus)
+        commands = [
+            Command(what, [*words, "--workers", str(workers)], workers, gives, keep=record if workers == 1 else None)
+            for workers in WORKERS
+        ]
+        if self.programs.client:
+            client = [str(self.programs.client), *plain]
+            commands += [
+                Command(what + BY_CLIENT, [*client, str(workers)], workers, gives) for workers in CLIENT_WORKERS
+            ]
+        return commands + self.in_plain(what, gives, *plain)
+
+    def read_again(self, name: str, record: Path) -> list[Command]:
+        """The commands that read the record."""
+        text = f"text of {name}"
+        return [
+            Command(f"replay {name}", self.det("replay", record), gives=f"record of {name}"),
+            Command(f"check {name}", self.det("check", record), gives=f"verdict on {name}"),
+            Command(f"show {name}", self.det("show", record), gives=text),
+            *self.in_plain(f"show {name}", text, "show", record),
+        ]
+
+    def tenth(self) -> Command:
+        """The recording of a part of the short cycles, for its memory."""
+        few = cycles(self.is_quick, CYCLES_DIVISOR)
+        return Command(f"record {few.name}", self.inputs(few)[1], 1, records=1 / CYCLES_DIVISOR)
+
+    def record(self, recording: Recording) -> None:
+        name, record = recording.name, self.room("record")
+        commands = self.recorded(recording, record)
+        if name == "cycles":
+            commands.append(self.tenth())
+        results = self.runner.measure(commands + self.read_again(name, record))
+        self.add_rows(results, size(record), results[0].seconds)
+        verdict = f"genuine {recording.cycles()}\n" + text_of(self.det("show", "--reports", record))
+        self.judge(results, {f"verdict on {name}": digest_of_text(verdict)})
+
+    # ---- a record and its copies ----
+
+    def compared(self, copies: list[Path]) -> list[Command]:
+        def compare(count: int) -> Command:
+            words = self.det("compare", *copies[:count])
+            return Command(f"compare {count}", words, gives="verdict on copies", records=count)
+
+        cmp = [Command("cmp", ["cmp", *map(str, copies[:2])], records=2)] if shutil.which("cmp") else []
+        return [compare(2), *cmp, compare(MOST_COPIES)]
+
+    def salvaged(self, record: Path, cycles: int) -> list[Command]:
+        """A record that breaks off in the middle of its last cycle, made whole."""
+        cut = self.room("cut")
+        shutil.copyfile(record, cut)
+        os.truncate(cut, size(record) - size(record) // cycles // 2)
+        salvage = Command("salvage", self.det("salvage", cut), gives="salvaged record")
+        return [salvage, *self.in_plain("salvage", "salvaged record", "salvage", cut)]
+
+    def upgraded(self, record: Path) -> list[Command]:
+        """A record in format 1, which only a plain program makes, run again in format 2."""
+        if self.programs.baseline is None:
+            return []
+        old = self.room("old")
+        run_into(old, [str(self.programs.baseline), "downgrade", str(record)])
+        upgrade = Command("upgrade", self.det("upgrade", old), gives="upgraded record")
+        return [upgrade, *self.in_plain("upgrade", "upgraded record", "upgrade", old)]
+
+    def copies(self) -> None:
+        recording = cloud(self.is_quick)
+        paths = [self.room(f"copy{number}") for number in range(MOST_COPIES)]
+        run_into(paths[0], self.inputs(recording)[1])
+        for path in paths[1:]:
+            shutil.copyfile(paths[0], path)
+        commands = self.compared(paths) + self.salvaged(paths[0], recording.cycles()) + self.upgraded(paths[0])
+        results = self.runner.measure(commands)
+        self.add_rows(results, size(paths[0]))
+        agree = digest_of_text(f"agree {recording.cycles()}\n")
+        self.judge(results, {"verdict on copies": agree, "upgraded record": digest_of(paths[0])})
+
+    # ---- a simulated run ----
+
+    def sim(self) -> None:
+        """The simulated run by each number of workers, and the time of its digest alone."""
+        record, summary = self.room("record"), self.room("summary")
+        run_into(record, self.inputs(cloud(False))[1])
+        what, sim = f"sim {SIM_NUMBER}", self.det("sim", SIM_NUMBER, "--workers")
+        text = f"text of {what}"
+        commands = [Command(what, [*sim, str(workers)], workers, text, keep=summary) for workers in WORKERS]
+        if shutil.which("sha256sum"):
+            commands.append(Command("sha256sum of its record", ["sha256sum", str(record)]))
+        results = self.runner.measure(commands)
+        self.add_rows(results, size(record), results[0].seconds)
+        self.judge(results, {})
+        told = dict(line.split(" ", 1) for line in summary.read_text().splitlines())
+        self.tell_whether_same("digests by sim and of the recorded cloud", [told["sha256"], digest_of(record)])
+
+    def measure(self, only: Optional[str]) -> None:
+        for name, recording in RECORDED.items():
+            if only in (None, name):
+                self.record(recording(self.is_quick))
+        if only in (None, "copies"):
+            self.copies()
+        if only in (None, "sim"):
+            self.sim()

@@ -1,0 +1,27 @@
+//! How many elements ran.
+
+ghost use Rattle.std.specs.Prelude.{◌≡◌, ◌+◌, IfOk};
+ghost use Rattle.job_trait.specs.Laws.{CoverTogether, CoversBoth};
+ghost use Rattle.job_heavy.specs.Meaning.{output};
+ghost use Rattle.job_heavy.specs.Ranges.{IsCountOf};
+
+use det_values::{Bytes, OutOfMemory};
+use std::alloc::Global;
+
+/// The elements of two counts.
+pub(crate) fn both(left: u64, right: u64) -> u64
+    requires { CoverTogether IsCountOf left right }
+    ensures sum { result ≡ left + right }
+    ensures covers { CoversBoth IsCountOf left right result }
+{
+    left + right
+}
+
+/// The count, 8 bytes.
+pub(crate) fn output(alloc: Global, count: u64) -> Result<Bytes, OutOfMemory>
+    ensures { IfOk result (λ bytes. bytes ≡ output count) }
+{
+    let mut bytes = Bytes::from_vec(Vec::with_capacity(alloc, 8)?);
+    bytes.extend_from_slice(&count.to_be_bytes())?;
+    Ok(bytes)
+}

@@ -1,0 +1,14 @@
+//! The heavy job: one that does next to nothing but draw random words, for timing.
+//!
+//! In each cycle each element draws 64 words and folds them into its state. The output is the
+//! number of elements that ran. No shipped command knows this job.
+#![tactic(auto)]
+
+mod count;
+mod heavy;
+mod job;
+mod state;
+
+pub use heavy::Heavy;
+pub use job::{NoGlobals, NoPlan};
+pub use state::State;

@@ -1,0 +1,59 @@
+//! Elements, and the words that they fold.
+
+ghost use Rattle.std.specs.Prelude.{◌≡◌, ℕ, ◌≤◌, ◌++◌, IfOk, OnOk, length};
+ghost use Rattle.std.specs.List.{All};
+ghost use Rattle.det_values.specs.Spelling.{Grows};
+ghost use Rattle.element_random.specs.Words.{StandsFor};
+ghost use Rattle.job_heavy.specs.Meaning.{folded, first_states, shown};
+ghost use Rattle.job_heavy.specs.Ranges.{Own};
+
+use crate::Heavy;
+use det_values::{Container, OutOfMemory};
+use element_random::ElementRandom;
+use std::alloc::Global;
+
+/// An element: what the words that it drew were folded into.
+#[derive(Clone, Copy, Debug, PartialEq, Eq, Drop)]
+pub struct State {
+    pub(crate) folded: u64,
+}
+
+/// All elements of a job, each with its own number.
+pub(crate) fn first_states(alloc: Global, heavy: &Heavy) -> Result<Container<State>, OutOfMemory>
+    ensures states { IfOk result (λ states. states ≡ first_states heavy.now) }
+    ensures own { IfOk result (All (Own heavy.now)) }
+    ensures few { IfOk result (λ states. length states ≤ 65536) }
+{
+    let mut states = Container::with_room(alloc, heavy.elements as usize)?;
+    for i in 0..heavy.elements {
+        states.push(
+            alloc,
+            State {
+                folded: u64::from(i),
+            },
+        )?;
+    }
+    Ok(states)
+}
+
+/// A number into which the first 64 words of a stream are folded.
+pub(crate) fn fold_words(first: u64, random: &mut ElementRandom) -> u64
+    ensures folded { (key : ℕ) → StandsFor random.old key 0 → result ≡ folded first key 64 }
+    ensures draws { (key : ℕ) → StandsFor random.old key 0 → random.new.draws ≡ 64 }
+{
+    let mut state = first;
+    for _ in 0..64u32 {
+        state = state.rotate_left(5) ^ random.get_random();
+    }
+    state
+}
+
+/// Appends the state, 8 bytes.
+#[inline(always)]
+pub(crate) fn put_state(state: &State, out: &mut Vec<u8>) -> Result<(), OutOfMemory>
+    ensures ok { OnOk result (out.new.items ≡ out.old.items ++ shown state.now) }
+    ensures grows { Grows out.old.items out.new.items }
+{
+    out.extend_from_slice(&state.folded.to_be_bytes())?;
+    Ok(())
+}
