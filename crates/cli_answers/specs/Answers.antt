@@ -40,6 +40,11 @@ abbrev pub by_fault : Option RecordFault → Answer
 by_fault None = Done
 by_fault (Some fault) = BadRecord 0 fault
 
+-- what a command answers that stopped in the one record that it reads, which is copy 0
+abbrev pub stopped : Stopped RecordFault → Answer
+stopped (Refused fault) = BadRecord 0 fault
+stopped (Failed failure) = failed failure
+
 -- what a command answers that has no manifest
 abbrev pub without_manifest : Stopped refusals.BadManifest → Answer
 without_manifest (Refused why) = BadManifest why

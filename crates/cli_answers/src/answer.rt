@@ -70,6 +70,20 @@ impl From<Stopped<BadManifest>> for Answer {
     }
 }
 
+impl From<Stopped<RecordFault>> for Answer {
+    ghost use Rattle.std.specs.Prelude.{◌≡◌};
+    ghost use Rattle.cli_answers.specs.Answers.{stopped};
+
+    ghost from_gives = { λ stop answer. answer ≡ stopped stop };
+
+    fn from(stop: Stopped<RecordFault>) -> Answer {
+        match stop {
+            Stopped::Refused(fault) => Answer::BadRecord { copy: 0, fault },
+            Stopped::Failed(failure) => Answer::from(failure),
+        }
+    }
+}
+
 fn word_of(reason: Reason) -> &'static str
     ensures word { result.now ≡ reason_word reason }
     ensures short { length result.now ≤ 9 }

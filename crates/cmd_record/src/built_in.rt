@@ -12,9 +12,8 @@ use det_edges::{Shelf, Sink};
 use det_values::{
     EventName, EventSpec, Events, Format, JobKind, OutOfMemory, Params, Policy, Profile,
 };
-use shipped_crews::{ShippedRun, Workers};
+use shipped_crews::{Host, ShippedRun};
 use std::alloc::Global;
-use std::sync::Arc;
 use std::thread::Threads;
 use worker_pool::Gate;
 
@@ -57,14 +56,12 @@ fn demo_profile(alloc: Global) -> Result<Profile, OutOfMemory>
 }
 
 /// Writes the record of the built-in profile over the stimulus of this name.
-pub fn demo<R: Threads + Sync, S: Shelf, K: Sink, G: Gate + Send + Sync + 'static>(
-    rt: &R,
-    alloc: Global,
-    stimulus: &str,
-    shelf: &mut S,
-    out: &mut K,
-    gate: &Arc<G, Global>,
-) -> Answer
+pub fn demo<S, K, R, G>(host: &Host<'_, R, G>, stimulus: &str, shelf: &mut S, out: &mut K) -> Answer
+where
+    S: Shelf,
+    K: Sink,
+    R: Threads,
+    G: Gate + Send + Sync + 'static,
     ensures meets { Meets (demo_outcome (told (S.sees shelf.old) stimulus.now))
         (Tells (S.sees shelf.old) (stimulus.now ∷ []))
         (Rose (S.sees shelf.old).faults (S.sees shelf.new).faults)
@@ -73,15 +70,10 @@ pub fn demo<R: Threads + Sync, S: Shelf, K: Sink, G: Gate + Send + Sync + 'stati
     ensures ends { can_end demo_work result ≡ true }
     ensures asked { AsksPrefix (S.sees shelf.old) (S.sees shelf.new) (stimulus.now ∷ []) }
 {
-    let Ok(profile) = demo_profile(alloc) else {
+    let Ok(profile) = demo_profile(host.alloc) else {
         return Answer::OutOfMemory;
     };
-    let workers = Workers {
-        rt,
-        alloc,
-        count: 1,
-        gate,
-    };
     let kind = JobKind::Bank;
-    record_named(&workers, ShippedRun { kind, profile }, stimulus, shelf, out)
+    let run = ShippedRun { kind, profile };
+    record_named(&host.workers(1), run, stimulus, shelf, out)
 }

@@ -12,11 +12,24 @@ use crate::over_stimulus::record_named;
 use cli_answers::Answer;
 use cmd_setup::read_setup;
 use det_edges::{Shelf, Sink};
-use shipped_crews::{ShippedRun, Workers};
-use std::alloc::Global;
-use std::sync::Arc;
+use shipped_crews::{Host, ShippedRun};
 use std::thread::Threads;
 use worker_pool::Gate;
+
+/// What is to be recorded.
+#[derive(Drop)]
+pub struct RecordTask<'t> {
+    /// The name of the manifest.
+    pub manifest: &'t str,
+    /// Whether a key that no table of a manifest knows is a fault.
+    pub strict: bool,
+    /// The name of the stimulus.
+    pub stimulus: &'t str,
+    /// 0 where none is given.
+    pub seed: Option<u64>,
+    /// As many as the manifest says where none is given.
+    pub workers: Option<u32>,
+}
 
 /// The number of workers that is given, or else the manifest's.
 fn workers_or(given: Option<u32>, own: u32) -> u32
@@ -30,49 +43,46 @@ fn workers_or(given: Option<u32>, own: u32) -> u32
     }
 }
 
-/// Writes the record of a manifest's profile over a stimulus. The seed is 0, and the number of
-/// workers the manifest's, where none is given. The manifest is read and judged before the stimulus
-/// is opened; where it is read strictly, a key that no table of a manifest knows is a fault.
-pub fn record_stimulus<R: Threads + Sync, S: Shelf, K: Sink, G: Gate + Send + Sync + 'static>(
-    rt: &R,
-    alloc: Global,
-    manifest: &str,
-    strict: bool,
-    stimulus: &str,
-    seed: Option<u64>,
-    workers: Option<u32>,
+/// Writes the record of a manifest's profile over a stimulus. The manifest is read and judged
+/// before the stimulus is opened.
+pub fn record_stimulus<S, K, R, G>(
+    host: &Host<'_, R, G>,
+    task: &RecordTask<'_>,
     shelf: &mut S,
     out: &mut K,
-    gate: &Arc<G, Global>,
 ) -> Answer
-    requires workers { IfSome workers IsWorkers }
-    ensures meets { Meets (record_outcome strict (told (S.sees shelf.old) manifest.now)
-        (told (S.sees shelf.old) stimulus.now) seed)
-        (Tells (S.sees shelf.old) (record_names manifest.now stimulus.now
-        (setup_of strict (told (S.sees shelf.old) manifest.now))))
+where
+    S: Shelf,
+    K: Sink,
+    R: Threads,
+    G: Gate + Send + Sync + 'static,
+    requires workers { IfSome task.now.workers IsWorkers }
+    ensures meets { Meets
+        (record_outcome task.now.strict (told (S.sees shelf.old) task.now.manifest.now)
+        (told (S.sees shelf.old) task.now.stimulus.now) task.now.seed)
+        (Tells (S.sees shelf.old) (record_names task.now.manifest.now task.now.stimulus.now
+        (setup_of task.now.strict (told (S.sees shelf.old) task.now.manifest.now))))
         (Rose (S.sees shelf.old).faults (S.sees shelf.new).faults)
         (Rose (K.faults out.old) (K.faults out.new)) (K.took out.old) (K.took out.new) result }
     ensures ends { can_end record_work result ≡ true }
-    ensures asked { AsksPrefix (S.sees shelf.old) (S.sees shelf.new) (manifest.now ∷ stimulus.now
-        ∷ []) }
-    ensures judged { Tells (S.sees shelf.old) (record_names manifest.now stimulus.now
-        (setup_of strict (told (S.sees shelf.old) manifest.now)))
-        → AsksPrefix (S.sees shelf.old) (S.sees shelf.new) (record_names manifest.now stimulus.now
-        (setup_of strict (told (S.sees shelf.old) manifest.now))) }
+    ensures asked { AsksPrefix (S.sees shelf.old) (S.sees shelf.new)
+        (task.now.manifest.now ∷ task.now.stimulus.now ∷ []) }
+    ensures judged { Tells (S.sees shelf.old)
+        (record_names task.now.manifest.now task.now.stimulus.now
+        (setup_of task.now.strict (told (S.sees shelf.old) task.now.manifest.now)))
+        → AsksPrefix (S.sees shelf.old) (S.sees shelf.new)
+        (record_names task.now.manifest.now task.now.stimulus.now
+        (setup_of task.now.strict (told (S.sees shelf.old) task.now.manifest.now))) }
 {
-    let setup = match read_setup(alloc, manifest, strict, shelf) {
+    let setup = match read_setup(host.alloc, task.manifest, task.strict, shelf) {
         Ok(setup) => setup,
         Err(end) => return Answer::from(end),
     };
-    let Ok(profile) = setup.profile(alloc, seed.unwrap_or(0)) else {
+    let Ok(profile) = setup.profile(host.alloc, task.seed.unwrap_or(0)) else {
         return Answer::OutOfMemory;
     };
     let kind = setup.kind();
-    let workers = Workers {
-        rt,
-        alloc,
-        count: workers_or(workers, setup.workers()),
-        gate,
-    };
-    record_named(&workers, ShippedRun { kind, profile }, stimulus, shelf, out)
+    let workers = host.workers(workers_or(task.workers, setup.workers()));
+    let run = ShippedRun { kind, profile };
+    record_named(&workers, run, task.stimulus, shelf, out)
 }

@@ -7,7 +7,7 @@ mod by_manifest;
 mod over_stimulus;
 
 pub use built_in::demo;
-pub use by_manifest::record_stimulus;
+pub use by_manifest::{RecordTask, record_stimulus};
 
 #[cfg(test)]
 mod tests;

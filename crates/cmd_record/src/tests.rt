@@ -1,8 +1,9 @@
 //! Runs of both commands over shelves and sinks in memory.
-use crate::{demo, record_stimulus};
+use crate::{RecordTask, demo, record_stimulus};
 use cli_answers::{Answer, BadManifest};
 use det_edges::{FailList, MemFile, MemFiles, MemShelf, MemSink};
 use det_values::OutOfMemory;
+use shipped_crews::Host;
 use std::alloc::{AllocError, Global};
 use std::sync::Arc;
 use std::test::Fail;
@@ -70,7 +71,12 @@ fn demo_over<R: Threads + Sync>(
     let mut shelf = shelf(alloc, b"", stimulus)?;
     let mut out = MemSink::new(alloc, room, 10, FailList::new(alloc))?;
     let gate = Arc::new(alloc, NoGate).map_err(|_| NoMemory)?;
-    let answer = demo(rt, alloc, "s", &mut shelf, &mut out, &gate);
+    let host = Host {
+        rt,
+        alloc,
+        gate: &gate,
+    };
+    let answer = demo(&host, "s", &mut shelf, &mut out);
     Ok(Ran { answer, out })
 }
 
@@ -84,9 +90,19 @@ fn record_over<R: Threads + Sync>(
     let mut shelf = shelf(alloc, manifest, stimulus)?;
     let mut out = MemSink::new(alloc, 400, 10, FailList::new(alloc))?;
     let gate = Arc::new(alloc, NoGate).map_err(|_| NoMemory)?;
-    let answer = record_stimulus(
-        rt, alloc, "m", false, "s", seed, None, &mut shelf, &mut out, &gate,
-    );
+    let host = Host {
+        rt,
+        alloc,
+        gate: &gate,
+    };
+    let task = RecordTask {
+        manifest: "m",
+        strict: false,
+        stimulus: "s",
+        seed,
+        workers: None,
+    };
+    let answer = record_stimulus(&host, &task, &mut shelf, &mut out);
     Ok(Ran { answer, out })
 }
 

@@ -58,7 +58,7 @@ told-at : (left : Option (List ℕ)) (bytes : List ℕ) (P : List ℕ → Type 0
 told-at left bytes P e p = rw e at p
 
 sees-by : (result : Result Shown (Stopped RecordFault)) (part : ShowPart) (old now : AudienceState) (bytes : List ℕ) (out : SinkRun)
-    → answer_of result ≢ OutOfMemory → Sees result part old now bytes out → SawFirst part old now bytes out
+    → answer_of result ≢ OutOfMemory → Sees result part old now bytes out → SawFirst part old now bytes out.before out.after
 sees-by (Ok shown) part old now bytes out ne h = h
 sees-by (Err (Refused f)) part old now bytes out ne h = h
 sees-by (Err (Failed failures.Read)) part old now bytes out ne h = h
@@ -78,7 +78,7 @@ module _ (result : Result Shown (Stopped RecordFault)) (answer : Answer) (is : a
       (λ t. told-at (shelf.first.left slot) bytes (λ b. Answers result part old b out) (ap shelf.first.left same ∙ t) (told-answers ended))
       r w)
 
-  pub saw-left : (bytes : List ℕ) → answer ≢ OutOfMemory → shelf.first.left here ≡ Some bytes → SawFirst part old now bytes out
+  pub saw-left : (bytes : List ℕ) → answer ≢ OutOfMemory → shelf.first.left here ≡ Some bytes → SawFirst part old now bytes out.before out.after
   saw-left bytes ne t =
       sees-by result part old now bytes out (λ e. ne (is ∙ e))
       (told-at (shelf.first.left slot) bytes (λ b. Sees result part old now b out) (ap shelf.first.left same ∙ t) (told-sees ended))

@@ -2,7 +2,6 @@
 ghost use Rattle.std.specs.Prelude.{◌≡◌, ◌≢◌, ℕ, ◌<◌, List, ◌∷◌, [], true, Some};
 ghost use Rattle.det_edges.specs.Count.{Rose};
 ghost use Rattle.det_edges.specs.Shelf.{AsksPrefix};
-ghost use Rattle.det_edges.specs.Traffic.{sink_run};
 ghost use Rattle.cli_answers.specs.Ends.{can_end};
 ghost use Rattle.cli_answers.specs.Outcome.{Meets, Tells, told};
 ghost use Rattle.probes.specs.Shows.{seen};
@@ -52,7 +51,7 @@ fn show_slot<S: Slots, K: Sink>(
         → (S.sees shelf.old).left slot ≡ Some bytes
         → SawFirst part (seen (λ b. life (b.vtable, b.value)) audience.old)
         (seen (λ b. life (b.vtable, b.value)) audience.new) bytes
-        (sink_run K.took K.faults out.old out.new) }
+        (K.took out.old) (K.took out.new) }
     ensures gone { result ≡ Answer.Done
         → IsGone part (seen (λ b. life (b.vtable, b.value)) audience.new) }
     ensures kept { Kept part (seen (λ b. life (b.vtable, b.value)) audience.old)
@@ -84,7 +83,7 @@ pub fn show<S: Shelf, K: Sink>(
     ensures saw { result ≢ Answer.OutOfMemory → Tells (S.sees shelf.old) (recorded.now ∷ [])
         → SawFirst part (seen (λ b. life (b.vtable, b.value)) audience.old)
         (seen (λ b. life (b.vtable, b.value)) audience.new)
-        (told (S.sees shelf.old) recorded.now) (sink_run K.took K.faults out.old out.new) }
+        (told (S.sees shelf.old) recorded.now) (K.took out.old) (K.took out.new) }
     ensures gone { result ≡ Answer.Done
         → IsGone part (seen (λ b. life (b.vtable, b.value)) audience.new) }
     ensures kept { Kept part (seen (λ b. life (b.vtable, b.value)) audience.old)

@@ -1,12 +1,12 @@
 -- What the run of `sim` comes to.
-use Rattle.std.proofs.Common.{◌≡◌, ℕ, List, ◌++◌, length, sym, ap, ◌∙◌, subst}
-use Rattle.std.specs.Prelude.{None, Result, Ok, Err, IfOk}
+use Rattle.std.proofs.Common.{◌≡◌, ℕ, List, [], ◌++◌, length, refl, sym, ap, ◌∙◌, subst, append-nil}
+use Rattle.std.specs.Prelude.{None, Result, Ok, Err, IfOk, OnOk}
 use Rattle.det_edges.specs.Sink.{Grew, GrewByPrefix}
 use Rattle.det_values.specs.Values.{ProfileValue}
 use Rattle.job_cloud.specs.Meaning.{meaning}
 use Rattle.stimulus.specs.Made.{made}
 use Rattle.stimulus.specs.Reading.{Terminated, ending}
-use Rattle.probes.specs.Reports.{AudienceState, reported}
+use Rattle.probes.specs.Reports.{ProbeLife, AudienceState, reported, reports, in_turn, staying}
 use Rattle.record_text.specs.Summaries.{summary_lines}
 use Rattle.record_text.specs.declared.summary_lines.Summary.{Summary}
 use Rattle.cli_answers.specs.declared.answer.Answer.TheVariants.{Done, WriteFault}
@@ -34,6 +34,26 @@ module _ (number : ℕ) (p : ProfileValue) (is : p ≡ sim_profile number) where
       all ∙ (λ i. summary_lines (sum i) ++ report i) ∙
       (λ i. summary_lines (summary_over meaning (is i) (same i) number) ++ reported audience (runs_over meaning (is i) (same i)))
   text-is items (Err e) audience text told summary same sum report all = tt
+
+none_more : reports [] [] ≡ []
+unfolding reports in_turn staying
+none_more = refl
+
+-- an audience that gave all its reports reports nothing else
+all-told : (last : AudienceState) → last.seeing ≡ [] → reported last [] ≡ last.left
+all-told last none =
+    ap (λ (probes : List ProbeLife). last.left ++ reports probes []) none ∙ ap (λ (more : List ℕ). last.left ++ more) none_more
+    ∙ append-nil last.left
+
+-- it has seen all runs of the cloud
+pub saw-all : {T F : Type 0} (lines : Result T F) (number : ℕ) (p : ProfileValue) → p ≡ sim_profile number
+    → (text : List ℕ) → text ≡ made number → (first mid last : AudienceState)
+    → reported mid [] ≡ reported first (runs_over meaning p text) → last.left ≡ reported mid [] → last.seeing ≡ []
+    → OnOk lines (reported last [] ≡ reported first (sim_runs number))
+unfolding sim_runs
+saw-all (Ok value) number p is text same first mid last saw left none =
+    all-told last none ∙ left ∙ saw ∙ (λ i. reported first (runs_over meaning (is i) (same i)))
+saw-all (Err e) number p is text same first mid last saw left none = tt
 
 module _ (audience : AudienceState) (number : ℕ) (rose : Type 0) (before after : List ℕ → Type 0) (text : List ℕ)
     (is : text ≡ sim_text audience number) where

@@ -1,5 +1,5 @@
 //! The command `sim`.
-ghost use Rattle.std.specs.Prelude.{◌≡◌, [], ◌++◌, true, OnOk, IfOk, IfSome};
+ghost use Rattle.std.specs.Prelude.{◌≡◌, ◌≢◌, [], ◌++◌, true, OnOk, IfOk, IfSome};
 ghost use Rattle.det_edges.specs.Count.{Rose};
 ghost use Rattle.manifest.specs.Limits.{IsWorkers};
 ghost use Rattle.probes.specs.Reports.{reported};
@@ -7,7 +7,7 @@ ghost use Rattle.probes.specs.Shows.{seen};
 ghost use Rattle.record_text.specs.Summaries.{summary_lines};
 ghost use Rattle.cli_answers.specs.Ends.{can_end, writes_alone};
 ghost use Rattle.cli_answers.specs.Outcome.{Meets};
-ghost use Rattle.cmd_sim.specs.Sim.{sim_text, sim_outcome};
+ghost use Rattle.cmd_sim.specs.Sim.{sim_text, sim_outcome, sim_runs};
 
 use crate::profile::sim_profile;
 use crate::run::run_over;
@@ -16,9 +16,8 @@ use det_edges::{Sink, write_all};
 use det_values::{JobKind, OutOfMemory};
 use probes::{Audience, Probe};
 use record_text::{Summary, put_summary_lines};
-use shipped_crews::{ShippedRun, Workers};
+use shipped_crews::{Host, ShippedRun};
 use std::alloc::Global;
-use std::sync::Arc;
 use std::thread::Threads;
 use stimulus::made_stimulus;
 use worker_pool::Gate;
@@ -35,31 +34,30 @@ fn lines_of(alloc: Global, summary: &Summary, reports: &[u8]) -> Result<Vec<u8>,
 }
 
 /// The text of `sim`.
-fn sim_text<R: Threads + Sync, G: Gate + Send + Sync + 'static>(
-    rt: &R,
-    alloc: Global,
+fn sim_text<R, G>(
+    host: &Host<'_, R, G>,
     number: u64,
     workers: u32,
     audience: &mut Audience,
-    gate: &Arc<G, Global>,
 ) -> Result<Vec<u8>, OutOfMemory>
+where
+    R: Threads,
+    G: Gate + Send + Sync + 'static,
     requires { IsWorkers workers }
     ensures text { IfOk result (λ text. text.items
         ≡ sim_text (seen (λ b. life (b.vtable, b.value)) audience.old) number) }
+    ensures saw { OnOk result (reported
+        (seen (λ b. life (b.vtable, b.value)) audience.new) []
+        ≡ reported (seen (λ b. life (b.vtable, b.value)) audience.old) (sim_runs number)) }
     ensures gone { OnOk result
         ((seen (λ b. life (b.vtable, b.value)) audience.new).seeing ≡ []) }
 {
+    let alloc = host.alloc;
     let profile = sim_profile(alloc, number)?;
     let stimulus = made_stimulus(alloc, number)?;
     let kind = JobKind::Cloud;
-    let workers = Workers {
-        rt,
-        alloc,
-        count: workers,
-        gate,
-    };
     let run = ShippedRun { kind, profile };
-    let summary = run_over(&workers, run, number, stimulus, audience)?;
+    let summary = run_over(&host.workers(workers), run, number, stimulus, audience)?;
     audience.finish(alloc)?;
     lines_of(alloc, &summary, audience.reports())
 }
@@ -67,15 +65,17 @@ fn sim_text<R: Threads + Sync, G: Gate + Send + Sync + 'static>(
 /// Prints a summary of the built-in cloud's run over the stimulus that is made of a number, and
 /// shows its cycles to the audience. What it reports is printed behind the summary. One worker runs
 /// where no number is given.
-pub fn sim<R: Threads + Sync, K: Sink, G: Gate + Send + Sync + 'static>(
-    rt: &R,
-    alloc: Global,
+pub fn sim<K, R, G>(
+    host: &Host<'_, R, G>,
     number: u64,
     workers: Option<u32>,
     out: &mut K,
     audience: &mut Audience,
-    gate: &Arc<G, Global>,
 ) -> Answer
+where
+    K: Sink,
+    R: Threads,
+    G: Gate + Send + Sync + 'static,
     requires { IfSome workers IsWorkers }
     ensures meets { Meets
         (sim_outcome
@@ -83,10 +83,13 @@ pub fn sim<R: Threads + Sync, K: Sink, G: Gate + Send + Sync + 'static>(
         (Unit {0}) ⊥
         (Rose (K.faults out.old) (K.faults out.new)) (K.took out.old) (K.took out.new) result }
     ensures ends { can_end writes_alone result ≡ true }
+    ensures saw { result ≢ Answer.OutOfMemory → reported
+        (seen (λ b. life (b.vtable, b.value)) audience.new) []
+        ≡ reported (seen (λ b. life (b.vtable, b.value)) audience.old) (sim_runs number) }
     ensures gone { result ≡ Answer.Done
         → (seen (λ b. life (b.vtable, b.value)) audience.new).seeing ≡ [] }
 {
-    let Ok(text) = sim_text(rt, alloc, number, workers.unwrap_or(1), audience, gate) else {
+    let Ok(text) = sim_text(host, number, workers.unwrap_or(1), audience) else {
         return Answer::OutOfMemory;
     };
     match write_all(out, &text) {

@@ -3,6 +3,7 @@ use crate::sim;
 use cli_answers::Answer;
 use det_edges::{FailList, MemSink};
 use probes::{Audience, CountProbe, FirstRefusalProbe, GapProbe, Probe};
+use shipped_crews::Host;
 use std::alloc::Global;
 use std::sync::Arc;
 use std::test::Fail;
@@ -31,7 +32,12 @@ fn seven<R: Threads + Sync>(rt: &R, alloc: Global, room: usize) -> Result<Ran, F
     let mut out = MemSink::new(alloc, room, 10, FailList::new(alloc))?;
     let gate = Arc::new(alloc, NoGate)?;
     let mut audience = Audience::of(alloc, probes);
-    let answer = sim(rt, alloc, 7, None, &mut out, &mut audience, &gate);
+    let host = Host {
+        rt,
+        alloc,
+        gate: &gate,
+    };
+    let answer = sim(&host, 7, None, &mut out, &mut audience);
     Ok(Ran { answer, out })
 }
 

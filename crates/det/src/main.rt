@@ -2,7 +2,7 @@
 //! `top`.
 #![tactic(auto)]
 
-use det_cli::{Answer, Status, top};
+use det_cli::{Answer, Host, Status, top};
 use det_edges::{DirShelf, StdSink, write_all};
 use probes::{Audience, CountProbe, FirstRefusalProbe, GapProbe, Probe};
 use std::env;
@@ -54,15 +54,12 @@ fn main(rt: HostRuntime) -> ExitCode {
     let mut shelf = DirShelf::new(&rt, alloc);
     let mut out = StdSink::new(rt.stdout());
     let mut err = StdSink::new(rt.stderr());
-    let status = top(
-        &rt,
+    let host = Host {
+        rt: &rt,
         alloc,
-        &words,
-        &mut shelf,
-        &mut out,
-        &mut err,
-        &mut Audience::of(alloc, probes),
-        &gate,
-    );
+        gate: &gate,
+    };
+    let mut audience = Audience::of(alloc, probes);
+    let status = top(&host, &words, &mut shelf, &mut out, &mut err, &mut audience);
     ExitCode::from(status.number())
 }

@@ -151,6 +151,7 @@ module _ (shelf : ShelfState) (other : Type 0) (before : List ℕ → Type 0) (a
     needed = λ t. asks-prefix-none shelf shelf [] refl;
     left = λ e. refl;
     gone = λ e. cc;
+    saw = λ t ne. tt;
   })
 
 -- what holds at Ok holds where the cause of an error doesn't

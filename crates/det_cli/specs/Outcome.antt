@@ -7,8 +7,9 @@ use Rattle.cli_answers.specs.Outcome.{Outcome, text_outcome, refusal}
 use Rattle.cli_answers.specs.Ends.{Work, writes_alone}
 use Rattle.cli_words.specs.declared.table.CommandWord.{CommandWord}
 use Rattle.cli_words.specs.declared.table.CommandWord.TheVariants.{Demo, Record, Show, Needs, Sim}
-use Rattle.cli_words.specs.declared.table.CommandWord.TheVariants.{Replay, Compare, Salvage}
-use Rattle.cli_words.specs.declared.table.CommandWord.TheVariants.{Help, Version}
+use Rattle.cli_words.specs.declared.table.CommandWord.TheVariants.{Replay, Check, Upgrade}
+use Rattle.cli_words.specs.declared.table.CommandWord.TheVariants.{Compare, Salvage, Help}
+use Rattle.cli_words.specs.declared.table.CommandWord.TheVariants.{Version}
 use Rattle.cli_words.specs.Command.{CommandValue, name_at, number_in, files_of, part_of}
 use Rattle.cli_words.specs.Reading.{command_of}
 use Rattle.record_text.specs.declared.part.ShowPart.{ShowPart}
@@ -21,6 +22,8 @@ use Rattle.cmd_needs.specs.Needs.{needs_outcome, needs_work}
 use Rattle.cmd_show.specs.Show.{show_outcome, show_work}
 use Rattle.cmd_sim.specs.Sim.{sim_outcome}
 use Rattle.cmd_replay.specs.Replay.{replay_outcome, replay_work}
+use Rattle.cmd_check.specs.Check.{check_outcome, check_work}
+use Rattle.cmd_upgrade.specs.Upgrade.{upgrade_outcome, upgrade_work}
 use Rattle.cmd_compare.specs.Compare.{compare_outcome, compare_work}
 use Rattle.cmd_salvage.specs.Salvage.{salvage_outcome, salvage_reports_outcome, salvage_work}
 use Rattle.det_cli.specs.Texts.{version_text, page_of, help_text}
@@ -61,6 +64,8 @@ work_of Record = record_work
 work_of Show = show_work
 work_of Needs = needs_work
 work_of Replay = replay_work
+work_of Check = check_work
+work_of Upgrade = upgrade_work
 work_of Compare = compare_work
 work_of Salvage = salvage_work
 work_of other = writes_alone
@@ -74,6 +79,7 @@ has_reports other = true
 abbrev pub is_showing : CommandWord → CommandValue → Bool
 is_showing Show c = has_reports (part_of c.options)
 is_showing Sim c = true
+is_showing Check c = true
 is_showing Salvage c = c.options.reports
 is_showing other c = false
 
@@ -96,6 +102,8 @@ outcome_by Show c holds audience =
 outcome_by Needs c holds audience = needs_outcome c.options.strict (holds (name_at 0 c))
 outcome_by Sim c holds audience = sim_outcome audience (number_in c)
 outcome_by Replay c holds audience = replay_outcome (holds (name_at 0 c))
+outcome_by Check c holds audience = check_outcome audience (holds (name_at 0 c))
+outcome_by Upgrade c holds audience = upgrade_outcome (holds (name_at 0 c))
 outcome_by Compare c holds audience = compare_outcome (map holds (files_of c))
 outcome_by Salvage c holds audience =
     salvage_by c.options.reports audience (holds (name_at 0 c))

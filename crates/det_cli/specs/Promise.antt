@@ -1,12 +1,20 @@
 -- What the program promises: first of a command's answer, then of an exit status.
-use Rattle.std.specs.Prelude.{◌≡◌, ℕ, true, false, List, [], Option, Some, None}
+use Rattle.std.specs.Prelude.{◌≡◌, ℕ, Bool, true, false, List, [], Option, Some, None}
 use Rattle.det_edges.specs.Count.{Rose}
 use Rattle.det_edges.specs.Sink.{Grew, GrewByPrefix}
 use Rattle.det_edges.specs.Shelf.{ShelfState, AsksPrefix}
 use Rattle.probes.specs.Reports.{AudienceState}
-use Rattle.cli_words.specs.Command.{CommandValue}
+use Rattle.cli_words.specs.declared.table.CommandWord.{CommandWord}
+use Rattle.cli_words.specs.declared.table.CommandWord.TheVariants.{Show, Sim, Check}
+use Rattle.cli_words.specs.declared.table.CommandWord.TheVariants.{Salvage}
+use Rattle.cli_words.specs.Command.{CommandValue, name_at, number_in, part_of}
+use Rattle.record_show.specs.Ended as showing
+use Rattle.record_show.specs.Ended.{Saw}
+use Rattle.cmd_salvage.specs.Ended as salvaging
+use Rattle.cmd_check.specs.Check as checking
+use Rattle.cmd_sim.specs.Sim.{sim_runs}
 use Rattle.cli_answers.specs.declared.answer.Answer.{Answer}
-use Rattle.cli_answers.specs.declared.answer.Answer.TheVariants.{Done, BadWords}
+use Rattle.cli_answers.specs.declared.answer.Answer.TheVariants.{Done, BadWords, OutOfMemory}
 use Rattle.cli_answers.specs.declared.status.Status.{Status}
 use Rattle.cli_answers.specs.Answers.{status_of, err_line}
 use Rattle.cli_answers.specs.Ends.{can_end}
@@ -17,6 +25,28 @@ use Rattle.det_cli.specs.Outcome.{command_in, names_in, opened, shows_runs, work
 abbrev pub Ends : Option CommandValue → Answer → Type 0
 Ends None answer = answer ≡ BadWords
 Ends (Some command) answer = can_end (work_of command.word) answer ≡ true
+
+-- salvaging shows runs where reports are asked for
+abbrev pub SalvageSeen : (reports : Bool) → AudienceState → AudienceState → List ℕ → Type 0
+SalvageSeen true old now recorded = salvaging.SawFirst old now recorded
+SalvageSeen false old now recorded = Unit {0}
+
+-- What an audience has seen: first runs of the record under a name, of which `show` has written the
+-- lines, or all runs of `sim`. Other commands show none.
+abbrev pub SeenBy : CommandWord → CommandValue → (List ℕ → List ℕ) → AudienceState → AudienceState
+    → (before after : List ℕ → Type 0) → Type 0
+SeenBy Show c holds old now before after =
+    showing.SawFirst (part_of c.options) old now (holds (name_at 0 c)) before after
+SeenBy Salvage c holds old now before after =
+    SalvageSeen c.options.reports old now (holds (name_at 0 c))
+SeenBy Check c holds old now before after = checking.SawFirst old now (holds (name_at 0 c))
+SeenBy Sim c holds old now before after = Saw old now (sim_runs (number_in c))
+SeenBy other c holds old now before after = Unit {0}
+
+abbrev pub HasSeen : Option CommandValue → (List ℕ → List ℕ) → AudienceState → AudienceState
+    → (before after : List ℕ → Type 0) → Type 0
+HasSeen (Some c) holds old now before after = SeenBy c.word c holds old now before after
+HasSeen None holds old now before after = Unit {0}
 
 -- A run of a command. `out` took what `before` and `after` say; the audience `seeing` was handed
 -- in, and is `stayed` afterwards.
@@ -39,6 +69,10 @@ pub record Runs (command : Option CommandValue) (first last : ShelfState) (out_f
   -- have reported and left
   pub left : shows_runs command ≡ false → stayed ≡ seeing
   pub gone : shows_runs command ≡ true → answer ≡ Done → stayed.seeing ≡ []
+  -- where the names are told it has seen first runs; for want of memory some probes may have seen
+  -- one run more than the others
+  pub saw : Tells first (opened command (told first)) → (answer ≡ OutOfMemory → ⊥)
+      → HasSeen command (told first) seeing stayed before after
 
 -- The program: a run of the command that the words give, its status, and one line for the user.
 pub record IsPromised (words : List (List ℕ)) (first last : ShelfState) (out_failed : Type 0)

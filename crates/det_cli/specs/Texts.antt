@@ -2,11 +2,12 @@
 use Rattle.std.specs.Prelude.{ℕ, List, [], ◌∷◌, Option, Some, None, option_and_then}
 use Rattle.cli_words.specs.declared.table.CommandWord.{CommandWord}
 use Rattle.cli_words.specs.declared.table.CommandWord.TheVariants.{Demo, Record, Show, Needs, Sim}
-use Rattle.cli_words.specs.declared.table.CommandWord.TheVariants.{Replay, Compare, Salvage}
+use Rattle.cli_words.specs.declared.table.CommandWord.TheVariants.{Replay, Check, Upgrade}
+use Rattle.cli_words.specs.declared.table.CommandWord.TheVariants.{Compare, Salvage}
 use Rattle.cli_words.specs.Table.{command_word}
 use Rattle.det_cli.specs.declared.texts.TheConstants.{USAGE, VERSION}
 use Rattle.det_cli.specs.declared.pages.TheConstants.{DEMO, RECORD, SHOW, NEEDS, SIM}
-use Rattle.det_cli.specs.declared.pages.TheConstants.{REPLAY, COMPARE, SALVAGE}
+use Rattle.det_cli.specs.declared.pages.TheConstants.{REPLAY, CHECK, UPGRADE, COMPARE, SALVAGE}
 
 abbrev pub version_text : List ℕ
 version_text = VERSION.now
@@ -19,6 +20,8 @@ page_of Show = Some SHOW.now
 page_of Needs = Some NEEDS.now
 page_of Sim = Some SIM.now
 page_of Replay = Some REPLAY.now
+page_of Check = Some CHECK.now
+page_of Upgrade = Some UPGRADE.now
 page_of Compare = Some COMPARE.now
 page_of Salvage = Some SALVAGE.now
 page_of other = None

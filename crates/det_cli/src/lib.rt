@@ -13,3 +13,4 @@ mod texts;
 
 pub use cli_answers::{Answer, Status};
 pub use program::top;
+pub use shipped_crews::Host;

@@ -186,3 +186,56 @@ Exit statuses:
   2  bad words                 7  write fault
   5  bad record                8  out of memory
 ";
+
+/// `check`.
+pub const CHECK: &str = "\
+det check RECORD [--workers W]
+
+Runs the job of a record again over the inputs in the record, and tells the
+first place where the record is not what that run gives.
+
+  RECORD         a file with a record, in binary
+
+  --workers W    the number of workers, 1 to 64; 1 where none is given. The
+                 answer is the same for each number
+
+Standard output takes the line `genuine N`, where the record is whole and every
+frame is what its inputs give, and has N cycles; or `departs PLACE`, with the
+first place, told as by `det compare`, at which it is not. Then come three
+reports as `det show` prints them, of the cycles up to and with the one at that
+place. Behind that place the record is not read. A record that has a fault, and
+departs nowhere before it, is a bad record; so is one whose job is not known, or
+takes its parameters for bad. Then nothing is written.
+
+Exit statuses:
+  0  done                      6  read fault
+  1  differs                   7  write fault
+  2  bad words                 8  out of memory
+  5  bad record
+";
+
+/// `upgrade`.
+pub const UPGRADE: &str = "\
+det upgrade RECORD [--workers W]
+
+Runs the job of a record again over the inputs in the record, and writes the
+record of that run in format 2, which tells how many words each element drew.
+
+  RECORD         a file with a record of format 1 or 2, in binary
+
+  --workers W    the number of workers, 1 to 64; 1 where none is given. The
+                 record is the same for each number
+
+Each frame is written once the frame that was read is found to be what the
+inputs give, as far as the format read tells it. The first that is not ends it:
+nothing is written behind the frames before it, and `det check` tells the place.
+Where the record has a fault, the fault is told behind the frames that are whole
+before it. A record whose job is not known, or takes its parameters for bad, is
+a bad record too, and nothing is written.
+
+Exit statuses:
+  0  done                      6  read fault
+  1  differs                   7  write fault
+  2  bad words                 8  out of memory
+  5  bad record
+";

@@ -12,23 +12,23 @@ ghost use Rattle.det_cli.specs.Texts.{page_of, help_text};
 ghost use Rattle.det_cli.specs.Outcome.{built, command_in};
 ghost use Rattle.det_cli.specs.Promise.{Runs, IsPromised};
 
-use crate::pages::{COMPARE, DEMO, NEEDS, RECORD, REPLAY, SALVAGE, SHOW, SIM};
+use crate::pages::{CHECK, COMPARE, DEMO, NEEDS, RECORD, REPLAY, SALVAGE, SHOW, SIM, UPGRADE};
 use crate::texts::{USAGE, VERSION};
 use cli_answers::{Answer, Status};
 use cli_words::laws::ranges;
 use cli_words::{Command, CommandWord, Options, read_words};
+use cmd_check::check;
 use cmd_compare::compare;
 use cmd_needs::needs;
-use cmd_record::{demo, record_stimulus};
+use cmd_record::{RecordTask, demo, record_stimulus};
 use cmd_replay::replay;
 use cmd_salvage::{salvage, salvage_reports};
 use cmd_show::show;
 use cmd_sim::sim;
+use cmd_upgrade::upgrade;
 use det_edges::{Shelf, Sink, write_all};
 use probes::{Audience, Probe};
-use shipped_crews::Workers;
-use std::alloc::Global;
-use std::sync::Arc;
+use shipped_crews::{Host, Workers};
 use std::thread::Threads;
 use worker_pool::Gate;
 
@@ -36,37 +36,44 @@ use worker_pool::Gate;
 ///
 /// `record`, `demo` and `sim` run their cycles on real threads, each of which passes the gate.
 /// `show` and `sim` show the runs that they read or make to the audience.
-pub fn top<R: Threads + Sync, S: Shelf, K: Sink, E: Sink, G: Gate + Send + Sync + 'static>(
-    rt: &R,
-    alloc: Global,
+pub fn top<S, K, E, R, G>(
+    host: &Host<'_, R, G>,
     words: &[String],
     shelf: &mut S,
     out: &mut K,
     err: &mut E,
     audience: &mut Audience,
-    gate: &Arc<G, Global>,
 ) -> Status
+where
+    S: Shelf,
+    K: Sink,
+    E: Sink,
+    R: Threads,
+    G: Gate + Send + Sync + 'static,
     ensures { IsPromised (texts words.now) (S.sees shelf.old) (S.sees shelf.new)
         (Rose (K.faults out.old) (K.faults out.new)) (K.took out.old) (K.took out.new)
         (Rose (E.faults err.old) (E.faults err.new)) (E.took err.old) (E.took err.new)
         (seen (λ b. life (b.vtable, b.value)) audience.old)
         (seen (λ b. life (b.vtable, b.value)) audience.new) result }
 {
-    let answer = run(rt, alloc, words, shelf, out, audience, gate);
+    let answer = run(host, words, shelf, out, audience);
     let line = answer.line();
     let _ = write_all(err, line.as_slice());
     answer.status()
 }
 
-fn run<R: Threads + Sync, S: Shelf, K: Sink, G: Gate + Send + Sync + 'static>(
-    rt: &R,
-    alloc: Global,
+fn run<S, K, R, G>(
+    host: &Host<'_, R, G>,
     words: &[String],
     shelf: &mut S,
     out: &mut K,
     audience: &mut Audience,
-    gate: &Arc<G, Global>,
 ) -> Answer
+where
+    S: Shelf,
+    K: Sink,
+    R: Threads,
+    G: Gate + Send + Sync + 'static,
     ensures { Runs (command_in (texts words.now)) (S.sees shelf.old) (S.sees shelf.new)
         (Rose (K.faults out.old) (K.faults out.new)) (K.took out.old) (K.took out.new)
         (seen (λ b. life (b.vtable, b.value)) audience.old)
@@ -74,26 +81,30 @@ fn run<R: Threads + Sync, S: Shelf, K: Sink, G: Gate + Send + Sync + 'static>(
 {
     ranges();
     match read_words(words) {
-        Some(command) => run_command(rt, alloc, command, shelf, out, audience, gate),
+        Some(command) => run_command(host, command, shelf, out, audience),
         None => Answer::BadWords,
     }
 }
 
-fn run_command<R: Threads + Sync, S: Shelf, K: Sink, G: Gate + Send + Sync + 'static>(
-    rt: &R,
-    alloc: Global,
+fn run_command<S, K, R, G>(
+    host: &Host<'_, R, G>,
     command: Command<'_>,
     shelf: &mut S,
     out: &mut K,
     audience: &mut Audience,
-    gate: &Arc<G, Global>,
 ) -> Answer
+where
+    S: Shelf,
+    K: Sink,
+    R: Threads,
+    G: Gate + Send + Sync + 'static,
     requires range { IsInRange (command_seen command) }
     ensures { Runs (built (command_seen command.entry)) (S.sees shelf.old) (S.sees shelf.new)
         (Rose (K.faults out.old) (K.faults out.new)) (K.took out.old) (K.took out.new)
         (seen (λ b. life (b.vtable, b.value)) audience.old)
         (seen (λ b. life (b.vtable, b.value)) audience.new) result }
 {
+    let alloc = host.alloc;
     let first = command.name(0);
     let second = command.name(1);
     let Options {
@@ -103,19 +114,26 @@ fn run_command<R: Threads + Sync, S: Shelf, K: Sink, G: Gate + Send + Sync + 'st
         ..
     } = command.options;
     match command.word {
-        CommandWord::Demo => demo(rt, alloc, first, shelf, out, gate),
-        CommandWord::Record => record_stimulus(
-            rt, alloc, first, strict, second, seed, workers, shelf, out, gate,
-        ),
+        CommandWord::Demo => demo(host, first, shelf, out),
+        CommandWord::Record => {
+            let task = RecordTask {
+                manifest: first,
+                strict,
+                stimulus: second,
+                seed,
+                workers,
+            };
+            record_stimulus(host, &task, shelf, out)
+        }
         CommandWord::Show => show(alloc, first, command.options.part(), shelf, out, audience),
         CommandWord::Needs => needs(alloc, first, strict, shelf, out),
-        CommandWord::Sim => sim(rt, alloc, command.number(), workers, out, audience, gate),
+        CommandWord::Sim => sim(host, command.number(), workers, out, audience),
         CommandWord::Help => match help_text(command.names.as_slice()) {
             Some(text) => print(text, out),
             None => Answer::BadWords,
         },
         CommandWord::Version => print(VERSION, out),
-        CommandWord::Replay => replay(&workers_of(rt, alloc, workers, gate), first, shelf, out),
+        CommandWord::Replay => replay(&workers_of(host, workers), first, shelf, out),
         CommandWord::Compare => compare(alloc, command.names.as_slice(), shelf, out),
         CommandWord::Salvage => {
             if command.options.reports {
@@ -123,29 +141,19 @@ fn run_command<R: Threads + Sync, S: Shelf, K: Sink, G: Gate + Send + Sync + 'st
             }
             salvage(alloc, first, shelf, out)
         }
+        CommandWord::Check => check(&workers_of(host, workers), first, shelf, out, audience),
+        CommandWord::Upgrade => upgrade(&workers_of(host, workers), first, shelf, out),
         // These aren't built yet.
-        CommandWord::Check => Answer::BadWords,
-        CommandWord::Upgrade => Answer::BadWords,
         CommandWord::Vote => Answer::BadWords,
         CommandWord::Chain => Answer::BadWords,
     }
 }
 
 /// One worker where no number is given.
-fn workers_of<'r, R, G>(
-    rt: &'r R,
-    alloc: Global,
-    given: Option<u32>,
-    gate: &'r Arc<G, Global>,
-) -> Workers<'r, R, G>
+fn workers_of<'h, R, G>(host: &Host<'h, R, G>, given: Option<u32>) -> Workers<'h, R, G>
     requires { IfSome given IsWorkers }
 {
-    Workers {
-        rt,
-        alloc,
-        count: given.unwrap_or(1),
-        gate,
-    }
+    host.workers(given.unwrap_or(1))
 }
 
 /// The page of a command that is built.
@@ -159,6 +167,8 @@ fn page_of(word: CommandWord) -> Option<&'static str>
         CommandWord::Needs => Some(NEEDS),
         CommandWord::Sim => Some(SIM),
         CommandWord::Replay => Some(REPLAY),
+        CommandWord::Check => Some(CHECK),
+        CommandWord::Upgrade => Some(UPGRADE),
         CommandWord::Compare => Some(COMPARE),
         CommandWord::Salvage => Some(SALVAGE),
         _ => None,

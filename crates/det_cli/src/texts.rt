@@ -11,6 +11,10 @@ det: records runs of the AUTOSAR deterministic client, byte for byte
       [--reports | --cycle C]    the reports alone, or one cycle alone
   det replay RECORD              the record of its inputs, run again
       [--workers W]
+  det check RECORD               the first place where a record is not what its
+      [--workers W]              inputs give, and reports of its runs
+  det upgrade RECORD             a record run again in format 2
+      [--workers W]
   det compare RECORD RECORD ..   the first place where 2 to 8 copies part
   det salvage RECORD             a record that breaks off, made whole
       [--reports]                how much of it is saved, and its reports
@@ -25,9 +29,9 @@ det: records runs of the AUTOSAR deterministic client, byte for byte
 STIM is the text of a stimulus, MANIFEST one in TOML, RECORD a binary record:
 paths of files. One whose name begins with `-` is given as ./-name.
 N is a number of 64 bits; the seed is 0 where none is given. W is 1 to 64; where
-none is given it is the manifest's, and 1 for `sim` and `replay`. What is
-written is the same for every W. With --strict a key of the manifest that isn't
-known is refused.
+none is given it is the manifest's for `record`, and else 1. What is written is
+the same for every W. With --strict a key of the manifest that isn't known is
+refused.
 C is the number of a cycle, counted from 1.
 Results go to standard output, and one line on a refusal to standard error.
 

@@ -10,9 +10,9 @@ use det_edges::{Slots, Stopped};
 use std::alloc::Global;
 
 /// Compares the copies of a record in these slots, row by row: a row is the header or a frame, or
-/// how the record ends. All copies are read at a row before it is decided. `Refused` tells the
-/// least copy with a fault in the first row in which not all hold an equal item. At most two rows
-/// are held at a time.
+/// how the record ends. A difference is told once all copies were read at its row, and a fault at
+/// once. `Refused` tells the least copy with a fault in the first row in which not all hold an
+/// equal item. At most two rows are held at a time.
 pub fn compare<S: Slots>(
     alloc: Global,
     shelf: &mut S,

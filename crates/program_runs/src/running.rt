@@ -2,7 +2,7 @@
 ghost use Rattle.std.specs.Prelude.{◌<◌, ◌^◌};
 
 use crate::{Edges, Ran};
-use det_cli::top;
+use det_cli::{Host, top};
 use det_edges::{FailList, MemFile, MemFiles, MemShelf, MemSink};
 use det_values::OutOfMemory;
 use probes::{Audience, CountProbe, FirstRefusalProbe, GapProbe, Probe};
@@ -81,9 +81,8 @@ pub fn run_with<R: Threads + Sync, G: Gate + Send + Sync + 'static>(
     let mut out = MemSink::new(alloc, edges.room, most, fails)?;
     let fails = fail_list(alloc, edges.failing_line)?;
     let mut err = MemSink::new(alloc, 200, most, fails)?;
-    let status = top(
-        rt, alloc, &words, &mut shelf, &mut out, &mut err, audience, gate,
-    );
+    let host = Host { rt, alloc, gate };
+    let status = top(&host, &words, &mut shelf, &mut out, &mut err, audience);
     Ok(Ran {
         status: status.number(),
         out,

@@ -1,5 +1,5 @@
 //! Copies that are compared.
-use crate::{front, one_cycle};
+use crate::{front, guard_record, one_cycle, refused_elsewhere};
 use program_runs::{Edges, Ran, changed, empty_run_1, run, two_cycles, two_cycles_1};
 use std::alloc::Global;
 use std::test::*;
@@ -62,6 +62,17 @@ fn the_first_difference_is_told(rt: HostRuntime) -> Result<(), Fail> {
         let line = format!(in alloc; "differ copy 1 {line}\n")?;
         assert!(rt; ran.wrote(1, line.as_bytes()), "{at}");
     }
+    Ok(())
+}
+
+#[test]
+fn another_refusal_is_another_result(rt: HostRuntime) -> Result<(), Fail> {
+    let alloc = rt.alloc();
+    let made = guard_record(&rt, alloc)?;
+    let other = refused_elsewhere(&rt, alloc)?;
+    let records = [made.out.bytes(), other.as_slice(), other.as_slice()];
+    let ran = compared(&rt, alloc, "compare a b c", records)?;
+    assert!(rt; ran.wrote(1, b"differ copy 1 result 2\n"));
     Ok(())
 }
 

@@ -1,7 +1,7 @@
 //! Calls of the shelf and of the output that fail in turn, and pieces of few bytes.
 use crate::{
-    Case, compare_case, failing_reads, failing_writes, needs_case, record_case, replay_case,
-    salvage_case, show_case, two_cycles_case,
+    Case, check_case, compare_case, failing_reads, failing_writes, needs_case, record_case,
+    replay_case, salvage_case, show_case, two_cycles_case, upgrade_case,
 };
 use program_runs::{Edges, empty_run, run, two_cycles_stimulus};
 use std::alloc::Global;
@@ -47,6 +47,16 @@ fn each_read_of_compare_fails(rt: HostRuntime) -> Result<(), Fail> {
 #[test]
 fn each_read_of_replay_fails(rt: HostRuntime) -> Result<(), Fail> {
     each_read_fails(&rt, rt.alloc(), &replay_case(rt.alloc())?)
+}
+
+#[test]
+fn each_read_of_check_fails(rt: HostRuntime) -> Result<(), Fail> {
+    each_read_fails(&rt, rt.alloc(), &check_case(rt.alloc())?)
+}
+
+#[test]
+fn each_read_of_upgrade_fails(rt: HostRuntime) -> Result<(), Fail> {
+    each_read_fails(&rt, rt.alloc(), &upgrade_case(rt.alloc())?)
 }
 
 #[test]
@@ -99,6 +109,16 @@ fn each_write_of_replay_fails(rt: HostRuntime) -> Result<(), Fail> {
 }
 
 #[test]
+fn each_write_of_check_fails(rt: HostRuntime) -> Result<(), Fail> {
+    each_write_fails(&rt, rt.alloc(), &check_case(rt.alloc())?, 5)
+}
+
+#[test]
+fn each_write_of_upgrade_fails(rt: HostRuntime) -> Result<(), Fail> {
+    each_write_fails(&rt, rt.alloc(), &upgrade_case(rt.alloc())?, 32)
+}
+
+#[test]
 fn each_write_of_salvage_fails(rt: HostRuntime) -> Result<(), Fail> {
     each_write_fails(&rt, rt.alloc(), &salvage_case(rt.alloc())?, 29)
 }
@@ -123,6 +143,8 @@ fn pieces_of_any_length_give_the_same(rt: HostRuntime) -> Result<(), Fail> {
     same_in_pieces(&rt, alloc, &show_case(alloc)?)?;
     same_in_pieces(&rt, alloc, &compare_case(alloc)?)?;
     same_in_pieces(&rt, alloc, &replay_case(alloc)?)?;
+    same_in_pieces(&rt, alloc, &check_case(alloc)?)?;
+    same_in_pieces(&rt, alloc, &upgrade_case(alloc)?)?;
     same_in_pieces(&rt, alloc, &salvage_case(alloc)?)?;
     same_in_pieces(&rt, alloc, &needs_case(alloc)?)
 }
@@ -158,6 +180,8 @@ fn a_shelf_fails_where_a_read_or_a_name_does(rt: HostRuntime) -> Result<(), Fail
         "record m s",
         "compare s m",
         "replay m",
+        "check m",
+        "upgrade m",
         "salvage m",
     ] {
         let ran = run(&rt, rt.alloc(), words, &files, Edges::calm(500))?;

@@ -71,6 +71,30 @@ pub fn replay_case(alloc: Global) -> Result<Case, AllocError> {
     given_again(alloc, "replay m")
 }
 
+/// The record of two cycles, checked.
+pub fn check_case(alloc: Global) -> Result<Case, AllocError> {
+    Ok(Case {
+        words: "check m",
+        manifest: Vec::from_slice(alloc, two_cycles_1())?,
+        stimulus: Vec::new(alloc),
+        most_read: 7,
+        len: 46,
+        digest: "4e47efb76089b913e7958c52a06340ab47b70dd2ad4a26f6e1c229d7a0814813",
+    })
+}
+
+/// The record of two cycles, upgraded.
+pub fn upgrade_case(alloc: Global) -> Result<Case, AllocError> {
+    Ok(Case {
+        words: "upgrade m",
+        manifest: Vec::from_slice(alloc, two_cycles_1())?,
+        stimulus: Vec::new(alloc),
+        most_read: 7,
+        len: 315,
+        digest: "4de3266dc536f19da48c064c418036d009cf25f141d63b897d2ee124428210b0",
+    })
+}
+
 /// The record of two cycles, which is whole, salvaged.
 pub fn salvage_case(alloc: Global) -> Result<Case, AllocError> {
     given_again(alloc, "salvage m")

@@ -15,6 +15,8 @@ fn statuses_of(command: CommandWord) -> Option<&'static str> {
         CommandWord::Needs => Some("023678"),
         CommandWord::Sim => Some("0278"),
         CommandWord::Replay => Some("025678"),
+        CommandWord::Check => Some("0125678"),
+        CommandWord::Upgrade => Some("0125678"),
         CommandWord::Compare => Some("0125678"),
         CommandWord::Salvage => Some("025678"),
         _ => None,

@@ -61,8 +61,8 @@ needs m --strict --strict
 record m s --strict 1
 --help m
 --help --version
---help check
-check --help
+--help vote
+vote --help
 -h show
 help -h
 help help
@@ -105,7 +105,7 @@ fn good_words_open_their_file(rt: HostRuntime) -> Result<(), Fail> {
 
 #[test]
 fn four_commands_are_not_built_yet(rt: HostRuntime) -> Result<(), Fail> {
-    for words in ["check m", "upgrade m", "vote m m m", "chain m m s"] {
+    for words in ["vote m m m", "chain m m s"] {
         let ran = run_words(&rt, rt.alloc(), words)?;
         assert!(rt; ran.ended(2, "bad words\n"), "{words}");
     }

@@ -75,7 +75,7 @@ finished_saw first mid now runs h is =
 
 module _ (part : ShowPart) (first now : AudienceState) (bytes : List ℕ) (out : SinkRun) where
   -- an audience that was shown nothing saw no run
-  saw-none : (taken : List ℕ) → now ≡ first → Grew out.before out.after taken → SawFirst part first now bytes out
+  saw-none : (taken : List ℕ) → now ≡ first → Grew out.before out.after taken → SawFirst part first now bytes out.before out.after
   saw-none taken is grew = record {
     seen = [];
     first = prefix-none (items_in bytes);
@@ -86,7 +86,7 @@ module _ (part : ShowPart) (first now : AudienceState) (bytes : List ℕ) (out :
   }
 
   saw-runs : (given : List Item) (rest : List ℕ) → IsPrefix given (items_in bytes) → Saw first now (runs_in given)
-      → Grew out.before out.after (lines_of part given ++ rest) → SawFirst part first now bytes out
+      → Grew out.before out.after (lines_of part given ++ rest) → SawFirst part first now bytes out.before out.after
   saw-runs given rest front saw grew = record {
     seen = given;
     first = front;
@@ -98,14 +98,14 @@ module _ (part : ShowPart) (first now : AudienceState) (bytes : List ℕ) (out :
 
 saw-watched : (part : ShowPart) (first now : AudienceState) (bytes : List ℕ) (out : SinkRun) (given : List Item) (rest : List ℕ)
     → IsPrefix given (items_in bytes) → Watched part first now (runs_in given)
-    → Grew out.before out.after (lines_of part given ++ rest) → SawFirst part first now bytes out
+    → Grew out.before out.after (lines_of part given ++ rest) → SawFirst part first now bytes out.before out.after
 saw-watched All first now bytes out given rest front h grew = saw-runs All first now bytes out given rest front (all-reports h) grew
 saw-watched Reports first now bytes out given rest front h grew = saw-runs Reports first now bytes out given rest front (all-reports h) grew
 saw-watched (Cycle number) first now bytes out given rest front h grew = saw-none (Cycle number) first now bytes out _ h grew
 
 saw-finished : (part : ShowPart) (first mid now : AudienceState) (bytes : List ℕ) (out : SinkRun) (given : List Item) (rest : List ℕ)
     → IsPrefix given (items_in bytes) → Watched part first mid (runs_in given) → Finished part mid now []
-    → Grew out.before out.after (lines_of part given ++ rest) → SawFirst part first now bytes out
+    → Grew out.before out.after (lines_of part given ++ rest) → SawFirst part first now bytes out.before out.after
 saw-finished All first mid now bytes out given rest front h is grew =
     saw-runs All first now bytes out given rest front (finished_saw first mid now (runs_in given) h is) grew
 saw-finished Reports first mid now bytes out given rest front h is grew =
@@ -327,7 +327,7 @@ kept-other (Cycle number) other first now = absurd (other number refl)
 
 -- where nothing was read the audience has seen nothing
 pub saw-unread : (part : ShowPart) (audience : AudienceState) (bytes : List ℕ) (out : SinkRun) → Grew out.before out.after []
-    → SawFirst part audience audience bytes out
+    → SawFirst part audience audience bytes out.before out.after
 saw-unread part audience bytes out grew = saw-none part audience audience bytes out [] refl grew
 
 pub kept-unread : (part : ShowPart) (audience : AudienceState) → Kept part audience audience

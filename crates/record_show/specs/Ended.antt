@@ -51,20 +51,21 @@ Saw old now runs = reported now [] ≡ reported old runs
 
 -- the audience has seen the runs of the first items of a record, whose lines a sink took
 pub record SawFirst (part : ShowPart) (old now : AudienceState) (record_bytes : List ℕ)
-    (out : SinkRun) : Type 0 where
+    (before after : List ℕ → Type 0) : Type 0 where
   pub seen : List Item
   pub first : IsPrefix seen (items_in record_bytes)
   pub saw : Saw old now (runs_in seen)
   pub taken : List ℕ
   pub lines : IsPrefix (lines_of part seen) taken
-  pub grew : Grew out.before out.after taken
+  pub grew : Grew before after taken
 
 -- The same at an answer: where the record is whole the audience has seen all its runs and reported
 -- of them, and no probe is left. For want of memory some probes may have seen one run more.
 abbrev pub Sees : Result Shown (Stopped RecordFault) → ShowPart → AudienceState → AudienceState
     → List ℕ → SinkRun → Type 0
 Sees (Err (Failed OutOfMemory)) part old now record_bytes out = Unit {0}
-Sees result part old now record_bytes out = SawFirst part old now record_bytes out
+Sees result part old now record_bytes out =
+    SawFirst part old now record_bytes out.before out.after
 
 -- all reports are given and no probe is left, unless one run alone is printed
 abbrev pub Finished : ShowPart → AudienceState → AudienceState → List RunFrame → Type 0

@@ -1,4 +1,4 @@
-mod Items
+pub mod Items
 mod Giving
 mod Running
 mod Ending

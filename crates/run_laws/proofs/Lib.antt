@@ -16,3 +16,10 @@ mod Shown
 mod Replayed
 mod GivenAgain
 mod Compared
+mod Departing
+mod WholeRecords
+mod OfInputs
+mod InFormatTwo
+mod Checked
+mod GenuineRuns
+mod GenuineLaws

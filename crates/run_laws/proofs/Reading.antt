@@ -20,7 +20,7 @@ use Rattle.run_laws.proofs.Unended.{ends_early}
 
 module _ {S G E L P : Type 0} (m : Meaning S G E L P) (Covers : S → P → ℕ → Type 0) (Own : S → E → Type 0) (Fit : S → L → Type 0)
     (laws : JobLaws m Covers Own Fit) (spells : IsSpelledJob m) (profile : ProfileValue) (header : IsHeader profile) where
-  run_is_read : (inputs : List CycleInput) (ended : Bool) → All (IsInput (length profile.events)) inputs → length inputs ≤ 1000000
+  pub run_is_read : (inputs : List CycleInput) (ended : Bool) → All (IsInput (length profile.events)) inputs → length inputs ≤ 1000000
       → IsRunRead profile (frames m profile inputs ended) ended (record_with m profile inputs ended)
   unfolding record_with
   run_is_read inputs true good few =

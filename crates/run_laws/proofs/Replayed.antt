@@ -49,7 +49,7 @@ module _ {S G E L P : Type 0} (m : Meaning S G E L P) (profile : ProfileValue) w
       ap (λ (rest : List CycleInput). input ∷ rest)
       (inputs_behind (before ++ input ∷ []) (state_after state (cycle_of m profile before state input)) given tail)
 
-  inputs_of_run : (given : List CycleInput) (ended : Bool) → flat_map input_in (items_of profile (frames m profile given ended)) ≡ given
+  pub inputs_of_run : (given : List CycleInput) (ended : Bool) → flat_map input_in (items_of profile (frames m profile given ended)) ≡ given
   inputs_of_run given true = inputs_behind [] (first_state m profile) given (Terminate ∷ []) ∙ append-nil given
   inputs_of_run given false = inputs_behind [] (first_state m profile) given [] ∙ append-nil given
 
@@ -82,7 +82,7 @@ pub record IsOfKind (kind : JobKind) (profile : ProfileValue) : Type 0 where
   pub number : profile.job ≡ number_of_kind kind
   pub good : bad_param kind profile.params (length profile.events) ≡ None
 
-run_is : (kind : JobKind) (profile : ProfileValue) (run : List Frame) (bytes : List ℕ) → IsOfKind kind profile
+pub run_is : (kind : JobKind) (profile : ProfileValue) (run : List Frame) (bytes : List ℕ) → IsOfKind kind profile
     → items_in bytes ≡ items_of profile run → run_of bytes ≡ Ok (record { kind = kind; profile = profile })
 run_is kind profile run bytes of read =
     ap (λ xs. run_by xs (fault_in bytes)) read

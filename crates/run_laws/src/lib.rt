@@ -1,10 +1,13 @@
 //! Laws of whole runs: what the record of a run is read as, what is printed of it, what its replay
-//! gives, and when copies of it agree. Each function is empty and its contract is the law.
+//! gives, when copies of it agree, when it is genuine, and what it is upgraded to. Each function is
+//! empty and its contract is the law.
 #![tactic(auto)]
 
 ghost use Rattle.run_laws.specs.Statements.{RecordIsRead, DemoIsRead, RecordIsShown, DemoIsShown};
 ghost use Rattle.run_laws.specs.Statements.{RecordIsReplayed, DemoIsReplayed};
 ghost use Rattle.run_laws.specs.Copies.{CopiesAreCompared};
+ghost use Rattle.run_laws.specs.Checks.{RecordIsChecked, DemoIsChecked, GenuineIsReplayed};
+ghost use Rattle.run_laws.specs.Checks.{GenuineIsUpgraded, FormatTwoStays};
 
 /// The record of a manifest and a stimulus is read as its profile and the frames of its run, and as
 /// nothing else. A manifest is meant that is taken, and a stimulus of any bytes: where a bad line
@@ -33,4 +36,25 @@ pub fn replaying()
 /// prints that they agree and how many cycles they hold.
 pub fn comparing()
     ensures { CopiesAreCompared }
+{}
+
+/// Of that record `check` says that it is genuine, with the number of its cycles and what its
+/// audience reports of them; where a bad line ended the stimulus, it tells that the record ends too
+/// early.
+pub fn checking()
+    ensures record { RecordIsChecked }
+    ensures demo { DemoIsChecked }
+{}
+
+/// `check` is done exactly where `replay` is done and gives the same record again, byte for byte.
+/// Any bytes are meant.
+pub fn genuine()
+    ensures { GenuineIsReplayed }
+{}
+
+/// A genuine record is upgraded to a genuine one of the same inputs in format 2. In format 2 it
+/// stays as it is.
+pub fn upgrading()
+    ensures genuine { GenuineIsUpgraded }
+    ensures format_two { FormatTwoStays }
 {}

@@ -4,7 +4,7 @@ use Rattle.std.proofs.Common.{length-append}
 use Rattle.std.specs.List.{All, count_by}
 use Rattle.std.proofs.lemmas.List.Elements.{All-nil, All-cons}
 use Rattle.std.proofs.lemmas.List.Sums.{sum_by-append, count_by-le-length}
-use Rattle.std.specs.Prelude.{Result, Ok, Err, OnOk}
+use Rattle.std.specs.Prelude.{Result, Ok, Err, OnOk, IfOk}
 use Rattle.det_edges.specs.Sink.{Grew}
 use Rattle.det_edges.specs.declared.failure.Failure.{Failure}
 use Rattle.det_values.specs.Values.{ProfileValue, SampleValue}
@@ -74,6 +74,17 @@ module _ {S G E L P : Type 0} (m : Meaning S G E L P) where
       let all : CanSpell profile.format (length profile.events) (Run (frame_of m profile given (state_of m profile given) input)) =
       (known, may_draw profile.format _) in
       rw (frame_is, run_is) all
+
+  -- the frame that the engine answers can be spelled
+  pub spelled-run : {F : Type 0} (engine : EngineState S G E) (profile : ProfileValue) (given : List CycleInput) (input : CycleInput)
+      (result : Result RunFrame F)
+      → IfOk result (λ run. (p : ProfileValue) (inputs : List CycleInput) → EngineStands m p engine inputs
+      → run ≡ frame_of m p inputs (state_of m p inputs) input)
+      → EngineStands m profile engine given → All (λ (s : SampleValue). s.event < length profile.events) input.samples
+      → IfOk result (λ run. CanSpell profile.format (length profile.events) (Run run))
+  spelled-run engine profile given input (Ok run) is stands known =
+      can_spell profile given input run (Run run) (is profile given stands) refl known
+  spelled-run engine profile given input (Err e) is stands known = tt
 
   -- no more refused cycles than cycles
   pub few_refused : (recording : Recording S G E L P) (given : List CycleInput) → Stands m recording given

@@ -96,12 +96,67 @@ impl<J: Job> Recording<J> {
         ensures traffic { SinkTraffic (sink_run K.took K.faults sink.old sink.new)
             (failure_of result) }
     {
-        let run = self.engine.cycle(self.alloc, pool, input)?;
+        let run = self.run_cycle(pool, input)?;
         self.counts.cycles = self.engine.cycles();
         self.counts.refused += refusals(&run);
         let frame = frame_of(run);
         self.write_frame(&frame, sink)?;
         Ok(run_in(frame))
+    }
+
+    /// Runs the next cycle on a pool and answers its frame, which is neither written nor counted.
+    pub fn run_cycle<P: Pool<J>>(
+        &mut self,
+        pool: &mut P,
+        input: CycleInput,
+    ) -> Result<RunFrame, OutOfMemory>
+        requires stands { (given : List Input)
+            × EngineStands J.meaning self.old.profile self.old.engine given }
+        requires going { self.old.engine.stopped ≡ false }
+        requires few { self.old.engine.cycles < 1000000 }
+        requires known { All (λ s. s.event < length self.old.profile.events) input.samples }
+        ensures frame { IfOk result (λ run. (given : List Input)
+            → EngineStands J.meaning self.old.profile self.old.engine given
+            → run ≡ frame_of J.meaning self.old.profile given
+            (state_of J.meaning self.old.profile given) input) }
+        ensures stands { OnOk result ((given : List Input)
+            → EngineStands J.meaning self.old.profile self.old.engine given
+            → EngineStands J.meaning self.old.profile self.new.engine (given ++ input ∷ [])) }
+        ensures going { OnOk result (self.new.engine.stopped ≡ false) }
+        ensures cycles { OnOk result (self.new.engine.cycles ≡ self.old.engine.cycles + 1) }
+        ensures spelled { IfOk result (λ run. CanSpell self.old.profile.format
+            (length self.old.profile.events) (Frame.Run run)) }
+        ensures keeps { self.new ≡ record self.old { engine = self.new.engine } }
+    {
+        self.engine.cycle(self.alloc, pool, input)
+    }
+
+    /// The frame Init of a run that stands at its beginning. Nothing is written.
+    pub fn init(&self) -> Result<Frame, OutOfMemory>
+        ensures { IfOk result (λ frame. frame ≡ Frame.Init
+            (map (J.meaning.shown self.now.engine.job) self.now.engine.state.elements)) }
+    {
+        Ok(Frame::Init(self.engine.shown(self.alloc)?))
+    }
+
+    /// Makes the header what is written next.
+    pub fn spell_header(&mut self) -> Result<(), OutOfMemory>
+        ensures bytes { OnOk result (self.new.buffer.items ≡ spelled self.old.profile []) }
+        ensures keeps { Keeps self.old self.new }
+    {
+        self.buffer.clear();
+        encode_header(&self.profile, &mut self.buffer)
+    }
+
+    /// Makes a frame what is written next.
+    pub fn spell(&mut self, frame: &Frame) -> Result<(), OutOfMemory>
+        requires { CanSpell self.old.profile.format (length self.old.profile.events) frame.now }
+        ensures bytes { OnOk result (self.new.buffer.items
+            ≡ spelled_frame self.old.profile.format frame.now) }
+        ensures keeps { Keeps self.old self.new }
+    {
+        self.buffer.clear();
+        self.append(frame)
     }
 
     /// Ends the run, writes Terminate, and answers the counts of the whole record. The recording
@@ -151,9 +206,8 @@ impl<J: Job> Recording<J> {
             ∷ [])) }
         ensures keeps { Keeps self.old self.new }
     {
-        let init = Frame::Init(self.engine.shown(self.alloc)?);
-        self.buffer.clear();
-        encode_header(&self.profile, &mut self.buffer)?;
+        let init = self.init()?;
+        self.spell_header()?;
         self.append(&Frame::Register)?;
         self.append(&Frame::Discover)?;
         self.append(&init)
@@ -184,13 +238,12 @@ impl<J: Job> Recording<J> {
         ensures traffic { SinkTraffic (sink_run K.took K.faults sink.old sink.new)
             (failure_of result) }
     {
-        self.buffer.clear();
-        self.append(frame)?;
+        self.spell(frame)?;
         self.write(sink)
     }
 
     /// Writes what is written next, and counts its bytes.
-    fn write<K: Sink>(&mut self, sink: &mut K) -> Result<(), Failure>
+    pub fn write<K: Sink>(&mut self, sink: &mut K) -> Result<(), Failure>
         ensures took { OnOk result
             (Grew (K.took sink.old) (K.took sink.new) self.old.buffer.items) }
         ensures wrote { OnOk result

@@ -10,4 +10,4 @@ mod workers;
 
 pub use crews::{ShippedRun, with_crew};
 pub use visit::Visit;
-pub use workers::Workers;
+pub use workers::{Host, Workers};

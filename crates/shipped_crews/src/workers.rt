@@ -1,8 +1,32 @@
-//! The workers of a run.
-ghost use Rattle.std.specs.Prelude.{◌≤◌};
+//! The workers of a run, and the machine that they run on.
+ghost use Rattle.std.specs.Prelude.{◌≡◌, ◌≤◌};
 
 use std::alloc::Global;
 use std::sync::Arc;
+
+/// The machine of a run: its threads, the gate that each worker passes, and the allocator.
+#[derive(Drop)]
+pub struct Host<'h, R, G> {
+    pub rt: &'h R,
+    pub alloc: Global,
+    pub gate: &'h Arc<G, Global>,
+}
+
+impl<'h, R, G> Host<'h, R, G> {
+    /// So many workers on this machine.
+    pub fn workers(&self, count: u32) -> Workers<'h, R, G>
+        requires some { 1 ≤ count }
+        requires few { count ≤ 64 }
+        ensures { result.count ≡ count }
+    {
+        Workers {
+            rt: self.rt,
+            alloc: self.alloc,
+            count,
+            gate: self.gate,
+        }
+    }
+}
 
 /// How many workers run the passes of a run, from 1 to 64, the gate that each of them passes, and
 /// where the run takes memory from.

@@ -1,7 +1,8 @@
 //! Verdicts as text.
 ghost use Rattle.std.specs.Prelude.{◌≡◌, ◌++◌, OnOk, codes, decimal};
-ghost use Rattle.verdict_text.specs.Verdicts.{place_text, verdict_line};
+ghost use Rattle.verdict_text.specs.Verdicts.{place_text, verdict_line, check_line};
 
+use checker::CheckVerdict;
 use det_values::OutOfMemory;
 use lockstep::{Difference, Verdict};
 use record_text::{put_number, put_number_line, put_words};
@@ -68,5 +69,26 @@ pub fn put_verdict_line(out: &mut Vec<u8>, verdict: &Verdict) -> Result<(), OutO
             Ok(())
         }
         Verdict::Differ { copy, at } => put_differ_line(out, *copy, *at),
+    }
+}
+
+fn put_departs_line(out: &mut Vec<u8>, at: Difference) -> Result<(), OutOfMemory>
+    ensures { OnOk result (out.new.items
+        ≡ out.old.items ++ check_line (CheckVerdict.Departs at)) }
+{
+    put_words(out, "departs")?;
+    put_last_place(out, at)
+}
+
+/// Appends the line of what a check found. After a refusal a part of it may stand there.
+pub fn put_check_line(out: &mut Vec<u8>, verdict: CheckVerdict) -> Result<(), OutOfMemory>
+    ensures { OnOk result (out.new.items ≡ out.old.items ++ check_line verdict) }
+{
+    match verdict {
+        CheckVerdict::Genuine { cycles } => {
+            put_number_line(out, "genuine", cycles as u64)?;
+            Ok(())
+        }
+        CheckVerdict::Departs(at) => put_departs_line(out, at),
     }
 }

@@ -13,7 +13,7 @@ use Rattle.cmd_record.proofs.by_manifest.record_stimulus.Goals as goal
 
 pub returns-in-Err-clause-meets : goal.returns-in-Err-clause-meets
 returns-in-Err-clause-meets g c =
-    rw c.from.ensures (met-end c.args.strict (g.S.Slots.sees c.args.shelf.now) c.args.manifest.now c.args.stimulus.now c.args.seed _ _ _
+    rw c.from.ensures (met-end c.args.task.now.strict (g.S.Slots.sees c.args.shelf.now) c.args.task.now.manifest.now c.args.task.now.stimulus.now c.args.task.now.seed _ _ _
     c.in-Err.end c.in-Err.ensures.refused c.in-Err.ensures.traffic.cause c.in-Err.ensures.writes_nothing)
 
 pub returns-in-Err-clause-ends : goal.returns-in-Err-clause-ends
@@ -22,18 +22,18 @@ returns-in-Err-clause-ends g c = rw c.from.ensures (can-end c.in-Err.end record_
 pub returns-in-Err-clause-judged : goal.returns-in-Err-clause-judged
 returns-in-Err-clause-judged g c = λ tells.
     let first = g.S.Slots.sees c.args.shelf.now in
-    asked-manifest c.args.strict first c.args.manifest.now c.args.stimulus.now _
-    (setup_of c.args.strict (told first c.args.manifest.now)) c.read_setup.ensures.asked
+    asked-manifest c.args.task.now.strict first c.args.task.now.manifest.now c.args.task.now.stimulus.now _
+    (setup_of c.args.task.now.strict (told first c.args.task.now.manifest.now)) c.read_setup.ensures.asked
 
 pub returns-in_default-clause-judged : goal.returns-in_default-clause-judged
 returns-in_default-clause-judged g c = λ tells.
     let first = g.S.Slots.sees c.args.shelf.now in
-    asked-manifest c.args.strict first c.args.manifest.now c.args.stimulus.now _
-    (setup_of c.args.strict (told first c.args.manifest.now)) c.read_setup.ensures.asked
+    asked-manifest c.args.task.now.strict first c.args.task.now.manifest.now c.args.task.now.stimulus.now _
+    (setup_of c.args.task.now.strict (told first c.args.task.now.manifest.now)) c.read_setup.ensures.asked
 
 pub record_named-requires-clause-good : goal.record_named-requires-clause-good
 record_named-requires-clause-good g c κs lives =
-    profile-good c.in-Ok.setup c.in-Ok-profile.profile c.kind-kind.result (unwrap_or c.args.seed 0) c.in-Ok.ensures.good c.kind-kind.ensures
+    profile-good c.in-Ok.setup c.in-Ok-profile.profile c.kind-kind.result (unwrap_or c.args.task.now.seed 0) c.in-Ok.ensures.good c.kind-kind.ensures
     (c.in-Ok-profile.ensures.profile ∙ ap (profile_of c.in-Ok.setup) c.unwrap_or.ensures)
 
 pub returns-clause-ends : goal.returns-clause-ends
@@ -46,17 +46,17 @@ returns-clause-meets g c =
     let is = c.in-Ok.ensures.manifest in
     let profile = c.in-Ok-profile.ensures.profile ∙ ap (profile_of c.in-Ok.setup) c.unwrap_or.ensures in
     meets-as _ _ _ _ _ _ _ _ _ _
-    (still-told c.args.strict first c.args.manifest.now c.args.stimulus.now c.in-Ok.setup is mid c.read_setup.ensures.holds)
-    (by-told c.args.strict first c.args.manifest.now c.args.stimulus.now c.in-Ok.setup is mid c.args.seed c.kind-kind.result
+    (still-told c.args.task.now.strict first c.args.task.now.manifest.now c.args.task.now.stimulus.now c.in-Ok.setup is mid c.read_setup.ensures.holds)
+    (by-told c.args.task.now.strict first c.args.task.now.manifest.now c.args.task.now.stimulus.now c.in-Ok.setup is mid c.args.task.now.seed c.kind-kind.result
     c.in-Ok-profile.profile c.read_setup.ensures.holds c.kind-kind.ensures profile)
     (rose-later _ _ _ c.read_setup.ensures.traffic.counted) c.record_named.ensures.meets
 
 pub returns-clause-asked : goal.returns-clause-asked
 returns-clause-asked g c =
-    asks-then-prefix _ _ _ (c.args.manifest.now ∷ []) (c.args.stimulus.now ∷ []) c.read_setup.ensures.asked c.record_named.ensures.asked
+    asks-then-prefix _ _ _ (c.args.task.now.manifest.now ∷ []) (c.args.task.now.stimulus.now ∷ []) c.read_setup.ensures.asked c.record_named.ensures.asked
 
 pub returns-clause-judged : goal.returns-clause-judged
 returns-clause-judged g c =
-    asked-both c.args.strict (g.S.Slots.sees c.args.shelf.now) c.args.manifest.now c.args.stimulus.now c.in-Ok.setup
+    asked-both c.args.task.now.strict (g.S.Slots.sees c.args.shelf.now) c.args.task.now.manifest.now c.args.task.now.stimulus.now c.in-Ok.setup
     c.in-Ok.ensures.manifest _
-    (asks-then-prefix _ _ _ (c.args.manifest.now ∷ []) (c.args.stimulus.now ∷ []) c.read_setup.ensures.asked c.record_named.ensures.asked)
+    (asks-then-prefix _ _ _ (c.args.task.now.manifest.now ∷ []) (c.args.task.now.stimulus.now ∷ []) c.read_setup.ensures.asked c.record_named.ensures.asked)

@@ -4,10 +4,10 @@ use Rattle.det_edges.specs.Traffic.{sink_run}
 use Rattle.det_edges.proofs.Opening.{asks-all, asks-then-kept}
 use Rattle.det_edges.proofs.Counts.{rose-before}
 use Rattle.cli_answers.specs.Outcome.{Tells, told}
+use Rattle.recorded_run.proofs.Beginning.{meets-told, if-refused}
 use Rattle.recorded_run.proofs.Ending.{meets-end}
 use Rattle.recorded_run.proofs.Resting.{rest}
 use Rattle.cmd_replay.specs.Replay.{replayed_by}
-use Rattle.cmd_replay.proofs.Beginning.{meets-told, if-refused}
 use Rattle.cmd_replay.proofs.replaying.replay.Goals as goal
 
 pub returns-in-Ok-clause-meets : goal.returns-in-Ok-clause-meets
@@ -17,8 +17,8 @@ returns-in-Ok-clause-meets g c =
     let last = (g.S.Slots.sees c.replay_by_crew.new.shelf).faults in
     let out = sink_run g.K.Sink.took g.K.Sink.faults c.args.out.now c.replay_by_crew.new.out in
     let begun = c.in-Ok.ensures.begun in
-    meets-told begun c.in-Ok.ensures.run (Rose mid last) (Rose first last) (Rose out.faults_before out.faults_after) out.before out.after
-    c.replay_by_crew.result (rose-before first mid last c.in-Ok.ensures.traffic.counted)
+    meets-told replayed_by begun c.in-Ok.ensures.run (Rose mid last) (Rose first last) (Rose out.faults_before out.faults_after)
+    out.before out.after c.replay_by_crew.result (rose-before first mid last c.in-Ok.ensures.traffic.counted)
     (c.replay_by_crew.ensures.meets begun.read (rest begun) begun.gave)
 
 pub returns-in-Ok-clause-asked : goal.returns-in-Ok-clause-asked

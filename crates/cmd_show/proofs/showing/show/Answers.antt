@@ -1,6 +1,7 @@
 use Rattle.std.proofs.Common.{arith, rules}
 use Rattle.det_edges.proofs.Opening.{asks-all, asks-then-kept, opens-left}
 use Rattle.det_edges.proofs.Counts.{rose-before}
+use Rattle.det_edges.specs.Traffic.{sink_run}
 use Rattle.det_edges.proofs.Growth.{grew-none}
 use Rattle.cli_answers.specs.Outcome.{told}
 use Rattle.cli_answers.proofs.Meeting.{meets-read-fault, meets-under}
@@ -15,7 +16,9 @@ pub returns-in_default-clause-asked : goal.returns-in_default-clause-asked
 returns-in_default-clause-asked g c = asks-all _ _ _ c.in_default.ensures.asked
 
 pub returns-in_default-clause-saw : goal.returns-in_default-clause-saw
-returns-in_default-clause-saw g c ne t = saw-unread c.args.part _ _ _ (grew-none _)
+returns-in_default-clause-saw g c ne t =
+    let out = sink_run g.K.Sink.took g.K.Sink.faults c.args.out.now c.args.out.now in
+    saw-unread c.args.part _ _ out (grew-none _)
 
 pub returns-in_default-clause-kept : goal.returns-in_default-clause-kept
 returns-in_default-clause-kept g c = kept-unread c.args.part _

@@ -1,5 +1,5 @@
 use Rattle.std.proofs.Common.{◌∙◌}
-use Rattle.cmd_sim.proofs.Simulated.{takes-params, is-whole, text-is}
+use Rattle.cmd_sim.proofs.Simulated.{takes-params, is-whole, text-is, saw-all}
 use Rattle.cmd_sim.proofs.simulating.sim_text.Goals as goal
 
 pub run_over-requires-clause-good : goal.run_over-requires-clause-good
@@ -15,3 +15,8 @@ returns-clause-text g c =
     c.in_ok-stimulus.stimulus _
     c.in_ok-summary.summary c.in_ok-stimulus.ensures c.in_ok-summary.ensures.summary
     (c.reports.ensures ∙ c.in_ok-finish.ensures.left ∙ c.in_ok-summary.ensures.reports) c.lines_of.ensures
+
+pub returns-clause-saw : goal.returns-clause-saw
+returns-clause-saw g c =
+    saw-all c.lines_of.result c.args.number c.in_ok-profile.profile c.in_ok-profile.ensures c.in_ok-stimulus.stimulus
+    c.in_ok-stimulus.ensures _ _ _ c.in_ok-summary.ensures.reports c.in_ok-finish.ensures.left c.finish.ensures.none

@@ -28,6 +28,7 @@ returns-in-Demo g c =
       needed = λ t. c.demo.ensures.asked;
       left = λ e. refl;
       gone = λ e. absurd cc;
+      saw = λ t ne. tt;
     })
 
 pub returns-in-Record : goal.returns-in-Record
@@ -44,6 +45,7 @@ returns-in-Record g c =
       needed = c.record_stimulus.ensures.judged;
       left = λ e. refl;
       gone = λ e. absurd cc;
+      saw = λ t ne. tt;
     })
 
 pub returns-in-Needs : goal.returns-in-Needs
@@ -60,6 +62,7 @@ returns-in-Needs g c =
       needed = λ t. asked;
       left = λ e. refl;
       gone = λ e. absurd cc;
+      saw = λ t ne. tt;
     })
 
 pub returns-in-Show : goal.returns-in-Show
@@ -76,6 +79,7 @@ returns-in-Show g c =
       needed = λ t. c.show.ensures.asked;
       left = rw (← part) (is-kept c.part.result _ _ c.show.ensures.kept);
       gone = rw (← part) (λ e done. is-gone c.part.result _ (c.show.ensures.gone done) e);
+      saw = rw (← part) (λ t ne. c.show.ensures.saw ne t);
     })
 
 pub returns-in-Sim : goal.returns-in-Sim
@@ -90,6 +94,7 @@ returns-in-Sim g c =
       needed = λ t. asks-prefix-none first first [] refl;
       left = λ e. absurd cc;
       gone = λ e done. c.sim.ensures.gone done;
+      saw = rw (sym number) (λ t ne. c.sim.ensures.saw ne);
     })
 
 pub returns-in-Some : goal.returns-in-Some
@@ -107,6 +112,7 @@ returns-in-Some g c =
       needed = λ t. asks-prefix-none first first [] refl;
       left = λ e. refl;
       gone = λ e. absurd cc;
+      saw = λ t ne. tt;
     })
 
 pub returns-in-None : goal.returns-in-None
@@ -129,17 +135,40 @@ returns-in-Version g c =
       needed = λ t. asks-prefix-none first first [] refl;
       left = λ e. refl;
       gone = λ e. absurd cc;
+      saw = λ t ne. tt;
     })
 
 pub returns-in-Check : goal.returns-in-Check
 returns-in-Check g c =
     let seen = command_seen c.args.command in
-    runs-no-command (g.S.Slots.sees c.args.shelf.now) _ _ _ (built seen) (same-built seen words.Check seen.names c.in-Check.is refl)
+    let names = c.name-first.result.now ∷ [] in
+    let is = sole-name seen words.Check c.requires.range c.in-Check.is refl refl c.name-first.result.now c.name-first.ensures in
+    runs-command (g.S.Slots.sees c.args.shelf.now) _ _ _ _ _ _ _ (built seen) _ (same-built seen words.Check names c.in-Check.is is)
+    (record {
+      meets = c.check.ensures.meets;
+      ends = c.check.ensures.ends;
+      asked = c.check.ensures.asked;
+      needed = λ t. c.check.ensures.asked;
+      left = λ e. absurd cc;
+      gone = λ e done. c.check.ensures.gone done;
+      saw = λ t ne. c.check.ensures.saw ne t;
+    })
 
 pub returns-in-Upgrade : goal.returns-in-Upgrade
 returns-in-Upgrade g c =
     let seen = command_seen c.args.command in
-    runs-no-command (g.S.Slots.sees c.args.shelf.now) _ _ _ (built seen) (same-built seen words.Upgrade seen.names c.in-Upgrade.is refl)
+    let names = c.name-first.result.now ∷ [] in
+    let is = sole-name seen words.Upgrade c.requires.range c.in-Upgrade.is refl refl c.name-first.result.now c.name-first.ensures in
+    runs-command (g.S.Slots.sees c.args.shelf.now) _ _ _ _ _ _ _ (built seen) _ (same-built seen words.Upgrade names c.in-Upgrade.is is)
+    (record {
+      meets = c.upgrade.ensures.meets;
+      ends = c.upgrade.ensures.ends;
+      asked = c.upgrade.ensures.asked;
+      needed = λ t. c.upgrade.ensures.asked;
+      left = λ e. refl;
+      gone = λ e. absurd cc;
+      saw = λ t ne. tt;
+    })
 
 pub returns-in-Vote : goal.returns-in-Vote
 returns-in-Vote g c =
@@ -154,6 +183,12 @@ returns-in-Chain g c =
 pub workers_of-requires : goal.workers_of-requires
 workers_of-requires g c = workers-fit (command_seen c.args.command) c.requires.range
 
+pub workers_of-requires-in-Check : goal.workers_of-requires-in-Check
+workers_of-requires-in-Check g c = workers-fit (command_seen c.args.command) c.requires.range
+
+pub workers_of-requires-in-Upgrade : goal.workers_of-requires-in-Upgrade
+workers_of-requires-in-Upgrade g c = workers-fit (command_seen c.args.command) c.requires.range
+
 pub returns-in-Replay : goal.returns-in-Replay
 returns-in-Replay g c =
     let seen = command_seen c.args.command in
@@ -167,6 +202,7 @@ returns-in-Replay g c =
       needed = λ t. c.replay.ensures.asked;
       left = λ e. refl;
       gone = λ e. absurd cc;
+      saw = λ t ne. tt;
     })
 
 pub compare-requires-clause-some : goal.compare-requires-clause-some
@@ -189,6 +225,7 @@ returns-in-Compare g c =
       needed = λ t. c.compare.ensures.asked;
       left = λ e. refl;
       gone = λ e. absurd cc;
+      saw = λ t ne. tt;
     })
 
 pub returns-then-command : goal.returns-then-command
@@ -204,6 +241,7 @@ returns-then-command g c =
       needed = λ t. c.salvage_reports.ensures.asked;
       left = λ e. absurd cc;
       gone = λ e done. c.salvage_reports.ensures.gone done;
+      saw = λ t ne. c.salvage_reports.ensures.saw ne t;
     })
 
 pub returns-else-command : goal.returns-else-command
@@ -219,4 +257,5 @@ returns-else-command g c =
       needed = λ t. c.salvage.ensures.asked;
       left = λ e. refl;
       gone = λ e. absurd cc;
+      saw = λ t ne. tt;
     })

@@ -1,6 +1,6 @@
--- A replay from a name meets the outcome of the bytes under it.
+-- A command that runs the job of the record under a name meets its outcome of the bytes there.
 use Rattle.std.proofs.Common.{◌≡◌, ℕ, List, [], ◌∷◌, ◌++◌, sym, ap, ◌∙◌, arith}
-use Rattle.std.specs.Prelude.{Ok, Err, Some, IsSome}
+use Rattle.std.specs.Prelude.{Result, Ok, Err, Some, IsSome}
 use Rattle.det_edges.specs.Shelf.{ShelfState}
 use Rattle.det_edges.specs.Traffic.{IfRefused}
 use Rattle.det_edges.specs.declared.failure.Stopped.{Stopped}
@@ -10,10 +10,9 @@ use Rattle.cli_answers.specs.declared.answer.Answer.{Answer}
 use Rattle.cli_answers.specs.Outcome.{Outcome, Meets, Tells, told}
 use Rattle.recorded_run.specs.declared.bad_run.BadRun.{BadRun}
 use Rattle.recorded_run.specs.declared.run.RecordedRun.{RecordedRun}
-use Rattle.recorded_run.specs.Run.{run_of}
+use Rattle.recorded_run.specs.Run.{RunValue, run_of}
 use Rattle.recorded_run.specs.Begun.{HasBegun}
 use Rattle.recorded_run.proofs.Resting.{rest, rest-told}
-use Rattle.cmd_replay.specs.Replay.{replay_outcome, replayed, replayed_by}
 
 -- a run meets any outcome that is the same where the names are told
 meets-as : (wanted other : Outcome) (tells tells2 rose rose2 failed : Type 0) (before after : List ℕ → Type 0) (answer : Answer)
@@ -29,20 +28,26 @@ meets-as wanted other tells tells2 rose rose2 failed before after answer t same 
 pub tells-name : (shelf : ShelfState) (name : List ℕ) → Tells shelf (name ∷ []) → IsSome (shelf.holds name)
 tells-name shelf name t = t 0 name (omega arith)
 
-module _ {first mid : ShelfState} {name : List ℕ} {run : RecordedRun} (begun : HasBegun first mid name run)
-    (is : IsSome (first.holds name) → run_of (told first name) ≡ Ok (record { kind = run.kind; profile = run.profile })) where
-  outcome-is : IsSome (first.holds name) → replay_outcome (told first name) ≡ replayed run.kind run.profile (begun.read ++ rest begun)
+-- what the header names
+abbrev as_run : RecordedRun → Result RunValue BadRun
+as_run run = Ok (record { kind = run.kind; profile = run.profile })
+
+-- `wanted` is the command's outcome of the bytes of a record, by the run that its header names
+module _ (wanted : List ℕ → Result RunValue BadRun → Outcome) {first mid : ShelfState} {name : List ℕ} {run : RecordedRun}
+    (begun : HasBegun first mid name run) (is : IsSome (first.holds name) → run_of (told first name) ≡ as_run run) where
+  outcome-is : IsSome (first.holds name)
+      → wanted (told first name) (run_of (told first name)) ≡ wanted (begun.read ++ rest begun) (as_run run)
   outcome-is tells =
-      ap (replayed_by (told first name)) (is tells)
-      ∙ ap (replayed run.kind run.profile) (sym (rest-told begun tells).1)
+      ap (wanted (told first name)) (is tells)
+      ∙ ap (λ (bytes : List ℕ). wanted bytes (as_run run)) (sym (rest-told begun tells).1)
 
   -- what the rest of the record gives is what the whole record does
   pub meets-told : (rose rose2 failed : Type 0) (before after : List ℕ → Type 0) (answer : Answer) → (rose → rose2)
-      → Meets (replayed run.kind run.profile (begun.read ++ rest begun)) (mid.left (slot_of run.reader) ≡ Some (rest begun)) rose failed
+      → Meets (wanted (begun.read ++ rest begun) (as_run run)) (mid.left (slot_of run.reader) ≡ Some (rest begun)) rose failed
       before after answer
-      → Meets (replay_outcome (told first name)) (Tells first (name ∷ [])) rose2 failed before after answer
+      → Meets (wanted (told first name) (run_of (told first name))) (Tells first (name ∷ [])) rose2 failed before after answer
   meets-told rose rose2 failed before after answer later met =
-      meets-as (replayed run.kind run.profile (begun.read ++ rest begun)) (replay_outcome (told first name))
+      meets-as (wanted (begun.read ++ rest begun) (as_run run)) (wanted (told first name) (run_of (told first name)))
       (mid.left (slot_of run.reader) ≡ Some (rest begun)) (Tells first (name ∷ [])) rose rose2 failed before after answer
       (λ t. (rest-told begun (tells-name first name t)).0) (λ t. outcome-is (tells-name first name t)) later met
 

@@ -1,0 +1,4 @@
+pub mod Departing
+pub mod Records
+mod Running
+mod Ending

@@ -1,0 +1,4 @@
+pub mod Departure
+pub mod Given
+pub mod Verdict
+pub mod Checked

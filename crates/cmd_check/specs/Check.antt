@@ -1,0 +1,71 @@
+-- What `check` gives by the bytes of a record: whether it is what its inputs give, and what an
+-- audience reports of the runs that were compared.
+use Rattle.std.specs.Prelude.{true, ℕ, List, ◌++◌, Result, Ok, Err}
+use Rattle.std.specs.List.{flat_map}
+use Rattle.det_edges.specs.Prefix.{IsPrefix}
+use Rattle.det_values.specs.Values.{ProfileValue}
+use Rattle.det_values.specs.declared.frames.RunFrame.{RunFrame}
+use Rattle.det_values.specs.declared.job_kind.JobKind.{JobKind}
+use Rattle.job_trait.specs.Meaning.{Meaning}
+use Rattle.shipped_jobs.specs.Kinds.{by_kind}
+use Rattle.record_grammar.specs.declared.fault.RecordFault.{RecordFault}
+use Rattle.probes.specs.Reports.{AudienceState, reported}
+use Rattle.checker.specs.declared.verdict.CheckVerdict.{CheckVerdict}
+use Rattle.checker.specs.declared.verdict.CheckVerdict.TheVariants.{Genuine, Departs}
+use Rattle.checker.specs.Departure.{frames_in, checked_runs}
+use Rattle.checker.specs.Departure as frames
+use Rattle.checker.specs.Verdict.{check_verdict}
+use Rattle.checker.specs.Checked.{Saw}
+use Rattle.verdict_text.specs.Verdicts.{check_line}
+use Rattle.cli_answers.specs.declared.answer.Answer.{Answer}
+use Rattle.cli_answers.specs.declared.answer.Answer.TheVariants.{Done, Differs, BadRecord}
+use Rattle.cli_answers.specs.Ends.{Work, writes_alone}
+use Rattle.cli_answers.specs.Outcome.{Outcome, refusal}
+use Rattle.recorded_run.specs.declared.bad_run.BadRun.{BadRun}
+use Rattle.recorded_run.specs.Run.{RunValue, run_of, refused}
+
+-- it reads a record, and compares it with the run of its inputs
+abbrev pub check_work : Work
+check_work = record writes_alone { recorded = true; compares = true }
+
+abbrev pub answer_to : CheckVerdict → Answer
+answer_to (Genuine cycles) = Done
+answer_to (Departs at) = Differs
+
+-- the line of a verdict and these reports, or the fault of the record
+abbrev pub outcome_by : Result CheckVerdict RecordFault → List ℕ → Outcome
+outcome_by (Ok verdict) reports =
+    record { answer = answer_to verdict; bytes = check_line verdict ++ reports }
+outcome_by (Err fault) reports = refusal (BadRecord 0 fault)
+
+-- the verdict on a record with this header, and what an audience reports of the runs checked
+abbrev pub checked_with : {S G E L P : Type 0} → Meaning S G E L P → ProfileValue
+    → AudienceState → List ℕ → Outcome
+checked_with m profile audience record_bytes =
+    outcome_by (check_verdict m profile record_bytes)
+    (reported audience (checked_runs m profile record_bytes))
+
+-- the same with the job of a kind
+abbrev pub checked : JobKind → ProfileValue → AudienceState → List ℕ → Outcome
+checked kind profile audience record_bytes =
+    by_kind (λ S G E L P m. checked_with m profile audience record_bytes) kind
+
+-- with the run that the record's header names, or the refusal of that
+abbrev pub checked_by : AudienceState → List ℕ → Result RunValue BadRun → Outcome
+checked_by audience record_bytes (Ok run) = checked run.kind run.profile audience record_bytes
+checked_by audience record_bytes (Err why) = refusal (refused why)
+
+abbrev pub check_outcome : AudienceState → List ℕ → Outcome
+check_outcome audience record_bytes = checked_by audience record_bytes (run_of record_bytes)
+
+-- ---- the audience
+
+-- the runs of a record
+abbrev pub runs_in : List ℕ → List RunFrame
+runs_in record_bytes = flat_map frames.run_of (frames_in record_bytes)
+
+-- the audience has seen the first runs of a record
+pub record SawFirst (old now : AudienceState) (record_bytes : List ℕ) : Type 0 where
+  pub seen : List RunFrame
+  pub first : IsPrefix seen (runs_in record_bytes)
+  pub saw : Saw old now seen

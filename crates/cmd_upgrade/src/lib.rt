@@ -1,0 +1,7 @@
+//! The command that writes a record of the same run in format 2.
+#![tactic(auto)]
+
+mod upgrading;
+mod visiting;
+
+pub use upgrading::upgrade;

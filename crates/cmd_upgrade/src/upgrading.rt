@@ -1,0 +1,117 @@
+//! The command `upgrade`.
+ghost use Rattle.std.specs.Prelude.{◌≡◌, ◌<◌, ℕ, List, ◌∷◌, [], ◌++◌, true, length};
+ghost use Rattle.std.specs.Prelude.{None, Some};
+ghost use Rattle.det_edges.specs.Count.{Rose};
+ghost use Rattle.det_edges.specs.Shelf.{AsksPrefix};
+ghost use Rattle.record_grammar.specs.declared.item.Item.TheVariants as items;
+ghost use Rattle.record_reader.specs.StandsFor.{StandsFor, slot_of};
+ghost use Rattle.shipped_jobs.specs.Kinds.{bad_param};
+ghost use Rattle.upgrader.specs.Upgraded.{in_format_two};
+ghost use Rattle.cli_answers.specs.Ends.{can_end};
+ghost use Rattle.cli_answers.specs.Outcome.{Meets, Tells, told};
+ghost use Rattle.cmd_upgrade.specs.Upgrade.{upgrade_outcome, upgraded_by_kind, upgrade_work};
+ghost use Rattle.cmd_upgrade.specs.Upgrade.{answer_of};
+ghost use Rattle.cmd_upgrade.specs.Visited.{CanUpgrade};
+
+use crate::visiting::OriginalIn;
+use checker::CheckVerdict;
+use cli_answers::Answer;
+use det_edges::{Shelf, Sink, Slots, Stopped};
+use det_values::{Format, Profile};
+use probes::Audience;
+use record_grammar::RecordFault;
+use recorded_run::{RecordedRun, read_run, without_run};
+use shipped_crews::{ShippedRun, Workers, with_crew};
+use std::thread::Threads;
+use upgrader::Original;
+use worker_pool::Gate;
+
+/// What an upgrade is answered.
+fn answer_of(upgraded: Result<CheckVerdict, Stopped<RecordFault>>) -> Answer
+    ensures is { result ≡ answer_of upgraded }
+    ensures ends { can_end upgrade_work result ≡ true }
+{
+    match upgraded {
+        Ok(CheckVerdict::Genuine { .. }) => Answer::Done,
+        Ok(CheckVerdict::Departs(_)) => Answer::Differs,
+        Err(stop) => Answer::from(stop),
+    }
+}
+
+/// The same profile in format 2.
+fn in_format_two(profile: Profile) -> Profile
+    ensures { result ≡ in_format_two profile }
+{
+    Profile {
+        format: Format::Two,
+        ..profile
+    }
+}
+
+/// Runs a record's job over the rest of the record, by a crew. Nobody looks at the runs.
+fn upgrade_by_crew<S, K, R, G>(
+    workers: &Workers<'_, R, G>,
+    run: RecordedRun,
+    shelf: &mut S,
+    out: &mut K,
+) -> Answer
+where
+    S: Slots,
+    K: Sink,
+    R: Threads,
+    G: Gate + Send + Sync + 'static,
+    requires good { bad_param run.kind run.profile.params (length run.profile.events) ≡ None }
+    requires gave { (read : List ℕ) × StandsFor run.reader read (items.Header run.profile ∷ []) }
+    requires slot { slot_of run.reader < (S.sees shelf.old).slots }
+    ensures meets { (read rest : List ℕ) → StandsFor run.reader read (items.Header run.profile ∷ [])
+        → Meets (upgraded_by_kind run.kind run.profile (read ++ rest))
+        ((S.sees shelf.old).left (slot_of run.reader) ≡ Some rest)
+        (Rose (S.sees shelf.old).faults (S.sees shelf.new).faults)
+        (Rose (K.faults out.old) (K.faults out.new)) (K.took out.old) (K.took out.new) result }
+    ensures ends { can_end upgrade_work result ≡ true }
+    ensures asked { (S.sees shelf.new).asked ≡ (S.sees shelf.old).asked }
+{
+    let RecordedRun {
+        kind,
+        profile,
+        reader,
+    } = run;
+    let mut nobody = Audience::of(workers.alloc, Vec::new(workers.alloc));
+    let format = profile.format;
+    let profile = in_format_two(profile);
+    let run = ShippedRun { kind, profile };
+    let original = Original { format, reader };
+    let visitor = OriginalIn { original };
+    match with_crew(workers, run, visitor, shelf, out, &mut nobody) {
+        Ok(upgraded) => answer_of(upgraded),
+        Err(_) => Answer::OutOfMemory,
+    }
+}
+
+/// Runs the job of the record under this name again over its inputs, and writes the record of that
+/// run in format 2, up to the first frame that isn't what the inputs give. Where the record has a
+/// fault, the frames before it are written, and no Terminate. Where no shipped job takes what the
+/// header says, nothing is written.
+pub fn upgrade<S, K, R, G>(
+    workers: &Workers<'_, R, G>,
+    recorded: &str,
+    shelf: &mut S,
+    out: &mut K,
+) -> Answer
+where
+    S: Shelf,
+    K: Sink,
+    R: Threads,
+    G: Gate + Send + Sync + 'static,
+    ensures meets { Meets (upgrade_outcome (told (S.sees shelf.old) recorded.now))
+        (Tells (S.sees shelf.old) (recorded.now ∷ []))
+        (Rose (S.sees shelf.old).faults (S.sees shelf.new).faults)
+        (Rose (K.faults out.old) (K.faults out.new)) (K.took out.old) (K.took out.new) result }
+    ensures ends { can_end upgrade_work result ≡ true }
+    ensures asked { AsksPrefix (S.sees shelf.old) (S.sees shelf.new) (recorded.now ∷ []) }
+{
+    match read_run(workers.alloc, recorded, shelf) {
+        Ok(run) => upgrade_by_crew(workers, run, shelf, out),
+        Err(end) => without_run(end),
+    }
+}

@@ -1,0 +1,83 @@
+-- What `check` says of the records of `record` and of `demo`.
+use Rattle.std.proofs.Common.{◌≡◌, ℕ, List, ◌++◌, length, Bool, true, false, None, refl, sym, ap, ◌∙◌, codes}
+use Rattle.std.specs.List.{flat_map}
+use Rattle.std.specs.Option.{unwrap_or}
+use Rattle.det_values.specs.Values.{ProfileValue}
+use Rattle.det_values.specs.declared.frames.CycleInput.{CycleInput}
+use Rattle.det_values.specs.declared.job_kind.JobKind.{JobKind}
+use Rattle.det_values.specs.declared.job_kind.JobKind.TheVariants.{Bank, Cloud, Guard}
+use Rattle.job_trait.specs.Meaning.{Meaning}
+use Rattle.job_bank.specs.Meaning as bank
+use Rattle.job_cloud.specs.Meaning as cloud
+use Rattle.job_guard.specs.Meaning as guard
+use Rattle.cycle_engine.specs.Frames.{frames}
+use Rattle.stimulus.specs.Reading.{blocks, ending}
+use Rattle.recorder.specs.Record.{is_terminated}
+use Rattle.manifest.specs.Profiles.{profile_of}
+use Rattle.cmd_setup.specs.Setup.{manifest_by}
+use Rattle.cmd_record.specs.Outcomes.{demo_profile, demo_outcome, record_outcome}
+use Rattle.probes.specs.Reports.{AudienceState, reported}
+use Rattle.record_text.specs.Words.{number_line}
+use Rattle.checker.specs.Departure.{run_of}
+use Rattle.checker.specs.Verdict.{verdict_by}
+use Rattle.cli_answers.specs.declared.answer.Answer.TheVariants.{Done}
+use Rattle.cli_answers.specs.Outcome.{Outcome}
+use Rattle.cmd_check.specs.Check.{outcome_by, checked_with, checked, checked_by}
+use Rattle.run_laws.specs.Statements.{IsRunRead, IsRecordRead, frames_by_kind, fault_if}
+use Rattle.run_laws.specs.Checks.{checked_of, IsRecordChecked, RecordIsChecked, DemoIsChecked}
+use Rattle.run_laws.proofs.Commands.{is_taken, record_read, demo_read}
+use Rattle.run_laws.proofs.Replayed.{IsOfKind, run_is}
+use Rattle.run_laws.proofs.OfInputs.{run_verdict, run_checked, runs_counted}
+
+abbrev is_ended : ProfileValue → List ℕ → Bool
+is_ended profile stimulus = is_terminated (ending (length profile.events) stimulus)
+
+-- of so many cycles, with these reports
+abbrev genuine_text : ℕ → List ℕ → Outcome
+genuine_text cycles reports = record { answer = Done; bytes = number_line (codes "genuine") cycles ++ reports }
+
+module _ {S G E L P : Type 0} (m : Meaning S G E L P) (profile : ProfileValue) (audience : AudienceState) where
+  -- the verdict on a run, as the command tells it
+  told_of : (given : List CycleInput) (ended : Bool) (bytes : List ℕ)
+      → outcome_by (verdict_by None (fault_if ended bytes) (length given))
+      (reported audience (flat_map run_of (frames m profile given ended)))
+      ≡ checked_of audience (frames m profile given ended) (fault_if ended bytes)
+  told_of given true bytes =
+      ap (λ (n : ℕ). genuine_text n (reported audience (flat_map run_of (frames m profile given true))))
+      (sym (runs_counted m profile given true))
+  told_of given false bytes = refl
+
+  run_is_checked : (given : List CycleInput) (ended : Bool) (bytes : List ℕ) → IsRunRead profile (frames m profile given ended) ended bytes
+      → checked_with m profile audience bytes ≡ checked_of audience (frames m profile given ended) (fault_if ended bytes)
+  run_is_checked given ended bytes read =
+      let verdict = run_verdict m profile given ended bytes read in
+      let seen = run_checked m profile given ended bytes read in
+      (λ i. outcome_by (verdict i) (reported audience (seen i))) ∙ told_of given ended bytes
+
+-- the check of a record of a profile, by the kind of its job
+checked_same : (kind : JobKind) (profile : ProfileValue) (stimulus bytes : List ℕ) (audience : AudienceState)
+    → IsRecordRead profile (frames_by_kind kind profile) stimulus bytes
+    → checked kind profile audience bytes
+    ≡ checked_of audience (frames_by_kind kind profile (blocks (length profile.events) stimulus) (is_ended profile stimulus))
+    (fault_if (is_ended profile stimulus) bytes)
+checked_same Bank profile stimulus bytes audience h = run_is_checked bank.meaning profile audience _ (is_ended profile stimulus) bytes h
+checked_same Cloud profile stimulus bytes audience h = run_is_checked cloud.meaning profile audience _ (is_ended profile stimulus) bytes h
+checked_same Guard profile stimulus bytes audience h = run_is_checked guard.meaning profile audience _ (is_ended profile stimulus) bytes h
+
+kind_is_checked : (kind : JobKind) (profile : ProfileValue) (stimulus bytes : List ℕ) → IsOfKind kind profile
+    → IsRecordRead profile (frames_by_kind kind profile) stimulus bytes
+    → IsRecordChecked profile (frames_by_kind kind profile) stimulus bytes
+kind_is_checked kind profile stimulus bytes of h = λ audience.
+    ap (checked_by audience bytes) (run_is kind profile _ bytes of h.items) ∙ checked_same kind profile stimulus bytes audience h
+
+pub record_is_checked : RecordIsChecked
+record_is_checked strict manifest stimulus seed m small set =
+    let taken = is_taken (manifest_by strict manifest) m set in
+    let profile : ProfileValue = profile_of m (unwrap_or seed 0) in
+    let bytes : List ℕ = (record_outcome strict manifest stimulus seed).bytes in
+    kind_is_checked m.kind profile stimulus bytes (record { number = refl; good = taken.good })
+    (record_read strict manifest stimulus seed m small set)
+
+pub demo_is_checked : DemoIsChecked
+demo_is_checked stimulus =
+    kind_is_checked Bank demo_profile stimulus (demo_outcome stimulus).bytes (record { number = refl; good = refl }) (demo_read stimulus)

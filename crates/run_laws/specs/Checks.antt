@@ -1,0 +1,94 @@
+-- What `check` says of the record of a run, when it is done, and what becomes of a genuine record
+-- that is upgraded.
+use Rattle.std.specs.Prelude.{◌≡◌, ℕ, ◌^◌, ◌<◌, ◌↔◌, List, ◌++◌, length, Bool, Option, Some, None}
+use Rattle.std.specs.Prelude.{Ok, codes}
+use Rattle.std.specs.List.{flat_map}
+use Rattle.std.specs.Option.{unwrap_or}
+use Rattle.det_values.specs.declared.format.Format.TheVariants.{Two}
+use Rattle.det_values.specs.declared.frames.CycleInput.{CycleInput}
+use Rattle.det_values.specs.declared.frames.Frame.{Frame}
+use Rattle.det_values.specs.Values.{ProfileValue}
+use Rattle.job_bank.specs.Meaning as bank
+use Rattle.cycle_engine.specs.Frames.{frames}
+use Rattle.record_grammar.specs.declared.fault.RecordFault.{RecordFault}
+use Rattle.record_grammar.specs.Record.{items}
+use Rattle.record_grammar.specs.Spelling.{AreBytes}
+use Rattle.stimulus.specs.Reading.{blocks, ending}
+use Rattle.recorder.specs.Record.{is_terminated}
+use Rattle.manifest.specs.Values.{ManifestValue}
+use Rattle.manifest.specs.Profiles.{profile_of}
+use Rattle.cmd_setup.specs.Setup.{setup_of}
+use Rattle.cmd_record.specs.Outcomes.{demo_profile, demo_outcome, record_outcome}
+use Rattle.probes.specs.Reports.{AudienceState, reported}
+use Rattle.record_text.specs.Words.{number_line}
+use Rattle.record_show.specs.Text.{format_in}
+use Rattle.replayer.specs.Again.{inputs}
+use Rattle.checker.specs.Departure.{run_of}
+use Rattle.cli_answers.specs.declared.answer.Answer.TheVariants.{Done, BadRecord}
+use Rattle.cli_answers.specs.Outcome.{Outcome, refusal}
+use Rattle.cmd_replay.specs.Replay.{replay_outcome}
+use Rattle.cmd_check.specs.Check.{check_outcome}
+use Rattle.cmd_upgrade.specs.Upgrade.{upgrade_outcome}
+use Rattle.run_laws.specs.Statements.{frames_by_kind, fault_if, given_again}
+
+-- What `check` gives of the record of a run: where that was ended, the line that it is genuine with
+-- the number of its cycles, and what an audience reports of them; else the fault where it ends.
+abbrev pub checked_of : AudienceState → List Frame → Option RecordFault → Outcome
+checked_of audience run None = record {
+  answer = Done;
+  bytes = number_line (codes "genuine") (length (flat_map run_of run))
+      ++ reported audience (flat_map run_of run);
+}
+checked_of audience run (Some fault) = refusal (BadRecord 0 fault)
+
+-- the same of the run over the blocks of a stimulus
+abbrev pub IsRecordChecked : ProfileValue → (List CycleInput → Bool → List Frame) → List ℕ → List ℕ
+    → Type 0
+IsRecordChecked profile run stimulus bytes =
+    let ended : Bool = is_terminated (ending (length profile.events) stimulus) in
+    (audience : AudienceState) → check_outcome audience bytes
+    ≡ checked_of audience (run (blocks (length profile.events) stimulus) ended)
+    (fault_if ended bytes)
+
+-- what `check` gives of what `record` writes, where the manifest is taken
+abbrev pub RecordIsChecked : Type 0
+RecordIsChecked =
+    (strict : Bool) (manifest stimulus : List ℕ) (seed : Option ℕ) (m : ManifestValue)
+    → unwrap_or seed 0 < 2 ^ 64 → setup_of strict manifest ≡ Ok m
+    → IsRecordChecked (profile_of m (unwrap_or seed 0))
+    (frames_by_kind m.kind (profile_of m (unwrap_or seed 0))) stimulus
+    (record_outcome strict manifest stimulus seed).bytes
+
+-- and of what `demo` writes
+abbrev pub DemoIsChecked : Type 0
+DemoIsChecked =
+    (stimulus : List ℕ) → IsRecordChecked demo_profile (frames bank.meaning demo_profile) stimulus
+    (demo_outcome stimulus).bytes
+
+-- a check of these bytes is done
+abbrev pub IsGenuine : AudienceState → List ℕ → Type 0
+IsGenuine audience record_bytes = (check_outcome audience record_bytes).answer ≡ Done
+
+-- bytes are genuine exactly where `replay` is done and gives them back
+abbrev pub GenuineIsReplayed : Type 0
+GenuineIsReplayed = (audience : AudienceState) (record_bytes : List ℕ) → AreBytes record_bytes
+    → IsGenuine audience record_bytes
+    ↔ (replay_outcome record_bytes ≡ given_again record_bytes None)
+
+-- `upgrade` is done; what it gives has the same inputs, is in format 2, and is genuine too
+pub record IsUpgraded (audience : AudienceState) (record_bytes : List ℕ) : Type 0 where
+  pub done : (upgrade_outcome record_bytes).answer ≡ Done
+  pub inputs : inputs (upgrade_outcome record_bytes).bytes ≡ inputs record_bytes
+  pub format : format_in (items (upgrade_outcome record_bytes).bytes) ≡ Two
+  pub genuine : IsGenuine audience (upgrade_outcome record_bytes).bytes
+
+-- what becomes of a genuine record that is upgraded
+abbrev pub GenuineIsUpgraded : Type 0
+GenuineIsUpgraded = (audience : AudienceState) (record_bytes : List ℕ) → AreBytes record_bytes
+    → IsGenuine audience record_bytes → IsUpgraded audience record_bytes
+
+-- one that is in format 2 already stays as it is
+abbrev pub FormatTwoStays : Type 0
+FormatTwoStays = (audience : AudienceState) (record_bytes : List ℕ) → AreBytes record_bytes
+    → IsGenuine audience record_bytes → format_in (items record_bytes) ≡ Two
+    → (upgrade_outcome record_bytes).bytes ≡ record_bytes

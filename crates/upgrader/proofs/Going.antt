@@ -1,0 +1,317 @@
+-- A record on its way: its frames read, compared with those that its inputs give, and those written.
+use Rattle.std.proofs.Common.{◌≡◌, ◌≤◌, ◌<◌, ◌+◌, ℕ, List, [], ◌∷◌, ◌++◌, length, refl, sym, ap, subst, ◌∙◌, arith}
+use Rattle.std.proofs.Common.{append_assoc, append-nil, length-append}
+use Rattle.std.specs.Prelude.{Option, Some, None, Result, Ok, Err}
+use Rattle.std.specs.List.{flat_map}
+use Rattle.std.proofs.lemmas.Grind.{flat_map-append}
+use Rattle.det_values.specs.Values.{ProfileValue}
+use Rattle.det_values.specs.Frames.{in_format}
+use Rattle.det_values.specs.declared.format.Format.{Format}
+use Rattle.det_values.specs.declared.format.Format.TheVariants.{Two}
+use Rattle.det_values.specs.declared.frames.CycleInput.{CycleInput}
+use Rattle.det_values.specs.declared.frames.Frame.{Frame}
+use Rattle.det_values.specs.declared.frames.Frame.TheVariants.{Register, Discover, Init, Run, Terminate}
+use Rattle.det_edges.specs.Sink.{Grew}
+use Rattle.det_edges.specs.Shelf.{ShelfState, Reads, IsAtEnd}
+use Rattle.det_edges.specs.Traffic.{ShelfRun, SinkRun, ShelfTraffic, SinkTraffic, failure_in}
+use Rattle.det_edges.specs.declared.failure.Failure.{Failure}
+use Rattle.det_edges.specs.declared.failure.Failure.TheVariants.{Read, Write, OutOfMemory}
+use Rattle.det_edges.specs.declared.failure.Stopped.{Stopped}
+use Rattle.det_edges.specs.declared.failure.Stopped.TheVariants.{Refused, Failed}
+use Rattle.det_edges.proofs.Growth.{grew-then}
+use Rattle.det_edges.proofs.SlotReads.{reads-none, reads-then}
+use Rattle.job_trait.specs.Meaning.{Meaning}
+use Rattle.cycle_engine.specs.Engine.{EngineState}
+use Rattle.record_grammar.specs.declared.fault.RecordFault.{RecordFault}
+use Rattle.record_grammar.specs.declared.item.Item.{Item}
+use Rattle.record_grammar.specs.declared.item.Item.TheVariants as items
+use Rattle.record_grammar.specs.Spelling.{spelled, spelled_frame}
+use Rattle.record_reader.specs.declared.reader.RecordReader.{RecordReader}
+use Rattle.record_reader.specs.StandsFor.{StandsFor, HasRead, ItemIs, slot_of}
+use Rattle.record_reader.specs.Taking.{AreFirst}
+use Rattle.record_reader.proofs.Items.{NextIs, next_is, more_items, few_first}
+use Rattle.lockstep.specs.declared.difference.Difference.{Difference}
+use Rattle.lockstep.specs.FirstDifference.{frame_difference}
+use Rattle.run_writer.specs.declared.recording.Recording.{Recording}
+use Rattle.run_writer.specs.Recording.{IsNew}
+use Rattle.replayer.specs.Again.{input_in}
+use Rattle.replayer.proofs.Items.{few-inputs}
+use Rattle.checker.specs.Departure.{frame_in}
+use Rattle.checker.specs.Given.{IsBehind, CanCome, input_of, given_frame}
+use Rattle.checker.specs.declared.verdict.CheckVerdict.{CheckVerdict}
+use Rattle.checker.proofs.Departing.{inputs_of, departs-none}
+use Rattle.checker.proofs.Records.{inputs-are}
+use Rattle.upgrader.specs.declared.original.Original.{Original}
+use Rattle.upgrader.specs.Frames.{Takes, IsNoHeader, unless_last}
+use Rattle.upgrader.specs.Begun.{header_of}
+use Rattle.upgrader.specs.Upgraded.{in_format_two}
+use Rattle.upgrader.proofs.Order.{few_frames, AreFrames, are_frames}
+use Rattle.upgrader.proofs.Formats.{given_in, spelled-kept}
+use Rattle.upgrader.proofs.Records.{Agree, agree-next, so_far, so_far-next}
+
+-- ---- the run of format 2
+
+-- the run's profile is that of the record in format 2
+pub two-is : (original : Original) (profile : ProfileValue) → profile.format ≡ Two → profile ≡ in_format_two (header_of original profile)
+two-is original profile two = ap (λ (f : Format). record profile { format = f }) two
+
+pub new-behind : {S G E L P : Type 0} (m : Meaning S G E L P) (old new : Recording S G E L P) → IsNew m old → new.engine ≡ old.engine
+    → new.profile ≡ old.profile → IsBehind m new []
+new-behind {S} {G} {E} m old new h engine profile = record {
+  engine = rw (engine, profile) h.engine;
+  going = ap (λ (e : EngineState S G E). e.stopped) engine ∙ h.going;
+}
+
+-- ---- counts
+
+pub compared-next : (done : List Frame) (frame : Frame) {n : ℕ} → n ≡ length done → n + 1 ≡ length (done ++ frame ∷ [])
+compared-next done frame is = let sum = length-append done (frame ∷ []) in omega arith
+
+pub inputs-next : (done : List Frame) (frame : Frame) → inputs_of (done ++ frame ∷ []) ≡ inputs_of done ++ input_of frame
+inputs-next done frame = flat_map-append input_of done (frame ∷ [])
+    ∙ ap (λ (fs : List CycleInput). inputs_of done ++ fs) (append-nil (input_of frame))
+
+pub cycles-next : (done : List Frame) (frame : Frame) {n : ℕ} → n ≡ length (inputs_of done)
+    → n + length (input_of frame) ≡ length (inputs_of (done ++ frame ∷ []))
+cycles-next done frame is =
+    let all = ap length (inputs-next done frame) in
+    let sum = length-append (inputs_of done) (input_of frame) in
+    omega arith
+
+-- what is nothing else is None
+pub none-of : {X : Type 0} (o : Option X) → ((x : X) → o ≡ Some x → ⊥) → o ≡ None
+none-of (Some x) other = absurd (other x refl)
+none-of None other = refl
+
+-- ---- the frames that a reader gave
+
+-- a record's header was given, and these frames of it
+pub record HasGone (profile : ProfileValue) (r : RecordReader) (read : List ℕ) (done : List Frame) : Type 0 where
+  -- the items behind the header
+  pub behind : List Item
+  pub stands : StandsFor r read (items.Header profile ∷ behind)
+  pub frames : flat_map frame_in behind ≡ done
+
+-- they come first in every record that begins with what was read
+pub gone-first : {profile : ProfileValue} {r : RecordReader} {read : List ℕ} {done : List Frame} → HasGone profile r read done
+    → (rest : List ℕ) → (more : List Frame) × AreFrames profile (read ++ rest) (done ++ more)
+gone-first {profile} {r} {read} {done} h rest =
+    let all = more_items r read (items.Header profile ∷ h.behind) h.stands rest in (
+      flat_map frame_in all.0,
+      subst (AreFrames profile (read ++ rest))
+          (flat_map-append frame_in h.behind all.0 ∙ ap (λ (fs : List Frame). fs ++ flat_map frame_in all.0) h.frames)
+          (are_frames profile (read ++ rest) (h.behind ++ all.0) all.1),
+    )
+
+-- ---- the next item
+
+-- the items that were given and the next one come first of a record
+item-first : {profile : ProfileValue} {next : RecordReader} {all : List ℕ} (at_end : Type 0) (behind : List Item) (item : Item)
+    → ItemIs (Ok (Some item)) next at_end all (items.Header profile ∷ behind) → AreFirst (items.Header profile ∷ (behind ++ item ∷ []))
+item-first {next = next} {all = all} at_end behind item is = record {
+  bytes = all;
+  place = next.decoder.place;
+  rest = is.0.decodes.rest;
+  leads = is.0.decodes.leads;
+}
+
+no-header : (profile : ProfileValue) (behind : List Item) (item : Item) → NextIs (items.Header profile ∷ behind) item → IsNoHeader item
+no-header profile behind (items.Header other) next = next
+no-header profile behind (items.Frame frame) next = tt
+
+-- what the next frame asks of a run
+can-come : (profile : ProfileValue) (behind : List Item) (frame : Frame) (cycles : ℕ)
+    → NextIs (items.Header profile ∷ behind) (items.Frame frame)
+    → cycles + length (input_of frame) ≤ 1000000 → CanCome cycles (length profile.events) frame
+can-come profile behind Register cycles next few = tt
+can-come profile behind Discover cycles next few = tt
+can-come profile behind (Init elements) cycles next few = tt
+can-come profile behind (Run run) cycles next few = (omega (arith, few), next.0)
+can-come profile behind Terminate cycles next few = tt
+
+frame-in-item : (item : Item) (frame : Frame) → item ≡ items.Frame frame → frame_in item ≡ frame ∷ []
+frame-in-item item frame is = ap frame_in is
+
+module _ {S G E L P : Type 0} (m : Meaning S G E L P) (profile : ProfileValue) where
+  abbrev two : ProfileValue
+  two = in_format_two profile
+
+  -- behind what `old` had read these bytes were read, and these frames compared and written
+  pub record Running (first now : ShelfState) (slot : ℕ) (before took : List ℕ → Type 0) (old reader : RecordReader)
+      (recording : Recording S G E L P) (more : List ℕ) (done : List Frame) : Type 0 where
+    pub reads : Reads first now slot more
+    pub gone : (read : List ℕ) → StandsFor old read (items.Header profile ∷ []) → HasGone profile reader (read ++ more) done
+    pub behind : IsBehind m recording (inputs_of done)
+    pub agree : Agree m profile done
+    pub grew : Grew before took (spelled two (so_far m profile done))
+
+  pub running-begun : (shelf : ShelfState) (before took : List ℕ → Type 0) (reader : RecordReader) (recording : Recording S G E L P)
+      → IsBehind m recording [] → Grew before took (spelled two [])
+      → Running shelf shelf (slot_of reader) before took reader reader recording [] []
+  running-begun shelf before took reader recording behind grew = record {
+    reads = reads-none shelf (slot_of reader);
+    gone = λ read stands. subst (λ (bytes : List ℕ). HasGone profile reader bytes []) (sym (append-nil read))
+        (record { behind = []; stands = stands; frames = refl });
+    behind = behind;
+    agree = departs-none m profile 0 [];
+    grew = grew;
+  }
+
+  -- the reader's answer, of all that was read behind what `old` had read
+  pub record Next (first now : ShelfState) (slot : ℕ) (old next : RecordReader) (done : List Frame)
+      (answer : Result (Option Item) (Stopped RecordFault)) : Type 0 where
+    pub all : List ℕ
+    pub reads : Reads first now slot all
+    -- the frames done come first, whatever follows
+    pub front : (read : List ℕ) → StandsFor old read (items.Header profile ∷ [])
+        → (rest : List ℕ) → (more : List Frame) × AreFrames profile ((read ++ all) ++ rest) (done ++ more)
+    pub is : (read : List ℕ) → StandsFor old read (items.Header profile ∷ []) → (behind : List Item) × (flat_map frame_in behind ≡ done)
+        × ItemIs answer next (IsAtEnd now slot) (read ++ all) (items.Header profile ∷ behind)
+
+  module _ {first mid now : ShelfState} {slot : ℕ} {before took : List ℕ → Type 0} {old reader : RecordReader}
+      {recording : Recording S G E L P} {more : List ℕ} {done : List Frame}
+      (running : Running first mid slot before took old reader recording more done) where
+    pub next-read : (next : RecordReader) (answer : Result (Option Item) (Stopped RecordFault))
+        → HasRead mid now reader (ItemIs answer next (IsAtEnd now (slot_of reader))) → slot_of reader ≡ slot
+        → Next first now slot old next done answer
+    next-read next answer h same = record {
+      all = more ++ h.0;
+      reads = reads-then running.reads (subst (λ s. Reads mid now s h.0) same h.1);
+      front = λ read stands rest. subst (λ (bytes : List ℕ). (fs : List Frame) × AreFrames profile bytes (done ++ fs))
+          (sym (append_assoc (read ++ more) h.0 rest) ∙ ap (λ (bytes : List ℕ). bytes ++ rest) (append_assoc read more h.0))
+          (gone-first (running.gone read stands) (h.0 ++ rest));
+      is = λ read stands.
+          let gone = running.gone read stands in (
+            gone.behind,
+            gone.frames,
+            subst (λ s. ItemIs answer next (IsAtEnd now s) (read ++ (more ++ h.0)) (items.Header profile ∷ gone.behind)) same
+                (subst (λ (bytes : List ℕ). ItemIs answer next (IsAtEnd now (slot_of reader)) bytes (items.Header profile ∷ gone.behind))
+                (append_assoc read more h.0) (h.2 (read ++ more) (items.Header profile ∷ gone.behind) gone.stands)),
+          );
+    }
+
+    -- the same of an answer that is known
+    pub next-as : (next : RecordReader) (answer other : Result (Option Item) (Stopped RecordFault)) → answer ≡ other
+        → HasRead mid now reader (ItemIs answer next (IsAtEnd now (slot_of reader))) → slot_of reader ≡ slot
+        → Next first now slot old next done other
+    next-as next answer other is h same =
+        next-read next other (subst (λ a. HasRead mid now reader (ItemIs a next (IsAtEnd now (slot_of reader)))) is h) same
+
+  -- the next item was given
+  module _ {first now : ShelfState} {slot : ℕ} {old next : RecordReader} {done : List Frame} (item : Item)
+      (n : Next first now slot old next done (Ok (Some item))) (read : List ℕ)
+      (stands : StandsFor old read (items.Header profile ∷ [])) where
+    pub is-frame : IsNoHeader item
+    is-frame =
+        let is = n.is read stands in
+        no-header profile is.0 item (next_is (items.Header profile ∷ is.0) item (item-first (IsAtEnd now slot) is.0 item is.2))
+
+    -- it is one of few
+    pub few-done : length done < 1000005
+    few-done =
+        let is = n.is read stands in
+        let few = few_first (items.Header profile ∷ (is.0 ++ item ∷ [])) (item-first (IsAtEnd now slot) is.0 item is.2) in
+        let frames = few_frames is.0 in
+        let same = ap length is.1 in
+        let sum = length-append is.0 (item ∷ []) in
+        omega arith
+
+    pub comes : (frame : Frame) (recording : Recording S G E L P) → item ≡ items.Frame frame → IsBehind m recording (inputs_of done)
+        → recording.profile ≡ two → CanCome recording.engine.cycles (length recording.profile.events) frame
+    comes frame recording item_is behind same =
+        let is = n.is read stands in
+        let first = item-first (IsAtEnd now slot) is.0 item is.2 in
+        let inputs = few-inputs (items.Header profile ∷ (is.0 ++ item ∷ [])) first.place first.bytes first.rest first.leads in
+        let all : flat_map input_in (is.0 ++ item ∷ []) ≡ inputs_of done ++ input_of frame =
+        inputs-are (is.0 ++ item ∷ [])
+        ∙ ap inputs_of (flat_map-append frame_in is.0 (item ∷ []) ∙ ap (λ (fs : List Frame). fs ++ flat_map frame_in (item ∷ [])) is.1
+        ∙ ap (λ (x : Item). done ++ flat_map frame_in (x ∷ [])) item_is)
+        ∙ inputs-next done frame in
+        let len = ap length all in
+        let sum = length-append (inputs_of done) (input_of frame) in
+        let cycles = behind.engine.cycles in
+        subst (λ (p : ProfileValue). CanCome recording.engine.cycles (length p.events) frame) (sym same)
+        (can-come profile is.0 frame recording.engine.cycles
+        (subst (NextIs (items.Header profile ∷ is.0)) item_is (next_is (items.Header profile ∷ is.0) item first)) (omega arith))
+
+    -- it was taken
+    pub gone-next : (frame : Frame) → item ≡ items.Frame frame → HasGone profile next (read ++ n.all) (done ++ frame ∷ [])
+    gone-next frame item_is =
+        let is = n.is read stands in
+        record {
+          behind = is.0 ++ item ∷ [];
+          stands = is.2.0;
+          frames = flat_map-append frame_in is.0 (item ∷ []) ∙ ap (λ (fs : List Frame). fs ++ flat_map frame_in (item ∷ [])) is.1
+              ∙ ap (λ (x : Item). done ++ flat_map frame_in (x ∷ [])) item_is;
+        }
+
+  -- ---- a frame
+
+  -- the difference of a frame from what is given in its place, in the record's format
+  abbrev pub differs : List Frame → Frame → Option Difference
+  differs done frame = frame_difference (length done) frame (given_frame m profile (inputs_of done) frame)
+
+  -- what is written in the place of a frame
+  abbrev pub piece : List Frame → Frame → List ℕ
+  piece done frame = unless_last frame (spelled_frame two.format (given_frame m two (inputs_of done) frame))
+
+  -- what an answer says of a frame, in these terms
+  pub takes-as : (answer result : Result (Option Difference) Failure) (number : ℕ) (format : Format) (other : ProfileValue)
+      (done : List Frame) (frame : Frame) (goes_on : Type 0) (out : SinkRun) → answer ≡ result → number ≡ length done
+      → format ≡ profile.format → other ≡ two
+      → Takes answer (frame_difference number frame (in_format format (given_frame m other (inputs_of done) frame)))
+      (unless_last frame (spelled_frame other.format (given_frame m other (inputs_of done) frame))) goes_on out
+      → Takes result (differs done frame) (piece done frame) goes_on out
+  takes-as answer result number format other done frame goes_on out is at in_format_of same h =
+      let differ : frame_difference number frame (in_format format (given_frame m other (inputs_of done) frame)) ≡ differs done frame =
+      (λ i. frame_difference (at i) frame (in_format (in_format_of i) (given_frame m (same i) (inputs_of done) frame)))
+      ∙ ap (frame_difference (length done) frame) (given_in m profile (inputs_of done) frame) in
+      subst (λ (d : Option Difference). Takes result d (piece done frame) goes_on out) differ
+      (subst (λ (q : ProfileValue). Takes result
+      (frame_difference number frame (in_format format (given_frame m other (inputs_of done) frame)))
+      (unless_last frame (spelled_frame q.format (given_frame m q (inputs_of done) frame))) goes_on out) same
+      (subst (λ (r : Result (Option Difference) Failure). Takes r (frame_difference number frame (in_format format
+      (given_frame m other (inputs_of done) frame)))
+      (unless_last frame (spelled_frame other.format (given_frame m other (inputs_of done) frame))) goes_on out) is h))
+
+  pub so_far-grows : (done : List Frame) (frame : Frame)
+      → spelled two (so_far m profile (done ++ frame ∷ [])) ≡ spelled two (so_far m profile done) ++ piece done frame
+  so_far-grows done frame =
+      so_far-next m profile done frame
+      ∙ ap (λ (bytes : List ℕ). spelled two (so_far m profile done) ++ bytes)
+      (ap (flat_map (spelled_frame two.format)) (append-nil _) ∙ spelled-kept m two two (inputs_of done) frame)
+
+  -- one frame more was compared and written
+  pub running-next : {first mid now : ShelfState} {slot : ℕ} {before took : List ℕ → Type 0} {old reader : RecordReader}
+      {recording : Recording S G E L P} {more : List ℕ} {done : List Frame}
+      → Running first mid slot before took old reader recording more done → (item : Item) (next : RecordReader)
+      → (n : Next first now slot old next done (Ok (Some item))) (frame : Frame) (later : Recording S G E L P) (after : List ℕ → Type 0)
+      → item ≡ items.Frame frame → differs done frame ≡ None → Grew took after (piece done frame)
+      → IsBehind m later (inputs_of done ++ input_of frame)
+      → Running first now slot before after old next later n.all (done ++ frame ∷ [])
+  running-next {before = before} {done = done} running item next n frame later after item_is same grew behind = record {
+    reads = n.reads;
+    gone = λ read stands. gone-next item n read stands frame item_is;
+    behind = subst (IsBehind m later)
+        (sym (inputs-next done frame)) behind;
+    agree = agree-next m profile done frame running.agree same;
+    grew = subst (Grew before after) (sym (so_far-grows done frame)) (grew-then running.grew grew);
+  }
+
+  -- ---- traffic
+
+  -- no write failed where the reader stopped
+  pub no-write : {first now : ShelfState} {slot : ℕ} {old next : RecordReader} {done : List Frame} (why : Stopped RecordFault)
+      (read : List ℕ) → StandsFor old read (items.Header profile ∷ []) → Next first now slot old next done (Err why)
+      → (sink : SinkRun) → SinkTraffic sink None → SinkTraffic sink (failure_in {A = CheckVerdict} (Err why))
+  no-write (Refused fault) read stands n sink t = t
+  no-write (Failed Read) read stands n sink t = record { cause = λ e. cc; counted = t.counted }
+  no-write (Failed Write) read stands n sink t = absurd (n.is read stands).2
+  no-write (Failed OutOfMemory) read stands n sink t = record { cause = λ e. cc; counted = t.counted }
+
+-- no read failed where a frame wasn't taken
+pub no-read : (failure : Failure) (difference : Option Difference) (bytes : List ℕ) (goes_on : Type 0) (shelf : ShelfRun) (out : SinkRun)
+    → Takes (Err failure) difference bytes goes_on out → ShelfTraffic shelf None → ShelfTraffic shelf (Some failure)
+no-read Read difference bytes goes_on shelf out h t = absurd h
+no-read Write difference bytes goes_on shelf out h t = record { cause = λ e. cc; counted = t.counted; stays = t.stays }
+no-read OutOfMemory difference bytes goes_on shelf out h t = record { cause = λ e. cc; counted = t.counted; stays = t.stays }

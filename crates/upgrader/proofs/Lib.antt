@@ -1,0 +1,6 @@
+mod Order
+mod Genuine
+mod Formats
+mod Records
+mod Going
+mod Ending

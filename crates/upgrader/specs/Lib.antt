@@ -1,0 +1,4 @@
+pub mod Upgraded
+pub mod Begun
+pub mod Ends
+pub mod Frames
