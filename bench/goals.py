@@ -57,10 +57,9 @@ def workers_goals(what: str) -> list[Goal]:
     return goals
 
 
-def gain_goal(name: str) -> Goal:
+def gain_goal(name: str, least: float) -> Goal:
     most = WORKERS[-1]
-    what = f"record {name}: gain of {most} workers"
-    return Goal(what, (f"record {name}", 1), (f"record {name}", most), 2.9, is_least=True, processors=most)
+    return Goal(f"{name}: gain of {most} workers", (name, 1), (name, most), least, is_least=True, processors=most)
 
 
 def record_goals(name: str) -> list[Goal]:
@@ -92,8 +91,9 @@ def all_goals() -> list[Goal]:
     part = f"record cycles / {CYCLES_DIVISOR}"
     return [
         *(goal for name in RECORDED for goal in record_goals(name)),
-        gain_goal("cloud"),
-        gain_goal("large"),
+        gain_goal("record cloud", 2.9),
+        gain_goal("record large", 2.9),
+        gain_goal("heavy pass", 3.5),
         Goal(f"record cycles: memory, of {part}", ("record cycles", 1), (part, 1), 1.2, is_memory=True),
         *copies_goals(),
         *workers_goals(f"sim {SIM_NUMBER}"),

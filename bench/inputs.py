@@ -107,4 +107,4 @@ def cycles(is_quick: bool, divisor: int = 1) -> Recording:
 
 
 RECORDED = {"bank": bank, "cloud": cloud, "large": large, "guard": guard, "cycles": cycles}
-NAMES = (*RECORDED, "copies", "sim")
+NAMES = (*RECORDED, "copies", "sim", "heavy")

@@ -10,6 +10,7 @@ import subprocess
 import sys
 import tempfile
 from pathlib import Path
+from typing import Optional
 
 from goals import ABSENT, judged
 from inputs import NAMES
@@ -18,6 +19,7 @@ from suites import Bench, Programs, Row, build_plain
 
 TOP = Path(__file__).resolve().parent.parent
 PROGRAM = TOP / "crates" / "det" / "out" / "det"
+POOL = TOP / "crates" / "bench_pool"
 ROUNDS = 5
 
 ROW_HEADS = ["command", "workers", "wall time", "MB/s of record", "memory", "speed, 1 worker = 1"]
@@ -31,9 +33,9 @@ def row_cells(row: Row) -> list[str]:
         return [*names, ABSENT, "", "", ""]
     return [
         *names,
-        f"{seconds:.3f} s",
-        f"{row.size * command.records / seconds / 1e6:.1f}",
-        f"{trial.memory / 1e6:.1f} MB",
+        f"{seconds:.3f} s" if row.size else f"{seconds * 1000:.3f} ms",
+        f"{row.size * command.records / seconds / 1e6:.1f}" if row.size else "",
+        f"{trial.memory / 1e6:.1f} MB" if trial.memory else "",
         f"{row.first / seconds:.2f}" if row.first else "",
     ]
 
@@ -60,9 +62,18 @@ def build_program() -> Path:
     return PROGRAM
 
 
+def pool_program(options: argparse.Namespace) -> Optional[Path]:
+    """The program that times passes: the one that is given, or, where no program is, one that is built."""
+    if options.pool or options.program:
+        return options.pool and options.pool.resolve()
+    if subprocess.run(["rt", "run"], cwd=POOL, stdout=subprocess.DEVNULL).returncode != 0:
+        raise Failure("bench_pool can't be built")
+    return POOL / "out" / "bench_pool"
+
+
 def measured(options: argparse.Namespace, room: Path) -> Bench:
     det = options.program.resolve() if options.program else build_program()
-    programs = Programs(det, build_plain("baseline", room), build_plain("client", room))
+    programs = Programs(det, pool_program(options), build_plain("baseline", room), build_plain("client", room))
     if None in (programs.baseline, programs.client):
         print("a program in plain Rust is left out: rustc doesn't build it", file=sys.stderr)
     adopt_orphans()
@@ -85,6 +96,7 @@ def options_of_words() -> argparse.Namespace:
     parser.add_argument("--only", choices=NAMES, help="one of the inputs")
     parser.add_argument("--rounds", type=positive, help=f"timed runs of each command; else {ROUNDS}")
     parser.add_argument("--program", type=Path, help="a program that is there, in place of the one that bin/det builds")
+    parser.add_argument("--pool", type=Path, help="likewise bench_pool; with --program alone its passes are left out")
     return parser.parse_args()
 
 

@@ -8,6 +8,7 @@ from pathlib import Path
 from typing import Optional
 
 from inputs import RECORDED, SIM_NUMBER, Recording, cloud, cycles
+from passes import heavy_passes
 from running import Command, Result, Runner, digest_of, digest_of_text, run_into, size, text_of
 
 PLAIN = Path(__file__).resolve().parent
@@ -23,9 +24,10 @@ BY_CLIENT = ", same interfaces"
 
 @dataclass(frozen=True)
 class Programs:
-    """The program that is measured, and the plain ones, where there is a compiler for them."""
+    """The program that is measured, that of its pool, and the plain ones, where there is a compiler for them."""
 
     det: Path
+    pool: Optional[Path]
     baseline: Optional[Path]
     client: Optional[Path]
 
@@ -195,6 +197,14 @@ class Bench:
         told = dict(line.split(" ", 1) for line in summary.read_text().splitlines())
         self.tell_whether_same("digests by sim and of the recorded cloud", [told["sha256"], digest_of(record)])
 
+    def heavy(self) -> None:
+        """Passes over a job that does next to nothing but draw random words."""
+        if self.programs.pool is None:
+            self.remarks.append("heavy passes are left out: there is no program of the pool")
+            return
+        results = heavy_passes(self.programs.pool, self.runner.rounds)
+        self.add_rows(results, 0, results[0].seconds)
+
     def measure(self, only: Optional[str]) -> None:
         for name, recording in RECORDED.items():
             if only in (None, name):
@@ -203,3 +213,5 @@ class Bench:
             self.copies()
         if only in (None, "sim"):
             self.sim()
+        if only in (None, "heavy"):
+            self.heavy()
