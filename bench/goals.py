@@ -80,6 +80,7 @@ def record_goals(name: str) -> list[Goal]:
 def copies_goals() -> list[Goal]:
     return [
         Goal("compare 2: time, of cmp", ("compare 2", None), ("cmp", None), 1.5),
+        Goal("vote 3: time, of cmp of two of them", ("vote 3", None), ("cmp", None), 2.0),
         *(
             Goal(f"{what}: time, of plain Rust", (what, None), (what + IN_PLAIN, None), 1.5)
             for what in ("salvage", "upgrade")
@@ -96,6 +97,7 @@ def all_goals() -> list[Goal]:
         gain_goal("heavy pass", 3.5),
         Goal(f"record cycles: memory, of {part}", ("record cycles", 1), (part, 1), 1.2, is_memory=True),
         *copies_goals(),
+        Goal("chain: time, of two records", ("chain", 1), ("two records", 1), 1.1),
         *workers_goals(f"sim {SIM_NUMBER}"),
     ]
 

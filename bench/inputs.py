@@ -106,5 +106,10 @@ def cycles(is_quick: bool, divisor: int = 1) -> Recording:
     return Recording(name, "bank", [4, 2], ["x"], sampled_lines(number, wave))
 
 
+def behind(is_quick: bool) -> Recording:
+    """A bank that follows the words of a cloud's output. Its own stimulus is made of them."""
+    return Recording("behind", "bank", [1_000 if is_quick else 10_000, 2], ["a", "b", "c", "d"], ["stim 1"], seed=SIM_NUMBER)
+
+
 RECORDED = {"bank": bank, "cloud": cloud, "large": large, "guard": guard, "cycles": cycles}
-NAMES = (*RECORDED, "copies", "sim", "heavy")
+NAMES = (*RECORDED, "copies", "chain", "sim", "heavy")

@@ -1,17 +1,20 @@
 """What is measured on each input, and which outputs have to be equal."""
 
 import os
+import shlex
 import shutil
 import subprocess
+import sys
 from dataclasses import dataclass
 from pathlib import Path
 from typing import Optional
 
-from inputs import RECORDED, SIM_NUMBER, Recording, cloud, cycles
+from inputs import RECORDED, SIM_NUMBER, Recording, behind, cloud, cycles
 from passes import heavy_passes
 from running import Command, Result, Runner, digest_of, digest_of_text, run_into, size, text_of
 
 PLAIN = Path(__file__).resolve().parent
+DERIVED = PLAIN.parent / "tests" / "derived.py"
 WORKERS = (1, 2, 4)
 CLIENT_WORKERS = (1, 4)
 MOST_COPIES = 8
@@ -149,7 +152,8 @@ class Bench:
             return Command(f"compare {count}", words, gives="verdict on copies", records=count)
 
         cmp = [Command("cmp", ["cmp", *map(str, copies[:2])], records=2)] if shutil.which("cmp") else []
-        return [compare(2), *cmp, compare(MOST_COPIES)]
+        vote = Command("vote 3", self.det("vote", *copies[:3]), gives="voted record", records=3)
+        return [compare(2), *cmp, vote, compare(MOST_COPIES)]
 
     def salvaged(self, record: Path, cycles: int) -> list[Command]:
         """A record that breaks off in the middle of its last cycle, made whole."""
@@ -178,7 +182,30 @@ class Bench:
         results = self.runner.measure(commands)
         self.add_rows(results, size(paths[0]))
         agree = digest_of_text(f"agree {recording.cycles()}\n")
-        self.judge(results, {"verdict on copies": agree, "upgraded record": digest_of(paths[0])})
+        digest = digest_of(paths[0])
+        self.judge(results, {"verdict on copies": agree, "voted record": digest, "upgraded record": digest})
+
+    # ---- two clients ----
+
+    def chain(self) -> None:
+        """A cloud and a bank behind it, and both recorded one after the other, the bank over a stimulus made of the cloud."""
+        first, second = cloud(self.is_quick), behind(self.is_quick)
+        one, two, derived = (self.room(name) for name in ("first", "second", "derived"))
+        stimulus, first_words = self.inputs(first)
+        run_into(one, first_words)
+        run_into(derived, [sys.executable, str(DERIVED), str(one), str(len(second.events))])
+        _, second_words = self.inputs(second)
+        second_words[3] = str(derived)
+        words = self.det("chain", first_words[2], second_words[2], stimulus, "--seed", first.seed)
+        both = shlex.join(first_words) + " > /dev/null && " + shlex.join(second_words)
+        given = "record of a second client"
+        commands = [
+            Command("chain", words, 1, given, keep=two, records=2),
+            Command("two records", ["sh", "-c", both], 1, given, records=2),
+        ]
+        results = self.runner.measure(commands)
+        self.add_rows(results, (size(one) + size(two)) // 2)
+        self.judge(results, {})
 
     # ---- a simulated run ----
 
@@ -211,6 +238,8 @@ class Bench:
                 self.record(recording(self.is_quick))
         if only in (None, "copies"):
             self.copies()
+        if only in (None, "chain"):
+            self.chain()
         if only in (None, "sim"):
             self.sim()
         if only in (None, "heavy"):

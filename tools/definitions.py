@@ -27,7 +27,7 @@ RECORD = [
     ("det_edges", "specs.Shelf", "IsAtEnd"),
     ("det_edges", "specs.Sink", "GrewByPrefix"),
 ]
-MOST_LINES = 2400
+MOST_LINES = 2500
 MOST_LINES_OF_A_RECORD = 450
 
 HEAD = re.compile(

@@ -1,10 +1,13 @@
 -- How a run meets an outcome, by its answer, and what follows from that.
-use Rattle.std.proofs.Common.{◌≡◌, ℕ, List, refl, sym, ap, inl, inr}
+use Rattle.std.proofs.Common.{◌≡◌, ℕ, List, Some, refl, sym, ap, inl, inr}
 use Rattle.std.specs.Prelude.{◌⊎◌}
+use Rattle.det_edges.specs.declared.failure.Failure.{Failure}
+use Rattle.det_edges.specs.declared.failure.Failure.TheVariants as failures
 use Rattle.det_edges.specs.Sink.{Grew, GrewByPrefix}
 use Rattle.det_edges.proofs.Growth.{grew-none, same-none, part-none, part-whole}
 use Rattle.cli_answers.specs.declared.answer.Answer.{Answer}
 use Rattle.cli_answers.specs.declared.answer.Answer.TheVariants.{ReadFault, WriteFault, OutOfMemory}
+use Rattle.cli_answers.specs.Answers.{failed}
 use Rattle.cli_answers.specs.Outcome.{Outcome, Meets, refusal}
 
 module _ (wanted : Outcome) (tells rose other : Type 0) where
@@ -25,6 +28,14 @@ module _ (wanted : Outcome) (tells rose other : Type 0) where
     read_fault = λ e. cc;
     write_fault = λ e. cc;
   }
+
+  -- an open failed before anything was written
+  pub meets-unopened : (before : List ℕ → Type 0) (failure : Failure) → (Some failure ≡ Some failures.Read → rose)
+      → (Some failure ≡ Some failures.Write → ⊥)
+      → Meets wanted tells rose other before before (failed failure)
+  meets-unopened before failures.Read r no_write = meets-read-fault before (r refl)
+  meets-unopened before failures.Write r no_write = absurd (no_write refl)
+  meets-unopened before failures.OutOfMemory r no_write = meets-no-memory before
 
   -- the outcome was refused before anything was written
   pub meets-refusal : (before : List ℕ → Type 0) (answer : Answer) → (answer ≡ ReadFault → ⊥) → (answer ≡ WriteFault → ⊥)

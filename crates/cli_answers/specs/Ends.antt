@@ -13,8 +13,9 @@ pub record Work : Type 0 where
   pub manifest : Bool
   pub stimulus : Bool
   pub recorded : Bool
-  -- it compares what it read, or takes the majority of it
+  -- it compares what it read
   pub compares : Bool
+  -- it reads copies and takes their majority, where a fault of one is no refusal
   pub votes : Bool
 
 abbrev pub can_end : Work → Answer → Bool
@@ -25,7 +26,7 @@ can_end work (BadManifest why) = work.manifest
 can_end work (BadStimulus line) = work.stimulus
 can_end work (BadRecord copy fault) = work.recorded
 can_end work BadProfile = work.recorded
-can_end work ReadFault = work.manifest || (work.stimulus || work.recorded)
+can_end work ReadFault = work.manifest || (work.stimulus || (work.recorded || work.votes))
 can_end work WriteFault = true
 can_end work OutOfMemory = true
 can_end work (NoMajority row) = work.votes

@@ -13,7 +13,7 @@ use Rattle.cli_answers.specs.declared.answer.Answer.TheVariants.{BadRecord}
 use Rattle.cli_answers.specs.Outcome.{Outcome, Meets, Tells, told}
 use Rattle.cli_answers.proofs.Meeting.{meets-refusal}
 use Rattle.cmd_compare.specs.Compare.{compared, compare_outcome}
-use Rattle.cmd_compare.proofs.Opening.{texts, are-left}
+use Rattle.open_names.proofs.Copies.{texts, are-left}
 
 -- what was printed is the outcome, where the names are told
 meets-printed : {wanted printed : Outcome} {tells rose other : Type 0} {before after : List ℕ → Type 0} {answer : Answer}

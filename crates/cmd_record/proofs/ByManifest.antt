@@ -91,7 +91,9 @@ module _ (strict : Bool) (first : ShelfState) (name stimulus : List ℕ) where
         → IsSome (mid.holds stimulus)
     still-told mid holds tells = subst (λ h. IsSome (h stimulus)) (sym holds) (tells-second first name stimulus [] (tells-both tells))
 
-  bad-told : (end : Stopped BadManifest) → IfRefused end (λ why. IsSome (first.holds name) → setup_of strict (told first name) ≡ Err why)
+  -- where the manifest is told it is refused so
+  pub bad-told : (end : Stopped BadManifest)
+      → IfRefused end (λ why. IsSome (first.holds name) → setup_of strict (told first name) ≡ Err why)
       → IfRefused end (λ why. Tells first (names (setup_of strict (told first name))) → setup_of strict (told first name) ≡ Err why)
   bad-told (Refused why) bad = λ tells. bad (tells-manifest (setup_of strict (told first name)) tells)
   bad-told (Failed failure) bad = bad

@@ -1,3 +1,3 @@
-mod Meeting
-mod Recorded
-mod ByManifest
+pub mod Meeting
+pub mod Recorded
+pub mod ByManifest

@@ -26,7 +26,7 @@ use Rattle.cli_answers.proofs.Meeting.{meets-read-fault-part, meets-write-fault,
 use Rattle.cmd_record.proofs.Meeting.{meets-as}
 use Rattle.cmd_record.specs.Outcomes.{answer_to, answer_of, recorded, recorded_by_kind, demo_work, record_work}
 
-at-told : (left : Option (List ℕ)) (text : List ℕ) (P : List ℕ → Type 0) → left ≡ Some text → IfSome left P → P text
+pub at-told : (left : Option (List ℕ)) (text : List ℕ) (P : List ℕ → Type 0) → left ≡ Some text → IfSome left P → P text
 at-told left text P e p = rw e at p
 
 module _ {S G E L P : Type 0} (m : Meaning S G E L P) (profile : ProfileValue) (text : List ℕ) (slot : ℕ) (shelf : ShelfRun)

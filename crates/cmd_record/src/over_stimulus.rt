@@ -51,8 +51,9 @@ where
     ensures ends { can_end demo_work result ≡ true }
     ensures asked { AsksPrefix (S.sees shelf.old) (S.sees shelf.new) (stimulus.now ∷ []) }
 {
-    let Ok(slot) = shelf.open_input(stimulus) else {
-        return Answer::ReadFault;
+    let slot = match shelf.open_input(stimulus) {
+        Ok(slot) => slot,
+        Err(failure) => return Answer::from(failure),
     };
     let mut nobody = Audience::of(workers.alloc, Vec::new(workers.alloc));
     let recorded = record_by_crew(workers, run, slot, shelf, out, &mut nobody);

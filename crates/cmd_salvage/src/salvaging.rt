@@ -59,8 +59,9 @@ pub fn salvage<S: Shelf, K: Sink>(
     ensures ends { can_end salvage_work result ≡ true }
     ensures asked { AsksPrefix (S.sees shelf.old) (S.sees shelf.new) (recorded.now ∷ []) }
 {
-    let Ok(slot) = shelf.open_input(recorded) else {
-        return Answer::ReadFault;
+    let slot = match shelf.open_input(recorded) {
+        Ok(slot) => slot,
+        Err(failure) => return Answer::from(failure),
     };
     salvage_slot(alloc, slot, shelf, out)
 }
@@ -118,8 +119,9 @@ pub fn salvage_reports<S: Shelf, K: Sink>(
     ensures gone { result ≡ Answer.Done
         → (seen (λ b. life (b.vtable, b.value)) audience.new).seeing ≡ [] }
 {
-    let Ok(slot) = shelf.open_input(recorded) else {
-        return Answer::ReadFault;
+    let slot = match shelf.open_input(recorded) {
+        Ok(slot) => slot,
+        Err(failure) => return Answer::from(failure),
     };
     report_slot(alloc, slot, shelf, out, audience)
 }

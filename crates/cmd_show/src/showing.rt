@@ -89,8 +89,9 @@ pub fn show<S: Shelf, K: Sink>(
     ensures kept { Kept part (seen (λ b. life (b.vtable, b.value)) audience.old)
         (seen (λ b. life (b.vtable, b.value)) audience.new) }
 {
-    let Ok(slot) = shelf.open_input(recorded) else {
-        return Answer::ReadFault;
+    let slot = match shelf.open_input(recorded) {
+        Ok(slot) => slot,
+        Err(failure) => return Answer::from(failure),
     };
     show_slot(alloc, slot, part, shelf, out, audience)
 }

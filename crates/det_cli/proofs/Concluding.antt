@@ -89,6 +89,7 @@ module _ (words : List (List ℕ)) (first last : ShelfState) (out_failed : Type 
             (no-refusal status statuses.ReadFault e (λ f. cc) (λ f. cc) (λ f. cc))
             (no-refusal status statuses.WriteFault e (λ f. cc) (λ f. cc) (λ f. cc))
             (no-refusal status statuses.OutOfMemory e (λ f. cc) (λ f. cc) (λ f. cc)) (meets.whole tells);
+        no_majority = λ tells e. gives-all wanted before after p.answer status p.is (λ f. cc) (λ f. cc) (λ f. cc) (meets.whole tells);
         read_fault = read;
         write_fault = write;
         bad_words = (

@@ -22,28 +22,36 @@ use Rattle.record_text.specs.declared.part.ShowPart.TheVariants as parts
 use Rattle.record_show.specs.Showing.{Kept}
 use Rattle.record_show.specs.Ended.{IsGone}
 use Rattle.det_cli.specs.Texts.{help_text}
-use Rattle.det_cli.specs.Outcome.{built, command_in, has_reports, opened, outcome_of}
+use Rattle.det_cli.specs.Outcome.{known, command_in, has_reports, opened, outcome_of}
 use Rattle.det_cli.specs.Promise.{Runs}
 
 -- the command in these words, where this is theirs
 pub command-in : (words : List (List ℕ)) (command : Option CommandValue) → command ≡ command_of words
-    → command_in words ≡ option_and_then built command
-command-in words command is = ap (option_and_then built) (sym is)
+    → command_in words ≡ option_and_then known command
+command-in words command is = ap (option_and_then known) (sym is)
 
 -- a command by its word and its names
-pub same-built : (c : CommandValue) (word : CommandWord) (names : List (List ℕ)) → c.word ≡ word → c.names ≡ names
-    → built c ≡ built (record { word = word; names = names; options = c.options })
-same-built c word names is same =
-    ap (λ (w : CommandWord). built (record { word = w; names = c.names; options = c.options })) is
-    ∙ ap (λ (n : List (List ℕ)). built (record { word = word; names = n; options = c.options })) same
+pub same-known : (c : CommandValue) (word : CommandWord) (names : List (List ℕ)) → c.word ≡ word → c.names ≡ names
+    → known c ≡ known (record { word = word; names = names; options = c.options })
+same-known c word names is same =
+    ap (λ (w : CommandWord). known (record { word = w; names = c.names; options = c.options })) is
+    ∙ ap (λ (n : List (List ℕ)). known (record { word = word; names = n; options = c.options })) same
 
 -- the same, with what it says of reports
 pub same-reports : (c : CommandValue) (word : CommandWord) (names : List (List ℕ)) (reports : Bool) → c.word ≡ word → c.names ≡ names
     → c.options.reports ≡ reports
-    → built c ≡ built (record { word = word; names = names; options = record c.options { reports = reports } })
+    → known c ≡ known (record { word = word; names = names; options = record c.options { reports = reports } })
 same-reports c word names reports is same told =
-    same-built c word names is same
-    ∙ ap (λ (r : Bool). built (record { word = word; names = names; options = record c.options { reports = r } })) told
+    same-known c word names is same
+    ∙ ap (λ (r : Bool). known (record { word = word; names = names; options = record c.options { reports = r } })) told
+
+-- the same, with what it says of dissent
+pub same-dissent : (c : CommandValue) (word : CommandWord) (names : List (List ℕ)) (dissent : Bool) → c.word ≡ word → c.names ≡ names
+    → c.options.dissent ≡ dissent
+    → known c ≡ known (record { word = word; names = names; options = record c.options { dissent = dissent } })
+same-dissent c word names dissent is same told =
+    same-known c word names is same
+    ∙ ap (λ (d : Bool). known (record { word = word; names = names; options = record c.options { dissent = d } })) told
 
 one-name : (names : List (List ℕ)) → 1 ≤ length names → length names ≤ 1 → names ≡ get_or names 0 [] ∷ []
 one-name [] least most = absurd (omega arith)
@@ -56,7 +64,15 @@ two-names (a ∷ []) least most = absurd (omega arith)
 two-names (a ∷ b ∷ []) least most = refl
 two-names (a ∷ b ∷ d ∷ rest) least most = absurd (omega arith)
 
--- the names of a command that has one, and of one that has two
+three-names : (names : List (List ℕ)) → 3 ≤ length names → length names ≤ 3
+    → names ≡ get_or names 0 [] ∷ get_or names 1 [] ∷ get_or names 2 [] ∷ []
+three-names [] least most = absurd (omega arith)
+three-names (a ∷ []) least most = absurd (omega arith)
+three-names (a ∷ b ∷ []) least most = absurd (omega arith)
+three-names (a ∷ b ∷ d ∷ []) least most = refl
+three-names (a ∷ b ∷ d ∷ e ∷ rest) least most = absurd (omega arith)
+
+-- the names of a command that has one, of one that has two, and of one that has three
 module _ (c : CommandValue) (word : CommandWord) (range : IsInRange c) (is : c.word ≡ word) where
   pub sole-name : (row word).least ≡ 1 → (row word).most ≡ 1 → (name : List ℕ) → name ≡ name_at 0 c → c.names ≡ name ∷ []
   sole-name least most name first =
@@ -84,6 +100,24 @@ module _ (c : CommandValue) (word : CommandWord) (range : IsInRange c) (is : c.w
       let high : length c.names ≤ (row word).most = subst (λ (w : CommandWord). length c.names ≤ (row w).most) is range.most in
       two-names c.names (omega (arith, least, low)) (omega (arith, most, high))
       ∙ ap (λ (n : List ℕ). n ∷ name_at 1 c ∷ []) (sym first) ∙ ap (λ (n : List ℕ). name ∷ n ∷ []) (sym second)
+
+  -- and at most so many
+  pub names-few : {A : Type 0} (names : List A) (text : A → List ℕ) → map text names ≡ c.names → (most : ℕ)
+      → (row word).most ≡ most → length names ≤ most
+  names-few names text same most few =
+      let high : length c.names ≤ (row word).most = subst (λ (w : CommandWord). length c.names ≤ (row w).most) is range.most in
+      let long : length names ≡ length c.names = sym (length-map names text) ∙ ap length same in
+      omega (arith, few, high, long)
+
+  pub all-names : (row word).least ≡ 3 → (row word).most ≡ 3 → (name other last : List ℕ) → name ≡ name_at 0 c → other ≡ name_at 1 c
+      → last ≡ name_at 2 c → c.names ≡ name ∷ other ∷ last ∷ []
+  all-names least most name other last first second third =
+      let low : (row word).least ≤ length c.names = subst (λ (w : CommandWord). (row w).least ≤ length c.names) is range.least in
+      let high : length c.names ≤ (row word).most = subst (λ (w : CommandWord). length c.names ≤ (row w).most) is range.most in
+      three-names c.names (omega (arith, least, low)) (omega (arith, most, high))
+      ∙ ap (λ (n : List ℕ). n ∷ name_at 1 c ∷ name_at 2 c ∷ []) (sym first)
+      ∙ ap (λ (n : List ℕ). name ∷ n ∷ name_at 2 c ∷ []) (sym second)
+      ∙ ap (λ (n : List ℕ). name ∷ other ∷ n ∷ []) (sym third)
 
 -- what a part of a record leaves of an audience
 pub is-kept : (part : ShowPart) (old now : AudienceState) → Kept part old now → has_reports part ≡ false → now ≡ old

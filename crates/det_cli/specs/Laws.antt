@@ -7,7 +7,7 @@ use Rattle.probes.specs.Reports.{AudienceState}
 use Rattle.cli_answers.specs.declared.status.Status.{Status}
 use Rattle.cli_answers.specs.declared.status.Status.TheVariants.{Done, Differs, BadWords}
 use Rattle.cli_answers.specs.declared.status.Status.TheVariants.{BadManifest, BadStimulus}
-use Rattle.cli_answers.specs.declared.status.Status.TheVariants.{BadRecord}
+use Rattle.cli_answers.specs.declared.status.Status.TheVariants.{BadRecord, NoMajority}
 use Rattle.cli_answers.specs.declared.status.Status.TheVariants.{ReadFault, WriteFault, OutOfMemory}
 use Rattle.cli_answers.specs.Answers.{status_of}
 use Rattle.cli_answers.specs.Outcome.{Outcome, Tells, told}
@@ -38,6 +38,9 @@ pub record Concludes (words : List (List ℕ)) (first last : ShelfState) (out_fa
   pub differs : TellsAll words first → status ≡ Differs
       → Gives (outcome words (told first) seeing) before after status
   pub refused : TellsAll words first → IsRefusal status
+      → Gives (outcome words (told first) seeing) before after status
+  -- no majority only where the copies have none; behind the rows that most of them have in common
+  pub no_majority : TellsAll words first → status ≡ NoMajority
       → Gives (outcome words (told first) seeing) before after status
   -- a fault only where there was one
   pub read_fault : status ≡ ReadFault → Rose first.faults last.faults

@@ -8,8 +8,8 @@ use Rattle.cli_answers.specs.Ends.{Work, writes_alone}
 use Rattle.cli_words.specs.declared.table.CommandWord.{CommandWord}
 use Rattle.cli_words.specs.declared.table.CommandWord.TheVariants.{Demo, Record, Show, Needs, Sim}
 use Rattle.cli_words.specs.declared.table.CommandWord.TheVariants.{Replay, Check, Upgrade}
-use Rattle.cli_words.specs.declared.table.CommandWord.TheVariants.{Compare, Salvage, Help}
-use Rattle.cli_words.specs.declared.table.CommandWord.TheVariants.{Version}
+use Rattle.cli_words.specs.declared.table.CommandWord.TheVariants.{Compare, Vote, Salvage, Chain}
+use Rattle.cli_words.specs.declared.table.CommandWord.TheVariants.{Help, Version}
 use Rattle.cli_words.specs.Command.{CommandValue, name_at, number_in, files_of, part_of}
 use Rattle.cli_words.specs.Reading.{command_of}
 use Rattle.record_text.specs.declared.part.ShowPart.{ShowPart}
@@ -25,21 +25,22 @@ use Rattle.cmd_replay.specs.Replay.{replay_outcome, replay_work}
 use Rattle.cmd_check.specs.Check.{check_outcome, check_work}
 use Rattle.cmd_upgrade.specs.Upgrade.{upgrade_outcome, upgrade_work}
 use Rattle.cmd_compare.specs.Compare.{compare_outcome, compare_work}
+use Rattle.cmd_vote.specs.Vote.{vote_outcome, dissent_outcome, vote_work}
+use Rattle.cmd_chain.specs.Chain.{chain_outcome, chain_names, chain_work}
 use Rattle.cmd_salvage.specs.Salvage.{salvage_outcome, salvage_reports_outcome, salvage_work}
-use Rattle.det_cli.specs.Texts.{version_text, page_of, help_text}
+use Rattle.det_cli.specs.Texts.{version_text, help_text}
 
--- whether the command is built: it has a page, or prints one that is there
-abbrev pub is_built : CommandWord → CommandValue → Bool
-is_built Help c = is_some (help_text c.names)
-is_built Version c = true
-is_built word c = is_some (page_of word)
+-- whether there is what the command asks for: the help of a command without a page isn't there
+abbrev pub is_known : CommandWord → CommandValue → Bool
+is_known Help c = is_some (help_text c.names)
+is_known word c = true
 
-abbrev pub built : CommandValue → Option CommandValue
-built c = if is_built c.word c then Some c else None
+abbrev pub known : CommandValue → Option CommandValue
+known c = if is_known c.word c then Some c else None
 
--- the command that the words are, where it is built
+-- the command that the words are
 abbrev pub command_in : List (List ℕ) → Option CommandValue
-command_in words = option_and_then built (command_of words)
+command_in words = option_and_then known (command_of words)
 
 -- the names that a command opens, in their order
 abbrev pub names_in : Option CommandValue → List (List ℕ)
@@ -49,6 +50,9 @@ names_in None = []
 abbrev pub opened_by : CommandWord → CommandValue → (List ℕ → List ℕ) → List (List ℕ)
 opened_by Record c holds =
     record_names (name_at 0 c) (name_at 1 c) (setup_of c.options.strict (holds (name_at 0 c)))
+opened_by Chain c holds = chain_names (name_at 0 c) (name_at 1 c) (name_at 2 c)
+    (setup_of c.options.strict (holds (name_at 0 c)))
+    (setup_of c.options.strict (holds (name_at 1 c)))
 opened_by word c holds = files_of c
 
 -- the names that a command opens where these are the bytes under each name: a manifest that is
@@ -67,7 +71,9 @@ work_of Replay = replay_work
 work_of Check = check_work
 work_of Upgrade = upgrade_work
 work_of Compare = compare_work
+work_of Vote = vote_work
 work_of Salvage = salvage_work
+work_of Chain = chain_work
 work_of other = writes_alone
 
 -- one run alone is printed without reports
@@ -92,6 +98,11 @@ abbrev pub salvage_by : (reports : Bool) → AudienceState → List ℕ → Outc
 salvage_by true audience recorded = salvage_reports_outcome audience recorded
 salvage_by false audience recorded = salvage_outcome recorded
 
+-- the majority's record, or who dissents from it
+abbrev pub vote_by : (dissent : Bool) → List (List ℕ) → Outcome
+vote_by true copies = dissent_outcome copies
+vote_by false copies = vote_outcome copies
+
 abbrev pub outcome_by : CommandWord → CommandValue → (List ℕ → List ℕ) → AudienceState
     → Outcome
 outcome_by Demo c holds audience = demo_outcome (holds (name_at 0 c))
@@ -105,11 +116,14 @@ outcome_by Replay c holds audience = replay_outcome (holds (name_at 0 c))
 outcome_by Check c holds audience = check_outcome audience (holds (name_at 0 c))
 outcome_by Upgrade c holds audience = upgrade_outcome (holds (name_at 0 c))
 outcome_by Compare c holds audience = compare_outcome (map holds (files_of c))
+outcome_by Vote c holds audience = vote_by c.options.dissent (map holds (files_of c))
 outcome_by Salvage c holds audience =
     salvage_by c.options.reports audience (holds (name_at 0 c))
+outcome_by Chain c holds audience =
+    chain_outcome c.options.strict (holds (name_at 0 c)) (holds (name_at 1 c))
+    (holds (name_at 2 c)) c.options.seed
 outcome_by Help c holds audience = text_outcome (unwrap_or (help_text c.names) [])
 outcome_by Version c holds audience = text_outcome version_text
-outcome_by other c holds audience = refusal BadWords
 
 -- the outcome of a command, where these are the bytes under each name
 abbrev pub outcome_of : Option CommandValue → (List ℕ → List ℕ) → AudienceState → Outcome

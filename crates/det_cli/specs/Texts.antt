@@ -3,16 +3,17 @@ use Rattle.std.specs.Prelude.{ℕ, List, [], ◌∷◌, Option, Some, None, opti
 use Rattle.cli_words.specs.declared.table.CommandWord.{CommandWord}
 use Rattle.cli_words.specs.declared.table.CommandWord.TheVariants.{Demo, Record, Show, Needs, Sim}
 use Rattle.cli_words.specs.declared.table.CommandWord.TheVariants.{Replay, Check, Upgrade}
-use Rattle.cli_words.specs.declared.table.CommandWord.TheVariants.{Compare, Salvage}
+use Rattle.cli_words.specs.declared.table.CommandWord.TheVariants.{Compare, Vote, Salvage, Chain}
 use Rattle.cli_words.specs.Table.{command_word}
 use Rattle.det_cli.specs.declared.texts.TheConstants.{USAGE, VERSION}
 use Rattle.det_cli.specs.declared.pages.TheConstants.{DEMO, RECORD, SHOW, NEEDS, SIM}
-use Rattle.det_cli.specs.declared.pages.TheConstants.{REPLAY, CHECK, UPGRADE, COMPARE, SALVAGE}
+use Rattle.det_cli.specs.declared.pages.TheConstants.{REPLAY, CHECK, UPGRADE, COMPARE, VOTE}
+use Rattle.det_cli.specs.declared.pages.TheConstants.{SALVAGE, CHAIN}
 
 abbrev pub version_text : List ℕ
 version_text = VERSION.now
 
--- the page of a command that is built
+-- the page of a command; the help and the version have none
 abbrev pub page_of : CommandWord → Option (List ℕ)
 page_of Demo = Some DEMO.now
 page_of Record = Some RECORD.now
@@ -23,7 +24,9 @@ page_of Replay = Some REPLAY.now
 page_of Check = Some CHECK.now
 page_of Upgrade = Some UPGRADE.now
 page_of Compare = Some COMPARE.now
+page_of Vote = Some VOTE.now
 page_of Salvage = Some SALVAGE.now
+page_of Chain = Some CHAIN.now
 page_of other = None
 
 -- the text that `--help` prints: the usage, or the page of the command that is named

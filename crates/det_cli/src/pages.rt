@@ -239,3 +239,64 @@ Exit statuses:
   2  bad words                 8  out of memory
   5  bad record
 ";
+
+/// `vote`.
+pub const VOTE: &str = "\
+det vote RECORD RECORD RECORD .. [--dissent]
+
+Writes the record that more than half of three to seven copies are.
+
+  RECORD      a file with a record, in binary; the first is copy 0
+  --dissent   prints, in place of the record, how many cycles it has and which
+              copies differ from it
+
+The copies are read side by side, row by row: row 0 is the header, row F + 1 is
+frame F, counted from 0, and behind the frames comes one row more, which says
+that the record is whole. Standard output takes each row that more than half of
+all copies hold behind equal rows. A copy that differs is not read further, and
+a fault of a copy equals nothing.
+
+With --dissent standard output takes the line `agree N`, with the number of
+cycles, and a line `copy K row R` for each copy that is not the record, with the
+first row in which it differs. Where no whole record is that of more than half
+of the copies, the first row that they do not hold is told as
+`no majority: row R`; what was written before it stands.
+
+Exit statuses:
+  0  done                      7  write fault
+  2  bad words                 8  out of memory
+  6  read fault                9  no majority
+";
+
+/// `chain`.
+pub const CHAIN: &str = "\
+det chain MANIFEST MANIFEST STIM [--seed N] [--workers W] [--strict]
+
+Runs a first job over a stimulus and a second one over the outputs of the first,
+cycle by cycle, and writes the record of the second.
+
+  MANIFEST    files with manifests, in TOML: of the first job, and of the second
+  STIM        a file with the text of a stimulus, whose events are the first
+              job's; it is opened once both manifests are judged
+
+  --seed N       the seed of the random words of both, a number of 64 bits; 0
+                 where none is given
+  --workers W    the number of workers of each, 1 to 64; the manifest's where
+                 none is given. The record is the same for each number
+  --strict       refuse a manifest with a key that isn't known
+
+Word J of an output, counted from 0, is a sample of the second job's event J, in
+the cycle of the same number and time: 8 bytes as a signed number, big-endian. A
+word beyond 10^12 in either direction is left out, and so is a rest of fewer
+than 8 bytes. A refused cycle gives no samples. The second job sees them in its
+next cycle, as it sees all samples.
+
+Standard output takes the record, in binary. Where a line of the stimulus is bad
+the record ends behind the cycles that were complete before it.
+
+Exit statuses:
+  0  done                      6  read fault
+  2  bad words                 7  write fault
+  3  bad manifest              8  out of memory
+  4  bad stimulus
+";

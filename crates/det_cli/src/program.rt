@@ -7,16 +7,20 @@ ghost use Rattle.cli_answers.specs.Outcome.{Meets, text_outcome};
 ghost use Rattle.cli_words.specs.Names.{texts};
 ghost use Rattle.cli_words.specs.Command.{command_seen};
 ghost use Rattle.cli_words.specs.Ranges.{IsInRange};
+ghost use Rattle.probes.specs.Reports.{AudienceState};
 ghost use Rattle.probes.specs.Shows.{seen};
 ghost use Rattle.det_cli.specs.Texts.{page_of, help_text};
-ghost use Rattle.det_cli.specs.Outcome.{built, command_in};
+ghost use Rattle.det_cli.specs.Outcome.{known, command_in};
 ghost use Rattle.det_cli.specs.Promise.{Runs, IsPromised};
 
-use crate::pages::{CHECK, COMPARE, DEMO, NEEDS, RECORD, REPLAY, SALVAGE, SHOW, SIM, UPGRADE};
+use crate::pages::{
+    CHAIN, CHECK, COMPARE, DEMO, NEEDS, RECORD, REPLAY, SALVAGE, SHOW, SIM, UPGRADE, VOTE,
+};
 use crate::texts::{USAGE, VERSION};
 use cli_answers::{Answer, Status};
 use cli_words::laws::ranges;
 use cli_words::{Command, CommandWord, Options, read_words};
+use cmd_chain::{ChainTask, chain};
 use cmd_check::check;
 use cmd_compare::compare;
 use cmd_needs::needs;
@@ -26,16 +30,19 @@ use cmd_salvage::{salvage, salvage_reports};
 use cmd_show::show;
 use cmd_sim::sim;
 use cmd_upgrade::upgrade;
+use cmd_vote::{vote, vote_dissent};
 use det_edges::{Shelf, Sink, write_all};
 use probes::{Audience, Probe};
 use shipped_crews::{Host, Workers};
+use std::alloc::Global;
 use std::thread::Threads;
 use worker_pool::Gate;
 
 /// Runs the command that the words give, which are those after the program's name.
 ///
-/// `record`, `demo` and `sim` run their cycles on real threads, each of which passes the gate.
-/// `show` and `sim` show the runs that they read or make to the audience.
+/// `record`, `demo`, `sim`, `chain`, `replay`, `check` and `upgrade` run their cycles on real
+/// threads, each of which passes the gate. `show`, `sim`, `check` and `salvage` show the runs that
+/// they read or make to the audience.
 pub fn top<S, K, E, R, G>(
     host: &Host<'_, R, G>,
     words: &[String],
@@ -99,7 +106,7 @@ where
     R: Threads,
     G: Gate + Send + Sync + 'static,
     requires range { IsInRange (command_seen command) }
-    ensures { Runs (built (command_seen command.entry)) (S.sees shelf.old) (S.sees shelf.new)
+    ensures { Runs (known (command_seen command.entry)) (S.sees shelf.old) (S.sees shelf.new)
         (Rose (K.faults out.old) (K.faults out.new)) (K.took out.old) (K.took out.new)
         (seen (λ b. life (b.vtable, b.value)) audience.old)
         (seen (λ b. life (b.vtable, b.value)) audience.new) result }
@@ -143,10 +150,64 @@ where
         }
         CommandWord::Check => check(&workers_of(host, workers), first, shelf, out, audience),
         CommandWord::Upgrade => upgrade(&workers_of(host, workers), first, shelf, out),
-        // These aren't built yet.
-        CommandWord::Vote => Answer::BadWords,
-        CommandWord::Chain => Answer::BadWords,
+        CommandWord::Vote => vote_by(alloc, &command, shelf, out),
+        CommandWord::Chain => chain_by(host, &command, shelf, out),
     }
+}
+
+/// Writes the majority's record of the copies that are named, or prints who dissents from it.
+fn vote_by<S: Shelf, K: Sink>(
+    alloc: Global,
+    command: &Command<'_>,
+    shelf: &mut S,
+    out: &mut K,
+) -> Answer
+    requires range { IsInRange (command_seen command.now) }
+    requires word { command.now.word ≡ CommandWord.Vote }
+    ensures { (audience : AudienceState) → Runs (known (command_seen command.now))
+        (S.sees shelf.old) (S.sees shelf.new) (Rose (K.faults out.old) (K.faults out.new))
+        (K.took out.old) (K.took out.new) audience audience result }
+{
+    let copies = command.names.as_slice();
+    if command.options.dissent {
+        return vote_dissent(alloc, copies, shelf, out);
+    }
+    vote(alloc, copies, shelf, out)
+}
+
+/// Writes the record of the second client of a chain.
+fn chain_by<S, K, R, G>(
+    host: &Host<'_, R, G>,
+    command: &Command<'_>,
+    shelf: &mut S,
+    out: &mut K,
+) -> Answer
+where
+    S: Shelf,
+    K: Sink,
+    R: Threads,
+    G: Gate + Send + Sync + 'static,
+    requires range { IsInRange (command_seen command.now) }
+    requires word { command.now.word ≡ CommandWord.Chain }
+    ensures { (audience : AudienceState) → Runs (known (command_seen command.now))
+        (S.sees shelf.old) (S.sees shelf.new) (Rose (K.faults out.old) (K.faults out.new))
+        (K.took out.old) (K.took out.new) audience audience result }
+{
+    let Options {
+        workers,
+        seed,
+        strict,
+        ..
+    } = command.options;
+    let task = ChainTask {
+        first: command.name(0),
+        second: command.name(1),
+        strict,
+        stimulus: command.name(2),
+        seed,
+        workers,
+    };
+    chain(host, &task, shelf, out)
 }
 
 /// One worker where no number is given.
@@ -156,7 +217,7 @@ fn workers_of<'h, R, G>(host: &Host<'h, R, G>, given: Option<u32>) -> Workers<'h
     host.workers(given.unwrap_or(1))
 }
 
-/// The page of a command that is built.
+/// The page of a command. The help and the version have none.
 fn page_of(word: CommandWord) -> Option<&'static str>
     ensures { option_map (λ text. text.now) result ≡ page_of word }
 {
@@ -170,8 +231,10 @@ fn page_of(word: CommandWord) -> Option<&'static str>
         CommandWord::Check => Some(CHECK),
         CommandWord::Upgrade => Some(UPGRADE),
         CommandWord::Compare => Some(COMPARE),
+        CommandWord::Vote => Some(VOTE),
         CommandWord::Salvage => Some(SALVAGE),
-        _ => None,
+        CommandWord::Chain => Some(CHAIN),
+        CommandWord::Help | CommandWord::Version => None,
     }
 }
 

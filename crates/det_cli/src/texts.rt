@@ -16,8 +16,13 @@ det: records runs of the AUTOSAR deterministic client, byte for byte
   det upgrade RECORD             a record run again in format 2
       [--workers W]
   det compare RECORD RECORD ..   the first place where 2 to 8 copies part
+  det vote RECORD RECORD ..      the record of the majority of 3 to 7 copies
+      [--dissent]                how many cycles it has, and which copies differ
   det salvage RECORD             a record that breaks off, made whole
       [--reports]                how much of it is saved, and its reports
+  det chain MANIFEST MANIFEST STIM
+      [--seed N] [--workers W]   the record of a second job over a first one's
+      [--strict]                 outputs
   det needs MANIFEST [--strict]  the resource needs of a manifest
   det sim N [--workers W]        a summary of the run of a built-in cloud over a
                                  stimulus made of N, and reports of its cycles
@@ -29,10 +34,9 @@ det: records runs of the AUTOSAR deterministic client, byte for byte
 STIM is the text of a stimulus, MANIFEST one in TOML, RECORD a binary record:
 paths of files. One whose name begins with `-` is given as ./-name.
 N is a number of 64 bits; the seed is 0 where none is given. W is 1 to 64; where
-none is given it is the manifest's for `record`, and else 1. What is written is
-the same for every W. With --strict a key of the manifest that isn't known is
-refused.
-C is the number of a cycle, counted from 1.
+none is given it is the manifest's for `record` and `chain`, and else 1. What is
+written is the same for every W. With --strict a key of a manifest that isn't
+known is refused. C is the number of a cycle, counted from 1.
 Results go to standard output, and one line on a refusal to standard error.
 
 Exit statuses:

@@ -1,12 +1,15 @@
 //! The files of the current folder as a shelf.
-use crate::{Shelf, ShelfFailed, Slots};
+use crate::trying::read_trying;
+use crate::within::push_within;
+use crate::{Failure, Shelf, ShelfFailed, Slots};
 use std::alloc::Global;
 use std::fs;
-use std::io::Read;
+use std::io::ErrorKind;
 use std::rt::Files;
 
 /// Opens files by their paths. It tells neither bytes nor names. Each failure of the system is a
-/// fault, and so is want of memory for one more slot.
+/// fault, but for want of memory at an open. A read that is interrupted is tried again, up to 1,000
+/// times in all.
 #[derive(Drop)]
 pub struct DirShelf<R: Files> {
     rt: R,
@@ -42,25 +45,34 @@ impl<R: Files + Copy> Slots for DirShelf<R> {
     ghost stays_on = { λ _ _ _ _ _. tt };
 
     fn read(&mut self, slot: u32, buf: &mut [u8]) -> Result<usize, ShelfFailed> {
-        match self.files[slot as usize].read(buf) {
+        match read_trying(&mut self.files[slot as usize], buf) {
             Ok(n) => Ok(n),
-            Err(_) => {
+            Err(failed) => {
                 self.faults = self.faults.saturating_add(1);
-                Err(ShelfFailed)
+                Err(failed)
             }
         }
     }
 }
 
 impl<R: Files + Copy> Shelf for DirShelf<R> {
-    fn open_input(&mut self, name: &str) -> Result<u32, ShelfFailed> {
-        if let Ok(file) = fs::open(&self.rt, name)
-            && let Ok(slot) = u32::try_from(self.files.len())
-            && self.files.push(file).is_ok()
-        {
-            return Ok(slot);
+    fn open_input(&mut self, name: &str) -> Result<u32, Failure> {
+        let Ok(slot) = u32::try_from(self.files.len()) else {
+            self.faults = self.faults.saturating_add(1);
+            return Err(Failure::Read);
+        };
+        // The room is taken first, so that no file is opened in vain.
+        self.files.reserve(1)?;
+        match fs::open(&self.rt, name) {
+            Ok(file) => {
+                push_within(&mut self.files, file);
+                Ok(slot)
+            }
+            Err(error) if error.kind() == ErrorKind::OutOfMemory => Err(Failure::OutOfMemory),
+            Err(_) => {
+                self.faults = self.faults.saturating_add(1);
+                Err(Failure::Read)
+            }
         }
-        self.faults = self.faults.saturating_add(1);
-        Err(ShelfFailed)
     }
 }

@@ -1,12 +1,13 @@
 //! Tests of shelves and sinks.
+use crate::trying::{MOST_TRIES, read_trying};
 use crate::{
-    DirShelf, FailList, MemFile, MemFiles, MemShelf, MemSink, Shelf, ShelfFailed, Sink, SinkFailed,
-    Slots, StdSink, Stopped, TextShelf, TooLong, read_limited, write_all,
+    DirShelf, Discard, FailList, Failure, MemFile, MemFiles, MemShelf, MemSink, Shelf, ShelfFailed,
+    Sink, SinkFailed, Slots, StdSink, Stopped, TextShelf, TooLong, read_limited, write_all,
 };
 use det_values::{Bytes, OutOfMemory};
 use std::alloc::Global;
 use std::fs;
-use std::io::{self, Write};
+use std::io::{self, ErrorKind, Read, Write};
 use std::test::Fail;
 
 fn fail_list(alloc: Global, number: u64) -> Result<FailList, OutOfMemory> {
@@ -56,7 +57,10 @@ fn mem_shelf_opens_and_fails(rt: HostRuntime) -> Result<(), Fail> {
         shelf.open_input("a"),
         shelf.open_input("b"),
     ];
-    assert_eq!(rt; answers, [Ok(0), Err(ShelfFailed), Ok(1), Err(ShelfFailed)]);
+    assert_eq!(rt;
+        answers,
+        [Ok(0), Err(Failure::Read), Ok(1), Err(Failure::Read)]
+    );
     Ok(())
 }
 
@@ -113,7 +117,14 @@ fn files_are_written_and_read(rt: HostRuntime) -> Result<(), Fail> {
     let bytes = read_limited(alloc, &mut shelf, slot, 7)?;
     assert_eq!(rt; bytes.as_slice(), b"\x00bytes\xff".as_slice());
     fs::remove_file(&rt, "edges.bin")?;
-    assert_eq!(rt; shelf.open_input("edges.bin"), Err(ShelfFailed));
+    assert_eq!(rt; shelf.open_input("edges.bin"), Err(Failure::Read));
+    Ok(())
+}
+
+#[test]
+fn what_is_discarded_is_taken_whole(rt: HostRuntime) -> Result<(), Fail> {
+    assert_eq!(rt; Discard.write(b"abc"), Ok(3));
+    assert_eq!(rt; write_all(&mut Discard, b""), Ok(()));
     Ok(())
 }
 
@@ -136,5 +147,69 @@ fn a_write_that_takes_nothing_is_a_fault(rt: HostRuntime) -> Result<(), Fail> {
     let mut sink = StdSink::new(Full);
     assert_eq!(rt; sink.write(b"a"), Err(SinkFailed));
     assert_eq!(rt; sink.write(b""), Ok(0));
+    Ok(())
+}
+
+// A reader and writer that is interrupted so many times, and then moves one byte.
+#[derive(Drop)]
+struct Interrupted {
+    times: u32,
+}
+
+impl Interrupted {
+    fn turn(&mut self) -> io::Result<usize> {
+        if self.times == 0 {
+            return Ok(1);
+        }
+        self.times -= 1;
+        Err(io::Error::from(ErrorKind::Interrupted))
+    }
+}
+
+impl Read for Interrupted {
+    fn read(&mut self, buf: &mut [u8]) -> io::Result<usize> {
+        Ok(self.turn()?.min(buf.len()))
+    }
+}
+
+impl Write for Interrupted {
+    fn write(&mut self, piece: &[u8]) -> io::Result<usize> {
+        Ok(self.turn()?.min(piece.len()))
+    }
+
+    fn flush(&mut self) -> io::Result<()> {
+        Ok(())
+    }
+}
+
+#[test]
+fn an_interrupted_write_is_tried_again(rt: HostRuntime) -> Result<(), Fail> {
+    let mut sink = StdSink::new(Interrupted { times: 2 });
+    assert_eq!(rt; sink.write(b"ab"), Ok(1));
+    let mut sink = StdSink::new(Interrupted { times: MOST_TRIES });
+    let answers = [sink.write(b"ab"), sink.write(b"ab")];
+    assert_eq!(rt;
+        answers,
+        [Err(SinkFailed), Ok(1)],
+        "each of the tries was interrupted"
+    );
+    Ok(())
+}
+
+#[test]
+fn an_interrupted_read_is_tried_again(rt: HostRuntime) -> Result<(), Fail> {
+    let mut buf = [0; 2];
+    let mut reader = Interrupted { times: 2 };
+    assert_eq!(rt; read_trying(&mut reader, &mut buf), Ok(1));
+    let mut reader = Interrupted { times: MOST_TRIES };
+    let answers = [
+        read_trying(&mut reader, &mut buf),
+        read_trying(&mut reader, &mut buf),
+    ];
+    assert_eq!(rt;
+        answers,
+        [Err(ShelfFailed), Ok(1)],
+        "each of the tries was interrupted"
+    );
     Ok(())
 }

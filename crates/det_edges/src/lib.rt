@@ -4,6 +4,7 @@
 
 mod copying;
 mod dir_shelf;
+mod discard;
 mod failure;
 mod faults;
 mod mem_shelf;
@@ -15,9 +16,12 @@ mod sink;
 mod slots;
 mod std_sink;
 mod text_shelf;
+mod trying;
+mod within;
 mod writing;
 
 pub use dir_shelf::DirShelf;
+pub use discard::Discard;
 pub use failure::{Failure, Stopped};
 pub use faults::{ShelfFailed, SinkFailed};
 pub use mem_shelf::{MemFile, MemFiles, MemShelf};

@@ -1,11 +1,12 @@
 //! A shelf in memory that fails at chosen calls.
-ghost use Rattle.std.specs.Prelude.{◌≡◌, ◌<◌, ◌≤◌, ◌+◌, ◌∷◌, ◌++◌, [], vec_len, vec_capacity};
+ghost use Rattle.std.specs.Prelude.{◌≡◌, ◌<◌, ◌≤◌, vec_len, vec_capacity};
 
 mod finding;
 mod place;
 
 use crate::planned_calls::PlannedCalls;
-use crate::{FailList, Shelf, ShelfFailed, Slots};
+use crate::within::push_within;
+use crate::{FailList, Failure, Shelf, ShelfFailed, Slots};
 use det_values::{Limited, OutOfMemory};
 use place::Place;
 use std::alloc::Global;
@@ -52,19 +53,6 @@ pub struct MemShelf {
     ghost slots_within: { vec_len slots ≤ opened },
     ghost asked_room: { opens ≤ vec_capacity asked },
     ghost slots_room: { opens ≤ vec_capacity slots },
-}
-
-// Adds an item to a list that has room for it.
-fn push_within<T: Drop>(items: &mut Vec<T>, item: T)
-    requires { vec_len items.old < vec_capacity items.old }
-    ensures items { items.new.items ≡ items.old.items ++ item ∷ [] }
-    ensures capacity { vec_capacity items.old ≤ vec_capacity items.new }
-    ensures len { vec_len items.new ≡ vec_len items.old + 1 }
-{
-    match items.push(item) {
-        Ok(()) => {}
-        Err(_) => unreachable!(),
-    }
 }
 
 impl MemShelf {
@@ -170,26 +158,29 @@ impl Slots for MemShelf {
 
 impl Shelf for MemShelf {
     ghost use Rattle.std.specs.Prelude.{◌≡◌, ◌<◌, ◌≤◌, ◌∷◌, ◌+◌, ◌&&◌, [], min, is_some, IfOk};
-    ghost use Rattle.std.specs.Prelude.{OnErr};
+    ghost use Rattle.std.specs.Prelude.{Some, OnErr};
     ghost use Rattle.std.specs.Result.{is_err};
     ghost use Rattle.det_edges.specs.Count.{Rose, next_count};
     ghost use Rattle.det_edges.specs.Shelf.{Opens, SlotsStay, Asks};
+    ghost use Rattle.det_edges.specs.Traffic.{failure_of};
     ghost use Rattle.det_edges.specs.MemShelf.{mem_shelf_state, setup_of, calls_of, opened_of};
     ghost use Rattle.det_edges.specs.MemShelf.{open_fails, has_room_for};
 
-    fn open_input(&mut self, name: &str) -> Result<u32, ShelfFailed>
+    fn open_input(&mut self, name: &str) -> Result<u32, Failure>
         ensures opens { IfOk result (Opens (mem_shelf_state self.old) (mem_shelf_state self.new)
             name.now) }
         ensures slots { OnErr result
             (SlotsStay (mem_shelf_state self.old) (mem_shelf_state self.new)) }
         ensures holds { (mem_shelf_state self.new).holds ≡ (mem_shelf_state self.old).holds }
         ensures asked { Asks (mem_shelf_state self.old) (mem_shelf_state self.new) (name.now ∷ []) }
-        ensures cause { OnErr result
-            (Rose (mem_shelf_state self.old).faults (mem_shelf_state self.new).faults) }
+        ensures cause { failure_of result ≡ Some Failure.Read
+            → Rose (mem_shelf_state self.old).faults (mem_shelf_state self.new).faults }
+        ensures writes_nothing { failure_of result ≡ Some Failure.Write → ⊥ }
         ensures counted { (mem_shelf_state self.old).faults ≤ (mem_shelf_state self.new).faults }
         ensures stays { Unit {0} }
 
         ensures fails { is_err result ≡ open_fails self.old name.now }
+        ensures takes_no_memory { failure_of result ≡ Some Failure.OutOfMemory → ⊥ }
         ensures told { is_some (mem_shelf_state self.new).asked
             ≡ (is_some (mem_shelf_state self.old).asked && has_room_for self.old name.now) }
         ensures setup { setup_of self.new ≡ setup_of self.old }
@@ -201,18 +192,18 @@ impl Shelf for MemShelf {
         if self.opened == self.opens {
             self.is_told = false;
             self.faults = self.faults.saturating_add(1);
-            return Err(ShelfFailed);
+            return Err(Failure::Read);
         }
         self.opened += 1;
         let Some(file) = finding::index_of(self.files.as_slice(), name) else {
             self.is_told = false;
             self.faults = self.faults.saturating_add(1);
-            return Err(ShelfFailed);
+            return Err(Failure::Read);
         };
         push_within(&mut self.asked, file);
         if is_listed {
             self.faults = self.faults.saturating_add(1);
-            return Err(ShelfFailed);
+            return Err(Failure::Read);
         }
         let slot = self.slots.len() as u32;
         push_within(&mut self.slots, Place { file, at: 0 });

@@ -1,9 +1,11 @@
 //! A writer of std as a sink.
+use crate::trying::write_trying;
 use crate::{Sink, SinkFailed};
 use std::io::Write;
 
 /// Writes to a writer. It tells no bytes. Each failure of the writer is a fault, and so is a write
-/// that takes nothing of a piece that isn't empty.
+/// that takes nothing of a piece that isn't empty. A write that is interrupted is tried again, up
+/// to 1,000 times in all.
 #[derive(Drop)]
 pub struct StdSink<W> {
     writer: W,
@@ -30,11 +32,11 @@ impl<W: Write + Drop> Sink for StdSink<W> {
     ghost faults = { λ s. std_sink_faults s };
 
     fn write(&mut self, piece: &[u8]) -> Result<usize, SinkFailed> {
-        match self.writer.write(piece) {
-            Ok(n) if n > 0 || piece.is_empty() => Ok(n),
-            _ => {
+        match write_trying(&mut self.writer, piece) {
+            Ok(n) => Ok(n),
+            Err(failed) => {
                 self.faults = self.faults.saturating_add(1);
-                Err(SinkFailed)
+                Err(failed)
             }
         }
     }

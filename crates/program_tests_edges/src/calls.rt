@@ -1,7 +1,7 @@
 //! Calls of the shelf and of the output that fail in turn, and pieces of few bytes.
 use crate::{
-    Case, check_case, compare_case, failing_reads, failing_writes, needs_case, record_case,
-    replay_case, salvage_case, show_case, two_cycles_case, upgrade_case,
+    Case, chain_case, check_case, compare_case, failing_reads, failing_writes, needs_case,
+    record_case, replay_case, salvage_case, show_case, two_cycles_case, upgrade_case, vote_case,
 };
 use program_runs::{Edges, empty_run, run, two_cycles_stimulus};
 use std::alloc::Global;
@@ -64,6 +64,16 @@ fn each_read_of_salvage_fails(rt: HostRuntime) -> Result<(), Fail> {
     each_read_fails(&rt, rt.alloc(), &salvage_case(rt.alloc())?)
 }
 
+#[test]
+fn each_read_of_vote_fails(rt: HostRuntime) -> Result<(), Fail> {
+    each_read_fails(&rt, rt.alloc(), &vote_case(rt.alloc())?)
+}
+
+#[test]
+fn each_read_of_chain_fails(rt: HostRuntime) -> Result<(), Fail> {
+    each_read_fails(&rt, rt.alloc(), &chain_case(rt.alloc())?)
+}
+
 /// Each write fails, and there are at least so many: a write takes at most 10 bytes.
 fn each_write_fails<R: Threads + Sync + Abort>(
     rt: &R,
@@ -123,6 +133,16 @@ fn each_write_of_salvage_fails(rt: HostRuntime) -> Result<(), Fail> {
     each_write_fails(&rt, rt.alloc(), &salvage_case(rt.alloc())?, 29)
 }
 
+#[test]
+fn each_write_of_vote_fails(rt: HostRuntime) -> Result<(), Fail> {
+    each_write_fails(&rt, rt.alloc(), &vote_case(rt.alloc())?, 29)
+}
+
+#[test]
+fn each_write_of_chain_fails(rt: HostRuntime) -> Result<(), Fail> {
+    each_write_fails(&rt, rt.alloc(), &chain_case(rt.alloc())?, 33)
+}
+
 fn same_in_pieces<R: Threads + Sync + Abort>(
     rt: &R,
     alloc: Global,
@@ -146,6 +166,8 @@ fn pieces_of_any_length_give_the_same(rt: HostRuntime) -> Result<(), Fail> {
     same_in_pieces(&rt, alloc, &check_case(alloc)?)?;
     same_in_pieces(&rt, alloc, &upgrade_case(alloc)?)?;
     same_in_pieces(&rt, alloc, &salvage_case(alloc)?)?;
+    same_in_pieces(&rt, alloc, &vote_case(alloc)?)?;
+    same_in_pieces(&rt, alloc, &chain_case(alloc)?)?;
     same_in_pieces(&rt, alloc, &needs_case(alloc)?)
 }
 
@@ -179,6 +201,8 @@ fn a_shelf_fails_where_a_read_or_a_name_does(rt: HostRuntime) -> Result<(), Fail
         "needs m",
         "record m s",
         "compare s m",
+        "vote s s m",
+        "chain m s s",
         "replay m",
         "check m",
         "upgrade m",

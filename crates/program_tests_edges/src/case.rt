@@ -1,16 +1,17 @@
 //! Commands whose edges fail in turn.
 use program_runs::{
-    Edges, NoMemory, Ran, guard_manifest, guard_stimulus, run, two_cycles_1, two_cycles_stimulus,
-    user_manifest,
+    Edges, NoMemory, Ran, bank_manifest, guard_manifest, guard_stimulus, run, two_cycles_1,
+    two_cycles_stimulus, user_manifest,
 };
 use std::alloc::{AllocError, Global};
 use std::thread::Threads;
 
-/// A command over the files `m` and `s`, how many bytes of them it reads a call, and what it writes
-/// where nothing fails: so many bytes of this SHA-256.
+/// A command over the files `m`, which it may open twice, and `s`, how many bytes of them it reads a
+/// call, and what it writes where nothing fails: so many bytes of this SHA-256.
 #[derive(Drop)]
 pub struct Case {
     words: &'static str,
+    is_twice: bool,
     manifest: Vec<u8>,
     stimulus: Vec<u8>,
     most_read: usize,
@@ -22,6 +23,7 @@ pub struct Case {
 pub fn two_cycles_case(alloc: Global) -> Result<Case, AllocError> {
     Ok(Case {
         words: "demo s",
+        is_twice: false,
         manifest: Vec::new(alloc),
         stimulus: Vec::from_slice(alloc, two_cycles_stimulus())?,
         most_read: 7,
@@ -34,6 +36,7 @@ pub fn two_cycles_case(alloc: Global) -> Result<Case, AllocError> {
 pub fn record_case(alloc: Global) -> Result<Case, AllocError> {
     Ok(Case {
         words: "record m s --workers 2",
+        is_twice: false,
         manifest: Vec::from_slice(alloc, guard_manifest(alloc)?.as_bytes())?,
         stimulus: Vec::from_slice(alloc, guard_stimulus())?,
         most_read: 40,
@@ -46,6 +49,7 @@ pub fn record_case(alloc: Global) -> Result<Case, AllocError> {
 pub fn show_case(alloc: Global) -> Result<Case, AllocError> {
     Ok(Case {
         words: "show m",
+        is_twice: false,
         manifest: Vec::from_slice(alloc, two_cycles_1())?,
         stimulus: Vec::new(alloc),
         most_read: 7,
@@ -58,11 +62,38 @@ pub fn show_case(alloc: Global) -> Result<Case, AllocError> {
 pub fn compare_case(alloc: Global) -> Result<Case, AllocError> {
     Ok(Case {
         words: "compare m s",
+        is_twice: false,
         manifest: Vec::from_slice(alloc, two_cycles_1())?,
         stimulus: Vec::from_slice(alloc, two_cycles_1())?,
         most_read: 7,
         len: 8,
         digest: "4153869138bfb5598ef9f2f5c70a8aa70fd9c33fa1b5d4f5c7987d7411492bd1",
+    })
+}
+
+/// Three copies of the record of two cycles, voted.
+pub fn vote_case(alloc: Global) -> Result<Case, AllocError> {
+    Ok(Case {
+        words: "vote m s m",
+        is_twice: true,
+        manifest: Vec::from_slice(alloc, two_cycles_1())?,
+        stimulus: Vec::from_slice(alloc, two_cycles_1())?,
+        most_read: 7,
+        len: 282,
+        digest: "5034b79dac263730242ce46420d27371fc6aaf95f974ca75a1cbb26d44b6eb54",
+    })
+}
+
+/// The bank of two cycles, and a bank of the same manifest behind it.
+pub fn chain_case(alloc: Global) -> Result<Case, AllocError> {
+    Ok(Case {
+        words: "chain m m s",
+        is_twice: true,
+        manifest: Vec::from_slice(alloc, bank_manifest().as_bytes())?,
+        stimulus: Vec::from_slice(alloc, two_cycles_stimulus())?,
+        most_read: 7,
+        len: 325,
+        digest: "036e96a90ba14ab3e5f42ca6c69fc2433624ec80549f8f15b2a7820912bcef8d",
     })
 }
 
@@ -75,6 +106,7 @@ pub fn replay_case(alloc: Global) -> Result<Case, AllocError> {
 pub fn check_case(alloc: Global) -> Result<Case, AllocError> {
     Ok(Case {
         words: "check m",
+        is_twice: false,
         manifest: Vec::from_slice(alloc, two_cycles_1())?,
         stimulus: Vec::new(alloc),
         most_read: 7,
@@ -87,6 +119,7 @@ pub fn check_case(alloc: Global) -> Result<Case, AllocError> {
 pub fn upgrade_case(alloc: Global) -> Result<Case, AllocError> {
     Ok(Case {
         words: "upgrade m",
+        is_twice: false,
         manifest: Vec::from_slice(alloc, two_cycles_1())?,
         stimulus: Vec::new(alloc),
         most_read: 7,
@@ -104,6 +137,7 @@ pub fn salvage_case(alloc: Global) -> Result<Case, AllocError> {
 fn given_again(alloc: Global, words: &'static str) -> Result<Case, AllocError> {
     Ok(Case {
         words,
+        is_twice: false,
         manifest: Vec::from_slice(alloc, two_cycles_1())?,
         stimulus: Vec::new(alloc),
         most_read: 7,
@@ -116,6 +150,7 @@ fn given_again(alloc: Global, words: &'static str) -> Result<Case, AllocError> {
 pub fn needs_case(alloc: Global) -> Result<Case, AllocError> {
     Ok(Case {
         words: "needs m",
+        is_twice: false,
         manifest: Vec::from_slice(alloc, user_manifest(alloc)?.as_bytes())?,
         stimulus: Vec::new(alloc),
         most_read: 7,
@@ -158,8 +193,13 @@ impl Case {
 
     /// How many calls of the shelf the command makes: those that read its files to their ends.
     pub fn calls(&self) -> u64 {
+        let again = if self.is_twice {
+            self.manifest.as_slice()
+        } else {
+            b""
+        };
         let mut calls: u64 = 0;
-        for bytes in [self.manifest.as_slice(), self.stimulus.as_slice()] {
+        for bytes in [self.manifest.as_slice(), again, self.stimulus.as_slice()] {
             if !bytes.is_empty() {
                 calls = calls.saturating_add(calls_for(bytes.len(), self.most_read));
             }

@@ -150,6 +150,16 @@ fn of_records(rt: HostRuntime) -> Result<(), Fail> {
     status_stays(&rt, alloc, told, Edges::calm(500))
 }
 
+#[test]
+fn of_copies_without_a_majority(rt: HostRuntime) -> Result<(), Fail> {
+    let alloc = rt.alloc();
+    let mut longer = Vec::from_slice(alloc, empty_run_1())?;
+    longer.push(5)?;
+    let line = "no majority: row 5\n";
+    let told = ("vote m s s", empty_run_1(), longer.as_slice(), 9, line);
+    status_stays(&rt, alloc, told, Edges::calm(500))
+}
+
 /// A record of format 1 with a run more than a record may have. Its runs are refused.
 fn too_many_runs(alloc: Global) -> Result<Vec<u8>, Fail> {
     let header =

@@ -6,7 +6,7 @@ use std::str;
 use std::test::*;
 use std::thread::Threads;
 
-/// The statuses with which a command ends, where it is built.
+/// The statuses with which a command ends, where it has a page.
 fn statuses_of(command: CommandWord) -> Option<&'static str> {
     match command {
         CommandWord::Demo => Some("024678"),
@@ -18,8 +18,10 @@ fn statuses_of(command: CommandWord) -> Option<&'static str> {
         CommandWord::Check => Some("0125678"),
         CommandWord::Upgrade => Some("0125678"),
         CommandWord::Compare => Some("0125678"),
+        CommandWord::Vote => Some("026789"),
         CommandWord::Salvage => Some("025678"),
-        _ => None,
+        CommandWord::Chain => Some("0234678"),
+        CommandWord::Help | CommandWord::Version => None,
     }
 }
 

@@ -56,13 +56,16 @@ sim 007
 sim 18446744073709551616
 sim 1 --seed 2
 vote m m
+vote m m m m m m m m
+vote m m m --reports
+chain m m
+chain m m s s
+chain m m s --workers 0
 salvage m --reports --reports
 needs m --strict --strict
 record m s --strict 1
 --help m
 --help --version
---help vote
-vote --help
 -h show
 help -h
 help help
@@ -96,18 +99,13 @@ fn good_words_open_their_file(rt: HostRuntime) -> Result<(), Fail> {
         "compare m m m m m m m m",
         "salvage m",
         "salvage --reports m",
+        "vote m m m",
+        "vote m m m m m --dissent m m",
+        "chain m m s",
+        "chain --workers 64 m --seed 1 m --strict s",
     ] {
         let ran = run_words(&rt, rt.alloc(), words)?;
         assert!(rt; ran.ended(6, "read fault\n"), "{words}");
-    }
-    Ok(())
-}
-
-#[test]
-fn four_commands_are_not_built_yet(rt: HostRuntime) -> Result<(), Fail> {
-    for words in ["vote m m m", "chain m m s"] {
-        let ran = run_words(&rt, rt.alloc(), words)?;
-        assert!(rt; ran.ended(2, "bad words\n"), "{words}");
     }
     Ok(())
 }

@@ -30,15 +30,16 @@ meets-end wanted refuses bytes tells rose other before (Failed Write) bad read w
 meets-end wanted refuses bytes tells rose other before (Failed OutOfMemory) bad read write =
     meets-no-memory (wanted (run_of bytes)) tells rose other before
 
-fails-reading : (manifest stimulus recorded : Bool) → recorded ≡ true → manifest || (stimulus || recorded) ≡ true
-fails-reading true stimulus recorded is = refl
-fails-reading false true recorded is = refl
-fails-reading false false recorded is = is
+fails-reading : (manifest stimulus recorded votes : Bool) → recorded ≡ true → manifest || (stimulus || (recorded || votes)) ≡ true
+fails-reading true stimulus recorded votes is = refl
+fails-reading false true recorded votes is = refl
+fails-reading false false true votes is = refl
+fails-reading false false false votes is = absurd cc
 
 -- a command that reads a record can end so
 pub can-end : (end : Stopped BadRun) (work : Work) → work.recorded ≡ true → can_end work (without_run end) ≡ true
 can-end (Refused (Fault fault)) work is = is
 can-end (Refused Profile) work is = is
-can-end (Failed Read) work is = fails-reading work.manifest work.stimulus work.recorded is
+can-end (Failed Read) work is = fails-reading work.manifest work.stimulus work.recorded work.votes is
 can-end (Failed Write) work is = refl
 can-end (Failed OutOfMemory) work is = refl

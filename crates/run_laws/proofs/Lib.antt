@@ -16,6 +16,7 @@ mod Shown
 mod Replayed
 mod GivenAgain
 mod Compared
+mod Voted
 mod Departing
 mod WholeRecords
 mod OfInputs

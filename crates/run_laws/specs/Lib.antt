@@ -1,3 +1,5 @@
 pub mod Statements
 pub mod Copies
 pub mod Checks
+pub mod Votes
+pub mod Chains

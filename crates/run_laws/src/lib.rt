@@ -1,11 +1,13 @@
 //! Laws of whole runs: what the record of a run is read as, what is printed of it, what its replay
-//! gives, when copies of it agree, when it is genuine, and what it is upgraded to. Each function is
-//! empty and its contract is the law.
+//! gives, when copies of it agree or have a majority, when it is genuine, what it is upgraded to, and
+//! what a chain makes of its first client. Each function is empty and its contract is the law.
 #![tactic(auto)]
 
 ghost use Rattle.run_laws.specs.Statements.{RecordIsRead, DemoIsRead, RecordIsShown, DemoIsShown};
 ghost use Rattle.run_laws.specs.Statements.{RecordIsReplayed, DemoIsReplayed};
+ghost use Rattle.run_laws.specs.Chains.{FirstIsRecorded};
 ghost use Rattle.run_laws.specs.Copies.{CopiesAreCompared};
+ghost use Rattle.run_laws.specs.Votes.{MajorityIsWritten, DoneIsMajority};
 ghost use Rattle.run_laws.specs.Checks.{RecordIsChecked, DemoIsChecked, GenuineIsReplayed};
 ghost use Rattle.run_laws.specs.Checks.{GenuineIsUpgraded, FormatTwoStays};
 
@@ -36,6 +38,19 @@ pub fn replaying()
 /// prints that they agree and how many cycles they hold.
 pub fn comparing()
     ensures { CopiesAreCompared }
+{}
+
+/// `vote` is done exactly where more than half of the copies are one whole record, and then it has
+/// written that record.
+pub fn voting()
+    ensures written { MajorityIsWritten }
+    ensures done { DoneIsMajority }
+{}
+
+/// The record of the first client of a chain, which the command drops, is the one that `record`
+/// writes of the first manifest.
+pub fn chaining()
+    ensures { FirstIsRecorded }
 {}
 
 /// Of that record `check` says that it is genuine, with the number of its cycles and what its

@@ -4,6 +4,8 @@
 mod counts;
 mod frames;
 mod recording;
+mod runner;
 
 pub use counts::Counts;
 pub use recording::Recording;
+pub use runner::Runner;

@@ -193,6 +193,14 @@ impl<J: Job> Recording<J> {
         self.engine.elements()
     }
 
+    /// The number of events of its profile.
+    pub fn events(&self) -> u16
+        ensures number { result ≡ length self.now.profile.events }
+        ensures most { result ≤ 256 }
+    {
+        self.profile.events.len() as u16
+    }
+
     /// Where it takes memory from.
     pub fn alloc(&self) -> Global {
         self.alloc

@@ -6,19 +6,19 @@ ghost use Rattle.run_writer.specs.Recording.{IsNew};
 ghost use Rattle.shipped_jobs.specs.Kinds.{bad_param, of_kind};
 ghost use Rattle.worker_pool.specs.Crews.{room_name};
 
+use crate::begun::{Begun, begin, crewed};
 use crate::visit::Visit;
-use crate::workers::{Workers, busy};
-use cycle_engine::Engine;
+use crate::workers::Workers;
 use det_edges::{Sink, Slots};
 use det_values::{JobKind, OutOfMemory, Profile};
 use job_trait::Job;
 use probes::{Audience, Probe};
-use run_writer::Recording;
+use run_writer::Runner;
 use shipped_jobs::{Bank, Cloud, Guard};
 use std::marker::Brand;
 use std::thread::Threads;
 use tickets::Room;
-use worker_pool::{Crew, CrewRoom, Gate};
+use worker_pool::{Crew, Gate};
 
 /// What a shipped job runs by.
 #[derive(Drop)]
@@ -27,17 +27,9 @@ pub struct ShippedRun {
     pub profile: Profile,
 }
 
-/// A room, and the workers that share it.
-#[derive(Drop)]
-struct Team<'r, J: Job, R, G> {
-    room: CrewRoom<J>,
-    workers: Workers<'r, R, G>,
-}
-
-/// Does it by a crew in a team's room. The crew's threads end before the answer is given.
-fn in_room<J, B, V, S, K, R, G>(
-    recording: &mut Recording<J>,
-    team: Team<'_, J, R, G>,
+/// Does it with a run by a crew in its room. The crew's threads end before the answer is given.
+fn in_room<J, N, V, S, K, R, G>(
+    begun: Begun<'_, J, R, G>,
     visitor: V,
     shelf: &mut S,
     sink: &mut K,
@@ -49,17 +41,17 @@ where
     J::Element: Send + Sync + 'static,
     J::Plan: Send + Sync + 'static,
     J::Part: Send + Sync + 'static,
-    B: Room + Send + Sync + 'static,
+    N: Room + Send + Sync + 'static,
     V: Visit,
     S: Slots,
     K: Sink,
     R: Threads,
     G: Gate + Send + Sync + 'static,
-    requires room { room_name team.room ≡ B.table }
-    requires new { IsNew J.meaning recording.old }
-    requires can { V.Can visitor recording.old.profile (S.sees shelf.old) }
+    requires room { room_name begun.room ≡ N.table }
+    requires new { IsNew J.meaning begun.recording }
+    requires can { V.Can visitor begun.recording.profile (S.sees shelf.old) }
     ensures given { IfOk result (λ answer.
-        V.Gives _ _ _ _ _ J.meaning recording.old.profile visitor
+        V.Gives _ _ _ _ _ J.meaning begun.entry.recording.profile visitor
         (shelf_run S.sees S.stays shelf.old shelf.new) (sink_run K.took K.faults sink.old sink.new)
         (seen (λ b. (⟦<dyn Probe as Probe>⟧ b.vtable).life b.value) audience.old)
         (seen (λ b. (⟦<dyn Probe as Probe>⟧ b.vtable).life b.value) audience.new) answer) }
@@ -69,18 +61,19 @@ where
         (seen (λ b. (⟦<dyn Probe as Probe>⟧ b.vtable).life b.value) audience.new
         ≡ seen (λ b. (⟦<dyn Probe as Probe>⟧ b.vtable).life b.value) audience.old) }
 {
-    let Team { room, workers } = team;
-    let mut crew = Crew::<J, B, G>::start(
-        workers.rt,
-        workers.alloc,
-        room,
-        workers.count,
-        workers.gate,
-    )?;
-    let answer = visitor.visit::<J, Crew<J, B, G>, S, K>(
-        recording, &mut crew, shelf, sink, audience,
+    let rt = begun.workers.rt;
+    let Runner {
+        mut recording,
+        pool: mut crew,
+    } = crewed::<J, N, R, G>(begun)?;
+    let answer = visitor.visit::<J, Crew<J, N, G>, S, K>(
+        &mut recording,
+        &mut crew,
+        shelf,
+        sink,
+        audience,
     );
-    crew.stop(workers.rt);
+    crew.stop(rt);
     Ok(answer)
 }
 
@@ -116,16 +109,8 @@ where
         (seen (λ b. (⟦<dyn Probe as Probe>⟧ b.vtable).life b.value) audience.new
         ≡ seen (λ b. (⟦<dyn Probe as Probe>⟧ b.vtable).life b.value) audience.old) }
 {
-    let events = profile.events.len() as u16;
-    let Ok(job) = J::make(&profile.params, events) else {
-        unreachable!()
-    };
-    let engine = Engine::start(workers.alloc, job, &profile)?;
-    let mut recording = Recording::of(workers.alloc, engine, profile);
-    let room = CrewRoom::<J>::new(workers.alloc)?;
-    let workers = busy(workers, recording.elements());
-    let team = Team { room, workers };
-    in_room::<J, Brand, V, S, K, R, G>(&mut recording, team, visitor, shelf, sink, audience)
+    let begun = begin::<J, R, G>(workers, profile)?;
+    in_room::<J, Brand, V, S, K, R, G>(begun, visitor, shelf, sink, audience)
 }
 
 /// Hands a visitor the run of the job of a kind and a crew for it, whose threads are kept from the

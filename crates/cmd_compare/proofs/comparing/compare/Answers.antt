@@ -1,6 +1,6 @@
 use Rattle.std.proofs.Common.{arith, subst, Err}
 use Rattle.lockstep.specs.Compared.{Compared}
-use Rattle.cmd_compare.proofs.Opening.{as-many, are-given, are-different}
+use Rattle.open_names.proofs.Copies.{as-many, are-given, are-different}
 use Rattle.cmd_compare.proofs.Meeting.{meets-verdict, meets-bad}
 use Rattle.cmd_compare.proofs.comparing.compare.Goals as goal
 

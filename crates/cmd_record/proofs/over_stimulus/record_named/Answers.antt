@@ -2,14 +2,15 @@ use Rattle.std.proofs.Common.{[], ◌∷◌}
 use Rattle.std.specs.Prelude.{IsSome}
 use Rattle.det_edges.proofs.Opening.{asks-all, asks-then-kept, opens-left}
 use Rattle.cli_answers.specs.Outcome.{told}
-use Rattle.cli_answers.proofs.Meeting.{meets-read-fault}
+use Rattle.cli_answers.proofs.Meeting.{meets-unopened}
 use Rattle.cli_answers.proofs.Telling.{held}
 use Rattle.cmd_record.proofs.Meeting.{rose-later}
 use Rattle.cmd_record.proofs.Recorded.{met-by-kind, kept-by-kind}
 use Rattle.cmd_record.proofs.over_stimulus.record_named.Goals as goal
 
-pub returns-in_default-clause-meets : goal.returns-in_default-clause-meets
-returns-in_default-clause-meets g c = meets-read-fault _ _ _ _ _ c.in_default.ensures.cause
+pub returns-in-Err-clause-meets : goal.returns-in-Err-clause-meets
+returns-in-Err-clause-meets g c =
+    rw c.from.ensures (meets-unopened _ _ _ _ _ _ c.in-Err.ensures.cause c.in-Err.ensures.writes_nothing)
 
 pub returns-clause-meets : goal.returns-clause-meets
 returns-clause-meets g c =

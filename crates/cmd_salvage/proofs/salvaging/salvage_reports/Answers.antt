@@ -1,20 +1,21 @@
-use Rattle.std.proofs.Common.{arith, rules}
+use Rattle.std.proofs.Common.{arith}
 use Rattle.det_edges.proofs.Opening.{asks-all, asks-then-kept, opens-left}
 use Rattle.det_edges.proofs.Counts.{rose-before}
 use Rattle.cli_answers.specs.Outcome.{told}
-use Rattle.cli_answers.proofs.Meeting.{meets-read-fault, meets-under}
+use Rattle.cli_answers.proofs.Meeting.{meets-unopened, meets-under}
 use Rattle.cli_answers.proofs.Telling.{held}
 use Rattle.cmd_salvage.proofs.Meeting.{saw-unread}
 use Rattle.cmd_salvage.proofs.salvaging.salvage_reports.Goals as goal
 
-pub returns-in_default-clause-meets : goal.returns-in_default-clause-meets
-returns-in_default-clause-meets g c = meets-read-fault _ _ _ _ _ (search rules)
+pub returns-in-Err-clause-meets : goal.returns-in-Err-clause-meets
+returns-in-Err-clause-meets g c =
+    rw c.from.ensures (meets-unopened _ _ _ _ _ _ c.in-Err.ensures.cause c.in-Err.ensures.writes_nothing)
 
-pub returns-in_default-clause-asked : goal.returns-in_default-clause-asked
-returns-in_default-clause-asked g c = asks-all _ _ _ c.in_default.ensures.asked
+pub returns-in-Err-clause-asked : goal.returns-in-Err-clause-asked
+returns-in-Err-clause-asked g c = asks-all _ _ _ c.in-Err.ensures.asked
 
-pub returns-in_default-clause-saw : goal.returns-in_default-clause-saw
-returns-in_default-clause-saw g c ne t = saw-unread _ _
+pub returns-in-Err-clause-saw : goal.returns-in-Err-clause-saw
+returns-in-Err-clause-saw g c ne t = saw-unread _ _
 
 pub returns-clause-meets : goal.returns-clause-meets
 returns-clause-meets g c =

@@ -4,8 +4,8 @@ use Rattle.det_edges.proofs.Opening.{asks-all, asks-prefix-none}
 use Rattle.cli_answers.proofs.Meeting.{meets-under}
 use Rattle.cli_words.specs.declared.table.CommandWord.TheVariants as words
 use Rattle.cli_words.specs.Command.{CommandValue, command_seen}
-use Rattle.det_cli.specs.Outcome.{built}
-use Rattle.det_cli.proofs.Joining.{same-built, sole-name, no-name, both-names, workers-fit, is-kept, is-gone, help-is, runs-command}
+use Rattle.det_cli.specs.Outcome.{known}
+use Rattle.det_cli.proofs.Joining.{same-known, sole-name, no-name, both-names, workers-fit, is-kept, is-gone, help-is, runs-command}
 use Rattle.det_cli.proofs.Joining.{same-reports, names-enough, runs-no-command}
 use Rattle.det_cli.proofs.program.run_command.Goals as goal
 
@@ -21,7 +21,7 @@ returns-in-Demo g c =
     let seen = command_seen c.args.command in
     let names = c.name-first.result.now ∷ [] in
     let is = sole-name seen words.Demo c.requires.range c.in-Demo.is refl refl c.name-first.result.now c.name-first.ensures in
-    runs-command (g.S.Slots.sees c.args.shelf.now) _ _ _ _ _ _ _ (built seen) _ (same-built seen words.Demo names c.in-Demo.is is) (record {
+    runs-command (g.S.Slots.sees c.args.shelf.now) _ _ _ _ _ _ _ (known seen) _ (same-known seen words.Demo names c.in-Demo.is is) (record {
       meets = c.demo.ensures.meets;
       ends = c.demo.ensures.ends;
       asked = c.demo.ensures.asked;
@@ -37,7 +37,7 @@ returns-in-Record g c =
     let names = c.name-first.result.now ∷ c.name-second.result.now ∷ [] in
     let is = both-names seen words.Record c.requires.range c.in-Record.is refl refl c.name-first.result.now c.name-second.result.now
     c.name-first.ensures c.name-second.ensures in
-    runs-command (g.S.Slots.sees c.args.shelf.now) _ _ _ _ _ _ _ (built seen) _ (same-built seen words.Record names c.in-Record.is is)
+    runs-command (g.S.Slots.sees c.args.shelf.now) _ _ _ _ _ _ _ (known seen) _ (same-known seen words.Record names c.in-Record.is is)
     (record {
       meets = c.record_stimulus.ensures.meets;
       ends = c.record_stimulus.ensures.ends;
@@ -54,7 +54,7 @@ returns-in-Needs g c =
     let names = c.name-first.result.now ∷ [] in
     let is = sole-name seen words.Needs c.requires.range c.in-Needs.is refl refl c.name-first.result.now c.name-first.ensures in
     let asked = asks-all _ _ names c.needs.ensures.asked in
-    runs-command (g.S.Slots.sees c.args.shelf.now) _ _ _ _ _ _ _ (built seen) _ (same-built seen words.Needs names c.in-Needs.is is)
+    runs-command (g.S.Slots.sees c.args.shelf.now) _ _ _ _ _ _ _ (known seen) _ (same-known seen words.Needs names c.in-Needs.is is)
     (record {
       meets = meets-under _ _ _ _ _ _ _ _ _ _ (λ t. t 0 c.name-first.result.now (omega arith)) (λ r. r) (λ o. o) c.needs.ensures.meets;
       ends = c.needs.ensures.ends;
@@ -71,7 +71,7 @@ returns-in-Show g c =
     let names = c.name-first.result.now ∷ [] in
     let is = sole-name seen words.Show c.requires.range c.in-Show.is refl refl c.name-first.result.now c.name-first.ensures in
     let part = c.part.ensures in
-    runs-command (g.S.Slots.sees c.args.shelf.now) _ _ _ _ _ _ _ (built seen) _ (same-built seen words.Show names c.in-Show.is is)
+    runs-command (g.S.Slots.sees c.args.shelf.now) _ _ _ _ _ _ _ (known seen) _ (same-known seen words.Show names c.in-Show.is is)
     (record {
       meets = rw (← part) c.show.ensures.meets;
       ends = c.show.ensures.ends;
@@ -87,7 +87,7 @@ returns-in-Sim g c =
     let seen = command_seen c.args.command in
     let first = g.S.Slots.sees c.args.shelf.now in
     let number = c.number.ensures in
-    runs-command first _ _ _ _ _ _ _ (built seen) _ (same-built seen words.Sim seen.names c.in-Sim.is refl) (record {
+    runs-command first _ _ _ _ _ _ _ (known seen) _ (same-known seen words.Sim seen.names c.in-Sim.is refl) (record {
       meets = rw (sym number) (meets-under _ _ _ _ _ _ _ _ _ _ (λ t. tt) (λ r. absurd r) (λ o. o) c.sim.ensures.meets);
       ends = c.sim.ensures.ends;
       asked = asks-prefix-none first first [] refl;
@@ -103,9 +103,9 @@ returns-in-Some g c =
     let first = g.S.Slots.sees c.args.shelf.now in
     let same : CommandValue = record { word = words.Help; names = seen.names; options = seen.options } in
     let text = help-is (Some c.in-Some.text.now) _ seen.names c.as_slice.ensures.names c.in-Some.ensures in
-    let is = same-built seen words.Help seen.names c.in-Help.is refl
+    let is = same-known seen words.Help seen.names c.in-Help.is refl
     ∙ ap (λ (t : Option (List ℕ)). cond (is_some t) (Some same) None) text in
-    runs-command first _ _ _ _ _ _ _ (built seen) (Some same) is (record {
+    runs-command first _ _ _ _ _ _ _ (known seen) (Some same) is (record {
       meets = rw text (meets-under _ _ _ _ _ _ _ _ _ _ (λ t. tt) (λ r. absurd r) (λ o. o) c.print.ensures.meets);
       ends = c.print.ensures.ends;
       asked = asks-prefix-none first first [] refl;
@@ -120,15 +120,15 @@ returns-in-None g c =
     let seen = command_seen c.args.command in
     let same : CommandValue = record { word = words.Help; names = seen.names; options = seen.options } in
     let text = help-is None _ seen.names c.as_slice.ensures.names c.in-None.ensures in
-    runs-no-command (g.S.Slots.sees c.args.shelf.now) _ _ _ (built seen)
-    (same-built seen words.Help seen.names c.in-Help.is refl ∙ ap (λ (t : Option (List ℕ)). cond (is_some t) (Some same) None) text)
+    runs-no-command (g.S.Slots.sees c.args.shelf.now) _ _ _ (known seen)
+    (same-known seen words.Help seen.names c.in-Help.is refl ∙ ap (λ (t : Option (List ℕ)). cond (is_some t) (Some same) None) text)
 
 pub returns-in-Version : goal.returns-in-Version
 returns-in-Version g c =
     let seen = command_seen c.args.command in
     let first = g.S.Slots.sees c.args.shelf.now in
-    runs-command first _ _ _ _ _ _ _ (built seen) _
-    (same-built seen words.Version [] c.in-Version.is (no-name seen words.Version c.requires.range c.in-Version.is refl)) (record {
+    runs-command first _ _ _ _ _ _ _ (known seen) _
+    (same-known seen words.Version [] c.in-Version.is (no-name seen words.Version c.requires.range c.in-Version.is refl)) (record {
       meets = meets-under _ _ _ _ _ _ _ _ _ _ (λ t. tt) (λ r. absurd r) (λ o. o) c.print-in-Version.ensures.meets;
       ends = c.print-in-Version.ensures.ends;
       asked = asks-prefix-none first first [] refl;
@@ -143,7 +143,7 @@ returns-in-Check g c =
     let seen = command_seen c.args.command in
     let names = c.name-first.result.now ∷ [] in
     let is = sole-name seen words.Check c.requires.range c.in-Check.is refl refl c.name-first.result.now c.name-first.ensures in
-    runs-command (g.S.Slots.sees c.args.shelf.now) _ _ _ _ _ _ _ (built seen) _ (same-built seen words.Check names c.in-Check.is is)
+    runs-command (g.S.Slots.sees c.args.shelf.now) _ _ _ _ _ _ _ (known seen) _ (same-known seen words.Check names c.in-Check.is is)
     (record {
       meets = c.check.ensures.meets;
       ends = c.check.ensures.ends;
@@ -159,7 +159,7 @@ returns-in-Upgrade g c =
     let seen = command_seen c.args.command in
     let names = c.name-first.result.now ∷ [] in
     let is = sole-name seen words.Upgrade c.requires.range c.in-Upgrade.is refl refl c.name-first.result.now c.name-first.ensures in
-    runs-command (g.S.Slots.sees c.args.shelf.now) _ _ _ _ _ _ _ (built seen) _ (same-built seen words.Upgrade names c.in-Upgrade.is is)
+    runs-command (g.S.Slots.sees c.args.shelf.now) _ _ _ _ _ _ _ (known seen) _ (same-known seen words.Upgrade names c.in-Upgrade.is is)
     (record {
       meets = c.upgrade.ensures.meets;
       ends = c.upgrade.ensures.ends;
@@ -171,14 +171,10 @@ returns-in-Upgrade g c =
     })
 
 pub returns-in-Vote : goal.returns-in-Vote
-returns-in-Vote g c =
-    let seen = command_seen c.args.command in
-    runs-no-command (g.S.Slots.sees c.args.shelf.now) _ _ _ (built seen) (same-built seen words.Vote seen.names c.in-Vote.is refl)
+returns-in-Vote g c = c.vote_by.ensures _
 
 pub returns-in-Chain : goal.returns-in-Chain
-returns-in-Chain g c =
-    let seen = command_seen c.args.command in
-    runs-no-command (g.S.Slots.sees c.args.shelf.now) _ _ _ (built seen) (same-built seen words.Chain seen.names c.in-Chain.is refl)
+returns-in-Chain g c = c.chain_by.ensures _
 
 pub workers_of-requires : goal.workers_of-requires
 workers_of-requires g c = workers-fit (command_seen c.args.command) c.requires.range
@@ -194,7 +190,7 @@ returns-in-Replay g c =
     let seen = command_seen c.args.command in
     let names = c.name-first.result.now ∷ [] in
     let is = sole-name seen words.Replay c.requires.range c.in-Replay.is refl refl c.name-first.result.now c.name-first.ensures in
-    runs-command (g.S.Slots.sees c.args.shelf.now) _ _ _ _ _ _ _ (built seen) _ (same-built seen words.Replay names c.in-Replay.is is)
+    runs-command (g.S.Slots.sees c.args.shelf.now) _ _ _ _ _ _ _ (known seen) _ (same-known seen words.Replay names c.in-Replay.is is)
     (record {
       meets = c.replay.ensures.meets;
       ends = c.replay.ensures.ends;
@@ -217,8 +213,8 @@ pub returns-in-Compare : goal.returns-in-Compare
 returns-in-Compare g c =
     let seen = command_seen c.args.command in
     let names = c.as_slice-in-Compare.ensures.names in
-    runs-command (g.S.Slots.sees c.args.shelf.now) _ _ _ _ _ _ _ (built seen) _
-    (same-built seen words.Compare _ c.in-Compare.is (sym names)) (record {
+    runs-command (g.S.Slots.sees c.args.shelf.now) _ _ _ _ _ _ _ (known seen) _
+    (same-known seen words.Compare _ c.in-Compare.is (sym names)) (record {
       meets = c.compare.ensures.meets;
       ends = c.compare.ensures.ends;
       asked = c.compare.ensures.asked;
@@ -233,7 +229,7 @@ returns-then-command g c =
     let seen = command_seen c.args.command in
     let names = c.name-first.result.now ∷ [] in
     let is = sole-name seen words.Salvage c.requires.range c.in-Salvage.is refl refl c.name-first.result.now c.name-first.ensures in
-    runs-command (g.S.Slots.sees c.args.shelf.now) _ _ _ _ _ _ _ (built seen) _
+    runs-command (g.S.Slots.sees c.args.shelf.now) _ _ _ _ _ _ _ (known seen) _
     (same-reports seen words.Salvage names true c.in-Salvage.is is c.if-command.true) (record {
       meets = c.salvage_reports.ensures.meets;
       ends = c.salvage_reports.ensures.ends;
@@ -249,7 +245,7 @@ returns-else-command g c =
     let seen = command_seen c.args.command in
     let names = c.name-first.result.now ∷ [] in
     let is = sole-name seen words.Salvage c.requires.range c.in-Salvage.is refl refl c.name-first.result.now c.name-first.ensures in
-    runs-command (g.S.Slots.sees c.args.shelf.now) _ _ _ _ _ _ _ (built seen) _
+    runs-command (g.S.Slots.sees c.args.shelf.now) _ _ _ _ _ _ _ (known seen) _
     (same-reports seen words.Salvage names false c.in-Salvage.is is c.if-command.false) (record {
       meets = c.salvage.ensures.meets;
       ends = c.salvage.ensures.ends;

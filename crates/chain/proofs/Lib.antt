@@ -1,0 +1,5 @@
+pub mod Samples
+pub mod Linking
+pub mod Running
+pub mod Ending
+pub mod Told

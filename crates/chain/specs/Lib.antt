@@ -1,0 +1,5 @@
+pub mod Derived
+pub mod Chained
+pub mod Ends
+pub mod Linked
+pub mod Begun

@@ -1,0 +1,3 @@
+mod Chained
+mod Second
+mod First

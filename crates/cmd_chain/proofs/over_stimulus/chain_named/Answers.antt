@@ -1,0 +1,48 @@
+use Rattle.std.proofs.Common.{[], ◌∷◌, ap}
+use Rattle.std.specs.Prelude.{IsSome}
+use Rattle.det_edges.specs.Count.{Rose}
+use Rattle.det_edges.specs.StdSink.{NothingTold}
+use Rattle.det_edges.specs.Traffic.{SinkRun, shelf_run, sink_run}
+use Rattle.det_edges.proofs.Counts.{rose-none}
+use Rattle.det_edges.proofs.Opening.{asks-all, asks-then-kept, opens-left}
+use Rattle.cli_answers.specs.Outcome.{told}
+use Rattle.cli_answers.proofs.Meeting.{meets-unopened}
+use Rattle.cli_answers.proofs.Telling.{held}
+use Rattle.cmd_record.proofs.Meeting.{rose-later}
+use Rattle.cmd_chain.specs.Chain.{Client}
+use Rattle.cmd_chain.proofs.Chained.{met-by-kinds, kept-by-kinds, met-none}
+use Rattle.cmd_chain.proofs.over_stimulus.chain_named.Goals as goal
+
+-- the first record, which nobody takes
+abbrev untaken : SinkRun
+untaken = record { before = NothingTold; after = NothingTold; faults_before = 0; faults_after = 0 }
+
+pub returns-in-Err-clause-meets : goal.returns-in-Err-clause-meets
+returns-in-Err-clause-meets g c =
+    rw c.from.ensures (meets-unopened _ _ _ _ _ _ c.in-Err.ensures.cause c.in-Err.ensures.writes_nothing)
+
+pub returns-in-Ok-with_two_crews-clause-meets : goal.returns-in-Ok-with_two_crews-clause-meets
+returns-in-Ok-with_two_crews-clause-meets g c =
+    let first = g.S.Slots.sees c.args.shelf.now in
+    let name = c.args.stimulus.now in
+    let opened = c.in-Ok.ensures in
+    let client : Client = record { kind = c.args.first.run.kind; profile = c.args.first.run.profile } in
+    let behind : Client = record { kind = c.args.second.run.kind; profile = c.args.second.run.profile } in
+    let shelf = shelf_run g.S.Slots.sees g.S.Slots.stays c.open_input.new.self c.with_two_crews.new.shelf in
+    let out = sink_run g.K.Sink.took g.K.Sink.faults c.args.out.now c.with_two_crews.new.second_sink in
+    met-by-kinds (told first name) c.in-Ok.slot shelf untaken out (IsSome (first.holds name)) (Rose first.faults shelf.last.faults)
+    (λ t. opens-left (told first name) opened.opens (held (first.holds name) t)) (rose-none 0) (rose-later _ _ _ opened.counted)
+    client behind c.in-Ok-with_two_crews.chained c.in-Ok-with_two_crews.ensures.given c.answer_of.result c.answer_of.ensures.is
+
+pub returns-in-Ok-with_two_crews-clause-asked : goal.returns-in-Ok-with_two_crews-clause-asked
+returns-in-Ok-with_two_crews-clause-asked g c =
+    let client : Client = record { kind = c.args.first.run.kind; profile = c.args.first.run.profile } in
+    let behind : Client = record { kind = c.args.second.run.kind; profile = c.args.second.run.profile } in
+    let shelf = shelf_run g.S.Slots.sees g.S.Slots.stays c.open_input.new.self c.with_two_crews.new.shelf in
+    let out = sink_run g.K.Sink.took g.K.Sink.faults c.args.out.now c.with_two_crews.new.second_sink in
+    asks-all _ _ (c.args.stimulus.now ∷ []) (asks-then-kept c.in-Ok.ensures.asked
+    (kept-by-kinds c.in-Ok.slot shelf untaken out client behind c.in-Ok-with_two_crews.chained c.in-Ok-with_two_crews.ensures.given))
+
+pub returns-in-Err-with_two_crews-clause-meets : goal.returns-in-Err-with_two_crews-clause-meets
+returns-in-Err-with_two_crews-clause-meets g c =
+    met-none _ _ _ _ _ _ (ap g.K.Sink.took c.in-Err-with_two_crews.ensures.second_sink)

@@ -1,0 +1,64 @@
+-- What `vote` gives of copies of a record.
+use Rattle.std.specs.Prelude.{ℕ, true, List, ◌++◌, length, codes, decimal, Option, Some, None}
+use Rattle.std.specs.Prelude.{Result, Ok, Err}
+use Rattle.std.specs.List.{flat_map}
+use Rattle.det_edges.specs.declared.failure.Stopped.{Stopped}
+use Rattle.det_edges.specs.declared.failure.Stopped.TheVariants.{Refused, Failed}
+use Rattle.record_grammar.specs.declared.item.Item.{Item}
+use Rattle.record_reader.specs.Salvaged.{cycles_of}
+use Rattle.record_text.specs.Words.{number_line}
+use Rattle.voter.specs.declared.outcome.Dissenter.{Dissenter}
+use Rattle.voter.specs.declared.outcome.NoMajority as voting
+use Rattle.voter.specs.declared.outcome.Vote.{Vote}
+use Rattle.voter.specs.Majority.{majority, dissent, common, spelled_items}
+use Rattle.cli_answers.specs.declared.answer.Answer.{Answer}
+use Rattle.cli_answers.specs.declared.answer.Answer.TheVariants.{Done, NoMajority}
+use Rattle.cli_answers.specs.Answers.{failed}
+use Rattle.cli_answers.specs.Ends.{Work, writes_alone}
+use Rattle.cli_answers.specs.Outcome.{Outcome, refusal}
+
+-- it takes the majority of copies
+abbrev pub vote_work : Work
+vote_work = record writes_alone { votes = true }
+
+-- what a vote is answered
+abbrev pub answer_of : Result Vote (Stopped voting.NoMajority) → Answer
+answer_of (Ok vote) = Done
+answer_of (Err (Refused split)) = NoMajority split.row
+answer_of (Err (Failed failure)) = failed failure
+
+-- ---- the record
+
+abbrev pub voted_by : Option (List Item) → List (List ℕ) → Outcome
+voted_by (Some whole) copies = record { answer = Done; bytes = spelled_items whole }
+voted_by None copies = record {
+  answer = NoMajority (length (common copies));
+  bytes = spelled_items (common copies);
+}
+
+-- the majority's record, or the rows that more than half of the copies have in common and the
+-- number of the next one
+abbrev pub vote_outcome : List (List ℕ) → Outcome
+vote_outcome copies = voted_by (majority copies) copies
+
+-- ---- the dissenters
+
+abbrev pub dissenter_line : Dissenter → List ℕ
+dissenter_line d =
+    codes "copy " ++ (decimal d.copy ++ (codes " row " ++ (decimal d.row ++ codes "\n")))
+
+-- how many cycles the majority's record has, and a line for each dissenter
+abbrev pub dissent_text : ℕ → List Dissenter → List ℕ
+dissent_text cycles dissenters =
+    number_line (codes "agree") cycles ++ flat_map dissenter_line dissenters
+
+abbrev pub dissent_by : Option (List Item) → List (List ℕ) → Outcome
+dissent_by (Some whole) copies = record {
+  answer = Done;
+  bytes = dissent_text (cycles_of whole) (dissent whole 0 copies);
+}
+dissent_by None copies = refusal (NoMajority (length (common copies)))
+
+-- what is printed in place of the record
+abbrev pub dissent_outcome : List (List ℕ) → Outcome
+dissent_outcome copies = dissent_by (majority copies) copies

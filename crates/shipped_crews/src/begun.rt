@@ -1,0 +1,76 @@
+//! A run that has just begun, and its crew.
+ghost use Rattle.std.specs.Prelude.{◌≡◌, length, None, IfOk};
+ghost use Rattle.run_writer.specs.Recording.{IsNew};
+ghost use Rattle.worker_pool.specs.Crews.{room_name};
+
+use crate::workers::{Workers, busy};
+use cycle_engine::Engine;
+use det_values::{OutOfMemory, Profile};
+use job_trait::Job;
+use run_writer::{Recording, Runner};
+use std::thread::Threads;
+use tickets::Room;
+use worker_pool::{Crew, CrewRoom, Gate};
+
+/// A run of which nothing was written yet, a room for its crew, and the workers that share it.
+#[derive(Drop)]
+pub(crate) struct Begun<'r, J: Job, R, G> {
+    pub(crate) recording: Recording<J>,
+    pub(crate) room: CrewRoom<J>,
+    pub(crate) workers: Workers<'r, R, G>,
+}
+
+/// Begins the run of a job, for as many of the workers as there are blocks of elements.
+pub(crate) fn begin<'r, J: Job, R, G>(
+    workers: &Workers<'r, R, G>,
+    profile: Profile,
+) -> Result<Begun<'r, J, R, G>, OutOfMemory>
+    requires good { J.meaning.bad_param profile.params (length profile.events) ≡ None }
+    ensures new { IfOk result (λ begun. IsNew J.meaning begun.recording) }
+    ensures profile { IfOk result (λ begun. begun.recording.profile ≡ profile) }
+{
+    let events = profile.events.len() as u16;
+    let Ok(job) = J::make(&profile.params, events) else {
+        unreachable!()
+    };
+    let engine = Engine::start(workers.alloc, job, &profile)?;
+    let recording = Recording::of(workers.alloc, engine, profile);
+    let room = CrewRoom::<J>::new(workers.alloc)?;
+    let workers = busy(workers, recording.elements());
+    Ok(Begun {
+        recording,
+        room,
+        workers,
+    })
+}
+
+/// The run with a crew, whose threads are started in its room. The crew is ended by `stop`.
+pub(crate) fn crewed<J, N, R, G>(
+    begun: Begun<'_, J, R, G>,
+) -> Result<Runner<J, Crew<J, N, G>>, OutOfMemory>
+where
+    J: Job + Send + Sync + 'static,
+    J::Globals: Send + 'static,
+    J::Element: Send + Sync + 'static,
+    J::Plan: Send + Sync + 'static,
+    J::Part: Send + Sync + 'static,
+    N: Room + Send + Sync + 'static,
+    R: Threads,
+    G: Gate + Send + Sync + 'static,
+    requires { room_name begun.room ≡ N.table }
+    ensures { IfOk result (λ runner. runner.recording ≡ begun.entry.recording) }
+{
+    let Begun {
+        recording,
+        room,
+        workers,
+    } = begun;
+    let pool = Crew::<J, N, G>::start(
+        workers.rt,
+        workers.alloc,
+        room,
+        workers.count,
+        workers.gate,
+    )?;
+    Ok(Runner { recording, pool })
+}

@@ -1,0 +1,349 @@
+//! The runs of two shipped jobs, and a crew for each.
+ghost use Rattle.std.specs.Prelude.{◌≡◌, length, None, IfOk, OnErr};
+ghost use Rattle.det_edges.specs.Traffic.{shelf_run, sink_run};
+ghost use Rattle.run_writer.specs.Recording.{IsNew};
+ghost use Rattle.shipped_jobs.specs.Kinds.{bad_param, of_kind};
+ghost use Rattle.worker_pool.specs.Crews.{room_name};
+
+use crate::begun::{Begun, begin, crewed};
+use crate::crews::ShippedRun;
+use crate::visit_two::VisitTwo;
+use crate::workers::Workers;
+use det_edges::{Sink, Slots};
+use det_values::{JobKind, OutOfMemory};
+use job_trait::{Job, Pool};
+use run_writer::Runner;
+use shipped_jobs::{Bank, Cloud, Guard};
+use std::marker::Brand;
+use std::thread::Threads;
+use tickets::Room;
+use worker_pool::{Crew, Gate};
+
+/// A run, and the workers for it.
+#[derive(Drop)]
+pub struct StaffedRun<'r, R, G> {
+    pub run: ShippedRun,
+    pub workers: Workers<'r, R, G>,
+}
+
+/// Does it with a second run by a crew in its room. The crew's threads end before the answer is
+/// given.
+fn second_in_room<A, P, B, N, V, S, K, L, R, G>(
+    first: &mut Runner<A, P>,
+    second: Begun<'_, B, R, G>,
+    visitor: V,
+    shelf: &mut S,
+    first_sink: &mut K,
+    second_sink: &mut L,
+) -> Result<V::Answer, OutOfMemory>
+where
+    A: Job,
+    P: Pool<A>,
+    B: Job + Send + Sync + 'static,
+    B::Globals: Send + 'static,
+    B::Element: Send + Sync + 'static,
+    B::Plan: Send + Sync + 'static,
+    B::Part: Send + Sync + 'static,
+    N: Room + Send + Sync + 'static,
+    V: VisitTwo,
+    S: Slots,
+    K: Sink,
+    L: Sink,
+    R: Threads,
+    G: Gate + Send + Sync + 'static,
+    requires first { IsNew A.meaning first.old.recording }
+    requires second { IsNew B.meaning second.recording }
+    requires room { room_name second.room ≡ N.table }
+    requires can { V.Can visitor first.old.recording.profile second.recording.profile
+        (S.sees shelf.old) }
+    ensures given { IfOk result (λ answer. V.Gives
+        _ _ _ _ _ A.meaning first.old.recording.profile
+        _ _ _ _ _ B.meaning second.entry.recording.profile visitor
+        (shelf_run S.sees S.stays shelf.old shelf.new)
+        (sink_run K.took K.faults first_sink.old first_sink.new)
+        (sink_run L.took L.faults second_sink.old second_sink.new) answer) }
+    ensures shelf { OnErr result (shelf.new ≡ shelf.old) }
+    ensures first_sink { OnErr result (first_sink.new ≡ first_sink.old) }
+    ensures second_sink { OnErr result (second_sink.new ≡ second_sink.old) }
+{
+    let rt = second.workers.rt;
+    let mut second = crewed::<B, N, R, G>(second)?;
+    let answer = visitor.visit_two(first, &mut second, shelf, first_sink, second_sink);
+    second.pool.stop(rt);
+    Ok(answer)
+}
+
+/// Does it with the run of a job beside a first one.
+fn second_at<A, P, B, V, S, K, L, R, G>(
+    first: &mut Runner<A, P>,
+    second: StaffedRun<'_, R, G>,
+    visitor: V,
+    shelf: &mut S,
+    first_sink: &mut K,
+    second_sink: &mut L,
+) -> Result<V::Answer, OutOfMemory>
+where
+    A: Job,
+    P: Pool<A>,
+    B: Job + Send + Sync + 'static,
+    B::Globals: Send + 'static,
+    B::Element: Send + Sync + 'static,
+    B::Plan: Send + Sync + 'static,
+    B::Part: Send + Sync + 'static,
+    V: VisitTwo,
+    S: Slots,
+    K: Sink,
+    L: Sink,
+    R: Threads,
+    G: Gate + Send + Sync + 'static,
+    requires first { IsNew A.meaning first.old.recording }
+    requires second { B.meaning.bad_param second.run.profile.params
+        (length second.run.profile.events) ≡ None }
+    requires can { V.Can visitor first.old.recording.profile second.run.profile
+        (S.sees shelf.old) }
+    ensures given { IfOk result (λ answer. V.Gives
+        _ _ _ _ _ A.meaning first.old.recording.profile
+        _ _ _ _ _ B.meaning second.entry.run.profile visitor
+        (shelf_run S.sees S.stays shelf.old shelf.new)
+        (sink_run K.took K.faults first_sink.old first_sink.new)
+        (sink_run L.took L.faults second_sink.old second_sink.new) answer) }
+    ensures shelf { OnErr result (shelf.new ≡ shelf.old) }
+    ensures first_sink { OnErr result (first_sink.new ≡ first_sink.old) }
+    ensures second_sink { OnErr result (second_sink.new ≡ second_sink.old) }
+{
+    let StaffedRun { run, workers } = second;
+    let begun = begin::<B, R, G>(&workers, run.profile)?;
+    second_in_room::<A, P, B, Brand, V, S, K, L, R, G>(
+        first,
+        begun,
+        visitor,
+        shelf,
+        first_sink,
+        second_sink,
+    )
+}
+
+/// Does it with the run of the job of a kind beside a first one.
+fn second_of_kind<A, P, V, S, K, L, R, G>(
+    first: &mut Runner<A, P>,
+    second: StaffedRun<'_, R, G>,
+    visitor: V,
+    shelf: &mut S,
+    first_sink: &mut K,
+    second_sink: &mut L,
+) -> Result<V::Answer, OutOfMemory>
+where
+    A: Job,
+    P: Pool<A>,
+    V: VisitTwo,
+    S: Slots,
+    K: Sink,
+    L: Sink,
+    R: Threads,
+    G: Gate + Send + Sync + 'static,
+    requires first { IsNew A.meaning first.old.recording }
+    requires second { bad_param second.run.kind second.run.profile.params
+        (length second.run.profile.events) ≡ None }
+    requires can { V.Can visitor first.old.recording.profile second.run.profile
+        (S.sees shelf.old) }
+    ensures given { IfOk result (λ answer. of_kind (λ t h f k q n. V.Gives
+        _ _ _ _ _ A.meaning first.old.recording.profile
+        t h f k q n second.entry.run.profile visitor
+        (shelf_run S.sees S.stays shelf.old shelf.new)
+        (sink_run K.took K.faults first_sink.old first_sink.new)
+        (sink_run L.took L.faults second_sink.old second_sink.new) answer) second.entry.run.kind) }
+    ensures shelf { OnErr result (shelf.new ≡ shelf.old) }
+    ensures first_sink { OnErr result (first_sink.new ≡ first_sink.old) }
+    ensures second_sink { OnErr result (second_sink.new ≡ second_sink.old) }
+{
+    match second.run.kind {
+        JobKind::Bank => second_at::<A, P, Bank, V, S, K, L, R, G>(
+            first,
+            second,
+            visitor,
+            shelf,
+            first_sink,
+            second_sink,
+        ),
+        JobKind::Cloud => second_at::<A, P, Cloud, V, S, K, L, R, G>(
+            first,
+            second,
+            visitor,
+            shelf,
+            first_sink,
+            second_sink,
+        ),
+        JobKind::Guard => second_at::<A, P, Guard, V, S, K, L, R, G>(
+            first,
+            second,
+            visitor,
+            shelf,
+            first_sink,
+            second_sink,
+        ),
+    }
+}
+
+/// Does it with a first run by a crew in its room, and with a second run. The crew's threads end
+/// before the answer is given.
+fn first_in_room<A, N, V, S, K, L, R, G>(
+    first: Begun<'_, A, R, G>,
+    second: StaffedRun<'_, R, G>,
+    visitor: V,
+    shelf: &mut S,
+    first_sink: &mut K,
+    second_sink: &mut L,
+) -> Result<V::Answer, OutOfMemory>
+where
+    A: Job + Send + Sync + 'static,
+    A::Globals: Send + 'static,
+    A::Element: Send + Sync + 'static,
+    A::Plan: Send + Sync + 'static,
+    A::Part: Send + Sync + 'static,
+    N: Room + Send + Sync + 'static,
+    V: VisitTwo,
+    S: Slots,
+    K: Sink,
+    L: Sink,
+    R: Threads,
+    G: Gate + Send + Sync + 'static,
+    requires first { IsNew A.meaning first.recording }
+    requires room { room_name first.room ≡ N.table }
+    requires second { bad_param second.run.kind second.run.profile.params
+        (length second.run.profile.events) ≡ None }
+    requires can { V.Can visitor first.recording.profile second.run.profile (S.sees shelf.old) }
+    ensures given { IfOk result (λ answer. of_kind (λ t h f k q n. V.Gives
+        _ _ _ _ _ A.meaning first.entry.recording.profile
+        t h f k q n second.entry.run.profile visitor
+        (shelf_run S.sees S.stays shelf.old shelf.new)
+        (sink_run K.took K.faults first_sink.old first_sink.new)
+        (sink_run L.took L.faults second_sink.old second_sink.new) answer) second.entry.run.kind) }
+    ensures shelf { OnErr result (shelf.new ≡ shelf.old) }
+    ensures first_sink { OnErr result (first_sink.new ≡ first_sink.old) }
+    ensures second_sink { OnErr result (second_sink.new ≡ second_sink.old) }
+{
+    let rt = first.workers.rt;
+    let mut first = crewed::<A, N, R, G>(first)?;
+    let answer = second_of_kind::<A, Crew<A, N, G>, V, S, K, L, R, G>(
+        &mut first,
+        second,
+        visitor,
+        shelf,
+        first_sink,
+        second_sink,
+    );
+    first.pool.stop(rt);
+    answer
+}
+
+/// Does it with the run of a job and with a second run.
+fn first_at<A, V, S, K, L, R, G>(
+    first: StaffedRun<'_, R, G>,
+    second: StaffedRun<'_, R, G>,
+    visitor: V,
+    shelf: &mut S,
+    first_sink: &mut K,
+    second_sink: &mut L,
+) -> Result<V::Answer, OutOfMemory>
+where
+    A: Job + Send + Sync + 'static,
+    A::Globals: Send + 'static,
+    A::Element: Send + Sync + 'static,
+    A::Plan: Send + Sync + 'static,
+    A::Part: Send + Sync + 'static,
+    V: VisitTwo,
+    S: Slots,
+    K: Sink,
+    L: Sink,
+    R: Threads,
+    G: Gate + Send + Sync + 'static,
+    requires first { A.meaning.bad_param first.run.profile.params
+        (length first.run.profile.events) ≡ None }
+    requires second { bad_param second.run.kind second.run.profile.params
+        (length second.run.profile.events) ≡ None }
+    requires can { V.Can visitor first.run.profile second.run.profile (S.sees shelf.old) }
+    ensures given { IfOk result (λ answer. of_kind (λ t h f k q n. V.Gives
+        _ _ _ _ _ A.meaning first.entry.run.profile
+        t h f k q n second.entry.run.profile visitor
+        (shelf_run S.sees S.stays shelf.old shelf.new)
+        (sink_run K.took K.faults first_sink.old first_sink.new)
+        (sink_run L.took L.faults second_sink.old second_sink.new) answer) second.entry.run.kind) }
+    ensures shelf { OnErr result (shelf.new ≡ shelf.old) }
+    ensures first_sink { OnErr result (first_sink.new ≡ first_sink.old) }
+    ensures second_sink { OnErr result (second_sink.new ≡ second_sink.old) }
+{
+    let StaffedRun { run, workers } = first;
+    let begun = begin::<A, R, G>(&workers, run.profile)?;
+    first_in_room::<A, Brand, V, S, K, L, R, G>(
+        begun,
+        second,
+        visitor,
+        shelf,
+        first_sink,
+        second_sink,
+    )
+}
+
+/// Hands a visitor the runs of the jobs of two kinds, each with a crew of its own, as `with_crew`
+/// does it with one: the threads of both crews are kept from the first pass to the last, no more of
+/// a crew's than there are blocks of its run's elements, and none is left running at any answer.
+/// Where memory couldn't be had nothing was done.
+pub fn with_two_crews<V, S, K, L, R, G>(
+    first: StaffedRun<'_, R, G>,
+    second: StaffedRun<'_, R, G>,
+    visitor: V,
+    shelf: &mut S,
+    first_sink: &mut K,
+    second_sink: &mut L,
+) -> Result<V::Answer, OutOfMemory>
+where
+    V: VisitTwo,
+    S: Slots,
+    K: Sink,
+    L: Sink,
+    R: Threads,
+    G: Gate + Send + Sync + 'static,
+    requires first { bad_param first.run.kind first.run.profile.params
+        (length first.run.profile.events) ≡ None }
+    requires second { bad_param second.run.kind second.run.profile.params
+        (length second.run.profile.events) ≡ None }
+    requires can { V.Can visitor first.run.profile second.run.profile (S.sees shelf.old) }
+    ensures given { IfOk result (λ answer. of_kind (λ s g e l p m.
+        of_kind (λ t h f k q n. V.Gives
+        s g e l p m first.entry.run.profile
+        t h f k q n second.entry.run.profile visitor
+        (shelf_run S.sees S.stays shelf.old shelf.new)
+        (sink_run K.took K.faults first_sink.old first_sink.new)
+        (sink_run L.took L.faults second_sink.old second_sink.new) answer) second.entry.run.kind)
+        first.entry.run.kind) }
+    ensures shelf { OnErr result (shelf.new ≡ shelf.old) }
+    ensures first_sink { OnErr result (first_sink.new ≡ first_sink.old) }
+    ensures second_sink { OnErr result (second_sink.new ≡ second_sink.old) }
+{
+    match first.run.kind {
+        JobKind::Bank => first_at::<Bank, V, S, K, L, R, G>(
+            first,
+            second,
+            visitor,
+            shelf,
+            first_sink,
+            second_sink,
+        ),
+        JobKind::Cloud => first_at::<Cloud, V, S, K, L, R, G>(
+            first,
+            second,
+            visitor,
+            shelf,
+            first_sink,
+            second_sink,
+        ),
+        JobKind::Guard => first_at::<Guard, V, S, K, L, R, G>(
+            first,
+            second,
+            visitor,
+            shelf,
+            first_sink,
+            second_sink,
+        ),
+    }
+}

@@ -1,0 +1,10 @@
+pub mod Counting
+pub mod Prefixes
+pub mod Held
+pub mod Spelled
+pub mod Parting
+pub mod InTurn
+pub mod Told
+pub mod Deciding
+pub mod Leaving
+pub mod Loop

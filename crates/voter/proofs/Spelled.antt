@@ -1,0 +1,132 @@
+-- The spelling of the first items of a record, and of a whole one.
+use Rattle.std.proofs.Common.{◌≡◌, ◌-◌, ℕ, List, [], ◌∷◌, ◌++◌, length, None, refl, sym, ap, subst, ◌∙◌, append_assoc, append-nil}
+use Rattle.std.specs.List.{flat_map}
+use Rattle.std.proofs.lemmas.Grind.{flat_map-append}
+use Rattle.std.proofs.lemmas.List.Concat.{flat_map-cons}
+use Rattle.det_edges.specs.Prefix.{IsPrefix}
+use Rattle.det_edges.proofs.Prefixes.{prefix-none}
+use Rattle.det_values.specs.declared.frames.Frame.{Frame}
+use Rattle.det_values.specs.declared.frames.Frame.TheVariants as frames
+use Rattle.det_values.specs.Values.{ProfileValue}
+use Rattle.record_grammar.specs.declared.place.Layout.{Layout}
+use Rattle.record_grammar.specs.declared.place.Place.{Place}
+use Rattle.record_grammar.specs.declared.place.Place.TheVariants as places
+use Rattle.record_grammar.specs.declared.item.Item.{Item}
+use Rattle.record_grammar.specs.declared.item.Item.TheVariants as items
+use Rattle.record_grammar.specs.Places.{after, layout_of}
+use Rattle.record_grammar.specs.Laws.{IsWhole, MayStand, AreItems, item_spelling, items_spelling}
+use Rattle.record_grammar.specs.Read.{Read}
+use Rattle.record_grammar.specs.Record.{Decoded, decoded, with_next, items as items_in, fault as fault_in}
+use Rattle.record_grammar.specs.Spelling.{AreBytes, spelled, spelled_header, spelled_frame}
+use Rattle.record_grammar.proofs.Leads.{all_leads}
+use Rattle.record_laws.proofs.Whole.{nil_more, all_leads_on, decoded_is}
+use Rattle.record_reader.specs.Keeping.{layout_behind}
+use Rattle.record_reader.proofs.Items.{NextIs}
+use Rattle.voter.specs.Majority.{frame_of, spelled_items}
+use Rattle.voter.specs.Spelled.{piece_of}
+
+-- ---- one item more
+
+spelled-append : (p : ProfileValue) (xs ys : List Item) → spelled p (flat_map frame_of (xs ++ ys)) ≡ spelled p (flat_map frame_of xs)
+    ++ flat_map (spelled_frame p.format) (flat_map frame_of ys)
+spelled-append p xs ys =
+    let one : flat_map frame_of (xs ++ ys) ≡ flat_map frame_of xs ++ flat_map frame_of ys = flat_map-append frame_of xs ys in
+    let two : flat_map (spelled_frame p.format) (flat_map frame_of xs ++ flat_map frame_of ys)
+    ≡ flat_map (spelled_frame p.format) (flat_map frame_of xs) ++ flat_map (spelled_frame p.format) (flat_map frame_of ys) =
+    flat_map-append (spelled_frame p.format) (flat_map frame_of xs) (flat_map frame_of ys) in
+    ap (λ (fs : List Frame). spelled_header p ++ flat_map (spelled_frame p.format) fs) one
+    ∙ ap (λ (bytes : List ℕ). spelled_header p ++ bytes) two
+    ∙ sym (append_assoc (spelled_header p) (flat_map (spelled_frame p.format) (flat_map frame_of xs))
+    (flat_map (spelled_frame p.format) (flat_map frame_of ys)))
+
+pub spelled-next : (given : List Item) (x : Item) → NextIs given x → spelled_items (given ++ x ∷ []) ≡ spelled_items given
+    ++ piece_of (layout_behind given) x
+spelled-next [] (items.Header p) h = append-nil (spelled_header p)
+spelled-next [] (items.Frame f) h = absurd h
+spelled-next (items.Header p ∷ xs) (items.Header q) h = absurd h
+spelled-next (items.Header p ∷ xs) (items.Frame f) h =
+    spelled-append p xs (items.Frame f ∷ [])
+    ∙ ap (λ (bytes : List ℕ). spelled p (flat_map frame_of xs) ++ bytes) (append-nil (spelled_frame p.format f))
+spelled-next (items.Frame f ∷ xs) x h = absurd h
+
+pub spelled-prefix : (a b : List Item) → IsPrefix a b → IsPrefix (spelled_items a) (spelled_items b)
+spelled-prefix [] b p = prefix-none (spelled_items b)
+spelled-prefix (items.Frame f ∷ a) b p = prefix-none (spelled_items b)
+spelled-prefix (items.Header h ∷ a) b p =
+    subst (λ xs. IsPrefix (spelled_items (items.Header h ∷ a)) (spelled_items xs)) p.1
+    (flat_map (spelled_frame h.format) (flat_map frame_of p.0), sym (spelled-append h a p.0))
+
+-- ---- a whole record
+
+-- a place behind a header
+abbrev HasLayout : Layout → Place → Type 0
+HasLayout layout places.Header = ⊥
+HasLayout layout (places.Register other) = other ≡ layout
+HasLayout layout (places.Discover other) = other ≡ layout
+HasLayout layout (places.Init other) = other ≡ layout
+HasLayout layout (places.Runs other before) = other ≡ layout
+HasLayout layout places.End = Unit {0}
+
+keeps-layout : (layout : Layout) (place : Place) (f : Frame) → MayStand place (items.Frame f) → HasLayout layout place
+    → HasLayout layout (after place (items.Frame f))
+keeps-layout layout (places.Register other) frames.Register h b = b
+keeps-layout layout (places.Discover other) frames.Discover h b = b
+keeps-layout layout (places.Init other) (frames.Init elements) h b = b
+keeps-layout layout (places.Runs other before) (frames.Run r) h b = b
+keeps-layout layout (places.Runs other before) frames.Terminate h b = tt
+keeps-layout layout place f h b = elim h [ ]
+
+one-spelled : (layout : Layout) (place : Place) (f : Frame) → MayStand place (items.Frame f) → HasLayout layout place
+    → item_spelling place (items.Frame f) ≡ spelled_frame layout.format f
+one-spelled layout places.Header f h b = absurd b
+one-spelled layout (places.Register other) f h b = ap (λ (l : Layout). spelled_frame l.format f) b
+one-spelled layout (places.Discover other) f h b = ap (λ (l : Layout). spelled_frame l.format f) b
+one-spelled layout (places.Init other) f h b = ap (λ (l : Layout). spelled_frame l.format f) b
+one-spelled layout (places.Runs other before) f h b = ap (λ (l : Layout). spelled_frame l.format f) b
+one-spelled layout places.End f h b = elim h [ ]
+
+no-header : (layout : Layout) (place : Place) (p : ProfileValue) → MayStand place (items.Header p) → HasLayout layout place → ⊥
+no-header layout places.Header p h b = b
+no-header layout (places.Register l) p h b = h
+no-header layout (places.Discover l) p h b = h
+no-header layout (places.Init l) p h b = h
+no-header layout (places.Runs l before) p h b = h
+no-header layout places.End p h b = h
+
+frames-spelled : (layout : Layout) (xs : List Item) (place to : Place) → AreItems place xs to → HasLayout layout place
+    → items_spelling place xs ≡ flat_map (spelled_frame layout.format) (flat_map frame_of xs)
+frames-spelled layout [] place to h b = refl
+frames-spelled layout (items.Header p ∷ xs) place to h b = absurd (no-header layout place p h.0 b)
+frames-spelled layout (items.Frame f ∷ xs) place to h b =
+    let rest = items_spelling (after place (items.Frame f)) xs in
+    ap (λ (bytes : List ℕ). bytes ++ rest) (one-spelled layout place f h.0 b)
+    ∙ ap (λ (bytes : List ℕ). spelled_frame layout.format f ++ bytes) (frames-spelled layout xs (after place (items.Frame f)) to h.1
+    (keeps-layout layout place f h.0 b))
+    ∙ sym (flat_map-cons (spelled_frame layout.format) f (flat_map frame_of xs))
+    ∙ ap (flat_map (spelled_frame layout.format)) (sym (flat_map-cons frame_of (items.Frame f) xs))
+
+not-first : (f : Frame) → MayStand places.Header (items.Frame f) → ⊥
+not-first frames.Register h = h
+not-first frames.Discover h = h
+not-first (frames.Init elements) h = h
+not-first (frames.Run r) h = h
+not-first frames.Terminate h = h
+
+spelling-is : (xs : List Item) (to : Place) → AreItems places.Header xs to → items_spelling places.Header xs ≡ spelled_items xs
+spelling-is [] to h = refl
+spelling-is (items.Frame f ∷ xs) to h = absurd (not-first f h.0)
+spelling-is (items.Header p ∷ xs) to h =
+    ap (λ (bytes : List ℕ). spelled_header p ++ bytes)
+    (frames-spelled (layout_of p) xs (places.Register (layout_of p)) to h.1 refl)
+
+-- a whole record is the spelling of its items
+pub whole-spelled : (bytes : List ℕ) → AreBytes bytes → fault_in bytes ≡ None → bytes ≡ spelled_items (items_in bytes)
+whole-spelled bytes are none = by ((decoded_is bytes are).whole none)
+  where
+    by : IsWhole bytes → bytes ≡ spelled_items (items_in bytes)
+    by (xs, h, spelled) =
+        let d = all_leads xs places.End bytes [] (all_leads_on xs places.End bytes h spelled) in
+        let is : items_in bytes ≡ xs = ap (λ (x : Decoded). x.items) d
+        ∙ ap (λ (r : Read Item). xs ++ (with_next places.End r (decoded (length bytes - length xs))).items) (nil_more places.End)
+        ∙ append-nil xs in
+        spelled ∙ spelling-is xs places.End h ∙ ap spelled_items (sym is)

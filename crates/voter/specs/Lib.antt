@@ -1,0 +1,5 @@
+pub mod Majority
+pub mod Voted
+pub mod Rows
+pub mod Spelled
+pub mod Standing

@@ -1,0 +1,104 @@
+-- All copies behind the items that more than half of them hold.
+use Rattle.std.specs.Prelude.{◌≡◌, ℕ, ◌+◌, List, [], ◌∷◌, ◌++◌, length, true, Option, Some, None}
+use Rattle.std.specs.Prelude.{Result, Ok, Err}
+use Rattle.std.specs.List.{count_by}
+use Rattle.det_edges.specs.Shelf.{ShelfState, IsAtEnd}
+use Rattle.det_edges.specs.declared.failure.Failure.TheVariants.{Write, OutOfMemory}
+use Rattle.det_edges.specs.declared.failure.Stopped.{Stopped}
+use Rattle.det_edges.specs.declared.failure.Stopped.TheVariants.{Refused, Failed}
+use Rattle.record_grammar.specs.declared.item.Item.{Item}
+use Rattle.record_grammar.specs.Record.{items as items_in, fault as fault_in}
+use Rattle.record_reader.specs.Salvaged.{runs_in, cycles_of}
+use Rattle.lockstep.specs.Verdict.{shared}
+use Rattle.lockstep.specs.Compared.{AreLeft}
+use Rattle.voter.specs.declared.outcome.Dissenter.{Dissenter}
+use Rattle.voter.specs.declared.outcome.NoMajority.{NoMajority}
+use Rattle.voter.specs.declared.outcome.Vote.{Vote}
+use Rattle.voter.specs.declared.reading.Voter.{Voter}
+use Rattle.voter.specs.declared.voters.Voters.{Voters}
+use Rattle.voter.specs.Majority.{is_most, majority, common}
+use Rattle.voter.specs.Rows.{is_in_step, AreVoters}
+
+-- more than half of the copies are in step
+abbrev pub AreMost : List Voter → Type 0
+AreMost voters = is_most (count_by is_in_step voters) (length voters) ≡ true
+
+-- the copies in step gave these items, which are counted
+pub record Stand (first now : ShelfState) (given : List Item) (slots : List ℕ) (voters : Voters)
+    : Type 0 where
+  pub readers : AreVoters first now given slots voters.voters.items
+  pub most : AreMost voters.voters.items
+  pub rows : voters.rows ≡ length given
+  pub cycles : voters.cycles ≡ cycles_of given
+
+-- ---- the end
+
+-- a copy is the whole record of these items
+pub record IsRecord (given : List Item) (copy : List ℕ) : Type 0 where
+  pub items : items_in copy ≡ given
+  pub whole : fault_in copy ≡ None
+
+-- a copy left in this row, and isn't the whole record of these items
+pub record IsApart (given : List Item) (number : ℕ) (copy : List ℕ) : Type 0 where
+  pub row : length (shared given (items_in copy)) ≡ number
+  pub other : IsRecord given copy → ⊥
+
+-- a copy at its end, or one that left
+abbrev pub EndIs : Option ℕ → ShelfState → ShelfState → List Item → ℕ → Type 0
+EndIs None first now given slot = IsAtEnd now slot
+    × ((copy : List ℕ) → first.left slot ≡ Some copy → IsRecord given copy)
+EndIs (Some row) first now given slot =
+    (copy : List ℕ) → first.left slot ≡ Some copy → IsApart given row copy
+
+abbrev pub AreEnded : ShelfState → ShelfState → List Item → List ℕ → List Voter → Type 0
+AreEnded first now given [] [] = Unit {0}
+AreEnded first now given (slot ∷ slots) (v ∷ voters) =
+    EndIs v.left first now given slot × AreEnded first now given slots voters
+AreEnded first now given slots voters = ⊥
+
+-- more than half of the copies are the whole record of these items
+pub record Decided (first now : ShelfState) (given : List Item) (slots : List ℕ) (voters : Voters)
+    : Type 0 where
+  pub ended : AreEnded first now given slots voters.voters.items
+  pub most : AreMost voters.voters.items
+  pub cycles : voters.cycles ≡ cycles_of given
+
+-- these are the items that more than half of the copies hold, and no whole record is that of more
+-- than half
+pub record AreSplit (given : List Item) (copies : List (List ℕ)) : Type 0 where
+  pub common : common copies ≡ given
+  pub none : majority copies ≡ None
+
+-- ---- answers
+
+-- the copies go on behind an item, or the vote is decided
+abbrev pub RowTaken : Result (Option Item) (Stopped NoMajority) → ShelfState → ShelfState
+    → List Item → List ℕ → Voters → Type 0
+RowTaken (Ok (Some item)) first now given slots voters =
+    Stand first now (given ++ item ∷ []) slots voters
+RowTaken (Ok None) first now given slots voters = Decided first now given slots voters
+RowTaken (Err (Refused split)) first now given slots voters = (split.row ≡ length given)
+    × ((copies : List (List ℕ)) → AreLeft first slots copies → AreSplit given copies)
+RowTaken (Err (Failed Write)) first now given slots voters = ⊥
+RowTaken (Err (Failed failure)) first now given slots voters = Unit {0}
+
+-- an item more is counted
+abbrev pub Counts : Option Item → Voters → Voters → Type 0
+Counts None old new = new ≡ old
+Counts (Some item) old new =
+    new ≡ record old { rows = old.rows + 1; cycles = old.cycles + runs_in item }
+
+abbrev pub dissenter : Option ℕ → ℕ → List Dissenter
+dissenter None copy = []
+dissenter (Some row) copy = record { copy = copy; row = row } ∷ []
+
+-- the copies, counted on from `copy`, that left
+abbrev pub dissenters : ℕ → List Voter → List Dissenter
+dissenters copy [] = []
+dissenters copy (v ∷ voters) = dissenter v.left copy ++ dissenters (copy + 1) voters
+
+abbrev pub TellsVote : Result Vote (Stopped NoMajority) → Voters → Type 0
+TellsVote (Ok vote) voters =
+    (vote.cycles ≡ voters.cycles) × (vote.dissent ≡ dissenters 0 voters.voters.items)
+TellsVote (Err (Failed OutOfMemory)) voters = Unit {0}
+TellsVote (Err stop) voters = ⊥

@@ -1,0 +1,15 @@
+//! The record of the majority of several copies.
+#![tactic(auto)]
+
+mod majority;
+mod outcome;
+mod reading;
+mod spelling;
+mod voters;
+mod voting;
+
+pub use outcome::{Dissent, Dissenter, NoMajority, Vote};
+pub use voting::vote;
+
+#[cfg(test)]
+mod tests;

@@ -1,0 +1,47 @@
+//! Copies of a record, voted into one.
+ghost use Rattle.std.specs.Prelude.{◌≤◌, length};
+ghost use Rattle.det_edges.specs.Traffic.{ShelfTraffic, SinkTraffic};
+ghost use Rattle.det_edges.specs.Traffic.{shelf_run, sink_run, failure_in};
+ghost use Rattle.lockstep.specs.Compared.{AreDifferent, AreGiven, ReadsAmong};
+ghost use Rattle.voter.specs.Voted.{HasVoted};
+
+use crate::spelling::Speller;
+use crate::voters::Voters;
+use crate::{NoMajority, Vote};
+use det_edges::{Sink, Slots, Stopped};
+use std::alloc::Global;
+
+/// Votes the copies of a record in these slots into one, row by row: a row is the header or a
+/// frame, or how the record ends, and a fault equals nothing. Each row that more than half of all
+/// copies hold behind equal rows is written as it is read. A copy that differs from it isn't read
+/// further. At most one row of each copy is held at a time.
+///
+/// `Refused` tells the first row that not more than half of the copies hold; what was written
+/// before it stands.
+pub fn vote<S: Slots, K: Sink>(
+    alloc: Global,
+    shelf: &mut S,
+    slots: &[u32],
+    sink: &mut K,
+) -> Result<Vote, Stopped<NoMajority>>
+    requires some { 3 ≤ length slots.now }
+    requires few { length slots.now ≤ 7 }
+    requires given { AreGiven (S.sees shelf.old) slots.now }
+    requires different { AreDifferent slots.now }
+    ensures voted { HasVoted result (S.sees shelf.old) (S.sees shelf.new) slots.now
+        (sink_run K.took K.faults sink.old sink.new) }
+    ensures reads { ReadsAmong (S.sees shelf.old) (S.sees shelf.new) slots.now }
+    ensures shelf_traffic { ShelfTraffic (shelf_run S.sees S.stays shelf.old shelf.new)
+        (failure_in result) }
+    ensures sink_traffic { SinkTraffic (sink_run K.took K.faults sink.old sink.new)
+        (failure_in result) }
+{
+    let mut voters = Voters::at(alloc, slots)?;
+    let mut speller = Speller::new(alloc);
+    'rows: loop {
+        let Some(item) = voters.next_row(alloc, shelf)? else {
+            return voters.outcome(alloc);
+        };
+        speller.write(item, sink)?;
+    }
+}
