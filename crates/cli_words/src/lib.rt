@@ -11,10 +11,11 @@ mod reading;
 mod table;
 
 pub use command::Command;
+pub use name_kind::is_name;
 pub use names::Names;
 pub use number::number_of;
 pub use options::{Options, UNTOLD};
-pub use reading::read_words;
+pub use reading::{meant, read_words};
 pub use table::{
     COMMANDS, CommandWord, NONE, NameKind, OPTIONS, OptionRow, OptionSet, OptionWord, Row,
 };

@@ -5,8 +5,8 @@ ghost use Rattle.cli_words.specs.Names.{is_name, is_name_of};
 use crate::number::number_of;
 use crate::table::{CommandWord, NameKind};
 
-/// A name isn't empty and doesn't begin with `-`.
-fn is_name(word: &str) -> bool
+/// Whether a word can be a name: it isn't empty and doesn't begin with `-`.
+pub fn is_name(word: &str) -> bool
     ensures { result ≡ is_name word.now }
 {
     match word.as_bytes() {

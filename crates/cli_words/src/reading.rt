@@ -165,8 +165,9 @@ fn read_pair<'a>(first: &str, second: &'a str) -> Option<Command<'a>>
     Reading::begun(word).with_word(second)?.finished()
 }
 
-/// What a word that stands alone means.
-fn meant(word: &str) -> &str
+/// What a word that stands alone means: `-h` and `help` are `--help`, `-V` and `version` are
+/// `--version`.
+pub fn meant(word: &str) -> &str
     ensures { result.now ≡ meant word.now }
 {
     match word {

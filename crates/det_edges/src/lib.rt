@@ -26,13 +26,14 @@ pub use failure::{Failure, Stopped};
 pub use faults::{ShelfFailed, SinkFailed};
 pub use mem_shelf::{MemFile, MemFiles, MemShelf};
 pub use mem_sink::MemSink;
-pub use planned_calls::FailList;
+pub use planned_calls::{FailList, PlannedCalls};
 pub use reading::{PIECE, TooLong, read_limited};
 pub use shelf::Shelf;
 pub use sink::Sink;
 pub use slots::Slots;
 pub use std_sink::StdSink;
 pub use text_shelf::TextShelf;
+pub use within::push_within;
 pub use writing::write_all;
 
 #[cfg(test)]

@@ -8,14 +8,14 @@ use det_values::Limited;
 /// The numbers, counted from 1, of the calls that are to fail.
 pub type FailList = Limited<u64, 1048576>;
 
-// How many calls were made, and which are to fail. The count stands at its last value.
+/// How many calls were made, and which are to fail. The count stands at its last value.
 #[derive(Drop)]
 pub struct PlannedCalls {
     pub fails: FailList,
     pub made: u64,
 }
 
-// Whether the number of the call after those made is listed. Past the last u64 no number is.
+/// Whether the number of the call after those made is listed. Past the last u64 no number is.
 fn is_next_listed(fails: &[u64], made: u64) -> bool
     ensures { result ≡ is_listed fails.now (made + 1) }
 {
@@ -26,7 +26,7 @@ fn is_next_listed(fails: &[u64], made: u64) -> bool
 }
 
 impl PlannedCalls {
-    // Counts a call and answers whether it is to fail.
+    /// Counts a call and answers whether it is to fail.
     pub fn next_fails(&mut self) -> bool
         ensures fails { result ≡ is_listed self.old.fails (self.old.made + 1) }
         ensures counted { self.new.made ≡ next_count self.old.made }

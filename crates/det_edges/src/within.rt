@@ -1,8 +1,8 @@
 //! Adds to a list that has room.
 ghost use Rattle.std.specs.Prelude.{◌≡◌, ◌<◌, ◌≤◌, ◌+◌, ◌∷◌, ◌++◌, [], vec_len, vec_capacity};
 
-// Adds an item to a list that has room for it.
-pub(crate) fn push_within<T: Drop>(items: &mut Vec<T>, item: T)
+/// Adds an item to a list that has room for it.
+pub fn push_within<T: Drop>(items: &mut Vec<T>, item: T)
     requires { vec_len items.old < vec_capacity items.old }
     ensures items { items.new.items ≡ items.old.items ++ item ∷ [] }
     ensures capacity { vec_capacity items.old ≤ vec_capacity items.new }
