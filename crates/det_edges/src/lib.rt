@@ -33,6 +33,7 @@ pub use sink::Sink;
 pub use slots::Slots;
 pub use std_sink::StdSink;
 pub use text_shelf::TextShelf;
+pub use trying::read_trying;
 pub use within::push_within;
 pub use writing::write_all;
 

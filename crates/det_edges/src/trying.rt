@@ -7,8 +7,9 @@ use std::io::{ErrorKind, Read, Write};
 // How often one call tries at most. A call that is interrupted each time has failed.
 pub(crate) const MOST_TRIES: u32 = 1000;
 
-// Reads bytes into the beginning of the buffer and answers how many.
-pub(crate) fn read_trying<F: Read>(reader: &mut F, buf: &mut [u8]) -> Result<usize, ShelfFailed>
+/// Reads bytes into the beginning of the buffer and answers how many. A read that is interrupted is
+/// tried again, up to 1,000 times in all.
+pub fn read_trying<F: Read>(reader: &mut F, buf: &mut [u8]) -> Result<usize, ShelfFailed>
     ensures { IfOk result (λ n. n ≤ length buf.old) }
 {
     for _ in 0..MOST_TRIES {
