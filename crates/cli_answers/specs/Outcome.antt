@@ -4,13 +4,19 @@ use Rattle.std.specs.List.{All}
 use Rattle.std.specs.Option.{unwrap_or}
 use Rattle.det_edges.specs.Sink.{Grew, GrewByPrefix}
 use Rattle.det_edges.specs.Shelf.{ShelfState}
+use Rattle.det_edges.specs.declared.failure.Failure.{Failure}
+use Rattle.det_edges.specs.declared.failure.Failure.TheVariants.{Read, Write, OutOfMemory}
 use Rattle.cli_answers.specs.declared.answer.Answer.{Answer}
-use Rattle.cli_answers.specs.declared.answer.Answer.TheVariants.{Done, ReadFault, WriteFault}
-use Rattle.cli_answers.specs.declared.answer.Answer.TheVariants.{OutOfMemory}
+use Rattle.cli_answers.specs.declared.answer.Answer.TheVariants.{Done}
+use Rattle.cli_answers.specs.Answers.{failed}
 
-pub record Outcome : Type 0 where
-  pub answer : Answer
+-- an outcome of a program with answers of this type
+pub record OutcomeIn (A : Type 0) : Type 0 where
+  pub answer : A
   pub bytes : List ℕ
+
+abbrev pub Outcome : Type 0
+Outcome = OutcomeIn Answer
 
 -- a text that is always there
 abbrev pub text_outcome : List ℕ → Outcome
@@ -28,14 +34,22 @@ Tells shelf names = All (λ name. IsSome (shelf.holds name)) names
 abbrev pub told : ShelfState → List ℕ → List ℕ
 told shelf name = unwrap_or (shelf.holds name) []
 
--- How a run answers that ought to give an outcome: `tells` says that the bytes of its names are
--- told, and the two failures that the count of faults of the shelf, or of `out`, rose in the run.
-pub record Meets (wanted : Outcome) (tells read_failed write_failed : Type 0)
-    (before after : List ℕ → Type 0) (answer : Answer) : Type 0 where
+-- How a run answers that ought to give an outcome. `failed` gives the answers of failures; `tells`
+-- says that all bytes that the outcome rests on are told, and the two failures that the count of
+-- faults of what is read, or of `out`, rose in the run.
+pub record MeetsBy {A : Type 0} (failed : Failure → A) (wanted : OutcomeIn A)
+    (tells read_failed write_failed : Type 0) (before after : List ℕ → Type 0) (answer : A)
+    : Type 0 where
   -- `out` took a prefix of the bytes
   pub part : tells → GrewByPrefix before after wanted.bytes
   -- the answer is a failure's, or it is the outcome's and `out` took all its bytes
-  pub whole : tells → (answer ≡ ReadFault) ⊎ ((answer ≡ WriteFault)
-      ⊎ ((answer ≡ OutOfMemory) ⊎ ((answer ≡ wanted.answer) × Grew before after wanted.bytes)))
-  pub read_fault : answer ≡ ReadFault → read_failed
-  pub write_fault : answer ≡ WriteFault → write_failed
+  pub whole : tells → (answer ≡ failed Read) ⊎ ((answer ≡ failed Write)
+      ⊎ ((answer ≡ failed OutOfMemory)
+      ⊎ ((answer ≡ wanted.answer) × Grew before after wanted.bytes)))
+  pub read_fault : answer ≡ failed Read → read_failed
+  pub write_fault : answer ≡ failed Write → write_failed
+
+-- the same of a command of `det`
+abbrev pub Meets : Outcome → (tells read_failed write_failed : Type 0)
+    → (before after : List ℕ → Type 0) → Answer → Type 0
+Meets = MeetsBy failed

@@ -1,6 +1,6 @@
 -- What `check` gives by the bytes of a record: whether it is what its inputs give, and what an
 -- audience reports of the runs that were compared.
-use Rattle.std.specs.Prelude.{true, ℕ, List, ◌++◌, Result, Ok, Err}
+use Rattle.std.specs.Prelude.{true, ℕ, List, ◌++◌, codes, Result, Ok, Err}
 use Rattle.std.specs.List.{flat_map}
 use Rattle.det_edges.specs.Prefix.{IsPrefix}
 use Rattle.det_values.specs.Values.{ProfileValue}
@@ -16,7 +16,8 @@ use Rattle.checker.specs.Departure.{frames_in, checked_runs}
 use Rattle.checker.specs.Departure as frames
 use Rattle.checker.specs.Verdict.{check_verdict}
 use Rattle.checker.specs.Checked.{Saw}
-use Rattle.verdict_text.specs.Verdicts.{check_line}
+use Rattle.record_text.specs.Words.{number_line}
+use Rattle.verdict_text.specs.Verdicts.{place_text}
 use Rattle.cli_answers.specs.declared.answer.Answer.{Answer}
 use Rattle.cli_answers.specs.declared.answer.Answer.TheVariants.{Done, Differs, BadRecord}
 use Rattle.cli_answers.specs.Ends.{Work, writes_alone}
@@ -31,6 +32,11 @@ check_work = record writes_alone { recorded = true; compares = true }
 abbrev pub answer_to : CheckVerdict → Answer
 answer_to (Genuine cycles) = Done
 answer_to (Departs at) = Differs
+
+-- the line of a verdict
+abbrev pub check_line : CheckVerdict → List ℕ
+check_line (Genuine cycles) = number_line (codes "genuine") cycles
+check_line (Departs at) = codes "departs " ++ (place_text at ++ codes "\n")
 
 -- the line of a verdict and these reports, or the fault of the record
 abbrev pub outcome_by : Result CheckVerdict RecordFault → List ℕ → Outcome

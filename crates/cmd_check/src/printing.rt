@@ -1,17 +1,18 @@
 //! What a check prints.
-ghost use Rattle.std.specs.Prelude.{◌≡◌, ◌++◌, true, Ok, IfOk};
+ghost use Rattle.std.specs.Prelude.{◌≡◌, ◌++◌, true, Ok, IfOk, OnOk};
 ghost use Rattle.det_edges.specs.Count.{Rose};
-ghost use Rattle.verdict_text.specs.Verdicts.{check_line};
 ghost use Rattle.cli_answers.specs.Ends.{can_end};
 ghost use Rattle.cli_answers.specs.Outcome.{Meets};
-ghost use Rattle.cmd_check.specs.Check.{answer_to, outcome_by, check_work};
+ghost use Rattle.cmd_check.specs.Check.{answer_to, check_line, check_work, outcome_by};
 
 use checker::CheckVerdict;
 use cli_answers::Answer;
 use det_edges::{Sink, write_all};
 use det_values::OutOfMemory;
+use lockstep::Difference;
+use record_text::{put_number_line, put_words};
 use std::alloc::Global;
-use verdict_text::put_check_line;
+use verdict_text::put_place;
 
 /// What the command answers by its verdict.
 fn answer_to(verdict: CheckVerdict) -> Answer
@@ -21,6 +22,28 @@ fn answer_to(verdict: CheckVerdict) -> Answer
     match verdict {
         CheckVerdict::Genuine { .. } => Answer::Done,
         CheckVerdict::Departs(_) => Answer::Differs,
+    }
+}
+
+fn put_departs_line(out: &mut Vec<u8>, at: Difference) -> Result<(), OutOfMemory>
+    ensures { OnOk result (out.new.items
+        ≡ out.old.items ++ check_line (CheckVerdict.Departs at)) }
+{
+    put_words(out, "departs ")?;
+    put_place(out, at)?;
+    put_words(out, "\n")?;
+    Ok(())
+}
+
+fn put_check_line(out: &mut Vec<u8>, verdict: CheckVerdict) -> Result<(), OutOfMemory>
+    ensures { OnOk result (out.new.items ≡ out.old.items ++ check_line verdict) }
+{
+    match verdict {
+        CheckVerdict::Genuine { cycles } => {
+            put_number_line(out, "genuine", cycles as u64)?;
+            Ok(())
+        }
+        CheckVerdict::Departs(at) => put_departs_line(out, at),
     }
 }
 

@@ -1,8 +1,7 @@
 //! The command `compare`.
-ghost use Rattle.std.specs.Prelude.{◌≡◌, ◌≤◌, map, length, true, Ok, IfOk};
+ghost use Rattle.std.specs.Prelude.{◌≡◌, ◌≤◌, map, length, true, Ok};
 ghost use Rattle.det_edges.specs.Count.{Rose};
 ghost use Rattle.det_edges.specs.Shelf.{AsksPrefix};
-ghost use Rattle.verdict_text.specs.Verdicts.{verdict_line};
 ghost use Rattle.cli_answers.specs.Ends.{can_end};
 ghost use Rattle.cli_answers.specs.Outcome.{Meets, Tells, told};
 ghost use Rattle.cmd_compare.specs.Compare.{answer_to, compared};
@@ -10,11 +9,10 @@ ghost use Rattle.cmd_compare.specs.Compare.{compare_outcome, compare_work};
 
 use cli_answers::Answer;
 use det_edges::{Shelf, Sink, Stopped, write_all};
-use det_values::OutOfMemory;
 use lockstep::Verdict;
 use open_names::open_all;
 use std::alloc::Global;
-use verdict_text::put_verdict_line;
+use verdict_text::verdict_line;
 
 /// What the command answers by its verdict.
 fn answer_to(verdict: Verdict) -> Answer
@@ -27,21 +25,13 @@ fn answer_to(verdict: Verdict) -> Answer
     }
 }
 
-fn line_of(alloc: Global, verdict: Verdict) -> Result<Vec<u8>, OutOfMemory>
-    ensures { IfOk result (λ line. line.items ≡ verdict_line verdict) }
-{
-    let mut line = Vec::new(alloc);
-    put_verdict_line(&mut line, &verdict)?;
-    Ok(line)
-}
-
 /// Prints the line of a verdict.
 fn print<K: Sink>(alloc: Global, verdict: Verdict, out: &mut K) -> Answer
     ensures meets { Meets (compared (Ok verdict)) (Unit {0}) ⊥ (Rose (K.faults out.old)
         (K.faults out.new)) (K.took out.old) (K.took out.new) result }
     ensures ends { can_end compare_work result ≡ true }
 {
-    let Ok(line) = line_of(alloc, verdict) else {
+    let Ok(line) = verdict_line(alloc, &verdict) else {
         return Answer::OutOfMemory;
     };
     match write_all(out, &line) {

@@ -1,4 +1,4 @@
--- The lines that tell whether copies agree, or whether a record is that of its own inputs.
+-- The lines that tell whether copies agree, and the place where they part.
 use Rattle.std.specs.Prelude.{ℕ, List, ◌++◌, codes, decimal}
 use Rattle.record_text.specs.Words.{number_line}
 use Rattle.lockstep.specs.declared.difference.Difference.{Difference}
@@ -7,8 +7,6 @@ use Rattle.lockstep.specs.declared.difference.Difference.TheVariants.{Samples, R
 use Rattle.lockstep.specs.declared.difference.Difference.TheVariants.{Output}
 use Rattle.lockstep.specs.declared.verdict.Verdict.{Verdict}
 use Rattle.lockstep.specs.declared.verdict.Verdict.TheVariants.{Agree, Differ}
-use Rattle.checker.specs.declared.verdict.CheckVerdict.{CheckVerdict}
-use Rattle.checker.specs.declared.verdict.CheckVerdict.TheVariants.{Genuine, Departs}
 
 abbrev pub place_text : Difference → List ℕ
 place_text Header = codes "header"
@@ -25,8 +23,3 @@ abbrev pub verdict_line : Verdict → List ℕ
 verdict_line (Agree cycles) = number_line (codes "agree") cycles
 verdict_line (Differ copy at) =
     codes "differ copy " ++ (decimal copy ++ (codes " " ++ (place_text at ++ codes "\n")))
-
--- what `check` prints before the reports
-abbrev pub check_line : CheckVerdict → List ℕ
-check_line (Genuine cycles) = number_line (codes "genuine") cycles
-check_line (Departs at) = codes "departs " ++ (place_text at ++ codes "\n")

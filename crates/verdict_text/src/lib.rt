@@ -1,6 +1,6 @@
-//! The lines that tell whether copies agree, or whether a record is that of its own inputs.
+//! The lines that tell whether copies agree, and the place where they part.
 #![tactic(auto)]
 
 mod put;
 
-pub use put::{put_check_line, put_place, put_verdict_line};
+pub use put::{put_place, verdict_line};

@@ -1,12 +1,11 @@
 //! Verdicts as text.
-ghost use Rattle.std.specs.Prelude.{◌≡◌, ◌++◌, OnOk, codes, decimal};
-ghost use Rattle.verdict_text.specs.Verdicts.{place_text, verdict_line, check_line};
+ghost use Rattle.std.specs.Prelude.{◌≡◌, ◌++◌, IfOk, OnOk, codes, decimal};
+ghost use Rattle.verdict_text.specs.Verdicts.{place_text, verdict_line};
 
-use checker::CheckVerdict;
 use det_values::OutOfMemory;
 use lockstep::{Difference, Verdict};
 use record_text::{put_number, put_number_line, put_words};
-use std::alloc::AllocError;
+use std::alloc::{AllocError, Global};
 
 /// Appends a word and the number behind it.
 fn put_numbered(out: &mut Vec<u8>, word: &str, number: u32) -> Result<(), AllocError>
@@ -59,8 +58,7 @@ fn put_differ_line(out: &mut Vec<u8>, copy: u32, at: Difference) -> Result<(), O
     put_last_place(out, at)
 }
 
-/// Appends the line of a verdict. After a refusal a part of it may stand there.
-pub fn put_verdict_line(out: &mut Vec<u8>, verdict: &Verdict) -> Result<(), OutOfMemory>
+fn put_verdict_line(out: &mut Vec<u8>, verdict: &Verdict) -> Result<(), OutOfMemory>
     ensures { OnOk result (out.new.items ≡ out.old.items ++ verdict_line verdict.now) }
 {
     match verdict {
@@ -72,23 +70,11 @@ pub fn put_verdict_line(out: &mut Vec<u8>, verdict: &Verdict) -> Result<(), OutO
     }
 }
 
-fn put_departs_line(out: &mut Vec<u8>, at: Difference) -> Result<(), OutOfMemory>
-    ensures { OnOk result (out.new.items
-        ≡ out.old.items ++ check_line (CheckVerdict.Departs at)) }
+/// The line of a verdict.
+pub fn verdict_line(alloc: Global, verdict: &Verdict) -> Result<Vec<u8>, OutOfMemory>
+    ensures { IfOk result (λ line. line.items ≡ verdict_line verdict.now) }
 {
-    put_words(out, "departs")?;
-    put_last_place(out, at)
-}
-
-/// Appends the line of what a check found. After a refusal a part of it may stand there.
-pub fn put_check_line(out: &mut Vec<u8>, verdict: CheckVerdict) -> Result<(), OutOfMemory>
-    ensures { OnOk result (out.new.items ≡ out.old.items ++ check_line verdict) }
-{
-    match verdict {
-        CheckVerdict::Genuine { cycles } => {
-            put_number_line(out, "genuine", cycles as u64)?;
-            Ok(())
-        }
-        CheckVerdict::Departs(at) => put_departs_line(out, at),
-    }
+    let mut line = Vec::new(alloc);
+    put_verdict_line(&mut line, verdict)?;
+    Ok(line)
 }
