@@ -100,7 +100,7 @@ fn without_a_majority_the_rows_in_common_are_written(rt: HostRuntime) -> Result<
         ("vote a b s", 194, 5),
         ("vote a a b b", 194, 5),
         ("vote a a c d d", 97, 4),
-        ("vote a t b", 194, 5),
+        ("vote a t b", 281, 6),
         ("vote t t t", 281, 6),
         ("vote a x x", 282, 7),
     ] {
