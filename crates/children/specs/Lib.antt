@@ -1,0 +1,5 @@
+pub mod ChildShelves
+pub mod MemSpawner
+pub mod ProcessSpawner
+pub mod Scripts
+pub mod Spawners
