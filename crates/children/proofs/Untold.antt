@@ -1,7 +1,7 @@
 -- A process was started.
 use Rattle.std.proofs.Common.{ℕ, ◌≡◌, zero, suc, List, [], ◌∷◌, ◌++◌, length, get_or, Bool, false, refl, length-append}
 use Rattle.children.specs.Spawners.{Words, Starts}
-use Rattle.children.specs.ProcessSpawner.{untold}
+use Rattle.children.specs.Processes.{untold}
 
 more-same : (finished : List Bool) (k : ℕ) → get_or (finished ++ false ∷ []) k false ≡ get_or finished k false
 more-same [] zero = refl

@@ -209,17 +209,17 @@ impl Spawner for MemSpawner {
         ensures calls { calls_of self.new ≡ next_count (calls_of self.old) }
         ensures took_none { starts_of self.new ≡ starts_of self.old }
     {
-        let is_to_fail = self.calls.next_fails();
-        let running = self.children[child as usize];
+        let is_listed = self.calls.next_fails();
+        let ended = self.children[child as usize];
         self.children[child as usize] = Running {
-            script: running.script,
-            at: running.at,
+            script: ended.script,
+            at: ended.at,
             is_finished: true,
         };
-        if is_to_fail {
+        if is_listed {
             self.faults = self.faults.saturating_add(1);
             return Err(SpawnFailed);
         }
-        Ok(finding::status_at(self.scripts.as_slice(), running.script))
+        Ok(finding::status_at(self.scripts.as_slice(), ended.script))
     }
 }

@@ -1,5 +1,6 @@
 //! Processes of the system as children.
-ghost use Rattle.std.specs.Prelude.{◌≡◌, ◌<◌, ◌≤◌, length, vec_len, IfOk};
+ghost use Rattle.std.specs.Prelude.{◌≡◌, ◌<◌, ◌≤◌, length, vec_len, pos, Some, IfOk};
+ghost use Rattle.children.specs.Processes.{code_of};
 
 use crate::{SpawnFailed, Spawner};
 use det_edges::{push_within, read_trying};
@@ -38,7 +39,8 @@ pub struct ProcessSpawner<R: Processes> {
 
 impl<R: Processes + Copy> ProcessSpawner<R> {
     ghost use Rattle.std.specs.Prelude.{◌≡◌, []};
-    ghost use Rattle.children.specs.ProcessSpawner.{process_state, untold};
+    ghost use Rattle.children.specs.Processes.{untold};
+    ghost use Rattle.children.specs.ProcessSpawner.{process_state};
 
     /// A spawner without children.
     pub fn new(rt: &R, alloc: Global) -> ProcessSpawner<R>
@@ -56,8 +58,12 @@ impl<R: Processes + Copy> ProcessSpawner<R> {
 }
 
 impl<R: Processes> ProcessSpawner<R> {
-    ghost use Rattle.std.specs.Prelude.{◌≡◌, ◌++◌, ◌∷◌, [], false};
-    ghost use Rattle.children.specs.ProcessSpawner.{process_state, finished_of, untold, HasRoom};
+    ghost use Rattle.std.specs.Prelude.{◌≡◌, ◌≤◌, ◌+◌, ◌++◌, ◌∷◌, [], length, false, IfSome, IfNone};
+    ghost use Rattle.std.specs.Prelude.{OnErr};
+    ghost use Rattle.det_edges.specs.Count.{Rose};
+    ghost use Rattle.children.specs.Spawners.{Starts, words_of};
+    ghost use Rattle.children.specs.Processes.{untold};
+    ghost use Rattle.children.specs.ProcessSpawner.{process_state, finished_of, HasRoom};
 
     // Keeps a child that was started.
     fn keep(&mut self, child: Child<R::Started>)
@@ -69,26 +75,50 @@ impl<R: Processes> ProcessSpawner<R> {
         push_within(&mut self.at_end, false);
         push_within(&mut self.finished, false);
     }
+
+    // Starts a child. The room for it is taken first, so that no process is started in vain.
+    fn add(&mut self, words: &[String]) -> Option<u32>
+        requires { 0 < length words.now }
+        ensures starts { IfSome result
+            (Starts (process_state self.old) (process_state self.new) (words_of words.now)) }
+        ensures stay { IfNone result (process_state self.new ≡ process_state self.old) }
+        ensures faults { self.new.faults ≡ self.old.faults }
+    {
+        let number = u32::try_from(self.children.len()).ok()?;
+        self.children.reserve(1).ok()?;
+        self.at_end.reserve(1).ok()?;
+        self.finished.reserve(1).ok()?;
+        let child = launch(&self.rt, self.alloc, words).ok()?;
+        self.keep(child);
+        Some(number)
+    }
+
+    // Hands an answer on, and counts it where it is a failure.
+    fn counted<T>(&mut self, answer: Result<T, SpawnFailed>) -> Result<T, SpawnFailed>
+        ensures answer { result ≡ answer }
+        ensures children { self.new.children ≡ self.old.children }
+        ensures finished { finished_of self.new ≡ finished_of self.old }
+        ensures cause { OnErr answer (Rose self.old.faults self.new.faults) }
+        ensures counted { self.old.faults ≤ self.new.faults }
+    {
+        if answer.is_err() {
+            self.faults = self.faults.saturating_add(1);
+        }
+        answer
+    }
 }
 
 impl<R: Processes + Copy> Spawner for ProcessSpawner<R> {
-    ghost use Rattle.children.specs.ProcessSpawner.{process_state};
+    ghost use Rattle.std.specs.Prelude.{◌≡◌, ◌<◌, ◌≤◌, true, false, IfOk, OnErr};
+    ghost use Rattle.det_edges.specs.Count.{Rose};
+    ghost use Rattle.children.specs.Spawners.{Finishes, Fixed, StatusIs};
+    ghost use Rattle.children.specs.ProcessSpawner.{process_state, EndedWith};
 
     ghost sees = { λ s. process_state s };
 
     fn start(&mut self, words: &[String]) -> Result<u32, SpawnFailed> {
-        // The room is taken first, so that no process is started in vain.
-        if let Ok(number) = u32::try_from(self.children.len())
-            && self.children.reserve(1).is_ok()
-            && self.at_end.reserve(1).is_ok()
-            && self.finished.reserve(1).is_ok()
-            && let Ok(child) = launch(&self.rt, self.alloc, words)
-        {
-            self.keep(child);
-            return Ok(number);
-        }
-        self.faults = self.faults.saturating_add(1);
-        Err(SpawnFailed)
+        let number = self.add(words).ok_or(SpawnFailed);
+        self.counted(number)
     }
 
     fn read(&mut self, child: u32, buf: &mut [u8]) -> Result<usize, SpawnFailed> {
@@ -96,35 +126,38 @@ impl<R: Processes + Copy> Spawner for ProcessSpawner<R> {
         if self.finished[index] {
             return Ok(0);
         }
-        match read_output::<R>(&mut self.children[index], buf) {
-            Ok(n) => {
-                if n == 0 && !buf.is_empty() {
-                    self.at_end[index] = true;
-                }
-                Ok(n)
-            }
-            Err(failed) => {
-                self.faults = self.faults.saturating_add(1);
-                Err(failed)
-            }
+        let moved = read_output::<R>(&mut self.children[index], buf);
+        if moved == Ok(0) && !buf.is_empty() {
+            self.at_end[index] = true;
         }
+        self.counted(moved)
     }
 
-    fn finish(&mut self, child: u32) -> Result<u8, SpawnFailed> {
+    fn finish(&mut self, child: u32) -> Result<u8, SpawnFailed>
+        requires started { child < (process_state self.old).children }
+        requires running { (process_state self.old).finished child ≡ false }
+        ensures finishes { Finishes (process_state self.old) (process_state self.new) child }
+        ensures fixed { Fixed (process_state self.old) (process_state self.new) }
+        ensures status { IfOk result (StatusIs (process_state self.old) child) }
+        ensures cause { OnErr result
+            (Rose (process_state self.old).faults (process_state self.new).faults) }
+        ensures counted { (process_state self.old).faults ≤ (process_state self.new).faults }
+
+        ensures ended { IfOk result (EndedWith self.new child) }
+    {
         let index = child as usize;
         self.finished[index] = true;
         let is_at_end = self.at_end[index];
-        match end_of::<R>(&mut self.children[index], is_at_end) {
-            Ok(status) => Ok(status),
-            Err(failed) => {
-                self.faults = self.faults.saturating_add(1);
-                Err(failed)
-            }
-        }
+        let status = end_of::<R>(&mut self.children[index], is_at_end);
+        self.counted(status)
     }
 }
 
-fn launch<R: Processes>(rt: &R, alloc: Global, words: &[String]) -> io::Result<Child<R::Started>>
+fn launch<R: Processes>(
+    rt: &R,
+    alloc: Global,
+    words: &[String],
+) -> io::Result<Child<R::Started>>
     requires { 0 < length words.now }
 {
     let mut command = Command::new(alloc, words[0].as_str())?;
@@ -156,15 +189,14 @@ fn read_output<R: Processes>(
 fn end_of<R: Processes>(
     child: &mut Child<R::Started>,
     is_at_end: bool,
-) -> Result<u8, SpawnFailed> {
+) -> Result<u8, SpawnFailed>
+    ensures { IfOk result (λ status. code_of child.new ≡ Some (pos status)) }
+{
     drop(child.stdout.take());
     if !is_at_end {
         let _ = child.kill();
     }
-    child
-        .wait()
-        .ok()
-        .and_then(|status| status.code())
-        .and_then(|code| u8::try_from(code).ok())
-        .ok_or(SpawnFailed)
+    let status = child.wait().map_err(|_| SpawnFailed)?;
+    let code = status.code().ok_or(SpawnFailed)?;
+    u8::try_from(code).map_err(|_| SpawnFailed)
 }
