@@ -1,6 +1,5 @@
 //! Tests of children in memory, and of processes.
-ghost use Rattle.std.specs.Prelude.{◌≡◌, ◌<◌, length, vec_len, IfOk};
-ghost use Rattle.children.specs.Spawners.{Stays};
+ghost use Rattle.std.specs.Prelude.{◌≡◌, ℕ, ◌<◌, length, vec_len, false, IfOk, OnOk};
 
 use crate::{ChildShelf, MemSpawner, ProcessSpawner, Script, Scripts, SpawnFailed, Spawner};
 use det_edges::{FailList, ShelfFailed, Slots};
@@ -45,22 +44,66 @@ fn fail_list(alloc: Global, number: u64) -> Result<FailList, OutOfMemory> {
     Ok(fails)
 }
 
+// Starts two children, 0 and 1.
+fn start_two<P: Spawner>(
+    spawner: &mut P,
+    first: &[String],
+    second: &[String],
+) -> Result<(), SpawnFailed>
+    requires none { (P.sees spawner.old).children ≡ 0 }
+    requires first { 0 < length first.now }
+    requires second { 0 < length second.now }
+    ensures two { OnOk result ((P.sees spawner.new).children ≡ 2) }
+    ensures first { OnOk result ((P.sees spawner.new).finished 0 ≡ false) }
+    ensures second { OnOk result ((P.sees spawner.new).finished 1 ≡ false) }
+{
+    spawner.start(first)?;
+    spawner.start(second)?;
+    Ok(())
+}
+
+// What two children write, read by turns in pieces of at most two bytes, each with a comma behind
+// it. A turn tells whether the second is read.
+fn told_by_turns<P: Spawner>(
+    alloc: Global,
+    spawner: &mut P,
+    turns: &[bool],
+) -> Result<Vec<u8>, SpawnFailed>
+    requires { (P.sees spawner.old).children ≡ 2 }
+    ensures two { (P.sees spawner.new).children ≡ 2 }
+    ensures running { (k : ℕ) → (P.sees spawner.old).finished k ≡ false
+        → (P.sees spawner.new).finished k ≡ false }
+{
+    let mut told = Vec::new(alloc);
+    for is_second in turns {
+        let mut buf = [0; 2];
+        let n = spawner.read(u32::from(*is_second), &mut buf)?;
+        told.extend_from_slice(&buf[..n]).map_err(|_| SpawnFailed)?;
+        told.push(b',').map_err(|_| SpawnFailed)?;
+    }
+    Ok(told)
+}
+
+// How two children ended.
+fn finish_two<P: Spawner>(spawner: &mut P) -> [Result<u8, SpawnFailed>; 2]
+    requires two { (P.sees spawner.old).children ≡ 2 }
+    requires first { (P.sees spawner.old).finished 0 ≡ false }
+    requires second { (P.sees spawner.old).finished 1 ≡ false }
+    ensures { (P.sees spawner.new).children ≡ 2 }
+{
+    [spawner.finish(0), spawner.finish(1)]
+}
+
 #[test]
 fn children_keep_to_the_first_script_with_their_words(rt: HostRuntime) -> Result<(), Fail> {
     let alloc = rt.alloc();
     let mut spawner = MemSpawner::new(alloc, scripts(alloc)?, FailList::new(alloc))?;
-    let cat = spawner.start(words(alloc, &["cat", "a"])?.as_slice())?;
-    let other = spawner.start(words(alloc, &["false"])?.as_slice())?;
-    assert_eq!(rt; (cat, other), (0, 1));
-    let mut buf = [0; 2];
-    assert_eq!(rt; spawner.read(cat, &mut buf), Ok(2));
-    assert_eq!(rt; buf, *b"ab");
-    assert_eq!(rt; spawner.read(other, &mut buf), Ok(0));
-    assert_eq!(rt; spawner.read(cat, &mut buf), Ok(1));
-    assert_eq!(rt; buf[0], b'c');
-    assert_eq!(rt; spawner.read(cat, &mut buf), Ok(0));
-    assert_eq!(rt; spawner.finish(other), Ok(3));
-    assert_eq!(rt; spawner.finish(cat), Ok(0));
+    let cat = words(alloc, &["cat", "a"])?;
+    let other = words(alloc, &["false"])?;
+    start_two(&mut spawner, cat.as_slice(), other.as_slice())?;
+    let told = told_by_turns(alloc, &mut spawner, &[false, true, false, false])?;
+    assert_eq!(rt; told.as_slice(), b"ab,,c,,".as_slice());
+    assert_eq!(rt; finish_two(&mut spawner), [Ok(0), Ok(3)]);
     Ok(())
 }
 
@@ -136,30 +179,23 @@ fn a_slot_is_the_child_of_its_number(rt: HostRuntime) -> Result<(), Fail> {
 fn two_outputs_are_read_by_turns(rt: HostRuntime) -> Result<(), Fail> {
     let alloc = rt.alloc();
     let mut spawner = ProcessSpawner::new(&rt, alloc);
+    let printf = words(alloc, &["/usr/bin/printf", "abcd"])?;
     // Its input is empty, and what it writes to standard error is dropped.
     let script = "echo bad >&2; printf xy; cat; printf z; exit 3";
-    let a = spawner.start(words(alloc, &["/usr/bin/printf", "abcd"])?.as_slice())?;
-    let b = spawner.start(words(alloc, &["/bin/sh", "-c", script])?.as_slice())?;
-    let mut buf = [0; 2];
-    assert_eq!(rt; spawner.read(a, &mut buf), Ok(2));
-    assert_eq!(rt; buf, *b"ab");
-    assert_eq!(rt; spawner.read(b, &mut buf), Ok(2));
-    assert_eq!(rt; buf, *b"xy");
-    assert_eq!(rt; spawner.read(a, &mut buf), Ok(2));
-    assert_eq!(rt; buf, *b"cd");
-    assert_eq!(rt; spawner.read(b, &mut buf), Ok(1));
-    assert_eq!(rt; buf[0], b'z');
-    let ends = [spawner.read(b, &mut buf), spawner.read(a, &mut buf)];
-    assert_eq!(rt; ends, [Ok(0), Ok(0)]);
-    assert_eq!(rt; (spawner.finish(a), spawner.finish(b)), (Ok(0), Ok(3)));
-    assert_eq!(rt; spawner.read(b, &mut buf), Ok(0));
+    let shell = words(alloc, &["/bin/sh", "-c", script])?;
+    start_two(&mut spawner, printf.as_slice(), shell.as_slice())?;
+    let told = told_by_turns(alloc, &mut spawner, &[false, true, false, true, true, false])?;
+    assert_eq!(rt; told.as_slice(), b"ab,xy,cd,z,,,".as_slice());
+    assert_eq!(rt; finish_two(&mut spawner), [Ok(0), Ok(3)]);
     Ok(())
 }
 
 // How many bytes a child writes up to its end.
 fn count<P: Spawner>(spawner: &mut P, child: u32) -> Result<usize, SpawnFailed>
     requires { child < (P.sees spawner.old).children }
-    ensures { Stays (P.sees spawner.old) (P.sees spawner.new) }
+    ensures children { (P.sees spawner.new).children ≡ (P.sees spawner.old).children }
+    ensures running { (k : ℕ) → (P.sees spawner.old).finished k ≡ false
+        → (P.sees spawner.new).finished k ≡ false }
 {
     let mut total = 0usize;
     let mut buf = [0; 4096];
@@ -178,34 +214,25 @@ fn each_fills_its_pipe_while_the_other_is_read(rt: HostRuntime) -> Result<(), Fa
     let alloc = rt.alloc();
     let mut spawner = ProcessSpawner::new(&rt, alloc);
     let zeros = words(alloc, &["/usr/bin/head", "-c", "3000000", "/dev/zero"])?;
-    let a = spawner.start(zeros.as_slice())?;
-    let b = spawner.start(zeros.as_slice())?;
-    assert_eq!(rt; count(&mut spawner, a), Ok(3_000_000));
-    assert_eq!(rt; count(&mut spawner, b), Ok(3_000_000));
-    assert_eq!(rt; (spawner.finish(b), spawner.finish(a)), (Ok(0), Ok(0)));
+    start_two(&mut spawner, zeros.as_slice(), zeros.as_slice())?;
+    let counts = [count(&mut spawner, 0), count(&mut spawner, 1)];
+    assert_eq!(rt; counts, [Ok(3_000_000), Ok(3_000_000)]);
+    assert_eq!(rt; finish_two(&mut spawner), [Ok(0), Ok(0)]);
     Ok(())
 }
 
 #[test]
-fn an_endless_child_is_stopped(rt: HostRuntime) -> Result<(), Fail> {
+fn children_that_go_on_are_stopped(rt: HostRuntime) -> Result<(), Fail> {
     let alloc = rt.alloc();
     let mut spawner = ProcessSpawner::new(&rt, alloc);
-    let yes = spawner.start(words(alloc, &["/usr/bin/yes"])?.as_slice())?;
-    let sleep = spawner.start(words(alloc, &["/bin/sleep", "1"])?.as_slice())?;
+    let yes = words(alloc, &["/usr/bin/yes"])?;
+    let sleep = words(alloc, &["/bin/sleep", "100000"])?;
+    start_two(&mut spawner, yes.as_slice(), sleep.as_slice())?;
+    let told = told_by_turns(alloc, &mut spawner, &[false, false])?;
+    assert_eq!(rt; told.as_slice(), b"y\n,y\n,".as_slice());
+    assert_eq!(rt; finish_two(&mut spawner), [Err(SpawnFailed), Err(SpawnFailed)]);
     let mut buf = [0; 2];
-    assert_eq!(rt; spawner.read(yes, &mut buf), Ok(2));
-    assert_eq!(rt; spawner.finish(yes), Err(SpawnFailed));
-    assert_eq!(rt; spawner.read(sleep, &mut buf), Ok(0));
-    assert_eq!(rt; spawner.finish(sleep), Ok(0));
-    Ok(())
-}
-
-#[test]
-fn a_child_that_writes_nothing_is_stopped(rt: HostRuntime) -> Result<(), Fail> {
-    let alloc = rt.alloc();
-    let mut spawner = ProcessSpawner::new(&rt, alloc);
-    let sleep = spawner.start(words(alloc, &["/bin/sleep", "100000"])?.as_slice())?;
-    assert_eq!(rt; spawner.finish(sleep), Err(SpawnFailed));
+    assert_eq!(rt; spawner.read(0, &mut buf), Ok(0));
     Ok(())
 }
 
