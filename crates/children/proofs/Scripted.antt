@@ -119,9 +119,9 @@ pub child-reads : (scripts : List Script) (children : List Running) (told : Bool
 child-reads scripts children told asked faults i n child front h e f =
     let next : Running = record { script = child.script; at = child.at + n; is_finished = child.is_finished } in
     let rest : rest_of scripts next ≡ drop n (rest_of scripts child) =
-        rest-next (bytes_at scripts child.script) child.at n child.is_finished in
+    rest-next (bytes_at scripts child.script) child.at n child.is_finished in
     let parts : rest_of scripts child ≡ front ++ rest_of scripts next =
-        rw (f, rest) (sym (take-append-drop n (rest_of scripts child))) in
+    rw (f, rest) (sym (take-append-drop n (rest_of scripts child))) in
     record {
       stays = record {
         children = length-set children i next;
@@ -150,7 +150,7 @@ child-end scripts children i n room child h e c z w =
     let next : Running = record { script = child.script; at = child.at + n; is_finished = child.is_finished } in
     let none : rest_of scripts child ≡ [] = length-none (rest_of scripts child) (omega arith) in
     let rest : rest_of scripts next ≡ drop n (rest_of scripts child) =
-        rest-next (bytes_at scripts child.script) child.at n child.is_finished in
+    rest-next (bytes_at scripts child.script) child.at n child.is_finished in
     rw (put-at (rest_of scripts) children i child next h e) (rest ∙ ap (drop n) none ∙ drop-none n)
 
 -- what a child has left, by its index
@@ -195,6 +195,6 @@ pub child-ends : (scripts : List Script) (children : List Running) (i : ℕ) (ch
     → status_under scripts words ≡ Some (status_at scripts child.script)
 child-ends scripts children i child words h e all w =
     let its : words_at scripts child.script ≡ words =
-        same_Some _ _ (sym (seen-at (λ (c : Running). words_at scripts c.script) children i child h e) ∙ w) in
+    same_Some _ _ (sym (seen-at (λ (c : Running). words_at scripts c.script) children i child h e) ∙ w) in
     let first : index_of scripts words ≡ Some child.script = rw its at (first-at scripts children i child h e all) in
     ap (option_map (status_at scripts)) first

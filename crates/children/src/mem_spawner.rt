@@ -69,11 +69,7 @@ impl MemSpawner {
 
     /// A spawner that knows these scripts, with room for 64 calls of `start`. All its calls, counted
     /// together, fail where their number is listed.
-    pub fn new(
-        alloc: Global,
-        scripts: Scripts,
-        fails: FailList,
-    ) -> Result<MemSpawner, OutOfMemory>
+    pub fn new(alloc: Global, scripts: Scripts, fails: FailList) -> Result<MemSpawner, OutOfMemory>
         ensures { IfOk result (λ spawner. IsNewMemSpawner spawner
             (record { scripts = scripts; fails = fails })) }
     {
@@ -114,13 +110,12 @@ impl Spawner for MemSpawner {
         ensures fixed { Fixed (mem_spawner_state self.old) (mem_spawner_state self.new) }
         ensures cause { OnErr result
             (Rose (mem_spawner_state self.old).faults (mem_spawner_state self.new).faults) }
-        ensures counted {
-            (mem_spawner_state self.old).faults ≤ (mem_spawner_state self.new).faults }
+        ensures counted { (mem_spawner_state self.old).faults ≤ (mem_spawner_state self.new).faults }
 
         ensures fails { is_err result ≡ start_fails self.old (words_of words.now) }
         ensures told { is_some (mem_spawner_state self.new).asked
             ≡ (is_some (mem_spawner_state self.old).asked
-                && has_room_for self.old (words_of words.now)) }
+            && has_room_for self.old (words_of words.now)) }
         ensures setup { setup_of self.new ≡ setup_of self.old }
         ensures calls { calls_of self.new ≡ next_count (calls_of self.old) }
         ensures took_room { starts_of self.new ≡ min (starts_of self.old + 1) 64 }
@@ -163,8 +158,7 @@ impl Spawner for MemSpawner {
             (λ n. (mem_spawner_state self.old).finished child ≡ true → n ≡ 0) }
         ensures cause { OnErr result
             (Rose (mem_spawner_state self.old).faults (mem_spawner_state self.new).faults) }
-        ensures counted {
-            (mem_spawner_state self.old).faults ≤ (mem_spawner_state self.new).faults }
+        ensures counted { (mem_spawner_state self.old).faults ≤ (mem_spawner_state self.new).faults }
 
         ensures fails { is_err result ≡ call_fails self.old }
         ensures amount { IfOk result
@@ -197,8 +191,7 @@ impl Spawner for MemSpawner {
         ensures status { IfOk result (StatusIs (mem_spawner_state self.old) child) }
         ensures cause { OnErr result
             (Rose (mem_spawner_state self.old).faults (mem_spawner_state self.new).faults) }
-        ensures counted {
-            (mem_spawner_state self.old).faults ≤ (mem_spawner_state self.new).faults }
+        ensures counted { (mem_spawner_state self.old).faults ≤ (mem_spawner_state self.new).faults }
 
         ensures fails { is_err result ≡ call_fails self.old }
         // Also where output was left.

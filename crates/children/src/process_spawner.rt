@@ -153,11 +153,7 @@ impl<R: Processes + Copy> Spawner for ProcessSpawner<R> {
     }
 }
 
-fn launch<R: Processes>(
-    rt: &R,
-    alloc: Global,
-    words: &[String],
-) -> io::Result<Child<R::Started>>
+fn launch<R: Processes>(rt: &R, alloc: Global, words: &[String]) -> io::Result<Child<R::Started>>
     requires { 0 < length words.now }
 {
     let mut command = Command::new(alloc, words[0].as_str())?;
@@ -186,10 +182,7 @@ fn read_output<R: Processes>(
 
 // Waits for the end of a child of which nothing more is read. One that may still write is stopped
 // first.
-fn end_of<R: Processes>(
-    child: &mut Child<R::Started>,
-    is_at_end: bool,
-) -> Result<u8, SpawnFailed>
+fn end_of<R: Processes>(child: &mut Child<R::Started>, is_at_end: bool) -> Result<u8, SpawnFailed>
     ensures { IfOk result (λ status. code_of child.new ≡ Some (pos status)) }
 {
     drop(child.stdout.take());

@@ -4,7 +4,9 @@ ghost use Rattle.std.specs.Prelude.{◌≡◌, ℕ, ◌<◌, length, vec_len, fa
 use crate::{ChildShelf, MemSpawner, ProcessSpawner, Script, Scripts, SpawnFailed, Spawner};
 use det_edges::{FailList, ShelfFailed, Slots};
 use det_values::OutOfMemory;
-use std::alloc::Global;
+use std::alloc::{Allocator, Global};
+use std::io::{self, Empty, ErrorKind, Read, Sink};
+use std::process::{Child, Command, ExitStatus, OpenProcess, Processes, Stdio};
 use std::test::Fail;
 
 fn words(alloc: Global, texts: &[&str]) -> Result<Vec<String>, OutOfMemory>
@@ -18,12 +20,7 @@ fn words(alloc: Global, texts: &[&str]) -> Result<Vec<String>, OutOfMemory>
     Ok(words)
 }
 
-fn script(
-    alloc: Global,
-    texts: &[&str],
-    bytes: &[u8],
-    status: u8,
-) -> Result<Script, OutOfMemory> {
+fn script(alloc: Global, texts: &[&str], bytes: &[u8], status: u8) -> Result<Script, OutOfMemory> {
     let words = words(alloc, texts)?;
     let bytes = Vec::from_slice(alloc, bytes)?;
     Ok(Script::new(words, bytes, status))
@@ -163,7 +160,9 @@ fn a_slot_is_the_child_of_its_number(rt: HostRuntime) -> Result<(), Fail> {
         spawner: MemSpawner::new(alloc, scripts(alloc)?, fail_list(alloc, 4)?)?,
     };
     let other = shelf.spawner.start(words(alloc, &["false"])?.as_slice())?;
-    let cat = shelf.spawner.start(words(alloc, &["cat", "a"])?.as_slice())?;
+    let cat = shelf
+        .spawner
+        .start(words(alloc, &["cat", "a"])?.as_slice())?;
     let mut buf = [0; 4];
     let answers = [
         shelf.read(cat, &mut buf),
@@ -184,7 +183,11 @@ fn two_outputs_are_read_by_turns(rt: HostRuntime) -> Result<(), Fail> {
     let script = "echo bad >&2; printf xy; cat; printf z; exit 3";
     let shell = words(alloc, &["/bin/sh", "-c", script])?;
     start_two(&mut spawner, printf.as_slice(), shell.as_slice())?;
-    let told = told_by_turns(alloc, &mut spawner, &[false, true, false, true, true, false])?;
+    let told = told_by_turns(
+        alloc,
+        &mut spawner,
+        &[false, true, false, true, true, false],
+    )?;
     assert_eq!(rt; told.as_slice(), b"ab,xy,cd,z,,,".as_slice());
     assert_eq!(rt; finish_two(&mut spawner), [Ok(0), Ok(3)]);
     Ok(())
@@ -230,7 +233,10 @@ fn children_that_go_on_are_stopped(rt: HostRuntime) -> Result<(), Fail> {
     start_two(&mut spawner, yes.as_slice(), sleep.as_slice())?;
     let told = told_by_turns(alloc, &mut spawner, &[false, false])?;
     assert_eq!(rt; told.as_slice(), b"y\n,y\n,".as_slice());
-    assert_eq!(rt; finish_two(&mut spawner), [Err(SpawnFailed), Err(SpawnFailed)]);
+    assert_eq!(rt;
+        finish_two(&mut spawner),
+        [Err(SpawnFailed), Err(SpawnFailed)]
+    );
     let mut buf = [0; 2];
     assert_eq!(rt; spawner.read(0, &mut buf), Ok(0));
     Ok(())
@@ -246,5 +252,77 @@ fn a_program_that_is_not_there_and_an_end_by_a_signal_fail(rt: HostRuntime) -> R
     assert_eq!(rt; killed, 0);
     assert_eq!(rt; count(&mut spawner, killed), Ok(0));
     assert_eq!(rt; spawner.finish(killed), Err(SpawnFailed));
+    Ok(())
+}
+
+// The output of a process that isn't one: a read that is interrupted and tried again, one that
+// fails, and the end.
+#[derive(Drop)]
+struct Turns {
+    made: u32,
+}
+
+impl Read for Turns {
+    fn read(&mut self, buf: &mut [u8]) -> io::Result<usize> {
+        self.made = self.made.saturating_add(1);
+        match self.made {
+            1 => Err(io::Error::from(ErrorKind::Interrupted)),
+            2 => Ok(buf.len().min(1)),
+            3 => Err(io::Error::from(ErrorKind::Other)),
+            _ => Ok(0),
+        }
+    }
+}
+
+#[derive(Drop)]
+struct NoProcess;
+
+impl OpenProcess for NoProcess {
+    type Stdin = Sink;
+
+    type Stdout = Turns;
+
+    type Stderr = Empty;
+
+    fn id(&self) -> u32 {
+        0
+    }
+
+    fn wait(&mut self) -> io::Result<ExitStatus> {
+        Ok(ExitStatus::default())
+    }
+}
+
+#[derive(Clone, Copy)]
+struct NoProcesses;
+
+impl Processes for NoProcesses {
+    type Started = NoProcess;
+
+    fn spawn<B: Allocator + Clone>(
+        &self,
+        _: &Command<B>,
+        _: &Stdio,
+        _: &Stdio,
+        _: &Stdio,
+    ) -> io::Result<Child<NoProcess>> {
+        Ok(Child::from_parts(NoProcess, None, Some(Turns { made: 0 }), None))
+    }
+}
+
+#[test]
+fn a_failed_read_is_not_the_end_and_an_interrupted_one_is_tried_again(
+    rt: HostRuntime,
+) -> Result<(), Fail> {
+    let alloc = rt.alloc();
+    let mut spawner = ProcessSpawner::new(&NoProcesses, alloc);
+    let child = spawner.start(words(alloc, &["program"])?.as_slice())?;
+    let mut buf = [0; 2];
+    let answers = [
+        spawner.read(child, &mut buf),
+        spawner.read(child, &mut buf),
+        spawner.read(child, &mut buf),
+    ];
+    assert_eq!(rt; answers, [Ok(1), Err(SpawnFailed), Ok(0)]);
     Ok(())
 }

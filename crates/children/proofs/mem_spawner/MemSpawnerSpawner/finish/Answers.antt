@@ -45,5 +45,5 @@ pub returns-clause-status : goal.returns-clause-status
 returns-clause-status c = λ words end told left ends.
     let status = rw c.as_slice.ensures.items at c.status_at.ensures in
     let its = child-ends c.args.self.now.scripts c.args.self.now.children.items c.args.child c.index-ended.result.now words
-        c.requires.started c.index-ended.ensures c.args.self.now.to_first told in
+    c.requires.started c.index-ended.ensures c.args.self.now.to_first told in
     status ∙ same_Some _ _ (sym its ∙ ends)

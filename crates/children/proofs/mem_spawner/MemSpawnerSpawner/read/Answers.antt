@@ -33,4 +33,4 @@ returns-clause-amount c =
     let count = rw c.as_slice.ensures.items at c.copy_rest-n.ensures.count in
     count ∙ ap (λ rest. min (length c.args.buf.now) (length rest))
     (child-rest c.args.self.now.scripts c.args.self.now.children.items c.args.child c.index-running.result.now c.requires
-        c.index-running.ensures)
+    c.index-running.ensures)
