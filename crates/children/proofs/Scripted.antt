@@ -1,17 +1,17 @@
 -- What the calls of a spawner in memory do to what it shows.
-use Rattle.std.proofs.Common.{◌≡◌, ◌≢◌, ◌<◌, ◌+◌, ℕ, zero, suc, List, [], ◌∷◌, ◌++◌, length, take, drop, set, map, get_or, refl, sym, ◌∙◌}
-use Rattle.std.proofs.Common.{ap, arith, length-append, true, false, Bool, cond, min, rules, string_bytes}
+use Rattle.std.proofs.Common.{◌≡◌, ◌<◌, ◌+◌, ℕ, zero, suc, List, [], ◌∷◌, ◌++◌, length, take, drop, set, map, get_or, refl, sym, ◌∙◌}
+use Rattle.std.proofs.Common.{ap, arith, length-append, true, false, Bool, cond, min, string_bytes}
 use Rattle.std.specs.Prelude.{Some, IfSome, unwrap_or, String, ◌&&◌}
 use Rattle.std.specs.List.{slice_get, All}
 use Rattle.std.specs.Option.{option_map}
 use Rattle.std.specs.Str.{bytes_eq}
 use Rattle.std.specs.Cmp.Lexicographic.{pointwise, pointwise_decides}
-use Rattle.std.proofs.lemmas.List.{take-append-drop, drop-drop, map-append, length-set, get_or-map, length-drop}
+use Rattle.std.proofs.lemmas.List.{take-append-drop, drop-drop, map-append, length-set, get_or-map}
 use Rattle.std.proofs.lemmas.List.Elements.{All-get_or, All-set, All-append}
 use Rattle.std.proofs.lemmas.List.Quantifiers.{position-Some}
 use Rattle.std.proofs.lemmas.Option.{same_Some}
 use Rattle.std.proofs.lemmas.Slice.Eq.{bytes_eq-Decides}
-use Rattle.children.specs.Spawners.{Words, ReadsChild, Starts, Finishes, Asks, IsAtEnd, words_of}
+use Rattle.children.specs.Spawners.{Words, ReadsChild, Starts, Finishes, Asks, words_of}
 use Rattle.children.specs.Scripts.{same_words, words_in, index_of, words_at, bytes_at, status_at, status_under, rest_of, KeepsToFirst}
 use Rattle.children.specs.MemSpawner.{state_of}
 use Rattle.children.specs.declared.mem_spawner.Script.{Script}

@@ -1,4 +1,4 @@
-use Rattle.std.proofs.Common.{◌≡◌, sym, ◌∙◌, ap, refl, arith, Some}
+use Rattle.std.proofs.Common.{sym, ◌∙◌, ap, refl, arith, Some}
 use Rattle.std.proofs.lemmas.Option.{same_Some}
 use Rattle.children.proofs.Scripted.{child-finishes, child-ends, firsts-put}
 use Rattle.children.proofs.mem_spawner.MemSpawnerSpawner.finish.Goals as goal

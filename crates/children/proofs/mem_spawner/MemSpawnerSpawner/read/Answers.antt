@@ -1,4 +1,4 @@
-use Rattle.std.proofs.Common.{◌≡◌, ◌∙◌, ap, length, min, refl, arith}
+use Rattle.std.proofs.Common.{◌∙◌, ap, length, min, refl, arith}
 use Rattle.children.proofs.Scripted.{child-reads, child-end, child-done, child-rest, firsts-put}
 use Rattle.children.proofs.mem_spawner.MemSpawnerSpawner.read.Goals as goal
 

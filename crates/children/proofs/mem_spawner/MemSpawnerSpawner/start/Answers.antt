@@ -1,6 +1,5 @@
-use Rattle.std.proofs.Common.{◌≡◌, ◌≤◌, sym, ◌∙◌, length, rules, arith, [], ◌∷◌, ◌++◌, Some}
+use Rattle.std.proofs.Common.{◌≡◌, sym, ◌∙◌, length, rules, arith}
 use Rattle.children.specs.Spawners.{words_of}
-use Rattle.children.specs.Scripts.{index_of}
 use Rattle.children.proofs.Scripted.{found-asks, found-starts, firsts-more}
 use Rattle.children.proofs.mem_spawner.MemSpawnerSpawner.start.Goals as goal
 
