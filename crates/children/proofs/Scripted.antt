@@ -109,15 +109,19 @@ rest-next : (bytes : List ℕ) (at n : ℕ) (finished : Bool)
 rest-next bytes at n true = sym (drop-none n)
 rest-next bytes at n false = sym (drop-drop n at bytes)
 
--- a child that goes on by n bytes gives them
+-- a child of which n more bytes were read
+abbrev pub gone_on : Running → ℕ → Running
+gone_on child n = record { script = child.script; at = child.at + n; is_finished = child.is_finished }
+
+-- it gives these bytes
 pub child-reads : (scripts : List Script) (children : List Running) (told : Bool) (asked : List ℕ) (faults i n : ℕ) (child : Running)
     (front : List ℕ)
     → i < length children → child ≡ get_or children i child → front ≡ take n (rest_of scripts child)
     → ReadsChild (state_of scripts children told asked faults)
-    (state_of scripts (set children i (record { script = child.script; at = child.at + n; is_finished = child.is_finished })) told asked faults)
+    (state_of scripts (set children i (gone_on child n)) told asked faults)
     i front
 child-reads scripts children told asked faults i n child front h e f =
-    let next : Running = record { script = child.script; at = child.at + n; is_finished = child.is_finished } in
+    let next = gone_on child n in
     let rest : rest_of scripts next ≡ drop n (rest_of scripts child) =
     rest-next (bytes_at scripts child.script) child.at n child.is_finished in
     let parts : rest_of scripts child ≡ front ++ rest_of scripts next =
@@ -145,9 +149,9 @@ pub child-end : (scripts : List Script) (children : List Running) (i n room : �
     → i < length children → child ≡ get_or children i child → n ≡ min room (length (rest_of scripts child))
     → n ≡ 0 → 0 < room
     → IfSome (slice_get (map (rest_of scripts)
-    (set children i (record { script = child.script; at = child.at + n; is_finished = child.is_finished }))) i) (λ rest. rest ≡ [])
+    (set children i (gone_on child n))) i) (λ rest. rest ≡ [])
 child-end scripts children i n room child h e c z w =
-    let next : Running = record { script = child.script; at = child.at + n; is_finished = child.is_finished } in
+    let next = gone_on child n in
     let none : rest_of scripts child ≡ [] = length-none (rest_of scripts child) (omega arith) in
     let rest : rest_of scripts next ≡ drop n (rest_of scripts child) =
     rest-next (bytes_at scripts child.script) child.at n child.is_finished in

@@ -1,5 +1,5 @@
 //! A spawner in memory that fails at chosen calls.
-ghost use Rattle.std.specs.Prelude.{◌≡◌, ◌<◌, ◌≤◌, vec_len, vec_capacity};
+ghost use Rattle.std.specs.Prelude.{◌≤◌, vec_len, vec_capacity};
 ghost use Rattle.std.specs.List.{All};
 ghost use Rattle.children.specs.Scripts.{KeepsToFirst};
 
@@ -67,8 +67,8 @@ impl MemSpawner {
     ghost use Rattle.std.specs.Prelude.{IfOk};
     ghost use Rattle.children.specs.MemSpawner.{IsNewMemSpawner};
 
-    /// A spawner that knows these scripts, with room for 64 calls of `start`. All its calls, counted
-    /// together, fail where their number is listed.
+    /// A spawner that knows these scripts, with room for 64 calls of `start`. All its calls are
+    /// counted together, from 1, and fail where their number is listed.
     pub fn new(alloc: Global, scripts: Scripts, fails: FailList) -> Result<MemSpawner, OutOfMemory>
         ensures { IfOk result (λ spawner. IsNewMemSpawner spawner
             (record { scripts = scripts; fails = fails })) }
@@ -110,7 +110,8 @@ impl Spawner for MemSpawner {
         ensures fixed { Fixed (mem_spawner_state self.old) (mem_spawner_state self.new) }
         ensures cause { OnErr result
             (Rose (mem_spawner_state self.old).faults (mem_spawner_state self.new).faults) }
-        ensures counted { (mem_spawner_state self.old).faults ≤ (mem_spawner_state self.new).faults }
+        ensures counted { (mem_spawner_state self.old).faults
+            ≤ (mem_spawner_state self.new).faults }
 
         ensures fails { is_err result ≡ start_fails self.old (words_of words.now) }
         ensures told { is_some (mem_spawner_state self.new).asked
@@ -158,7 +159,8 @@ impl Spawner for MemSpawner {
             (λ n. (mem_spawner_state self.old).finished child ≡ true → n ≡ 0) }
         ensures cause { OnErr result
             (Rose (mem_spawner_state self.old).faults (mem_spawner_state self.new).faults) }
-        ensures counted { (mem_spawner_state self.old).faults ≤ (mem_spawner_state self.new).faults }
+        ensures counted { (mem_spawner_state self.old).faults
+            ≤ (mem_spawner_state self.new).faults }
 
         ensures fails { is_err result ≡ call_fails self.old }
         ensures amount { IfOk result
@@ -191,7 +193,8 @@ impl Spawner for MemSpawner {
         ensures status { IfOk result (StatusIs (mem_spawner_state self.old) child) }
         ensures cause { OnErr result
             (Rose (mem_spawner_state self.old).faults (mem_spawner_state self.new).faults) }
-        ensures counted { (mem_spawner_state self.old).faults ≤ (mem_spawner_state self.new).faults }
+        ensures counted { (mem_spawner_state self.old).faults
+            ≤ (mem_spawner_state self.new).faults }
 
         ensures fails { is_err result ≡ call_fails self.old }
         // Also where output was left.

@@ -58,7 +58,7 @@ impl<R: Processes + Copy> ProcessSpawner<R> {
 }
 
 impl<R: Processes> ProcessSpawner<R> {
-    ghost use Rattle.std.specs.Prelude.{◌≡◌, ◌≤◌, ◌+◌, ◌++◌, ◌∷◌, [], length, false, IfSome, IfNone};
+    ghost use Rattle.std.specs.Prelude.{◌≡◌, ◌≤◌, ◌++◌, ◌∷◌, [], length, false, IfSome, IfNone};
     ghost use Rattle.std.specs.Prelude.{OnErr};
     ghost use Rattle.det_edges.specs.Count.{Rose};
     ghost use Rattle.children.specs.Spawners.{Starts, words_of};
