@@ -1,3 +1,4 @@
 mod Items
+mod Reading
 mod Scripted
 mod Untold

@@ -9,12 +9,12 @@ pub struct ChildShelf<P> {
 }
 
 impl<P: Spawner> Slots for ChildShelf<P> {
-    ghost use Rattle.children.specs.Spawners.{Stays};
-    ghost use Rattle.children.specs.ChildShelves.{shelf_state, stays_same as same, stays_on as on};
+    ghost use Rattle.children.specs.ChildShelves.{shelf_state, ShelfStays};
+    ghost use Rattle.children.specs.ChildShelves.{stays_same as same, stays_on as on};
 
     ghost sees = { λ s. shelf_state (P.sees s.spawner) };
 
-    ghost stays = { λ a b. Stays (P.sees a.spawner) (P.sees b.spawner) };
+    ghost stays = { λ a b. ShelfStays (P.sees a.spawner) (P.sees b.spawner) };
 
     ghost stays_same = { λ s. same (P.sees s.spawner) };
 
