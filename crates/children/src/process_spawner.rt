@@ -20,9 +20,9 @@ use std::process::{Child, Command, Processes, Stdio};
 ///   wait for ever, which no contract says.
 /// - A process that a child started and that holds the pipe can delay the end of a read beyond the
 ///   child's own end.
-/// - `finish` kills a child of which no read has met the end of its output. Where such a child has
-///   written all, whether it has a status depends on which of them comes first.
-/// - A spawner that is dropped leaves its children that weren't finished running.
+/// - `finish` kills a child of whose output no read has met the end. If that child was about to end
+///   by itself, whether it has a status depends on what comes first.
+/// - A spawner that is dropped leaves the children running that weren't given to `finish`.
 #[derive(Drop)]
 pub struct ProcessSpawner<R: Processes> {
     rt: R,
