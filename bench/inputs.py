@@ -112,4 +112,4 @@ def behind(is_quick: bool) -> Recording:
 
 
 RECORDED = {"bank": bank, "cloud": cloud, "large": large, "guard": guard, "cycles": cycles}
-NAMES = (*RECORDED, "copies", "chain", "sim", "heavy")
+NAMES = (*RECORDED, "copies", "chain", "running", "sim", "heavy")

@@ -18,7 +18,6 @@ from running import Failure, Runner, adopt_orphans
 from suites import Bench, Programs, Row, build_plain
 
 TOP = Path(__file__).resolve().parent.parent
-PROGRAM = TOP / "crates" / "det" / "out" / "det"
 POOL = TOP / "crates" / "bench_pool"
 ROUNDS = 5
 
@@ -56,10 +55,17 @@ def print_findings(bench: Bench, load: float) -> None:
     print(f"- load average {load:.2f} before the first run, {os.getloadavg()[0]:.2f} behind the last one")
 
 
-def build_program() -> Path:
-    if subprocess.run([str(TOP / "bin" / "det"), "--version"], stdout=subprocess.DEVNULL).returncode != 0:
-        raise Failure("bin/det doesn't run")
-    return PROGRAM
+def build_program(name: str) -> Path:
+    if subprocess.run([str(TOP / "bin" / name), "--version"], stdout=subprocess.DEVNULL).returncode != 0:
+        raise Failure(f"bin/{name} doesn't run")
+    return TOP / "crates" / name / "out" / name
+
+
+def lane_program(options: argparse.Namespace) -> Optional[Path]:
+    """The program of lanes: the one that is given, or, where no program is, one that is built."""
+    if options.lane or options.program:
+        return options.lane and options.lane.resolve()
+    return build_program("det_lane")
 
 
 def pool_program(options: argparse.Namespace) -> Optional[Path]:
@@ -72,8 +78,9 @@ def pool_program(options: argparse.Namespace) -> Optional[Path]:
 
 
 def measured(options: argparse.Namespace, room: Path) -> Bench:
-    det = options.program.resolve() if options.program else build_program()
-    programs = Programs(det, pool_program(options), build_plain("baseline", room), build_plain("client", room))
+    det = options.program.resolve() if options.program else build_program("det")
+    plain = build_plain("baseline", room), build_plain("client", room)
+    programs = Programs(det, lane_program(options), pool_program(options), *plain)
     if None in (programs.baseline, programs.client):
         print("a program in plain Rust is left out: rustc doesn't build it", file=sys.stderr)
     adopt_orphans()
@@ -96,6 +103,7 @@ def options_of_words() -> argparse.Namespace:
     parser.add_argument("--only", choices=NAMES, help="one of the inputs")
     parser.add_argument("--rounds", type=positive, help=f"timed runs of each command; else {ROUNDS}")
     parser.add_argument("--program", type=Path, help="a program that is there, in place of the one that bin/det builds")
+    parser.add_argument("--lane", type=Path, help="likewise det_lane; with --program alone its copies are left out")
     parser.add_argument("--pool", type=Path, help="likewise bench_pool; with --program alone its passes are left out")
     return parser.parse_args()
 

@@ -27,9 +27,10 @@ BY_CLIENT = ", same interfaces"
 
 @dataclass(frozen=True)
 class Programs:
-    """The program that is measured, that of its pool, and the plain ones, where there is a compiler for them."""
+    """The program that is measured, those of copies and of its pool, and the plain ones, where there is a compiler for them."""
 
     det: Path
+    lane: Optional[Path]
     pool: Optional[Path]
     baseline: Optional[Path]
     client: Optional[Path]
@@ -207,6 +208,26 @@ class Bench:
         self.add_rows(results, (size(one) + size(two)) // 2)
         self.judge(results, {})
 
+    # ---- copies that run now ----
+
+    def running_copies(self) -> None:
+        """Two copies of a cloud, and one of them alone."""
+        if self.programs.lane is None:
+            self.remarks.append("running copies are left out: there is no program of lanes")
+            return
+        recording = cloud(self.is_quick)
+        record = self.room("record")
+        _, words = self.inputs(recording)
+        manifest, stimulus = words[2:4]
+        lane = [str(self.programs.lane), str(self.programs.det), "2", manifest, stimulus]
+        commands = [
+            Command("one record", self.det("record", manifest, stimulus, "--workers", 1), 1, keep=record),
+            Command("det_lane 2", lane, gives="verdict on children", records=2),
+        ]
+        results = self.runner.measure(commands)
+        self.add_rows(results, size(record))
+        self.judge(results, {"verdict on children": digest_of_text(f"agree {recording.cycles()}\n")})
+
     # ---- a simulated run ----
 
     def sim(self) -> None:
@@ -240,6 +261,8 @@ class Bench:
             self.copies()
         if only in (None, "chain"):
             self.chain()
+        if only in (None, "running"):
+            self.running_copies()
         if only in (None, "sim"):
             self.sim()
         if only in (None, "heavy"):

@@ -1,8 +1,8 @@
 #!/usr/bin/env python3
 """Runs the console blocks of a document and compares what they print with what stands there.
 
-    python3 tests/console.py docs/TUTORIAL.md                   with bin/det, which builds where needed
-    python3 tests/console.py docs/TUTORIAL.md --program FILE    with another build of the program
+    python3 tests/console.py docs/TUTORIAL.md                      with the programs of bin/, which build where needed
+    python3 tests/console.py docs/TUTORIAL.md --programs FOLDER    with other builds of them
 
 A block is fenced by ```console. A line behind "$ " is a command, lines behind "> " go on with it, and the lines up to the next
 command are what it prints, on standard output and standard error together. All commands of a document run in one shell, which
@@ -44,22 +44,22 @@ def commands_of(document: Path) -> list[Command]:
     return commands
 
 
-def script_of(commands: list[Command], program: Path | None) -> str:
+def script_of(commands: list[Command], programs: Path | None) -> str:
     """One script that marks where the output of each command begins."""
     parts = []
-    if program:
-        parts.append('det() { "$DET_PROGRAM" "$@"; }')
     for number, command in enumerate(commands):
+        if programs:
+            parts.append('PATH="$PROGRAMS:$PATH"')
         parts += [f"echo '{MARK}{number}'", command.text]
     return "\n".join(parts) + "\n"
 
 
-def printed_by(commands: list[Command], program: Path | None) -> list[list[str]]:
+def printed_by(commands: list[Command], programs: Path | None) -> list[list[str]]:
     """What each command prints, line by line."""
-    environment = dict(os.environ, DET_PROGRAM=str(program))
+    environment = dict(os.environ, PROGRAMS=str(programs))
     done = subprocess.run(
         ["bash"],
-        input=script_of(commands, program),
+        input=script_of(commands, programs),
         cwd=TOP,
         env=environment,
         stdout=subprocess.PIPE,
@@ -80,12 +80,12 @@ def printed_by(commands: list[Command], program: Path | None) -> list[list[str]]
 def main() -> int:
     parser = argparse.ArgumentParser(description="Runs the console blocks of a document.")
     parser.add_argument("document", type=Path)
-    parser.add_argument("--program", type=Path, help="a build of det to take in place of bin/det")
+    parser.add_argument("--programs", type=Path, help="a folder of builds to take in place of bin/")
     given = parser.parse_args()
-    program = given.program.resolve() if given.program else None
+    programs = given.programs.resolve() if given.programs else None
     commands = commands_of(given.document)
     bad = 0
-    for command, output in zip(commands, printed_by(commands, program)):
+    for command, output in zip(commands, printed_by(commands, programs)):
         if output != command.prints:
             bad += 1
             print(f"{given.document}:{command.line}: {command.text}")

@@ -1,0 +1,77 @@
+-- How a lane meets its outcome, by what it finds of its children.
+use Rattle.std.proofs.Common.{◌≡◌, ◌⊎◌, inl, inr, ℕ, List, [], ap, ◌∙◌, subst}
+use Rattle.std.specs.Prelude.{Option, Some, Result, Err}
+use Rattle.det_edges.specs.Sink.{Grew, GrewByPrefix}
+use Rattle.det_edges.proofs.Growth.{part-wider}
+use Rattle.det_edges.proofs.Prefixes.{prefix-none}
+use Rattle.children.specs.Spawners.{SpawnerState}
+use Rattle.lockstep.specs.declared.verdict.Verdict.{Verdict}
+use Rattle.cli_answers.specs.Outcome.{OutcomeIn, MeetsBy}
+use Rattle.lane_cli.specs.declared.answer.LaneAnswer.{LaneAnswer}
+use Rattle.lane_cli.specs.declared.answer.LaneAnswer.TheVariants.{BadWords, WriteFault, OutOfMemory, SpawnFault}
+use Rattle.lane_cli.specs.Answers.{failed}
+use Rattle.lane_cli.specs.Outcome.{outcome_of, children_of, Tells}
+use Rattle.lane_cli.specs.Promise.{Runs}
+use Rattle.lane_cli.specs.Watched.{found_by, Watched}
+use Rattle.lane_cli.specs.Words.{LaneValue, CommandValue, run}
+
+-- nothing is written where a lane finds a fault or no memory
+nothing-part : (before after : List ℕ → Type 0) (bytes : List ℕ) (found : Result Verdict LaneAnswer) (answer : LaneAnswer)
+    → found ≡ Err answer → GrewByPrefix before after (found_by found).bytes → GrewByPrefix before after bytes
+nothing-part before after bytes found answer e part =
+    part-wider before after [] bytes (let p = rw e at part in p) (prefix-none bytes)
+
+module _ {first last : SpawnerState} {lane : LaneValue} {found : Result Verdict LaneAnswer} {other : Type 0}
+    {before after : List ℕ → Type 0} {answer : LaneAnswer} (w : Watched first last lane found)
+    (m : MeetsBy failed (found_by found) (Unit {0}) (found ≡ Err SpawnFault) other before after answer) where
+  abbrev wanted : OutcomeIn LaneAnswer
+  wanted = outcome_of first (Some (run lane))
+
+  lane-part : Tells first (children_of (Some (run lane))) → GrewByPrefix before after wanted.bytes
+  lane-part t = elim (w.told t) [
+    | inl fault ↦ nothing-part before after wanted.bytes found SpawnFault fault (m.part tt)
+    | inr more ↦ elim more [
+      | inl memory ↦ nothing-part before after wanted.bytes found OutOfMemory memory (m.part tt)
+      | inr same ↦ rw (← same) (m.part tt)
+    ]
+  ]
+
+  abbrev Whole : OutcomeIn LaneAnswer → Type 0
+  Whole o = (answer ≡ SpawnFault) ⊎ ((answer ≡ WriteFault) ⊎ ((answer ≡ OutOfMemory) ⊎ ((answer ≡ o.answer) × Grew before after o.bytes)))
+
+  -- a fault that was found is the answer, or another failure is
+  whole-fault : found ≡ Err SpawnFault → Whole (found_by found) → Whole wanted
+  whole-fault e (inl read) = inl read
+  whole-fault e (inr (inl write)) = inr (inl write)
+  whole-fault e (inr (inr (inl memory))) = inr (inr (inl memory))
+  whole-fault e (inr (inr (inr same))) = inl (same.0 ∙ ap (λ (f : Result Verdict LaneAnswer). (found_by f).answer) e)
+
+  whole-memory : found ≡ Err OutOfMemory → Whole (found_by found) → Whole wanted
+  whole-memory e (inl read) = inl read
+  whole-memory e (inr (inl write)) = inr (inl write)
+  whole-memory e (inr (inr (inl memory))) = inr (inr (inl memory))
+  whole-memory e (inr (inr (inr same))) = inr (inr (inl (same.0 ∙ ap (λ (f : Result Verdict LaneAnswer). (found_by f).answer) e)))
+
+  lane-whole : Tells first (children_of (Some (run lane))) → Whole wanted
+  lane-whole t = elim (w.told t) [
+    | inl fault ↦ whole-fault fault (m.whole tt)
+    | inr more ↦ elim more [
+      | inl memory ↦ whole-memory memory (m.whole tt)
+      | inr same ↦ rw (← same) (m.whole tt)
+    ]
+  ]
+
+  -- children were run, and what was found of them was told
+  pub runs-lane : (command : Option CommandValue) → Some (run lane) ≡ command → (answer ≡ BadWords → ⊥)
+      → Runs command first last other before after answer
+  runs-lane command is no_words = subst (λ (c : Option CommandValue). Runs c first last other before after answer) is (record {
+    meets = record {
+      part = lane-part;
+      whole = lane-whole;
+      read_fault = λ e. w.cause (m.read_fault e);
+      write_fault = m.write_fault;
+    };
+    bad_words = (λ e. absurd (no_words e), λ e. absurd cc);
+    asked = w.asked;
+    finished = w.finished;
+  })

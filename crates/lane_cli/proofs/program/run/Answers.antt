@@ -1,0 +1,11 @@
+use Rattle.std.proofs.Common.{sym, ap, ◌∙◌}
+use Rattle.std.specs.Prelude.{Some}
+use Rattle.lane_cli.specs.declared.words.LaneCommand.{LaneCommand}
+use Rattle.lane_cli.specs.Words.{command_seen}
+use Rattle.lane_cli.proofs.Meeting.{runs-lane}
+use Rattle.lane_cli.proofs.program.run.Goals as goal
+
+pub returns-in-Some-Run : goal.returns-in-Some-Run
+returns-in-Some-Run g c =
+    runs-lane c.watch-found.ensures c.tell.ensures.meets _
+    (ap (λ (l : LaneCommand). Some (command_seen l)) (sym c.in-Some-Run.field-0-is) ∙ c.in-Some-Run.ensures) c.tell.ensures.words
