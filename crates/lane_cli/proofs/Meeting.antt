@@ -39,24 +39,18 @@ module _ {first last : SpawnerState} {lane : LaneValue} {found : Result Verdict 
   abbrev Whole : OutcomeIn LaneAnswer → Type 0
   Whole o = (answer ≡ SpawnFault) ⊎ ((answer ≡ WriteFault) ⊎ ((answer ≡ OutOfMemory) ⊎ ((answer ≡ o.answer) × Grew before after o.bytes)))
 
-  -- a fault that was found is the answer, or another failure is
-  whole-fault : found ≡ Err SpawnFault → Whole (found_by found) → Whole wanted
-  whole-fault e (inl read) = inl read
-  whole-fault e (inr (inl write)) = inr (inl write)
-  whole-fault e (inr (inr (inl memory))) = inr (inr (inl memory))
-  whole-fault e (inr (inr (inr same))) = inl (same.0 ∙ ap (λ (f : Result Verdict LaneAnswer). (found_by f).answer) e)
-
-  whole-memory : found ≡ Err OutOfMemory → Whole (found_by found) → Whole wanted
-  whole-memory e (inl read) = inl read
-  whole-memory e (inr (inl write)) = inr (inl write)
-  whole-memory e (inr (inr (inl memory))) = inr (inr (inl memory))
-  whole-memory e (inr (inr (inr same))) = inr (inr (inl (same.0 ∙ ap (λ (f : Result Verdict LaneAnswer). (found_by f).answer) e)))
+  -- a failure that was found is the answer, or another is
+  whole-failure : (failure : LaneAnswer) → found ≡ Err failure → (answer ≡ failure → Whole wanted) → Whole (found_by found) → Whole wanted
+  whole-failure failure e told (inl read) = inl read
+  whole-failure failure e told (inr (inl write)) = inr (inl write)
+  whole-failure failure e told (inr (inr (inl memory))) = inr (inr (inl memory))
+  whole-failure failure e told (inr (inr (inr same))) = told (same.0 ∙ ap (λ (f : Result Verdict LaneAnswer). (found_by f).answer) e)
 
   lane-whole : Tells first (children_of (Some (run lane))) → Whole wanted
   lane-whole t = elim (w.told t) [
-    | inl fault ↦ whole-fault fault (m.whole tt)
+    | inl fault ↦ whole-failure SpawnFault fault (λ s. inl s) (m.whole tt)
     | inr more ↦ elim more [
-      | inl memory ↦ whole-memory memory (m.whole tt)
+      | inl memory ↦ whole-failure OutOfMemory memory (λ s. inr (inr (inl s))) (m.whole tt)
       | inr same ↦ rw (← same) (m.whole tt)
     ]
   ]

@@ -28,8 +28,15 @@ const SLOTS: [u32; 8] = [0, 1, 2, 3, 4, 5, 6, 7];
 /// Runs the command that the words give, which are those after the program's name.
 ///
 /// All children are started before one is read, and all are finished before the line is written. A
-/// child whose output isn't read to its end is stopped by its spawner. `read` and `finish` of a
-/// spawner of processes can wait for ever, so that this call returns isn't promised.
+/// child whose output isn't read to its end is stopped by its spawner. Where a child can't be
+/// started, or there is no memory for its words, those before it are finished.
+///
+/// A start or a read that fails is a spawn fault. So is an end that fails where the exit status
+/// counts: of every child where the copies agree, also where another child ended with a status that
+/// isn't 0, and of the copy whose record breaks off. Any other end may fail.
+///
+/// `read` and `finish` of a spawner of processes can wait for ever, so that this call returns isn't
+/// promised.
 pub fn lane_top<P: Spawner, K: Sink, E: Sink>(
     alloc: Global,
     words: &[String],

@@ -119,6 +119,13 @@ fn equal_records_agree(rt: HostRuntime) -> Result<(), Fail> {
 }
 
 #[test]
+fn eight_equal_records_agree(rt: HostRuntime) -> Result<(), Fail> {
+    let told = of_lane(rt.alloc(), &[(Whole, 0); 8])?;
+    assert_eq!(rt; told.as_slice(), b"0:agree 2\n|".as_slice());
+    Ok(())
+}
+
+#[test]
 fn a_changed_element_is_told(rt: HostRuntime) -> Result<(), Fail> {
     let told = of_lane(rt.alloc(), &[(Whole, 0), (Changed, 0)])?;
     assert_eq!(rt;
