@@ -1,0 +1,111 @@
+//! A queue, with its sender and its receiver.
+ghost use Rattle.std.specs.Prelude.{◌≡◌, ◌∷◌, ◌++◌, [], IfOk, IfErr, OnOk, OnErr, MatchOption};
+ghost use Rattle.frame_queue.specs.Queues.{sent_of, taken_of, IsSenderOf, IsReceiverOf};
+
+use crate::rule::{OrderRule, QueueView, Roles, Sends, Takes, Total};
+use crate::{Receiver, Rest, Row, Sender};
+use crossbeam_queue::RuledArrayQueue;
+use det_values::OutOfMemory;
+use std::alloc::Global;
+use std::sync::Wait;
+use std::thread;
+
+/// How many rows a queue holds at most.
+const PLACES: usize = 32;
+
+pub(crate) type Rows = RuledArrayQueue<Row, QueueView, OrderRule>;
+
+/// A queue of 32 places, for one sender and one receiver.
+#[derive(Drop)]
+pub struct FrameQueue {
+    rows: Rows,
+}
+
+impl FrameQueue {
+    /// An empty queue, with its sender and its receiver. Its places are made at once.
+    pub fn new(alloc: Global) -> Result<(FrameQueue, Sender, Receiver), OutOfMemory>
+        ensures sender { IfOk result (λ made. IsSenderOf made.0 made.1) }
+        ensures receiver { IfOk result (λ made. IsReceiverOf made.0 made.2) }
+        ensures sent { IfOk result (λ made. sent_of made.1 ≡ []) }
+        ensures taken { IfOk result (λ made. taken_of made.2 ≡ []) }
+    {
+        let (rows, mut pass) = Rows::ruled(alloc, PLACES)?;
+        let other = rows.another::<Roles>(&mut pass);
+        Ok((
+            FrameQueue { rows },
+            Sender { pass },
+            Receiver { pass: other },
+        ))
+    }
+
+    /// Sends a row, and tries again while the queue is full. Another thread may run between two
+    /// tries.
+    pub fn send<R: Wait>(&self, rt: &R, sender: &mut Sender, row: Row)
+        requires { IsSenderOf self.now sender.old }
+        ensures queue { IsSenderOf self.now sender.new }
+        ensures sent { sent_of sender.new ≡ sent_of sender.old ++ row ∷ [] }
+    {
+        let mut row = row;
+        for _ in rt.forever() {
+            match self.try_send(sender, row) {
+                Ok(()) => return,
+                Err(back) => {
+                    row = back;
+                    thread::yield_now();
+                }
+            }
+        }
+        unreachable!()
+    }
+
+    /// Sends a row, or gives it back where no place was found.
+    fn try_send(&self, sender: &mut Sender, row: Row) -> Result<(), Row>
+        requires { IsSenderOf self.now sender.old }
+        ensures queue { IsSenderOf self.now sender.new }
+        ensures ok { OnOk result (sent_of sender.new ≡ sent_of sender.old ++ row ∷ []) }
+        ensures err { OnErr result (sent_of sender.new ≡ sent_of sender.old) }
+        ensures back { IfErr result (λ back. back ≡ row) }
+    {
+        self.rows.try_push_as::<Sends>(&mut sender.pass, row)
+    }
+
+    /// Takes the next row, and tries again while the queue is empty. Another thread may run
+    /// between two tries.
+    pub fn take<R: Wait>(&self, rt: &R, receiver: &mut Receiver) -> Row
+        requires { IsReceiverOf self.now receiver.old }
+        ensures queue { IsReceiverOf self.now receiver.new }
+        ensures taken { taken_of receiver.new ≡ taken_of receiver.old ++ result ∷ [] }
+    {
+        for _ in rt.forever() {
+            match self.try_take(receiver) {
+                Some(row) => return row,
+                None => thread::yield_now(),
+            }
+        }
+        unreachable!()
+    }
+
+    /// Takes the next row, if one was found.
+    fn try_take(&self, receiver: &mut Receiver) -> Option<Row>
+        requires { IsReceiverOf self.now receiver.old }
+        ensures queue { IsReceiverOf self.now receiver.new }
+        ensures taken { MatchOption result (taken_of receiver.new ≡ taken_of receiver.old)
+            (λ row. taken_of receiver.new ≡ taken_of receiver.old ++ row ∷ []) }
+    {
+        self.rows.try_pop_as::<Takes>(&mut receiver.pass)
+    }
+
+    /// Ends the sending and the taking. What was sent and not taken is the answer.
+    pub fn close(self, sender: Sender, receiver: Receiver) -> Rest
+        requires sender { IsSenderOf self sender }
+        requires receiver { IsReceiverOf self receiver }
+        ensures { sent_of sender ≡ taken_of receiver ++ result }
+    {
+        let Sender { mut pass } = sender;
+        let Receiver { pass: other } = receiver;
+        let FrameQueue { rows } = self;
+        rows.absorb::<Roles>(&mut pass, other);
+        rows.learn_as::<Total>(&mut pass);
+        Rest { rows, pass }
+    }
+}

@@ -1,0 +1,200 @@
+-- What twins find of a manifest and of a stimulus.
+use Rattle.std.proofs.Common.{◌≡◌, ◌<◌, ◌≤◌, ℕ, List, [], ◌∷◌, length, refl, sym, ap, subst, ◌∙◌, inl, inr, arith}
+use Rattle.std.specs.Prelude.{◌≢◌, true, nat_lt, Some, Result, Ok, Err, IsSome}
+use Rattle.std.proofs.lemmas.Bool.{lt-ltb}
+use Rattle.det_values.specs.Values.{ProfileValue}
+use Rattle.det_values.specs.declared.job_kind.JobKind.{JobKind}
+use Rattle.det_edges.specs.Count.{Rose}
+use Rattle.det_edges.specs.Shelf.{ShelfState, Asks, AsksPrefix}
+use Rattle.det_edges.specs.Traffic.{failure_in, IfRefused}
+use Rattle.det_edges.specs.declared.failure.Failure.TheVariants as failures
+use Rattle.det_edges.specs.declared.failure.Stopped.{Stopped}
+use Rattle.det_edges.specs.declared.failure.Stopped.TheVariants.{Refused, Failed}
+use Rattle.det_edges.specs.declared.reading.TooLong.{TooLong}
+use Rattle.det_edges.proofs.Counts.{rose-before}
+use Rattle.det_edges.proofs.Opening.{asks-all, asks-prefix-none, asks-then-prefix}
+use Rattle.shipped_jobs.proofs.ByKinds.{by_kind-has}
+use Rattle.manifest.specs.Values.{ManifestValue}
+use Rattle.manifest.specs.Profiles.{profile_of}
+use Rattle.lockstep.specs.declared.verdict.Verdict.{Verdict}
+use Rattle.cli_answers.specs.declared.answer.BadManifest as refusals
+use Rattle.cli_answers.specs.Outcome.{OutcomeIn, Tells, told}
+use Rattle.cmd_setup.specs.Setup.{setup_of}
+use Rattle.twin_cli.specs.declared.answer.TwinAnswer.{TwinAnswer}
+use Rattle.twin_cli.specs.declared.answer.TwinAnswer.TheVariants.{BadWords, LongStimulus, ReadFault, WriteFault}
+use Rattle.twin_cli.specs.Answers.{without_manifest, without_text}
+use Rattle.twin_cli.specs.Finding.{Finds, Found}
+use Rattle.twin_cli.specs.Outcome.{refusal, twinned, twinned_by_kind, twinned_by, twins_outcome, names_by}
+use Rattle.twin_cli.specs.Words.{TwinsValue}
+
+-- ---- of a text
+
+module _ (twins : TwinsValue) (kind : JobKind) (profile : ProfileValue) (text : List ℕ) where
+  -- the outcome of a kind's job
+  abbrev wanted : OutcomeIn TwinAnswer
+  wanted = twinned_by_kind twins kind profile text
+
+  -- a text that is too long
+  too-long : 1048576 < length text → refusal LongStimulus ≡ wanted
+  too-long long =
+      let e : nat_lt 1048576 (length text) ≡ true = lt-ltb 1048576 (length text) long in
+      by_kind-has (λ S G E L P m. twinned twins m profile text) (λ o. refusal LongStimulus ≡ o) (λ S G E L P m. rw e refl) kind
+
+-- neither shelf nor sink failed, and the words were a command
+pub record IsQuiet (result : Result Verdict TwinAnswer) : Type 0 where
+  pub reads_nothing : result ≢ Err ReadFault
+  pub writes_nothing : result ≢ Err WriteFault
+  pub words : result ≢ Err BadWords
+
+-- ---- of the names
+
+module _ (twins : TwinsValue) (first : ShelfState) where
+  -- what the manifest is
+  abbrev setup : Result ManifestValue refusals.BadManifest
+  setup = setup_of twins.options.strict (told first twins.manifest)
+
+  -- the names that are opened by that
+  abbrev names : Result ManifestValue refusals.BadManifest → List (List ℕ)
+  names read = names_by twins.manifest twins.stimulus read
+
+  -- the manifest is always among them
+  tells-manifest : (read : Result ManifestValue refusals.BadManifest) → Tells first (names read) → IsSome (first.holds twins.manifest)
+  tells-manifest (Ok m) t = t 0 twins.manifest (omega arith)
+  tells-manifest (Err why) t = t 0 twins.manifest (omega arith)
+
+  -- what was asked for where the manifest was read alone
+  asked-manifest : (last : ShelfState) (read : Result ManifestValue refusals.BadManifest) → Asks first last (twins.manifest ∷ [])
+      → AsksPrefix first last (names read)
+  asked-manifest last (Ok m) asked =
+      asks-then-prefix first last last (twins.manifest ∷ []) (twins.stimulus ∷ []) asked
+      (asks-prefix-none last last (twins.stimulus ∷ []) refl)
+  asked-manifest last (Err why) asked = asks-all first last (twins.manifest ∷ []) asked
+
+  asked-first : (last : ShelfState) → Asks first last (twins.manifest ∷ []) → AsksPrefix first last (twins.manifest ∷ twins.stimulus ∷ [])
+  asked-first last asked =
+      asks-then-prefix first last last (twins.manifest ∷ []) (twins.stimulus ∷ []) asked
+      (asks-prefix-none last last (twins.stimulus ∷ []) refl)
+
+  -- a manifest that is refused, or couldn't be read
+  pub found-no-manifest : (last : ShelfState) (end : Stopped refusals.BadManifest)
+      → IfRefused end (λ why. IsSome (first.holds twins.manifest) → setup ≡ Err why)
+      → (failure_in {A = ManifestValue} (Err end) ≡ Some failures.Read → Rose first.faults last.faults)
+      → (failure_in {A = ManifestValue} (Err end) ≡ Some failures.Write → ⊥) → Asks first last (twins.manifest ∷ [])
+      → Found twins first last (Err (without_manifest end))
+  found-no-manifest last (Refused why) bad read write asked = record {
+    finds = λ t. inr (inr (sym (ap (λ r. twinned_by twins r (told first twins.stimulus)) (bad (tells-manifest setup t)))));
+    cause = λ e. absurd cc;
+    writes_nothing = λ e. cc;
+    words = λ e. cc;
+    asked = asked-first last asked;
+    needed = λ t. asked-manifest last setup asked;
+  }
+  found-no-manifest last (Failed failures.Read) bad read write asked = record {
+    finds = λ t. inl refl;
+    cause = λ e. read refl;
+    writes_nothing = λ e. cc;
+    words = λ e. cc;
+    asked = asked-first last asked;
+    needed = λ t. asked-manifest last setup asked;
+  }
+  found-no-manifest last (Failed failures.Write) bad read write asked = absurd (write refl)
+  found-no-manifest last (Failed failures.OutOfMemory) bad read write asked = record {
+    finds = λ t. inr (inl refl);
+    cause = λ e. absurd cc;
+    writes_nothing = λ e. cc;
+    words = λ e. cc;
+    asked = asked-first last asked;
+    needed = λ t. asked-manifest last setup asked;
+  }
+
+  module _ (m : ManifestValue) (is : IsSome (first.holds twins.manifest) → setup ≡ Ok m) where
+    -- where the manifest is told it is this one
+    is-told : Tells first (names setup) → setup ≡ Ok m
+    is-told t = is (tells-manifest setup t)
+
+    -- so both names are opened
+    tells-stimulus : Tells first (names setup) → IsSome (first.holds twins.stimulus)
+    tells-stimulus t =
+        let both : Tells first (names (Ok m)) = subst (λ r. Tells first (names r)) (is-told t) t in both 1 twins.stimulus (omega arith)
+
+    asked-both : (last : ShelfState) → AsksPrefix first last (twins.manifest ∷ twins.stimulus ∷ []) → Tells first (names setup)
+        → AsksPrefix first last (names setup)
+    asked-both last asked t = subst (λ r. AsksPrefix first last (names r)) (sym (is-told t)) asked
+
+    -- the outcome of a text
+    abbrev over : List ℕ → OutcomeIn TwinAnswer
+    over text = twinned_by_kind twins m.kind (profile_of m 0) text
+
+    by-told : Tells first (names setup) → over (told first twins.stimulus) ≡ twins_outcome twins (told first)
+    by-told t = sym (ap (λ r. twinned_by twins r (told first twins.stimulus)) (is-told t))
+
+    module _ (mid last : ShelfState) (holds : mid.holds ≡ first.holds) (asked : Asks first mid (twins.manifest ∷ []))
+        (more : Asks mid last (twins.stimulus ∷ [])) where
+      asked-all : AsksPrefix first last (twins.manifest ∷ twins.stimulus ∷ [])
+      asked-all = asks-then-prefix first mid last (twins.manifest ∷ []) (twins.stimulus ∷ []) asked
+          (asks-all mid last (twins.stimulus ∷ []) more)
+
+      -- the stimulus is told behind the manifest too
+      still-told : Tells first (names setup) → IsSome (mid.holds twins.stimulus)
+      still-told t = subst (λ h. IsSome (h twins.stimulus)) (sym holds) (tells-stimulus t)
+
+      same-text : told mid twins.stimulus ≡ told first twins.stimulus
+      same-text = ap (λ h. told (record first { holds = h }) twins.stimulus) holds
+
+      long-told : (IsSome (mid.holds twins.stimulus) → 1048576 < length (told mid twins.stimulus))
+          → Tells first (names setup) → refusal LongStimulus ≡ twins_outcome twins (told first)
+      long-told long t =
+          too-long twins m.kind (profile_of m 0) (told first twins.stimulus)
+          (subst (λ (l : List ℕ). 1048576 < length l) same-text (long (still-told t)))
+          ∙ by-told t
+
+      -- a stimulus that is too long, or couldn't be read
+      pub found-no-text : (end : Stopped TooLong)
+          → IfRefused end (λ _. IsSome (mid.holds twins.stimulus) → 1048576 < length (told mid twins.stimulus))
+          → (failure_in {A = List ℕ} (Err end) ≡ Some failures.Read → Rose mid.faults last.faults)
+          → (failure_in {A = List ℕ} (Err end) ≡ Some failures.Write → ⊥) → first.faults ≤ mid.faults
+          → Found twins first last (Err (without_text end))
+      found-no-text (Refused long) bad read write counted = record {
+        finds = λ t. inr (inr (long-told bad t));
+        cause = λ e. absurd cc;
+        writes_nothing = λ e. cc;
+        words = λ e. cc;
+        asked = asked-all;
+        needed = asked-both last asked-all;
+      }
+      found-no-text (Failed failures.Read) bad read write counted = record {
+        finds = λ t. inl refl;
+        cause = λ e. rose-before first.faults mid.faults last.faults counted (read refl);
+        writes_nothing = λ e. cc;
+        words = λ e. cc;
+        asked = asked-all;
+        needed = asked-both last asked-all;
+      }
+      found-no-text (Failed failures.Write) bad read write counted = absurd (write refl)
+      found-no-text (Failed failures.OutOfMemory) bad read write counted = record {
+        finds = λ t. inr (inl refl);
+        cause = λ e. absurd cc;
+        writes_nothing = λ e. cc;
+        words = λ e. cc;
+        asked = asked-all;
+        needed = asked-both last asked-all;
+      }
+
+      finds-told : (text : List ℕ) (result : Result Verdict TwinAnswer) → (IsSome (mid.holds twins.stimulus) → text ≡ told mid twins.stimulus)
+          → Finds result (over text) → Tells first (names setup) → Finds result (twins_outcome twins (told first))
+      finds-told text result read (inl memory) t = inl memory
+      finds-told text result read (inr same) t =
+          inr (same ∙ ap over (read (still-told t)) ∙ ap over same-text ∙ by-told t)
+
+      -- copies were run over the stimulus
+      pub found-compared : (text : List ℕ) (result : Result Verdict TwinAnswer)
+          → (IsSome (mid.holds twins.stimulus) → text ≡ told mid twins.stimulus) → Finds result (over text) → IsQuiet result
+          → Found twins first last result
+      found-compared text result read finds quiet = record {
+        finds = λ t. inr (finds-told text result read finds t);
+        cause = λ e. absurd (quiet.reads_nothing e);
+        writes_nothing = quiet.writes_nothing;
+        words = quiet.words;
+        asked = asked-all;
+        needed = asked-both last asked-all;
+      }

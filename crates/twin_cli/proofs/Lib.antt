@@ -1,0 +1,3 @@
+pub mod Meeting
+pub mod Sourcing
+pub mod Finding

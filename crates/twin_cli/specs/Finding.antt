@@ -1,0 +1,33 @@
+-- What twins find of a manifest and of a stimulus.
+use Rattle.std.specs.Prelude.{◌≡◌, ◌≢◌, ◌⊎◌, Result, Ok, Err, Some}
+use Rattle.det_edges.specs.Count.{Rose}
+use Rattle.det_edges.specs.Shelf.{ShelfState, AsksPrefix}
+use Rattle.lockstep.specs.declared.verdict.Verdict.{Verdict}
+use Rattle.verdict_text.specs.Verdicts.{verdict_line}
+use Rattle.cli_answers.specs.Outcome.{OutcomeIn, Tells, told}
+use Rattle.twin_cli.specs.declared.answer.TwinAnswer.{TwinAnswer}
+use Rattle.twin_cli.specs.declared.answer.TwinAnswer.TheVariants.{BadWords, ReadFault}
+use Rattle.twin_cli.specs.declared.answer.TwinAnswer.TheVariants.{WriteFault, OutOfMemory}
+use Rattle.twin_cli.specs.Outcome.{telling, refusal, answer_to, twins_outcome, names_in, opened}
+use Rattle.twin_cli.specs.Words.{TwinsValue, run}
+
+-- a verdict is printed, any other answer is told alone
+abbrev pub found_by : Result Verdict TwinAnswer → OutcomeIn TwinAnswer
+found_by (Ok verdict) = telling (answer_to verdict) (verdict_line verdict)
+found_by (Err answer) = refusal answer
+
+-- this outcome is found, unless memory couldn't be had
+abbrev pub Finds : Result Verdict TwinAnswer → OutcomeIn TwinAnswer → Type 0
+Finds result wanted = (result ≡ Err OutOfMemory) ⊎ (found_by result ≡ wanted)
+
+pub record Found (twins : TwinsValue) (first last : ShelfState) (result : Result Verdict TwinAnswer)
+    : Type 0 where
+  -- the outcome is found where the names are told, unless a read failed or memory couldn't be had
+  pub finds : Tells first (opened (Some (run twins)) (told first))
+      → (result ≡ Err ReadFault) ⊎ Finds result (twins_outcome twins (told first))
+  pub cause : result ≡ Err ReadFault → Rose first.faults last.faults
+  pub writes_nothing : result ≢ Err WriteFault
+  pub words : result ≢ Err BadWords
+  pub asked : AsksPrefix first last (names_in (Some (run twins)))
+  pub needed : Tells first (opened (Some (run twins)) (told first))
+      → AsksPrefix first last (opened (Some (run twins)) (told first))

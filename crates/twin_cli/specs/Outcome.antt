@@ -1,0 +1,96 @@
+-- What twins give of the bytes of a manifest and of a stimulus.
+use Rattle.std.specs.Prelude.{ℕ, List, [], ◌∷◌, nat_lt, length, Option, Some, None}
+use Rattle.std.specs.Prelude.{if◌then◌else◌, Result, Ok, Err}
+use Rattle.det_values.specs.Values.{ProfileValue}
+use Rattle.det_values.specs.declared.frames.Frame.{Frame}
+use Rattle.det_values.specs.declared.job_kind.JobKind.{JobKind}
+use Rattle.job_trait.specs.Meaning.{Meaning}
+use Rattle.shipped_jobs.specs.Kinds.{by_kind}
+use Rattle.stimulus.specs.Reading.{Ending, Terminated, BadLine, blocks, ending}
+use Rattle.manifest.specs.Values.{ManifestValue}
+use Rattle.manifest.specs.Profiles.{profile_of}
+use Rattle.lockstep.specs.declared.verdict.Verdict.{Verdict}
+use Rattle.lockstep.specs.declared.verdict.Verdict.TheVariants.{Agree, Differ}
+use Rattle.verdict_text.specs.Verdicts.{verdict_line}
+use Rattle.cli_answers.specs.declared.answer.BadManifest as refusals
+use Rattle.cli_answers.specs.Outcome.{OutcomeIn}
+use Rattle.cmd_setup.specs.Setup.{setup_of}
+use Rattle.twins.specs.Tampers.{turned_at}
+use Rattle.twins.specs.Verdict.{twin_verdict}
+use Rattle.twin_cli.specs.declared.answer.TwinAnswer.{TwinAnswer}
+use Rattle.twin_cli.specs.declared.answer.TwinAnswer.TheVariants.{Done, Differs, BadWords}
+use Rattle.twin_cli.specs.declared.answer.TwinAnswer.TheVariants.{BadManifest, BadStimulus}
+use Rattle.twin_cli.specs.declared.answer.TwinAnswer.TheVariants.{LongStimulus}
+use Rattle.twin_cli.specs.declared.texts.TheConstants.{USAGE, VERSION}
+use Rattle.twin_cli.specs.declared.copies.Flip.{Flip}
+use Rattle.twin_cli.specs.Words.{TwinsValue, CommandValue, help, version, run}
+
+-- a text and an answer
+abbrev pub telling : TwinAnswer → List ℕ → OutcomeIn TwinAnswer
+telling answer bytes = record { answer = answer; bytes = bytes }
+
+abbrev pub refusal : TwinAnswer → OutcomeIn TwinAnswer
+refusal answer = telling answer []
+
+abbrev pub answer_to : Verdict → TwinAnswer
+answer_to (Agree cycles) = Done
+answer_to (Differ copy at) = Differs
+
+-- how a copy's frame of a number is altered
+abbrev pub altered_by : Option Flip → (copy number : ℕ) → Frame → Frame
+altered_by None copy number frame = frame
+altered_by (Some flip) copy number frame = turned_at flip.copy flip.number copy number frame
+
+module _ (twins : TwinsValue) where
+  module _ {S G E L P : Type 0} (m : Meaning S G E L P) (profile : ProfileValue) where
+    -- the verdict on the copies of the run over a text
+    abbrev pub verdict_on : List ℕ → Verdict
+    verdict_on text = twin_verdict m profile (blocks (length profile.events) text)
+        (altered_by twins.options.flip) twins.copies
+
+    abbrev pub by_ending : Ending → List ℕ → OutcomeIn TwinAnswer
+    by_ending Terminated text =
+        telling (answer_to (verdict_on text)) (verdict_line (verdict_on text))
+    by_ending (BadLine line) text = refusal (BadStimulus line)
+
+    -- a stimulus that has more than 1,048,576 bytes is refused, as is one with a bad line
+    abbrev pub twinned : List ℕ → OutcomeIn TwinAnswer
+    twinned text =
+        if nat_lt 1048576 (length text) then refusal LongStimulus
+        else by_ending (ending (length profile.events) text) text
+
+  abbrev pub twinned_by_kind : JobKind → ProfileValue → List ℕ → OutcomeIn TwinAnswer
+  twinned_by_kind kind profile text = by_kind (λ S G E L P m. twinned m profile text) kind
+
+  -- the manifest's profile with the seed 0, over a stimulus, or the refusal of the manifest
+  abbrev pub twinned_by : Result ManifestValue refusals.BadManifest → List ℕ → OutcomeIn TwinAnswer
+  twinned_by (Ok m) stimulus = twinned_by_kind m.kind (profile_of m 0) stimulus
+  twinned_by (Err why) stimulus = refusal (BadManifest why)
+
+  abbrev pub twins_outcome : (holds : List ℕ → List ℕ) → OutcomeIn TwinAnswer
+  twins_outcome holds =
+      twinned_by (setup_of twins.options.strict (holds twins.manifest)) (holds twins.stimulus)
+
+-- the outcome of a command where these are the bytes under each name
+abbrev pub outcome_of : Option CommandValue → (List ℕ → List ℕ) → OutcomeIn TwinAnswer
+outcome_of None holds = refusal BadWords
+outcome_of (Some help) holds = telling Done USAGE.now
+outcome_of (Some version) holds = telling Done VERSION.now
+outcome_of (Some (run twins)) holds = twins_outcome twins holds
+
+-- the names that a command opens, in their order
+abbrev pub names_in : Option CommandValue → List (List ℕ)
+names_in (Some (run twins)) = twins.manifest ∷ twins.stimulus ∷ []
+names_in command = []
+
+abbrev pub names_by : (manifest stimulus : List ℕ) → Result ManifestValue refusals.BadManifest
+    → List (List ℕ)
+names_by manifest stimulus (Ok m) = manifest ∷ stimulus ∷ []
+names_by manifest stimulus (Err why) = manifest ∷ []
+
+-- those that it opens where these are the bytes under each name: of a manifest that is refused it
+-- opens no stimulus
+abbrev pub opened : Option CommandValue → (List ℕ → List ℕ) → List (List ℕ)
+opened (Some (run twins)) holds = names_by twins.manifest twins.stimulus
+    (setup_of twins.options.strict (holds twins.manifest))
+opened command holds = []

@@ -1,0 +1,39 @@
+-- What the program `det_twin` promises.
+use Rattle.std.specs.Prelude.{◌≡◌, ℕ, List, Option, None}
+use Rattle.det_edges.specs.Count.{Rose}
+use Rattle.det_edges.specs.Shelf.{ShelfState, AsksPrefix}
+use Rattle.det_edges.specs.Sink.{Grew, GrewByPrefix}
+use Rattle.cli_answers.specs.Outcome.{MeetsBy, Tells, told}
+use Rattle.twin_cli.specs.declared.answer.TwinAnswer.{TwinAnswer}
+use Rattle.twin_cli.specs.declared.answer.TwinAnswer.TheVariants.{BadWords}
+use Rattle.twin_cli.specs.declared.status.TwinStatus.{TwinStatus}
+use Rattle.twin_cli.specs.Answers.{failed, status_of, line_of}
+use Rattle.twin_cli.specs.Outcome.{outcome_of, names_in, opened}
+use Rattle.twin_cli.specs.Words.{CommandValue, command_of}
+
+-- A run of a command. `out` took what `before` and `after` say.
+pub record Runs (command : Option CommandValue) (first last : ShelfState) (out_failed : Type 0)
+    (before after : List ℕ → Type 0) (answer : TwinAnswer) : Type 0 where
+  -- it answers and writes what the definition gives of the bytes under the names that it opens,
+  -- where they are told
+  pub meets : MeetsBy failed (outcome_of command (told first))
+      (Tells first (opened command (told first))) (Rose first.faults last.faults) out_failed
+      before after answer
+  -- it ends as bad words exactly where the words are no command
+  pub bad_words : (answer ≡ BadWords → command ≡ None) × (command ≡ None → answer ≡ BadWords)
+  -- no other name is opened, and none before its turn; where they are told, none beyond those that
+  -- are needed
+  pub asked : AsksPrefix first last (names_in command)
+  pub needed : Tells first (opened command (told first))
+      → AsksPrefix first last (opened command (told first))
+
+-- The program: a run of the command that the words give, its status, and one line for the user.
+pub record IsPromised (words : List (List ℕ)) (first last : ShelfState) (out_failed : Type 0)
+    (before after : List ℕ → Type 0) (err_failed : Type 0) (err_before err_after : List ℕ → Type 0)
+    (status : TwinStatus) : Type 0 where
+  pub answer : TwinAnswer
+  pub is : status ≡ status_of answer
+  pub runs : Runs (command_of words) first last out_failed before after answer
+  -- `err` took a prefix of the answer's line, and all of it where its count of faults didn't rise
+  pub line : GrewByPrefix err_before err_after (line_of answer)
+  pub whole_line : ¬ err_failed → Grew err_before err_after (line_of answer)

@@ -1,0 +1,29 @@
+//! Copies of a run, as words ask for them.
+ghost use Rattle.std.specs.Prelude.{◌≤◌};
+
+/// The frame of a copy of which a bit is turned, both counted from 0.
+#[derive(Clone, Copy, Debug, PartialEq, Eq)]
+pub struct Flip {
+    pub copy: u32,
+    pub number: u32,
+}
+
+/// What is told behind the names.
+#[derive(Clone, Copy, Debug, PartialEq, Eq)]
+pub struct Options {
+    /// Whether a key that no table of a manifest knows is a fault.
+    pub strict: bool,
+    pub flip: Option<Flip>,
+}
+
+/// Copies of the run of a manifest over a stimulus.
+#[derive(Clone, Copy)]
+pub struct Twins<'a> {
+    /// 2 to 8.
+    pub copies: u32,
+    pub manifest: &'a str,
+    pub stimulus: &'a str,
+    pub options: Options,
+    ghost some: { 2 ≤ copies },
+    ghost few: { copies ≤ 8 },
+}

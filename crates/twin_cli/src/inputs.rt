@@ -1,0 +1,65 @@
+//! The inputs of a stimulus in memory.
+ghost use Rattle.std.specs.Prelude.{◌≡◌, ℕ, ◌≤◌, ◌<◌, List, length, IfOk, IfErr, IsSome, Some};
+ghost use Rattle.std.specs.Prelude.{◌∷◌, []};
+ghost use Rattle.std.specs.List.{All};
+ghost use Rattle.det_edges.specs.Shelf.{Asks};
+ghost use Rattle.det_edges.specs.Traffic.{ShelfTraffic, shelf_run, failure_in, IfRefused};
+ghost use Rattle.stimulus.specs.Reading.{Terminated, BadLine, blocks, ending};
+ghost use Rattle.cli_answers.specs.Outcome.{told};
+ghost use Rattle.cmd_setup.specs.Setup.{IsCalm};
+
+use crate::text_inputs::TextInputs;
+use det_edges::{Failure, Shelf, Stopped, TooLong, read_limited};
+use det_values::Bytes;
+use std::alloc::Global;
+use stimulus::StimFault;
+use stimulus::laws::limits;
+use twins::Inputs;
+
+/// The greatest length of a stimulus, in bytes.
+const MOST_BYTES: usize = 1_048_576;
+
+/// The text under a name. At most one piece of 4,096 bytes is read beyond its greatest length.
+pub(crate) fn read_text<S: Shelf>(
+    alloc: Global,
+    name: &str,
+    shelf: &mut S,
+) -> Result<Bytes, Stopped<TooLong>>
+    ensures text { IfOk result (λ text. IsSome ((S.sees shelf.old).holds name.now)
+        → text ≡ told (S.sees shelf.old) name.now) }
+    ensures few { IfOk result (λ text. length text ≤ 1048576) }
+    ensures long { IfErr result (λ e. IfRefused e (λ _.
+        IsSome ((S.sees shelf.old).holds name.now)
+        → 1048576 < length (told (S.sees shelf.old) name.now))) }
+    ensures traffic { ShelfTraffic (shelf_run S.sees S.stays shelf.old shelf.new)
+        (failure_in result) }
+    ensures writes_nothing { failure_in result ≡ Some Failure.Write → ⊥ }
+    ensures asked { Asks (S.sees shelf.old) (S.sees shelf.new) (name.now ∷ []) }
+{
+    let slot = shelf.open_input(name)?;
+    let text = read_limited(alloc, shelf, slot, MOST_BYTES)?;
+    Ok(Bytes::from_vec(text))
+}
+
+/// The inputs of a whole stimulus for a profile with so many events. Refused tells its bad line.
+pub(crate) fn inputs_of(
+    alloc: Global,
+    text: Bytes,
+    events: u16,
+) -> Result<Inputs, Stopped<StimFault>>
+    ensures inputs { IfOk result (λ inputs. inputs ≡ blocks events text) }
+    ensures whole { IfOk result (λ inputs. ending events text ≡ Terminated) }
+    ensures known { IfOk result (λ inputs.
+        All (λ input. All (λ s. s.event < events) input.samples) inputs) }
+    ensures refused { IfErr result (λ e. IfRefused e (λ fault.
+        ending events text ≡ BadLine fault.line)) }
+    ensures calm { IsCalm (failure_in result) }
+{
+    limits();
+    let mut source = TextInputs::of(alloc, text, events);
+    let mut inputs = Inputs::new(alloc);
+    'inputs: while let Some(input) = source.next()? {
+        inputs.push(input)?;
+    }
+    Ok(inputs)
+}

@@ -1,0 +1,23 @@
+//! The program `det_twin` as one call, over any shelf and any sinks.
+//!
+//! Twins run one client in 2 to 8 copies in one process, each on a thread of its own, and compare
+//! their frames while they run. `specs/Words.antt` says which words it takes, `specs/Outcome.antt`
+//! what it gives of the bytes under their names, and `specs/Promise.antt` what `twin_top` promises
+//! of that.
+#![tactic(auto)]
+
+mod answer;
+mod copies;
+mod inputs;
+mod program;
+mod running;
+mod status;
+mod text_inputs;
+mod texts;
+mod words;
+
+pub use answer::TwinAnswer;
+pub use copies::{Flip, Options, Twins};
+pub use program::twin_top;
+pub use status::TwinStatus;
+pub use words::TwinCommand;

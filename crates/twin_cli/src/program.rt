@@ -1,0 +1,106 @@
+//! The whole program.
+ghost use Rattle.std.specs.Prelude.{◌≡◌, ◌≢◌, true, Err};
+ghost use Rattle.det_edges.specs.Count.{Rose};
+ghost use Rattle.cli_words.specs.Names.{texts};
+ghost use Rattle.cli_answers.specs.Outcome.{MeetsBy};
+ghost use Rattle.twin_cli.specs.Answers.{failed, has_text};
+ghost use Rattle.twin_cli.specs.Finding.{found_by};
+ghost use Rattle.twin_cli.specs.Outcome.{answer_to, telling};
+ghost use Rattle.twin_cli.specs.Promise.{IsPromised, Runs};
+ghost use Rattle.twin_cli.specs.Words.{command_of};
+
+use crate::answer::TwinAnswer;
+use crate::running::find;
+use crate::status::TwinStatus;
+use crate::texts::{USAGE, VERSION};
+use crate::words::TwinCommand;
+use det_edges::{Shelf, Sink, write_all};
+use lockstep::Verdict;
+use std::alloc::Global;
+use std::sync::Wait;
+use std::thread::Threads;
+use verdict_text::verdict_line;
+
+/// Runs the command that the words give, which are those after the program's name.
+///
+/// The stimulus is kept in memory as a whole, and each copy runs on a thread of its own, with one
+/// worker and the seed 0. Copies wait for one another, so that this call returns isn't promised.
+pub fn twin_top<S: Shelf, K: Sink, E: Sink, R: Threads + Wait + Sync>(
+    rt: &R,
+    alloc: Global,
+    words: &[String],
+    shelf: &mut S,
+    out: &mut K,
+    err: &mut E,
+) -> TwinStatus
+    ensures { IsPromised (texts words.now) (S.sees shelf.old) (S.sees shelf.new)
+        (Rose (K.faults out.old) (K.faults out.new)) (K.took out.old) (K.took out.new)
+        (Rose (E.faults err.old) (E.faults err.new)) (E.took err.old) (E.took err.new) result }
+{
+    let answer = run(rt, alloc, words, shelf, out);
+    let line = answer.line();
+    let _ = write_all(err, line.as_slice());
+    answer.status()
+}
+
+fn run<S: Shelf, K: Sink, R: Threads + Wait + Sync>(
+    rt: &R,
+    alloc: Global,
+    words: &[String],
+    shelf: &mut S,
+    out: &mut K,
+) -> TwinAnswer
+    ensures { Runs (command_of (texts words.now)) (S.sees shelf.old) (S.sees shelf.new)
+        (Rose (K.faults out.old) (K.faults out.new)) (K.took out.old) (K.took out.new) result }
+{
+    match TwinCommand::of(words) {
+        Some(TwinCommand::Help) => print(USAGE.as_bytes(), TwinAnswer::Done, out),
+        Some(TwinCommand::Version) => print(VERSION.as_bytes(), TwinAnswer::Done, out),
+        Some(TwinCommand::Run(twins)) => {
+            let found = find(rt, alloc, &twins, shelf);
+            tell(alloc, found, out)
+        }
+        None => TwinAnswer::BadWords,
+    }
+}
+
+/// Prints the line of a verdict.
+fn tell<K: Sink>(alloc: Global, found: Result<Verdict, TwinAnswer>, out: &mut K) -> TwinAnswer
+    requires writes_nothing { found ≢ Err TwinAnswer.WriteFault }
+    requires words { found ≢ Err TwinAnswer.BadWords }
+    ensures meets { MeetsBy failed (found_by found) (Unit {0}) (found ≡ Err TwinAnswer.ReadFault)
+        (Rose (K.faults out.old) (K.faults out.new)) (K.took out.old) (K.took out.new) result }
+    ensures words { result ≢ TwinAnswer.BadWords }
+{
+    let verdict = match found {
+        Ok(verdict) => verdict,
+        Err(answer) => return answer,
+    };
+    let Ok(line) = verdict_line(alloc, &verdict) else {
+        return TwinAnswer::OutOfMemory;
+    };
+    print(&line, answer_to(verdict), out)
+}
+
+fn answer_to(verdict: Verdict) -> TwinAnswer
+    ensures is { result ≡ answer_to verdict }
+    ensures text { has_text result ≡ true }
+{
+    match verdict {
+        Verdict::Agree { .. } => TwinAnswer::Done,
+        Verdict::Differ { .. } => TwinAnswer::Differs,
+    }
+}
+
+/// Writes a text, and answers this where all of it was written.
+fn print<K: Sink>(text: &[u8], answer: TwinAnswer, out: &mut K) -> TwinAnswer
+    requires { has_text answer ≡ true }
+    ensures meets { MeetsBy failed (telling answer text.now) (Unit {0}) ⊥
+        (Rose (K.faults out.old) (K.faults out.new)) (K.took out.old) (K.took out.new) result }
+    ensures words { result ≢ TwinAnswer.BadWords }
+{
+    match write_all(out, text) {
+        Ok(()) => answer,
+        Err(_) => TwinAnswer::WriteFault,
+    }
+}

@@ -1,0 +1,131 @@
+//! The job of a manifest, run in copies over a stimulus.
+ghost use Rattle.std.specs.Prelude.{◌≡◌, ◌≢◌, ◌≤◌, ◌<◌, length, IfOk, None, Err};
+ghost use Rattle.std.specs.List.{All};
+ghost use Rattle.det_edges.specs.Shelf.{Asks};
+ghost use Rattle.manifest.specs.Profiles.{profile_of};
+ghost use Rattle.shipped_jobs.specs.Kinds.{bad_param, of_kind};
+ghost use Rattle.cmd_setup.specs.Setup.{IsGood};
+ghost use Rattle.twins.specs.Verdict.{twin_verdict};
+ghost use Rattle.twin_cli.specs.Finding.{Finds, Found};
+ghost use Rattle.twin_cli.specs.Outcome.{twinned_by_kind};
+ghost use Rattle.twin_cli.specs.Words.{twins_seen};
+
+use crate::answer::TwinAnswer;
+use crate::copies::{Flip, Twins};
+use crate::inputs::{inputs_of, read_text};
+use cmd_setup::read_setup;
+use det_edges::Shelf;
+use det_values::{Bytes, Frame, JobKind, OutOfMemory};
+use lockstep::Verdict;
+use manifest::Manifest;
+use shipped_jobs::{Bank, Cloud, Guard};
+use std::alloc::Global;
+use std::sync::Wait;
+use std::thread::Threads;
+use twins::{FlipTamper, Tamper, TwinRun, run_twins};
+
+/// Turns a bit where one is to be turned.
+#[derive(Clone, Copy, Drop)]
+pub(crate) struct MaybeFlip {
+    flip: Option<Flip>,
+}
+
+impl Tamper for MaybeFlip {
+    ghost use Rattle.twin_cli.specs.Outcome.{altered_by};
+
+    ghost altered = { λ tamper. altered_by tamper.flip };
+
+    fn alter(
+        &self,
+        alloc: Global,
+        copy: u32,
+        number: u32,
+        frame: Frame,
+    ) -> Result<Frame, OutOfMemory> {
+        match self.flip {
+            None => Ok(frame),
+            Some(flip) => FlipTamper::new(flip.copy, flip.number).alter(alloc, copy, number, frame),
+        }
+    }
+}
+
+/// Runs the job of a kind in copies and compares their frames.
+fn run_by_kind<T: Tamper, R: Threads + Wait + Sync>(
+    rt: &R,
+    alloc: Global,
+    kind: JobKind,
+    run: &TwinRun<T>,
+    copies: u32,
+) -> Result<Verdict, OutOfMemory>
+    requires some { 2 ≤ copies }
+    requires few { copies ≤ 8 }
+    requires good { bad_param kind run.now.profile.params (length run.now.profile.events) ≡ None }
+    requires known { All (λ input. All (λ s. s.event < length run.now.profile.events)
+        input.samples) run.now.inputs }
+    ensures { IfOk result (λ verdict. of_kind (λ s g e l p m. verdict
+        ≡ twin_verdict m run.now.profile run.now.inputs (T.altered run.now.tamper) copies) kind) }
+{
+    match kind {
+        JobKind::Bank => run_twins::<Bank, T, R>(rt, alloc, run, copies),
+        JobKind::Cloud => run_twins::<Cloud, T, R>(rt, alloc, run, copies),
+        JobKind::Guard => run_twins::<Guard, T, R>(rt, alloc, run, copies),
+    }
+}
+
+/// The verdict on copies of a manifest's run over a text.
+fn compare_over<R: Threads + Wait + Sync>(
+    rt: &R,
+    alloc: Global,
+    twins: &Twins<'_>,
+    setup: &Manifest,
+    text: Bytes,
+) -> Result<Verdict, TwinAnswer>
+    requires { IsGood setup.now }
+    ensures finds { Finds result
+        (twinned_by_kind (twins_seen twins.now) setup.now.kind (profile_of setup.now 0) text) }
+    ensures reads_nothing { result ≢ Err TwinAnswer.ReadFault }
+    ensures writes_nothing { result ≢ Err TwinAnswer.WriteFault }
+    ensures words { result ≢ Err TwinAnswer.BadWords }
+{
+    let Ok(profile) = setup.profile(alloc, 0) else {
+        return Err(TwinAnswer::OutOfMemory);
+    };
+    let events = profile.events.len() as u16;
+    let inputs = match inputs_of(alloc, text, events) {
+        Ok(inputs) => inputs,
+        Err(stopped) => return Err(TwinAnswer::from(stopped)),
+    };
+    let tamper = MaybeFlip {
+        flip: twins.options.flip,
+    };
+    let run = TwinRun {
+        profile,
+        inputs,
+        tamper,
+    };
+    match run_by_kind(rt, alloc, setup.kind(), &run, twins.copies) {
+        Ok(verdict) => Ok(verdict),
+        Err(_) => Err(TwinAnswer::OutOfMemory),
+    }
+}
+
+/// Reads manifest and stimulus, runs the copies and compares them. The manifest is read and judged
+/// before the stimulus is opened.
+pub(crate) fn find<S: Shelf, R: Threads + Wait + Sync>(
+    rt: &R,
+    alloc: Global,
+    twins: &Twins<'_>,
+    shelf: &mut S,
+) -> Result<Verdict, TwinAnswer>
+    ensures { Found (twins_seen twins.now) (S.sees shelf.old) (S.sees shelf.new) result }
+{
+    let setup = match read_setup(alloc, twins.manifest, twins.options.strict, shelf) {
+        Ok(setup) => setup,
+        Err(stopped) => return Err(TwinAnswer::from(stopped)),
+    };
+    let text = match read_text(alloc, twins.stimulus, shelf) {
+        Ok(text) => text,
+        Err(stopped) => return Err(TwinAnswer::from(stopped)),
+    };
+    compare_over(rt, alloc, twins, &setup, text)
+}

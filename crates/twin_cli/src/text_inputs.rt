@@ -1,0 +1,41 @@
+//! A text in memory that gives the inputs of its stimulus.
+ghost use Rattle.std.specs.Prelude.{◌≡◌};
+ghost use Rattle.stimulus_reader.specs.StandsFor.{slot_of};
+
+use det_edges::{Stopped, TextShelf};
+use det_values::{Bytes, CycleInput};
+use std::alloc::Global;
+use stimulus::StimFault;
+use stimulus_reader::StimulusReader;
+
+/// A text, and the reader of its stimulus.
+#[derive(Drop)]
+pub(crate) struct TextInputs {
+    shelf: TextShelf,
+    reader: StimulusReader,
+    ghost one: { slot_of reader ≡ 0 },
+}
+
+impl TextInputs {
+    ghost use Rattle.std.specs.Prelude.{ℕ, List, []};
+    ghost use Rattle.det_values.specs.declared.frames.CycleInput.{CycleInput as Input};
+    ghost use Rattle.twin_cli.specs.TextInputs.{IsBehind, Comes};
+
+    /// All of a text's inputs are still to come.
+    pub(crate) fn of(alloc: Global, text: Bytes, events: u16) -> TextInputs
+        ensures { IsBehind text events result [] }
+    {
+        TextInputs {
+            shelf: TextShelf::new(text),
+            reader: StimulusReader::at(alloc, 0, events),
+        }
+    }
+
+    /// The next input. None at the end of a whole stimulus.
+    pub(crate) fn next(&mut self) -> Result<Option<CycleInput>, Stopped<StimFault>>
+        ensures { (text : List ℕ) (events : ℕ) (given : List Input)
+            → IsBehind text events self.old given → Comes text events result self.new given }
+    {
+        self.reader.next_input(&mut self.shelf)
+    }
+}

@@ -1,0 +1,167 @@
+//! The words of twins.
+ghost use Rattle.std.specs.Prelude.{◌≡◌, ◌≤◌, option_map, IfSome};
+ghost use Rattle.cli_words.specs.Names.{texts};
+ghost use Rattle.twin_cli.specs.Words.{alone, command_of, command_seen, copies_in, flip_in, flip_of};
+ghost use Rattle.twin_cli.specs.Words.{both, flipping, is_strict, options_of, text_word, twins_of};
+
+use crate::copies::{Flip, Options, Twins};
+use cli_words::{is_name, meant, number_of};
+
+/// What the words after the program's name ask for.
+#[derive(Clone, Copy)]
+pub enum TwinCommand<'a> {
+    Help,
+    Version,
+    Run(Twins<'a>),
+}
+
+/// 2 to 8 copies.
+fn copies_in(number: u64) -> Option<u32>
+    ensures is { result ≡ copies_in number }
+    ensures some { IfSome result (λ copies. 2 ≤ copies) }
+    ensures few { IfSome result (λ copies. copies ≤ 8) }
+{
+    if (2..=8).contains(&number) {
+        Some(number as u32)
+    } else {
+        None
+    }
+}
+
+/// A frame of one of so many copies.
+fn flip_in(copies: u32, copy: u64, number: u64) -> Option<Flip>
+    ensures { result ≡ flip_in copies copy number }
+{
+    if copy < copies as u64 && number <= u32::MAX as u64 {
+        Some(Flip {
+            copy: copy as u32,
+            number: number as u32,
+        })
+    } else {
+        None
+    }
+}
+
+fn flip_of(copies: u32, copy: &str, number: &str) -> Option<Flip>
+    ensures { result ≡ flip_of copies copy.now number.now }
+{
+    flip_in(copies, number_of(copy)?, number_of(number)?)
+}
+
+/// The words `--flip K F`.
+fn flipping(copies: u32, strict: bool, word: &str, copy: &str, number: &str) -> Option<Options>
+    ensures { result ≡ flipping copies strict word.now copy.now number.now }
+{
+    if word != "--flip" {
+        return None;
+    }
+    let flip = flip_of(copies, copy, number)?;
+    Some(Options {
+        strict,
+        flip: Some(flip),
+    })
+}
+
+fn is_strict(word: &str) -> bool
+    ensures { result ≡ is_strict word.now }
+{
+    word == "--strict"
+}
+
+fn alone(word: &str) -> Option<Options>
+    ensures { result ≡ alone word.now }
+{
+    if is_strict(word) {
+        Some(Options {
+            strict: true,
+            flip: None,
+        })
+    } else {
+        None
+    }
+}
+
+/// `--strict` and `--flip K F`.
+fn both(copies: u32, a: &str, b: &str, c: &str, d: &str) -> Option<Options>
+    ensures { result ≡ both copies a.now b.now c.now d.now }
+{
+    if is_strict(a) {
+        return flipping(copies, true, b, c, d);
+    }
+    if is_strict(d) {
+        return flipping(copies, true, a, b, c);
+    }
+    None
+}
+
+/// The options that the words behind the names are.
+fn options_of(copies: u32, words: &[String]) -> Option<Options>
+    ensures { result ≡ options_of copies (texts words.now) }
+{
+    match words {
+        [] => Some(Options {
+            strict: false,
+            flip: None,
+        }),
+        [word] => alone(word.as_str()),
+        [word, copy, number] => flipping(
+            copies,
+            false,
+            word.as_str(),
+            copy.as_str(),
+            number.as_str(),
+        ),
+        [a, b, c, d] => both(copies, a.as_str(), b.as_str(), c.as_str(), d.as_str()),
+        _ => None,
+    }
+}
+
+fn twins_of<'a>(
+    copies: &str,
+    manifest: &'a str,
+    stimulus: &'a str,
+    rest: &[String],
+) -> Option<TwinCommand<'a>>
+    ensures { option_map command_seen result
+        ≡ twins_of copies.now manifest.now stimulus.now (texts rest.now) }
+{
+    if !(is_name(manifest) && is_name(stimulus)) {
+        return None;
+    }
+    let copies = copies_in(number_of(copies)?)?;
+    let options = options_of(copies, rest)?;
+    Some(TwinCommand::Run(Twins {
+        copies,
+        manifest,
+        stimulus,
+        options,
+    }))
+}
+
+fn text_word<'a>(word: &str) -> Option<TwinCommand<'a>>
+    ensures { option_map command_seen result ≡ text_word word.now }
+{
+    match word {
+        "--help" => Some(TwinCommand::Help),
+        "--version" => Some(TwinCommand::Version),
+        _ => None,
+    }
+}
+
+impl<'a> TwinCommand<'a> {
+    /// Reads the words after the program's name. None where they are no command.
+    pub fn of(words: &'a [String]) -> Option<TwinCommand<'a>>
+        ensures { option_map command_seen result ≡ command_of (texts words.now) }
+    {
+        match words {
+            [word] => text_word(meant(word.as_str())),
+            [copies, manifest, stimulus, rest @ ..] => twins_of(
+                copies.as_str(),
+                manifest.as_str(),
+                stimulus.as_str(),
+                rest,
+            ),
+            _ => None,
+        }
+    }
+}

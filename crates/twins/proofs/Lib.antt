@@ -1,0 +1,9 @@
+mod Begun
+mod Closed
+mod InTurn
+mod Judging
+mod Made
+mod Pairs
+mod Rows
+mod Sent
+mod Verdicts

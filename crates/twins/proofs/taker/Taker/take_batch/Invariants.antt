@@ -1,0 +1,9 @@
+use Rattle.std.proofs.Common.{◌≡◌, ◌+◌}
+use Rattle.twins.specs.Taking.{Agreed}
+use Rattle.twins.proofs.taker.Taker.take_batch.Given as goal
+
+abbrev pub invariant-rounds : goal.invariant-rounds
+invariant-rounds g l = record {
+  agreed : Agreed l.queues l.self;
+  rows : l.self.rows ≡ l.fn.self.rows + l.counter;
+}

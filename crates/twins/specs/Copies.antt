@@ -1,0 +1,19 @@
+-- Copies that have just begun.
+use Rattle.std.specs.Prelude.{◌≡◌, ℕ, List, length}
+use Rattle.std.specs.List.{range_with_len}
+use Rattle.det_values.specs.Values.{ProfileValue}
+use Rattle.det_values.specs.declared.frames.CycleInput.{CycleInput}
+use Rattle.det_values.specs.declared.frames.Frame.{Frame}
+use Rattle.job_trait.specs.Meaning.{Meaning}
+use Rattle.twins.specs.declared.copies.Copies.{Copies}
+use Rattle.twins.specs.Sending.{AreTwins, numbers_of}
+use Rattle.twins.specs.Taking.{AreLanes, HaveTaken}
+
+-- so many copies, each with its queue, of which nothing was taken
+pub record AreCopies {S G E L P : Type 0} (m : Meaning S G E L P) (profile : ProfileValue)
+    (inputs : List CycleInput) (altered : ℕ → ℕ → Frame → Frame) (count : ℕ)
+    (copies : Copies S G E L P) : Type 0 where
+  pub twins : AreTwins m profile inputs altered copies.queues.items copies.twins.items
+  pub numbers : numbers_of copies.twins.items ≡ range_with_len 0 count
+  pub lanes : AreLanes copies.queues.items copies.lanes.items
+  pub taken : HaveTaken 0 copies.lanes.items

@@ -1,0 +1,10 @@
+pub mod Closing
+pub mod Copies
+pub mod Lanes
+pub mod Making
+pub mod Pairs
+pub mod Sending
+pub mod Sides
+pub mod Taking
+pub mod Tampers
+pub mod Verdict

@@ -1,0 +1,198 @@
+//! One batch is sent while the one before it is taken.
+ghost use Rattle.std.specs.Prelude.{◌≡◌, ◌+◌, ◌<◌, ◌≤◌, ◌∷◌, ◌++◌, [], length};
+ghost use Rattle.std.specs.Prelude.{vec_capacity, IfNone, IfOk};
+ghost use Rattle.std.specs.Thread.{IsSend, IsSync};
+ghost use Rattle.twins.specs.Making.{AreKnown};
+ghost use Rattle.twins.specs.Sending.{AreTwins, numbers_of};
+ghost use Rattle.twins.specs.Sides.{twins_of};
+ghost use Rattle.twins.specs.Taking.{Agreed, Judged};
+
+use crate::sending::BATCH;
+use crate::sides::Sides;
+use crate::taker::Taker;
+use crate::threads::sent;
+use crate::{Tamper, Twin, TwinRun};
+use det_values::OutOfMemory;
+use frame_queue::FrameQueue;
+use job_trait::Job;
+use lockstep::Verdict;
+use std::alloc::Global;
+use std::sync::Wait;
+use std::thread::{Threads, join};
+
+/// Takes `more` rows of each copy, and gives the taker back.
+fn taken<R: Wait>(
+    rt: &R,
+    queues: &[FrameQueue],
+    mut taker: Taker,
+    more: u32,
+) -> (Taker, Option<Verdict>)
+    requires some { 0 < length queues.now }
+    requires few { length queues.now ≤ 8 }
+    requires room { taker.rows + more < 4294967295 }
+    requires agreed { Agreed queues.now taker }
+    ensures judged { Judged result.1 queues.now result.0 }
+    ensures rows { IfNone result.1 (result.0.rows ≡ taker.rows + more) }
+{
+    let found = taker.take_batch(rt, queues, more);
+    (taker, found)
+}
+
+/// Each copy sends its first batch.
+fn first_sent<J, T, R>(
+    rt: &R,
+    alloc: Global,
+    run: &TwinRun<T>,
+    queues: &[FrameQueue],
+    sides: Sides<J>,
+) -> Sides<J>
+where
+    J: Job + Send + Sync,
+    J::Globals: Send,
+    J::Element: Send + Sync,
+    J::Plan: Send + Sync,
+    J::Part: Send + Sync,
+    T: Tamper,
+    R: Threads + Wait + Sync,
+    requires known { AreKnown run.now.profile run.now.inputs }
+    requires twins { AreTwins J.meaning run.now.profile run.now.inputs (T.altered run.now.tamper)
+        queues.now (twins_of sides) }
+    ensures twins { AreTwins J.meaning run.now.profile run.now.inputs (T.altered run.now.tamper)
+        queues.now (twins_of result) }
+    ensures numbers { numbers_of (twins_of result) ≡ numbers_of (twins_of sides) }
+    ensures taker { result.taker ≡ sides.taker }
+{
+    let Sides {
+        last,
+        others,
+        taker,
+    } = sides;
+    let (last, others) = sent(rt, alloc, run, queues, last, others);
+    Sides {
+        last,
+        others,
+        taker,
+    }
+}
+
+/// Each copy sends a batch, while `more` rows of each are taken, which were sent before.
+pub(crate) fn exchange<J, T, R>(
+    rt: &R,
+    alloc: Global,
+    run: &TwinRun<T>,
+    queues: &[FrameQueue],
+    sides: Sides<J>,
+    more: u32,
+) -> (Sides<J>, Option<Verdict>)
+where
+    J: Job + Send + Sync,
+    J::Globals: Send,
+    J::Element: Send + Sync,
+    J::Plan: Send + Sync,
+    J::Part: Send + Sync,
+    T: Tamper,
+    R: Threads + Wait + Sync,
+    requires known { AreKnown run.now.profile run.now.inputs }
+    requires some { 0 < length queues.now }
+    requires few { length queues.now ≤ 8 }
+    requires room { sides.taker.rows + more < 4294967295 }
+    requires twins { AreTwins J.meaning run.now.profile run.now.inputs (T.altered run.now.tamper)
+        queues.now (twins_of sides) }
+    requires agreed { Agreed queues.now sides.taker }
+    ensures twins { AreTwins J.meaning run.now.profile run.now.inputs (T.altered run.now.tamper)
+        queues.now (twins_of result.0) }
+    ensures numbers { numbers_of (twins_of result.0) ≡ numbers_of (twins_of sides) }
+    ensures judged { Judged result.1 queues.now result.0.taker }
+    ensures rows { IfNone result.1 (result.0.taker.rows ≡ sides.taker.rows + more) }
+{
+    let Sides {
+        last,
+        others,
+        taker,
+    } = sides;
+    let (twins, looked) = join(
+        rt,
+        move || -> (Twin<J>, Vec<Twin<J>>)
+            requires threads { IsSync R.row × IsSync T.row × IsSync J.row × IsSend J.row
+                × IsSend J.Globals.row × IsSend J.Element.row × IsSync J.Element.row
+                × IsSend J.Plan.row × IsSync J.Plan.row × IsSend J.Part.row × IsSync J.Part.row }
+            requires known { AreKnown run.now.profile run.now.inputs }
+            requires twins { AreTwins J.meaning run.now.profile run.now.inputs
+                (T.altered run.now.tamper) queues.now (others.items ++ last ∷ []) }
+            ensures twins { AreTwins J.meaning run.entry.now.profile run.entry.now.inputs
+                (T.altered run.entry.now.tamper) queues.entry.now
+                (result.1.items ++ result.0 ∷ []) }
+            ensures numbers { numbers_of (result.1.items ++ result.0 ∷ [])
+                ≡ numbers_of (others.items ++ last ∷ []) }
+        { sent(rt, alloc, run, queues, last, others) },
+        move || -> (Taker, Option<Verdict>)
+            requires some { 0 < length queues.now }
+            requires few { length queues.now ≤ 8 }
+            requires room { taker.rows + more < 4294967295 }
+            requires agreed { Agreed queues.now taker }
+            ensures judged { Judged result.1 queues.entry.now result.0 }
+            ensures rows { IfNone result.1 (result.0.rows ≡ taker.rows + more) }
+        { taken(rt, queues, taker, more) },
+    );
+    let (last, others) = twins;
+    let (taker, found) = looked;
+    let sides = Sides {
+        last,
+        others,
+        taker,
+    };
+    (sides, found)
+}
+
+/// Whether a copy found no memory.
+fn any_failed<J: Job>(sides: &Sides<J>) -> bool {
+    sides.last.failed || sides.others.iter().any(|twin| twin.failed)
+}
+
+/// Sends and takes all rows, batch by batch, up to the first that not all copies have equal. A
+/// batch is taken once all copies have sent it.
+pub(crate) fn exchange_all<J, T, R>(
+    rt: &R,
+    alloc: Global,
+    run: &TwinRun<T>,
+    queues: &[FrameQueue],
+    sides: Sides<J>,
+) -> Result<(Sides<J>, Option<Verdict>), OutOfMemory>
+where
+    J: Job + Send + Sync,
+    J::Globals: Send,
+    J::Element: Send + Sync,
+    J::Plan: Send + Sync,
+    J::Part: Send + Sync,
+    T: Tamper,
+    R: Threads + Wait + Sync,
+    requires known { AreKnown run.now.profile run.now.inputs }
+    requires some { 0 < length queues.now }
+    requires few { length queues.now ≤ 8 }
+    requires begins { sides.taker.rows ≡ 0 }
+    requires twins { AreTwins J.meaning run.now.profile run.now.inputs (T.altered run.now.tamper)
+        queues.now (twins_of sides) }
+    requires agreed { Agreed queues.now sides.taker }
+    ensures twins { IfOk result (λ all. AreTwins J.meaning run.now.profile run.now.inputs
+        (T.altered run.now.tamper) queues.now (twins_of all.0)) }
+    ensures numbers { IfOk result (λ all.
+        numbers_of (twins_of all.0) ≡ numbers_of (twins_of sides)) }
+    ensures judged { IfOk result (λ all. Judged all.1 queues.now all.0.taker) }
+    ensures rows { IfOk result (λ all.
+        IfNone all.1 (all.0.taker.rows ≡ length run.now.inputs + 4)) }
+{
+    let rows = run.rows();
+    let mut sides = first_sent(rt, alloc, run, queues, sides);
+    'batches: while sides.taker.rows < rows {
+        if any_failed(&sides) {
+            return Err(OutOfMemory);
+        }
+        let more = (rows - sides.taker.rows).min(BATCH);
+        let (stood, found) = exchange(rt, alloc, run, queues, sides, more);
+        sides = stood;
+        if found.is_some() {
+            return Ok((sides, found));
+        }
+    }
+    Ok((sides, None))
+}

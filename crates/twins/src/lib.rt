@@ -1,0 +1,27 @@
+//! Copies of a run in the threads of one process, compared while they run.
+#![tactic(auto)]
+
+mod closing;
+mod copies;
+mod exchange;
+mod flipping;
+mod making;
+mod pushing;
+mod rounds;
+mod run;
+mod running;
+mod sending;
+mod sides;
+mod taker;
+mod tamper;
+mod threads;
+mod twin;
+
+pub use flipping::FlipTamper;
+pub use run::{Inputs, TwinRun};
+pub use running::run_twins;
+pub use tamper::{NoTamper, Tamper};
+pub use twin::Twin;
+
+#[cfg(test)]
+mod tests;

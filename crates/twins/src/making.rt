@@ -1,0 +1,73 @@
+//! A copy makes the frames of the run, one after another.
+ghost use Rattle.std.specs.Prelude.{◌≡◌, ◌≤◌, ◌<◌, ◌+◌, length, IfOk, OnOk};
+ghost use Rattle.twins.specs.Making.{AreKnown, IsFrame, HasMade};
+
+use crate::{Twin, TwinRun};
+use det_values::{Frame, OutOfMemory};
+use job_trait::Job;
+use pass_in_blocks::InOrder;
+use std::alloc::Global;
+
+impl<J: Job> Twin<J> {
+    /// The frame of this copy's number. After OutOfMemory its engine isn't to be used.
+    pub(crate) fn next_frame<T>(
+        &mut self,
+        alloc: Global,
+        run: &TwinRun<T>,
+    ) -> Result<Frame, OutOfMemory>
+        requires known { AreKnown run.now.profile run.now.inputs }
+        requires more { self.old.number < length run.now.inputs + 4 }
+        requires made { HasMade J.meaning run.now.profile run.now.inputs self.old.number
+            self.old.engine }
+        ensures frame { IfOk result (λ frame. IsFrame J.meaning run.now.profile run.now.inputs
+            self.old.number frame) }
+        ensures made { OnOk result (HasMade J.meaning run.now.profile run.now.inputs
+            (self.old.number + 1) self.new.engine) }
+        ensures keeps { self.new ≡ record self.old { engine = self.new.engine } }
+    {
+        if self.number < 3 {
+            return self.opening_frame(alloc, run);
+        }
+        if self.number < run.rows() - 1 {
+            return self.next_run(alloc, run);
+        }
+        self.engine.stop();
+        Ok(Frame::Terminate)
+    }
+
+    /// Register, Discover or Init.
+    fn opening_frame<T>(&self, alloc: Global, run: &TwinRun<T>) -> Result<Frame, OutOfMemory>
+        requires opening { self.now.number < 3 }
+        requires made { HasMade J.meaning run.now.profile run.now.inputs self.now.number
+            self.now.engine }
+        ensures frame { IfOk result (λ frame. IsFrame J.meaning run.now.profile run.now.inputs
+            self.now.number frame) }
+    {
+        if self.number == 0 {
+            return Ok(Frame::Register);
+        }
+        if self.number == 1 {
+            return Ok(Frame::Discover);
+        }
+        Ok(Frame::Init(self.engine.shown(alloc)?))
+    }
+
+    /// Runs the next cycle.
+    fn next_run<T>(&mut self, alloc: Global, run: &TwinRun<T>) -> Result<Frame, OutOfMemory>
+        requires known { AreKnown run.now.profile run.now.inputs }
+        requires opened { 3 ≤ self.old.number }
+        requires more { self.old.number < length run.now.inputs + 3 }
+        requires few { self.old.number < 1000003 }
+        requires made { HasMade J.meaning run.now.profile run.now.inputs self.old.number
+            self.old.engine }
+        ensures frame { IfOk result (λ frame. IsFrame J.meaning run.now.profile run.now.inputs
+            self.old.number frame) }
+        ensures made { OnOk result (HasMade J.meaning run.now.profile run.now.inputs
+            (self.old.number + 1) self.new.engine) }
+        ensures keeps { self.new ≡ record self.old { engine = self.new.engine } }
+    {
+        let input = run.inputs.item(self.number as usize - 3).copied(alloc)?;
+        let frame = self.engine.cycle(alloc, &mut InOrder, input)?;
+        Ok(Frame::Run(frame))
+    }
+}

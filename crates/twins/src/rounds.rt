@@ -1,0 +1,87 @@
+//! Rows of all copies are taken and compared, one round after another.
+ghost use Rattle.std.specs.Prelude.{◌≡◌, ◌≤◌, ◌<◌, ◌+◌, length, IfNone, Some};
+ghost use Rattle.std.specs.Option.{option_map};
+ghost use Rattle.lockstep.specs.declared.verdict.Verdict.TheVariants.{Differ};
+ghost use Rattle.lockstep.specs.Verdict.{row_difference};
+ghost use Rattle.twins.specs.Pairs.{EachPair};
+ghost use Rattle.twins.specs.Verdict.{as_read, row_verdict};
+ghost use Rattle.twins.specs.Taking.{AreLanes, HaveTaken, TookOne, taken_by, Agreed, Judged};
+
+use crate::taker::{Lane, Taker};
+use frame_queue::{FrameQueue, Row};
+use lockstep::{Verdict, first_difference};
+use std::sync::Wait;
+
+impl Taker {
+    /// Takes `more` rows of each copy, and ends behind the first that not all have equal.
+    pub(crate) fn take_batch<R: Wait>(
+        &mut self,
+        rt: &R,
+        queues: &[FrameQueue],
+        more: u32,
+    ) -> Option<Verdict>
+        requires some { 0 < length queues.now }
+        requires few { length queues.now ≤ 8 }
+        requires room { self.old.rows + more < 4294967295 }
+        requires agreed { Agreed queues.now self.old }
+        ensures judged { Judged result queues.now self.new }
+        ensures rows { IfNone result (self.new.rows ≡ self.old.rows + more) }
+    {
+        'rounds: for _ in 0..more {
+            if let Some(verdict) = self.take_next(rt, queues) {
+                return Some(verdict);
+            }
+        }
+        None
+    }
+
+    /// Takes one row more of each copy.
+    fn take_next<R: Wait>(&mut self, rt: &R, queues: &[FrameQueue]) -> Option<Verdict>
+        requires some { 0 < length queues.now }
+        requires few { length queues.now ≤ 8 }
+        requires room { self.old.rows < 4294967295 }
+        requires agreed { Agreed queues.now self.old }
+        ensures judged { Judged result queues.now self.new }
+        ensures rows { self.new.rows ≡ self.old.rows + 1 }
+    {
+        let number = self.rows;
+        self.rows += 1;
+        take_round(rt, queues, self.lanes.as_mut_slice(), number)
+    }
+}
+
+/// Takes the row of this number of each copy, and holds it against that of copy 0.
+fn take_round<R: Wait>(
+    rt: &R,
+    queues: &[FrameQueue],
+    lanes: &mut [Lane],
+    number: u32,
+) -> Option<Verdict>
+    requires some { 0 < length queues.now }
+    requires few { length queues.now ≤ 8 }
+    requires lanes { AreLanes queues.now lanes.old }
+    requires room { number < 4294967295 }
+    requires taken { HaveTaken number lanes.old }
+    ensures lanes { AreLanes queues.now lanes.new }
+    ensures took { EachPair TookOne lanes.old lanes.new }
+    ensures found { result ≡ row_verdict number (taken_by lanes.new) }
+{
+    let ours = lanes[0].take(rt, &queues[0]);
+    let mut found = None;
+    'others: for copy in 1..lanes.len() {
+        let row = lanes[copy].take(rt, &queues[copy]);
+        found = found.or(parted(copy as u32, number, &ours, row));
+    }
+    found
+}
+
+/// The verdict where the row of this copy isn't that of copy 0.
+fn parted(copy: u32, number: u32, ours: &Row, row: Row) -> Option<Verdict>
+    ensures { result ≡ option_map (Differ copy)
+        (row_difference (number + 1) (as_read (Some ours.now)) (as_read (Some row))) }
+{
+    match first_difference(number, &ours.frame, &row.frame) {
+        Some(at) => Some(Verdict::Differ { copy, at }),
+        None => None,
+    }
+}

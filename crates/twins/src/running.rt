@@ -1,0 +1,92 @@
+//! Copies of a run are compared while they run.
+ghost use Rattle.std.specs.Prelude.{◌≡◌, ◌≤◌, length, IfOk, None};
+ghost use Rattle.std.specs.Option.{unwrap_or};
+ghost use Rattle.lockstep.specs.declared.verdict.Verdict.TheVariants.{Agree};
+ghost use Rattle.twins.specs.Copies.{AreCopies};
+ghost use Rattle.twins.specs.Making.{AreKnown};
+ghost use Rattle.twins.specs.Verdict.{twin_verdict};
+
+use crate::closing::close_all;
+use crate::copies::Copies;
+use crate::exchange::exchange_all;
+use crate::sides::Sides;
+use crate::{Tamper, TwinRun};
+use det_values::OutOfMemory;
+use job_trait::Job;
+use lockstep::Verdict;
+use std::alloc::Global;
+use std::sync::Wait;
+use std::thread::Threads;
+
+/// Runs so many copies of a run, each on a thread of its own where there is one, and compares their
+/// rows while they run. Each copy makes the frames of the whole run, from Register to Terminate, and
+/// runs its passes with one worker.
+///
+/// They work in batches of 16 rows: one batch is made and sent while the one before it is taken and
+/// compared, so no queue ever holds more than 32 rows. Behind the first row that not all copies have
+/// equal nothing more is run. That copies run at the same time is not promised.
+pub fn run_twins<J, T, R>(
+    rt: &R,
+    alloc: Global,
+    run: &TwinRun<T>,
+    copies: u32,
+) -> Result<Verdict, OutOfMemory>
+where
+    J: Job + Send + Sync,
+    J::Globals: Send,
+    J::Element: Send + Sync,
+    J::Plan: Send + Sync,
+    J::Part: Send + Sync,
+    T: Tamper,
+    R: Threads + Wait + Sync,
+    requires some { 2 ≤ copies }
+    requires few { copies ≤ 8 }
+    requires good { J.meaning.bad_param run.now.profile.params (length run.now.profile.events)
+        ≡ None }
+    requires known { AreKnown run.now.profile run.now.inputs }
+    ensures { IfOk result (λ verdict. verdict ≡ twin_verdict J.meaning run.now.profile
+        run.now.inputs (T.altered run.now.tamper) copies) }
+{
+    let begun = Copies::<J>::begun(alloc, run, copies)?;
+    let found = run_begun(rt, alloc, run, begun, copies)?;
+    Ok(found.unwrap_or(Verdict::Agree {
+        cycles: run.inputs.len() as u32,
+    }))
+}
+
+/// Runs so many copies that have just begun, and tells where they part.
+fn run_begun<J, T, R>(
+    rt: &R,
+    alloc: Global,
+    run: &TwinRun<T>,
+    begun: Copies<J>,
+    copies: u32,
+) -> Result<Option<Verdict>, OutOfMemory>
+where
+    J: Job + Send + Sync,
+    J::Globals: Send,
+    J::Element: Send + Sync,
+    J::Plan: Send + Sync,
+    J::Part: Send + Sync,
+    T: Tamper,
+    R: Threads + Wait + Sync,
+    requires some { 2 ≤ copies }
+    requires few { copies ≤ 8 }
+    requires known { AreKnown run.now.profile run.now.inputs }
+    requires begun { AreCopies J.meaning run.now.profile run.now.inputs
+        (T.altered run.now.tamper) copies begun }
+    ensures { IfOk result (λ found. unwrap_or found (Agree (length run.now.inputs))
+        ≡ twin_verdict J.meaning run.now.profile run.now.inputs
+        (T.altered run.now.tamper) copies) }
+{
+    let Copies {
+        queues,
+        twins,
+        lanes,
+    } = begun;
+    let sides = Sides::of(twins, lanes);
+    let (sides, found) = exchange_all(rt, alloc, run, queues.as_slice(), sides)?;
+    let (twins, lanes) = sides.parts()?;
+    close_all(queues, twins, lanes);
+    Ok(found)
+}

@@ -1,0 +1,87 @@
+//! A copy sends its rows.
+ghost use Rattle.std.specs.Prelude.{◌≡◌, ◌≤◌, ◌<◌, ◌+◌, length, take, IfOk, OnOk, Some, false};
+ghost use Rattle.cycle_engine.specs.Frames.{frames};
+ghost use Rattle.twins.specs.Making.{AreKnown, HasMade, IsTwin, IsRow};
+
+use crate::{Tamper, Twin, TwinRun};
+use det_values::OutOfMemory;
+use frame_queue::{FrameQueue, Row};
+use job_trait::Job;
+use std::alloc::Global;
+use std::sync::Wait;
+
+/// How many rows a copy sends at most while those before are taken.
+pub(crate) const BATCH: u32 = 16;
+
+impl<J: Job> Twin<J> {
+    /// Makes and sends the next rows, at most a batch of them. Where memory can't be had, it ends
+    /// its sending.
+    pub(crate) fn send_batch<T: Tamper, R: Wait>(
+        &mut self,
+        rt: &R,
+        alloc: Global,
+        run: &TwinRun<T>,
+        queue: &FrameQueue,
+    )
+        requires known { AreKnown run.now.profile run.now.inputs }
+        requires twin { IsTwin J.meaning run.now.profile run.now.inputs
+            (T.altered run.now.tamper) queue.now self.old }
+        ensures twin { IsTwin J.meaning run.now.profile run.now.inputs
+            (T.altered run.now.tamper) queue.now self.new }
+        ensures copy { self.new.copy ≡ self.old.copy }
+    {
+        'rows: for _ in 0..BATCH {
+            self.send_next(rt, alloc, run, queue);
+        }
+    }
+
+    /// Makes and sends the next row, if there is one.
+    fn send_next<T: Tamper, R: Wait>(
+        &mut self,
+        rt: &R,
+        alloc: Global,
+        run: &TwinRun<T>,
+        queue: &FrameQueue,
+    )
+        requires known { AreKnown run.now.profile run.now.inputs }
+        requires twin { IsTwin J.meaning run.now.profile run.now.inputs
+            (T.altered run.now.tamper) queue.now self.old }
+        ensures twin { IsTwin J.meaning run.now.profile run.now.inputs
+            (T.altered run.now.tamper) queue.now self.new }
+        ensures copy { self.new.copy ≡ self.old.copy }
+    {
+        if self.failed {
+            return;
+        }
+        if self.number >= run.rows() {
+            return;
+        }
+        match self.next_row(alloc, run) {
+            Ok(row) => {
+                queue.send(rt, &mut self.sender, row);
+                self.number += 1;
+            }
+            Err(OutOfMemory) => self.failed = true,
+        }
+    }
+
+    /// The row of this copy's number. After OutOfMemory its engine isn't to be used.
+    fn next_row<T: Tamper>(&mut self, alloc: Global, run: &TwinRun<T>) -> Result<Row, OutOfMemory>
+        requires known { AreKnown run.now.profile run.now.inputs }
+        requires more { self.old.number < length run.now.inputs + 4 }
+        requires made { HasMade J.meaning run.now.profile run.now.inputs self.old.number
+            self.old.engine }
+        ensures row { IfOk result (λ row. IsRow J.meaning run.now.profile run.now.inputs
+            (T.altered run.now.tamper self.old.copy) self.old.number row) }
+        ensures made { OnOk result (HasMade J.meaning run.now.profile run.now.inputs
+            (self.old.number + 1) self.new.engine) }
+        ensures keeps { self.new ≡ record self.old { engine = self.new.engine } }
+    {
+        let frame = self.next_frame(alloc, run)?;
+        let frame = run.tamper.alter(alloc, self.copy, self.number, frame)?;
+        Ok(Row {
+            number: self.number,
+            frame,
+        })
+    }
+}

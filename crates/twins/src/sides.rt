@@ -1,0 +1,53 @@
+//! Copies that send, and what takes their rows.
+ghost use Rattle.std.specs.Prelude.{◌≡◌, ◌<◌, length, IfOk};
+ghost use Rattle.twins.specs.Sides.{twins_of};
+
+use crate::Twin;
+use crate::pushing::push;
+use crate::taker::{Lane, Taker};
+use det_values::OutOfMemory;
+use job_trait::Job;
+
+/// Copies of a run, and what takes their rows.
+#[derive(Drop)]
+pub(crate) struct Sides<J: Job> {
+    /// The last copy.
+    pub(crate) last: Twin<J>,
+    /// All copies before it.
+    pub(crate) others: Vec<Twin<J>>,
+    pub(crate) taker: Taker,
+}
+
+impl<J: Job> Sides<J> {
+    /// Copies of which nothing was taken.
+    pub(crate) fn of(mut twins: Vec<Twin<J>>, lanes: Vec<Lane>) -> Sides<J>
+        requires { 0 < length twins.items }
+        ensures twins { twins_of result ≡ twins.items }
+        ensures lanes { result.taker.lanes ≡ lanes }
+        ensures rows { result.taker.rows ≡ 0 }
+    {
+        let Some(last) = twins.pop() else {
+            unreachable!()
+        };
+        Sides {
+            last,
+            others: twins,
+            taker: Taker { lanes, rows: 0 },
+        }
+    }
+
+    /// All copies, and the ends from which their rows are taken.
+    pub(crate) fn parts(self) -> Result<(Vec<Twin<J>>, Vec<Lane>), OutOfMemory>
+        ensures twins { IfOk result (λ parts. parts.0.items ≡ twins_of self) }
+        ensures lanes { IfOk result (λ parts. parts.1 ≡ self.taker.lanes) }
+    {
+        let Sides {
+            last,
+            mut others,
+            taker,
+        } = self;
+        push(&mut others, last)?;
+        let Taker { lanes, .. } = taker;
+        Ok((others, lanes))
+    }
+}
