@@ -98,7 +98,10 @@ def all_goals() -> list[Goal]:
         Goal(f"record cycles: memory, of {part}", ("record cycles", 1), (part, 1), 1.2, is_memory=True),
         *copies_goals(),
         Goal("chain: time, of two records", ("chain", 1), ("two records", 1), 1.1),
-        Goal("det_lane 2: time, of one record", ("det_lane 2", None), ("one record", 1), 1.3, processors=2),
+        *(
+            Goal(f"{what}: time, of one record", (what, None), ("one record", 1), 1.3, processors=2)
+            for what in ("det_lane 2", "det_twin 2")
+        ),
         *workers_goals(f"sim {SIM_NUMBER}"),
     ]
 

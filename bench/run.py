@@ -61,11 +61,11 @@ def build_program(name: str) -> Path:
     return TOP / "crates" / name / "out" / name
 
 
-def lane_program(options: argparse.Namespace) -> Optional[Path]:
-    """The program of lanes: the one that is given, or, where no program is, one that is built."""
-    if options.lane or options.program:
-        return options.lane and options.lane.resolve()
-    return build_program("det_lane")
+def copies_program(name: str, given: Optional[Path], options: argparse.Namespace) -> Optional[Path]:
+    """A program of running copies: the one that is given, or, where no program is, one that is built."""
+    if given or options.program:
+        return given and given.resolve()
+    return build_program(name)
 
 
 def pool_program(options: argparse.Namespace) -> Optional[Path]:
@@ -80,7 +80,9 @@ def pool_program(options: argparse.Namespace) -> Optional[Path]:
 def measured(options: argparse.Namespace, room: Path) -> Bench:
     det = options.program.resolve() if options.program else build_program("det")
     plain = build_plain("baseline", room), build_plain("client", room)
-    programs = Programs(det, lane_program(options), pool_program(options), *plain)
+    lane = copies_program("det_lane", options.lane, options)
+    twin = copies_program("det_twin", options.twin, options)
+    programs = Programs(det, lane, twin, pool_program(options), *plain)
     if None in (programs.baseline, programs.client):
         print("a program in plain Rust is left out: rustc doesn't build it", file=sys.stderr)
     adopt_orphans()
@@ -103,7 +105,8 @@ def options_of_words() -> argparse.Namespace:
     parser.add_argument("--only", choices=NAMES, help="one of the inputs")
     parser.add_argument("--rounds", type=positive, help=f"timed runs of each command; else {ROUNDS}")
     parser.add_argument("--program", type=Path, help="a program that is there, in place of the one that bin/det builds")
-    parser.add_argument("--lane", type=Path, help="likewise det_lane; with --program alone its copies are left out")
+    parser.add_argument("--lane", type=Path, help="likewise det_lane; with --program alone running copies are left out")
+    parser.add_argument("--twin", type=Path, help="likewise det_twin")
     parser.add_argument("--pool", type=Path, help="likewise bench_pool; with --program alone its passes are left out")
     return parser.parse_args()
 

@@ -31,6 +31,7 @@ class Programs:
 
     det: Path
     lane: Optional[Path]
+    twin: Optional[Path]
     pool: Optional[Path]
     baseline: Optional[Path]
     client: Optional[Path]
@@ -211,22 +212,24 @@ class Bench:
     # ---- copies that run now ----
 
     def running_copies(self) -> None:
-        """Two copies of a cloud, and one of them alone."""
-        if self.programs.lane is None:
-            self.remarks.append("running copies are left out: there is no program of lanes")
+        """Two copies of a cloud as processes and as threads, and one of them alone."""
+        if None in (self.programs.lane, self.programs.twin):
+            self.remarks.append("running copies are left out: there are no programs of them")
             return
         recording = cloud(self.is_quick)
         record = self.room("record")
         _, words = self.inputs(recording)
         manifest, stimulus = words[2:4]
         lane = [str(self.programs.lane), str(self.programs.det), "2", manifest, stimulus]
+        twin = [str(self.programs.twin), "2", manifest, stimulus]
         commands = [
             Command("one record", self.det("record", manifest, stimulus, "--workers", 1), 1, keep=record),
-            Command("det_lane 2", lane, gives="verdict on children", records=2),
+            Command("det_lane 2", lane, gives="verdict on running copies", records=2),
+            Command("det_twin 2", twin, gives="verdict on running copies", records=2),
         ]
         results = self.runner.measure(commands)
         self.add_rows(results, size(record))
-        self.judge(results, {"verdict on children": digest_of_text(f"agree {recording.cycles()}\n")})
+        self.judge(results, {"verdict on running copies": digest_of_text(f"agree {recording.cycles()}\n")})
 
     # ---- a simulated run ----
 
