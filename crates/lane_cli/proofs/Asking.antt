@@ -85,7 +85,7 @@ asks-stop lane i n h p q =
 
 -- ---- what is told of each child
 
-words-long : (lane : LaneValue) (k n : ℕ) → length (words_from lane k n) ≡ n
+pub words-long : (lane : LaneValue) (k n : ℕ) → length (words_from lane k n) ≡ n
 unfolding words_from
 words-long lane k zero = refl
 words-long lane k (suc n) = ap suc (words-long lane (k + 1) n)

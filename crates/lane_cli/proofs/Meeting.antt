@@ -1,5 +1,5 @@
 -- How a lane meets its outcome, by what it finds of its children.
-use Rattle.std.proofs.Common.{◌≡◌, ◌⊎◌, inl, inr, ℕ, List, [], ap, ◌∙◌, subst}
+use Rattle.std.proofs.Common.{◌≡◌, ◌≤◌, ◌⊎◌, inl, inr, ℕ, List, [], sym, ap, ◌∙◌, subst}
 use Rattle.std.specs.Prelude.{Option, Some, Result, Err}
 use Rattle.det_edges.specs.Sink.{Grew, GrewByPrefix}
 use Rattle.det_edges.proofs.Growth.{part-wider}
@@ -14,6 +14,7 @@ use Rattle.lane_cli.specs.Outcome.{outcome_of, children_of, Tells}
 use Rattle.lane_cli.specs.Promise.{Runs}
 use Rattle.lane_cli.specs.Watched.{found_by, Watched}
 use Rattle.lane_cli.specs.Words.{LaneValue, CommandValue, run}
+use Rattle.lane_cli.proofs.Asking.{words-long}
 
 -- nothing is written where a lane finds a fault or no memory
 nothing-part : (before after : List ℕ → Type 0) (bytes : List ℕ) (found : Result Verdict LaneAnswer) (answer : LaneAnswer)
@@ -67,5 +68,6 @@ module _ {first last : SpawnerState} {lane : LaneValue} {found : Result Verdict 
     };
     bad_words = (λ e. absurd (no_words e), λ e. absurd cc);
     asked = w.asked;
+    children = subst (λ n. last.children ≤ n) (sym (words-long lane 0 lane.copies)) w.children;
     finished = w.finished;
   })

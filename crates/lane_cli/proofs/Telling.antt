@@ -274,9 +274,9 @@ pub watched : {first mid late last : SpawnerState} (lane : LaneValue) (ends : Li
     → Observed first mid late lane ends → Compared r (shelf_state mid) (shelf_state late) (slots_from 0 lane.copies)
     → (failure_in r ≡ Some failures.Write → ⊥) → (failure_in r ≡ Some failures.Read → Rose mid.faults late.faults)
     → ((k : ℕ) → k < lane.copies → get_or ends k None ≡ None → Rose late.faults last.faults)
-    → Rises first mid late last → AsksPrefix first last (words_of_all lane) → AllFinished last
+    → Rises first mid late last → AsksPrefix first last (words_of_all lane) → last.children ≤ lane.copies → AllFinished last
     → Watched first last lane (judged r (take lane.copies ends))
-watched {first = first} {mid = mid} {late = late} {last = last} lane ends r h c no_write read unknown rises asked finished = record {
+watched {first = first} {mid = mid} {late = late} {last = last} lane ends r h c no_write read unknown rises asked children finished = record {
   told = λ t. found-told lane ends h r c no_write t;
   cause = λ e. elim (fault-cause lane ends h r c e) [
     | inl failed ↦ rose-before first.faults mid.faults last.faults rises.started
@@ -287,5 +287,6 @@ watched {first = first} {mid = mid} {late = late} {last = last} lane ends r h c 
   writes_nothing = λ e. judged-quiet r (take lane.copies ends) WriteFault no_write e (inl refl);
   words = λ e. judged-quiet r (take lane.copies ends) BadWords no_write e (inr refl);
   asked = asked;
+  children = children;
   finished = finished;
 }

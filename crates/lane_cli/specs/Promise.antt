@@ -1,5 +1,5 @@
 -- What the program `det_lane` promises.
-use Rattle.std.specs.Prelude.{◌≡◌, ℕ, List, Option}
+use Rattle.std.specs.Prelude.{◌≡◌, ◌≤◌, ℕ, List, length, Option}
 use Rattle.det_edges.specs.Count.{Rose}
 use Rattle.det_edges.specs.Sink.{Grew, GrewByPrefix}
 use Rattle.children.specs.Spawners.{SpawnerState}
@@ -24,6 +24,8 @@ pub record Runs (command : Option CommandValue) (first last : SpawnerState) (out
   pub bad_words : (answer ≡ BadWords → command ≡ None) × (command ≡ None → answer ≡ BadWords)
   -- no other child is started, and none before its turn
   pub asked : AsksPrefix first last (children_of command)
+  -- no more children are started than the command has, none for a text or bad words
+  pub children : last.children ≤ length (children_of command)
   -- no child is left running, whatever the answer
   pub finished : AllFinished last
 

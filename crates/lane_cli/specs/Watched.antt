@@ -1,5 +1,5 @@
 -- What a lane finds of its children.
-use Rattle.std.specs.Prelude.{◌≡◌, ◌⊎◌, [], Result, Ok, Err}
+use Rattle.std.specs.Prelude.{◌≡◌, ◌≤◌, ◌⊎◌, [], Result, Ok, Err}
 use Rattle.det_edges.specs.Count.{Rose}
 use Rattle.children.specs.Spawners.{SpawnerState}
 use Rattle.lockstep.specs.declared.verdict.Verdict.{Verdict}
@@ -32,4 +32,5 @@ pub record Watched (first last : SpawnerState) (lane : LaneValue)
   pub writes_nothing : result ≡ Err WriteFault → ⊥
   pub words : result ≡ Err BadWords → ⊥
   pub asked : AsksPrefix first last (words_of_all lane)
+  pub children : last.children ≤ lane.copies
   pub finished : AllFinished last

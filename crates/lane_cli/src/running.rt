@@ -90,6 +90,7 @@ pub(crate) fn finish_all<P: Spawner>(spawner: &mut P, count: u32) -> Statuses
     requires count { (P.sees spawner.old).children ≡ count }
     requires few { count ≤ 8 }
     requires running { AllRun (P.sees spawner.old) }
+    ensures children { (P.sees spawner.new).children ≡ count }
     ensures finished { AllFinished (P.sees spawner.new) }
     ensures statuses { StatusesAre (P.sees spawner.old) result }
     ensures none { (k : ℕ) → k < count → slice_index_or result k None ≡ None

@@ -1,4 +1,4 @@
-//! The inputs of a stimulus in memory.
+//! A stimulus that is read into memory, and its inputs.
 ghost use Rattle.std.specs.Prelude.{◌≡◌, ℕ, ◌≤◌, ◌<◌, List, length, IfOk, IfErr, IsSome, Some};
 ghost use Rattle.std.specs.Prelude.{◌∷◌, []};
 ghost use Rattle.std.specs.List.{All};

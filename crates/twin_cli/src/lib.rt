@@ -21,3 +21,6 @@ pub use copies::{Flip, Options, Twins};
 pub use program::twin_top;
 pub use status::TwinStatus;
 pub use words::TwinCommand;
+
+#[cfg(test)]
+mod tests;

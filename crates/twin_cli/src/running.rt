@@ -26,7 +26,7 @@ use twins::{FlipTamper, Tamper, TwinRun, run_twins};
 
 /// Turns a bit where one is to be turned.
 #[derive(Clone, Copy, Drop)]
-pub(crate) struct MaybeFlip {
+struct MaybeFlip {
     flip: Option<Flip>,
 }
 

@@ -2,8 +2,8 @@
 ghost use Rattle.twins.specs.Closing.{AreSenders, AreBegun};
 ghost use Rattle.twins.specs.Taking.{AreLanes};
 
-use crate::Twin;
 use crate::taker::Lane;
+use crate::twin::Twin;
 use frame_queue::FrameQueue;
 use job_trait::Job;
 

@@ -7,7 +7,8 @@ ghost use Rattle.twins.specs.Copies.{AreCopies};
 
 use crate::pushing::push;
 use crate::taker::Lane;
-use crate::{Tamper, Twin, TwinRun};
+use crate::twin::Twin;
+use crate::{Tamper, TwinRun};
 use cycle_engine::Engine;
 use det_values::OutOfMemory;
 use frame_queue::{FrameQueue, Sender};

@@ -21,7 +21,6 @@ pub use flipping::FlipTamper;
 pub use run::{Inputs, TwinRun};
 pub use running::run_twins;
 pub use tamper::{NoTamper, Tamper};
-pub use twin::Twin;
 
 #[cfg(test)]
 mod tests;

@@ -2,7 +2,8 @@
 ghost use Rattle.std.specs.Prelude.{◌≡◌, ◌≤◌, ◌<◌, ◌+◌, length, IfOk, OnOk};
 ghost use Rattle.twins.specs.Making.{AreKnown, IsFrame, HasMade};
 
-use crate::{Twin, TwinRun};
+use crate::TwinRun;
+use crate::twin::Twin;
 use det_values::{Frame, OutOfMemory};
 use job_trait::Job;
 use pass_in_blocks::InOrder;

@@ -3,7 +3,8 @@ ghost use Rattle.std.specs.Prelude.{◌≡◌, ◌≤◌, ◌<◌, ◌+◌, leng
 ghost use Rattle.cycle_engine.specs.Frames.{frames};
 ghost use Rattle.twins.specs.Making.{AreKnown, HasMade, IsTwin, IsRow};
 
-use crate::{Tamper, Twin, TwinRun};
+use crate::twin::Twin;
+use crate::{Tamper, TwinRun};
 use det_values::OutOfMemory;
 use frame_queue::{FrameQueue, Row};
 use job_trait::Job;

@@ -2,9 +2,9 @@
 ghost use Rattle.std.specs.Prelude.{◌≡◌, ◌<◌, length, IfOk};
 ghost use Rattle.twins.specs.Sides.{twins_of};
 
-use crate::Twin;
 use crate::pushing::push;
 use crate::taker::{Lane, Taker};
+use crate::twin::Twin;
 use det_values::OutOfMemory;
 use job_trait::Job;
 

@@ -10,7 +10,7 @@ use job_trait::Job;
 use lockstep::{Difference, Verdict};
 use std::alloc::Global;
 use std::sync::Wait;
-use std::sync::atomic::{AtomicBool, Ordering};
+use std::sync::atomic::{AtomicBool, AtomicU64, Ordering};
 use std::test::Fail;
 use std::thread::Threads;
 
@@ -128,6 +128,122 @@ fn what_is_no_run_of_a_copy_is_not_turned(rt: HostRuntime) -> Result<(), Fail> {
     Ok(())
 }
 
+/// Turns two bits.
+#[derive(Drop)]
+struct TwoFlips {
+    first: FlipTamper,
+    second: FlipTamper,
+}
+
+impl Tamper for TwoFlips {
+    ghost use Rattle.twins.specs.Tampers.{turned_at};
+
+    ghost altered = { λ flips copy number frame.
+        turned_at flips.second.copy flips.second.number copy number
+        (turned_at flips.first.copy flips.first.number copy number frame) };
+
+    fn alter(
+        &self,
+        alloc: Global,
+        copy: u32,
+        number: u32,
+        frame: Frame,
+    ) -> Result<Frame, OutOfMemory> {
+        let frame = self.first.alter(alloc, copy, number, frame)?;
+        self.second.alter(alloc, copy, number, frame)
+    }
+}
+
+/// Frames 7 and 9 belong to cycles 5 and 7.
+#[test]
+fn the_first_row_decides_and_then_the_least_copy(rt: HostRuntime) -> Result<(), Fail> {
+    let alloc = rt.alloc();
+    let flips = TwoFlips {
+        first: FlipTamper::new(1, 9),
+        second: FlipTamper::new(3, 7),
+    };
+    let run = run_of(alloc, flips, 40)?;
+    assert_eq!(rt;
+        verdict_on(&rt, alloc, &run, 4)?,
+        differ(3, Difference::Output(5))
+    );
+    let flips = TwoFlips {
+        first: FlipTamper::new(3, 9),
+        second: FlipTamper::new(2, 9),
+    };
+    let run = run_of(alloc, flips, 40)?;
+    assert_eq!(rt;
+        verdict_on(&rt, alloc, &run, 4)?,
+        differ(2, Difference::Output(7))
+    );
+    Ok(())
+}
+
+/// Turns a bit, and counts the frames that are made.
+#[derive(Drop)]
+struct CountingTamper {
+    flip: FlipTamper,
+    frames: AtomicU64,
+}
+
+impl Tamper for CountingTamper {
+    ghost use Rattle.twins.specs.Tampers.{turned_at};
+
+    ghost altered = { λ counting copy number frame.
+        turned_at counting.flip.copy counting.flip.number copy number frame };
+
+    fn alter(
+        &self,
+        alloc: Global,
+        copy: u32,
+        number: u32,
+        frame: Frame,
+    ) -> Result<Frame, OutOfMemory> {
+        self.frames.fetch_add(1, Ordering::SeqCst);
+        self.flip.alter(alloc, copy, number, frame)
+    }
+}
+
+/// While the first batch is taken, the second one is made, and no other: 32 frames a copy.
+#[test]
+fn behind_a_difference_nothing_more_is_run(rt: HostRuntime) -> Result<(), Fail> {
+    let alloc = rt.alloc();
+    let tamper = CountingTamper {
+        flip: FlipTamper::new(1, 7),
+        frames: AtomicU64::new(0),
+    };
+    let run = run_of(alloc, tamper, 200)?;
+    assert_eq!(rt;
+        verdict_on(&rt, alloc, &run, 2)?,
+        differ(1, Difference::Output(5))
+    );
+    assert_eq!(rt; run.tamper.frames.load(Ordering::SeqCst), 64);
+    Ok(())
+}
+
+/// Finds no memory for frame 20 of copy 1.
+#[derive(Drop)]
+struct RefusingTamper;
+
+impl Tamper for RefusingTamper {
+    ghost altered = { λ _ _ _ frame. frame };
+
+    fn alter(&self, _: Global, copy: u32, number: u32, frame: Frame) -> Result<Frame, OutOfMemory> {
+        if copy == 1 && number == 20 {
+            return Err(OutOfMemory);
+        }
+        Ok(frame)
+    }
+}
+
+#[test]
+fn a_copy_without_memory_ends_the_run(rt: HostRuntime) -> Result<(), Fail> {
+    let alloc = rt.alloc();
+    let run = run_of(alloc, RefusingTamper, 40)?;
+    assert_eq!(rt; verdict_on(&rt, alloc, &run, 3), Err(OutOfMemory));
+    Ok(())
+}
+
 const MOST_TURNS: u32 = 100_000_000;
 
 /// Holds copies 0 and 1 at frame 3 until the other one is there, for a while at most.
@@ -148,6 +264,10 @@ impl MeetingTamper {
                 return;
             }
         }
+    }
+
+    fn have_met(&self) -> bool {
+        self.saw[0].load(Ordering::SeqCst) && self.saw[1].load(Ordering::SeqCst)
     }
 }
 
@@ -171,7 +291,6 @@ fn two_copies_meet(rt: HostRuntime) -> Result<(), Fail> {
     };
     let run = run_of(alloc, tamper, 2)?;
     assert_eq!(rt; verdict_on(&rt, alloc, &run, 2)?, agree(2));
-    assert!(rt; run.tamper.saw[0].load(Ordering::SeqCst));
-    assert!(rt; run.tamper.saw[1].load(Ordering::SeqCst));
+    assert!(rt; run.tamper.have_met());
     Ok(())
 }

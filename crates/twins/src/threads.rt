@@ -5,7 +5,8 @@ ghost use Rattle.std.specs.Thread.{IsSend, IsSync};
 ghost use Rattle.twins.specs.Making.{AreKnown};
 ghost use Rattle.twins.specs.Sending.{AreTwins, numbers_of};
 
-use crate::{Tamper, Twin, TwinRun};
+use crate::twin::Twin;
+use crate::{Tamper, TwinRun};
 use frame_queue::FrameQueue;
 use job_trait::Job;
 use std::alloc::Global;

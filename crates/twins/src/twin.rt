@@ -6,7 +6,7 @@ use job_trait::Job;
 
 /// A copy of a run: its engine, and its end of its queue.
 #[derive(Drop)]
-pub struct Twin<J: Job> {
+pub(crate) struct Twin<J: Job> {
     pub(crate) engine: Engine<J>,
     pub(crate) sender: Sender,
     /// Which copy it is, counted from 0.

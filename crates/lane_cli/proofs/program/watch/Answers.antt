@@ -1,4 +1,4 @@
-use Rattle.std.proofs.Common.{◌≡◌, sym, subst, arith, rules}
+use Rattle.std.proofs.Common.{◌≡◌, ◌≤◌, sym, subst, arith, rules}
 use Rattle.lockstep.specs.Compared.{AreDifferent, Compared}
 use Rattle.children.specs.ChildShelves.{shelf_state}
 use Rattle.lane_cli.specs.Watched.{Watched}
@@ -24,6 +24,7 @@ returns g c =
     let ends = c.finish_all-statuses.result in
     let traffic = c.compare-compared.ensures.traffic in
     let count : c.start_all-started.result.count ≡ lane.copies = search rules in
+    let children : last.children ≤ lane.copies = search rules in
     let same = slots-are lane.copies (omega arith) in
     subst (Watched first last lane) (sym c.judged.ensures)
     (watched {first = first} {mid = mid} {late = late} {last = last} lane ends r (record {
@@ -38,4 +39,4 @@ returns g c =
       started = c.start_all-started.ensures.counted;
       compared = traffic.counted;
       finished = c.finish_all-statuses.ensures.counted;
-    }) (asks-prefix-kept c.start_all-started.ensures.asks (search rules)) c.finish_all-statuses.ensures.finished)
+    }) (asks-prefix-kept c.start_all-started.ensures.asks (search rules)) children c.finish_all-statuses.ensures.finished)
