@@ -276,7 +276,7 @@ pub watched : {first mid late last : SpawnerState} (lane : LaneValue) (ends : Li
     → ((k : ℕ) → k < lane.copies → get_or ends k None ≡ None → Rose late.faults last.faults)
     → Rises first mid late last → AsksPrefix first last (words_of_all lane) → last.children ≤ lane.copies → AllFinished last
     → Watched first last lane (judged r (take lane.copies ends))
-watched {first = first} {mid = mid} {late = late} {last = last} lane ends r h c no_write read unknown rises asked children finished = record {
+watched {first = first} {mid = mid} {late = late} {last = last} lane ends r h c no_write read unknown rises asked few finished = record {
   told = λ t. found-told lane ends h r c no_write t;
   cause = λ e. elim (fault-cause lane ends h r c e) [
     | inl failed ↦ rose-before first.faults mid.faults last.faults rises.started
@@ -287,6 +287,6 @@ watched {first = first} {mid = mid} {late = late} {last = last} lane ends r h c 
   writes_nothing = λ e. judged-quiet r (take lane.copies ends) WriteFault no_write e (inl refl);
   words = λ e. judged-quiet r (take lane.copies ends) BadWords no_write e (inr refl);
   asked = asked;
-  children = children;
+  children = few;
   finished = finished;
 }
