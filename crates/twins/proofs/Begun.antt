@@ -10,10 +10,10 @@ use Rattle.det_values.specs.declared.frames.Frame.{Frame}
 use Rattle.job_trait.specs.Meaning.{Meaning}
 use Rattle.frame_queue.specs.declared.queue.FrameQueue.{FrameQueue}
 use Rattle.twins.specs.declared.copies.Copies.{Copies}
-use Rattle.twins.specs.declared.taker.Lane.{Lane}
+use Rattle.twins.specs.declared.taker.Intake.{Intake}
 use Rattle.twins.specs.declared.twin.Twin.{Twin}
 use Rattle.twins.specs.Copies.{AreCopies}
-use Rattle.twins.specs.Lanes.{IsLaneOf, rows_in}
+use Rattle.twins.specs.Intakes.{IsIntakeOf, rows_in}
 use Rattle.twins.specs.Making.{IsTwin}
 use Rattle.twins.specs.Sending.{numbers_of}
 use Rattle.twins.specs.Taking.{HaveTaken}
@@ -29,35 +29,36 @@ range-more n =
     sym (map-same (range_with_len 0 (n + 1))) ∙ map-range_with_len_more (λ x. x) 0 n n (zero-add n)
     ∙ ap (λ l. l ++ n ∷ []) (map-same (range_with_len 0 n))
 
-took-none : (lane : Lane) → lane.rows ≡ 0 → rows_in lane ≡ [] → HaveTaken 0 (lane ∷ [])
-took-none lane rows taken = All-cons (Took 0) lane [] (rows, ap length taken) (All-nil (Took 0))
+took-none : (intake : Intake) → intake.rows ≡ 0 → rows_in intake ≡ [] → HaveTaken 0 (intake ∷ [])
+took-none intake rows taken = All-cons (Took 0) intake [] (rows, ap length taken) (All-nil (Took 0))
 
 module _ {S G E L P : Type 0} (m : Meaning S G E L P) (profile : ProfileValue) (inputs : List CycleInput)
     (altered : ℕ → ℕ → Frame → Frame) where
-  pub none-begun : (copies : Copies S G E L P) → copies.queues.items ≡ [] → copies.twins.items ≡ [] → copies.lanes.items ≡ []
+  pub none-begun : (copies : Copies S G E L P) → copies.queues.items ≡ [] → copies.twins.items ≡ [] → copies.intakes.items ≡ []
       → AreCopies m profile inputs altered 0 copies
   none-begun copies q t l = record {
     twins = rw (q, t) (pair_none (IsTwin m profile inputs altered));
     numbers = ap numbers_of t;
-    lanes = rw (q, l) (pair_none IsLaneOf);
+    intakes = rw (q, l) (pair_none IsIntakeOf);
     taken = rw l (All-nil (Took 0));
   }
 
-  pub one-begun : (count : ℕ) (old new : Copies S G E L P) (queue : FrameQueue) (twin : Twin S G E L P) (lane : Lane)
+  pub one-begun : (count : ℕ) (old new : Copies S G E L P) (queue : FrameQueue) (twin : Twin S G E L P) (intake : Intake)
       → AreCopies m profile inputs altered count old → new.queues.items ≡ old.queues.items ++ queue ∷ []
-      → new.twins.items ≡ old.twins.items ++ twin ∷ [] → new.lanes.items ≡ old.lanes.items ++ lane ∷ []
-      → IsTwin m profile inputs altered queue twin → twin.copy ≡ count → IsLaneOf queue lane → lane.rows ≡ 0 → rows_in lane ≡ []
+      → new.twins.items ≡ old.twins.items ++ twin ∷ [] → new.intakes.items ≡ old.intakes.items ++ intake ∷ []
+      → IsTwin m profile inputs altered queue twin → twin.copy ≡ count → IsIntakeOf queue intake → intake.rows ≡ 0 → rows_in intake ≡ []
       → AreCopies m profile inputs altered (count + 1) new
-  one-begun count old new queue twin lane all q t l is copy of rows taken = record {
+  one-begun count old new queue twin intake all q t l is copy of rows taken = record {
     twins = rw (q, t) (pair_more (IsTwin m profile inputs altered) old.queues.items old.twins.items queue twin all.twins is);
     numbers = ap numbers_of t ∙ map-append (λ (x : Twin S G E L P). x.copy) old.twins.items (twin ∷ [])
         ∙ (λ i. all.numbers i ++ copy i ∷ []) ∙ sym (range-more count);
-    lanes = rw (q, l) (pair_more IsLaneOf old.queues.items old.lanes.items queue lane all.lanes of);
-    taken = rw l (All-append (Took 0) old.lanes.items (lane ∷ []) all.taken (took-none lane rows taken));
+    intakes = rw (q, l) (pair_more IsIntakeOf old.queues.items old.intakes.items queue intake all.intakes of);
+    taken = rw l (All-append (Took 0) old.intakes.items (intake ∷ []) all.taken (took-none intake rows taken));
   }
 
-  -- as many copies as were begun
-  pub many-begun : (count : ℕ) (copies : Copies S G E L P) → AreCopies m profile inputs altered count copies
-      → length copies.twins.items ≡ count
-  many-begun count copies all =
-      sym (length-map copies.twins.items (λ (x : Twin S G E L P). x.copy)) ∙ ap length all.numbers ∙ length-range_with_len 0 count
+-- as many copies as were begun
+pub many-begun : {S G E L P : Type 0} {m : Meaning S G E L P} {profile : ProfileValue} {inputs : List CycleInput}
+    {altered : ℕ → ℕ → Frame → Frame} (count : ℕ) (copies : Copies S G E L P) → AreCopies m profile inputs altered count copies
+    → length copies.twins.items ≡ count
+many-begun {S} {G} {E} {L} {P} count copies all =
+    sym (length-map copies.twins.items (λ (x : Twin S G E L P). x.copy)) ∙ ap length all.numbers ∙ length-range_with_len 0 count

@@ -3,42 +3,45 @@ use Rattle.std.proofs.Common.{◌≡◌, ℕ, List, [], ◌∷◌, ◌++◌, len
 use Rattle.std.proofs.lemmas.List.{append-nil}
 use Rattle.det_edges.specs.Prefix.{IsPrefix}
 use Rattle.frame_queue.specs.Queues.{sent_of}
-use Rattle.twins.specs.declared.taker.Lane.{Lane}
+use Rattle.twins.specs.declared.taker.Intake.{Intake}
 use Rattle.twins.specs.declared.twin.Twin.{Twin}
-use Rattle.twins.specs.Lanes.{rows_in}
+use Rattle.twins.specs.Intakes.{rows_in}
 use Rattle.twins.specs.Closing.{AreBegun}
 use Rattle.twins.specs.Pairs.{EachPair}
 use Rattle.twins.proofs.Pairs.{pair_none, pair_one, pair_join}
 
 module _ {S G E L P : Type 0} where
   -- the last ones of all are closed
-  pub record HaveClosed (lanes all_lanes : List Lane) (twins all_twins : List (Twin S G E L P)) : Type 0 where
-    pub closed_lanes : List Lane
+  pub record HaveClosed (intakes all_intakes : List Intake) (twins all_twins : List (Twin S G E L P)) : Type 0 where
+    pub closed_intakes : List Intake
     pub closed_twins : List (Twin S G E L P)
-    pub lanes_are : all_lanes ≡ lanes ++ closed_lanes
+    pub intakes_are : all_intakes ≡ intakes ++ closed_intakes
     pub twins_are : all_twins ≡ twins ++ closed_twins
-    pub begun : AreBegun closed_lanes closed_twins
+    pub begun : AreBegun closed_intakes closed_twins
 
-  pub none-closed : (lanes : List Lane) (twins : List (Twin S G E L P)) → HaveClosed lanes lanes twins twins
-  none-closed lanes twins = record {
-    closed_lanes = [];
+  pub none-closed : (intakes : List Intake) (twins : List (Twin S G E L P)) → HaveClosed intakes intakes twins twins
+  none-closed intakes twins = record {
+    closed_intakes = [];
     closed_twins = [];
-    lanes_are = sym (append-nil lanes);
+    intakes_are = sym (append-nil intakes);
     twins_are = sym (append-nil twins);
-    begun = pair_none (λ lane (twin : Twin S G E L P). IsPrefix (rows_in lane) (sent_of twin.sender));
+    begun = pair_none (λ intake (twin : Twin S G E L P). IsPrefix (rows_in intake) (sent_of twin.sender));
   }
 
-  pub one-closed : (lanes all_lanes rest_lanes : List Lane) (twins all_twins rest_twins : List (Twin S G E L P)) (lane : Lane)
-      (twin : Twin S G E L P) → HaveClosed lanes all_lanes twins all_twins → lanes ≡ rest_lanes ++ lane ∷ [] → twins ≡ rest_twins ++ twin ∷ []
-      → IsPrefix (rows_in lane) (sent_of twin.sender) → HaveClosed rest_lanes all_lanes rest_twins all_twins
-  one-closed lanes all_lanes rest_lanes twins all_twins rest_twins lane twin h l t one = record {
-    closed_lanes = lane ∷ h.closed_lanes;
+  pub one-closed : (intakes all_intakes rest_intakes : List Intake) (twins all_twins rest_twins : List (Twin S G E L P)) (intake : Intake)
+      (twin : Twin S G E L P) → HaveClosed intakes all_intakes twins all_twins → intakes ≡ rest_intakes ++ intake ∷ []
+      → twins ≡ rest_twins ++ twin ∷ []
+      → IsPrefix (rows_in intake) (sent_of twin.sender) → HaveClosed rest_intakes all_intakes rest_twins all_twins
+  one-closed intakes all_intakes rest_intakes twins all_twins rest_twins intake twin h l t one = record {
+    closed_intakes = intake ∷ h.closed_intakes;
     closed_twins = twin ∷ h.closed_twins;
-    lanes_are = h.lanes_are ∙ ap (λ x. x ++ h.closed_lanes) l ∙ append_assoc rest_lanes (lane ∷ []) h.closed_lanes;
+    intakes_are = h.intakes_are ∙ ap (λ x. x ++ h.closed_intakes) l ∙ append_assoc rest_intakes (intake ∷ []) h.closed_intakes;
     twins_are = h.twins_are ∙ ap (λ x. x ++ h.closed_twins) t ∙ append_assoc rest_twins (twin ∷ []) h.closed_twins;
-    begun = pair_join (λ a (b : Twin S G E L P). IsPrefix (rows_in a) (sent_of b.sender)) (lane ∷ []) h.closed_lanes (twin ∷ []) h.closed_twins
-        (pair_one (λ a (b : Twin S G E L P). IsPrefix (rows_in a) (sent_of b.sender)) lane twin one) h.begun;
+    begun = pair_join (λ a (b : Twin S G E L P). IsPrefix (rows_in a) (sent_of b.sender)) (intake ∷ []) h.closed_intakes
+        (twin ∷ []) h.closed_twins
+        (pair_one (λ a (b : Twin S G E L P). IsPrefix (rows_in a) (sent_of b.sender)) intake twin one) h.begun;
   }
 
-  pub all-closed : (all_lanes : List Lane) (all_twins : List (Twin S G E L P)) → HaveClosed [] all_lanes [] all_twins → AreBegun all_lanes all_twins
-  all-closed all_lanes all_twins h = rw (h.lanes_are, h.twins_are) h.begun
+  pub all-closed : (all_intakes : List Intake) (all_twins : List (Twin S G E L P)) → HaveClosed [] all_intakes [] all_twins
+      → AreBegun all_intakes all_twins
+  all-closed all_intakes all_twins h = rw (h.intakes_are, h.twins_are) h.begun

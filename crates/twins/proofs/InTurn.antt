@@ -11,18 +11,18 @@ use Rattle.frame_queue.specs.declared.queue.FrameQueue.{FrameQueue}
 use Rattle.lockstep.specs.declared.verdict.Verdict.{Verdict}
 use Rattle.lockstep.specs.declared.verdict.Verdict.TheVariants.{Differ}
 use Rattle.lockstep.specs.Verdict.{row_difference}
-use Rattle.twins.specs.declared.taker.Lane.{Lane}
-use Rattle.twins.specs.Lanes.{IsLaneOf, rows_in}
+use Rattle.twins.specs.declared.taker.Intake.{Intake}
+use Rattle.twins.specs.Intakes.{IsIntakeOf, rows_in}
 use Rattle.twins.specs.Pairs.{EachPair}
 use Rattle.twins.specs.Verdict.{as_read, row_at, row_verdict}
-use Rattle.twins.specs.Taking.{AreLanes, HaveTaken, TookOne, taken_by}
+use Rattle.twins.specs.Taking.{AreIntakes, HaveTaken, TookOne, taken_by}
 use Rattle.twins.proofs.Pairs.{pair_none, pair_more, pair_set, pair_map, pair_with}
 use Rattle.twins.proofs.Rows.{get-before, row-last}
 use Rattle.twins.proofs.Verdicts.{verdict-more, same-verdict}
 
 -- of the first `k` copies the row `n` was taken, and held against that of copy 0
-pub record Round (k n : ℕ) (queues : List FrameQueue) (old now : List Lane) (ours : Row) (found : Option Verdict) : Type 0 where
-  pub lanes : AreLanes queues now
+pub record Round (k n : ℕ) (queues : List FrameQueue) (old now : List Intake) (ours : Row) (found : Option Verdict) : Type 0 where
+  pub intakes : AreIntakes queues now
   pub many : length now ≡ length old
   pub grown : EachPair TookOne (take k old) (take k now)
   pub still : drop k now ≡ drop k old
@@ -33,49 +33,50 @@ pub record Round (k n : ℕ) (queues : List FrameQueue) (old now : List Lane) (o
   pub told : found ≡ row_verdict n (front ∷ others)
 
 -- the receiver of this place is the old one
-still-at : (k : ℕ) (old now : List Lane) (d : Lane) → drop k now ≡ drop k old → get_or now k d ≡ get_or old k d
+still-at : (k : ℕ) (old now : List Intake) (d : Intake) → drop k now ≡ drop k old → get_or now k d ≡ get_or old k d
 still-at k old now d e =
     let n : k ≡ k + 0 = omega arith in
     ap (λ i. get_or now i d) n ∙ sym (get_or-drop k now 0 d) ∙ ap (λ l. get_or l 0 d) e ∙ get_or-drop k old 0 d
     ∙ ap (λ i. get_or old i d) (sym n)
 
 -- one more receiver took a row
-grown-more : (k : ℕ) (old now : List Lane) (d new : Lane) → length now ≡ length old → k < length now → drop k now ≡ drop k old
+grown-more : (k : ℕ) (old now : List Intake) (d new : Intake) → length now ≡ length old → k < length now → drop k now ≡ drop k old
     → EachPair TookOne (take k old) (take k now) → TookOne (get_or now k d) new
     → EachPair TookOne (take (k + 1) old) (take (k + 1) (set now k new))
 grown-more k old now d new many within still grown one =
     rw (add-one, take-suc old k d (omega arith), take-suc-set now k new within)
     (pair_more TookOne (take k old) (take k now) (get_or old k d) new grown (subst (λ r. TookOne r new) (still-at k old now d still) one))
 
-taken-more : (k : ℕ) (now : List Lane) (new : Lane) → k < length now
+taken-more : (k : ℕ) (now : List Intake) (new : Intake) → k < length now
     → taken_by (take (k + 1) (set now k new)) ≡ taken_by (take k now) ++ rows_in new ∷ []
 taken-more k now new within =
     rw (add-one, take-suc-set now k new within) (map-append rows_in (take k now) (new ∷ []))
 
-lanes-more : (k : ℕ) (queues : List FrameQueue) (now : List Lane) (d : FrameQueue) (new : Lane) → k < length now
-    → AreLanes queues now → IsLaneOf (get_or queues k d) new → AreLanes queues (set now k new)
-lanes-more k queues now d new within all one =
-    pair_set IsLaneOf queues now k new all within
-    (λ x. subst (λ q. IsLaneOf q new) (get_or_default queues k d x (let c = all.count in omega (arith, within))) one)
+intakes-more : (k : ℕ) (queues : List FrameQueue) (now : List Intake) (d : FrameQueue) (new : Intake) → k < length now
+    → AreIntakes queues now → IsIntakeOf (get_or queues k d) new → AreIntakes queues (set now k new)
+intakes-more k queues now d new within all one =
+    pair_set IsIntakeOf queues now k new all within
+    (λ x. subst (λ q. IsIntakeOf q new) (get_or_default queues k d x (let c = all.count in omega (arith, within))) one)
 
 -- so many rows were taken of a copy
-abbrev pub Took : ℕ → Lane → Type 0
-Took n lane = (lane.rows ≡ n) × (length (rows_in lane) ≡ n)
+abbrev pub Took : ℕ → Intake → Type 0
+Took n intake = (intake.rows ≡ n) × (length (rows_in intake) ≡ n)
 
 -- a row that was taken is the last one
-last-row : (n k : ℕ) (old now : List Lane) (d new : Lane) (row : Row) → HaveTaken n old → k < length old
+last-row : (n k : ℕ) (old now : List Intake) (d new : Intake) (row : Row) → HaveTaken n old → k < length old
     → drop k now ≡ drop k old → rows_in new ≡ rows_in (get_or now k d) ++ row ∷ [] → row_at n (rows_in new) ≡ as_read (Some row)
 last-row n k old now d new row all within still took =
     let was : length (rows_in (get_or now k d)) ≡ n =
-    ap (λ (l : Lane). length (rows_in l)) (still-at k old now d still) ∙ (All-get_or (Took n) old k d within all).1 in
+    ap (λ (l : Intake). length (rows_in l)) (still-at k old now d still) ∙ (All-get_or (Took n) old k d within all).1 in
     ap (row_at n) took ∙ row-last (rows_in (get_or now k d)) row n was
 
 -- the row of copy 0 was taken
-pub round-begins : (n : ℕ) (queues : List FrameQueue) (old : List Lane) (q : FrameQueue) (d new : Lane) (ours : Row)
-    → AreLanes queues old → HaveTaken n old → 0 < length old → IsLaneOf (get_or queues 0 q) new
-    → rows_in new ≡ rows_in (get_or old 0 d) ++ ours ∷ [] → new.rows ≡ (get_or old 0 d).rows + 1 → Round 1 n queues old (set old 0 new) ours None
+pub round-begins : (n : ℕ) (queues : List FrameQueue) (old : List Intake) (q : FrameQueue) (d new : Intake) (ours : Row)
+    → AreIntakes queues old → HaveTaken n old → 0 < length old → IsIntakeOf (get_or queues 0 q) new
+    → rows_in new ≡ rows_in (get_or old 0 d) ++ ours ∷ [] → new.rows ≡ (get_or old 0 d).rows + 1 → Round 1 n queues old
+    (set old 0 new) ours None
 round-begins n queues old q d new ours all taken some one took count = record {
-  lanes = lanes-more 0 queues old q new some all one;
+  intakes = intakes-more 0 queues old q new some all one;
   many = length-set old 0 new;
   grown = grown-more 0 old old d new refl some refl (pair_none TookOne) (ours, took, count);
   still = drop-set-lt 1 old 0 new (omega arith);
@@ -87,9 +88,9 @@ round-begins n queues old q d new ours all taken some one took count = record {
 }
 
 -- and that of one copy more
-pub round-goes : (k n : ℕ) (queues : List FrameQueue) (old now : List Lane) (ours row : Row) (found next : Option Verdict)
-    (q : FrameQueue) (d new : Lane) → Round k n queues old now ours found → HaveTaken n old → k < length now
-    → IsLaneOf (get_or queues k q) new → rows_in new ≡ rows_in (get_or now k d) ++ row ∷ [] → new.rows ≡ (get_or now k d).rows + 1
+pub round-goes : (k n : ℕ) (queues : List FrameQueue) (old now : List Intake) (ours row : Row) (found next : Option Verdict)
+    (q : FrameQueue) (d new : Intake) → Round k n queues old now ours found → HaveTaken n old → k < length now
+    → IsIntakeOf (get_or queues k q) new → rows_in new ≡ rows_in (get_or now k d) ++ row ∷ [] → new.rows ≡ (get_or now k d).rows + 1
     → next ≡ option_or found (option_map (Differ k) (row_difference (n + 1) (as_read (Some ours)) (as_read (Some row))))
     → Round (k + 1) n queues old (set now k new) ours next
 round-goes k n queues old now ours row found next q d new r taken within one took count is =
@@ -99,7 +100,7 @@ round-goes k n queues old now ours row found next q d new r taken within one too
     let copy : 1 + length r.others ≡ k =
     (let e = ap length r.taken in let l = length-map (take k now) rows_in in omega (arith, e, l, length-take k now)) in
     record {
-      lanes = lanes-more k queues now q new within r.lanes one;
+      intakes = intakes-more k queues now q new within r.intakes one;
       many = length-set now k new ∙ r.many;
       grown = grown-more k old now d new r.many within r.still r.grown (row, took, count);
       still = drop-set-lt (k + 1) now k new (omega arith) ∙ sym (drop-drop 1 k now) ∙ ap (drop 1) r.still ∙ drop-drop 1 k old;
@@ -113,21 +114,21 @@ round-goes k n queues old now ours row found next q d new r taken within one too
     }
 
 -- and of all copies
-pub round-ends : (k n : ℕ) (queues : List FrameQueue) (old now : List Lane) (ours : Row) (found : Option Verdict)
+pub round-ends : (k n : ℕ) (queues : List FrameQueue) (old now : List Intake) (ours : Row) (found : Option Verdict)
     → Round k n queues old now ours found → length now ≤ k
-    → AreLanes queues now × EachPair TookOne old now × (found ≡ row_verdict n (taken_by now))
+    → AreIntakes queues now × EachPair TookOne old now × (found ≡ row_verdict n (taken_by now))
 round-ends k n queues old now ours found r h =
     let many = r.many in
     let a : take k old ≡ old = take_all k old (omega arith) in
     let b : take k now ≡ now = take_all k now h in (
-      r.lanes,
+      r.intakes,
       rw (a, b) at r.grown,
       r.told ∙ ap (row_verdict n) (sym r.taken ∙ ap taken_by b),
     )
 
 -- of a copy whose turn comes no row more was taken
-pub not-yet : (k n : ℕ) (queues : List FrameQueue) (old now : List Lane) (ours : Row) (found : Option Verdict) (d : Lane)
+pub not-yet : (k n : ℕ) (queues : List FrameQueue) (old now : List Intake) (ours : Row) (found : Option Verdict) (d : Intake)
     → Round k n queues old now ours found → HaveTaken n old → k < length now → (get_or now k d).rows ≡ n
 not-yet k n queues old now ours found d r taken within =
     let many = r.many in
-    ap (λ (l : Lane). l.rows) (still-at k old now d r.still) ∙ (All-get_or (Took n) old k d (omega arith) taken).0
+    ap (λ (l : Intake). l.rows) (still-at k old now d r.still) ∙ (All-get_or (Took n) old k d (omega arith) taken).0

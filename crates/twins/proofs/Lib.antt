@@ -1,3 +1,4 @@
+mod Agreement
 mod Begun
 mod Closed
 mod InTurn

@@ -1,9 +1,10 @@
 -- The frames of a run in their places, and an engine behind the first of them.
-use Rattle.std.proofs.Common.{◌≡◌, ◌<◌, ◌≤◌, ◌+◌, ◌-◌, ℕ, zero, suc, List, [], ◌∷◌, ◌++◌, length, take, drop, map, Some, true, false}
+use Rattle.std.proofs.Common.{◌≡◌, ◌<◌, ◌≤◌, ◌+◌, ◌-◌, ℕ, zero, suc, List, [], ◌∷◌, ◌++◌, length, take, drop, map, get_or, Some}
+use Rattle.std.proofs.Common.{true, false}
 use Rattle.std.proofs.Common.{refl, sym, ap, ◌∙◌, subst, arith, length-append, append_assoc, length-take}
 use Rattle.std.specs.List.{slice_get}
 use Rattle.std.proofs.lemmas.List.{take-append-drop, length-map, take_all}
-use Rattle.std.proofs.lemmas.Option.{slice_get_within}
+use Rattle.std.proofs.lemmas.Option.{slice_get_within, slice_get-get_or}
 use Rattle.det_values.specs.Values.{ProfileValue}
 use Rattle.det_values.specs.declared.frames.CycleInput.{CycleInput}
 use Rattle.det_values.specs.declared.frames.RunFrame.{RunFrame}
@@ -43,6 +44,12 @@ module _ {S G E L P : Type 0} (m : Meaning S G E L P) (profile : ProfileValue) w
       (length-runs m profile [] before (first_state m profile))
       (get-mapped as_run (runs m profile before) frame r.0 (Terminate ∷ [])))
 
+  -- the input of a frame
+  pub input-at : (inputs : List CycleInput) (number : ℕ) (item input : CycleInput) → 3 ≤ number → number < length inputs + 3
+      → item ≡ get_or inputs (number - 3) item → input ≡ item → slice_get inputs (number - 3) ≡ Some input
+  input-at inputs number item input h w at same =
+      slice_get-get_or inputs (number - 3) item (omega arith) ∙ ap (λ (x : CycleInput). Some x) (sym (same ∙ at))
+
   -- the frame of an input, which three others precede
   run-frame-at : (inputs : List CycleInput) (i : ℕ) (input : CycleInput) → slice_get inputs i ≡ Some input
       → IsFrame m profile inputs (suc (suc (suc i))) (Run (frame_of m profile (take i inputs) (state_of m profile (take i inputs)) input))
@@ -69,13 +76,15 @@ module _ {S G E L P : Type 0} (m : Meaning S G E L P) (profile : ProfileValue) w
       subst (λ k. IsFrame m profile inputs k frame) (behind-three number h) (run-frame-at inputs (number - 3) input e)
 
   -- the frame Init
-  pub init-frame : (inputs : List CycleInput) (number : ℕ) (engine : EngineState S G E) → number ≡ 2 → HasMade m profile inputs number engine
+  pub init-frame : (inputs : List CycleInput) (number : ℕ) (engine : EngineState S G E) → number ≡ 2
+      → HasMade m profile inputs number engine
       → IsFrame m profile inputs number (Init (map (m.shown engine.job) engine.state.elements))
   init-frame inputs number engine h p =
       let begun : take (number - 3) inputs ≡ [] = ap (λ k. take k inputs) (let z : number - 3 ≡ 0 = omega arith in z) in
       let stands : StandsFor m profile engine [] = subst (λ (l : List CycleInput). StandsFor m profile engine l) begun p.stands in
       subst (λ k. IsFrame m profile inputs k (Init (map (m.shown engine.job) engine.state.elements)))
-      (let two : suc (suc zero) ≡ number = omega arith in two) (ap (λ (x : List (List ℕ)). Some (Init x)) (sym (init_is m profile engine stands)))
+      (let two : suc (suc zero) ≡ number = omega arith in two)
+      (ap (λ (x : List (List ℕ)). Some (Init x)) (sym (init_is m profile engine stands)))
 
   -- the last frame
   end-frame-at : (inputs : List CycleInput) (i : ℕ) → i ≡ length inputs → IsFrame m profile inputs (suc (suc (suc i))) Terminate
@@ -112,7 +121,8 @@ module _ {S G E L P : Type 0} (m : Meaning S G E L P) (profile : ProfileValue) w
       → StandsFor m profile next (take (number - 3) inputs ++ input ∷ []) → HasMade m profile inputs (number + 1) next
   made-run inputs number input engine next h e going stands = record {
     stands = subst (λ (l : List CycleInput). StandsFor m profile next l)
-        (sym (take-at inputs (number - 3) input e) ∙ ap (λ k. take k inputs) (let n : (number - 3) + 1 ≡ (number + 1) - 3 = omega arith in n)) stands;
+        (sym (take-at inputs (number - 3) input e)
+        ∙ ap (λ k. take k inputs) (let n : (number - 3) + 1 ≡ (number + 1) - 3 = omega arith in n)) stands;
     going = λ w. going;
   }
 

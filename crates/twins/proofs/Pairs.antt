@@ -13,57 +13,78 @@ module _ {X Y : Type 0} where
   pub pair_none : (R : X → Y → Type 0) → EachPair R [] []
   pair_none R = record { count = refl; each = λ k x y h. absurd (omega arith) }
 
-  pub pair_more : (R : X → Y → Type 0) (xs : List X) (ys : List Y) (x : X) (y : Y) → EachPair R xs ys → R x y → EachPair R (xs ++ x ∷ []) (ys ++ y ∷ [])
+  pub pair_more : (R : X → Y → Type 0) (xs : List X) (ys : List Y) (x : X) (y : Y) → EachPair R xs ys → R x y
+      → EachPair R (xs ++ x ∷ []) (ys ++ y ∷ [])
   pair_more R xs ys x y p one = record {
     count = (let c = p.count in omega (arith, length-append xs (x ∷ []), length-append ys (y ∷ [])));
     each = λ k a b h. at k a b (let l = length-append ys (y ∷ []) in omega arith) (eqb_tells k (length ys));
   }
     where
-      at : (k : ℕ) (a : X) (b : Y) → k < length ys + 1 → ((eqb k (length ys) ≡ true) × (k ≡ length ys)) ⊎ ((eqb k (length ys) ≡ false) × (k ≢ length ys)) → R (get_or (xs ++ x ∷ []) k a) (get_or (ys ++ y ∷ []) k b)
+      at : (k : ℕ) (a : X) (b : Y) → k < length ys + 1
+          → ((eqb k (length ys) ≡ true) × (k ≡ length ys)) ⊎ ((eqb k (length ys) ≡ false) × (k ≢ length ys))
+          → R (get_or (xs ++ x ∷ []) k a) (get_or (ys ++ y ∷ []) k b)
       at k a b h (inl e) = rw (e.1, get_or-append_seam ys y [] b) (rw (← p.count) (rw (get_or-append_seam xs x [] a) one))
-      at k a b h (inr e) = rw (get_or-append xs (x ∷ []) a k (let n = e.1 in let c = p.count in omega arith), get_or-append ys (y ∷ []) b k (let n = e.1 in omega arith)) (p.each k a b (let n = e.1 in omega arith))
+      at k a b h (inr e) =
+          let n = e.1 in
+          rw (get_or-append xs (x ∷ []) a k (let c = p.count in omega arith), get_or-append ys (y ∷ []) b k (omega arith))
+          (p.each k a b (omega arith))
 
-  pub pair_less : (R : X → Y → Type 0) (xs : List X) (ys : List Y) (x : X) (y : Y) → EachPair R (xs ++ x ∷ []) (ys ++ y ∷ []) → EachPair R xs ys × R x y
+  pub pair_less : (R : X → Y → Type 0) (xs : List X) (ys : List Y) (x : X) (y : Y) → EachPair R (xs ++ x ∷ []) (ys ++ y ∷ [])
+      → EachPair R xs ys × R x y
   pair_less R xs ys x y p =
       let same : length xs ≡ length ys = (let c = p.count in omega (arith, length-append xs (x ∷ []), length-append ys (y ∷ []))) in
-      let last : R (get_or (xs ++ x ∷ []) (length ys) x) (get_or (ys ++ y ∷ []) (length ys) y) = p.each (length ys) x y (let l = length-append ys (y ∷ []) in omega arith) in
-      let first : get_or (xs ++ x ∷ []) (length ys) x ≡ x = subst (λ n. get_or (xs ++ x ∷ []) n x ≡ x) same (get_or-append_seam xs x [] x) in (
+      let last : R (get_or (xs ++ x ∷ []) (length ys) x) (get_or (ys ++ y ∷ []) (length ys) y) = p.each (length ys) x y
+      (let l = length-append ys (y ∷ []) in omega arith) in
+      let first : get_or (xs ++ x ∷ []) (length ys) x ≡ x = subst (λ n. get_or (xs ++ x ∷ []) n x ≡ x) same
+      (get_or-append_seam xs x [] x) in (
         record {
           count = same;
-          each = λ k a b h. rw (← get_or-append xs (x ∷ []) a k (omega arith), ← get_or-append ys (y ∷ []) b k h) (p.each k a b (let l = length-append ys (y ∷ []) in omega arith));
+          each = λ k a b h. rw (← get_or-append xs (x ∷ []) a k (omega arith), ← get_or-append ys (y ∷ []) b k h) (p.each k a b
+              (let l = length-append ys (y ∷ []) in omega arith));
         },
         rw (first, get_or-append_seam ys y [] y) at last,
       )
 
-  pub pair_cut : (R : X → Y → Type 0) (xs : List X) (ys zs : List Y) → EachPair R xs (ys ++ zs) → EachPair R (take (length ys) xs) ys × EachPair R (drop (length ys) xs) zs
+  pub pair_cut : (R : X → Y → Type 0) (xs : List X) (ys zs : List Y) → EachPair R xs (ys ++ zs)
+      → EachPair R (take (length ys) xs) ys × EachPair R (drop (length ys) xs) zs
   pair_cut R xs ys zs p = (
     record {
       count = length-take (length ys) xs ∙ (let c = p.count in let l = length-append ys zs in omega (arith, c, l));
-      each = λ k a b h. rw (get_or-take (length ys) xs k a h, ← get_or-append ys zs b k h) (p.each k a b (let l = length-append ys zs in omega arith));
+      each = λ k a b h. rw (get_or-take (length ys) xs k a h, ← get_or-append ys zs b k h) (p.each k a b
+          (let l = length-append ys zs in omega arith));
     },
     record {
       count = length-drop (length ys) xs ∙ (let c = p.count in let l = length-append ys zs in omega (arith, c, l));
-      each = λ k a b h. rw (get_or-drop (length ys) xs k a, ← get_or-append-add ys zs k b) (p.each (length ys + k) a b (let l = length-append ys zs in omega arith));
+      each = λ k a b h. rw (get_or-drop (length ys) xs k a, ← get_or-append-add ys zs k b) (p.each (length ys + k) a b
+          (let l = length-append ys zs in omega arith));
     },
   )
 
-  pub pair_join : (R : X → Y → Type 0) (xs us : List X) (ys bs : List Y) → EachPair R xs ys → EachPair R us bs → EachPair R (xs ++ us) (ys ++ bs)
+  pub pair_join : (R : X → Y → Type 0) (xs us : List X) (ys bs : List Y) → EachPair R xs ys → EachPair R us bs
+      → EachPair R (xs ++ us) (ys ++ bs)
   pair_join R xs us ys bs p q = record {
     count = (let c = p.count in let d = q.count in omega (arith, length-append xs us, length-append ys bs));
     each = λ k a b h. at k a b (let l = length-append ys bs in omega arith) (leb_tells (length ys) k);
   }
     where
-      at : (k : ℕ) (a : X) (b : Y) → k < length ys + length bs → ((leb (length ys) k ≡ true) × (length ys ≤ k)) ⊎ ((leb (length ys) k ≡ false) × (k < length ys)) → R (get_or (xs ++ us) k a) (get_or (ys ++ bs) k b)
-      at k a b h (inr e) = let l = e.1 in rw (get_or-append xs us a k (let c = p.count in omega arith), get_or-append ys bs b k l) (p.each k a b l)
+      at : (k : ℕ) (a : X) (b : Y) → k < length ys + length bs
+          → ((leb (length ys) k ≡ true) × (length ys ≤ k)) ⊎ ((leb (length ys) k ≡ false) × (k < length ys))
+          → R (get_or (xs ++ us) k a) (get_or (ys ++ bs) k b)
+      at k a b h (inr e) =
+          let l = e.1 in
+          rw (get_or-append xs us a k (let c = p.count in omega arith), get_or-append ys bs b k l) (p.each k a b l)
       at k a b h (inl e) =
           let l = e.1 in
           let m : k ≡ length ys + (k - length ys) = omega arith in
           let n : k ≡ length xs + (k - length ys) = (let c = p.count in omega arith) in
-          let left : get_or (xs ++ us) k a ≡ get_or us (k - length ys) a = ap (λ i. get_or (xs ++ us) i a) n ∙ get_or-append-add xs us (k - length ys) a in
-          let right : get_or (ys ++ bs) k b ≡ get_or bs (k - length ys) b = ap (λ i. get_or (ys ++ bs) i b) m ∙ get_or-append-add ys bs (k - length ys) b in
+          let left : get_or (xs ++ us) k a ≡ get_or us (k - length ys) a = ap (λ i. get_or (xs ++ us) i a) n ∙ get_or-append-add xs us
+          (k - length ys) a in
+          let right : get_or (ys ++ bs) k b ≡ get_or bs (k - length ys) b = ap (λ i. get_or (ys ++ bs) i b) m ∙ get_or-append-add ys bs
+          (k - length ys) b in
           rw (left, right) (q.each (k - length ys) a b (omega arith))
 
-  pub pair_swap : (R : X → Y → Type 0) (xs : List X) (y z : Y) → EachPair R xs (y ∷ []) → ((x : X) → R (get_or xs 0 x) z) → EachPair R xs (z ∷ [])
+  pub pair_swap : (R : X → Y → Type 0) (xs : List X) (y z : Y) → EachPair R xs (y ∷ []) → ((x : X) → R (get_or xs 0 x) z)
+      → EachPair R xs (z ∷ [])
   pair_swap R xs y z p one = record { count = p.count; each = λ k a b h. at k a b h }
     where
       at : (k : ℕ) (a : X) (b : Y) → k < 1 → R (get_or xs k a) (get_or (z ∷ []) k b)
@@ -77,11 +98,13 @@ module _ {X Y : Type 0} where
   pair_tail R x xs y ys p = record { count = (let c = p.count in omega arith); each = λ k a b h. p.each (suc k) a b (omega arith) }
 
   -- what follows from the relation at each place
-  pub pair_then : (R Q : X → Y → Type 0) (xs : List X) (ys : List Y) → ((x : X) (y : Y) → R x y → Q x y) → EachPair R xs ys → EachPair Q xs ys
+  pub pair_then : (R Q : X → Y → Type 0) (xs : List X) (ys : List Y) → ((x : X) (y : Y) → R x y → Q x y) → EachPair R xs ys
+      → EachPair Q xs ys
   pair_then R Q xs ys next p = record { count = p.count; each = λ k a b h. next (get_or xs k a) (get_or ys k b) (p.each k a b h) }
 
   -- and with a fact of each item
-  pub pair_with : (R : X → Y → Type 0) (P : X → Type 0) (xs : List X) (ys : List Y) → EachPair R xs ys → All P xs → EachPair (λ x y. R x y × P x) xs ys
+  pub pair_with : (R : X → Y → Type 0) (P : X → Type 0) (xs : List X) (ys : List Y) → EachPair R xs ys → All P xs
+      → EachPair (λ x y. R x y × P x) xs ys
   pair_with R P xs ys p all =
       record { count = p.count; each = λ k a b h. (p.each k a b h, All-get_or P xs k a (let c = p.count in omega arith) all) }
 
@@ -102,7 +125,8 @@ module _ {X Y : Type 0} where
     each = λ k a b h. at k a b (subst (λ n. k < n) (length-set ys i z) h) (eqb_tells k i);
   }
     where
-      at : (k : ℕ) (a : X) (b : Y) → k < length ys → ((eqb k i ≡ true) × (k ≡ i)) ⊎ ((eqb k i ≡ false) × (k ≢ i)) → R (get_or xs k a) (get_or (set ys i z) k b)
+      at : (k : ℕ) (a : X) (b : Y) → k < length ys → ((eqb k i ≡ true) × (k ≡ i)) ⊎ ((eqb k i ≡ false) × (k ≢ i))
+          → R (get_or xs k a) (get_or (set ys i z) k b)
       at k a b h (inl e) = rw (e.1, get_or-set_same ys i z b within) (one a)
       at k a b h (inr e) = rw (get_or-set_other ys i k z b e.1) (p.each k a b h)
 
@@ -121,7 +145,8 @@ module _ {X Y : Type 0} where
   pair_with_right R P xs ys p all = record { count = p.count; each = λ k a b h. (p.each k a b h, All-get_or P ys k b h all) }
 
   -- what the relation tells of each right item
-  pub pair_all : (R : X → Y → Type 0) (P : Y → Type 0) → ((x : X) (y : Y) → R x y → P y) → (xs : List X) (ys : List Y) → EachPair R xs ys → All P ys
+  pub pair_all : (R : X → Y → Type 0) (P : Y → Type 0) → ((x : X) (y : Y) → R x y → P y) → (xs : List X) (ys : List Y)
+      → EachPair R xs ys → All P ys
   pair_all R P next [] [] p = λ k d h. absurd (omega arith)
   pair_all R P next [] (y ∷ ys) p = absurd (let c = p.count in omega arith)
   pair_all R P next (x ∷ xs) ys p = λ k d h. next (get_or (x ∷ xs) k x) (get_or ys k d) (p.each k x d h)

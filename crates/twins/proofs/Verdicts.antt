@@ -32,7 +32,8 @@ other-more n first copy (r ∷ more) row =
     let here : Option Verdict = option_map (Differ copy) (row_difference n first r) in
     ap (option_or here) (other-more n first (copy + 1) more row
     ∙ ap (λ i. option_or (first_other n first (copy + 1) more) (option_map (Differ i) (row_difference n first row))) k)
-    ∙ sym (or-assoc here (first_other n first (copy + 1) more) (option_map (Differ (copy + length (r ∷ more))) (row_difference n first row)))
+    ∙ sym (or-assoc here (first_other n first (copy + 1) more) (option_map (Differ (copy + length (r ∷ more)))
+    (row_difference n first row)))
 
 pub verdict-more : (f : ℕ) (ours : List Row) (others : List (List Row)) (rows : List Row) (copy : ℕ) → 1 + length others ≡ copy
     → row_verdict f ((ours ∷ others) ++ rows ∷ [])

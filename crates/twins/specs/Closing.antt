@@ -3,9 +3,9 @@ use Rattle.std.specs.Prelude.{List}
 use Rattle.det_edges.specs.Prefix.{IsPrefix}
 use Rattle.frame_queue.specs.declared.queue.FrameQueue.{FrameQueue}
 use Rattle.frame_queue.specs.Queues.{sent_of, IsSenderOf}
-use Rattle.twins.specs.declared.taker.Lane.{Lane}
+use Rattle.twins.specs.declared.taker.Intake.{Intake}
 use Rattle.twins.specs.declared.twin.Twin.{Twin}
-use Rattle.twins.specs.Lanes.{rows_in}
+use Rattle.twins.specs.Intakes.{rows_in}
 use Rattle.twins.specs.Pairs.{EachPair}
 
 module _ {S G E L P : Type 0} where
@@ -15,6 +15,6 @@ module _ {S G E L P : Type 0} where
       EachPair (λ q (twin : Twin S G E L P). IsSenderOf q twin.sender) queues twins
 
   -- what was taken of each copy is the first of what it sent
-  abbrev pub AreBegun : List Lane → List (Twin S G E L P) → Type 0
-  AreBegun lanes twins = EachPair (λ lane (twin : Twin S G E L P).
-      IsPrefix (rows_in lane) (sent_of twin.sender)) lanes twins
+  abbrev pub AreBegun : List Intake → List (Twin S G E L P) → Type 0
+  AreBegun intakes twins = EachPair (λ intake (twin : Twin S G E L P).
+      IsPrefix (rows_in intake) (sent_of twin.sender)) intakes twins

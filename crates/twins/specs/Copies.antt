@@ -7,7 +7,7 @@ use Rattle.det_values.specs.declared.frames.Frame.{Frame}
 use Rattle.job_trait.specs.Meaning.{Meaning}
 use Rattle.twins.specs.declared.copies.Copies.{Copies}
 use Rattle.twins.specs.Sending.{AreTwins, numbers_of}
-use Rattle.twins.specs.Taking.{AreLanes, HaveTaken}
+use Rattle.twins.specs.Taking.{AreIntakes, HaveTaken}
 
 -- so many copies, each with its queue, of which nothing was taken
 pub record AreCopies {S G E L P : Type 0} (m : Meaning S G E L P) (profile : ProfileValue)
@@ -15,5 +15,5 @@ pub record AreCopies {S G E L P : Type 0} (m : Meaning S G E L P) (profile : Pro
     (copies : Copies S G E L P) : Type 0 where
   pub twins : AreTwins m profile inputs altered copies.queues.items copies.twins.items
   pub numbers : numbers_of copies.twins.items ≡ range_with_len 0 count
-  pub lanes : AreLanes copies.queues.items copies.lanes.items
-  pub taken : HaveTaken 0 copies.lanes.items
+  pub intakes : AreIntakes copies.queues.items copies.intakes.items
+  pub taken : HaveTaken 0 copies.intakes.items

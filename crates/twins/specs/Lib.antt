@@ -1,6 +1,7 @@
 pub mod Closing
 pub mod Copies
-pub mod Lanes
+pub mod Intakes
+pub mod Laws
 pub mod Making
 pub mod Pairs
 pub mod Sending

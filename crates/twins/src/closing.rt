@@ -1,8 +1,8 @@
 //! The queues are closed.
 ghost use Rattle.twins.specs.Closing.{AreSenders, AreBegun};
-ghost use Rattle.twins.specs.Taking.{AreLanes};
+ghost use Rattle.twins.specs.Taking.{AreIntakes};
 
-use crate::taker::Lane;
+use crate::taker::Intake;
 use crate::twin::Twin;
 use frame_queue::FrameQueue;
 use job_trait::Job;
@@ -12,21 +12,21 @@ use job_trait::Job;
 pub(crate) fn close_all<J: Job>(
     mut queues: Vec<FrameQueue>,
     mut twins: Vec<Twin<J>>,
-    mut lanes: Vec<Lane>,
+    mut intakes: Vec<Intake>,
 )
     requires senders { AreSenders queues.items twins.items }
-    requires lanes { AreLanes queues.items lanes.items }
-    ensures { AreBegun lanes.items twins.items }
+    requires intakes { AreIntakes queues.items intakes.items }
+    ensures { AreBegun intakes.items twins.items }
 {
     'copies: while let Some(queue) = queues.pop() {
         let Some(twin) = twins.pop() else {
             unreachable!()
         };
-        let Some(lane) = lanes.pop() else {
+        let Some(intake) = intakes.pop() else {
             unreachable!()
         };
         let Twin { sender, .. } = twin;
-        let Lane { receiver, .. } = lane;
+        let Intake { receiver, .. } = intake;
         let _rest = queue.close(sender, receiver);
     }
 }

@@ -6,7 +6,7 @@ ghost use Rattle.twins.specs.Making.{HasMade};
 ghost use Rattle.twins.specs.Copies.{AreCopies};
 
 use crate::pushing::push;
-use crate::taker::Lane;
+use crate::taker::Intake;
 use crate::twin::Twin;
 use crate::{Tamper, TwinRun};
 use cycle_engine::Engine;
@@ -20,7 +20,7 @@ use std::alloc::Global;
 pub(crate) struct Copies<J: Job> {
     pub(crate) queues: Vec<FrameQueue>,
     pub(crate) twins: Vec<Twin<J>>,
-    pub(crate) lanes: Vec<Lane>,
+    pub(crate) intakes: Vec<Intake>,
 }
 
 impl<J: Job> Copies<J> {
@@ -38,7 +38,7 @@ impl<J: Job> Copies<J> {
         let mut all = Copies {
             queues: Vec::new(alloc),
             twins: Vec::new(alloc),
-            lanes: Vec::new(alloc),
+            intakes: Vec::new(alloc),
         };
         'copies: for copy in 0..copies {
             all.add(alloc, run, copy)?;
@@ -64,7 +64,7 @@ impl<J: Job> Copies<J> {
         let twin = begin(alloc, run, copy, sender)?;
         push(&mut self.queues, queue)?;
         push(&mut self.twins, twin)?;
-        push(&mut self.lanes, Lane { receiver, rows: 0 })?;
+        push(&mut self.intakes, Intake { receiver, rows: 0 })?;
         Ok(())
     }
 }

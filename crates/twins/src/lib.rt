@@ -5,6 +5,7 @@ mod closing;
 mod copies;
 mod exchange;
 mod flipping;
+pub mod laws;
 mod making;
 mod pushing;
 mod rounds;

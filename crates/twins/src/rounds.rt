@@ -5,9 +5,9 @@ ghost use Rattle.lockstep.specs.declared.verdict.Verdict.TheVariants.{Differ};
 ghost use Rattle.lockstep.specs.Verdict.{row_difference};
 ghost use Rattle.twins.specs.Pairs.{EachPair};
 ghost use Rattle.twins.specs.Verdict.{as_read, row_verdict};
-ghost use Rattle.twins.specs.Taking.{AreLanes, HaveTaken, TookOne, taken_by, Agreed, Judged};
+ghost use Rattle.twins.specs.Taking.{AreIntakes, HaveTaken, TookOne, taken_by, Agreed, Judged};
 
-use crate::taker::{Lane, Taker};
+use crate::taker::{Intake, Taker};
 use frame_queue::{FrameQueue, Row};
 use lockstep::{Verdict, first_difference};
 use std::sync::Wait;
@@ -46,7 +46,7 @@ impl Taker {
     {
         let number = self.rows;
         self.rows += 1;
-        take_round(rt, queues, self.lanes.as_mut_slice(), number)
+        take_round(rt, queues, self.intakes.as_mut_slice(), number)
     }
 }
 
@@ -54,22 +54,22 @@ impl Taker {
 fn take_round<R: Wait>(
     rt: &R,
     queues: &[FrameQueue],
-    lanes: &mut [Lane],
+    intakes: &mut [Intake],
     number: u32,
 ) -> Option<Verdict>
     requires some { 0 < length queues.now }
     requires few { length queues.now ≤ 8 }
-    requires lanes { AreLanes queues.now lanes.old }
+    requires intakes { AreIntakes queues.now intakes.old }
     requires room { number < 4294967295 }
-    requires taken { HaveTaken number lanes.old }
-    ensures lanes { AreLanes queues.now lanes.new }
-    ensures took { EachPair TookOne lanes.old lanes.new }
-    ensures found { result ≡ row_verdict number (taken_by lanes.new) }
+    requires taken { HaveTaken number intakes.old }
+    ensures intakes { AreIntakes queues.now intakes.new }
+    ensures took { EachPair TookOne intakes.old intakes.new }
+    ensures found { result ≡ row_verdict number (taken_by intakes.new) }
 {
-    let ours = lanes[0].take(rt, &queues[0]);
+    let ours = intakes[0].take(rt, &queues[0]);
     let mut found = None;
-    'others: for copy in 1..lanes.len() {
-        let row = lanes[copy].take(rt, &queues[copy]);
+    'others: for copy in 1..intakes.len() {
+        let row = intakes[copy].take(rt, &queues[copy]);
         found = found.or(parted(copy as u32, number, &ours, row));
     }
     found

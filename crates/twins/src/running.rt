@@ -19,12 +19,13 @@ use std::sync::Wait;
 use std::thread::Threads;
 
 /// Runs so many copies of a run, each on a thread of its own where there is one, and compares their
-/// rows while they run. Each copy makes the frames of the whole run, from Register to Terminate, and
-/// runs its passes with one worker.
+/// rows while they run. Each copy makes the frames of the whole run, from Register to Terminate,
+/// and runs its passes with one worker.
 ///
-/// They work in batches of 16 rows: one batch is made and sent while the one before it is taken and
-/// compared, so no queue ever holds more than 32 rows. Behind the first row that not all copies have
-/// equal nothing more is run. That copies run at the same time is not promised.
+/// They work in batches of 16 rows: one batch is made and sent while the one before it is taken
+/// and compared, so no queue ever holds more than 32 rows. Once a row was found that not all
+/// copies have equal, no further batch is run. A copy that finds no memory ends its sending, and
+/// the answer is OutOfMemory. That copies run at the same time is not promised.
 pub fn run_twins<J, T, R>(
     rt: &R,
     alloc: Global,
@@ -82,11 +83,11 @@ where
     let Copies {
         queues,
         twins,
-        lanes,
+        intakes,
     } = begun;
-    let sides = Sides::of(twins, lanes);
+    let sides = Sides::of(twins, intakes);
     let (sides, found) = exchange_all(rt, alloc, run, queues.as_slice(), sides)?;
-    let (twins, lanes) = sides.parts()?;
-    close_all(queues, twins, lanes);
+    let (twins, intakes) = sides.parts()?;
+    close_all(queues, twins, intakes);
     Ok(found)
 }

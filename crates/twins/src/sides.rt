@@ -3,7 +3,7 @@ ghost use Rattle.std.specs.Prelude.{◌≡◌, ◌<◌, length, IfOk};
 ghost use Rattle.twins.specs.Sides.{twins_of};
 
 use crate::pushing::push;
-use crate::taker::{Lane, Taker};
+use crate::taker::{Intake, Taker};
 use crate::twin::Twin;
 use det_values::OutOfMemory;
 use job_trait::Job;
@@ -20,10 +20,10 @@ pub(crate) struct Sides<J: Job> {
 
 impl<J: Job> Sides<J> {
     /// Copies of which nothing was taken.
-    pub(crate) fn of(mut twins: Vec<Twin<J>>, lanes: Vec<Lane>) -> Sides<J>
+    pub(crate) fn of(mut twins: Vec<Twin<J>>, intakes: Vec<Intake>) -> Sides<J>
         requires { 0 < length twins.items }
         ensures twins { twins_of result ≡ twins.items }
-        ensures lanes { result.taker.lanes ≡ lanes }
+        ensures intakes { result.taker.intakes ≡ intakes }
         ensures rows { result.taker.rows ≡ 0 }
     {
         let Some(last) = twins.pop() else {
@@ -32,14 +32,14 @@ impl<J: Job> Sides<J> {
         Sides {
             last,
             others: twins,
-            taker: Taker { lanes, rows: 0 },
+            taker: Taker { intakes, rows: 0 },
         }
     }
 
     /// All copies, and the ends from which their rows are taken.
-    pub(crate) fn parts(self) -> Result<(Vec<Twin<J>>, Vec<Lane>), OutOfMemory>
+    pub(crate) fn parts(self) -> Result<(Vec<Twin<J>>, Vec<Intake>), OutOfMemory>
         ensures twins { IfOk result (λ parts. parts.0.items ≡ twins_of self) }
-        ensures lanes { IfOk result (λ parts. parts.1 ≡ self.taker.lanes) }
+        ensures intakes { IfOk result (λ parts. parts.1 ≡ self.taker.intakes) }
     {
         let Sides {
             last,
@@ -47,7 +47,7 @@ impl<J: Job> Sides<J> {
             taker,
         } = self;
         push(&mut others, last)?;
-        let Taker { lanes, .. } = taker;
-        Ok((others, lanes))
+        let Taker { intakes, .. } = taker;
+        Ok((others, intakes))
     }
 }

@@ -1,24 +1,24 @@
 //! The side that takes the rows of all copies.
 ghost use Rattle.std.specs.Prelude.{◌≡◌, ◌+◌, ◌<◌, ◌++◌, ◌∷◌, []};
-ghost use Rattle.twins.specs.Lanes.{IsLaneOf, rows_in};
+ghost use Rattle.twins.specs.Intakes.{IsIntakeOf, rows_in};
 
 use frame_queue::{FrameQueue, Receiver, Row};
 use std::sync::Wait;
 
 /// The end from which the rows of one copy are taken.
 #[derive(Drop)]
-pub(crate) struct Lane {
+pub(crate) struct Intake {
     pub(crate) receiver: Receiver,
     /// How many rows were taken.
     pub(crate) rows: u32,
 }
 
-impl Lane {
+impl Intake {
     /// Takes the next row of its copy.
     pub(crate) fn take<R: Wait>(&mut self, rt: &R, queue: &FrameQueue) -> Row
-        requires queue { IsLaneOf queue.now self.old }
+        requires queue { IsIntakeOf queue.now self.old }
         requires room { self.old.rows < 4294967295 }
-        ensures queue { IsLaneOf queue.now self.new }
+        ensures queue { IsIntakeOf queue.now self.new }
         ensures taken { rows_in self.new ≡ rows_in self.old ++ result ∷ [] }
         ensures rows { self.new.rows ≡ self.old.rows + 1 }
     {
@@ -30,7 +30,7 @@ impl Lane {
 /// The ends of all copies, from which as many rows were taken of each.
 #[derive(Drop)]
 pub(crate) struct Taker {
-    pub(crate) lanes: Vec<Lane>,
+    pub(crate) intakes: Vec<Intake>,
     /// How many rows were taken of each copy.
     pub(crate) rows: u32,
 }

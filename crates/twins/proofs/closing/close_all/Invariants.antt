@@ -1,14 +1,14 @@
 use Rattle.std.proofs.Common.{length}
 use Rattle.twins.specs.Closing.{AreSenders}
-use Rattle.twins.specs.Taking.{AreLanes}
+use Rattle.twins.specs.Taking.{AreIntakes}
 use Rattle.twins.proofs.Closed.{HaveClosed}
 use Rattle.twins.proofs.closing.close_all.Given as goal
 
 abbrev pub invariant-copies : goal.invariant-copies
 invariant-copies g l = record {
   senders : AreSenders l.queues.items l.twins.items;
-  lanes : AreLanes l.queues.items l.lanes.items;
-  closed : HaveClosed l.lanes.items l.fn.lanes.items l.twins.items l.fn.twins.items;
+  intakes : AreIntakes l.queues.items l.intakes.items;
+  closed : HaveClosed l.intakes.items l.fn.intakes.items l.twins.items l.fn.twins.items;
 }
 
 abbrev pub decreases-copies : goal.decreases-copies

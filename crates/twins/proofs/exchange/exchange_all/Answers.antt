@@ -7,11 +7,12 @@ use Rattle.twins.proofs.exchange.exchange_all.Goals as goal
 pub batches-init : goal.batches-init
 batches-init g c =
     let same = c.first_sent-sides.ensures.taker in
+    let none : c.first_sent-sides.result.taker.rows ≡ 0 = ap (λ (t : Taker). t.rows) same ∙ c.requires.begins in
     record {
       twins = c.first_sent-sides.ensures.twins;
       numbers = c.first_sent-sides.ensures.numbers;
       agreed = subst (λ (t : Taker). Agreed c.args.queues.now t) (sym same) c.requires.agreed;
-      within = (let zero : c.first_sent-sides.result.taker.rows ≡ 0 = ap (λ (t : Taker). t.rows) same ∙ c.requires.begins in omega (arith, zero));
+      within = omega (arith, none);
     }
 
 pub returns-then-is_some-clause-rows : goal.returns-then-is_some-clause-rows

@@ -19,9 +19,11 @@ returns-in_default-clause-twins g t c =
 pub join-last-requires-after_bounds : goal.join-last-requires-after_bounds
 join-last-requires-after_bounds g t c κs within =
     let twin = IsTwin g.J.Job.meaning c.args.run.now.profile c.args.run.now.inputs (g.T.Tamper.altered c.args.run.now.tamper) in
-    let all : EachPair twin (c.in-Some.front.now ++ c.in-Some.back.now) ((c.next_of.new.twins.items ++ c.in-Some.next ∷ []) ++ c.args.last ∷ []) =
+    let all : EachPair twin (c.in-Some.front.now ++ c.in-Some.back.now)
+    ((c.next_of.new.twins.items ++ c.in-Some.next ∷ []) ++ c.args.last ∷ []) =
     rw (c.in-Some.ensures.queues, c.in-Some.ensures.twins) at c.requires.twins in
-    let parts = pair_parts twin c.in-Some.front.now c.in-Some.back.now (c.next_of.new.twins.items ++ c.in-Some.next ∷ []) (c.args.last ∷ []) all
+    let parts = pair_parts twin c.in-Some.front.now c.in-Some.back.now (c.next_of.new.twins.items ++ c.in-Some.next ∷ [])
+    (c.args.last ∷ []) all
     c.in-Some.ensures.front in
     let fewer : length c.args.others.items ≡ length c.next_of.new.twins.items + 1 =
     ap length c.in-Some.ensures.twins ∙ length-append c.next_of.new.twins.items (c.in-Some.next ∷ []) in

@@ -11,5 +11,6 @@ copies-init g c =
 pub returns : goal.returns
 returns g c =
     let all : c.copies.copy ≡ c.args.copies = (let e = c.copies.auto.copy-end in let t = c.copies-test.false in omega (arith, e, t)) in
-    subst (λ n. AreCopies g.J.Job.meaning c.args.run.now.profile c.args.run.now.inputs (g.T.Tamper.altered c.args.run.now.tamper) n c.copies.all)
+    subst (λ n. AreCopies g.J.Job.meaning c.args.run.now.profile c.args.run.now.inputs
+    (g.T.Tamper.altered c.args.run.now.tamper) n c.copies.all)
     all c.copies.invariant

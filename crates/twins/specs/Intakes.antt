@@ -3,12 +3,12 @@ use Rattle.std.specs.Prelude.{List}
 use Rattle.frame_queue.specs.declared.row.Row.{Row}
 use Rattle.frame_queue.specs.declared.queue.FrameQueue.{FrameQueue}
 use Rattle.frame_queue.specs.Queues.{taken_of, IsReceiverOf}
-use Rattle.twins.specs.declared.taker.Lane.{Lane}
+use Rattle.twins.specs.declared.taker.Intake.{Intake}
 
 -- it takes from this queue
-abbrev pub IsLaneOf : FrameQueue → Lane → Type 0
-IsLaneOf queue lane = IsReceiverOf queue lane.receiver
+abbrev pub IsIntakeOf : FrameQueue → Intake → Type 0
+IsIntakeOf queue intake = IsReceiverOf queue intake.receiver
 
 -- the rows that were taken of it
-abbrev pub rows_in : Lane → List Row
-rows_in lane = taken_of lane.receiver
+abbrev pub rows_in : Intake → List Row
+rows_in intake = taken_of intake.receiver
