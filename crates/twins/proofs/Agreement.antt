@@ -1,14 +1,13 @@
 -- Copies have no row that parts them exactly where all have the frames of copy 0.
 use Rattle.std.proofs.Common.{◌≡◌, ◌<◌, ◌≤◌, ◌+◌, ℕ, zero, suc, List, [], ◌∷◌, length, map, get_or, Option, Some, None}
-use Rattle.std.proofs.Common.{refl, sym, ap, ◌∙◌, subst, arith, eqb, true, false, inl, inr, ◌⊎◌, ◌≢◌}
+use Rattle.std.proofs.Common.{refl, sym, ap, ◌∙◌, arith, eqb, true, false, inl, inr, ◌⊎◌, ◌≢◌}
 use Rattle.std.proofs.lemmas.Bool.Decides.{eqb_tells}
 use Rattle.std.specs.Option.{option_or, option_map}
-use Rattle.std.specs.List.{AllByRecursion, slice_get}
+use Rattle.std.specs.List.{AllByRecursion}
 use Rattle.std.proofs.lemmas.Option.{slice_get-get_or}
 use Rattle.det_values.specs.declared.frames.Frame.{Frame}
 use Rattle.record_grammar.specs.declared.item.Item.TheVariants as items
 use Rattle.frame_queue.specs.declared.row.Row.{Row}
-use Rattle.lockstep.specs.declared.row.Row.{Row as Read}
 use Rattle.lockstep.specs.declared.row.Row.TheVariants as reads
 use Rattle.lockstep.specs.declared.verdict.Verdict.{Verdict}
 use Rattle.lockstep.specs.declared.verdict.Verdict.TheVariants.{Differ}

@@ -1,5 +1,5 @@
 -- Queues are closed, the last one first.
-use Rattle.std.proofs.Common.{◌≡◌, ℕ, List, [], ◌∷◌, ◌++◌, length, refl, sym, ap, ◌∙◌, subst, append_assoc}
+use Rattle.std.proofs.Common.{◌≡◌, List, [], ◌∷◌, ◌++◌, sym, ap, ◌∙◌, append_assoc}
 use Rattle.std.proofs.lemmas.List.{append-nil}
 use Rattle.det_edges.specs.Prefix.{IsPrefix}
 use Rattle.frame_queue.specs.Queues.{sent_of}
@@ -7,7 +7,6 @@ use Rattle.twins.specs.declared.taker.Intake.{Intake}
 use Rattle.twins.specs.declared.twin.Twin.{Twin}
 use Rattle.twins.specs.Intakes.{rows_in}
 use Rattle.twins.specs.Closing.{AreBegun}
-use Rattle.twins.specs.Pairs.{EachPair}
 use Rattle.twins.proofs.Pairs.{pair_none, pair_one, pair_join}
 
 module _ {S G E L P : Type 0} where

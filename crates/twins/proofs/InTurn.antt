@@ -1,8 +1,7 @@
 -- A row is taken of each copy in turn.
-use Rattle.std.proofs.Common.{◌≡◌, ◌<◌, ◌≤◌, ◌+◌, ℕ, zero, suc, List, [], ◌∷◌, ◌++◌, length, take, drop, set, map, get_or}
-use Rattle.std.proofs.Common.{Option, Some, None, refl, sym, ap, ◌∙◌, subst, arith, add-one, length-append, length-take}
+use Rattle.std.proofs.Common.{◌≡◌, ◌<◌, ◌≤◌, ◌+◌, ℕ, List, [], ◌∷◌, ◌++◌, length, take, drop, set, get_or}
+use Rattle.std.proofs.Common.{Option, Some, None, refl, sym, ap, ◌∙◌, subst, arith, add-one, length-take}
 use Rattle.std.specs.Option.{option_or, option_map}
-use Rattle.std.specs.List.{All}
 use Rattle.std.proofs.Math.Seq.{take-suc, take-suc-set}
 use Rattle.std.proofs.lemmas.List.{length-set, get_or-drop, drop-set-lt, drop-drop, get_or_default, take_all, map-append, length-map}
 use Rattle.std.proofs.lemmas.List.Elements.{All-get_or}
@@ -16,9 +15,9 @@ use Rattle.twins.specs.Intakes.{IsIntakeOf, rows_in}
 use Rattle.twins.specs.Pairs.{EachPair}
 use Rattle.twins.specs.Verdict.{as_read, row_at, row_verdict}
 use Rattle.twins.specs.Taking.{AreIntakes, HaveTaken, TookOne, taken_by}
-use Rattle.twins.proofs.Pairs.{pair_none, pair_more, pair_set, pair_map, pair_with}
-use Rattle.twins.proofs.Rows.{get-before, row-last}
-use Rattle.twins.proofs.Verdicts.{verdict-more, same-verdict}
+use Rattle.twins.proofs.Pairs.{pair_none, pair_more, pair_set}
+use Rattle.twins.proofs.Rows.{row-last}
+use Rattle.twins.proofs.Verdicts.{verdict-more}
 
 -- of the first `k` copies the row `n` was taken, and held against that of copy 0
 pub record Round (k n : ℕ) (queues : List FrameQueue) (old now : List Intake) (ours : Row) (found : Option Verdict) : Type 0 where

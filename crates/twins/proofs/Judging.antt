@@ -1,6 +1,6 @@
 -- What is found of the rows taken.
-use Rattle.std.proofs.Common.{◌≡◌, ◌≢◌, ◌<◌, ◌≤◌, ◌+◌, ◌⊎◌, inl, inr, ℕ, zero}
-use Rattle.std.proofs.Common.{suc, List, [], ◌∷◌, ◌++◌, length, map, get_or, true, false, eqb}
+use Rattle.std.proofs.Common.{◌≡◌, ◌≢◌, ◌<◌, ◌≤◌, ◌+◌, ◌⊎◌, inl, inr, ℕ}
+use Rattle.std.proofs.Common.{List, [], ◌∷◌, length, map, get_or, true, false, eqb}
 use Rattle.std.proofs.Common.{Option, Some, None, refl, sym, ap, ◌∙◌, subst, arith, length-append}
 use Rattle.std.specs.Prelude.{IfNone, is_some}
 use Rattle.std.specs.Option.{unwrap_or}
@@ -24,13 +24,13 @@ use Rattle.twins.specs.declared.taker.Taker.{Taker}
 use Rattle.twins.specs.Intakes.{rows_in}
 use Rattle.twins.specs.declared.twin.Twin.{Twin}
 use Rattle.twins.specs.Pairs.{EachPair}
-use Rattle.twins.specs.Verdict.{rows_from, row_at, row_verdict, first_verdict, copy_rows, twin_verdict}
+use Rattle.twins.specs.Verdict.{row_at, row_verdict, copy_rows, twin_verdict}
 use Rattle.twins.specs.Making.{IsTwin}
 use Rattle.twins.specs.Sending.{AreTwins, numbers_of}
-use Rattle.twins.specs.Taking.{AreIntakes, HaveTaken, TookOne, taken_by, Agreed, Parted, Judged}
+use Rattle.twins.specs.Taking.{AreIntakes, HaveTaken, TookOne, taken_by, Agreed, Judged}
 use Rattle.twins.specs.Closing.{AreBegun}
 use Rattle.twins.proofs.Pairs.{pair_map, pair_then, pair_with, pair_with_right, pair_all}
-use Rattle.twins.proofs.Rows.{get-before, row-of-prefix, rows-begin, length-rows}
+use Rattle.twins.proofs.Rows.{row-of-prefix, rows-begin, length-rows}
 use Rattle.twins.proofs.InTurn.{Took}
 use Rattle.twins.proofs.Made.{length-frames}
 use Rattle.twins.proofs.Verdicts.{same-verdict, first-none, first-some}

@@ -1,7 +1,7 @@
 -- The frames of a run in their places, and an engine behind the first of them.
 use Rattle.std.proofs.Common.{◌≡◌, ◌<◌, ◌≤◌, ◌+◌, ◌-◌, ℕ, zero, suc, List, [], ◌∷◌, ◌++◌, length, take, drop, map, get_or, Some}
 use Rattle.std.proofs.Common.{true, false}
-use Rattle.std.proofs.Common.{refl, sym, ap, ◌∙◌, subst, arith, length-append, append_assoc, length-take}
+use Rattle.std.proofs.Common.{sym, ap, ◌∙◌, subst, arith, length-append, append_assoc, length-take}
 use Rattle.std.specs.List.{slice_get}
 use Rattle.std.proofs.lemmas.List.{take-append-drop, length-map, take_all}
 use Rattle.std.proofs.lemmas.Option.{slice_get_within, slice_get-get_or}
@@ -9,11 +9,11 @@ use Rattle.det_values.specs.Values.{ProfileValue}
 use Rattle.det_values.specs.declared.frames.CycleInput.{CycleInput}
 use Rattle.det_values.specs.declared.frames.RunFrame.{RunFrame}
 use Rattle.det_values.specs.declared.frames.Frame.{Frame}
-use Rattle.det_values.specs.declared.frames.Frame.TheVariants.{Register, Discover, Init, Run, Terminate}
+use Rattle.det_values.specs.declared.frames.Frame.TheVariants.{Init, Run, Terminate}
 use Rattle.job_trait.specs.Meaning.{Meaning}
 use Rattle.job_trait.specs.Cycle.{state_after}
 use Rattle.cycle_engine.specs.Engine.{EngineState, StandsFor}
-use Rattle.cycle_engine.specs.Frames.{frames, frame_of, state_of, state_behind, runs, runs_behind, first_state, cycle_of, init_of}
+use Rattle.cycle_engine.specs.Frames.{frames, frame_of, state_of, runs, runs_behind, first_state, cycle_of}
 use Rattle.cycle_engine.proofs.Standing.{runs_behind-append, length-runs, init_is}
 use Rattle.twins.specs.Making.{IsFrame, HasMade}
 use Rattle.twins.proofs.Rows.{get-mapped, get-end, take-at}

@@ -1,5 +1,4 @@
-use Rattle.std.proofs.Common.{◌≡◌, sym}
-use Rattle.frame_queue.specs.declared.queue.FrameQueue.{FrameQueue}
+use Rattle.std.proofs.Common.{sym}
 use Rattle.frame_queue.specs.Queues.{IsSenderOf}
 use Rattle.twins.specs.declared.twin.Twin.{Twin}
 use Rattle.twins.specs.Intakes.{IsIntakeOf}

@@ -1,4 +1,4 @@
-use Rattle.std.proofs.Common.{◌≡◌, ◌≤◌, ◌<◌, ◌+◌, ◌-◌, refl, sym, ap, ◌∙◌, subst, arith, rules, min}
+use Rattle.std.proofs.Common.{◌≡◌, ◌<◌, ◌+◌, ◌-◌, sym, ap, ◌∙◌, subst, arith}
 use Rattle.twins.specs.declared.taker.Taker.{Taker}
 use Rattle.twins.specs.Taking.{Agreed}
 use Rattle.twins.proofs.Judging.{went-on, rows-went-on, rows-ended}

@@ -1,9 +1,9 @@
-use Rattle.std.proofs.Common.{◌≡◌, ◌<◌, ◌≤◌, ◌+◌, ℕ, length, get_or, sym, ap, ◌∙◌, subst, arith}
+use Rattle.std.proofs.Common.{◌<◌, length, ap, ◌∙◌, subst, arith}
 use Rattle.std.specs.Option.{option_or}
 use Rattle.std.proofs.lemmas.List.{length-set}
 use Rattle.frame_queue.specs.declared.queue.FrameQueue.{FrameQueue}
 use Rattle.twins.specs.Intakes.{IsIntakeOf}
-use Rattle.twins.proofs.InTurn.{Round, round-begins, round-goes, not-yet}
+use Rattle.twins.proofs.InTurn.{round-begins, round-goes, not-yet}
 use Rattle.twins.proofs.rounds.take_round.Goals as goal
 
 pub others-init : goal.others-init

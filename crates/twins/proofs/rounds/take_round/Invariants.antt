@@ -1,4 +1,4 @@
-use Rattle.std.proofs.Common.{◌≡◌, ◌≤◌, ◌<◌, length}
+use Rattle.std.proofs.Common.{◌≡◌, length}
 use Rattle.twins.proofs.InTurn.{Round}
 use Rattle.twins.proofs.rounds.take_round.Given as goal
 

@@ -1,4 +1,4 @@
-use Rattle.std.proofs.Common.{◌≡◌, ◌<◌, ◌+◌, ◌*◌, [], ◌∷◌, ◌++◌, rules, arith, length, get_or, subst, sym, ap, ◌∙◌, length-append}
+use Rattle.std.proofs.Common.{◌≡◌, ◌+◌, [], ◌∷◌, ◌++◌, rules, arith, length, subst, ap, ◌∙◌, length-append}
 use Rattle.std.proofs.lemmas.List.{get_or_default}
 use Rattle.frame_queue.specs.declared.queue.FrameQueue.{FrameQueue}
 use Rattle.twins.proofs.Pairs.{pair_join, pair_parts, pair_swap}

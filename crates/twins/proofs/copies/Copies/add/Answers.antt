@@ -1,6 +1,5 @@
-use Rattle.std.proofs.Common.{◌≡◌, refl, sym, ap, ◌∙◌, subst}
+use Rattle.std.proofs.Common.{refl, sym, ap, ◌∙◌, subst}
 use Rattle.frame_queue.specs.Queues.{sent_of, IsSenderOf}
-use Rattle.twins.specs.declared.copies.Copies.{Copies}
 use Rattle.twins.proofs.Begun.{one-begun}
 use Rattle.twins.proofs.Sent.{none-sent}
 use Rattle.twins.proofs.copies.Copies.add.Goals as goal

@@ -1,4 +1,4 @@
-use Rattle.std.proofs.Common.{◌≡◌, ◌≤◌, ℕ, subst, arith, rules}
+use Rattle.std.proofs.Common.{◌≡◌, subst, arith, rules}
 use Rattle.twins.specs.Copies.{AreCopies}
 use Rattle.twins.proofs.Begun.{none-begun}
 use Rattle.twins.proofs.copies.Copies.begun.Goals as goal

@@ -1,4 +1,4 @@
-use Rattle.std.proofs.Common.{◌≡◌, ◌+◌, length, arith}
+use Rattle.std.proofs.Common.{arith}
 use Rattle.twins.proofs.Made.{end-frame}
 use Rattle.twins.proofs.twin.Twin.next_frame.Goals as goal
 

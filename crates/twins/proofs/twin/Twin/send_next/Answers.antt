@@ -1,4 +1,4 @@
-use Rattle.std.proofs.Common.{◌≡◌, ◌<◌, ◌+◌, length, arith}
+use Rattle.std.proofs.Common.{arith}
 use Rattle.twins.proofs.Sent.{one-sent}
 use Rattle.twins.proofs.twin.Twin.send_next.Goals as goal
 
