@@ -180,7 +180,8 @@ module _ (twins : TwinsValue) (first : ShelfState) where
         needed = asked-both last asked-all;
       }
 
-      finds-told : (text : List ℕ) (result : Result Verdict TwinAnswer) → (IsSome (mid.holds twins.stimulus) → text ≡ told mid twins.stimulus)
+      finds-told : (text : List ℕ) (result : Result Verdict TwinAnswer)
+          → (IsSome (mid.holds twins.stimulus) → text ≡ told mid twins.stimulus)
           → Finds result (over text) → Tells first (names setup) → Finds result (twins_outcome twins (told first))
       finds-told text result read (inl memory) t = inl memory
       finds-told text result read (inr same) t =

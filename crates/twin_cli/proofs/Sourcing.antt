@@ -91,7 +91,8 @@ module _ (text : List ℕ) (events : ℕ) (source : TextInputs) (given : List Cy
   -- one input more
   pub gives : (input : CycleInput) (o : Option CycleInput) → o ≡ Some input → Comes text events (Ok o) source given
       → Gives text events source (given ++ input ∷ [])
-  gives input o is h = let g : Comes text events (Ok (Some input)) source given = subst (λ p. Comes text events (Ok p) source given) is h in g
+  gives input o is h =
+      let g : Comes text events (Ok (Some input)) source given = subst (λ p. Comes text events (Ok p) source given) is h in g
 
   -- no more inputs
   pub whole : (o : Option CycleInput) → o ≡ None → Comes text events (Ok o) source given → IsWhole text events given

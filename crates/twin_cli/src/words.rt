@@ -1,8 +1,9 @@
 //! The words of twins.
 ghost use Rattle.std.specs.Prelude.{◌≡◌, ◌≤◌, option_map, IfSome};
 ghost use Rattle.cli_words.specs.Names.{texts};
-ghost use Rattle.twin_cli.specs.Words.{alone, command_of, command_seen, copies_in, flip_in};
-ghost use Rattle.twin_cli.specs.Words.{both, flip_of, flipping, is_strict, options_of, text_word, twins_of};
+ghost use Rattle.twin_cli.specs.Words.{alone, both, command_of, command_seen, copies_in};
+ghost use Rattle.twin_cli.specs.Words.{flip_in, flip_of, flipping, is_strict, options_of};
+ghost use Rattle.twin_cli.specs.Words.{text_word, twins_of};
 
 use crate::copies::{Flip, Options, Twins};
 use cli_words::{is_name, meant, number_of};

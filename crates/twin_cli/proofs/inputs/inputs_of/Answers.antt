@@ -7,12 +7,14 @@ use Rattle.twin_cli.proofs.inputs.inputs_of.Goals as goal
 pub returns-in_err-input-clause-refused : goal.returns-in_err-input-clause-refused
 returns-in_err-input-clause-refused c =
     let p = err_from_is_err_and c.from_residual.result c.from_residual.ensures.1 in
-    rw (p.1, p.2) (stopped-line c.args.text c.args.events _ c.inputs.inputs c.in_err-input.field-0.0 (c.in_err-input.ensures _ _ _ c.inputs.invariant))
+    rw (p.1, p.2) (stopped-line c.args.text c.args.events _ c.inputs.inputs c.in_err-input.field-0.0
+    (c.in_err-input.ensures _ _ _ c.inputs.invariant))
 
 pub returns-in_err-input-clause-calm : goal.returns-in_err-input-clause-calm
 returns-in_err-input-clause-calm c =
     let p = err_from_is_err_and c.from_residual.result c.from_residual.ensures.1 in
-    rw (p.1, p.2) (stopped-calm c.args.text c.args.events _ c.inputs.inputs c.in_err-input.field-0.0 (c.in_err-input.ensures _ _ _ c.inputs.invariant))
+    rw (p.1, p.2) (stopped-calm c.args.text c.args.events _ c.inputs.inputs c.in_err-input.field-0.0
+    (c.in_err-input.ensures _ _ _ c.inputs.invariant))
 
 pub push-requires : goal.push-requires
 push-requires c =
@@ -34,5 +36,5 @@ returns-clause-whole c =
 pub returns-clause-known : goal.returns-clause-known
 returns-clause-known c =
     let none = none-of c.in_ok-input.field-0 c.in_default.not-Some in
-    let all = (whole c.args.text c.args.events _ c.inputs.inputs c.in_ok-input.field-0 none (c.in_ok-input.ensures _ _ _ c.inputs.invariant)).all in
-    known-inputs c.args.text c.args.events c.inputs.inputs all
+    known-inputs c.args.text c.args.events c.inputs.inputs
+    (whole c.args.text c.args.events _ c.inputs.inputs c.in_ok-input.field-0 none (c.in_ok-input.ensures _ _ _ c.inputs.invariant)).all
