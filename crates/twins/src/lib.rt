@@ -22,6 +22,3 @@ pub use flipping::FlipTamper;
 pub use run::{Inputs, TwinRun};
 pub use running::run_twins;
 pub use tamper::{NoTamper, Tamper};
-
-#[cfg(test)]
-mod tests;

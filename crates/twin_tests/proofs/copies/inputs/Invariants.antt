@@ -1,7 +1,7 @@
 use Rattle.std.proofs.Common.{◌≡◌, ◌≤◌, length}
 use Rattle.det_values.specs.Values.{ProfileValue}
 use Rattle.twins.specs.Making.{AreKnown}
-use Rattle.twins.proofs.tests.inputs.Given as goal
+use Rattle.twin_tests.proofs.copies.inputs.Given as goal
 
 abbrev pub invariant-inputs : goal.invariant-inputs
 invariant-inputs l = record {

@@ -3,7 +3,6 @@ ghost use Rattle.std.specs.Prelude.{◌≡◌, ◌≤◌, ◌<◌, length, IfOk}
 ghost use Rattle.det_values.specs.Values.{ProfileValue};
 ghost use Rattle.twins.specs.Making.{AreKnown};
 
-use crate::{FlipTamper, Inputs, NoTamper, Tamper, TwinRun, run_twins};
 use det_values::{CycleInput, Events, Format, Frame, OutOfMemory, Params, Profile, Samples};
 use job_heavy::Heavy;
 use job_trait::Job;
@@ -13,6 +12,7 @@ use std::sync::Wait;
 use std::sync::atomic::{AtomicBool, AtomicU64, Ordering};
 use std::test::Fail;
 use std::thread::Threads;
+use twins::{FlipTamper, Inputs, NoTamper, Tamper, TwinRun, run_twins};
 
 /// So many inputs, without a time and without samples.
 fn inputs(alloc: Global, count: u32) -> Result<Inputs, OutOfMemory>
