@@ -4,7 +4,7 @@ use crate::within::push_within;
 use crate::{Failure, Shelf, ShelfFailed, Slots};
 use std::alloc::Global;
 use std::fs;
-use std::io::ErrorKind;
+use std::io::{Error, ErrorKind};
 use std::rt::Files;
 
 /// Opens files by their paths. It tells neither bytes nor names. Each failure of the system is a
@@ -15,6 +15,7 @@ pub struct DirShelf<R: Files> {
     rt: R,
     files: Vec<R::File>,
     faults: u64,
+    failed: Option<(u32, Error)>,
 }
 
 impl<R: Files + Copy> DirShelf<R> {
@@ -29,7 +30,16 @@ impl<R: Files + Copy> DirShelf<R> {
             rt: *rt,
             files: Vec::new(alloc),
             faults: 0,
+            failed: None,
         }
+    }
+
+    /// The slot of the last call that failed, or the slot that an open would have given, and why it
+    /// failed. None where none failed.
+    pub fn failed(&self) -> Option<(u32, Error)>
+        ensures { result ≡ self.now.failed }
+    {
+        self.failed
     }
 }
 
@@ -47,9 +57,10 @@ impl<R: Files + Copy> Slots for DirShelf<R> {
     fn read(&mut self, slot: u32, buf: &mut [u8]) -> Result<usize, ShelfFailed> {
         match read_trying(&mut self.files[slot as usize], buf) {
             Ok(n) => Ok(n),
-            Err(failed) => {
+            Err(error) => {
                 self.faults = self.faults.saturating_add(1);
-                Err(failed)
+                self.failed = Some((slot, error));
+                Err(ShelfFailed)
             }
         }
     }
@@ -59,6 +70,7 @@ impl<R: Files + Copy> Shelf for DirShelf<R> {
     fn open_input(&mut self, name: &str) -> Result<u32, Failure> {
         let Ok(slot) = u32::try_from(self.files.len()) else {
             self.faults = self.faults.saturating_add(1);
+            self.failed = Some((u32::MAX, Error::other("too many files are open")));
             return Err(Failure::Read);
         };
         // The room is taken first, so that no file is opened in vain.
@@ -69,8 +81,9 @@ impl<R: Files + Copy> Shelf for DirShelf<R> {
                 Ok(slot)
             }
             Err(error) if error.kind() == ErrorKind::OutOfMemory => Err(Failure::OutOfMemory),
-            Err(_) => {
+            Err(error) => {
                 self.faults = self.faults.saturating_add(1);
+                self.failed = Some((slot, error));
                 Err(Failure::Read)
             }
         }

@@ -117,7 +117,13 @@ fn files_are_written_and_read(rt: HostRuntime) -> Result<(), Fail> {
     let bytes = read_limited(alloc, &mut shelf, slot, 7)?;
     assert_eq!(rt; bytes.as_slice(), b"\x00bytes\xff".as_slice());
     fs::remove_file(&rt, "edges.bin")?;
+    assert!(rt; shelf.failed().is_none());
     assert_eq!(rt; shelf.open_input("edges.bin"), Err(Failure::Read));
+    assert_eq!(rt;
+        shelf.failed().map(|(slot, error)| (slot, error.kind())),
+        Some((1, ErrorKind::NotFound)),
+        "the slot is the one that it would have given"
+    );
     Ok(())
 }
 
@@ -145,7 +151,12 @@ impl Write for Full {
 #[test]
 fn a_write_that_takes_nothing_is_a_fault(rt: HostRuntime) -> Result<(), Fail> {
     let mut sink = StdSink::new(Full);
+    assert!(rt; sink.failed().is_none());
     assert_eq!(rt; sink.write(b"a"), Err(SinkFailed));
+    assert_eq!(rt;
+        sink.failed().map(|error| error.kind()),
+        Some(ErrorKind::WriteZero)
+    );
     assert_eq!(rt; sink.write(b""), Ok(0));
     Ok(())
 }
@@ -200,16 +211,15 @@ fn an_interrupted_write_is_tried_again(rt: HostRuntime) -> Result<(), Fail> {
 fn an_interrupted_read_is_tried_again(rt: HostRuntime) -> Result<(), Fail> {
     let mut buf = [0; 2];
     let mut reader = Interrupted { times: 2 };
-    assert_eq!(rt; read_trying(&mut reader, &mut buf), Ok(1));
+    assert_eq!(rt; read_trying(&mut reader, &mut buf)?, 1);
     let mut reader = Interrupted { times: MOST_TRIES };
-    let answers = [
-        read_trying(&mut reader, &mut buf),
-        read_trying(&mut reader, &mut buf),
-    ];
     assert_eq!(rt;
-        answers,
-        [Err(ShelfFailed), Ok(1)],
+        read_trying(&mut reader, &mut buf)
+            .err()
+            .map(|error| error.kind()),
+        Some(ErrorKind::Interrupted),
         "each of the tries was interrupted"
     );
+    assert_eq!(rt; read_trying(&mut reader, &mut buf)?, 1);
     Ok(())
 }

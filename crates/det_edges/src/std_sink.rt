@@ -1,7 +1,7 @@
 //! A writer of std as a sink.
 use crate::trying::write_trying;
 use crate::{Sink, SinkFailed};
-use std::io::Write;
+use std::io::{Error, Write};
 
 /// Writes to a writer. It tells no bytes. Each failure of the writer is a fault, and so is a write
 /// that takes nothing of a piece that isn't empty. A write that is interrupted is tried again, up
@@ -10,6 +10,7 @@ use std::io::Write;
 pub struct StdSink<W> {
     writer: W,
     faults: u64,
+    failed: Option<Error>,
 }
 
 impl<W: Write + Drop> StdSink<W> {
@@ -20,7 +21,18 @@ impl<W: Write + Drop> StdSink<W> {
     pub fn new(writer: W) -> StdSink<W>
         ensures { std_sink_faults result ≡ 0 }
     {
-        StdSink { writer, faults: 0 }
+        StdSink {
+            writer,
+            faults: 0,
+            failed: None,
+        }
+    }
+
+    /// Why the last write that failed did so. None where none failed.
+    pub fn failed(&self) -> Option<Error>
+        ensures { result ≡ self.now.failed }
+    {
+        self.failed
     }
 }
 
@@ -34,9 +46,10 @@ impl<W: Write + Drop> Sink for StdSink<W> {
     fn write(&mut self, piece: &[u8]) -> Result<usize, SinkFailed> {
         match write_trying(&mut self.writer, piece) {
             Ok(n) => Ok(n),
-            Err(failed) => {
+            Err(error) => {
                 self.faults = self.faults.saturating_add(1);
-                Err(failed)
+                self.failed = Some(error);
+                Err(SinkFailed)
             }
         }
     }

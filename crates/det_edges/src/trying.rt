@@ -1,39 +1,39 @@
 //! Reads and writes that are tried again where they were interrupted.
 ghost use Rattle.std.specs.Prelude.{ℕ, ◌<◌, ◌≤◌, length, IfOk};
 
-use crate::{ShelfFailed, SinkFailed};
-use std::io::{ErrorKind, Read, Write};
+use std::io::{Error, ErrorKind, Read, Result, Write};
 
 // How often one call tries at most. A call that is interrupted each time has failed.
 pub(crate) const MOST_TRIES: u32 = 1000;
 
 /// Reads bytes into the beginning of the buffer and answers how many. A read that is interrupted is
 /// tried again, up to 1,000 times in all.
-pub fn read_trying<F: Read>(reader: &mut F, buf: &mut [u8]) -> Result<usize, ShelfFailed>
+pub fn read_trying<F: Read>(reader: &mut F, buf: &mut [u8]) -> Result<usize>
     ensures { IfOk result (λ n. n ≤ length buf.old) }
 {
     for _ in 0..MOST_TRIES {
         match reader.read(buf) {
             Ok(n) => return Ok(n),
             Err(error) if error.kind() == ErrorKind::Interrupted => {}
-            Err(_) => return Err(ShelfFailed),
+            Err(error) => return Err(error),
         }
     }
-    Err(ShelfFailed)
+    Err(Error::from(ErrorKind::Interrupted))
 }
 
 // Writes bytes from the beginning of the piece and answers how many. A write that takes nothing of
 // a piece that isn't empty has failed.
-pub(crate) fn write_trying<W: Write>(writer: &mut W, piece: &[u8]) -> Result<usize, SinkFailed>
+pub(crate) fn write_trying<W: Write>(writer: &mut W, piece: &[u8]) -> Result<usize>
     ensures within { IfOk result (λ n. n ≤ length piece.now) }
     ensures some { IfOk result (λ n. 0 < length piece.now → 0 < n) }
 {
     for _ in 0..MOST_TRIES {
         match writer.write(piece) {
             Ok(n) if n > 0 || piece.is_empty() => return Ok(n),
+            Ok(_) => return Err(Error::from(ErrorKind::WriteZero)),
             Err(error) if error.kind() == ErrorKind::Interrupted => {}
-            _ => return Err(SinkFailed),
+            Err(error) => return Err(error),
         }
     }
-    Err(SinkFailed)
+    Err(Error::from(ErrorKind::Interrupted))
 }

@@ -40,6 +40,28 @@ impl PassKeys {
         }
     }
 
+    /// The keys of which `shared` and `pass` told these.
+    pub fn of_parts(shared: u64, pass: u8) -> PassKeys
+        ensures shared { result.shared ≡ shared }
+        ensures of_pass { result.pass ≡ pass }
+    {
+        PassKeys { shared, pass }
+    }
+
+    /// The seed and the cycle, mixed.
+    pub fn shared(&self) -> u64
+        ensures { result ≡ self.now.shared }
+    {
+        self.shared
+    }
+
+    /// The pass.
+    pub fn pass(&self) -> u8
+        ensures { result ≡ self.now.pass }
+    {
+        self.pass
+    }
+
     /// The key of one element.
     #[inline(always)]
     pub fn key(&self, element: u32) -> u64
@@ -184,6 +206,13 @@ mod tests {
     fn four_zeros_are_the_key_zero(rt: HostRuntime) {
         let mut random = ElementRandom::of_parts([0; 4], 0);
         assert_eq!(rt; random.get_random(), 5987356902031041503);
+    }
+
+    #[test]
+    fn keys_from_their_parts_are_the_same(rt: HostRuntime) {
+        let keys = PassKeys::of(7, 1, 2);
+        let again = PassKeys::of_parts(keys.shared(), keys.pass());
+        assert_eq!(rt; again.key(3), key(7, 1, 2, 3));
     }
 
     #[test]
