@@ -1,6 +1,5 @@
 -- What sound values of a cycle give.
-use Rattle.std.proofs.Common.{◌<◌, ℕ, List, map}
-use Rattle.std.specs.List.{All}
+use Rattle.std.proofs.Common.{◌<◌, ℕ, List}
 use Rattle.std.proofs.lemmas.List.Elements.{All-map}
 use Rattle.det_values.specs.declared.frames.Outcome.{Outcome}
 use Rattle.det_values.specs.declared.format.Format.TheVariants.{Two}

@@ -1,5 +1,5 @@
 -- What follows from an item that may come where a record stands.
-use Rattle.std.proofs.Common.{◌≡◌, ◌==◌, ℕ, Bool, true, false, cond, List, refl}
+use Rattle.std.proofs.Common.{◌≡◌, ◌==◌, Bool, true, false, cond, refl}
 use Rattle.det_values.specs.declared.frames.Frame.{Frame}
 use Rattle.det_values.specs.declared.frames.Frame.TheVariants as frames
 use Rattle.record_grammar.specs.declared.place.Place.{Place}
@@ -33,6 +33,7 @@ spelling_is r (items.Frame f) h =
   where
     not_first : (f : Frame) → CanFollow places.Header (items.Frame f) → item_spelling places.Header (items.Frame f) ≡ spelling_of (items.Frame f)
     not_first f h = elim h [ ]
+
     not_last : (f : Frame) → CanFollow places.End (items.Frame f) → item_spelling places.End (items.Frame f) ≡ spelling_of (items.Frame f)
     not_last f h = elim h [ ]
 

@@ -8,7 +8,7 @@ use Rattle.record_grammar.specs.declared.place.Place.TheVariants as places
 use Rattle.record_grammar.specs.declared.item.Item.{Item}
 use Rattle.record_grammar.specs.declared.item.Item.TheVariants as items
 use Rattle.record_grammar.specs.Places.{after, layout_of}
-use Rattle.record_grammar.specs.Laws.{MayStand, AreItems, items_of, items_spelling}
+use Rattle.record_grammar.specs.Laws.{MayStand, AreItems, items_spelling}
 use Rattle.record_laws.proofs.Order.{in_order}
 use Rattle.det_record_c.specs.Statements.{IsWholeRecord, WholeRecord}
 
@@ -54,9 +54,10 @@ whole_from (items.Header p ∷ xs) bytes h e =
       profile = p;
       frames = fs.0;
       parts = ap behind fs.1;
-      spells = (in_order p fs.0 bytes).whole.1
-          (subst (λ (ys : List Item). AreItems places.Header (behind ys) places.End) fs.1 h,
-          e ∙ ap (λ (ys : List Item). items_spelling places.Header (behind ys)) fs.1);
+      spells = (in_order p fs.0 bytes).whole.1 (
+        subst (λ (ys : List Item). AreItems places.Header (behind ys) places.End) fs.1 h,
+        e ∙ ap (λ (ys : List Item). items_spelling places.Header (behind ys)) fs.1,
+      );
     }
 
 pub whole_record : WholeRecord

@@ -1,5 +1,5 @@
 -- What is written behind a record that was written so far.
-use Rattle.std.proofs.Common.{◌≡◌, ℕ, ◌≤◌, List, [], ◌∷◌, ◌++◌, length, take, drop, refl, sym, ap, subst, ◌∙◌, append_assoc, arith}
+use Rattle.std.proofs.Common.{◌≡◌, ℕ, ◌≤◌, List, [], ◌∷◌, ◌++◌, length, take, drop, sym, ap, subst, ◌∙◌, append_assoc, arith}
 use Rattle.std.proofs.lemmas.List.{append-nil}
 use Rattle.std.proofs.Math.Seq.{take-append_seam, drop-append_seam}
 use Rattle.record_grammar.specs.declared.place.Place.{Place}
@@ -37,20 +37,22 @@ written_behind old new item bytes s p e items before w = record {
 }
 
 -- an item's bytes stand at the front of the room, and their number is told
-pub is_added : (item : Item) (old new : Lent) (bytes : List ℕ) → CanFollow (place_of old.place) item → HasFields old.place.events item
-    → place_of new.place ≡ after (place_of old.place) item → bytes ≡ spelling_of item → length bytes ≤ length old.out
-    → new.out ≡ bytes ++ drop (length bytes) old.out → new.written ≡ length bytes → IsAdded item old new × Fits old.place item old.out
+pub is_added : (item : Item) (old new : Lent) (bytes : List ℕ) → CanFollow (place_of old.state) item → HasFields old.state.events item
+    → place_of new.state ≡ after (place_of old.state) item → bytes ≡ spelling_of item → length bytes ≤ length old.out
+    → new.out ≡ bytes ++ drop (length bytes) old.out → new.written ≡ length bytes → IsAdded item old new × Fits old.state item old.out
 is_added item old new bytes can fields place is fits out written =
-    let spelled : bytes ≡ item_spelling (place_of old.place) item = is ∙ sym (spelling_is old.place item can) in
+    let spelled : bytes ≡ item_spelling (place_of old.state) item = is ∙ sym (spelling_is old.state item can) in
     let front : added new ≡ bytes = ap (λ (n : ℕ). take n new.out) written ∙ ap (take (length bytes)) out
-    ∙ take-append_seam bytes (drop (length bytes) old.out) in
-    (record {
-      written =
-          written_behind old.place new.place item (added new) (may_stand old.place item can fields) place (front ∙ spelled);
-      place = place;
-      spelling = front ∙ spelled;
-      room = omega arith;
-      behind =
-          ap (λ (n : ℕ). drop n new.out) written ∙ ap (drop (length bytes)) out ∙ drop-append_seam bytes (drop (length bytes) old.out)
-          ∙ sym (ap (λ (n : ℕ). drop n old.out) written);
-    }, subst (λ (xs : List ℕ). length xs ≤ length old.out) spelled fits)
+    ∙ take-append_seam bytes (drop (length bytes) old.out) in (
+      record {
+        written =
+            written_behind old.state new.state item (added new) (may_stand old.state item can fields) place (front ∙ spelled);
+        place = place;
+        spelling = front ∙ spelled;
+        room = omega arith;
+        behind =
+            ap (λ (n : ℕ). drop n new.out) written ∙ ap (drop (length bytes)) out ∙ drop-append_seam bytes (drop (length bytes) old.out)
+            ∙ sym (ap (λ (n : ℕ). drop n old.out) written);
+      },
+      subst (λ (xs : List ℕ). length xs ≤ length old.out) spelled fits,
+    )

@@ -20,14 +20,14 @@ pub record Written (r : DetRecord) (items : List Item) (bytes : List ℕ) : Type
   pub stand : AreItems places.Header items (place_of r)
   pub spelling : bytes ≡ items_spelling places.Header items
 
--- what C lends to a call: where its record stands, the room for bytes, and their number
+-- what C lends to a call: the state of its record, the room for bytes, and their number
 pub record Lent : Type 0 where
-  pub place : DetRecord
+  pub state : DetRecord
   pub out : List ℕ
   pub written : ℕ
 
 abbrev pub lent : DetRecord → List ℕ → ℕ → Lent
-lent r out written = record { place = r; out = out; written = written }
+lent r out written = record { state = r; out = out; written = written }
 
 -- the bytes that a call wrote
 abbrev pub added : Lent → List ℕ
@@ -35,10 +35,10 @@ added l = take l.written l.out
 
 -- an item was written behind those before it, and nothing else changed
 pub record IsAdded (item : Item) (old new : Lent) : Type 0 where
-  pub written : (items : List Item) (bytes : List ℕ) → Written old.place items bytes
-      → Written new.place (items ++ item ∷ []) (bytes ++ added new)
-  pub place : place_of new.place ≡ after (place_of old.place) item
-  pub spelling : added new ≡ item_spelling (place_of old.place) item
+  pub written : (items : List Item) (bytes : List ℕ) → Written old.state items bytes
+      → Written new.state (items ++ item ∷ []) (bytes ++ added new)
+  pub place : place_of new.state ≡ after (place_of old.state) item
+  pub spelling : added new ≡ item_spelling (place_of old.state) item
   pub room : new.written ≤ length old.out
   pub behind : drop new.written new.out ≡ drop new.written old.out
 
@@ -88,8 +88,8 @@ MayBeWritten r item = CanFollow (place_of r) item × CanBeSpelled r.events item
 
 -- how the writing of an item ended
 abbrev pub IsPut : Item → Result (Unit {0}) Cause → Lent → Lent → Type 0
-IsPut item (Ok u) old new = IsAdded item old new × Fits old.place item old.out
-IsPut item (Err causes.NoRoom) old new = (new ≡ old) × (Fits old.place item old.out → ⊥)
+IsPut item (Ok u) old new = IsAdded item old new × Fits old.state item old.out
+IsPut item (Err causes.NoRoom) old new = (new ≡ old) × (Fits old.state item old.out → ⊥)
 IsPut item (Err causes.NoMemory) old new = new ≡ old
 IsPut item (Err cause) old new = ⊥
 

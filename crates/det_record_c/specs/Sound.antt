@@ -15,11 +15,11 @@ use Rattle.det_record_c.specs.Given.{event_of, sample_of}
 abbrev pub IsSoundEvent : DetEvent → Type 0
 IsSoundEvent e = IsEvent (event_of e) × (e.len ≤ 32) × (e.policy ≤ 1)
 
-pub record IsSoundHeader (p : DetProfile) (params : List ℤ) (events : List DetEvent) : Type 0 where
+pub record IsSoundHeader (p : DetProfile) (params : List ℤ) (given : List DetEvent) : Type 0 where
   pub cycle_time : IsCycleTime p.cycle_time
   pub few_params : length params ≤ 16
-  pub few_events : length events ≤ 256
-  pub each_event : All IsSoundEvent events
+  pub few_events : length given ≤ 256
+  pub events : All IsSoundEvent given
 
 abbrev pub AreSoundElements : List DetElement → Type 0
 AreSoundElements elements = (length elements ≤ 65536) × All (λ e. e.len ≤ 64) elements
@@ -29,16 +29,15 @@ abbrev pub AreSoundSamples : ℕ → List DetSample → Type 0
 AreSoundSamples events samples = (length samples ≤ 4096)
     × All (λ s. IsSample events (sample_of s)) samples
 
-pub record IsSoundFinish (events : ℕ) (samples : List DetSample) (elements : List DetElement)
-    (output : List ℕ) : Type 0 where
-  pub given : AreSoundSamples events samples
-  pub left : AreSoundElements elements
-  pub short : length output ≤ 1048576
+pub record IsSoundFinish (events : ℕ) (given : List DetSample) (left : List DetElement)
+    (bytes : List ℕ) : Type 0 where
+  pub samples : AreSoundSamples events given
+  pub elements : AreSoundElements left
+  pub output : length bytes ≤ 1048576
 
 abbrev pub IsSoundPlace : DetRefusal → Type 0
 IsSoundPlace r = (r.phase ≤ 2) × IsPlace (phase_of r.phase) r.pass r.element
 
-pub record IsSoundRefusal (events : ℕ) (samples : List DetSample) (refusal : DetRefusal)
-    : Type 0 where
-  pub given : AreSoundSamples events samples
-  pub place : IsSoundPlace refusal
+pub record IsSoundRefusal (events : ℕ) (given : List DetSample) (r : DetRefusal) : Type 0 where
+  pub samples : AreSoundSamples events given
+  pub place : IsSoundPlace r

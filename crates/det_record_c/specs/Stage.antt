@@ -1,5 +1,5 @@
 -- Where a record stands, and which part may come there.
-use Rattle.std.specs.Prelude.{ℕ, ◌==◌, nat_lt, Bool, true, false, if◌then◌else◌}
+use Rattle.std.specs.Prelude.{◌==◌, nat_lt, Bool, true, false, if◌then◌else◌}
 use Rattle.det_values.specs.declared.format.Format.TheVariants.{Two}
 use Rattle.det_values.specs.declared.frames.Frame.TheVariants as frames
 use Rattle.record_grammar.specs.declared.place.Layout.{Layout}

@@ -99,9 +99,7 @@ impl DetSample {
     pub(crate) fn is_of(&self, events: u16) -> bool
         ensures { IsTrue result ↔ IsSample events (sample_of self.now) }
     {
-        self.event < events
-            && -1_000_000_000_000 <= self.value
-            && self.value <= 1_000_000_000_000
+        self.event < events && -1_000_000_000_000 <= self.value && self.value <= 1_000_000_000_000
     }
 
     pub(crate) fn sample(&self) -> Sample

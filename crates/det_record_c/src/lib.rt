@@ -12,6 +12,5 @@ mod made;
 mod put;
 mod sound;
 mod state;
-
-
-
+#[cfg(test)]
+mod tests;

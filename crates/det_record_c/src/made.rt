@@ -55,11 +55,7 @@ pub(crate) fn discover(state: &DetRecord) -> Result<Item, Cause>
     Ok(Item::Frame(Frame::Discover))
 }
 
-pub(crate) fn init(
-    alloc: Global,
-    state: &DetRecord,
-    elements: &[DetElement],
-) -> Result<Item, Cause>
+pub(crate) fn init(alloc: Global, state: &DetRecord, elements: &[DetElement]) -> Result<Item, Cause>
     ensures { IsMade result (init_of elements.now) state.now (AreSoundElements elements.now) }
 {
     if !state.takes(Part::Init) {

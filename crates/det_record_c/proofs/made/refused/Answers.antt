@@ -9,4 +9,4 @@ pub returns-in-Ok : goal.returns-in-Ok
 returns-in-Ok c =
     let sound : IsSoundRefusal c.args.state.now.events c.args.samples.now c.args.refusal.now = search rules in
     let outcome = Refused (place_of_refusal c.args.refusal.now) in
-    (c.in-Ok.ensures, search rules, cycle_spelled c.args.state.now.events c.args.time.now c.args.samples.now outcome sound.given, sound)
+    (c.in-Ok.ensures, search rules, cycle_spelled c.args.state.now.events c.args.time.now c.args.samples.now outcome sound.samples, sound)
