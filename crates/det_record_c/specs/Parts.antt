@@ -1,0 +1,99 @@
+-- What a call of a part answers, and what it leaves.
+use Rattle.std.specs.Prelude.{◌≡◌, ◌↔◌, ℕ, ◌≤◌, List, [], ◌∷◌, ◌++◌, length, take, drop, Result}
+use Rattle.std.specs.Prelude.{Ok, Err}
+use Rattle.record_grammar.specs.declared.place.Place.TheVariants as places
+use Rattle.record_grammar.specs.declared.item.Item.{Item}
+use Rattle.record_grammar.specs.declared.item.Item.TheVariants as items
+use Rattle.record_grammar.specs.Places.{after, CanFollow}
+use Rattle.record_grammar.specs.Laws.{AreItems, item_spelling, items_spelling}
+use Rattle.record_grammar.specs.Spelling.{CanSpell}
+use Rattle.det_values.specs.declared.format.Format.TheVariants.{Two}
+use Rattle.det_record_c.specs.declared.cause.Cause.{Cause}
+use Rattle.det_record_c.specs.declared.cause.Cause.TheVariants as causes
+use Rattle.det_record_c.specs.declared.state.DetRecord.{DetRecord}
+use Rattle.det_record_c.specs.Stage.{place_of}
+
+-- ---- what is written
+
+-- these items were written, as these bytes
+pub record Written (r : DetRecord) (items : List Item) (bytes : List ℕ) : Type 0 where
+  pub stand : AreItems places.Header items (place_of r)
+  pub spelling : bytes ≡ items_spelling places.Header items
+
+-- what C lends to a call: the state of its record, the room for bytes, and their number
+pub record Lent : Type 0 where
+  pub state : DetRecord
+  pub out : List ℕ
+  pub written : ℕ
+
+abbrev pub lent : DetRecord → List ℕ → ℕ → Lent
+lent r out written = record { state = r; out = out; written = written }
+
+-- the bytes that a call wrote
+abbrev pub added : Lent → List ℕ
+added l = take l.written l.out
+
+-- an item was written behind those before it, and nothing else changed
+pub record IsAdded (item : Item) (old new : Lent) : Type 0 where
+  pub written : (items : List Item) (bytes : List ℕ) → Written old.state items bytes
+      → Written new.state (items ++ item ∷ []) (bytes ++ added new)
+  pub place : place_of new.state ≡ after (place_of old.state) item
+  pub spelling : added new ≡ item_spelling (place_of old.state) item
+  pub room : new.written ≤ length old.out
+  pub behind : drop new.written new.out ≡ drop new.written old.out
+
+-- ---- what is answered
+
+abbrev pub Fits : DetRecord → Item → List ℕ → Type 0
+Fits r item out = length (item_spelling (place_of r) item) ≤ length out
+
+-- the number tells the first of its causes: the part can't follow, its values aren't sound, its
+-- bytes don't fit. That memory was wanting is told only where the first two aren't
+pub record Tells (answer : ℕ) (follows sound fits : Type 0) : Type 0 where
+  pub most : answer ≤ 4
+  pub done : answer ≡ 0 → follows × sound × fits
+  pub misplaced : (answer ≡ 1) ↔ (follows → ⊥)
+  pub out_of_range : (answer ≡ 2) ↔ (follows × (sound → ⊥))
+  pub no_room : answer ≡ 3 → follows × sound × (fits → ⊥)
+  pub no_memory : answer ≡ 4 → follows × sound
+
+-- ---- the same, inside
+
+abbrev pub answer_of : Result (Unit {0}) Cause → ℕ
+answer_of (Ok u) = 0
+answer_of (Err causes.Misplaced) = 1
+answer_of (Err causes.OutOfRange) = 2
+answer_of (Err causes.NoRoom) = 3
+answer_of (Err causes.NoMemory) = 4
+
+abbrev pub IsCause : Cause → Type 0 → Type 0 → Type 0 → Type 0
+IsCause causes.Misplaced follows sound fits = follows → ⊥
+IsCause causes.OutOfRange follows sound fits = follows × (sound → ⊥)
+IsCause causes.NoRoom follows sound fits = follows × sound × (fits → ⊥)
+IsCause causes.NoMemory follows sound fits = follows × sound
+
+-- format Two can spell the item behind the header that names so many events
+abbrev pub CanBeSpelled : ℕ → Item → Type 0
+CanBeSpelled events (items.Header p) = p.format ≡ Two
+CanBeSpelled events (items.Frame f) = CanSpell Two events f
+
+-- an item that may be written, or why it isn't, without a look at the room for it
+abbrev pub IsMade : Result Item Cause → Item → DetRecord → Type 0 → Type 0
+IsMade (Ok made) item r sound =
+    (made ≡ item) × CanFollow (place_of r) item × CanBeSpelled r.events item × sound
+IsMade (Err cause) item r sound = IsCause cause (CanFollow (place_of r) item) sound (Unit {0})
+
+abbrev pub MayBeWritten : DetRecord → Item → Type 0
+MayBeWritten r item = CanFollow (place_of r) item × CanBeSpelled r.events item
+
+-- how the writing of an item ended
+abbrev pub IsPut : Item → Result (Unit {0}) Cause → Lent → Lent → Type 0
+IsPut item (Ok u) old new = IsAdded item old new × Fits old.state item old.out
+IsPut item (Err causes.NoRoom) old new = (new ≡ old) × (Fits old.state item old.out → ⊥)
+IsPut item (Err causes.NoMemory) old new = new ≡ old
+IsPut item (Err cause) old new = ⊥
+
+-- how a part ended of which an item was made or wasn't
+abbrev pub Ended : Result Item Cause → Result (Unit {0}) Cause → Lent → Lent → Type 0
+Ended (Ok item) done old new = IsPut item done old new
+Ended (Err cause) done old new = (done ≡ Err cause) × (new ≡ old)

@@ -1,0 +1,103 @@
+//! The profile and the frames that sound values stand for.
+ghost use Rattle.std.specs.Prelude.{◌≡◌, ◌<◌, ◌≤◌, length, IfOk};
+ghost use Rattle.det_values.specs.declared.frames.Frame.TheVariants.{Init, Run};
+ghost use Rattle.record_grammar.specs.declared.item.Item.TheVariants.{Header, Frame as FrameItem};
+ghost use Rattle.det_record_c.specs.Given.{header_of, init_of, input_of, finished_of, refused_of};
+ghost use Rattle.det_record_c.specs.Sound.{AreSoundSamples, AreSoundElements, IsSoundHeader};
+ghost use Rattle.det_record_c.specs.Sound.{IsSoundFinish, IsSoundRefusal, IsSoundPlace};
+ghost use Rattle.det_record_c.specs.Parts.{CanBeSpelled};
+
+use crate::given::{DetElement, DetEvent, DetProfile, DetRefusal, DetSample, DetTime};
+use crate::list;
+use det_values::{
+    Bytes, CycleInput, Format, Frame, OutOfMemory, Outcome, Params, Profile, RunFrame,
+};
+use record_grammar::Item;
+use std::alloc::Global;
+
+pub(crate) fn header(
+    alloc: Global,
+    profile: &DetProfile,
+    params: &[i64],
+    events: &[DetEvent],
+) -> Result<Item, OutOfMemory>
+    requires { IsSoundHeader profile.now params.now events.now }
+    ensures { IfOk result (λ item. item ≡ header_of profile.now params.now events.now) }
+{
+    let events = list::events(alloc, events)?;
+    let mut list = Params::new(alloc);
+    list.extend_from_slice(params)?;
+    Ok(Item::Header(Profile {
+        format: Format::Two,
+        job: profile.job,
+        seed: profile.seed,
+        cycle_time: profile.cycle_time,
+        params: list,
+        events,
+    }))
+}
+
+pub(crate) fn init(alloc: Global, elements: &[DetElement]) -> Result<Item, OutOfMemory>
+    requires { AreSoundElements elements.now }
+    ensures { IfOk result (λ item. item ≡ init_of elements.now) }
+{
+    let elements = list::elements(alloc, elements)?;
+    Ok(Item::Frame(Frame::Init(elements)))
+}
+
+fn input(
+    alloc: Global,
+    events: u16,
+    time: &DetTime,
+    samples: &[DetSample],
+) -> Result<CycleInput, OutOfMemory>
+    requires { AreSoundSamples events samples.now }
+    ensures { IfOk result (λ input. input ≡ input_of time.now samples.now) }
+{
+    let samples = list::samples(alloc, events, samples)?;
+    Ok(CycleInput {
+        time: time.time(),
+        samples,
+    })
+}
+
+pub(crate) fn finished(
+    alloc: Global,
+    events: u16,
+    time: &DetTime,
+    samples: &[DetSample],
+    elements: &[DetElement],
+    output: &[u8],
+) -> Result<Item, OutOfMemory>
+    requires { IsSoundFinish events samples.now elements.now output.now }
+    ensures { IfOk result (λ item. item
+        ≡ finished_of time.now samples.now elements.now output.now) }
+{
+    let input = input(alloc, events, time, samples)?;
+    let elements = list::drawn(alloc, elements)?;
+    let mut bytes = Bytes::new(alloc);
+    bytes.extend_from_slice(output)?;
+    let outcome = Outcome::Finished {
+        elements,
+        output: bytes,
+    };
+    Ok(Item::Frame(Frame::Run(RunFrame { input, outcome })))
+}
+
+pub(crate) fn refused(
+    alloc: Global,
+    events: u16,
+    time: &DetTime,
+    samples: &[DetSample],
+    refusal: &DetRefusal,
+) -> Result<Item, OutOfMemory>
+    requires { IsSoundRefusal events samples.now refusal.now }
+    ensures { IfOk result (λ item. item ≡ refused_of time.now samples.now refusal.now) }
+{
+    let Some(place) = refusal.place() else {
+        unreachable!()
+    };
+    let input = input(alloc, events, time, samples)?;
+    let outcome = Outcome::Refused(place);
+    Ok(Item::Frame(Frame::Run(RunFrame { input, outcome })))
+}

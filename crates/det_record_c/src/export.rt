@@ -1,0 +1,182 @@
+//! What C calls. An answer is 0 for done, 1 for a part that may not come now, 2 for a value out of
+//! its range, 3 for too little room, 4 for want of memory; at any but 0 nothing is changed. A part
+//! that is done lies in the first `written` bytes of `out`.
+ghost use Rattle.std.specs.Prelude.{◌≡◌, ◌≢◌, [], ◌≤◌};
+ghost use Rattle.record_grammar.specs.declared.item.Item.TheVariants as items;
+ghost use Rattle.det_values.specs.declared.frames.Frame.TheVariants as frames;
+ghost use Rattle.record_grammar.specs.Places.{CanFollow};
+ghost use Rattle.det_record_c.specs.Given.{header_of, init_of, finished_of, refused_of};
+ghost use Rattle.det_record_c.specs.Sound.{IsSoundHeader, AreSoundElements, IsSoundFinish};
+ghost use Rattle.det_record_c.specs.Sound.{IsSoundRefusal};
+ghost use Rattle.det_record_c.specs.Stage.{place_of};
+ghost use Rattle.det_record_c.specs.Parts.{Written, lent, IsAdded, Fits, Tells};
+
+use crate::cause::answer;
+use crate::given::{DetElement, DetEvent, DetProfile, DetRefusal, DetSample, DetTime};
+use crate::made;
+use crate::put::put_made;
+use crate::state::DetRecord;
+use std::alloc::Global;
+
+/// Begins a record.
+#[unsafe(no_mangle)]
+pub extern "C" fn det_record_new(state: &mut DetRecord)
+    ensures { Written state.new [] [] }
+{
+    *state = DetRecord {
+        cycles: 0,
+        events: 0,
+        stage: 0,
+    };
+}
+
+/// The header of a record in format 2.
+#[unsafe(no_mangle)]
+pub extern "C" fn det_record_header(
+    alloc: Global,
+    state: &mut DetRecord,
+    profile: &DetProfile,
+    params: &[i64],
+    events: &[DetEvent],
+    out: &mut [u8],
+    written: &mut usize,
+) -> u8
+    ensures cause { let item = header_of profile.now params.now events.now in
+        Tells result (CanFollow (place_of state.old) item) (IsSoundHeader profile.now params.now events.now)
+        (Fits state.old item out.old) }
+    ensures done { result ≡ 0 → IsAdded (header_of profile.now params.now events.now)
+        (lent state.old out.old written.old) (lent state.new out.new written.new) }
+    ensures kept { result ≢ 0 →
+        lent state.new out.new written.new ≡ lent state.old out.old written.old }
+{
+    let made = made::header(alloc, state, profile, params, events);
+    answer(put_made(alloc, state, made, out, written))
+}
+
+/// The frame of Register.
+#[unsafe(no_mangle)]
+pub extern "C" fn det_record_register(
+    alloc: Global,
+    state: &mut DetRecord,
+    out: &mut [u8],
+    written: &mut usize,
+) -> u8
+    ensures cause { let item = items.Frame frames.Register in
+        Tells result (CanFollow (place_of state.old) item) (Unit {0})
+        (Fits state.old item out.old) }
+    ensures done { result ≡ 0 → IsAdded (items.Frame frames.Register)
+        (lent state.old out.old written.old) (lent state.new out.new written.new) }
+    ensures kept { result ≢ 0 →
+        lent state.new out.new written.new ≡ lent state.old out.old written.old }
+{
+    let made = made::register(state);
+    answer(put_made(alloc, state, made, out, written))
+}
+
+/// The frame of ServiceDiscovery.
+#[unsafe(no_mangle)]
+pub extern "C" fn det_record_discover(
+    alloc: Global,
+    state: &mut DetRecord,
+    out: &mut [u8],
+    written: &mut usize,
+) -> u8
+    ensures cause { let item = items.Frame frames.Discover in
+        Tells result (CanFollow (place_of state.old) item) (Unit {0})
+        (Fits state.old item out.old) }
+    ensures done { result ≡ 0 → IsAdded (items.Frame frames.Discover)
+        (lent state.old out.old written.old) (lent state.new out.new written.new) }
+    ensures kept { result ≢ 0 →
+        lent state.new out.new written.new ≡ lent state.old out.old written.old }
+{
+    let made = made::discover(state);
+    answer(put_made(alloc, state, made, out, written))
+}
+
+/// The frame of Init, with the elements at first. Their draws are not looked at.
+#[unsafe(no_mangle)]
+pub extern "C" fn det_record_init(
+    alloc: Global,
+    state: &mut DetRecord,
+    elements: &[DetElement],
+    out: &mut [u8],
+    written: &mut usize,
+) -> u8
+    ensures cause { let item = init_of elements.now in
+        Tells result (CanFollow (place_of state.old) item) (AreSoundElements elements.now)
+        (Fits state.old item out.old) }
+    ensures done { result ≡ 0 → IsAdded (init_of elements.now)
+        (lent state.old out.old written.old) (lent state.new out.new written.new) }
+    ensures kept { result ≢ 0 →
+        lent state.new out.new written.new ≡ lent state.old out.old written.old }
+{
+    let made = made::init(alloc, state, elements);
+    answer(put_made(alloc, state, made, out, written))
+}
+
+/// The frame of a cycle that finished.
+#[unsafe(no_mangle)]
+pub extern "C" fn det_record_finished(
+    alloc: Global,
+    state: &mut DetRecord,
+    time: &DetTime,
+    samples: &[DetSample],
+    elements: &[DetElement],
+    output: &[u8],
+    out: &mut [u8],
+    written: &mut usize,
+) -> u8
+    ensures cause { let item = finished_of time.now samples.now elements.now output.now in
+        Tells result (CanFollow (place_of state.old) item) (IsSoundFinish state.old.events samples.now elements.now output.now)
+        (Fits state.old item out.old) }
+    ensures done { result ≡ 0 → IsAdded (finished_of time.now samples.now elements.now output.now)
+        (lent state.old out.old written.old) (lent state.new out.new written.new) }
+    ensures kept { result ≢ 0 →
+        lent state.new out.new written.new ≡ lent state.old out.old written.old }
+{
+    let made = made::finished(alloc, state, time, samples, elements, output);
+    answer(put_made(alloc, state, made, out, written))
+}
+
+/// The frame of a cycle that was refused.
+#[unsafe(no_mangle)]
+pub extern "C" fn det_record_refused(
+    alloc: Global,
+    state: &mut DetRecord,
+    time: &DetTime,
+    samples: &[DetSample],
+    refusal: &DetRefusal,
+    out: &mut [u8],
+    written: &mut usize,
+) -> u8
+    ensures cause { let item = refused_of time.now samples.now refusal.now in
+        Tells result (CanFollow (place_of state.old) item) (IsSoundRefusal state.old.events samples.now refusal.now)
+        (Fits state.old item out.old) }
+    ensures done { result ≡ 0 → IsAdded (refused_of time.now samples.now refusal.now)
+        (lent state.old out.old written.old) (lent state.new out.new written.new) }
+    ensures kept { result ≢ 0 →
+        lent state.new out.new written.new ≡ lent state.old out.old written.old }
+{
+    let made = made::refused(alloc, state, time, samples, refusal);
+    answer(put_made(alloc, state, made, out, written))
+}
+
+/// The frame of Terminate, the last one.
+#[unsafe(no_mangle)]
+pub extern "C" fn det_record_terminate(
+    alloc: Global,
+    state: &mut DetRecord,
+    out: &mut [u8],
+    written: &mut usize,
+) -> u8
+    ensures cause { let item = items.Frame frames.Terminate in
+        Tells result (CanFollow (place_of state.old) item) (Unit {0})
+        (Fits state.old item out.old) }
+    ensures done { result ≡ 0 → IsAdded (items.Frame frames.Terminate)
+        (lent state.old out.old written.old) (lent state.new out.new written.new) }
+    ensures kept { result ≢ 0 →
+        lent state.new out.new written.new ≡ lent state.old out.old written.old }
+{
+    let made = made::terminate(state);
+    answer(put_made(alloc, state, made, out, written))
+}
