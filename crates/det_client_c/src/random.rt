@@ -1,0 +1,70 @@
+//! The random words of an element.
+
+ghost use Rattle.std.specs.Prelude.{◌≡◌, ℕ, ◌+◌};
+ghost use Rattle.rand_xoshiro.specs.Xoshiro256.{next_state, plus_plus};
+ghost use Rattle.element_random.specs.Words.{key, word, state_at, StandsFor};
+ghost use Rattle.det_client_c.specs.Kept.{place_of};
+
+use crate::kept::DetRandom;
+use element_random::key;
+use rand_core::SeedableRng;
+use rand_core::utils::NextWord;
+use rand_xoshiro::SplitMix64;
+
+/// The key of an element in a pass of a cycle under a seed.
+#[unsafe(no_mangle)]
+pub extern "C" fn det_random_key(seed: u64, cycle: u32, pass: u8, element: u32) -> u64
+    ensures { result ≡ key seed cycle pass element }
+{
+    key(seed, cycle, pass, element)
+}
+
+/// Begins the stream of a key.
+#[unsafe(no_mangle)]
+pub extern "C" fn det_random_of_key(random: &mut DetRandom, key: u64)
+    ensures { StandsFor (place_of random.new) key 0 }
+{
+    random.state = first_state(key);
+    random.draws = 0;
+}
+
+/// Draws the next word.
+#[unsafe(no_mangle)]
+pub extern "C" fn det_random_next(random: &mut DetRandom) -> u64
+    ensures word { (k n : ℕ) → StandsFor (place_of random.old) k n → result ≡ word k n }
+    ensures goes_on { (k n : ℕ) → StandsFor (place_of random.old) k n
+        → StandsFor (place_of random.new) k (n + 1) }
+{
+    let word = next_word(&mut random.state);
+    random.draws = random.draws.saturating_add(1);
+    word
+}
+
+/// The first state of a key: four words of SplitMix64 from it.
+fn first_state(key: u64) -> [u64; 4]
+    ensures { result ≡ state_at key 0 }
+{
+    let mut words = SplitMix64::seed_from_u64(key);
+    let first = words.next_word();
+    let second = words.next_word();
+    let third = words.next_word();
+    let last = words.next_word();
+    [first, second, third, last]
+}
+
+/// One step of xoshiro256++, on the words that C keeps: to put a generator together from them and
+/// take it apart again costs more than the step.
+fn next_word(state: &mut [u64; 4]) -> u64
+    ensures word { result ≡ (plus_plus state.old).0 }
+    ensures state { state.new ≡ next_state state.old }
+{
+    let [first, second, third, last] = *state;
+    let word = first
+        .wrapping_add(last)
+        .rotate_left(23)
+        .wrapping_add(first);
+    let odd = third ^ first;
+    let even = last ^ second;
+    *state = [first ^ even, second ^ odd, odd ^ (second << 17), even.rotate_left(45)];
+    word
+}
