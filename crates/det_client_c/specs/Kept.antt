@@ -1,6 +1,7 @@
 -- What C's numbers stand for.
 use Rattle.std.specs.Prelude.{ℕ, ◌==◌, Option, None, Some, Bool, if◌then◌else◌}
 use Rattle.element_random.specs.Words.{Place}
+use Rattle.element_random.specs.declared.PassKeys.{PassKeys}
 use Rattle.det_client.specs.State.{State}
 use Rattle.det_client.specs.declared.activation.Activation.{Activation}
 use Rattle.det_client.specs.declared.activation.Activation.TheVariants.{RegisterServices}
@@ -10,6 +11,7 @@ use Rattle.det_client.specs.declared.activation.Next.{Next}
 use Rattle.det_client.specs.declared.activation.Next.TheVariants.{Go, Stop}
 use Rattle.det_client_c.specs.declared.kept.DetClient.{DetClient}
 use Rattle.det_client_c.specs.declared.kept.DetRandom.{DetRandom}
+use Rattle.det_client_c.specs.declared.kept.DetPassKeys.{DetPassKeys}
 
 -- the number of an activation
 abbrev pub number_of : Activation → ℕ
@@ -41,6 +43,10 @@ next_of stop has_time time = if stop then Stop else Go (time_of_parts has_time t
 -- the stream that is kept
 abbrev pub place_of : DetRandom → Place
 place_of r = record { state = r.state; draws = r.draws }
+
+-- the keys of a pass that are kept
+abbrev pub keys_of : DetPassKeys → PassKeys
+keys_of k = record { shared = k.shared; pass = k.pass }
 
 -- the client that is kept
 abbrev pub state_of : DetClient → State

@@ -16,6 +16,14 @@ pub struct DetRandom {
     pub draws: u64,
 }
 
+/// What the keys of one pass have in common, as C keeps it.
+#[repr(C)]
+#[derive(Drop)]
+pub struct DetPassKeys {
+    pub shared: u64,
+    pub pass: u8,
+}
+
 /// A client, as C keeps it.
 #[repr(C)]
 #[derive(Drop)]

@@ -12,4 +12,4 @@ mod kept;
 mod random;
 mod window;
 
-pub use blocks::each_element_once;
+pub use blocks::{blocks_of_a_pass, each_element_once};

@@ -2,11 +2,11 @@
 
 ghost use Rattle.std.specs.Prelude.{◌≡◌, ℕ, ◌+◌};
 ghost use Rattle.rand_xoshiro.specs.Xoshiro256.{next_state, plus_plus};
-ghost use Rattle.element_random.specs.Words.{key, word, state_at, StandsFor};
-ghost use Rattle.det_client_c.specs.Kept.{place_of};
+ghost use Rattle.element_random.specs.Words.{key, word, state_at, AreKeysOf, StandsFor};
+ghost use Rattle.det_client_c.specs.Kept.{place_of, keys_of};
 
-use crate::kept::DetRandom;
-use element_random::key;
+use crate::kept::{DetPassKeys, DetRandom};
+use element_random::{PassKeys, key};
 use rand_core::SeedableRng;
 use rand_core::utils::NextWord;
 use rand_xoshiro::SplitMix64;
@@ -24,8 +24,26 @@ pub extern "C" fn det_random_key(seed: u64, cycle: u32, pass: u8, element: u32) 
 pub extern "C" fn det_random_of_key(random: &mut DetRandom, key: u64)
     ensures { StandsFor (place_of random.new) key 0 }
 {
-    random.state = first_state(key);
-    random.draws = 0;
+    *random = begun(key);
+}
+
+/// The keys of one pass of one cycle under a seed.
+#[unsafe(no_mangle)]
+pub extern "C" fn det_pass_keys(keys: &mut DetPassKeys, seed: u64, cycle: u32, pass: u8)
+    ensures { AreKeysOf (keys_of keys.new) seed cycle pass }
+{
+    let of_pass = PassKeys::of(seed, cycle, pass);
+    keys.shared = of_pass.shared();
+    keys.pass = of_pass.pass();
+}
+
+/// Begins the stream of an element in a pass.
+#[unsafe(no_mangle)]
+pub extern "C" fn det_random_in_pass(random: &mut DetRandom, keys: &DetPassKeys, element: u32)
+    ensures { (seed cycle pass : ℕ) → AreKeysOf (keys_of keys.now) seed cycle pass
+        → StandsFor (place_of random.new) (key seed cycle pass element) 0 }
+{
+    *random = begun(PassKeys::of_parts(keys.shared, keys.pass).key(element));
 }
 
 /// Draws the next word.
@@ -38,6 +56,16 @@ pub extern "C" fn det_random_next(random: &mut DetRandom) -> u64
     let word = next_word(&mut random.state);
     random.draws = random.draws.saturating_add(1);
     word
+}
+
+/// The stream of a key, at its beginning.
+fn begun(key: u64) -> DetRandom
+    ensures { StandsFor (place_of result) key 0 }
+{
+    DetRandom {
+        state: first_state(key),
+        draws: 0,
+    }
 }
 
 /// The first state of a key: four words of SplitMix64 from it.

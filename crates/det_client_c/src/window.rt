@@ -9,7 +9,7 @@ ghost use Rattle.circular_buffer.specs.Buffer.{keep_last};
 ghost use Rattle.det_values.specs.Limits.{IsCapacity, IsSampleValue};
 ghost use Rattle.det_values.specs.Values.{SampleValue, EventSpecValue};
 ghost use Rattle.event_cache.specs.Rings.{joined, turned};
-ghost use Rattle.event_cache.specs.Windows.{window};
+ghost use Rattle.event_cache.specs.Windows.{window as shown};
 ghost use Rattle.det_client_c.specs.Windows.{policy_of, rings_of, FitsIn, WasGiven};
 
 /// The window of an event, as C keeps it.
@@ -88,7 +88,7 @@ pub extern "C" fn det_window_turn(window: &mut DetWindow, places: &mut [i64]) ->
         → WasGiven window.new places.new spec (rounds ++ arrived ∷ []) [] }
     ensures shows { IsTrue result → (spec : EventSpecValue) (rounds : List (List SampleValue))
         (arrived : List SampleValue) → WasGiven window.old places.old spec rounds arrived
-        → take window.new.seen places.new ≡ window spec 0 (rounds ++ arrived ∷ []) }
+        → take window.new.seen places.new ≡ shown spec 0 (rounds ++ arrived ∷ []) }
     ensures refuses { result ≡ false → window.new ≡ window.old }
     ensures keeps { result ≡ false → places.new ≡ places.old }
 {
