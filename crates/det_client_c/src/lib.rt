@@ -13,3 +13,6 @@ mod random;
 mod window;
 
 pub use blocks::{blocks_of_a_pass, each_element_once};
+
+#[cfg(test)]
+mod tests;

@@ -87,12 +87,14 @@ fn next_word(state: &mut [u64; 4]) -> u64
     ensures state { state.new ≡ next_state state.old }
 {
     let [first, second, third, last] = *state;
-    let word = first
-        .wrapping_add(last)
-        .rotate_left(23)
-        .wrapping_add(first);
+    let word = first.wrapping_add(last).rotate_left(23).wrapping_add(first);
     let odd = third ^ first;
     let even = last ^ second;
-    *state = [first ^ even, second ^ odd, odd ^ (second << 17), even.rotate_left(45)];
+    *state = [
+        first ^ even,
+        second ^ odd,
+        odd ^ (second << 17),
+        even.rotate_left(45),
+    ];
     word
 }

@@ -50,11 +50,7 @@ pub extern "C" fn det_window_new(window: &mut DetWindow, capacity: u16, policy: 
 /// oldest of those goes. False where the window doesn't fit its places, or the value isn't from
 /// -10^12 to 10^12.
 #[unsafe(no_mangle)]
-pub extern "C" fn det_window_arrive(
-    window: &mut DetWindow,
-    places: &mut [i64],
-    value: i64,
-) -> bool
+pub extern "C" fn det_window_arrive(window: &mut DetWindow, places: &mut [i64], value: i64) -> bool
     ensures takes { IsTrue result ↔ (FitsIn places.old window.old × IsSampleValue value) }
     ensures fits { IsTrue result → FitsIn places.new window.new }
     ensures rings { IsTrue result
@@ -162,9 +158,9 @@ fn show(window: &mut DetWindow, places: &mut [i64], gone: u16)
     requires gone { gone ≤ window.old.seen }
     requires room { window.old.seen - gone + window.old.arriving ≤ window.old.capacity }
     ensures window { window.new ≡ record window.old {
-        seen = window.old.seen - gone + window.old.arriving;
-        arriving = 0;
-      } }
+      seen = window.old.seen - gone + window.old.arriving;
+      arriving = 0;
+    } }
     ensures seen { take (window.old.seen - gone + window.old.arriving) places.new
         ≡ drop gone (take window.old.seen places.old)
         ++ take window.old.arriving (drop window.old.capacity places.old) }

@@ -4,7 +4,6 @@ use Rattle.rand_xoshiro.specs.SplitMix64.{mix_u64, next_state}
 use Rattle.element_random.specs.Words.{state_at}
 use Rattle.det_client_c.proofs.random.first_state.Goals as goal
 
-
 pub returns : goal.returns
 unfolding state_at first_words
 returns c =
