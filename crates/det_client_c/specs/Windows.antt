@@ -1,5 +1,5 @@
 -- The window of one event in C's memory.
-use Rattle.std.specs.Prelude.{◌≡◌, ℕ, ◌*◌, ◌≤◌, ◌==◌, ℤ, List, [], ◌∷◌, length, take, drop}
+use Rattle.std.specs.Prelude.{ℕ, ◌*◌, ◌≤◌, ◌==◌, ℤ, List, [], ◌∷◌, length, take, drop}
 use Rattle.std.specs.Prelude.{if◌then◌else◌}
 use Rattle.det_values.specs.Limits.{IsCapacity}
 use Rattle.det_values.specs.Values.{SampleValue, EventSpecValue}

@@ -80,8 +80,8 @@ fn first_state(key: u64) -> [u64; 4]
     [first, second, third, last]
 }
 
-/// One step of xoshiro256++, on the words that C keeps: to put a generator together from them and
-/// take it apart again costs more than the step.
+/// One step of xoshiro256++ on the words that C keeps, with no generator put together from them and
+/// taken apart again.
 fn next_word(state: &mut [u64; 4]) -> u64
     ensures word { result ≡ (plus_plus state.old).0 }
     ensures state { state.new ≡ next_state state.old }

@@ -1,5 +1,5 @@
-//! The expected words are those of a program in Python that has SplitMix64 and xoshiro256++ written
-//! from their papers; those of key 0 are published with both.
+//! The words of key 0 are published with SplitMix64 and xoshiro256++. The others are those that the
+//! plain Rust of `bench/common/random_words.rs` gives.
 
 use crate::blocks::det_block;
 use crate::client::{
@@ -162,14 +162,17 @@ fn words_of_key_zero(rt: HostRuntime) {
 
 #[test]
 fn words_of_an_element(rt: HostRuntime) {
-    assert_eq!(rt; det_random_key(7, 1, 2, 3), 0xf0e6_1366_6d62_9259);
     let mut keys = DetPassKeys { shared: 1, pass: 2 };
     det_pass_keys(&mut keys, 7, 1, 2);
-    let mut random = any_random();
-    det_random_in_pass(&mut random, &keys, 3);
-    assert_eq!(rt; random.draws, 0);
-    assert_eq!(rt; det_random_next(&mut random), 0xede8_46d6_1600_2864);
-    assert_eq!(rt; det_random_next(&mut random), 0xa3d3_0259_b532_96ab);
+    let mut of_pass = any_random();
+    det_random_in_pass(&mut of_pass, &keys, 3);
+    let mut of_key = any_random();
+    det_random_of_key(&mut of_key, det_random_key(7, 1, 2, 3));
+    for word in [0xede8_46d6_1600_2864, 0xa3d3_0259_b532_96ab] {
+        assert_eq!(rt; det_random_next(&mut of_pass), word);
+        assert_eq!(rt; det_random_next(&mut of_key), word);
+    }
+    assert_eq!(rt; of_pass.draws, 2);
 }
 
 #[test]

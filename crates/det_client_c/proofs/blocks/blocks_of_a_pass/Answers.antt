@@ -1,4 +1,4 @@
-use Rattle.std.proofs.Common.{◌≡◌, ℕ, ◌+◌, ◌-◌, ◌*◌, ◌/◌, ◌<◌, List, length, min, take, drop, sym, ◌∙◌, arith, length-drop}
+use Rattle.std.proofs.Common.{◌≡◌, ℕ, ◌-◌, ◌*◌, ◌<◌, List, length, min, take, drop, sym, ◌∙◌, arith, length-drop}
 use Rattle.std.proofs.lemmas.List.{take_min}
 use Rattle.job_trait.specs.Passes.{blocks_of}
 use Rattle.job_trait.specs.Pass.{taken, nothing}
