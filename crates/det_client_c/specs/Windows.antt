@@ -1,0 +1,37 @@
+-- The window of one event in C's memory.
+use Rattle.std.specs.Prelude.{ℕ, ◌*◌, ◌≤◌, ◌==◌, ℤ, List, [], ◌∷◌, length, take, drop}
+use Rattle.std.specs.Prelude.{if◌then◌else◌}
+use Rattle.det_values.specs.Limits.{IsCapacity}
+use Rattle.det_values.specs.Values.{SampleValue, EventSpecValue}
+use Rattle.det_values.specs.declared.event.Policy.{Policy}
+use Rattle.det_values.specs.declared.event.Policy.TheVariants.{Last, Fresh}
+use Rattle.event_cache.specs.Rings.{Rings}
+use Rattle.event_cache.specs.Windows.{HasSeen}
+use Rattle.det_client_c.specs.declared.window.DetWindow.{DetWindow}
+
+-- the policy of a number
+abbrev pub policy_of : ℕ → Policy
+policy_of n = if n == 0 then Last else Fresh
+
+-- the window that is kept, and what arrived since the last turn
+abbrev pub rings_of : DetWindow → List ℤ → Rings
+rings_of w places = record {
+  policy = policy_of w.policy;
+  capacity = w.capacity;
+  seen = take w.seen places;
+  arriving = take w.arriving (drop w.capacity places);
+}
+
+-- the numbers of a window are in their ranges, and its values have room in these places
+pub record FitsIn (places : List ℤ) (w : DetWindow) : Type 0 where
+  pub capacity : IsCapacity w.capacity
+  pub seen : w.seen ≤ w.capacity
+  pub arriving : w.arriving ≤ w.capacity
+  pub policy : w.policy ≤ 1
+  pub room : 2 * w.capacity ≤ length places
+
+-- a window of this event, whose number is 0, was given the samples of these rounds, each before a
+-- turn, and since then those that arrived
+abbrev pub WasGiven : DetWindow → List ℤ → EventSpecValue → List (List SampleValue)
+    → List SampleValue → Type 0
+WasGiven w places spec rounds arrived = HasSeen (rings_of w places ∷ []) (spec ∷ []) rounds arrived

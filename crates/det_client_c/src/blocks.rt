@@ -1,0 +1,51 @@
+//! The blocks of a container, which workers claim by their numbers.
+
+ghost use Rattle.std.specs.Prelude.{◌≡◌, ℕ, ◌+◌, ◌-◌, ◌*◌, ◌/◌, ◌<◌, ◌≤◌, ◌↔◌, min, IsTrue, List};
+ghost use Rattle.std.specs.Prelude.{length, take, drop};
+ghost use Rattle.job_trait.specs.Pass.{block, taken, nothing};
+ghost use Rattle.job_trait.specs.Passes.{blocks_of};
+ghost use Rattle.det_client_c.specs.Blocks.{block_begin, block_end};
+
+use job_trait::Job;
+
+/// Each element is in the block of its number divided by 64, and in no other one.
+pub fn each_element_once()
+    ensures within { (len i : ℕ) → i < len
+        → (block_begin len (i / 64) ≤ i) × (i < block_end len (i / 64)) }
+    ensures alone { (len i n : ℕ) → block_begin len n ≤ i → i < block_end len n → n ≡ i / 64 }
+{}
+
+/// The blocks are those of a pass over a job: block n of the pass takes the elements from the
+/// beginning of block n up to its end.
+pub fn blocks_of_a_pass<J: Job>()
+    ensures { (job : J) (plan : J.Plan) (carry : J.Part) (seed cycle pass n : ℕ)
+        (elements : List J.Element) → n < blocks_of (length elements)
+        → let begin : ℕ = block_begin (length elements) n in
+        let end : ℕ = block_end (length elements) n in
+        block J.meaning job plan carry seed cycle pass n elements
+        ≡ taken J.meaning job plan carry seed cycle pass begin
+        (take (end - begin) (drop begin elements))
+        (nothing J.meaning job plan carry seed cycle pass) }
+{}
+
+/// The elements of block `number`, from `begin` up to `end`, of a container of `len` elements.
+/// False where the block is empty, and then each later one is too.
+#[unsafe(no_mangle)]
+pub extern "C" fn det_block(len: u32, number: u32, begin: &mut u32, end: &mut u32) -> bool
+    ensures begin { begin.new ≡ block_begin len number }
+    ensures end { end.new ≡ block_end len number }
+    ensures some { IsTrue result ↔ (begin.new < end.new) }
+    ensures few { IsTrue result ↔ (number < blocks_of len) }
+{
+    let first = u64::from(number) * 64;
+    *begin = within(len, first);
+    *end = within(len, first + 64);
+    *begin < *end
+}
+
+/// A place in a container, or its end.
+fn within(len: u32, place: u64) -> u32
+    ensures { result ≡ min len place }
+{
+    u32::try_from(place).unwrap_or(len).min(len)
+}

@@ -1,0 +1,18 @@
+//! The deterministic client for C: what C keeps, and an export for each call.
+//!
+//! C keeps a client, a stream of random words and a window by value, and passes a pointer to it.
+//! No export takes memory from a heap, keeps a pointer, or shares anything with another call, so
+//! calls on distinct objects may run at the same time. A call that is refused answers false, and
+//! leaves everything as it was.
+#![tactic(auto)]
+
+mod blocks;
+mod client;
+mod kept;
+mod random;
+mod window;
+
+pub use blocks::{blocks_of_a_pass, each_element_once};
+
+#[cfg(test)]
+mod tests;
