@@ -1,0 +1,176 @@
+"""One pass over a record, which keeps what its page shows."""
+
+from __future__ import annotations
+
+from collections import Counter
+from dataclasses import dataclass, field
+from typing import Optional, Sequence
+
+from det_record import Elements, Finished, Header, Init, Run, Summary
+
+from .columns import Column, Columns, Range, RefusalKind, range_of
+from .decode import Layout, element_layout, output_layout
+
+MOST_CHOSEN = 8
+USUAL_CHOSEN = 4
+# The number by which the output stands among the elements.
+OUTPUT = -1
+
+
+class NoSuchElement(Exception):
+    """An element was chosen that the record doesn't have."""
+
+
+@dataclass
+class Source:
+    """An element, or the output, whose numbers are drawn, and what it holds at some places."""
+
+    element: int
+    layout: Layout
+    # The number of the series of its first field.
+    first_series: int
+    at_init: Optional[bytes] = None
+    at_first: Optional[bytes] = None
+    at_last: Optional[bytes] = None
+    # What it held in the cycles of the column that isn't complete.
+    contents: list[bytes] = field(default_factory=list)
+
+    @property
+    def name(self) -> str:
+        return "output" if self.element == OUTPUT else f"element {self.element}"
+
+    def take_series(self) -> dict[int, Range]:
+        """The values of its series in the column, which begins anew."""
+        if not self.contents:
+            return {}
+        if self.at_first is None:
+            self.at_first = self.contents[0]
+        self.at_last = self.contents[-1]
+        series = enumerate(self.layout.series(self.contents), self.first_series)
+        self.contents = []
+        return {number: range_of(values) for number, values in series}
+
+
+@dataclass
+class Gathered:
+    """What is kept of a record."""
+
+    name: str
+    summary: Summary = field(default_factory=Summary)
+    columns: Columns = field(default_factory=Columns)
+    sources: list[Source] = field(default_factory=list)
+    first_finished: Optional[int] = None
+    last_finished: Optional[int] = None
+
+    @property
+    def elements(self) -> list[Source]:
+        return [source for source in self.sources if source.element != OUTPUT]
+
+    @property
+    def output(self) -> Optional[Source]:
+        return next((source for source in self.sources if source.element == OUTPUT), None)
+
+
+def usual_choice(count: int) -> list[int]:
+    """Some elements, spread evenly from the first to the last."""
+    if count <= USUAL_CHOSEN:
+        return list(range(count))
+    return [number * (count - 1) // (USUAL_CHOSEN - 1) for number in range(USUAL_CHOSEN)]
+
+
+class Gatherer:
+    """Keeps of a record what its page shows, column by column."""
+
+    def __init__(self, kept: Gathered, chosen: Optional[Sequence[int]]) -> None:
+        self.kept = kept
+        self.chosen = chosen
+        self.cycles = 0
+        self.last_time: Optional[int] = None
+        # Of the column that isn't complete.
+        self.times: list[Optional[int]] = []
+        # The words drawn before it.
+        self.draws = 0
+        self.refusals: Counter[RefusalKind] = Counter()
+
+    def gather(self) -> Gathered:
+        with open(self.kept.name, "rb") as stream:
+            for item in self.kept.summary.read(stream):
+                if isinstance(item, Run):
+                    self._see_run(item)
+                elif isinstance(item, Init):
+                    self._see_init(self.kept.summary.header, item.elements)
+        if self.times:
+            self._end_column()
+        return self.kept
+
+    def _see_init(self, header: Header, elements: Elements) -> None:
+        count = len(elements)
+        chosen = usual_choice(count) if self.chosen is None else self.chosen
+        for element in chosen:
+            if element < count:
+                content = elements.content(element)
+                self._add(element, element_layout(header, content)).at_init = content
+
+    def _add(self, element: int, layout: Layout) -> Source:
+        series = sum(len(source.layout.fields) for source in self.kept.sources)
+        source = Source(element, layout, series)
+        self.kept.sources.append(source)
+        return source
+
+    def _see_run(self, run: Run) -> None:
+        if not self.times:
+            self.kept.columns.make_room()
+        self.cycles += 1
+        self.times.append(run.time)
+        if isinstance(run.outcome, Finished):
+            self._see_finished(run.outcome)
+        else:
+            self.refusals[run.outcome.phase, run.outcome.code] += 1
+        if len(self.times) == self.kept.columns.span:
+            self._end_column()
+
+    def _see_finished(self, outcome: Finished) -> None:
+        elements, output = outcome.elements, outcome.output
+        self.kept.last_finished = self.cycles
+        if self.kept.first_finished is None:
+            self.kept.first_finished = self.cycles
+            self._add(OUTPUT, output_layout(self.kept.summary.header, output))
+        for source in self.kept.sources:
+            if source.element == OUTPUT:
+                source.contents.append(output)
+            elif source.element < elements.count:
+                source.contents.append(elements.content(source.element))
+
+    def _end_column(self) -> None:
+        """Adds the cycles since the last column as one."""
+        before = zip([self.last_time, *self.times], self.times)
+        steps = [time - last for last, time in before if None not in (last, time)]
+        risen = [step for step in steps if step >= 0]
+        column = Column(
+            first=self.cycles - len(self.times) + 1,
+            cycles=len(self.times),
+            refusals=self.refusals,
+            draws=self.kept.summary.draws - self.draws,
+            untimed=self.times.count(None),
+            falls=len(steps) - len(risen),
+            step=range_of(risen),
+        )
+        for source in self.kept.sources:
+            column.values.update(source.take_series())
+        self.kept.columns.add(column)
+        self.last_time, self.draws = self.times[-1], self.kept.summary.draws
+        self.times, self.refusals = [], Counter()
+
+
+def gather(name: str, chosen: Optional[Sequence[int]], span: int = 1) -> Gathered:
+    """What is kept of the record of this name: these elements, or some where None are given, in
+    columns of at least so many cycles."""
+    return Gatherer(Gathered(name, columns=Columns(span)), chosen).gather()
+
+
+def check_chosen(gathered: Sequence[Gathered], chosen: Sequence[int]) -> None:
+    """Refuses an element that none of some records has."""
+    most = max(record.summary.elements for record in gathered)
+    for element in chosen:
+        if element >= most:
+            raise NoSuchElement(f"no element {element}: there are {most}")

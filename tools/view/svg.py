@@ -1,0 +1,153 @@
+"""Parts of drawings: text, marks, scales and ticks."""
+
+from __future__ import annotations
+
+import math
+from dataclasses import dataclass, field
+from html import escape
+from typing import Iterable, Optional, Sequence
+
+WIDTH = 960
+LEFT = 132
+RIGHT = 14
+PLOT = WIDTH - LEFT - RIGHT
+# The names of 10^3, 10^6 and so on.
+SUFFIXES = ("", " k", " M", " G", " T", " P", " E")
+
+
+def short(value: float) -> str:
+    """A number in a few characters."""
+    power = 0
+    while abs(value) >= 1_000 and power < len(SUFFIXES) - 1:
+        value /= 1_000
+        power += 1
+    return f"{value:.4g}{SUFFIXES[power]}".replace("-", "\u2212")
+
+
+def at(value: float) -> str:
+    """A coordinate with a tenth of a pixel."""
+    return f"{value:.1f}".removesuffix(".0")
+
+
+@dataclass(frozen=True)
+class Scale:
+    """Values from low to high, shown from start to end."""
+
+    low: float
+    high: float
+    start: float
+    end: float
+
+    def __call__(self, value: float) -> float:
+        return self.start + (value - self.low) * (self.end - self.start) / (self.high - self.low)
+
+    def ticks(self, most: int, least_step: float = 0.0) -> list[float]:
+        """Round values within the scale, at most one more than so many."""
+        raw = max(least_step, (self.high - self.low) / most)
+        power = 10 ** math.floor(math.log10(raw))
+        step = next(power * unit for unit in (1, 2, 5, 10) if power * unit >= raw * 0.999)
+        first = math.ceil(self.low / step - 1e-9)
+        last = math.floor(self.high / step + 1e-9)
+        return [step * number for number in range(first, last + 1)]
+
+
+def scale_of(values: Iterable[float], start: float, end: float) -> Scale:
+    """A scale that has room for values, of which there is one."""
+    kept = list(values)
+    low, high = min(kept), max(kept)
+    margin = (high - low) * 0.05 or max(1.0, abs(high) * 0.05)
+    return Scale(low - margin, high + margin, start, end)
+
+
+@dataclass
+class Svg:
+    """A drawing of the page's width."""
+
+    height: float
+    label: str
+    parts: list[str] = field(default_factory=list)
+
+    def add(self, part: str) -> None:
+        self.parts.append(part)
+
+    def text(self, x: float, y: float, words: str, style: str = "") -> None:
+        self.add(f'<text x="{at(x)}" y="{at(y)}" class="{style}">{escape(words)}</text>')
+
+    def line(self, start: tuple[float, float], end: tuple[float, float], style: str) -> None:
+        (x1, y1), (x2, y2) = start, end
+        points = f'x1="{at(x1)}" y1="{at(y1)}" x2="{at(x2)}" y2="{at(y2)}"'
+        self.add(f'<line {points} class="{style}"/>')
+
+    def path(self, data: str, style: str) -> None:
+        if data:
+            self.add(f'<path d="{data}" class="{style}"/>')
+
+    def hover(self, box: tuple[float, float, float, float], title: str) -> None:
+        """A box that shows a title where the pointer rests on it."""
+        x, y, width, height = map(at, box)
+        place = f'x="{x}" y="{y}" width="{width}" height="{height}"'
+        self.add(f'<rect {place} class="hover"><title>{escape(title)}</title></rect>')
+
+    def html(self) -> str:
+        label = escape(self.label, quote=True)
+        head = f'<svg viewBox="0 0 {WIDTH} {at(self.height)}" role="img" aria-label="{label}">'
+        return "\n".join((head, *self.parts, "</svg>"))
+
+
+@dataclass(frozen=True)
+class Places:
+    """Where columns of so many cycles stand, side by side."""
+
+    cycles: int
+    span: int
+
+    @property
+    def columns(self) -> int:
+        return -(-self.cycles // self.span)
+
+    def left(self, column: int) -> float:
+        return LEFT + PLOT * column / max(1, self.columns)
+
+    def middle(self, column: int) -> float:
+        return (self.left(column) + self.left(column + 1)) / 2
+
+    def width(self) -> float:
+        return PLOT / max(1, self.columns)
+
+    def of_cycle(self, cycle: int) -> float:
+        return self.middle((cycle - 1) // self.span)
+
+    def axis(self, svg: Svg, y: float) -> None:
+        """Numbers of cycles along the columns."""
+        for cycle in self._ticks():
+            x = self.of_cycle(cycle)
+            svg.line((x, y), (x, y + 4), "axis")
+            words = f"{cycle:,}"
+            svg.text(min(x, WIDTH - 4 * len(words)), y + 18, words, "middle")
+        svg.text(LEFT - 10, y + 18, "cycle", "end")
+
+    def _ticks(self) -> list[int]:
+        if self.cycles <= 12:
+            return list(range(1, self.cycles + 1))
+        ticks = Scale(0, self.cycles, 0, 1).ticks(10)
+        return [1, *(int(tick) for tick in ticks if tick > self.cycles / 20)]
+
+
+def bars(boxes: Iterable[tuple[float, float, float, float]]) -> str:
+    """A path of boxes, by left, top, width and height. Boxes that touch at one height are one."""
+    parts: list[str] = []
+    kept: Optional[list[float]] = None
+    for x, y, width, height in (*boxes, (math.inf, 0.0, 0.0, 0.0)):
+        if kept and (kept[1], kept[3]) == (y, height) and abs(kept[0] + kept[2] - x) < 0.05:
+            kept[2] += width
+            continue
+        if kept:
+            left, top, wide, high = map(at, kept)
+            parts.append(f"M{left} {top}h{wide}v{high}h-{wide}z")
+        kept = [x, y, width, height]
+    return "".join(parts)
+
+
+def polyline(points: Sequence[tuple[float, float]]) -> str:
+    """A path through points."""
+    return "".join(f"{'L' if number else 'M'}{at(x)} {at(y)}" for number, (x, y) in enumerate(points))
