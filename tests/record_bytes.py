@@ -85,4 +85,5 @@ def counted(runs: int) -> bytes:
         word = number(8, cycle)
         outcome = finished(2, [(word, 1)], word * 3) if cycle % 1000 else refused(0, 0, 0, 3)
         frames.append(given(1000 * cycle, []) + outcome)
-    return header(2, 1, [1, 0], [event(2, 1, "x", 0)]) + init([b"\0" * 8]) + b"".join(frames) + b"\5"
+    start = header(2, 1, [1, 0], [event(2, 1, "x", 0)]) + init([b"\0" * 8])
+    return start + b"".join(frames) + b"\5"

@@ -34,6 +34,13 @@ class Room:
         path.write_bytes(data)
         return str(path)
 
+    def path(self, name: str) -> str:
+        """A file of the repository."""
+        return str(TOP / name)
+
+    def read(self, name: str) -> bytes:
+        return (TOP / name).read_bytes()
+
     def example(self, name: str) -> bytes:
         files = (str(TOP / "examples" / f"{name}.{kind}") for kind in ("toml", "stim"))
         return self.det("record", *files)[0]

@@ -72,6 +72,8 @@ MOST_VALUE = 10**12
 PIECE = 1 << 18
 NAME_BYTES = frozenset(b"abcdefghijklmnopqrstuvwxyz0123456789_")
 SAMPLE = struct.Struct(">Hq")
+# What reads an unsigned number of so many bytes.
+UNSIGNED = {size: struct.Struct(f">{code}").unpack_from for size, code in zip((1, 2, 4, 8), "BHIQ")}
 # The ranges of a sample's value, read without its sign.
 VALUE_RANGES = ((0, MOST_VALUE), (2**64 - MOST_VALUE, 2**64 - 1))
 REGISTER, DISCOVER, INIT, RUN, TERMINATE = range(1, 6)
@@ -124,13 +126,11 @@ class Cursor:
 
     def number(self, width: int, least: int, most: int) -> int:
         """An unsigned number of so many bytes within a range."""
-        read = self.data[self.at : self.at + width]
-        if len(read) < width and self.has(width):
-            read = self.data[self.at : self.at + width]
-        value = int.from_bytes(read, "big")
-        if len(read) == width and least <= value <= most:
-            self.at += width
-            return value
+        if len(self.data) - self.at >= width or self.has(width):
+            value = UNSIGNED[width](self.data, self.at)[0]
+            if least <= value <= most:
+                self.at += width
+                return value
         self.refuse(width, ((least, most),))
 
     def flag(self) -> bool:

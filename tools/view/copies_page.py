@@ -24,13 +24,23 @@ LEVEL_NAMES = (
 
 
 def row_name(difference: Difference) -> str:
-    """The row of a difference, behind the headers, in words."""
+    """The row of a difference in words."""
+    if difference.row == 0:
+        return "row 0"
     place = f"row {difference.row:,}, frame {difference.row - 1:,}"
     if difference.cycle is None:
-        return f"In {place}"
+        return place
     if difference.cycle == 0:
-        return f"In Init ({place})"
-    return f"In cycle {difference.cycle:,} ({place})"
+        return f"Init ({place})"
+    return f"cycle {difference.cycle:,} ({place})"
+
+
+def field_name(difference: Difference) -> str:
+    """The field of a difference in words."""
+    word = difference.place.split()[0]
+    if difference.element is not None:
+        return f"element {difference.element:,}"
+    return {"kind": "the kind of the frame", "header": "the header"}.get(word, f"the {word}")
 
 
 def difference_text(compared: Compared) -> str:
@@ -44,17 +54,9 @@ def difference_text(compared: Compared) -> str:
     if compared.parted is None:
         return f"All copies are one whole record of {compared.copies[0].cycles:,} cycles."
     number, difference = compared.parted
-    values = f"Copy 0 has: {difference.left}. Copy {number} has: {difference.right}."
-    if difference.row == 0:
-        return f"The headers (row 0) are the first thing in which not all are equal. {values}"
-    field = difference.place.split()[0]
-    if difference.element is not None:
-        field += f" {difference.element:,}"
-    if field == "kind":
-        field = "kind of frame"
     return (
-        f"{row_name(difference)} the {field} is the first thing in which not all copies are "
-        f"equal. {values}"
+        f"The first difference is in {row_name(difference)}: {field_name(difference)}. "
+        f"Copy 0 has: {difference.left}. Copy {number} has: {difference.right}."
     )
 
 
@@ -74,9 +76,9 @@ def map_text(total: Parted, copy: Copy) -> str:
     if total.differing == 0:
         return f"All {total.cycles:,} cycles that both have are equal{ending_text(copy)}."
     fields = ", ".join(name for name in FIELDS if not total.fields[name])
-    equal = f" Nowhere differs: {fields}." if fields else ""
+    equal = f" Equal in all of them: {fields}." if fields else ""
     return (
-        f"{total.differing:,} of the {total.cycles:,} cycles that both have differ"
+        f"Something differs in {total.differing:,} of the {total.cycles:,} cycles that both have"
         f"{ending_text(copy)}.{equal}"
     )
 
@@ -85,7 +87,8 @@ def level_legend() -> str:
     keys = []
     for name, (red, green, blue, opacity) in zip(LEVEL_NAMES, PALETTE):
         style = f"fill:rgb({red},{green},{blue});fill-opacity:{opacity / 255:.2f}"
-        swatch = f'<svg viewBox="0 0 14 12" class="mark"><path d="M0 2h12v8H0z" style="{style}"/></svg>'
+        box = f'<path d="M0 2h12v8H0z" style="{style}"/>'
+        swatch = f'<svg viewBox="0 0 14 12" class="mark">{box}</svg>'
         if name:
             keys.append(f'<span class="key">{swatch}{name}</span>')
     keys.append('<span class="key">blank: refused, or not in both copies</span>')
@@ -125,7 +128,7 @@ def charts_of_copies(gathered: Sequence[Gathered]) -> list[Chart]:
                 if field.is_drawn:
                     lines = charts.setdefault(f"{source.name}: {field.name}", [])
                     lines.append(Series(f"copy {number}", copy, series))
-    return [Chart(name, series) for name, series in charts.items()]
+    return [Chart(name, "each copy", series) for name, series in charts.items()]
 
 
 def copies_page(names: Sequence[str], chosen: Optional[Sequence[int]]) -> str:

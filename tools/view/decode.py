@@ -11,6 +11,7 @@ from det_record import Header
 BANK, CLOUD, GUARD = 1, 2, 3
 JOB_NAMES = {BANK: "bank", CLOUD: "cloud", GUARD: "guard"}
 MOST_WORDS = 4
+MOST_HEX = 64
 
 
 @dataclass(frozen=True)
@@ -46,11 +47,15 @@ class Layout:
         return zip(*self.shape.iter_unpack(b"".join(kept))) if size else iter(())
 
     def text(self, content: bytes) -> str:
+        """The numbers by their names. What follows them, or has no layout, is hex digits."""
         numbers = self.numbers(content)
         if numbers is None:
-            return words_text(content)
-        named = zip(self.fields, numbers)
-        return ", ".join(f"{field.name} {number:,}" for field, number in named)
+            return hex_text(content)
+        told = [f"{field.name} {number:,}" for field, number in zip(self.fields, numbers)]
+        rest = content[self.shape.size :]
+        if rest or not told:
+            told.append(hex_text(rest))
+        return ", ".join(told)
 
 
 def layout(shape: str, fields: str, hidden: str = "", is_open: bool = False) -> Layout:
@@ -66,8 +71,11 @@ def words_layout(length: int) -> Layout:
     return Layout(struct.Struct(f">{count}q"), fields, is_open=True)
 
 
-def words_text(content: bytes) -> str:
-    return content.hex() if content else "no bytes"
+def hex_text(content: bytes) -> str:
+    """The first bytes as hex digits, and how many there are where these aren't all."""
+    if len(content) <= MOST_HEX:
+        return content.hex() or "no bytes"
+    return f"{content[:MOST_HEX].hex()}.. ({len(content):,} bytes)"
 
 
 def element_layout(header: Header, content: bytes) -> Layout:

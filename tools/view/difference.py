@@ -48,10 +48,11 @@ def differing_elements(left: Elements, right: Elements) -> list[int]:
     """The elements that differ, in order. Draws count where both records tell them."""
     if (left.raw, left.count, left.has_draws) == (right.raw, right.count, right.has_draws):
         return []
-    if left.stride is not None and left.stride == right.stride and left.has_draws == right.has_draws:
+    has_draws = left.has_draws and right.has_draws
+    is_alike = left.has_draws == right.has_draws and left.stride == right.stride
+    if is_alike and left.stride is not None:
         return differing_pieces(left.raw, right.raw, left.stride)
     both = min(left.count, right.count)
-    has_draws = left.has_draws and right.has_draws
     found = [index for index in range(both) if differs_at(left, right, index, has_draws)]
     return [*found, *range(both, max(left.count, right.count))]
 

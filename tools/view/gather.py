@@ -23,15 +23,12 @@ class NoSuchElement(Exception):
 
 @dataclass
 class Source:
-    """An element, or the output, whose numbers are drawn, and what it holds at some places."""
+    """An element, or the output, whose numbers are drawn."""
 
     element: int
     layout: Layout
     # The number of the series of its first field.
-    first_series: int
-    at_init: Optional[bytes] = None
-    at_first: Optional[bytes] = None
-    at_last: Optional[bytes] = None
+    first_series: int = 0
     # What it held in the cycles of the column that isn't complete.
     contents: list[bytes] = field(default_factory=list)
 
@@ -39,16 +36,26 @@ class Source:
     def name(self) -> str:
         return "output" if self.element == OUTPUT else f"element {self.element}"
 
+    def content(self, elements: Elements, output: Optional[bytes]) -> Optional[bytes]:
+        """What it holds there, or None where it isn't there."""
+        if self.element == OUTPUT:
+            return output
+        return elements.content(self.element) if self.element < elements.count else None
+
     def take_series(self) -> dict[int, Range]:
         """The values of its series in the column, which begins anew."""
-        if not self.contents:
-            return {}
-        if self.at_first is None:
-            self.at_first = self.contents[0]
-        self.at_last = self.contents[-1]
         series = enumerate(self.layout.series(self.contents), self.first_series)
         self.contents = []
         return {number: range_of(values) for number, values in series}
+
+
+@dataclass(frozen=True)
+class Place:
+    """Elements and output behind Init or a finished cycle."""
+
+    name: str
+    elements: Elements
+    output: Optional[bytes] = None
 
 
 @dataclass
@@ -59,16 +66,22 @@ class Gathered:
     summary: Summary = field(default_factory=Summary)
     columns: Columns = field(default_factory=Columns)
     sources: list[Source] = field(default_factory=list)
-    first_finished: Optional[int] = None
-    last_finished: Optional[int] = None
+    init: Optional[Place] = None
+    # The first and the last finished cycle.
+    first: Optional[Place] = None
+    last: Optional[Place] = None
 
     @property
     def elements(self) -> list[Source]:
         return [source for source in self.sources if source.element != OUTPUT]
 
     @property
-    def output(self) -> Optional[Source]:
-        return next((source for source in self.sources if source.element == OUTPUT), None)
+    def output(self) -> list[Source]:
+        return [source for source in self.sources if source.element == OUTPUT]
+
+    @property
+    def places(self) -> list[Place]:
+        return [place for place in (self.init, self.first, self.last) if place is not None]
 
 
 def usual_choice(count: int) -> list[int]:
@@ -98,24 +111,19 @@ class Gatherer:
                 if isinstance(item, Run):
                     self._see_run(item)
                 elif isinstance(item, Init):
-                    self._see_init(self.kept.summary.header, item.elements)
+                    self._see_init(item.elements)
         if self.times:
             self._end_column()
         return self.kept
 
-    def _see_init(self, header: Header, elements: Elements) -> None:
-        count = len(elements)
-        chosen = usual_choice(count) if self.chosen is None else self.chosen
-        for element in chosen:
-            if element < count:
-                content = elements.content(element)
-                self._add(element, element_layout(header, content)).at_init = content
-
-    def _add(self, element: int, layout: Layout) -> Source:
-        series = sum(len(source.layout.fields) for source in self.kept.sources)
-        source = Source(element, layout, series)
-        self.kept.sources.append(source)
-        return source
+    def _see_init(self, elements: Elements) -> None:
+        chosen = usual_choice(len(elements)) if self.chosen is None else self.chosen
+        self.kept.init = Place("Init", elements)
+        self.kept.sources = [
+            Source(element, element_layout(self.kept.summary.header, elements.content(element)))
+            for element in chosen
+            if element < len(elements)
+        ]
 
     def _see_run(self, run: Run) -> None:
         if not self.times:
@@ -130,16 +138,28 @@ class Gatherer:
             self._end_column()
 
     def _see_finished(self, outcome: Finished) -> None:
-        elements, output = outcome.elements, outcome.output
-        self.kept.last_finished = self.cycles
-        if self.kept.first_finished is None:
-            self.kept.first_finished = self.cycles
-            self._add(OUTPUT, output_layout(self.kept.summary.header, output))
+        place = Place(f"cycle {self.cycles:,}", outcome.elements, outcome.output)
+        if self.kept.first is None:
+            self._see_first(place)
+        else:
+            self.kept.last = place
         for source in self.kept.sources:
-            if source.element == OUTPUT:
-                source.contents.append(output)
-            elif source.element < elements.count:
-                source.contents.append(elements.content(source.element))
+            content = source.content(outcome.elements, outcome.output)
+            if content is not None:
+                source.contents.append(content)
+
+    def _see_first(self, place: Place) -> None:
+        """Takes the layouts of the first finished cycle, and numbers the series."""
+        header, series = self.kept.summary.header, 0
+        self.kept.first = place
+        for source in self.kept.sources:
+            content = source.content(place.elements, None)
+            if content is not None:
+                source.layout = element_layout(header, content)
+        self.kept.sources.append(Source(OUTPUT, output_layout(header, place.output)))
+        for source in self.kept.sources:
+            source.first_series = series
+            series += len(source.layout.fields)
 
     def _end_column(self) -> None:
         """Adds the cycles since the last column as one."""

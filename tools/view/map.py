@@ -76,7 +76,7 @@ class CopyMap:
                 height = max(4.0, MARK * parted.fields[name] / parted.cycles)
                 left = self.places.left(number)
                 boxes.append((left, bottom - height, self.places.width(), height))
-        self.svg.text(LEFT - 10, bottom - 1, f"{name} ({self.total.fields[name]:,})", "end")
+        self.svg.side_text(bottom - 1, f"{name} ({self.total.fields[name]:,})")
         self.svg.line((LEFT, bottom), (LEFT + PLOT, bottom), "grid")
         self.svg.path(bars(boxes), "fill-pool")
         self.y += LANE
@@ -104,13 +104,13 @@ class CopyMap:
 
     def _element_ticks(self, height: float) -> None:
         """The numbers of some elements, each in the middle of its row."""
-        self.svg.text(LEFT - 10, self.y + 11, "element 0", "end")
+        self.svg.side_text(self.y + 11, "element 0")
         most = int(height // 24)
         span = self.map.row_span
         for tick in Scale(0, self.map.elements, 0, 1).ticks(max(1, min(5, most)), least_step=1):
             y = self.scale(tick // span * span + span / 2) + 4
             if self.y + 26 < y and tick < self.map.elements:
-                self.svg.text(LEFT - 10, y, f"{int(tick):,}", "end")
+                self.svg.side_text(y, f"{int(tick):,}")
 
     def _mark_end(self) -> None:
         """Says where the shorter of both copies ends, if the map goes on behind it."""
@@ -133,16 +133,16 @@ class CopyMap:
         self.svg.line((x, TOP - 4), (x, self.y), "cross")
         is_left = x < LEFT + PLOT * 0.7
         words = f"first difference: {self.first.place}"
-        self.svg.text(x + (4 if is_left else -4), TOP - 7, words, "strong" if is_left else "strong end")
+        style = "strong" if is_left else "strong end"
+        self.svg.text(x + (4 if is_left else -4), TOP - 7, words, style)
         if y is not None:
             self.svg.add(f'<circle cx="{at(x)}" cy="{at(y)}" r="6" class="ring"/>')
 
     def _place(self, first: Difference) -> tuple[float, Optional[float]]:
         """Where the first difference stands. One before all cycles stands at the left."""
         if first.cycle is None or first.cycle == 0:
-            is_late = first.row > 3
-            x = self.places.left(min(first.row - 3, self.map.cycles) // self.map.span)
-            return (x if is_late else float(LEFT)), None
+            before = min(max(0, first.row - 4), self.map.cycles)
+            return self.places.left(before // self.map.span), None
         x = self.places.of_cycle(first.cycle)
         if first.element is None:
             return x, self.lanes.get(first.place.split()[0])
@@ -158,10 +158,11 @@ class CopyMap:
         if parted.differing == 0:
             return "\n".join([*lines, "equal"])
         if first != last:
-            lines.append(f"{parted.differing:,} of {parted.cycles:,} cycles differ")
+            lines.append(f"something differs in {parted.differing:,} of {parted.cycles:,} cycles")
         for name in FIELDS:
             if parted.fields[name]:
-                lines.append(f"{name} differs" + ("" if first == last else f": {parted.fields[name]:,}"))
+                count = "" if first == last else f": {parted.fields[name]:,}"
+                lines.append(f"{name} differs{count}")
         if parted.reach is not None:
             least, greatest = parted.reach.least, parted.reach.greatest
             lines.append(f"elements differ: {parted.elements:,}, from {least:,} to {greatest:,}")

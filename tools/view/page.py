@@ -118,20 +118,21 @@ def strip_section(gathered: Gathered) -> list[str]:
     parts = ["<h2>Cycles</h2>"]
     if gathered.summary.cycles == 0:
         return [*parts, "<p>There is no cycle.</p>"]
-    return [*parts, span_note(gathered.columns.span), marks_legend(gathered), Strip(gathered).html()]
+    note = span_note(gathered.columns.span)
+    return [*parts, note, marks_legend(gathered), Strip(gathered).html()]
 
 
 def values_section(gathered: Gathered) -> list[str]:
     """The chosen elements and the output."""
-    if not gathered.elements and gathered.output is None:
-        return []
-    parts = ["<h2>Elements</h2>"]
-    parts += [Drawing(chart).html() for chart in charts_of(gathered, gathered.elements)]
-    parts.append(table_of(gathered, gathered.elements))
-    if gathered.output is not None:
-        parts.append("<h2>Output</h2>")
-        parts += [Drawing(chart).html() for chart in charts_of(gathered, [gathered.output])]
-        parts.append(table_of(gathered, [gathered.output]))
+    parts: list[str] = []
+    for title, subject, sources in (
+        ("Elements", "elements", gathered.elements),
+        ("Output", "the output", gathered.output),
+    ):
+        if sources:
+            charts = charts_of(gathered, sources, subject)
+            parts += [f"<h2>{title}</h2>", *(Drawing(chart).html() for chart in charts)]
+            parts.append(table_of(gathered, sources))
     return parts
 
 

@@ -6,7 +6,7 @@ from collections import Counter
 
 from .columns import Column, RefusalKind
 from .gather import Gathered
-from .svg import LEFT, PLOT, Places, Scale, Svg, bars, polyline, short
+from .svg import LEFT, PLOT, Box, Places, Scale, Svg, bars, polyline, short
 from .words import duration
 
 LANE = 20
@@ -106,24 +106,20 @@ class Strip:
     def _lane(self, label: str, counts: list[int], style: str) -> None:
         """Marks where cycles ended so, as high as their part of the column, but never too low."""
         bottom = self.y + LANE - 3
-        boxes = []
-        for number, (count, column) in enumerate(zip(counts, self.columns)):
-            if count:
-                height = max(LEAST_MARK, MARK * count / column.cycles)
-                left = self.places.left(number)
-                boxes.append((left, bottom - height, self.places.width(), height))
-        self.svg.text(LEFT - 10, bottom - 2, label, "end")
+        parts = [MARK * count / column.cycles for count, column in zip(counts, self.columns)]
+        ends = [(n, bottom - max(LEAST_MARK, part), bottom) for n, part in enumerate(parts) if part]
+        self.svg.side_text(bottom - 2, label)
         self.svg.line((LEFT, bottom), (LEFT + PLOT, bottom), "grid")
-        self.svg.path(bars(boxes), f"fill-{style}")
+        self.svg.path(bars(self._boxes(ends)), f"fill-{style}")
         self.y += LANE
 
     def _frame(self, label: str, scale: Scale, texts: list[tuple[float, str]]) -> None:
         """The name and the ticks of a chart that ends at the scale's start."""
-        self.svg.text(LEFT - 10, scale.end - 5, label, "end strong")
+        self.svg.side_text(scale.end - 5, label, "strong")
         for value, words in texts:
             y = scale(value)
             self.svg.line((LEFT, y), (LEFT + PLOT, y), "grid")
-            self.svg.text(LEFT - 10, y + 4, words, "end")
+            self.svg.side_text(y + 4, words)
 
     def _steps(self) -> None:
         """The steps of time, with the cycle time as a dashed line."""
@@ -132,20 +128,22 @@ class Strip:
         expected = self.summary.header.cycle_time
         most = max([expected, *(step.greatest for _, step in steps)])
         scale = Scale(0, most * 1.1, self.y + CHART, self.y)
-        self._frame("step of time", scale, [(t, duration(t)) for t in scale.ticks(3)])
-        middle, width = self.places.middle, self.places.width()
+        self._frame("step of time", scale, [(t, duration(t)) for t in scale.ticks(4)])
         y = scale(expected)
         self.svg.line((LEFT, y), (LEFT + PLOT, y), "expected")
-        spread = [
-            (middle(n) - width / 2, scale(s.greatest), width, scale(s.least) - scale(s.greatest))
-            for n, s in steps
-            if s.least != s.greatest
-        ]
-        self.svg.path(bars(spread), "fill-band")
-        marks = [(middle(n) - width / 2, scale(s.mean) - 1.5, width, 3.0) for n, s in steps]
-        self.svg.path(bars(marks), "fill-step")
+        tall = [(number, scale(step.greatest), scale(0)) for number, step in steps]
+        spread = [(number, scale(step.greatest), scale(step.least)) for number, step in steps]
+        marks = [(number, scale(s.mean) - 1.5, scale(s.mean) + 1.5) for number, s in steps]
+        for style, ends in (("tall", tall), ("band", spread), ("step", marks)):
+            self.svg.path(bars(self._boxes(ends)), f"fill-{style}")
         self.y += CHART
         self._time_marks()
+
+    def _boxes(self, ends: list[tuple[int, float, float]]) -> list[Box]:
+        """Boxes of a column's width, by the columns' numbers, tops and bottoms."""
+        width = self.places.width()
+        kept = ((n, top, bottom) for n, top, bottom in ends if top < bottom)
+        return [(self.places.left(n), top, width, bottom - top) for n, top, bottom in kept]
 
     def _time_marks(self) -> None:
         """Triangles where a cycle has no time, or an earlier one than the cycle before."""
@@ -165,11 +163,6 @@ class Strip:
         means = [column.draws / column.cycles for column in self.columns]
         scale = Scale(0, max([1.0, *means]) * 1.1, self.y + CHART, self.y)
         self._frame("words drawn", scale, [(t, short(t)) for t in scale.ticks(3)])
-        bottom, width = scale(0), self.places.width()
-        boxes = [
-            (self.places.left(number), scale(mean), width, bottom - scale(mean))
-            for number, mean in enumerate(means)
-            if mean
-        ]
-        self.svg.path(bars(boxes), "fill-draws")
+        ends = [(number, scale(mean), scale(0)) for number, mean in enumerate(means)]
+        self.svg.path(bars(self._boxes(ends)), "fill-draws")
         self.y += CHART

@@ -45,6 +45,7 @@ text { fill: var(--soft); font: 12px system-ui, sans-serif; }
 .fill-finished { fill: var(--finished); } .fill-prepare { fill: var(--prepare); }
 .fill-pool { fill: var(--pool); } .fill-conclude { fill: var(--conclude); }
 .fill-other { fill: var(--other); } .fill-step { fill: var(--step); }
+.fill-tall { fill: var(--step); fill-opacity: 0.14; }
 .fill-band { fill: var(--step); fill-opacity: 0.3; } .fill-draws { fill: var(--draws); }
 .fill-untimed { fill: var(--prepare); } .fill-fall { fill: var(--conclude); }
 .series { fill: none; stroke: var(--tone); stroke-width: 2; stroke-linejoin: round; }

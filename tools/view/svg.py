@@ -7,10 +7,16 @@ from dataclasses import dataclass, field
 from html import escape
 from typing import Iterable, Optional, Sequence
 
+# Left, top, width and height.
+Box = tuple[float, float, float, float]
+
 WIDTH = 960
-LEFT = 132
+LEFT = 170
 RIGHT = 14
 PLOT = WIDTH - LEFT - RIGHT
+# About the width of a letter, and how words get narrower.
+LETTER = 6.4
+SQUEEZED = 'lengthAdjust="spacingAndGlyphs"'
 # The names of 10^3, 10^6 and so on.
 SUFFIXES = ("", " k", " M", " G", " T", " P", " E")
 
@@ -73,6 +79,13 @@ class Svg:
     def text(self, x: float, y: float, words: str, style: str = "") -> None:
         self.add(f'<text x="{at(x)}" y="{at(y)}" class="{style}">{escape(words)}</text>')
 
+    def side_text(self, y: float, words: str, style: str = "") -> None:
+        """Words at the left of the plot, closer together where they are too long."""
+        room = LEFT - 14
+        fit = "" if len(words) * LETTER <= room else f' textLength="{room}" {SQUEEZED}'
+        place = f'x="{LEFT - 10}" y="{at(y)}" class="end {style}"'
+        self.add(f"<text {place}{fit}>{escape(words)}</text>")
+
     def line(self, start: tuple[float, float], end: tuple[float, float], style: str) -> None:
         (x1, y1), (x2, y2) = start, end
         points = f'x1="{at(x1)}" y1="{at(y1)}" x2="{at(x2)}" y2="{at(y2)}"'
@@ -82,7 +95,7 @@ class Svg:
         if data:
             self.add(f'<path d="{data}" class="{style}"/>')
 
-    def hover(self, box: tuple[float, float, float, float], title: str) -> None:
+    def hover(self, box: Box, title: str) -> None:
         """A box that shows a title where the pointer rests on it."""
         x, y, width, height = map(at, box)
         place = f'x="{x}" y="{y}" width="{width}" height="{height}"'
@@ -124,7 +137,7 @@ class Places:
             svg.line((x, y), (x, y + 4), "axis")
             words = f"{cycle:,}"
             svg.text(min(x, WIDTH - 4 * len(words)), y + 18, words, "middle")
-        svg.text(LEFT - 10, y + 18, "cycle", "end")
+        svg.side_text(y + 18, "cycle")
 
     def _ticks(self) -> list[int]:
         if self.cycles <= 12:
@@ -133,8 +146,8 @@ class Places:
         return [1, *(int(tick) for tick in ticks if tick > self.cycles / 20)]
 
 
-def bars(boxes: Iterable[tuple[float, float, float, float]]) -> str:
-    """A path of boxes, by left, top, width and height. Boxes that touch at one height are one."""
+def bars(boxes: Iterable[Box]) -> str:
+    """A path of boxes. Those that touch and are as high are one."""
     parts: list[str] = []
     kept: Optional[list[float]] = None
     for x, y, width, height in (*boxes, (math.inf, 0.0, 0.0, 0.0)):
@@ -150,4 +163,5 @@ def bars(boxes: Iterable[tuple[float, float, float, float]]) -> str:
 
 def polyline(points: Sequence[tuple[float, float]]) -> str:
     """A path through points."""
-    return "".join(f"{'L' if number else 'M'}{at(x)} {at(y)}" for number, (x, y) in enumerate(points))
+    steps = (f"{at(x)} {at(y)}" for x, y in points)
+    return "M" + "L".join(steps) if points else ""

@@ -4,7 +4,7 @@ from __future__ import annotations
 
 from dataclasses import dataclass
 from html import escape
-from typing import Optional
+from typing import Iterable, Optional
 
 from .columns import Column, Range
 from .gather import Gathered, Source
@@ -29,20 +29,21 @@ class Series:
 
 @dataclass(frozen=True)
 class Chart:
-    """Lines of one field."""
+    """Lines of one field, and what they are lines of."""
 
     name: str
+    subject: str
     series: list[Series]
 
 
-def charts_of(gathered: Gathered, sources: list[Source]) -> list[Chart]:
+def charts_of(gathered: Gathered, sources: list[Source], subject: str) -> list[Chart]:
     """A chart for each field, with a line for each source that has it."""
     charts: dict[str, list[Series]] = {}
     for source in sources:
         for number, field in enumerate(source.layout.fields, source.first_series):
             if field.is_drawn:
                 charts.setdefault(field.name, []).append(Series(source.name, gathered, number))
-    return [Chart(name, series) for name, series in charts.items()]
+    return [Chart(name, subject, series) for name, series in charts.items()]
 
 
 class Drawing:
@@ -54,7 +55,7 @@ class Drawing:
         self.places = Places(longest.cycles, longest.span)
         self.columns = longest.columns
         self.ranges = [series.ranges() for series in chart.series]
-        self.svg = Svg(HEIGHT + 38, f"{chart.name} over the cycles")
+        self.svg = Svg(HEIGHT + 38, f"{chart.name} of {chart.subject} over the cycles")
 
     def html(self) -> str:
         known = [found for ranges in self.ranges for found in ranges if found is not None]
@@ -65,7 +66,7 @@ class Drawing:
         for value in self.scale.ticks(5, least_step=1):
             y = self.scale(value)
             self.svg.line((LEFT, y), (LEFT + PLOT, y), "grid")
-            self.svg.text(LEFT - 10, y + 4, short(value), "end")
+            self.svg.side_text(y + 4, short(value))
         for number in range(len(self.ranges)):
             self._band(number)
         for number in range(len(self.ranges)):
@@ -138,20 +139,17 @@ def figure(title: str, names: list[str], drawing: str) -> str:
 
 
 def table_of(gathered: Gathered, sources: list[Source]) -> str:
-    """What the sources hold after Init, and after the first and the last finished cycle."""
-    heads = ["", "Init"]
-    if gathered.first_finished is not None:
-        heads += [f"cycle {gathered.first_finished:,}", f"cycle {gathered.last_finished:,}"]
-    rows = [cells("th", heads)]
+    """What the sources hold behind Init, and behind the first and the last finished cycle."""
+    rows = [cells("th", ["", *(place.name for place in gathered.places)])]
     for source in sources:
-        contents = [source.at_init, source.at_first, source.at_last][: len(heads) - 1]
+        contents = (source.content(place.elements, place.output) for place in gathered.places)
         told = (cell_text(source, content) for content in contents)
         rows.append(f"<th>{source.name}</th>" + cells("td", told))
     body = "".join(f"<tr>{row}</tr>" for row in rows)
     return f'<div class="wide"><table>{body}</table></div>'
 
 
-def cells(tag: str, texts: object) -> str:
+def cells(tag: str, texts: Iterable[str]) -> str:
     return "".join(f"<{tag}>{escape(text)}</{tag}>" for text in texts)
 
 

@@ -43,7 +43,7 @@ def header_facts(header: Header) -> dict[str, str]:
 
 
 def refused_text(refused: Refused) -> str:
-    place = f"pass {refused.pass_number}, element {refused.element:,}, code {refused.code:,}"
+    place = f"pass {refused.pass_number}, element {refused.element:,}, code {refused.code}"
     return f"{refused.phase.word}, {place}"
 
 
