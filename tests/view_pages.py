@@ -22,6 +22,7 @@ EQUAL, DIFFERS = 1, 5
 def names_of_records(room: Room) -> dict[str, str]:
     records = {**room.small_records(), "cloud": room.example("cloud")}
     records["guard"] = room.example("guard")
+    records["untimed"] = many_runs(3)
     return {name: room.file(f"{name}.rec", data) for name, data in records.items()}
 
 
@@ -33,13 +34,13 @@ def wrong_facts(page: Page, shown: Shown, size: int) -> list[str]:
     """The facts of a page that aren't those of the text."""
     finished, refused = shown.fact("count").split()
     draws = sum(drawn for cycle in shown.cycles for _, drawn in cycle.elements)
-    record_format = shown.fact("format")
+    record_format, params = shown.fact("format"), shown.fact("params")
     expected = {
         "format": record_format or "1",
         "job": shown.fact("job"),
         "seed": shown.fact("seed"),
         "cycle time": shown.fact("cycle_time"),
-        "parameters": shown.fact("params").replace(" ", "; "),
+        "parameters": "none" if params == "-" else params.replace(" ", "; "),
         "elements": shown.fact("init"),
         "cycles": str(int(finished) + int(refused)),
         "refused": refused,
@@ -134,11 +135,23 @@ def broken_records(room: Room) -> Optional[str]:
     for length in range(len(data)):
         file = room.file("broken.rec", data[:length])
         text, line = room.det("show", file)
-        page = Page(record_page(file, None))
+        page = Page(record_page(file, [0]))
         titles = next(iter(page.titles.values()), [])
         cycles = len(shown_of(text.decode()).cycles)
         if page.wrong or page.told != line.strip() or len(titles) != cycles:
             return f"of {length} bytes: {page.told}, {len(titles)} cycles, {page.wrong}"
+    return None
+
+
+def broken_copies(room: Room) -> Optional[str]:
+    data = mixed_record(2)
+    whole = room.file("whole.rec", data)
+    for length in range(0, len(data), 5):
+        files = [room.file("broken.rec", data[:length]), whole][:: 1 if length % 2 else -1]
+        page = Page(copies_page(files, [0]))
+        line = room.det("compare", *files)[1].strip()
+        if page.wrong or page.told != line:
+            return f"of {length} bytes: {page.told} for {line}, {page.wrong}"
     return None
 
 
@@ -215,10 +228,11 @@ def maps(room: Room) -> Optional[str]:
 
 
 def words_of_places(room: Room) -> Optional[str]:
-    """Cycle 1 is frame 3, behind Register, Discover and Init, and row 4 behind the header."""
+    """Register, Discover and Init are before cycle 1, and of rows the header too."""
+    frame = 3
     page = Page(copies_page(changed_wheels(room), None))
     sample = "4 samples, sample 0 of event 0 with"
-    words = "The first difference is in cycle 1 (row 4, frame 3): the samples. "
+    words = f"The first difference is in cycle 1 (row {frame + 1}, frame {frame}): the samples. "
     words += f"Copy 0 has: {sample} 250. Copy 1 has: {sample} -250."
     return None if page.paragraphs[0] == words else page.paragraphs[0]
 
@@ -301,6 +315,7 @@ PAGES: list[tuple[str, Callable[[Room], Optional[str]]]] = [
     ("the charts have the values of the elements", element_values),
     ("elements of another job are words or hex digits", other_jobs),
     ("a page of each shorter length tells the fault and the cycles before it", broken_records),
+    ("a page of copies, one of them shorter, tells the fault", broken_copies),
     ("copies with any byte changed have the verdict of `compare`", verdicts),
     ("eight copies have the verdict of `compare`", eight_copies),
     ("the map has each cycle and element that differs", maps),

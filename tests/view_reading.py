@@ -12,7 +12,7 @@ from view_room import Room
 from det_record import BadRecord, Init, Item, RecordReader, Run, Summary, header_lines
 from record_values import Elements, Finished, Header
 
-# What a byte is changed to, beside its lowest bit turned.
+# What a byte is changed to, beside its neighbours.
 OTHER_BYTES = (0, 4, 128, 255)
 
 
@@ -86,7 +86,7 @@ def is_shown(room: Room, data: bytes) -> bool:
 def changes(data: bytes) -> Iterator[bytes]:
     """A record with each of its bytes changed to some others."""
     for at, byte in enumerate(data):
-        for other in {byte ^ 1, *OTHER_BYTES} - {byte}:
+        for other in {(byte + 1) % 256, (byte - 1) % 256, *OTHER_BYTES} - {byte}:
             yield data[:at] + bytes([other]) + data[at + 1 :]
 
 

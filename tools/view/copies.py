@@ -5,6 +5,7 @@ from __future__ import annotations
 from collections import Counter
 from contextlib import ExitStack
 from dataclasses import dataclass, field
+from itertools import chain
 from typing import Iterator, Optional, Sequence
 
 from det_record import BadRecord, Finished, Header, Init, Item, RecordReader, Run
@@ -52,6 +53,11 @@ class Parted:
         self.rows = halved
 
 
+def join_columns(column: list[Parted], later: list[Parted]) -> None:
+    for parted, added in zip(column, later):
+        parted.join(added)
+
+
 @dataclass
 class Map:
     """Where the copies behind copy 0 differ from it, by columns of cycles and rows of elements."""
@@ -68,10 +74,12 @@ class Map:
         """Makes rows for so many elements."""
         self.elements = max(self.elements, elements)
         while self.elements > self.row_span * MOST_ROWS:
-            self.row_span *= 2
-            for column in self.columns:
-                for parted in column:
-                    parted.halve_rows()
+            self._halve_rows()
+
+    def _halve_rows(self) -> None:
+        self.row_span *= 2
+        for parted in chain.from_iterable(self.columns):
+            parted.halve_rows()
 
     def next_cycle(self) -> list[Parted]:
         """The column of the next cycle."""
@@ -85,8 +93,7 @@ class Map:
     def _halve(self) -> None:
         self.span *= 2
         for column, later in zip(self.columns[::2], self.columns[1::2]):
-            for parted, added in zip(column, later):
-                parted.join(added)
+            join_columns(column, later)
         self.columns = self.columns[::2]
 
     def total(self, copy: int) -> Parted:
@@ -205,14 +212,11 @@ class Comparison:
 
     def _judge(self, rows: Sequence[Row]) -> None:
         """A fault is told before a difference, and the least copy."""
-        for number, row in enumerate(rows):
-            if isinstance(row, BadRecord):
-                self.compared.bad = number, row
-                return
-        for number, first in enumerate(self.compared.firsts):
-            if first is not None:
-                self.compared.parted = number, first
-                return
+        faults = ((k, row) for k, row in enumerate(rows) if isinstance(row, BadRecord))
+        found = ((k, first) for k, first in enumerate(self.compared.firsts) if first is not None)
+        self.compared.bad = next(faults, None)
+        if self.compared.bad is None:
+            self.compared.parted = next(found, None)
 
     def _see(self, rows: Sequence[Row]) -> None:
         counts = [elements_in(row) for row in rows]

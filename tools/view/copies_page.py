@@ -3,6 +3,7 @@
 from __future__ import annotations
 
 from html import escape
+from itertools import chain
 from typing import Optional, Sequence
 
 from .copies import FIELDS, Compared, Copy, Parted, compare
@@ -10,7 +11,7 @@ from .difference import Difference
 from .gather import Gathered, check_chosen, gather
 from .map import PALETTE, CopyMap
 from .page import document, facts_table
-from .values import Chart, Drawing, Series
+from .values import Chart, Drawing, Series, drawn_fields
 
 # The levels of a cell, in the order of the palette.
 LEVEL_NAMES = (
@@ -123,11 +124,9 @@ def charts_of_copies(gathered: Sequence[Gathered]) -> list[Chart]:
     """A chart for each field of each element, with a line for each copy."""
     charts: dict[str, list[Series]] = {}
     for number, copy in enumerate(gathered):
-        for source in copy.elements:
-            for series, field in enumerate(source.layout.fields, source.first_series):
-                if field.is_drawn:
-                    lines = charts.setdefault(f"{source.name}: {field.name}", [])
-                    lines.append(Series(f"copy {number}", copy, series))
+        for source, field, series in chain.from_iterable(map(drawn_fields, copy.elements)):
+            lines = charts.setdefault(f"{source.name}: {field}", [])
+            lines.append(Series(f"copy {number}", copy, series))
     return [Chart(name, "each copy", series) for name, series in charts.items()]
 
 

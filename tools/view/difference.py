@@ -9,7 +9,6 @@ from det_record import (
     BadRecord,
     Elements,
     Finished,
-    Frame,
     Header,
     Init,
     Item,

@@ -6,7 +6,7 @@ from collections import Counter
 from dataclasses import dataclass, field
 from typing import Optional, Sequence
 
-from det_record import Elements, Finished, Header, Init, Run, Summary
+from det_record import Elements, Finished, Init, Run, Summary
 
 from .columns import Column, Columns, Range, RefusalKind, range_of
 from .decode import Layout, element_layout, output_layout
@@ -149,14 +149,18 @@ class Gatherer:
                 source.contents.append(content)
 
     def _see_first(self, place: Place) -> None:
-        """Takes the layouts of the first finished cycle, and numbers the series."""
-        header, series = self.kept.summary.header, 0
+        """Takes the layouts of the first finished cycle."""
+        header = self.kept.summary.header
         self.kept.first = place
         for source in self.kept.sources:
             content = source.content(place.elements, None)
             if content is not None:
                 source.layout = element_layout(header, content)
         self.kept.sources.append(Source(OUTPUT, output_layout(header, place.output)))
+        self._number_series()
+
+    def _number_series(self) -> None:
+        series = 0
         for source in self.kept.sources:
             source.first_series = series
             series += len(source.layout.fields)
@@ -189,8 +193,8 @@ def gather(name: str, chosen: Optional[Sequence[int]], span: int = 1) -> Gathere
 
 
 def check_chosen(gathered: Sequence[Gathered], chosen: Sequence[int]) -> None:
-    """Refuses an element that none of some records has."""
-    most = max(record.summary.elements for record in gathered)
+    """Refuses an element that no record has whose Init is known."""
+    counts = [record.summary.elements for record in gathered if record.init is not None]
     for element in chosen:
-        if element >= most:
-            raise NoSuchElement(f"no element {element}: there are {most}")
+        if counts and element >= max(counts):
+            raise NoSuchElement(f"no element {element}: there are {max(counts)}")

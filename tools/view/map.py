@@ -61,11 +61,14 @@ class CopyMap:
         self.places.axis(self.svg, self.y)
         self._mark_end()
         self._mark_first()
+        self._hover()
+        self.svg.height = self.y + 24
+        return self.svg.html()
+
+    def _hover(self) -> None:
         for number, parted in enumerate(self.columns):
             box = (self.places.left(number), float(TOP), self.places.width(), self.y - TOP)
             self.svg.hover(box, self._title(number, parted))
-        self.svg.height = self.y + 24
-        return self.svg.html()
 
     def _lane(self, name: str) -> None:
         bottom = self.y + LANE - 3

@@ -86,22 +86,26 @@ class Strip:
         return "\n".join(part for part in parts if part)
 
     def _outcomes(self) -> None:
+        """A lane for the finished cycles, and one for each of the most common refusals."""
+        finished = [column.cycles - column.refused for column in self.columns]
+        self._lane(f"finished ({sum(finished):,})", finished, "finished")
+        kinds = self._kinds()
+        common = [kind for kind, _ in kinds.most_common(MOST_LANES)]
+        for kind in sorted(common, key=lambda kind: (kind[0].value, kind[1])):
+            counts = [column.refusals[kind] for column in self.columns]
+            self._lane(f"{kind_text(kind)} ({kinds[kind]:,})", counts, kind[0].word)
+        shown = [sum(column.refusals[kind] for kind in common) for column in self.columns]
+        others = [column.refused - count for column, count in zip(self.columns, shown)]
+        if any(others):
+            self._lane(f"other refusals ({sum(others):,})", others, "other")
+        self.y += GAP / 2
+
+    def _kinds(self) -> Counter[RefusalKind]:
+        """How many cycles were refused in each way."""
         kinds: Counter[RefusalKind] = Counter()
         for column in self.columns:
             kinds.update(column.refusals)
-        finished = [column.cycles - column.refused for column in self.columns]
-        self._lane(f"finished ({sum(finished):,})", finished, "finished")
-        common = [kind for kind, _ in kinds.most_common(MOST_LANES)]
-        shown = sorted(common, key=lambda kind: (kind[0].value, kind[1]))
-        for kind in shown:
-            counts = [column.refusals[kind] for column in self.columns]
-            self._lane(f"{kind_text(kind)} ({kinds[kind]:,})", counts, kind[0].word)
-        if len(kinds) > len(shown):
-            counts = [sum(column.refusals.values()) for column in self.columns]
-            for kind in shown:
-                counts = [n - column.refusals[kind] for n, column in zip(counts, self.columns)]
-            self._lane(f"other refusals ({sum(counts):,})", counts, "other")
-        self.y += GAP / 2
+        return kinds
 
     def _lane(self, label: str, counts: list[int], style: str) -> None:
         """Marks where cycles ended so, as high as their part of the column, but never too low."""

@@ -5,7 +5,7 @@ from __future__ import annotations
 import math
 from dataclasses import dataclass, field
 from html import escape
-from typing import Iterable, Optional, Sequence
+from typing import Iterable, Sequence
 
 # Left, top, width and height.
 Box = tuple[float, float, float, float]
@@ -146,19 +146,33 @@ class Places:
         return [1, *(int(tick) for tick in ticks if tick > self.cycles / 20)]
 
 
+def touches(one: Box, other: Box) -> bool:
+    """Whether the other box begins where the one ends."""
+    return abs(one[0] + one[2] - other[0]) < 0.05
+
+
+def runs_of(boxes: Iterable[Box]) -> list[list[Box]]:
+    """Boxes in runs of those that touch."""
+    runs: list[list[Box]] = []
+    for box in boxes:
+        if runs and touches(runs[-1][-1], box):
+            runs[-1].append(box)
+        else:
+            runs.append([box])
+    return runs
+
+
+def outline(run: Sequence[Box]) -> str:
+    """A path around boxes that touch: along their tops and back along their bottoms."""
+    x, top = run[0][:2]
+    tops = [f"V{at(top)}H{at(left + width)}" for left, top, width, _ in run]
+    bottoms = [f"V{at(top + height)}H{at(left)}" for left, top, _, height in reversed(run)]
+    return f"M{at(x)} {at(top)}{''.join(tops)}{''.join(bottoms)}z"
+
+
 def bars(boxes: Iterable[Box]) -> str:
-    """A path of boxes. Those that touch and are as high are one."""
-    parts: list[str] = []
-    kept: Optional[list[float]] = None
-    for x, y, width, height in (*boxes, (math.inf, 0.0, 0.0, 0.0)):
-        if kept and (kept[1], kept[3]) == (y, height) and abs(kept[0] + kept[2] - x) < 0.05:
-            kept[2] += width
-            continue
-        if kept:
-            left, top, wide, high = map(at, kept)
-            parts.append(f"M{left} {top}h{wide}v{high}h-{wide}z")
-        kept = [x, y, width, height]
-    return "".join(parts)
+    """A path of boxes. Those that touch are one shape, without seams."""
+    return "".join(map(outline, runs_of(boxes)))
 
 
 def polyline(points: Sequence[tuple[float, float]]) -> str:

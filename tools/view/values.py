@@ -4,14 +4,16 @@ from __future__ import annotations
 
 from dataclasses import dataclass
 from html import escape
-from typing import Iterable, Optional
+from itertools import chain, product
+from typing import Iterable, Iterator, Optional
 
 from .columns import Column, Range
 from .gather import Gathered, Source
 from .strip import cycles_text
 from .svg import LEFT, PLOT, Places, Svg, at, polyline, scale_of, short
 
-HEIGHT = 150
+TOP = 14.0
+HEIGHT = 150.0
 MOST_DOTS = 64
 
 
@@ -36,13 +38,18 @@ class Chart:
     series: list[Series]
 
 
+def drawn_fields(source: Source) -> Iterator[tuple[Source, str, int]]:
+    """The fields of a source that are drawn: their names, and the numbers of their series."""
+    for number, field in enumerate(source.layout.fields, source.first_series):
+        if field.is_drawn:
+            yield source, field.name, number
+
+
 def charts_of(gathered: Gathered, sources: list[Source], subject: str) -> list[Chart]:
     """A chart for each field, with a line for each source that has it."""
     charts: dict[str, list[Series]] = {}
-    for source in sources:
-        for number, field in enumerate(source.layout.fields, source.first_series):
-            if field.is_drawn:
-                charts.setdefault(field.name, []).append(Series(source.name, gathered, number))
+    for source, field, number in chain.from_iterable(map(drawn_fields, sources)):
+        charts.setdefault(field, []).append(Series(source.name, gathered, number))
     return [Chart(name, subject, series) for name, series in charts.items()]
 
 
@@ -62,20 +69,25 @@ class Drawing:
         if not known:
             return ""
         ends = [value for found in known for value in (found.least, found.greatest)]
-        self.scale = scale_of(ends, HEIGHT, 14)
+        self.scale = scale_of(ends, HEIGHT, TOP)
+        self._grid()
+        # The lines stand before all bands.
+        for draw, number in product((self._band, self._line), range(len(self.ranges))):
+            draw(number)
+        self.places.axis(self.svg, HEIGHT)
+        self._hover()
+        return self._with_legend(self.svg.html())
+
+    def _grid(self) -> None:
         for value in self.scale.ticks(5, least_step=1):
             y = self.scale(value)
             self.svg.line((LEFT, y), (LEFT + PLOT, y), "grid")
             self.svg.side_text(y + 4, short(value))
-        for number in range(len(self.ranges)):
-            self._band(number)
-        for number in range(len(self.ranges)):
-            self._line(number)
-        self.places.axis(self.svg, HEIGHT)
+
+    def _hover(self) -> None:
         for number, column in enumerate(self.columns):
-            box = (self.places.left(number), 14.0, self.places.width(), HEIGHT - 14.0)
+            box = (self.places.left(number), TOP, self.places.width(), HEIGHT - TOP)
             self.svg.hover(box, self._title(number, column))
-        return self._with_legend(self.svg.html())
 
     def _runs(self, number: int) -> list[list[tuple[float, Range]]]:
         """The columns of a line that have values, in runs without a gap."""
@@ -102,10 +114,10 @@ class Drawing:
         """Through the means of the columns. What stands alone is a dot."""
         runs = [[(x, self.scale(found.mean)) for x, found in run] for run in self._runs(number)]
         self.svg.path("".join(polyline(run) for run in runs), f"series s{number}")
-        for run in runs:
-            if len(self.columns) <= MOST_DOTS or len(run) == 1:
-                for x, y in run:
-                    self.svg.add(f'<circle cx="{at(x)}" cy="{at(y)}" r="3" class="dot s{number}"/>')
+        has_dots = len(self.columns) <= MOST_DOTS
+        dotted = (run for run in runs if has_dots or len(run) == 1)
+        for x, y in chain.from_iterable(dotted):
+            self.svg.add(f'<circle cx="{at(x)}" cy="{at(y)}" r="3" class="dot s{number}"/>')
 
     def _title(self, number: int, column: Column) -> str:
         lines = [cycles_text(column)]
