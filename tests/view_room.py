@@ -1,0 +1,50 @@
+"""What the tests of the viewer share: a folder for files, the program, and the tools."""
+
+from __future__ import annotations
+
+import subprocess
+import sys
+from pathlib import Path
+
+from record_bytes import FORMATS, mixed_record
+
+TOP = Path(__file__).resolve().parent.parent
+
+
+class Room:
+    """A folder for files, and the program."""
+
+    def __init__(self, det: str, folder: Path) -> None:
+        self.program = det
+        self.folder = folder
+
+    def det(self, *words: str) -> tuple[bytes, str]:
+        """What the program writes, and its line for the user."""
+        done = subprocess.run([self.program, *words], capture_output=True)
+        return done.stdout, done.stderr.decode()
+
+    def tool(self, name: str, *words: str) -> tuple[int, str, str]:
+        """The status of a tool, and what it writes."""
+        words = (sys.executable, str(TOP / "tools" / name), *words)
+        done = subprocess.run(words, capture_output=True)
+        return done.returncode, done.stdout.decode(), done.stderr.decode()
+
+    def file(self, name: str, data: bytes) -> str:
+        path = self.folder / name
+        path.write_bytes(data)
+        return str(path)
+
+    def path(self, name: str) -> str:
+        """A file of the repository."""
+        return str(TOP / name)
+
+    def read(self, name: str) -> bytes:
+        return (TOP / name).read_bytes()
+
+    def example(self, name: str) -> bytes:
+        files = (str(TOP / "examples" / f"{name}.{kind}") for kind in ("toml", "stim"))
+        return self.det("record", *files)[0]
+
+    def small_records(self) -> dict[str, bytes]:
+        records = {f"mixed{number}": mixed_record(number) for number in FORMATS}
+        return {**records, "bank": self.example("bank"), "wheels": self.example("wheels")}

@@ -1,0 +1,399 @@
+#!/usr/bin/env python3
+"""Reads records of `det`, formats 1 and 2, as docs/FORMATS.md describes them.
+
+    python3 tools/det_record.py RECORD
+
+prints a summary of a record. It ends with 5 where the record has a fault, whose line is that of
+`det show`, and with 6 where the file can't be read. As a module:
+
+    with open(name, "rb") as stream:
+        for item in RecordReader(stream).items():
+            ...
+
+gives the header and then each frame as soon as it is read whole, and raises `BadRecord` at a fault.
+Elements stay bytes until they are asked for. One frame is held at a time. Python's standard
+library is all that it needs.
+"""
+
+from __future__ import annotations
+
+import argparse
+import struct
+import sys
+from dataclasses import dataclass
+from typing import BinaryIO, Iterator, NoReturn, Optional, Sequence
+
+from record_values import (
+    BadRecord,
+    Discover,
+    Elements,
+    Event,
+    Finished,
+    Frame,
+    Header,
+    Init,
+    Item,
+    Phase,
+    Reason,
+    Refused,
+    Register,
+    Run,
+    Sample,
+    Terminate,
+)
+
+__all__ = [
+    "BadRecord",
+    "Discover",
+    "Elements",
+    "Event",
+    "Finished",
+    "Frame",
+    "Header",
+    "Init",
+    "Item",
+    "Phase",
+    "Reason",
+    "RecordReader",
+    "Refused",
+    "Register",
+    "Run",
+    "Sample",
+    "Summary",
+    "Terminate",
+]
+
+MOST_RUNS = 1_000_000
+MOST_ELEMENTS = 65_536
+MOST_ELEMENT_BYTES = 64
+MOST_SAMPLES = 4_096
+MOST_OUTPUT = 1_048_576
+MOST_VALUE = 10**12
+PIECE = 1 << 18
+NAME_BYTES = frozenset(b"abcdefghijklmnopqrstuvwxyz0123456789_")
+SAMPLE = struct.Struct(">Hq")
+# What reads an unsigned number of so many bytes.
+UNSIGNED = {size: struct.Struct(f">{code}").unpack_from for size, code in zip((1, 2, 4, 8), "BHIQ")}
+# The ranges of a sample's value, read without its sign.
+VALUE_RANGES = ((0, MOST_VALUE), (2**64 - MOST_VALUE, 2**64 - 1))
+REGISTER, DISCOVER, INIT, RUN, TERMINATE = range(1, 6)
+
+
+class Cursor:
+    """The bytes of a stream, read in pieces, and numbers that are judged byte by byte."""
+
+    def __init__(self, stream: BinaryIO) -> None:
+        self.stream = stream
+        self.data = b""
+        self.at = 0
+        self.dropped = 0
+
+    @property
+    def offset(self) -> int:
+        return self.dropped + self.at
+
+    def has(self, length: int) -> bool:
+        """Whether so many bytes are ahead. Where not, all that are left are in `data`."""
+        return len(self.data) - self.at >= length or self._fill(length)
+
+    def _fill(self, length: int) -> bool:
+        pieces = [self.data[self.at :]]
+        ahead = len(pieces[0])
+        self.dropped += self.at
+        self.at = 0
+        while ahead < length:
+            piece = self.stream.read(max(PIECE, length - ahead))
+            if not piece:
+                break
+            pieces.append(piece)
+            ahead += len(piece)
+        self.data = b"".join(pieces)
+        return ahead >= length
+
+    def stop(self, behind: int, reason: Reason) -> NoReturn:
+        """Refuses the byte so many bytes ahead."""
+        raise BadRecord(self.offset + behind, reason)
+
+    def truncated(self) -> NoReturn:
+        self.stop(len(self.data) - self.at, Reason.TRUNCATED)
+
+    def take(self, length: int) -> bytes:
+        """So many bytes, whatever they are."""
+        if not self.has(length):
+            self.truncated()
+        self.at += length
+        return self.data[self.at - length : self.at]
+
+    def number(self, width: int, least: int, most: int) -> int:
+        """An unsigned number of so many bytes within a range."""
+        if len(self.data) - self.at >= width or self.has(width):
+            value = UNSIGNED[width](self.data, self.at)[0]
+            if least <= value <= most:
+                self.at += width
+                return value
+        self.refuse(width, ((least, most),))
+
+    def flag(self) -> bool:
+        """A byte that is 0 or 1."""
+        return self.number(1, 0, 1) == 1
+
+    def refuse(self, width: int, ranges: Sequence[tuple[int, int]]) -> NoReturn:
+        """Refuses a number at the first of its bytes with which no value in the ranges is left."""
+        ahead = self.data[self.at : self.at + width]
+        for read in range(1, len(ahead) + 1):
+            left = 8 * (width - read)
+            low = int.from_bytes(ahead[:read], "big") << left
+            high = low | ((1 << left) - 1)
+            if not any(least <= high and low <= most for least, most in ranges):
+                self.stop(read - 1, Reason.RANGE)
+        self.truncated()
+
+    def signed(self) -> int:
+        return int.from_bytes(self.take(8), "big", signed=True)
+
+    def sample_value(self) -> int:
+        if self.has(8):
+            value = int.from_bytes(self.data[self.at : self.at + 8], "big", signed=True)
+            if abs(value) <= MOST_VALUE:
+                self.at += 8
+                return value
+        self.refuse(8, VALUE_RANGES)
+
+    def exactly(self, expected: bytes, reason: Reason) -> None:
+        for byte in expected:
+            self.one_of((byte,), reason)
+
+    def one_of(self, allowed: Sequence[int], reason: Reason) -> int:
+        """A byte that is one of those allowed."""
+        if not self.has(1):
+            self.truncated()
+        byte = self.data[self.at]
+        if byte not in allowed:
+            self.stop(0, reason)
+        self.at += 1
+        return byte
+
+
+def read_event(cursor: Cursor, record_format: int) -> Event:
+    capacity = cursor.number(2, 1, 1_024)
+    length = cursor.number(1, 1, 32)
+    name = bytes(cursor.one_of(NAME_BYTES, Reason.RANGE) for _ in range(length))
+    is_fresh = record_format == 2 and cursor.flag()
+    return Event(capacity, name.decode("ascii"), is_fresh)
+
+
+def read_header(cursor: Cursor) -> Header:
+    cursor.exactly(b"DETREC", Reason.MAGIC)
+    cursor.exactly(b"\0", Reason.VERSION)
+    record_format = cursor.one_of((1, 2), Reason.VERSION)
+    job = cursor.number(2, 0, 2**16 - 1)
+    seed = cursor.number(8, 0, 2**64 - 1)
+    cycle_time = cursor.number(8, 1, 2**63 - 1)
+    params = tuple(cursor.signed() for _ in range(cursor.number(2, 0, 16)))
+    events = [read_event(cursor, record_format) for _ in range(cursor.number(2, 0, 256))]
+    return Header(record_format, job, seed, cycle_time, params, tuple(events))
+
+
+def even_stride(cursor: Cursor, count: int, tail: int) -> Optional[int]:
+    """The bytes that each of so many elements takes, where all are there and take as many."""
+    if count == 0 or not cursor.has(2):
+        return None
+    stride = int.from_bytes(cursor.data[cursor.at : cursor.at + 2], "big") + 2 + tail
+    if stride > 2 + MOST_ELEMENT_BYTES + tail or not cursor.has(count * stride):
+        return None
+    start, end = cursor.at, cursor.at + count * stride
+    high, low = cursor.data[start:end:stride], cursor.data[start + 1 : end : stride]
+    is_even = high.count(high[:1]) == count and low.count(low[:1]) == count
+    return stride if is_even else None
+
+
+def read_elements(cursor: Cursor, has_draws: bool) -> Elements:
+    """Elements of one length are judged all at once, and others one by one."""
+    count = cursor.number(4, 0, MOST_ELEMENTS)
+    tail = 4 if has_draws else 0
+    stride = even_stride(cursor, count, tail)
+    if stride is not None:
+        return Elements(cursor.take(count * stride), count, has_draws, stride)
+    pieces = []
+    for _ in range(count):
+        length = cursor.number(2, 0, MOST_ELEMENT_BYTES)
+        pieces += (length.to_bytes(2, "big"), cursor.take(length + tail))
+    return Elements(b"".join(pieces), count, has_draws, None)
+
+
+def read_samples(cursor: Cursor, events: int) -> tuple[Sample, ...]:
+    count = cursor.number(4, 0, MOST_SAMPLES if events else 0)
+    if count == 0:
+        return ()
+    size = count * SAMPLE.size
+    if cursor.has(size):
+        raw = cursor.data[cursor.at : cursor.at + size]
+        samples = tuple(map(Sample._make, SAMPLE.iter_unpack(raw)))
+        if all(event < events and abs(value) <= MOST_VALUE for event, value in samples):
+            cursor.at += size
+            return samples
+    numbers = range(count)
+    return tuple(Sample(cursor.number(2, 0, events - 1), cursor.sample_value()) for _ in numbers)
+
+
+def read_refused(cursor: Cursor) -> Refused:
+    phase = Phase(cursor.number(1, 0, 2))
+    is_pool = phase is Phase.POOL
+    pass_number = cursor.number(1, 0, 7 if is_pool else 0)
+    element = cursor.number(4, 0, 65_535 if is_pool else 0)
+    return Refused(phase, pass_number, element, cursor.number(4, 0, 2**32 - 1))
+
+
+def read_run(cursor: Cursor, header: Header) -> Run:
+    """A Run frame behind its tag."""
+    time = cursor.number(8, 0, 2**64 - 1) if cursor.flag() else None
+    samples = read_samples(cursor, len(header.events))
+    if cursor.flag():
+        return Run(time, samples, read_refused(cursor))
+    elements = read_elements(cursor, header.format == 2)
+    output = cursor.take(cursor.number(4, 0, MOST_OUTPUT))
+    return Run(time, samples, Finished(elements, output))
+
+
+class RecordReader:
+    """Reads a record from a stream, from its beginning to its end."""
+
+    def __init__(self, stream: BinaryIO) -> None:
+        self.cursor = Cursor(stream)
+
+    @property
+    def offset(self) -> int:
+        """How many bytes were read so far."""
+        return self.cursor.offset
+
+    def items(self) -> Iterator[Item]:
+        """The header, then the frames. Raises `BadRecord` behind them where there is a fault."""
+        header = read_header(self.cursor)
+        yield header
+        self._tag((REGISTER,))
+        yield Register()
+        self._tag((DISCOVER,))
+        yield Discover()
+        self._tag((INIT,))
+        yield Init(read_elements(self.cursor, has_draws=False))
+        runs = 0
+        while self._tag((RUN, TERMINATE), runs) == RUN:
+            runs += 1
+            yield read_run(self.cursor, header)
+        yield Terminate()
+        if self.cursor.has(1):
+            self.cursor.stop(0, Reason.TRAILING)
+
+    def _tag(self, allowed: Sequence[int], runs: int = 0) -> int:
+        if not self.cursor.has(1):
+            self.cursor.truncated()
+        tag = self.cursor.data[self.cursor.at]
+        if tag == RUN and runs == MOST_RUNS:
+            self.cursor.stop(0, Reason.TOO_MANY)
+        if tag not in allowed:
+            known = REGISTER <= tag <= TERMINATE
+            self.cursor.stop(0, Reason.ORDER if known else Reason.RANGE)
+        self.cursor.at += 1
+        return tag
+
+
+@dataclass
+class Summary:
+    """What is told of a record that is read item by item."""
+
+    header: Optional[Header] = None
+    elements: int = 0
+    cycles: int = 0
+    refused: int = 0
+    draws: int = 0
+    # The greatest step of time between a cycle and the next that doesn't fall.
+    gap: Optional[int] = None
+    last_time: Optional[int] = None
+    # The first refusal, and its cycle.
+    first_refusal: Optional[tuple[int, Refused]] = None
+    fault: Optional[BadRecord] = None
+    size: int = 0
+
+    def see(self, item: Item) -> None:
+        if isinstance(item, Run):
+            self._see_run(item)
+        elif isinstance(item, Header):
+            self.header = item
+        elif isinstance(item, Init):
+            self.elements = len(item.elements)
+
+    def _see_run(self, run: Run) -> None:
+        self.cycles += 1
+        if run.time is not None and self.last_time is not None and run.time >= self.last_time:
+            self.gap = max(self.gap or 0, run.time - self.last_time)
+        self.last_time = run.time
+        if isinstance(run.outcome, Finished):
+            self.draws += run.outcome.elements.all_draws()
+            return
+        self.refused += 1
+        if self.first_refusal is None:
+            self.first_refusal = self.cycles, run.outcome
+
+    def read(self, stream: BinaryIO) -> Iterator[Item]:
+        """Gives the items of a record, each once it was seen. A fault is kept and ends them."""
+        reader = RecordReader(stream)
+        try:
+            for item in reader.items():
+                self.see(item)
+                self.size = reader.offset
+                yield item
+        except BadRecord as fault:
+            self.fault = fault
+
+    def lines(self) -> Iterator[str]:
+        """The facts as text, a line each. Those of the header are there where it was whole."""
+        if self.header is not None:
+            yield from header_lines(self.header)
+        yield f"elements {self.elements}"
+        yield f"cycles {self.cycles}"
+        yield f"refused {self.refused}"
+        if self.first_refusal is not None:
+            cycle, at = self.first_refusal
+            yield f"refusal {cycle} {at.phase.word} {at.pass_number} {at.element} {at.code}"
+        yield f"gap {'none' if self.gap is None else self.gap}"
+        if self.header is not None and self.header.format == 2:
+            yield f"draws {self.draws}"
+        yield f"bytes {self.size}"
+
+
+def header_lines(header: Header) -> Iterator[str]:
+    yield f"format {header.format}"
+    yield f"job {header.job}"
+    yield f"seed {header.seed}"
+    yield f"cycle_time {header.cycle_time}"
+    yield f"params {' '.join(map(str, header.params)) or '-'}"
+    for number, event in enumerate(header.events):
+        yield f"event {number} {event.name} {event.capacity} {event.policy}"
+
+
+def summarize(name: str) -> int:
+    summary = Summary()
+    with open(name, "rb") as stream:
+        for _ in summary.read(stream):
+            pass
+    print("\n".join(summary.lines()))
+    if summary.fault is None:
+        return 0
+    print(f"bad record: copy 0 {summary.fault}", file=sys.stderr)
+    return 5
+
+
+def main() -> int:
+    parser = argparse.ArgumentParser(
+        description=__doc__, formatter_class=argparse.RawDescriptionHelpFormatter
+    )
+    parser.add_argument("record", metavar="RECORD")
+    try:
+        return summarize(parser.parse_args().record)
+    except OSError as error:
+        print(f"read fault: {error}", file=sys.stderr)
+        return 6
+
+
+if __name__ == "__main__":
+    sys.exit(main())

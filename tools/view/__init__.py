@@ -1,0 +1,1 @@
+"""Pages that show records of `det`."""
