@@ -26,7 +26,8 @@ from typing import Optional
 
 sys.dont_write_bytecode = True
 
-from suite import agreement, documents, limits, paths, scripts, stored  # noqa: E402
+from suite import agreement, building, documents, installed, limits  # noqa: E402
+from suite import paths, scripts, stored  # noqa: E402
 from suite.test import NAMES, TOP, Programs, Skipped, Test, copied  # noqa: E402
 
 OK, SKIPPED, WRONG = "ok", "skipped", "WRONG"
@@ -68,6 +69,8 @@ def tests_of(programs: Programs) -> list[Test]:
         *scripts.tests(programs),
         *documents.tests(programs),
         *limits.tests(programs),
+        *building.tests(programs),
+        *installed.tests(programs),
         *stored.tests(programs),
         *agreement.tests(programs),
         *paths.tests(programs),

@@ -69,8 +69,9 @@ def wrong_line(line: Line, room: Path, programs: Programs) -> Optional[str]:
 
 
 def readme(programs: Programs) -> Optional[str]:
-    """Runs the commands of the README in a folder like the top one, over the programs under test."""
-    lines = [line for line in shown_lines(README) if not line.command.startswith(BUILDING + TESTING)]
+    """Runs the commands of the README in a folder like the top one, with the programs in bin/."""
+    left_out = BUILDING + TESTING
+    lines = [line for line in shown_lines(README) if not line.command.startswith(left_out)]
     if not lines:
         return "it shows no command that can be run"
     with tempfile.TemporaryDirectory(prefix="det-readme-") as name:
