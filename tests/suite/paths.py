@@ -14,7 +14,7 @@ RELATIVE = re.compile(r"(?<![\w./$~<>{}+-])(?:\.ci|[A-Za-z][\w.*-]*)(?:/[\w.*-]+
 ABSOLUTE = re.compile(r"(?<![\w./$~<>{}\])*\"'-])/[a-z]\w*(?:/[\w.*-]+)*")
 LINK = re.compile(r"\]\(([^)#:\s]+)(?:#[^)]*)?\)")
 # A part of a path that stands for any name, as NAME.
-PLACEHOLDER = re.compile(r"(?:^|/)(?:[A-Z]{2,}|[A-Z]+[a-z]*Probe)(?:[./]|$)|\.\.")
+PLACEHOLDER = re.compile(r"(?:^|/)[A-Z]{2,}(?:/|$|\.(?!md))|STRUCT|\.\.")
 # Folders that are made, and that git leaves alone.
 MADE = ("out",)
 
