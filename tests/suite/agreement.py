@@ -57,13 +57,14 @@ def apart(one: str, ones: set, other: str, others: set) -> Optional[str]:
 
 
 def crates() -> Optional[str]:
-    """crates.txt, the folders, DESIGN, README and CONTRIBUTING name the same crates."""
+    """crates.txt, the folders, DESIGN, PROVED and CONTRIBUTING name the same crates."""
     listed = listed_crates()
     folders = {path.name for path in (TOP / "crates").iterdir() if (path / "src").is_dir()}
     design = words_in(first_cells("docs/DESIGN.md", "## Crates"))
-    proved = words_in(first_cells("README.md", "## What is proved"))
-    named = set(re.findall(r"`(\w+)`", text("README.md")))
+    proved = words_in(first_cells("docs/PROVED.md", "## Proved, crate by crate"))
+    named = set(re.findall(r"`(\w+)`", text("docs/PROVED.md")))
     lives = words_in(first_cells("CONTRIBUTING.md", "## Where things live"))
+    nameless = sorted(set(listed) - named)
     strangers = sorted(set(proved) - set(listed))
     homeless = [name for name in listed if not any(fnmatch.fnmatch(name, it) for it in lives)]
     twice = [name for name in design + listed if (design + listed).count(name) > 2]
@@ -71,8 +72,8 @@ def crates() -> Optional[str]:
         apart("crates.txt", set(listed), "crates/", folders),
         apart("crates.txt", set(listed), "docs/DESIGN.md", set(design)),
         f"named twice: {sorted(set(twice))}" if twice else None,
-        f"README.md doesn't name {sorted(set(listed) - named)}" if set(listed) - named else None,
-        f"README.md has rows of no crate: {strangers}" if strangers else None,
+        f"docs/PROVED.md doesn't name {nameless}" if nameless else None,
+        f"docs/PROVED.md has rows of no crate: {strangers}" if strangers else None,
         f"CONTRIBUTING.md doesn't say where these live: {homeless}" if homeless else None,
     ]
     return "; ".join(line for line in told if line) or None
@@ -137,7 +138,6 @@ def commands(programs: Programs) -> Optional[str]:
     usage = usage_options(printed(programs, "det", "--help"))
     lists = {
         "docs/FORMATS.md": table_options("docs/FORMATS.md", "## Command words", 3),
-        "README.md": table_options("README.md", "## What runs today", 1),
         "docs/det.1": manual_options(),
         "the pages": page_options(programs, list(usage)),
     }
