@@ -25,7 +25,7 @@ import signal
 import subprocess
 import sys
 import time
-from contextlib import contextmanager
+from contextlib import contextmanager, suppress
 from pathlib import Path
 from typing import Iterator, Optional
 
@@ -119,11 +119,16 @@ def part_of(log: str, crate: str) -> str:
     return found[1] if found else log
 
 
-def stop_on_failure(progress: Progress, log: Path, text: str) -> None:
+def stop_on_failure(progress: Progress, log: Path) -> None:
     """Raises where a crate below the program wasn't built."""
     for name in progress.failed():
-        told = f"the crate {name} isn't proved or built; its last lines in {log} are:"
-        raise NotBuilt(f"{told}\n{last_lines(part_of(text, name))}")
+        # Its lines may still be written.
+        time.sleep(PAUSE)
+        part = part_of(log.read_text(errors="replace"), name)
+        is_proved = re.search(r"^logic=proved .*\n\Z", part, re.M)
+        cause = "changed while it was built" if is_proved else "isn't proved or built"
+        told = f"the crate {name} {cause}; its last lines in {log} are:"
+        raise NotBuilt(f"{told}\n{last_lines(part)}")
 
 
 def build_crates(progress: Progress, log: Path) -> None:
@@ -135,7 +140,7 @@ def build_crates(progress: Progress, log: Path) -> None:
             is_running = command.poll() is None
             text = log.read_text(errors="replace")
             progress.read(text)
-            stop_on_failure(progress, log, text)
+            stop_on_failure(progress, log)
             progress.tell()
             time.sleep(PAUSE if is_running else 0)
     if command.returncode:
@@ -158,16 +163,29 @@ def build(program: str, jobs: Optional[int]) -> None:
     crates = listed_crates()
     needed = needed_by(program, crates)
     begun = time.time()
-    if not is_built(program, needed):
-        uses = {name: crates[name] for name in needed}
-        progress = Progress(program, uses, jobs or jobs_that_fit(), seconds_of(needed))
-        log = LOGS / f"{program}.log"
-        log.write_text("")
-        tell(program, f"building {len(needed)} crates, {progress.jobs} at a time; log: {log}")
-        build_crates(progress, log)
-        link(program, log)
-        tell(program, f"built in {(time.time() - begun) / 60:.1f} minutes")
+    if is_built(program, needed):
+        return
+    uses = {name: crates[name] for name in needed}
+    progress = Progress(program, uses, jobs or jobs_that_fit(), seconds_of(needed))
+    log = LOGS / f"{program}.log"
+    log.write_text("")
+    tell(program, f"building {len(needed)} crates, {progress.jobs} at a time; log: {log}")
+    build_crates(progress, log)
+    link(program, log)
     os.utime(program_file(program), (begun, begun))
+    tell(program, f"built in {(time.time() - begun) / 60:.1f} minutes")
+
+
+def are_built(names: list[str]) -> bool:
+    """Whether all these programs are built. If so they are made as new as this look at them, so
+    that the next call needs none."""
+    crates, looked = listed_crates(), time.time()
+    if not all(is_built(name, needed_by(name, crates)) for name in names):
+        return False
+    with suppress(OSError):
+        for name in names:
+            os.utime(program_file(name), (looked, looked))
+    return True
 
 
 def programs() -> list[str]:
@@ -178,8 +196,7 @@ def programs() -> list[str]:
 
 def build_all(names: list[str], jobs: Optional[int]) -> int:
     """Builds programs one after another. Answers the exit status."""
-    crates = listed_crates()
-    if all(is_built(name, needed_by(name, crates)) for name in names):
+    if are_built(names):
         return 0
     if not shutil.which("rt"):
         tell("build", "no rt on the path; README.md says under 'Two commands' what is needed")
@@ -205,10 +222,14 @@ def main() -> int:
     given = parser.parse_args()
     if given.jobs is not None and given.jobs < 1:
         parser.error("--jobs takes a number from 1 on")
-    signal.signal(signal.SIGTERM, end)
-    signal.signal(signal.SIGHUP, end)
+    for number in (signal.SIGTERM, signal.SIGHUP):
+        if signal.getsignal(number) is signal.SIG_DFL:
+            signal.signal(number, end)
     try:
         return build_all(given.programs, given.jobs)
+    except OSError as error:
+        tell("build", str(error))
+        return NOT_BUILT
     except KeyboardInterrupt:
         tell("build", "stopped")
         return INTERRUPTED
