@@ -16,7 +16,7 @@ AT_LEAST = 10
 LINES_IN_A_SECOND = 20
 # The pace of a build is taken from what it did once it runs so many seconds, within bounds.
 SETTLED = 60
-BOUNDS = (0.2, 20.0)
+BOUNDS = (0.2, 10.0)
 
 
 def measured_seconds() -> dict[str, float]:
@@ -81,17 +81,19 @@ class Progress:
         return self.pace() * max(sum(left.values()) / self.jobs, *chains.values())
 
     def pace(self) -> float:
+        """How much longer it takes than the table says; what is at work counts as half done."""
         elapsed = time.time() - self.begun
-        planned = sum(self.seconds[name] for name in self.worked & self.done) / self.jobs
-        if elapsed < SETTLED or not planned:
+        done = sum(self.seconds[name] for name in self.worked & self.done)
+        half = sum(self.seconds[name] for name in self.worked - self.done) / 2
+        if elapsed < SETTLED or not done + half:
             return 1
-        return min(max(elapsed / planned, BOUNDS[0]), BOUNDS[1])
+        return min(max(elapsed * self.jobs / (done + half), BOUNDS[0]), BOUNDS[1])
 
     def tell(self) -> None:
         """Writes a line to standard error where something changed."""
         names = ", ".join(self.running())
         line = f"{len(self.done)} of {len(self.uses)} crates are done"
-        line += f", {names} at work" if names else ""
+        line += f"; at work: {names}" if names else ""
         if line != self.told:
             self.told = line
             tell(self.program, f"{line}; {spelled(self.seconds_left())}")

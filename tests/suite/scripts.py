@@ -5,45 +5,45 @@ from __future__ import annotations
 import os
 import subprocess
 import sys
-from dataclasses import dataclass
 from functools import partial
+from pathlib import Path
 from typing import Optional
 
 from suite.test import TOP, Programs, Test
 
+# The test programs, the longest first, with the words that they are given beside the programs.
+SCRIPTS = {
+    "refused_memory.py": [],
+    "cpp.py": [],
+    "lanes.py": [],
+    "mutated.py": ["--count", "1000"],
+    "failing_edges.py": [],
+    "one_digest.py": ["--runs", "20"],
+    "view.py": [],
+    "hints.py": [],
+    "chained.py": [],
+}
 # The most seconds that one of them may take.
 LIMIT = 900
 # How many lines are shown of one that failed.
 SHOWN = 12
 
 
-@dataclass(frozen=True)
-class Script:
-    """A test program and its words: {folder} is the folder of the programs, {det} one of them."""
-
-    name: str
-    words: str
-
-
-SCRIPTS = (
-    Script("refused_memory.py", "--program {det}"),
-    Script("lanes.py", "--lane {det_lane} --program {det}"),
-    Script("cpp.py", "--det {det}"),
-    Script("view.py", "--det {det}"),
-    Script("mutated.py", "--count 1000 --programs {folder}"),
-    Script("failing_edges.py", "--programs {folder}"),
-    Script("one_digest.py", "--runs 20 --programs {folder}"),
-    Script("hints.py", "--programs {folder}"),
-    Script("chained.py", "--program {det}"),
-)
+def given_programs(script: Path, programs: Programs) -> list[str]:
+    """The options by which a script takes the programs: their folder, or each that it wants."""
+    text = script.read_text()
+    if '"--programs"' in text:
+        return ["--programs", str(programs.folder)]
+    one_by_one = {"--program": "det", "--det": "det", "--lane": "det_lane"}
+    taken = [(option, name) for option, name in one_by_one.items() if f'"{option}"' in text]
+    return [word for option, name in taken for word in (option, programs.path(name))]
 
 
-def wrong(script: Script, programs: Programs) -> Optional[str]:
+def wrong(script: Path, programs: Programs) -> Optional[str]:
     """Runs a script. Answers the last lines that it wrote where it failed."""
-    names = {name: programs.path(name) for name in ("det", "det_lane", "det_twin")}
-    words = [word.format(folder=programs.folder, **names) for word in script.words.split()]
+    words = [*given_programs(script, programs), *SCRIPTS[script.name]]
     done = subprocess.run(
-        [sys.executable, "-B", str(TOP / "tests" / script.name), *words],
+        [sys.executable, "-B", str(script), *words],
         cwd=TOP,
         env=dict(os.environ, LC_ALL="C.UTF-8"),
         stdin=subprocess.DEVNULL,
@@ -61,5 +61,9 @@ def wrong(script: Script, programs: Programs) -> Optional[str]:
 
 
 def tests(programs: Programs) -> list[Test]:
-    there = [script for script in SCRIPTS if (TOP / "tests" / script.name).is_file()]
-    return [Test(f"tests/{it.name} {it.words}", partial(wrong, it, programs)) for it in there]
+    scripts = [TOP / "tests" / name for name in SCRIPTS]
+    return [
+        Test(" ".join([f"tests/{it.name}", *SCRIPTS[it.name]]), partial(wrong, it, programs))
+        for it in scripts
+        if it.is_file()
+    ]
