@@ -10,6 +10,8 @@ starts at the top of the repository. Prints each command that printed something 
 Python's standard library and bash are all that it needs.
 """
 
+from __future__ import annotations
+
 import argparse
 import os
 import subprocess
@@ -19,6 +21,7 @@ from pathlib import Path
 
 TOP = Path(__file__).resolve().parent.parent
 MARK = "--- command "
+NAMES = ("det", "det_lane", "det_twin")
 
 
 @dataclass
@@ -83,6 +86,9 @@ def main() -> int:
     parser.add_argument("--programs", type=Path, help="a folder of builds to take in place of bin/")
     given = parser.parse_args()
     programs = given.programs.resolve() if given.programs else None
+    lacking = [name for name in NAMES if programs and not os.access(programs / name, os.X_OK)]
+    if lacking:
+        parser.error(f"{programs} has no program {', '.join(lacking)}")
     commands = commands_of(given.document)
     bad = 0
     for command, output in zip(commands, printed_by(commands, programs)):

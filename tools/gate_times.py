@@ -8,6 +8,8 @@ done; what was kept from an earlier run is counted alone. Crates are proved side
 aren't apart by the time that one took. Python's standard library is all that it needs.
 """
 
+from __future__ import annotations
+
 import re
 import sys
 import time

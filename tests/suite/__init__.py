@@ -1,0 +1,1 @@
+"""What tests/run.py runs: each module makes a list of tests."""

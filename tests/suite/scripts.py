@@ -1,0 +1,69 @@
+"""The other test programs of this folder, each as one test, where they are there."""
+
+from __future__ import annotations
+
+import os
+import subprocess
+import sys
+from functools import partial
+from pathlib import Path
+from typing import Optional
+
+from suite.test import TOP, Programs, Test
+
+# The test programs, the longest first, with the words that they are given beside the programs.
+SCRIPTS = {
+    "refused_memory.py": [],
+    "cpp.py": [],
+    "lanes.py": [],
+    "mutated.py": ["--count", "1000"],
+    "failing_edges.py": [],
+    "one_digest.py": ["--runs", "20"],
+    "view.py": [],
+    "hints.py": [],
+    "chained.py": [],
+}
+# The most seconds that one of them may take.
+LIMIT = 900
+# How many lines are shown of one that failed.
+SHOWN = 12
+
+
+def given_programs(script: Path, programs: Programs) -> list[str]:
+    """The options by which a script takes the programs: their folder, or each that it wants."""
+    text = script.read_text()
+    if '"--programs"' in text:
+        return ["--programs", str(programs.folder)]
+    one_by_one = {"--program": "det", "--det": "det", "--lane": "det_lane"}
+    taken = [(option, name) for option, name in one_by_one.items() if f'"{option}"' in text]
+    return [word for option, name in taken for word in (option, programs.path(name))]
+
+
+def wrong(script: Path, programs: Programs) -> Optional[str]:
+    """Runs a script. Answers the last lines that it wrote where it failed."""
+    words = [*given_programs(script, programs), *SCRIPTS[script.name]]
+    done = subprocess.run(
+        [sys.executable, "-B", str(script), *words],
+        cwd=TOP,
+        env=dict(os.environ, LC_ALL="C.UTF-8"),
+        stdin=subprocess.DEVNULL,
+        stdout=subprocess.PIPE,
+        stderr=subprocess.STDOUT,
+        text=True,
+        errors="replace",
+        timeout=LIMIT,
+        check=False,
+    )
+    if done.returncode == 0:
+        return None
+    lines = "\n    ".join(done.stdout.splitlines()[-SHOWN:])
+    return f"status {done.returncode}; its last lines:\n    {lines}"
+
+
+def tests(programs: Programs) -> list[Test]:
+    scripts = [TOP / "tests" / name for name in SCRIPTS]
+    return [
+        Test(" ".join([f"tests/{it.name}", *SCRIPTS[it.name]]), partial(wrong, it, programs))
+        for it in scripts
+        if it.is_file()
+    ]
