@@ -1,0 +1,36 @@
+/* Memory for the proved code of the static library: what it calls to take, resize and give back.
+ *
+ * All three are weak and stand in an object of their own. An application that has memory of its own
+ * defines all three, and then none of these is linked. `align` is at most 16, for which malloc's
+ * blocks serve. */
+#include <stdbool.h>
+#include <stddef.h>
+
+extern void *malloc(size_t size);
+extern void *realloc(void *block, size_t size);
+extern void free(void *block);
+
+/* A block, or no memory. The block isn't null in either case. */
+struct Tried {
+  bool done;
+  void *block;
+};
+
+static char nothing[16];
+
+static struct Tried tried(void *block) {
+  struct Tried answer = {block != 0, block != 0 ? block : nothing};
+  return answer;
+}
+
+__attribute__((weak)) struct Tried rattle_alloc(size_t size, size_t align) {
+  return tried(malloc(size != 0 ? size : align));
+}
+
+__attribute__((weak)) struct Tried rattle_realloc(void *block, size_t kept, size_t size,
+                                                  size_t align) {
+  (void)kept;
+  return tried(realloc(block, size != 0 ? size : align));
+}
+
+__attribute__((weak)) void rattle_dealloc(void *block) { free(block); }
