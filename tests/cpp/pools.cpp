@@ -117,6 +117,32 @@ void EightPasses() {
   CHECK(client.Draws().empty() && client.RunWorkerPool(stir, elements));
 }
 
+/// Draws by the proved call and by the inlined step, in turns.
+class Both final : public WorkerRunnable<std::uint64_t> {
+ public:
+  void Run(std::uint64_t& element, WorkerThread& thread) override {
+    for (std::uint64_t left = 40 + element % 5; left != 0; --left) {
+      bool const called = (left / 3 + element) % 2 == 0;
+      element = element * 3 ^ (called ? thread.GetRandom() : thread.GetRandomInline());
+    }
+  }
+};
+
+void InlinedWords() {
+  Script script({{}, {}, {}, {}});
+  DeterministicClient client = ClientInCycle(script, 2);
+  std::vector<std::uint64_t> elements(500);
+  Number(elements);
+  Both both;
+  CHECK(client.RunWorkerPool(both, elements));
+  for (std::uint32_t i = 0; i < 500; ++i) {
+    auto stream = reference::StreamOf(reference::Key(0, 1, 0, i));
+    std::uint64_t element = i;
+    for (std::uint64_t left = 40 + i % 5; left != 0; --left) element = element * 3 ^ stream.Next();
+    CHECK(elements[i] == element && client.Draws()[i] == 40 + i % 5);
+  }
+}
+
 void TooManyElements() {
   Script script({});
   DeterministicClient client = ClientInCycle(script, 2);
@@ -180,6 +206,7 @@ int main() {
   check::Test("pools: an array of C", OverAnArrayOfC);
   check::Test("pools: 1 to 64 workers", EveryNumberOfWorkers);
   check::Test("pools: eight passes of a cycle, and no ninth", EightPasses);
+  check::Test("pools: called and inlined words are one stream", InlinedWords);
   check::Test("pools: 65,537 elements are refused, and stay", TooManyElements);
   check::Test("pools: a pass before the first cycle", PassesOfInit);
   check::Test("pools: a refused cycle keeps seed and own words, and can be run again",

@@ -120,6 +120,8 @@ void OneWorker() {
 }  // namespace
 
 int main() {
+  threads_left = 1;  // a sanitizer starts a thread of its own with the first one
+  std::thread([] {}).join();
   check::Test("threads: one that isn't started is told, and none is left", Refusing);
   check::Test("threads: fewer give the same elements, where they are allowed", FewerWorkers);
   check::Test("threads: a client's are kept, and end with it", TheThreadsOfAClient);

@@ -28,13 +28,33 @@ class WorkerThread {
   WorkerThread(WorkerThread const&) = delete;
   WorkerThread& operator=(WorkerThread const&) = delete;
 
-  /// The element's next word.
+  /// The element's next word, by the proved call.
   std::uint64_t GetRandom() noexcept { return det_random_next(&random_); }
+
+  /// The same word by code that is inlined here and that nothing proves: a step of xoshiro256++. It
+  /// is faster in a loop that draws many words.
+  std::uint64_t GetRandomInline() noexcept {
+    std::uint64_t* const state = random_.state;
+    std::uint64_t const word = Rotated(state[0] + state[3], 23) + state[0];
+    std::uint64_t const shifted = state[1] << 17;
+    state[2] ^= state[0];
+    state[3] ^= state[1];
+    state[1] ^= state[2];
+    state[0] ^= state[3];
+    state[2] ^= shifted;
+    state[3] = Rotated(state[3], 45);
+    ++random_.draws;
+    return word;
+  }
 
   /// How many words the element drew in this pass.
   std::uint64_t Draws() const noexcept { return random_.draws; }
 
  private:
+  static constexpr std::uint64_t Rotated(std::uint64_t word, unsigned by) noexcept {
+    return (word << by) | (word >> (64 - by));
+  }
+
   DetRandom random_;
 };
 
