@@ -114,7 +114,7 @@ def example(bench: Bench) -> None:
 def run_application(application: Application, bench: Bench) -> Sequence[str]:
     name = f"applications: {application.job} writes the record of det record"
     lines = [line for workers in WORKERS
-             for line in told(f"{name}, {workers} workers",
+             for line in told(f"{name}, on {workers} threads",
                               partial(same_record, bench, application, ("-O2",), "optimized", workers))]
     for build, flags in SANITIZERS.items():
         test = partial(same_record, bench, application, ("-O1", "-g", *flags), build, 4)

@@ -37,8 +37,11 @@ class EventWindow {
     } catch (std::bad_alloc const&) {
       return DeterministicErrc::kNoMemory;
     }
-    return made;
+    return Result<EventWindow>(std::move(made));
   }
+
+  EventWindow(EventWindow&&) noexcept = default;
+  EventWindow& operator=(EventWindow&&) noexcept = default;
 
   /// A sample arrives in this cycle: -10^12 to 10^12.
   Result<void> Arrive(std::int64_t value) noexcept {
