@@ -29,8 +29,10 @@ def run_headers(bench: Bench) -> Sequence[str]:
     lines: list[str] = []
     for header in headers():
         for compiler in ("g++", "clang++"):
-            flags = (*CPP, "-Wshadow", "-Wconversion")
-            lines += told(f"headers: {header.name} alone with {compiler}", partial(alone, bench, header, compiler, flags))
+            for standard in ("c++17", "c++20"):
+                flags = (*CPP, f"-std={standard}", "-Wshadow", "-Wconversion")
+                lines += told(f"headers: {header.name} alone with {compiler} in {standard}",
+                              partial(alone, bench, header, compiler, flags))
         if header.stem in C_HEADERS:
             lines += told(f"headers: {header.name} alone with gcc", partial(alone, bench, header, "gcc", C))
     return lines
