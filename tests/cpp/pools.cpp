@@ -1,0 +1,215 @@
+// Passes over containers of every size and kind, with every number of workers.
+#include <array>
+#include <deque>
+#include <memory>
+
+#include "check.h"
+#include "reference.h"
+#include "script.h"
+
+using namespace ara::exec;
+
+namespace {
+
+constexpr std::size_t kCounts[] = {0, 1, 63, 64, 65, 1000, 65536};
+constexpr std::uint64_t kSeed = 11;
+
+/// How many words an element draws: 1 to 5, by its value.
+std::uint64_t WordsOf(std::uint64_t value) { return 1 + value % 5; }
+
+/// Mixes an element with the words that it draws.
+class Stir final : public WorkerRunnable<std::uint64_t> {
+ public:
+  void Run(std::uint64_t& element, WorkerThread& thread) override {
+    for (std::uint64_t left = WordsOf(element); left != 0; --left) {
+      element = element * 3 ^ thread.GetRandom();
+    }
+  }
+};
+
+/// The elements and their draws behind passes of cycle 1, by one loop over the published
+/// generators.
+struct Wanted {
+  std::vector<std::uint64_t> elements;
+  std::vector<std::uint32_t> draws;
+};
+
+Wanted Stirred(std::size_t count, std::uint8_t passes) {
+  Wanted wanted{std::vector<std::uint64_t>(count), std::vector<std::uint32_t>(count)};
+  for (std::uint32_t i = 0; i < count; ++i) wanted.elements[i] = i;
+  for (std::uint8_t pass = 0; pass < passes; ++pass) {
+    for (std::uint32_t i = 0; i < count; ++i) {
+      std::uint64_t& element = wanted.elements[i];
+      std::uint64_t const words = WordsOf(element);
+      auto stream = reference::StreamOf(reference::Key(kSeed, 1, pass, i));
+      for (std::uint64_t k = 0; k < words; ++k) element = element * 3 ^ stream.Next();
+      wanted.draws[i] += static_cast<std::uint32_t>(words);
+    }
+  }
+  return wanted;
+}
+
+template <typename Container>
+void Number(Container& container) {
+  std::uint64_t number = 0;
+  for (auto& element : container) element = number++;
+}
+
+/// Whether passes over a container give what one loop gives.
+template <typename Container>
+bool StirsAs(Wanted const& wanted, Container& container, unsigned workers, int passes) {
+  Script script({{}, {}, {}, {}});
+  DeterministicClient client = ClientInCycle(script, workers);
+  client.SetRandomSeed(kSeed);
+  Number(container);
+  Stir stir;
+  for (int pass = 0; pass < passes; ++pass) {
+    if (!client.RunWorkerPool(stir, container)) return false;
+  }
+  return std::equal(std::begin(container), std::end(container), wanted.elements.begin(),
+                    wanted.elements.end()) &&
+         client.Draws() == wanted.draws;
+}
+
+template <typename Container>
+void OverContainer(std::initializer_list<unsigned> numbers_of_workers) {
+  for (std::size_t count : kCounts) {
+    Wanted const wanted = Stirred(count, 2);
+    Container container(count);
+    for (unsigned workers : numbers_of_workers) {
+      CHECK(StirsAs(wanted, container, workers, 2));
+    }
+  }
+}
+
+template <std::size_t kCount>
+void OverArrays() {
+  Wanted const wanted = Stirred(kCount, 2);
+  auto made = std::make_unique<std::array<std::uint64_t, kCount>>();
+  for (unsigned workers : {1u, 4u}) CHECK(StirsAs(wanted, *made, workers, 2));
+}
+
+void OverAnArrayOfC() {
+  std::uint64_t elements[65];
+  CHECK(StirsAs(Stirred(65, 3), elements, 2, 3));
+}
+
+void EveryNumberOfWorkers() {
+  Wanted const wanted = Stirred(5000, 1);
+  std::vector<std::uint64_t> elements(5000);
+  for (unsigned workers = 1; workers <= 64; ++workers) {
+    CHECK(StirsAs(wanted, elements, workers, 1));
+  }
+}
+
+void EightPasses() {
+  std::vector<std::uint64_t> elements(300);
+  Wanted const wanted = Stirred(300, 8);
+  Script script({{}, {}, {}, {}, {}});
+  DeterministicClient client = ClientInCycle(script, 3);
+  client.SetRandomSeed(kSeed);
+  Number(elements);
+  Stir stir;
+  for (int pass = 0; pass < 8; ++pass) CHECK(client.RunWorkerPool(stir, elements));
+  CHECK(client.RunWorkerPool(stir, elements).Error().code == DeterministicErrc::kTooManyPasses);
+  CHECK(elements == wanted.elements && client.Draws() == wanted.draws);
+  (void)client.WaitForActivation();
+  CHECK(client.Draws().empty() && client.RunWorkerPool(stir, elements));
+}
+
+/// Draws by the proved call and by the inlined step, in turns.
+class Both final : public WorkerRunnable<std::uint64_t> {
+ public:
+  void Run(std::uint64_t& element, WorkerThread& thread) override {
+    for (std::uint64_t left = 40 + element % 5; left != 0; --left) {
+      bool const called = (left / 3 + element) % 2 == 0;
+      element = element * 3 ^ (called ? thread.GetRandom() : thread.GetRandomInline());
+    }
+  }
+};
+
+void InlinedWords() {
+  Script script({{}, {}, {}, {}});
+  DeterministicClient client = ClientInCycle(script, 2);
+  std::vector<std::uint64_t> elements(500);
+  Number(elements);
+  Both both;
+  CHECK(client.RunWorkerPool(both, elements));
+  for (std::uint32_t i = 0; i < 500; ++i) {
+    auto stream = reference::StreamOf(reference::Key(0, 1, 0, i));
+    std::uint64_t element = i;
+    for (std::uint64_t left = 40 + i % 5; left != 0; --left) element = element * 3 ^ stream.Next();
+    CHECK(elements[i] == element && client.Draws()[i] == 40 + i % 5);
+  }
+}
+
+void TooManyElements() {
+  Script script({});
+  DeterministicClient client = ClientInCycle(script, 2);
+  std::vector<std::uint64_t> elements(65537), before = elements;
+  Stir stir;
+  CHECK(client.RunWorkerPool(stir, elements).Error().code == DeterministicErrc::kTooManyElements);
+  CHECK(elements == before && client.Draws().empty());
+}
+
+void PassesOfInit() {
+  // Before the first cycle the number of the cycle is 0, and passes are counted all the same.
+  Script script({{}, {}, {}});
+  DeterministicClient client = DeterministicClient::Create(script, 10, 2).Value();
+  for (int k = 0; k < 3; ++k) (void)client.WaitForActivation();
+  std::vector<std::uint64_t> elements(100);
+  Stir stir;
+  CHECK(client.RunWorkerPool(stir, elements));
+  auto stream = reference::StreamOf(reference::Key(0, 0, 0, 99));
+  CHECK(elements[99] == stream.Next());
+}
+
+void ARefusedCycle() {
+  Script script({{}, {}, {}, {}, {}, {}});
+  DeterministicClient client = DeterministicClient::Create(script, 10, 2).Value();
+  (void)client.WaitForActivation();
+  CHECK(client.RefuseCycle().Error().code == DeterministicErrc::kNotInCycle);
+  for (int k = 0; k < 3; ++k) (void)client.WaitForActivation();
+  client.SetRandomSeed(kSeed);
+  std::vector<std::uint64_t> elements(200);
+  Number(elements);
+  Stir stir;
+  CHECK(client.RunWorkerPool(stir, elements));
+  CHECK(client.RefuseCycle());
+  CHECK(client.Seed() == 0 && client.Draws().empty() && client.Cycle() == 1);
+  CHECK(client.GetRandom() == reference::OwnStream(0, 1).Next());
+  client.SetRandomSeed(kSeed);  // run again, the passes of the cycle draw the same words
+  Number(elements);
+  CHECK(client.RunWorkerPool(stir, elements) && elements == Stirred(200, 1).elements);
+  CHECK(client.RefuseCycle() && client.WaitForActivation());
+  CHECK(client.Cycle() == 2 && client.Seed() == 0);
+  (void)client.WaitForActivation();
+  (void)client.WaitForActivation();
+  CHECK(client.RefuseCycle().Error().code == DeterministicErrc::kNotInCycle);
+}
+
+}  // namespace
+
+int main() {
+  check::Test("pools: vectors of 0 to 65,536 elements, 1, 2, 4 and 64 workers",
+              [] { OverContainer<std::vector<std::uint64_t>>({1, 2, 4, 64}); });
+  check::Test("pools: deques of 0 to 65,536 elements, 1, 3 and 16 workers",
+              [] { OverContainer<std::deque<std::uint64_t>>({1, 3, 16}); });
+  check::Test("pools: arrays of 0 to 65,536 elements", [] {
+    OverArrays<0>();
+    OverArrays<1>();
+    OverArrays<63>();
+    OverArrays<64>();
+    OverArrays<65>();
+    OverArrays<65536>();
+  });
+  check::Test("pools: an array of C", OverAnArrayOfC);
+  check::Test("pools: 1 to 64 workers", EveryNumberOfWorkers);
+  check::Test("pools: eight passes of a cycle, and no ninth", EightPasses);
+  check::Test("pools: called and inlined words are one stream", InlinedWords);
+  check::Test("pools: 65,537 elements are refused, and stay", TooManyElements);
+  check::Test("pools: a pass before the first cycle", PassesOfInit);
+  check::Test("pools: a refused cycle keeps seed and own words, and can be run again",
+              ARefusedCycle);
+  return check::Status();
+}

@@ -1,0 +1,131 @@
+// Threads that can't be started, and threads that are left behind. The test stands in for
+// pthread_create, and refuses it from a number of calls on.
+#include <dlfcn.h>
+#include <pthread.h>
+
+#include <cerrno>
+#include <chrono>
+#include <fstream>
+#include <string>
+#include <thread>
+
+#include "check.h"
+#include "script.h"
+
+namespace {
+
+int threads_left = 0;
+
+}  // namespace
+
+extern "C" int pthread_create(pthread_t* thread, pthread_attr_t const* attributes,
+                              void* (*start)(void*), void* argument) {
+  using Create = int (*)(pthread_t*, pthread_attr_t const*, void* (*)(void*), void*);
+  static auto const create = reinterpret_cast<Create>(dlsym(RTLD_NEXT, "pthread_create"));
+  if (threads_left == 0) return EAGAIN;
+  --threads_left;
+  return create(thread, attributes, start, argument);
+}
+
+using namespace ara::exec;
+
+namespace {
+
+/// How many threads this process has, by /proc.
+int Threads() {
+  std::ifstream status("/proc/self/status");
+  std::string word;
+  while (status >> word) {
+    if (word == "Threads:") {
+      int count = 0;
+      status >> count;
+      return count;
+    }
+  }
+  return -1;
+}
+
+/// Whether the process comes to have so many threads. One that was joined counts a little longer.
+bool ThreadsAre(int wanted) {
+  for (int tries = 0; tries < 1000 && Threads() != wanted; ++tries) {
+    std::this_thread::sleep_for(std::chrono::milliseconds(2));
+  }
+  return Threads() == wanted;
+}
+
+class Draw final : public WorkerRunnable<std::uint64_t> {
+  void Run(std::uint64_t& element, WorkerThread& thread) override { element = thread.GetRandom(); }
+};
+
+std::vector<std::uint64_t> Drawn(DeterministicClient& client) {
+  for (int k = 0; k < 4; ++k) (void)client.WaitForActivation();
+  std::vector<std::uint64_t> elements(1000);
+  Draw draw;
+  CHECK(client.RunWorkerPool(draw, elements));
+  return elements;
+}
+
+void Refusing() {
+  int const before = Threads();
+  for (int started : {0, 1, 2}) {
+    threads_left = started;
+    Script script({});
+    auto const client = DeterministicClient::Create(script, 10, 4);
+    CHECK(!client && client.Error().code == DeterministicErrc::kThreadNotStarted);
+    CHECK(ThreadsAre(before));
+  }
+}
+
+void FewerWorkers() {
+  std::vector<std::uint64_t> whole;
+  for (int started : {3, 2, 1, 0}) {
+    threads_left = started;
+    Script script({{}, {}, {}, {}});
+    auto client = DeterministicClient::Create(script, 10, 4, MissingThreads::kAllow);
+    CHECK(client && client.Value().Workers() == static_cast<unsigned>(started) + 1);
+    std::vector<std::uint64_t> const elements = Drawn(client.Value());
+    if (started == 3) whole = elements;
+    CHECK(elements == whole);
+  }
+}
+
+void TheThreadsOfAClient() {
+  int const before = Threads();
+  threads_left = 63;
+  {
+    Script script({{}, {}, {}, {}});
+    DeterministicClient client = DeterministicClient::Create(script, 10, 64).Value();
+    CHECK(ThreadsAre(before + 63));
+    (void)Drawn(client);
+    CHECK(ThreadsAre(before + 63));  // they are kept, and no more are started
+  }
+  CHECK(ThreadsAre(before));
+}
+
+void ClientsThatDoNothing() {
+  threads_left = 1000;
+  for (int k = 0; k < 200; ++k) {
+    Script script({});
+    CHECK(DeterministicClient::Create(script, 10, 4).HasValue());
+  }
+}
+
+void OneWorker() {
+  threads_left = 0;
+  Script script({{}, {}, {}, {}});
+  DeterministicClient client = DeterministicClient::Create(script, 10, 1).Value();
+  (void)Drawn(client);
+}
+
+}  // namespace
+
+int main() {
+  threads_left = 1;  // a sanitizer starts a thread of its own with the first one
+  std::thread([] {}).join();
+  check::Test("threads: one that isn't started is told, and none is left", Refusing);
+  check::Test("threads: fewer give the same elements, where they are allowed", FewerWorkers);
+  check::Test("threads: a client's are kept, and end with it", TheThreadsOfAClient);
+  check::Test("threads: 200 clients come and go without a pass", ClientsThatDoNothing);
+  check::Test("threads: one worker starts none", OneWorker);
+  return check::Status();
+}

@@ -1,0 +1,139 @@
+// Exceptions that leave the application's code end in an error value.
+#include <new>
+#include <stdexcept>
+
+#include "check.h"
+#include "reference.h"
+#include "script.h"
+
+using namespace ara::exec;
+
+namespace {
+
+/// Adds its word to an element, but throws at those of `bad`.
+class Thrower final : public WorkerRunnable<std::uint64_t> {
+ public:
+  explicit Thrower(std::vector<std::uint32_t> bad) : bad_(std::move(bad)) {}
+
+  void Run(std::uint64_t& element, WorkerThread& thread) override {
+    auto const number = static_cast<std::uint32_t>(element);
+    element += thread.GetRandom() << 32;
+    for (std::uint32_t bad : bad_) {
+      if (number == bad) throw std::runtime_error("refused");
+    }
+  }
+
+ private:
+  std::vector<std::uint32_t> bad_;
+};
+
+std::uint64_t Added(std::uint32_t number, std::uint32_t cycle) {
+  auto stream = reference::StreamOf(reference::Key(0, cycle, 0, number));
+  return number + (stream.Next() << 32);
+}
+
+std::vector<std::uint64_t> Numbered(std::uint32_t count) {
+  std::vector<std::uint64_t> elements(count);
+  for (std::uint32_t i = 0; i < count; ++i) elements[i] = i;
+  return elements;
+}
+
+/// Whether a pass tells the least bad element, ran those before it, and ran or left the others; and
+/// whether the client goes on behind it.
+bool TellsTheLeast(std::vector<std::uint32_t> const& bad, std::uint32_t least, unsigned workers) {
+  Script script({{}, {}, {}, {}, {}});
+  DeterministicClient client = ClientInCycle(script, workers);
+  std::vector<std::uint64_t> elements = Numbered(6000);
+  Thrower thrower(bad);
+  Result<void> const answer = client.RunWorkerPool(thrower, elements);
+  if (answer || answer.Error() != DeterministicError{DeterministicErrc::kApplicationThrew, least}) {
+    return false;
+  }
+  for (std::uint32_t i = 0; i < 6000; ++i) {
+    bool const ran = elements[i] == Added(i, 1);
+    if (!ran && (i <= least || elements[i] != i)) return false;
+  }
+  Thrower harmless({});
+  elements = Numbered(6000);
+  if (!client.WaitForActivation() || !client.RunWorkerPool(harmless, elements)) return false;
+  return elements[5999] == Added(5999, 2);
+}
+
+void OneElement() {
+  for (std::uint32_t bad : {0u, 1u, 63u, 64u, 3000u, 5999u}) {
+    for (unsigned workers : {1u, 2u, 8u, 64u}) CHECK(TellsTheLeast({bad}, bad, workers));
+  }
+}
+
+void SeveralElements() {
+  for (int round = 0; round < 20; ++round) {
+    for (unsigned workers : {1u, 2u, 4u, 16u}) {
+      CHECK(TellsTheLeast({5999, 130, 129, 700, 3000}, 129, workers));
+      CHECK(TellsTheLeast({5900, 5800, 5860}, 5800, workers));
+    }
+  }
+}
+
+void EveryElement() {
+  class All final : public WorkerRunnable<std::uint64_t> {
+    void Run(std::uint64_t&, WorkerThread&) override { throw 7; }
+  } all;
+  for (unsigned workers : {1u, 4u, 64u}) {
+    Script script({});
+    DeterministicClient client = ClientInCycle(script, workers);
+    std::vector<std::uint64_t> elements(65536);
+    CHECK(client.RunWorkerPool(all, elements).Error() ==
+          DeterministicError{DeterministicErrc::kApplicationThrew, 0});
+  }
+}
+
+void WantOfMemoryInTheRunnable() {
+  class Greedy final : public WorkerRunnable<std::uint64_t> {
+    void Run(std::uint64_t& element, WorkerThread&) override {
+      if (element == 77) throw std::bad_alloc();
+    }
+  } greedy;
+  Script script({});
+  DeterministicClient client = ClientInCycle(script, 2);
+  std::vector<std::uint64_t> elements = Numbered(200);
+  CHECK(client.RunWorkerPool(greedy, elements).Error() ==
+        DeterministicError{DeterministicErrc::kApplicationThrew, 77});
+}
+
+void TheContainer() {
+  struct Broken {
+    std::size_t size() const { return 3; }
+    std::uint64_t* begin() { throw std::logic_error("broken"); }
+  } broken;
+  Script script({});
+  DeterministicClient client = ClientInCycle(script, 2);
+  Thrower harmless({});
+  Result<void> const answer = client.RunWorkerPool(harmless, broken);
+  CHECK(!answer && answer.Error().code == DeterministicErrc::kApplicationThrew);
+}
+
+void TheSource() {
+  class Failing final : public ActivationSource {
+    Activation Next() override {
+      if (calls_++ == 2) throw std::runtime_error("no clock");
+      return {};
+    }
+    int calls_ = 0;
+  } source;
+  DeterministicClient client = DeterministicClient::Create(source, 10).Value();
+  CHECK(client.WaitForActivation() && client.WaitForActivation());
+  CHECK(client.WaitForActivation().Error().code == DeterministicErrc::kApplicationThrew);
+  CHECK(client.WaitForActivation().Value() == ActivationReturnType::kInit);
+}
+
+}  // namespace
+
+int main() {
+  check::Test("throwing: one element, at several places", OneElement);
+  check::Test("throwing: the least of several elements is told", SeveralElements);
+  check::Test("throwing: every element", EveryElement);
+  check::Test("throwing: want of memory in the runnable", WantOfMemoryInTheRunnable);
+  check::Test("throwing: the container", TheContainer);
+  check::Test("throwing: the source, and the client goes on behind it", TheSource);
+  return check::Status();
+}
