@@ -12,11 +12,14 @@ from crate_list import CRATES, TOP, lines_of
 
 SECONDS = TOP / "tools" / "build_seconds.txt"
 # What a crate takes that the table lacks: seconds for itself, and lines that take one more.
-AT_LEAST = 10
+AT_LEAST = 20
 LINES_IN_A_SECOND = 20
 # The pace of a build is taken from what it did once it runs so many seconds, within bounds.
 SETTLED = 60
 BOUNDS = (0.2, 10.0)
+# rt heads what it prints of a crate by its name, and says where it waits for another rt.
+DONE = re.compile(r"^== (\w+)$", re.M)
+WAITS = re.compile(r"^rt: (.*\bwaiting for .*)$", re.M)
 
 
 def measured_seconds() -> dict[str, float]:
@@ -50,11 +53,16 @@ class Progress:
     worked: set[str] = field(default_factory=set)
     begun: float = field(default_factory=time.time)
     told: str = ""
+    # The lines in which rt said that it waits.
+    waits: set[str] = field(default_factory=set)
 
     def read(self, log: str) -> None:
-        """Takes from the log which crates are done: rt heads what it prints of each by its name."""
-        names = re.findall(r"^== (\w+)$", log, re.M)
-        self.done.update(name for name in names if name in self.uses)
+        """Takes from the log which crates are done, and tells what rt waits for."""
+        self.done.update(name for name in DONE.findall(log) if name in self.uses)
+        for line in WAITS.findall(log):
+            if line not in self.waits:
+                self.waits.add(line)
+                tell(self.program, line)
 
     def running(self) -> list[str]:
         """The crates at work. rt makes the folder of a library first, and writes its stamp last."""
