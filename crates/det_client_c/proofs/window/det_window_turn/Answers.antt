@@ -10,4 +10,5 @@ pub returns-clause-given : goal.returns-clause-given
 returns-clause-given c = λ taken. turned_more _ _ (returns-clause-rings c taken)
 
 pub returns-clause-shows : goal.returns-clause-shows
-returns-clause-shows c = λ taken spec rounds arrived given. window_shown _ spec _ [] (returns-clause-given c taken spec rounds arrived given)
+returns-clause-shows c = λ taken spec rounds arrived given.
+    window_shown _ spec _ [] (returns-clause-given c taken spec rounds arrived given)
