@@ -1,6 +1,5 @@
 -- What follows from an item that may come where a record stands.
 use Rattle.std.proofs.Common.{◌≡◌, ◌==◌, Bool, true, false, cond, refl}
-use Rattle.det_values.specs.declared.frames.Frame.{Frame}
 use Rattle.det_values.specs.declared.frames.Frame.TheVariants as frames
 use Rattle.record_grammar.specs.declared.place.Place.{Place}
 use Rattle.record_grammar.specs.declared.place.Place.TheVariants as places
@@ -17,8 +16,9 @@ by_stage : (P : Place → Type 0) (a b : Place) (t : Bool) → P a → P b → P
 by_stage P a b true x y = x
 by_stage P a b false x y = y
 
-pub at_place : (P : Place → Type 0) (r : DetRecord) → P places.Header → P (places.Register (layout_in r)) → P (places.Discover (layout_in r))
-    → P (places.Init (layout_in r)) → P (places.Runs (layout_in r) r.cycles) → P places.End → P (place_of r)
+pub at_place : (P : Place → Type 0) (r : DetRecord) → P places.Header → P (places.Register (layout_in r))
+    → P (places.Discover (layout_in r)) → P (places.Init (layout_in r)) → P (places.Runs (layout_in r) r.cycles) → P places.End
+    → P (place_of r)
 at_place P r header register discover init runs end =
     by_stage P _ _ (r.stage == 0) header
     (by_stage P _ _ (r.stage == 1) register
@@ -28,14 +28,8 @@ at_place P r header register discover init runs end =
 pub spelling_is : (r : DetRecord) (item : Item) → CanFollow (place_of r) item → item_spelling (place_of r) item ≡ spelling_of item
 spelling_is r (items.Header p) h = refl
 spelling_is r (items.Frame f) h =
-    at_place (λ place. CanFollow place (items.Frame f) → item_spelling place (items.Frame f) ≡ spelling_of (items.Frame f)) r (not_first f)
-    (λ _. refl) (λ _. refl) (λ _. refl) (λ _. refl) (not_last f) h
-  where
-    not_first : (f : Frame) → CanFollow places.Header (items.Frame f) → item_spelling places.Header (items.Frame f) ≡ spelling_of (items.Frame f)
-    not_first f h = elim h [ ]
-
-    not_last : (f : Frame) → CanFollow places.End (items.Frame f) → item_spelling places.End (items.Frame f) ≡ spelling_of (items.Frame f)
-    not_last f h = elim h [ ]
+    at_place (λ place. CanFollow place (items.Frame f) → item_spelling place (items.Frame f) ≡ spelling_of (items.Frame f)) r
+    (λ e. elim e [ ]) (λ _. refl) (λ _. refl) (λ _. refl) (λ _. refl) (λ e. elim e [ ]) h
 
 -- it may stand there, since its fields are in their ranges
 pub may_stand : (r : DetRecord) (item : Item) → CanFollow (place_of r) item → HasFields r.events item → MayStand (place_of r) item

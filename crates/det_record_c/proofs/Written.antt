@@ -26,9 +26,9 @@ spelled_behind (y ∷ xs) x place to h =
     ∙ sym (append_assoc (item_spelling place y) (items_spelling (after place y) xs) (item_spelling to x))
 
 -- one item more was written
-written_behind : (old new : DetRecord) (item : Item) (bytes : List ℕ) → MayStand (place_of old) item → place_of new ≡ after (place_of old) item
-    → bytes ≡ item_spelling (place_of old) item → (items : List Item) (before : List ℕ) → Written old items before
-    → Written new (items ++ item ∷ []) (before ++ bytes)
+written_behind : (old new : DetRecord) (item : Item) (bytes : List ℕ) → MayStand (place_of old) item
+    → place_of new ≡ after (place_of old) item → bytes ≡ item_spelling (place_of old) item
+    → (items : List Item) (before : List ℕ) → Written old items before → Written new (items ++ item ∷ []) (before ++ bytes)
 written_behind old new item bytes s p e items before w = record {
   stand = subst (AreItems places.Header (items ++ item ∷ [])) (sym p) (stand_behind items item places.Header (place_of old) w.stand s);
   spelling =

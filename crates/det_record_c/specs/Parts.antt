@@ -47,15 +47,20 @@ pub record IsAdded (item : Item) (old new : Lent) : Type 0 where
 abbrev pub Fits : DetRecord → Item → List ℕ → Type 0
 Fits r item out = length (item_spelling (place_of r) item) ≤ length out
 
--- the number tells the first of its causes: the part can't follow, its values aren't sound, its
--- bytes don't fit. That memory was wanting is told only where the first two aren't
-pub record Tells (answer : ℕ) (follows sound fits : Type 0) : Type 0 where
+-- a number for the first of three conditions that isn't met, or for want of memory, which is told
+-- only where the first two are
+pub record TellsFirst (answer : ℕ) (follows sound fits : Type 0) : Type 0 where
   pub most : answer ≤ 4
   pub done : answer ≡ 0 → follows × sound × fits
   pub misplaced : (answer ≡ 1) ↔ (follows → ⊥)
   pub out_of_range : (answer ≡ 2) ↔ (follows × (sound → ⊥))
   pub no_room : answer ≡ 3 → follows × sound × (fits → ⊥)
   pub no_memory : answer ≡ 4 → follows × sound
+
+-- the item can follow, its values are sound, and its bytes fit
+abbrev pub Tells : ℕ → DetRecord → Item → Type 0 → List ℕ → Type 0
+Tells answer r item sound out =
+    TellsFirst answer (CanFollow (place_of r) item) sound (Fits r item out)
 
 -- ---- the same, inside
 

@@ -1,11 +1,8 @@
 //! The profile and the frames that sound values stand for.
-ghost use Rattle.std.specs.Prelude.{◌≡◌, ◌<◌, ◌≤◌, length, IfOk};
-ghost use Rattle.det_values.specs.declared.frames.Frame.TheVariants.{Init, Run};
-ghost use Rattle.record_grammar.specs.declared.item.Item.TheVariants.{Header, Frame as FrameItem};
+ghost use Rattle.std.specs.Prelude.{◌≡◌, IfOk};
 ghost use Rattle.det_record_c.specs.Given.{header_of, init_of, input_of, finished_of, refused_of};
 ghost use Rattle.det_record_c.specs.Sound.{AreSoundSamples, AreSoundElements, IsSoundHeader};
-ghost use Rattle.det_record_c.specs.Sound.{IsSoundFinish, IsSoundRefusal, IsSoundPlace};
-ghost use Rattle.det_record_c.specs.Parts.{CanBeSpelled};
+ghost use Rattle.det_record_c.specs.Sound.{IsSoundFinish, IsSoundRefusal};
 
 use crate::given::{DetElement, DetEvent, DetProfile, DetRefusal, DetSample, DetTime};
 use crate::list;

@@ -1,15 +1,13 @@
 //! What C calls. An answer is 0 for done, 1 for a part that may not come now, 2 for a value out of
 //! its range, 3 for too little room, 4 for want of memory; at any but 0 nothing is changed. A part
 //! that is done lies in the first `written` bytes of `out`.
-ghost use Rattle.std.specs.Prelude.{◌≡◌, ◌≢◌, [], ◌≤◌};
+ghost use Rattle.std.specs.Prelude.{◌≡◌, ◌≢◌, []};
 ghost use Rattle.record_grammar.specs.declared.item.Item.TheVariants as items;
 ghost use Rattle.det_values.specs.declared.frames.Frame.TheVariants as frames;
-ghost use Rattle.record_grammar.specs.Places.{CanFollow};
 ghost use Rattle.det_record_c.specs.Given.{header_of, init_of, finished_of, refused_of};
 ghost use Rattle.det_record_c.specs.Sound.{IsSoundHeader, AreSoundElements, IsSoundFinish};
 ghost use Rattle.det_record_c.specs.Sound.{IsSoundRefusal};
-ghost use Rattle.det_record_c.specs.Stage.{place_of};
-ghost use Rattle.det_record_c.specs.Parts.{Written, lent, IsAdded, Fits, Tells};
+ghost use Rattle.det_record_c.specs.Parts.{Written, lent, IsAdded, Tells};
 
 use crate::cause::answer;
 use crate::given::{DetElement, DetEvent, DetProfile, DetRefusal, DetSample, DetTime};
@@ -41,9 +39,8 @@ pub extern "C" fn det_record_header(
     out: &mut [u8],
     written: &mut usize,
 ) -> u8
-    ensures cause { let item = header_of profile.now params.now events.now in
-        Tells result (CanFollow (place_of state.old) item) (IsSoundHeader profile.now params.now events.now)
-        (Fits state.old item out.old) }
+    ensures cause { Tells result state.old (header_of profile.now params.now events.now)
+        (IsSoundHeader profile.now params.now events.now) out.old }
     ensures done { result ≡ 0 → IsAdded (header_of profile.now params.now events.now)
         (lent state.old out.old written.old) (lent state.new out.new written.new) }
     ensures kept { result ≢ 0 →
@@ -61,9 +58,7 @@ pub extern "C" fn det_record_register(
     out: &mut [u8],
     written: &mut usize,
 ) -> u8
-    ensures cause { let item = items.Frame frames.Register in
-        Tells result (CanFollow (place_of state.old) item) (Unit {0})
-        (Fits state.old item out.old) }
+    ensures cause { Tells result state.old (items.Frame frames.Register) (Unit {0}) out.old }
     ensures done { result ≡ 0 → IsAdded (items.Frame frames.Register)
         (lent state.old out.old written.old) (lent state.new out.new written.new) }
     ensures kept { result ≢ 0 →
@@ -81,9 +76,7 @@ pub extern "C" fn det_record_discover(
     out: &mut [u8],
     written: &mut usize,
 ) -> u8
-    ensures cause { let item = items.Frame frames.Discover in
-        Tells result (CanFollow (place_of state.old) item) (Unit {0})
-        (Fits state.old item out.old) }
+    ensures cause { Tells result state.old (items.Frame frames.Discover) (Unit {0}) out.old }
     ensures done { result ≡ 0 → IsAdded (items.Frame frames.Discover)
         (lent state.old out.old written.old) (lent state.new out.new written.new) }
     ensures kept { result ≢ 0 →
@@ -102,9 +95,8 @@ pub extern "C" fn det_record_init(
     out: &mut [u8],
     written: &mut usize,
 ) -> u8
-    ensures cause { let item = init_of elements.now in
-        Tells result (CanFollow (place_of state.old) item) (AreSoundElements elements.now)
-        (Fits state.old item out.old) }
+    ensures cause { Tells result state.old (init_of elements.now)
+        (AreSoundElements elements.now) out.old }
     ensures done { result ≡ 0 → IsAdded (init_of elements.now)
         (lent state.old out.old written.old) (lent state.new out.new written.new) }
     ensures kept { result ≢ 0 →
@@ -126,9 +118,9 @@ pub extern "C" fn det_record_finished(
     out: &mut [u8],
     written: &mut usize,
 ) -> u8
-    ensures cause { let item = finished_of time.now samples.now elements.now output.now in
-        Tells result (CanFollow (place_of state.old) item) (IsSoundFinish state.old.events samples.now elements.now output.now)
-        (Fits state.old item out.old) }
+    ensures cause { Tells result state.old
+        (finished_of time.now samples.now elements.now output.now)
+        (IsSoundFinish state.old.events samples.now elements.now output.now) out.old }
     ensures done { result ≡ 0 → IsAdded (finished_of time.now samples.now elements.now output.now)
         (lent state.old out.old written.old) (lent state.new out.new written.new) }
     ensures kept { result ≢ 0 →
@@ -149,9 +141,8 @@ pub extern "C" fn det_record_refused(
     out: &mut [u8],
     written: &mut usize,
 ) -> u8
-    ensures cause { let item = refused_of time.now samples.now refusal.now in
-        Tells result (CanFollow (place_of state.old) item) (IsSoundRefusal state.old.events samples.now refusal.now)
-        (Fits state.old item out.old) }
+    ensures cause { Tells result state.old (refused_of time.now samples.now refusal.now)
+        (IsSoundRefusal state.old.events samples.now refusal.now) out.old }
     ensures done { result ≡ 0 → IsAdded (refused_of time.now samples.now refusal.now)
         (lent state.old out.old written.old) (lent state.new out.new written.new) }
     ensures kept { result ≢ 0 →
@@ -169,9 +160,7 @@ pub extern "C" fn det_record_terminate(
     out: &mut [u8],
     written: &mut usize,
 ) -> u8
-    ensures cause { let item = items.Frame frames.Terminate in
-        Tells result (CanFollow (place_of state.old) item) (Unit {0})
-        (Fits state.old item out.old) }
+    ensures cause { Tells result state.old (items.Frame frames.Terminate) (Unit {0}) out.old }
     ensures done { result ≡ 0 → IsAdded (items.Frame frames.Terminate)
         (lent state.old out.old written.old) (lent state.new out.new written.new) }
     ensures kept { result ≢ 0 →

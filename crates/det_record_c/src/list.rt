@@ -1,5 +1,5 @@
 //! What C gives in lists, as the lists of a record.
-ghost use Rattle.std.specs.Prelude.{◌≡◌, ◌<◌, ◌≤◌, map, length, IfOk};
+ghost use Rattle.std.specs.Prelude.{◌≡◌, ◌≤◌, map, length, IfOk};
 ghost use Rattle.std.specs.List.{All};
 ghost use Rattle.det_record_c.specs.Given.{sample_of, bytes_of, drawn_of, event_of};
 ghost use Rattle.det_record_c.specs.Sound.{AreSoundSamples, AreSoundElements, IsSoundEvent};

@@ -1,5 +1,5 @@
 //! Whether what C gives is in its ranges.
-ghost use Rattle.std.specs.Prelude.{◌≡◌, ◌≤◌, ◌↔◌, length, IsTrue};
+ghost use Rattle.std.specs.Prelude.{◌↔◌, IsTrue};
 ghost use Rattle.std.specs.List.{All};
 ghost use Rattle.det_record_c.specs.Sound.{AreSoundSamples, AreSoundElements, IsSoundEvent};
 ghost use Rattle.det_record_c.specs.Sound.{IsSoundHeader, IsSoundFinish, IsSoundRefusal};

@@ -1,13 +1,13 @@
 //! Where a record stands, which is all that is kept of it between two calls.
-ghost use Rattle.std.specs.Prelude.{◌≡◌, [], IsTrue};
+ghost use Rattle.std.specs.Prelude.{◌≡◌};
 ghost use Rattle.record_grammar.specs.Places.{after};
 
 use det_values::{Format, Frame};
 use record_grammar::{Item, Layout, Place};
 
-/// The stage is 0 before the header, 1 before Register, 2 before Discover, 3 before Init, 4 before a
-/// cycle or Terminate, and else the end. Behind a header `events` is the number of its events, and
-/// in stage 4 `cycles` that of the cycles so far.
+/// The stage is 0 before the header, 1 before Register, 2 before Discover, 3 before Init, 4 before
+/// a cycle or Terminate, and else the end. Behind a header `events` is the number of its events,
+/// and in stage 4 `cycles` that of the cycles so far.
 #[repr(C)]
 #[derive(Drop)]
 pub struct DetRecord {

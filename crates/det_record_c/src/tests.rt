@@ -4,11 +4,11 @@ use crate::state::DetRecord;
 use std::alloc::Global;
 use std::test::*;
 
-/// Header (version 2, job 7, seed 258, cycle time 10,000,000, the parameters 4 and -1, the event `x`
-/// with capacity 2 and policy fresh), Register, Discover, Init with the elements 10 11 and none; a
-/// cycle with the time 3 and the sample -2 of event 0, which finished with the same elements, that
-/// drew 5 and 256 words, and the output 9; a cycle without time or samples, refused by the pool in
-/// pass 1 at element 2 with the code 3; Terminate.
+/// Header (version 2, job 7, seed 258, cycle time 10,000,000, the parameters 4 and -1, the event
+/// `x` with capacity 2 and policy fresh), Register, Discover, Init with the elements 10 11 and
+/// none; a cycle with the time 3 and the sample -2 of event 0, which finished with the same
+/// elements, that drew 5 and 256 words, and the output 9; a cycle without time or samples, refused
+/// by the pool in pass 1 at element 2 with the code 3; Terminate.
 static RECORD: [u8; 130] = [
     0x44, 0x45, 0x54, 0x52, 0x45, 0x43, 0, 2, 0, 7, 0, 0, 0, 0, 0, 0, 1, 2, 0, 0, 0, 0, 0, 0x98,
     0x96, 0x80, 0, 2, 0, 0, 0, 0, 0, 0, 0, 4, 0xff, 0xff, 0xff, 0xff, 0xff, 0xff, 0xff, 0xff, 0, 1,
