@@ -9,6 +9,7 @@
 
 #include "ara/exec/recorder.h"
 #include "ara/exec/spelling.h"
+#include "answers.h"
 #include "check.h"
 #include "sinks.h"
 
@@ -38,10 +39,6 @@ DetElement Level(std::int64_t level) {
   DetElement element{};
   Spelling(element).I64(level);
   return element;
-}
-
-bool Is(Result<void> const& answer, DeterministicErrc code) {
-  return !answer && answer.Error().code == code;
 }
 
 /// Brings a recorder to its cycles, with one event and four elements.
@@ -100,17 +97,17 @@ void SamplesAndRefusals() {
 void PartsOutOfPlace() {
   KeptBytes sink;
   Recorder recorder(sink);
-  CHECK(Is(recorder.Register(), DeterministicErrc::kMisplaced));
-  CHECK(Is(recorder.Terminate(), DeterministicErrc::kMisplaced) && sink.kept.empty());
+  CHECK(Refuses(recorder.Register(), DeterministicErrc::kMisplaced));
+  CHECK(Refuses(recorder.Terminate(), DeterministicErrc::kMisplaced) && sink.kept.empty());
   CHECK(recorder.Header(kProfile));
-  CHECK(Is(recorder.Header(kProfile), DeterministicErrc::kMisplaced));
-  CHECK(Is(recorder.Discover(), DeterministicErrc::kMisplaced));
+  CHECK(Refuses(recorder.Header(kProfile), DeterministicErrc::kMisplaced));
+  CHECK(Refuses(recorder.Discover(), DeterministicErrc::kMisplaced));
   CHECK(recorder.Register() && recorder.Discover());
-  CHECK(Is(recorder.Finished({}, {}), DeterministicErrc::kMisplaced));
+  CHECK(Refuses(recorder.Finished({}, {}), DeterministicErrc::kMisplaced));
   CHECK(recorder.Init({}) && recorder.Finished({}, {}) && recorder.Terminate());
   std::vector<std::uint8_t> const whole = sink.kept;
-  CHECK(Is(recorder.Terminate(), DeterministicErrc::kMisplaced));
-  CHECK(Is(recorder.Finished({}, {}), DeterministicErrc::kMisplaced));
+  CHECK(Refuses(recorder.Terminate(), DeterministicErrc::kMisplaced));
+  CHECK(Refuses(recorder.Finished({}, {}), DeterministicErrc::kMisplaced));
   CHECK(sink.kept == whole);
 }
 
@@ -118,7 +115,7 @@ bool HeaderOutOfRange(DetProfile const& profile, std::vector<std::int64_t> const
                       std::vector<DetEvent> const& events) {
   KeptBytes sink;
   Recorder recorder(sink);
-  return Is(recorder.Header(profile, params, events), DeterministicErrc::kOutOfRange) &&
+  return Refuses(recorder.Header(profile, params, events), DeterministicErrc::kOutOfRange) &&
          sink.kept.empty() && recorder.Header(kProfile);
 }
 
@@ -152,15 +149,15 @@ void CyclesOutOfRange() {
   DetElement const long_element{{}, 0, 65};
   std::vector<DetElement> const elements(65537);
   std::vector<std::uint8_t> const output(1048577);
-  CHECK(Is(recorder.Finished({{}, great}, {}), kRange));
-  CHECK(Is(recorder.Finished({{}, unknown}, {}), kRange));
-  CHECK(Is(recorder.Refused({{}, many}, RefusalPhase::kPrepare, 0), kRange));
-  CHECK(Is(recorder.Finished({}, {&long_element, 1}), kRange));
-  CHECK(Is(recorder.Finished({}, elements), kRange));
-  CHECK(Is(recorder.Finished({}, {}, output), kRange));
-  CHECK(Is(recorder.Refused({}, static_cast<RefusalPhase>(3), 0), kRange));
-  CHECK(Is(recorder.RefusedInPass({}, 8, 0, 0), kRange));
-  CHECK(Is(recorder.RefusedInPass({}, 0, 65536, 0), kRange));
+  CHECK(Refuses(recorder.Finished({{}, great}, {}), kRange));
+  CHECK(Refuses(recorder.Finished({{}, unknown}, {}), kRange));
+  CHECK(Refuses(recorder.Refused({{}, many}, RefusalPhase::kPrepare, 0), kRange));
+  CHECK(Refuses(recorder.Finished({}, {&long_element, 1}), kRange));
+  CHECK(Refuses(recorder.Finished({}, elements), kRange));
+  CHECK(Refuses(recorder.Finished({}, {}, output), kRange));
+  CHECK(Refuses(recorder.Refused({}, static_cast<RefusalPhase>(3), 0), kRange));
+  CHECK(Refuses(recorder.RefusedInPass({}, 8, 0, 0), kRange));
+  CHECK(Refuses(recorder.RefusedInPass({}, 0, 65536, 0), kRange));
   CHECK(sink.kept.size() == opening && recorder.Terminate());
 }
 
@@ -202,13 +199,13 @@ void AFailedWriteStays() {
   Full sink(2);
   Recorder recorder(sink);
   CHECK(recorder.Header(kProfile) && recorder.Register());
-  CHECK(Is(recorder.Discover(), DeterministicErrc::kWriteFailed));
-  CHECK(Is(recorder.Init({}), DeterministicErrc::kWriteFailed));
-  CHECK(Is(recorder.Header(kProfile), DeterministicErrc::kWriteFailed));
+  CHECK(Refuses(recorder.Discover(), DeterministicErrc::kWriteFailed));
+  CHECK(Refuses(recorder.Init({}), DeterministicErrc::kWriteFailed));
+  CHECK(Refuses(recorder.Header(kProfile), DeterministicErrc::kWriteFailed));
   Full late(5);
   Recorder other(late);
   CHECK(other.Header(kProfile) && other.Register() && other.Discover() && other.Init({}));
-  CHECK(Is(other.Terminate(), DeterministicErrc::kWriteFailed));
+  CHECK(Refuses(other.Terminate(), DeterministicErrc::kWriteFailed));
 }
 
 void Streams() {
@@ -219,7 +216,7 @@ void Streams() {
   std::ofstream held("/dev/full", std::ios::binary);  // a short record is held back up to its end
   StreamSink full(held);
   Recorder other(full);
-  CHECK(Opens(other) && Is(other.Terminate(), DeterministicErrc::kWriteFailed));
+  CHECK(Opens(other) && Refuses(other.Terminate(), DeterministicErrc::kWriteFailed));
 }
 
 void AStreamThatThrows() {
@@ -230,7 +227,7 @@ void AStreamThatThrows() {
     stream.exceptions(mask);
     StreamSink sink(stream);
     Recorder recorder(sink);
-    CHECK(Is(recorder.Header(kProfile), DeterministicErrc::kWriteFailed));
+    CHECK(Refuses(recorder.Header(kProfile), DeterministicErrc::kWriteFailed));
   }
 }
 
@@ -247,11 +244,11 @@ void Descriptors() {
   close(ends[0]);
   close(ends[1]);
   Recorder closed(sink);
-  CHECK(Is(closed.Header(kProfile), DeterministicErrc::kWriteFailed));
+  CHECK(Refuses(closed.Header(kProfile), DeterministicErrc::kWriteFailed));
   int const full = open("/dev/full", O_WRONLY);
   DescriptorSink device(full);
   Recorder other(device);
-  CHECK(full >= 0 && Is(other.Header(kProfile), DeterministicErrc::kWriteFailed));
+  CHECK(full >= 0 && Refuses(other.Header(kProfile), DeterministicErrc::kWriteFailed));
   close(full);
 }
 

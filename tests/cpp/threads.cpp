@@ -9,6 +9,7 @@
 #include <string>
 #include <thread>
 
+#include "answers.h"
 #include "check.h"
 #include "script.h"
 
@@ -71,7 +72,7 @@ void Refusing() {
     threads_left = started;
     Script script({});
     auto const client = DeterministicClient::Create(script, 10, 4);
-    CHECK(!client && client.Error().code == DeterministicErrc::kThreadNotStarted);
+    CHECK(Refuses(client, DeterministicErrc::kThreadNotStarted));
     CHECK(ThreadsAre(before));
   }
 }
