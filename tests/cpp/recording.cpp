@@ -1,8 +1,10 @@
 // Records that are written part by part, against the worked bytes of docs/FORMATS.md, and the
 // errors of a recorder.
 #include <fcntl.h>
+#include <sys/syscall.h>
 #include <unistd.h>
 
+#include <cerrno>
 #include <fstream>
 #include <sstream>
 #include <string>
@@ -12,6 +14,23 @@
 #include "answers.h"
 #include "check.h"
 #include "sinks.h"
+
+namespace {
+
+bool slow_writes = false;
+int writes = 0;
+
+}  // namespace
+
+/// Stands in for the system's call. A slow one takes at most seven bytes, and is interrupted every
+/// third time.
+extern "C" ssize_t write(int descriptor, void const* bytes, std::size_t count) {
+  if (slow_writes && ++writes % 3 == 0) {
+    errno = EINTR;
+    return -1;
+  }
+  return syscall(SYS_write, descriptor, bytes, slow_writes && count > 7 ? 7 : count);
+}
 
 using namespace ara::exec;
 
@@ -231,18 +250,26 @@ void AStreamThatThrows() {
   }
 }
 
-void Descriptors() {
-  int ends[2];
-  CHECK(pipe(ends) == 0);
+/// Whether the record that goes through a pipe is the worked one.
+bool GoesThrough(int (&ends)[2]) {
   DescriptorSink sink(ends[1]);
   Recorder recorder(sink);
-  CHECK(Opens(recorder) && recorder.Terminate());
+  if (!Opens(recorder) || !recorder.Terminate()) return false;
   std::vector<std::uint8_t> bytes(200);
-  CHECK(read(ends[0], bytes.data(), bytes.size()) == 99);
+  if (read(ends[0], bytes.data(), bytes.size()) != 99) return false;
   bytes.resize(99);
-  CHECK(HexOf(bytes) == kOpening + "05");
+  return HexOf(bytes) == kOpening + "05";
+}
+
+void Descriptors() {
+  int ends[2];
+  CHECK(pipe(ends) == 0 && GoesThrough(ends));
+  slow_writes = true;
+  CHECK(GoesThrough(ends) && writes > 99 / 7);
+  slow_writes = false;
   close(ends[0]);
   close(ends[1]);
+  DescriptorSink sink(ends[1]);
   Recorder closed(sink);
   CHECK(Refuses(closed.Header(kProfile), DeterministicErrc::kWriteFailed));
   int const full = open("/dev/full", O_WRONLY);
@@ -266,6 +293,7 @@ int main() {
   check::Test("recording: a failed write stays", AFailedWriteStays);
   check::Test("recording: streams", Streams);
   check::Test("recording: streams that fail, with and without exceptions", AStreamThatThrows);
-  check::Test("recording: descriptors that take, are closed and are full", Descriptors);
+  check::Test("recording: descriptors that take, take a few bytes, are closed and are full",
+              Descriptors);
   return check::Status();
 }

@@ -16,6 +16,7 @@
 namespace {
 
 int threads_left = 0;
+int attempts = 0;
 
 }  // namespace
 
@@ -23,6 +24,7 @@ extern "C" int pthread_create(pthread_t* thread, pthread_attr_t const* attribute
                               void* (*start)(void*), void* argument) {
   using Create = int (*)(pthread_t*, pthread_attr_t const*, void* (*)(void*), void*);
   static auto const create = reinterpret_cast<Create>(dlsym(RTLD_NEXT, "pthread_create"));
+  ++attempts;
   if (threads_left == 0) return EAGAIN;
   --threads_left;
   return create(thread, attributes, start, argument);
@@ -112,10 +114,11 @@ void ClientsThatDoNothing() {
 }
 
 void OneWorker() {
-  threads_left = 0;
+  attempts = 0;
   Script script({{}, {}, {}, {}});
   DeterministicClient client = DeterministicClient::Create(script, 10, 1).Value();
   (void)Drawn(client);
+  CHECK(attempts == 0);
 }
 
 }  // namespace
