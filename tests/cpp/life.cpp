@@ -98,7 +98,10 @@ void ACopyIsTheSameClient() {
   det_client_set_seed(&client, 3);
   det_client_random(&client);
   DetClient copy = client;
-  CHECK(det_client_random(&client) == det_client_random(&copy));
+  reference::Xoshiro256PlusPlus own = reference::OwnStream(3, 0);
+  own.Next();
+  std::uint64_t const second = own.Next();
+  CHECK(det_client_random(&client) == second && det_client_random(&copy) == second);
   std::uint8_t one = 8, other = 9;
   CHECK(det_client_wait(&client, false, false, 0, &one));
   CHECK(det_client_wait(&copy, false, false, 0, &other) && one == other);
