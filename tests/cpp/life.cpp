@@ -2,6 +2,7 @@
 // the class.
 #include <cstring>
 
+#include "answers.h"
 #include "check.h"
 #include "reference.h"
 #include "script.h"
@@ -97,7 +98,10 @@ void ACopyIsTheSameClient() {
   det_client_set_seed(&client, 3);
   det_client_random(&client);
   DetClient copy = client;
-  CHECK(det_client_random(&client) == det_client_random(&copy));
+  reference::Xoshiro256PlusPlus own = reference::OwnStream(3, 0);
+  own.Next();
+  std::uint64_t const second = own.Next();
+  CHECK(det_client_random(&client) == second && det_client_random(&copy) == second);
   std::uint8_t one = 8, other = 9;
   CHECK(det_client_wait(&client, false, false, 0, &one));
   CHECK(det_client_wait(&copy, false, false, 0, &other) && one == other);
@@ -131,30 +135,31 @@ void TheTimeStamps() {
   DeterministicClient client = ClientInCycle(script, 1);
   CHECK(Count(client.GetActivationTime()) == 5 && Count(client.GetNextActivationTime()) == 15);
   (void)client.WaitForActivation();
-  CHECK(client.GetActivationTime().Error().code == DeterministicErrc::kNoTimeStampAvailable);
-  CHECK(client.GetNextActivationTime().Error().code == DeterministicErrc::kNoTimeStampAvailable);
+  CHECK(Refuses(client.GetActivationTime(), DeterministicErrc::kNoTimeStampAvailable));
+  CHECK(Refuses(client.GetNextActivationTime(), DeterministicErrc::kNoTimeStampAvailable));
   (void)client.WaitForActivation();
   CHECK(Count(client.GetActivationTime()) == INT64_MAX);
-  CHECK(client.GetNextActivationTime().Error().code == DeterministicErrc::kTimeStampTooLarge);
+  CHECK(Refuses(client.GetNextActivationTime(), DeterministicErrc::kTimeStampTooLarge));
   CHECK(client.GetNextActivationNanoseconds() == most + 10);
   (void)client.WaitForActivation();
-  CHECK(client.GetActivationTime().Error().code == DeterministicErrc::kTimeStampTooLarge);
+  CHECK(Refuses(client.GetActivationTime(), DeterministicErrc::kTimeStampTooLarge));
   CHECK(client.GetActivationNanoseconds() == most + 1);
   (void)client.WaitForActivation();
   CHECK(client.GetActivationNanoseconds() == UINT64_MAX);
   CHECK(!client.GetNextActivationNanoseconds());  // beyond 2^64 - 1
-  CHECK(client.GetNextActivationTime().Error().code == DeterministicErrc::kNoTimeStampAvailable);
+  CHECK(Refuses(client.GetNextActivationTime(), DeterministicErrc::kNoTimeStampAvailable));
 }
 
 void WhatCreateRefuses() {
   Script script({});
-  auto const refused = [&](std::uint64_t cycle_time, unsigned workers) {
-    return DeterministicClient::Create(script, cycle_time, workers).Error().code;
+  auto const made = [&](std::uint64_t cycle_time, unsigned workers) {
+    return DeterministicClient::Create(script, cycle_time, workers);
   };
-  CHECK(refused(0, 1) == DeterministicErrc::kBadCycleTime);
-  CHECK(refused(std::uint64_t{1} << 63, 1) == DeterministicErrc::kBadCycleTime);
-  CHECK(refused(1, 0) == DeterministicErrc::kBadWorkers);
-  CHECK(refused(1, 65) == DeterministicErrc::kBadWorkers);
+  CHECK(Refuses(made(0, 1), DeterministicErrc::kBadCycleTime));
+  CHECK(Refuses(made(std::uint64_t{1} << 63, 1), DeterministicErrc::kBadCycleTime));
+  CHECK(Refuses(made(1, 0), DeterministicErrc::kBadWorkers));
+  CHECK(Refuses(made(1, 65), DeterministicErrc::kBadWorkers));
+  CHECK(Refuses(made(0, 0), DeterministicErrc::kBadCycleTime));
   CHECK(DeterministicClient::Create(script, 1, 64).Value().Workers() == 64);
 }
 
@@ -165,7 +170,7 @@ void TheLimitOfTheClass() {
   DeterministicClient client = DeterministicClient::Create(source, 1).Value();
   bool ran = true;
   for (std::uint64_t k = 0; k < 3 + kMillion; ++k) ran = client.WaitForActivation() && ran;
-  CHECK(ran && client.WaitForActivation().Error().code == DeterministicErrc::kTooManyCycles);
+  CHECK(ran && Refuses(client.WaitForActivation(), DeterministicErrc::kTooManyCycles));
   CHECK(client.Cycle() == kMillion);
 }
 

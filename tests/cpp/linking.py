@@ -38,6 +38,36 @@ def run_headers(bench: Bench) -> Sequence[str]:
     return lines
 
 
+# Containers that no pass may be over, by what they are declared as, and what the compiler has to tell.
+MISUSED = {
+    "std::list<bool>": "a pass wants a container with random access",
+    "std::vector<bool>": "the container's elements are to be those of the runnable",
+    "std::vector<int>": "the container's elements are to be those of the runnable",
+    "std::array<bool, 3> const": "the container's elements are to be those of the runnable",
+}
+
+
+def misused(bench: Bench, container: str, message: str) -> None:
+    """A pass over this container doesn't compile, for the reason that is told."""
+    source = bench.folder / "misused.cpp"
+    source.write_text(f"""#include <array>
+#include <list>
+#include "ara/exec/deterministic_client.h"
+bool Runs(ara::exec::DeterministicClient& client, ara::exec::WorkerRunnable<bool>& runnable, {container}& container) {{
+  return client.RunWorkerPool(runnable, container).HasValue();
+}}
+""")
+    for compiler in ("g++", "clang++"):
+        done = bench.command([compiler, *CPP, "-fsyntax-only", source])
+        if done.returncode == 0 or message not in done.stderr.decode(errors="replace"):
+            raise Failure(f"{compiler} takes {container}, or tells another reason")
+
+
+def run_misused(bench: Bench) -> Sequence[str]:
+    return [line for container, message in MISUSED.items()
+            for line in told(f"misuse: {container} is refused by the compiler", partial(misused, bench, container, message))]
+
+
 def run_c(bench: Bench) -> Sequence[str]:
     try:
         return bench.lines([bench.compiled("gcc", ["surface.c"], "surface", C)])
@@ -131,5 +161,5 @@ def run_building(bench: Bench) -> Sequence[str]:
 
 
 def linking_groups() -> list[Group]:
-    return [Group("headers", run_headers), Group("surface", run_c), Group("core", run_core), Group("plugin", run_plugin),
-            Group("library", run_library), Group("building", run_building)]
+    return [Group("headers", run_headers), Group("misuse", run_misused), Group("surface", run_c), Group("core", run_core),
+            Group("plugin", run_plugin), Group("library", run_library), Group("building", run_building)]

@@ -3,6 +3,7 @@
 #include <deque>
 #include <memory>
 
+#include "answers.h"
 #include "check.h"
 #include "reference.h"
 #include "script.h"
@@ -111,7 +112,7 @@ void EightPasses() {
   Number(elements);
   Stir stir;
   for (int pass = 0; pass < 8; ++pass) CHECK(client.RunWorkerPool(stir, elements));
-  CHECK(client.RunWorkerPool(stir, elements).Error().code == DeterministicErrc::kTooManyPasses);
+  CHECK(Refuses(client.RunWorkerPool(stir, elements), DeterministicErrc::kTooManyPasses));
   CHECK(elements == wanted.elements && client.Draws() == wanted.draws);
   (void)client.WaitForActivation();
   CHECK(client.Draws().empty() && client.RunWorkerPool(stir, elements));
@@ -148,7 +149,7 @@ void TooManyElements() {
   DeterministicClient client = ClientInCycle(script, 2);
   std::vector<std::uint64_t> elements(65537), before = elements;
   Stir stir;
-  CHECK(client.RunWorkerPool(stir, elements).Error().code == DeterministicErrc::kTooManyElements);
+  CHECK(Refuses(client.RunWorkerPool(stir, elements), DeterministicErrc::kTooManyElements));
   CHECK(elements == before && client.Draws().empty());
 }
 
@@ -168,7 +169,7 @@ void ARefusedCycle() {
   Script script({{}, {}, {}, {}, {}, {}});
   DeterministicClient client = DeterministicClient::Create(script, 10, 2).Value();
   (void)client.WaitForActivation();
-  CHECK(client.RefuseCycle().Error().code == DeterministicErrc::kNotInCycle);
+  CHECK(Refuses(client.RefuseCycle(), DeterministicErrc::kNotInCycle));
   for (int k = 0; k < 3; ++k) (void)client.WaitForActivation();
   client.SetRandomSeed(kSeed);
   std::vector<std::uint64_t> elements(200);
@@ -185,7 +186,7 @@ void ARefusedCycle() {
   CHECK(client.Cycle() == 2 && client.Seed() == 0);
   (void)client.WaitForActivation();
   (void)client.WaitForActivation();
-  CHECK(client.RefuseCycle().Error().code == DeterministicErrc::kNotInCycle);
+  CHECK(Refuses(client.RefuseCycle(), DeterministicErrc::kNotInCycle));
 }
 
 }  // namespace

@@ -1,16 +1,36 @@
 // Records that are written part by part, against the worked bytes of docs/FORMATS.md, and the
 // errors of a recorder.
 #include <fcntl.h>
+#include <sys/syscall.h>
 #include <unistd.h>
 
+#include <cerrno>
 #include <fstream>
 #include <sstream>
 #include <string>
 
 #include "ara/exec/recorder.h"
 #include "ara/exec/spelling.h"
+#include "answers.h"
 #include "check.h"
 #include "sinks.h"
+
+namespace {
+
+bool slow_writes = false;
+int writes = 0;
+
+}  // namespace
+
+/// Stands in for the system's call. A slow one takes at most seven bytes, and is interrupted every
+/// third time.
+extern "C" ssize_t write(int descriptor, void const* bytes, std::size_t count) {
+  if (slow_writes && ++writes % 3 == 0) {
+    errno = EINTR;
+    return -1;
+  }
+  return syscall(SYS_write, descriptor, bytes, slow_writes && count > 7 ? 7 : count);
+}
 
 using namespace ara::exec;
 
@@ -38,10 +58,6 @@ DetElement Level(std::int64_t level) {
   DetElement element{};
   Spelling(element).I64(level);
   return element;
-}
-
-bool Is(Result<void> const& answer, DeterministicErrc code) {
-  return !answer && answer.Error().code == code;
 }
 
 /// Brings a recorder to its cycles, with one event and four elements.
@@ -100,17 +116,17 @@ void SamplesAndRefusals() {
 void PartsOutOfPlace() {
   KeptBytes sink;
   Recorder recorder(sink);
-  CHECK(Is(recorder.Register(), DeterministicErrc::kMisplaced));
-  CHECK(Is(recorder.Terminate(), DeterministicErrc::kMisplaced) && sink.kept.empty());
+  CHECK(Refuses(recorder.Register(), DeterministicErrc::kMisplaced));
+  CHECK(Refuses(recorder.Terminate(), DeterministicErrc::kMisplaced) && sink.kept.empty());
   CHECK(recorder.Header(kProfile));
-  CHECK(Is(recorder.Header(kProfile), DeterministicErrc::kMisplaced));
-  CHECK(Is(recorder.Discover(), DeterministicErrc::kMisplaced));
+  CHECK(Refuses(recorder.Header(kProfile), DeterministicErrc::kMisplaced));
+  CHECK(Refuses(recorder.Discover(), DeterministicErrc::kMisplaced));
   CHECK(recorder.Register() && recorder.Discover());
-  CHECK(Is(recorder.Finished({}, {}), DeterministicErrc::kMisplaced));
+  CHECK(Refuses(recorder.Finished({}, {}), DeterministicErrc::kMisplaced));
   CHECK(recorder.Init({}) && recorder.Finished({}, {}) && recorder.Terminate());
   std::vector<std::uint8_t> const whole = sink.kept;
-  CHECK(Is(recorder.Terminate(), DeterministicErrc::kMisplaced));
-  CHECK(Is(recorder.Finished({}, {}), DeterministicErrc::kMisplaced));
+  CHECK(Refuses(recorder.Terminate(), DeterministicErrc::kMisplaced));
+  CHECK(Refuses(recorder.Finished({}, {}), DeterministicErrc::kMisplaced));
   CHECK(sink.kept == whole);
 }
 
@@ -118,7 +134,7 @@ bool HeaderOutOfRange(DetProfile const& profile, std::vector<std::int64_t> const
                       std::vector<DetEvent> const& events) {
   KeptBytes sink;
   Recorder recorder(sink);
-  return Is(recorder.Header(profile, params, events), DeterministicErrc::kOutOfRange) &&
+  return Refuses(recorder.Header(profile, params, events), DeterministicErrc::kOutOfRange) &&
          sink.kept.empty() && recorder.Header(kProfile);
 }
 
@@ -152,15 +168,15 @@ void CyclesOutOfRange() {
   DetElement const long_element{{}, 0, 65};
   std::vector<DetElement> const elements(65537);
   std::vector<std::uint8_t> const output(1048577);
-  CHECK(Is(recorder.Finished({{}, great}, {}), kRange));
-  CHECK(Is(recorder.Finished({{}, unknown}, {}), kRange));
-  CHECK(Is(recorder.Refused({{}, many}, RefusalPhase::kPrepare, 0), kRange));
-  CHECK(Is(recorder.Finished({}, {&long_element, 1}), kRange));
-  CHECK(Is(recorder.Finished({}, elements), kRange));
-  CHECK(Is(recorder.Finished({}, {}, output), kRange));
-  CHECK(Is(recorder.Refused({}, static_cast<RefusalPhase>(3), 0), kRange));
-  CHECK(Is(recorder.RefusedInPass({}, 8, 0, 0), kRange));
-  CHECK(Is(recorder.RefusedInPass({}, 0, 65536, 0), kRange));
+  CHECK(Refuses(recorder.Finished({{}, great}, {}), kRange));
+  CHECK(Refuses(recorder.Finished({{}, unknown}, {}), kRange));
+  CHECK(Refuses(recorder.Refused({{}, many}, RefusalPhase::kPrepare, 0), kRange));
+  CHECK(Refuses(recorder.Finished({}, {&long_element, 1}), kRange));
+  CHECK(Refuses(recorder.Finished({}, elements), kRange));
+  CHECK(Refuses(recorder.Finished({}, {}, output), kRange));
+  CHECK(Refuses(recorder.Refused({}, static_cast<RefusalPhase>(3), 0), kRange));
+  CHECK(Refuses(recorder.RefusedInPass({}, 8, 0, 0), kRange));
+  CHECK(Refuses(recorder.RefusedInPass({}, 0, 65536, 0), kRange));
   CHECK(sink.kept.size() == opening && recorder.Terminate());
 }
 
@@ -202,13 +218,13 @@ void AFailedWriteStays() {
   Full sink(2);
   Recorder recorder(sink);
   CHECK(recorder.Header(kProfile) && recorder.Register());
-  CHECK(Is(recorder.Discover(), DeterministicErrc::kWriteFailed));
-  CHECK(Is(recorder.Init({}), DeterministicErrc::kWriteFailed));
-  CHECK(Is(recorder.Header(kProfile), DeterministicErrc::kWriteFailed));
+  CHECK(Refuses(recorder.Discover(), DeterministicErrc::kWriteFailed));
+  CHECK(Refuses(recorder.Init({}), DeterministicErrc::kWriteFailed));
+  CHECK(Refuses(recorder.Header(kProfile), DeterministicErrc::kWriteFailed));
   Full late(5);
   Recorder other(late);
   CHECK(other.Header(kProfile) && other.Register() && other.Discover() && other.Init({}));
-  CHECK(Is(other.Terminate(), DeterministicErrc::kWriteFailed));
+  CHECK(Refuses(other.Terminate(), DeterministicErrc::kWriteFailed));
 }
 
 void Streams() {
@@ -219,7 +235,7 @@ void Streams() {
   std::ofstream held("/dev/full", std::ios::binary);  // a short record is held back up to its end
   StreamSink full(held);
   Recorder other(full);
-  CHECK(Opens(other) && Is(other.Terminate(), DeterministicErrc::kWriteFailed));
+  CHECK(Opens(other) && Refuses(other.Terminate(), DeterministicErrc::kWriteFailed));
 }
 
 void AStreamThatThrows() {
@@ -230,28 +246,36 @@ void AStreamThatThrows() {
     stream.exceptions(mask);
     StreamSink sink(stream);
     Recorder recorder(sink);
-    CHECK(Is(recorder.Header(kProfile), DeterministicErrc::kWriteFailed));
+    CHECK(Refuses(recorder.Header(kProfile), DeterministicErrc::kWriteFailed));
   }
+}
+
+/// Whether the record that goes through a pipe is the worked one.
+bool GoesThrough(int (&ends)[2]) {
+  DescriptorSink sink(ends[1]);
+  Recorder recorder(sink);
+  if (!Opens(recorder) || !recorder.Terminate()) return false;
+  std::vector<std::uint8_t> bytes(200);
+  if (read(ends[0], bytes.data(), bytes.size()) != 99) return false;
+  bytes.resize(99);
+  return HexOf(bytes) == kOpening + "05";
 }
 
 void Descriptors() {
   int ends[2];
-  CHECK(pipe(ends) == 0);
-  DescriptorSink sink(ends[1]);
-  Recorder recorder(sink);
-  CHECK(Opens(recorder) && recorder.Terminate());
-  std::vector<std::uint8_t> bytes(200);
-  CHECK(read(ends[0], bytes.data(), bytes.size()) == 99);
-  bytes.resize(99);
-  CHECK(HexOf(bytes) == kOpening + "05");
+  CHECK(pipe(ends) == 0 && GoesThrough(ends));
+  slow_writes = true;
+  CHECK(GoesThrough(ends) && writes > 99 / 7);
+  slow_writes = false;
   close(ends[0]);
   close(ends[1]);
+  DescriptorSink sink(ends[1]);
   Recorder closed(sink);
-  CHECK(Is(closed.Header(kProfile), DeterministicErrc::kWriteFailed));
+  CHECK(Refuses(closed.Header(kProfile), DeterministicErrc::kWriteFailed));
   int const full = open("/dev/full", O_WRONLY);
   DescriptorSink device(full);
   Recorder other(device);
-  CHECK(full >= 0 && Is(other.Header(kProfile), DeterministicErrc::kWriteFailed));
+  CHECK(full >= 0 && Refuses(other.Header(kProfile), DeterministicErrc::kWriteFailed));
   close(full);
 }
 
@@ -269,6 +293,7 @@ int main() {
   check::Test("recording: a failed write stays", AFailedWriteStays);
   check::Test("recording: streams", Streams);
   check::Test("recording: streams that fail, with and without exceptions", AStreamThatThrows);
-  check::Test("recording: descriptors that take, are closed and are full", Descriptors);
+  check::Test("recording: descriptors that take, take a few bytes, are closed and are full",
+              Descriptors);
   return check::Status();
 }

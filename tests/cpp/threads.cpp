@@ -9,12 +9,14 @@
 #include <string>
 #include <thread>
 
+#include "answers.h"
 #include "check.h"
 #include "script.h"
 
 namespace {
 
 int threads_left = 0;
+int attempts = 0;
 
 }  // namespace
 
@@ -22,6 +24,7 @@ extern "C" int pthread_create(pthread_t* thread, pthread_attr_t const* attribute
                               void* (*start)(void*), void* argument) {
   using Create = int (*)(pthread_t*, pthread_attr_t const*, void* (*)(void*), void*);
   static auto const create = reinterpret_cast<Create>(dlsym(RTLD_NEXT, "pthread_create"));
+  ++attempts;
   if (threads_left == 0) return EAGAIN;
   --threads_left;
   return create(thread, attributes, start, argument);
@@ -71,7 +74,7 @@ void Refusing() {
     threads_left = started;
     Script script({});
     auto const client = DeterministicClient::Create(script, 10, 4);
-    CHECK(!client && client.Error().code == DeterministicErrc::kThreadNotStarted);
+    CHECK(Refuses(client, DeterministicErrc::kThreadNotStarted));
     CHECK(ThreadsAre(before));
   }
 }
@@ -111,10 +114,11 @@ void ClientsThatDoNothing() {
 }
 
 void OneWorker() {
-  threads_left = 0;
+  attempts = 0;
   Script script({{}, {}, {}, {}});
   DeterministicClient client = DeterministicClient::Create(script, 10, 1).Value();
   (void)Drawn(client);
+  CHECK(attempts == 0);
 }
 
 }  // namespace

@@ -1,7 +1,11 @@
 // Exceptions that leave the application's code end in an error value.
+#include <atomic>
+#include <chrono>
 #include <new>
 #include <stdexcept>
+#include <thread>
 
+#include "answers.h"
 #include "check.h"
 #include "reference.h"
 #include "script.h"
@@ -46,9 +50,7 @@ bool TellsTheLeast(std::vector<std::uint32_t> const& bad, std::uint32_t least, u
   std::vector<std::uint64_t> elements = Numbered(6000);
   Thrower thrower(bad);
   Result<void> const answer = client.RunWorkerPool(thrower, elements);
-  if (answer || answer.Error() != DeterministicError{DeterministicErrc::kApplicationThrew, least}) {
-    return false;
-  }
+  if (!Refuses(answer, DeterministicErrc::kApplicationThrew, least)) return false;
   for (std::uint32_t i = 0; i < 6000; ++i) {
     bool const ran = elements[i] == Added(i, 1);
     if (!ran && (i <= least || elements[i] != i)) return false;
@@ -74,6 +76,39 @@ void SeveralElements() {
   }
 }
 
+/// Throws at element 0 and at element 64, the first of the next block, in an order of one's own.
+class InOrder final : public WorkerRunnable<std::uint64_t> {
+ public:
+  explicit InOrder(std::uint64_t first) : first_(first) {}
+
+  void Run(std::uint64_t& element, WorkerThread&) override {
+    if (element % 64 != 0) return;
+    bool const waits = element != first_;
+    for (int tries = 0; waits && !thrown_ && tries < 5000; ++tries) {
+      std::this_thread::sleep_for(std::chrono::milliseconds(2));
+    }
+    // A thread that was told goes on a little later, so that it notes its element behind the first.
+    if (waits) std::this_thread::sleep_for(std::chrono::milliseconds(50));
+    thrown_ = true;
+    throw std::runtime_error("refused");
+  }
+
+ private:
+  std::uint64_t first_;
+  std::atomic<bool> thrown_{false};
+};
+
+void TwoThreadsInEitherOrder() {
+  for (std::uint64_t first : {std::uint64_t{0}, std::uint64_t{64}}) {
+    Script script({});
+    DeterministicClient client = ClientInCycle(script, 2);
+    std::vector<std::uint64_t> elements = Numbered(128);
+    InOrder runnable(first);
+    Result<void> const answer = client.RunWorkerPool(runnable, elements);
+    CHECK(Refuses(answer, DeterministicErrc::kApplicationThrew, 0));
+  }
+}
+
 void EveryElement() {
   class All final : public WorkerRunnable<std::uint64_t> {
     void Run(std::uint64_t&, WorkerThread&) override { throw 7; }
@@ -82,8 +117,7 @@ void EveryElement() {
     Script script({});
     DeterministicClient client = ClientInCycle(script, workers);
     std::vector<std::uint64_t> elements(65536);
-    CHECK(client.RunWorkerPool(all, elements).Error() ==
-          DeterministicError{DeterministicErrc::kApplicationThrew, 0});
+    CHECK(Refuses(client.RunWorkerPool(all, elements), DeterministicErrc::kApplicationThrew));
   }
 }
 
@@ -96,8 +130,8 @@ void WantOfMemoryInTheRunnable() {
   Script script({});
   DeterministicClient client = ClientInCycle(script, 2);
   std::vector<std::uint64_t> elements = Numbered(200);
-  CHECK(client.RunWorkerPool(greedy, elements).Error() ==
-        DeterministicError{DeterministicErrc::kApplicationThrew, 77});
+  Result<void> const answer = client.RunWorkerPool(greedy, elements);
+  CHECK(Refuses(answer, DeterministicErrc::kApplicationThrew, 77));
 }
 
 void TheContainer() {
@@ -109,7 +143,7 @@ void TheContainer() {
   DeterministicClient client = ClientInCycle(script, 2);
   Thrower harmless({});
   Result<void> const answer = client.RunWorkerPool(harmless, broken);
-  CHECK(!answer && answer.Error().code == DeterministicErrc::kApplicationThrew);
+  CHECK(Refuses(answer, DeterministicErrc::kApplicationThrew));
 }
 
 void TheSource() {
@@ -122,7 +156,7 @@ void TheSource() {
   } source;
   DeterministicClient client = DeterministicClient::Create(source, 10).Value();
   CHECK(client.WaitForActivation() && client.WaitForActivation());
-  CHECK(client.WaitForActivation().Error().code == DeterministicErrc::kApplicationThrew);
+  CHECK(Refuses(client.WaitForActivation(), DeterministicErrc::kApplicationThrew));
   CHECK(client.WaitForActivation().Value() == ActivationReturnType::kInit);
 }
 
@@ -131,6 +165,7 @@ void TheSource() {
 int main() {
   check::Test("throwing: one element, at several places", OneElement);
   check::Test("throwing: the least of several elements is told", SeveralElements);
+  check::Test("throwing: two threads throw in either order", TwoThreadsInEitherOrder);
   check::Test("throwing: every element", EveryElement);
   check::Test("throwing: want of memory in the runnable", WantOfMemoryInTheRunnable);
   check::Test("throwing: the container", TheContainer);

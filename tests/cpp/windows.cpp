@@ -4,6 +4,7 @@
 #include <vector>
 
 #include "ara/exec/event_window.h"
+#include "answers.h"
 #include "check.h"
 #include "reference.h"
 
@@ -87,14 +88,14 @@ void ManyRounds() {
 }
 
 void TheLimits() {
-  CHECK(EventWindow::Create(0).Error().code == DeterministicErrc::kBadWindow);
-  CHECK(EventWindow::Create(1025).Error().code == DeterministicErrc::kBadWindow);
+  CHECK(Refuses(EventWindow::Create(0), DeterministicErrc::kBadWindow));
+  CHECK(Refuses(EventWindow::Create(1025), DeterministicErrc::kBadWindow));
   CHECK(EventWindow::Create(1024).HasValue());
   EventWindow window = Made(1, WindowPolicy::kLast);
   CHECK(window.Arrive(1000000000000) && window.Arrive(-1000000000000));
-  CHECK(window.Arrive(1000000000001).Error().code == DeterministicErrc::kBadSample);
-  CHECK(window.Arrive(-1000000000001).Error().code == DeterministicErrc::kBadSample);
-  CHECK(window.Arrive(INT64_MIN).Error().code == DeterministicErrc::kBadSample);
+  CHECK(Refuses(window.Arrive(1000000000001), DeterministicErrc::kBadSample));
+  CHECK(Refuses(window.Arrive(-1000000000001), DeterministicErrc::kBadSample));
+  CHECK(Refuses(window.Arrive(INT64_MIN), DeterministicErrc::kBadSample));
   window.Turn();
   CHECK(Shows(window, {-1000000000000}));
 }

@@ -66,7 +66,11 @@ void ACopyIsTheSameStream() {
   det_random_of_key(&random, 7);
   det_random_next(&random);
   DetRandom copy = random;
-  CHECK(det_random_next(&random) == det_random_next(&copy) && random.draws == copy.draws);
+  reference::Xoshiro256PlusPlus stream = reference::StreamOf(7);
+  stream.Next();
+  std::uint64_t const second = stream.Next();
+  CHECK(det_random_next(&random) == second && det_random_next(&copy) == second);
+  CHECK(random.draws == 2 && copy.draws == 2);
 }
 
 void TheCountStandsAtItsEnd() {
