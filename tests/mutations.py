@@ -1,0 +1,227 @@
+"""Ways to change inputs: bytes, lines of text, and fields and frames of a record. Each is a function of a source of random choices,
+so that the same source gives the same change."""
+
+import random
+import re
+from dataclasses import dataclass, field
+from typing import Callable, List, Tuple
+
+TEXT_NUMBERS = ("0", "-0", "1", "-1", "+1", "01", "00", "2", "16", "17", "32", "33", "64", "65", "255", "256", "257", "1000", "1024",
+                "1025", "4096", "65535", "65536", "65537", "1000000", "1000001", "1_000", "1__0", "0x10", "0xfg", "0o17", "0b101", "1.0", "1e3",
+                "1e400", "1e-400", "1.", ".5", "inf", "nan", "4294967295", "4294967296", "1000000000000", "1000000000001", "-1000000000000",
+                "-1000000000001", "4000000000000", "4000000000001", "9223372036854775807", "9223372036854775808", "-9223372036854775808",
+                "-9223372036854775809", "18446744073709551615", "18446744073709551616", "99999999999999999999999", "", " ", "-")
+# Numbers at the limits of a record's fields.
+LIMITS = (0, 1, 2, 3, 4, 5, 7, 8, 16, 17, 32, 33, 64, 65, 255, 256, 257, 1024, 1025, 4096, 4097, 65535, 65536, 65537, 1 << 20, (1 << 20) + 1,
+          10**12, 10**12 + 1, -10**12, -10**12 - 1, -1, 1 << 31, 1 << 63, (1 << 63) - 1, (1 << 64) - 1)
+BYTES = (0, 1, 2, 3, 4, 5, 6, 9, 10, 13, 32, 34, 35, 39, 45, 46, 48, 61, 91, 93, 95, 97, 123, 125, 127, 128, 192, 239, 255)
+CHARACTERS = ("\"", "'", "\\", "#", "=", "[", "]", "{", "}", ",", ".", " ", "\t", "\r", "\r\n", "\n", "_", "-", "+", "\x00", "\x7f", "\x1f", "é",
+              "\ufeff", "\u2028", "0", "9", "a", "Z", "\"\"\"", "'''", "[[", "]]", "\\n", "\\x41", "\\u0041", "\\U00110000", "\\ud800", "\\e")
+
+
+def cut_place(choose: random.Random, data: bytes) -> Tuple[int, int]:
+    """Where a short part of some bytes begins and ends."""
+    begin = choose.randint(0, len(data))
+    return begin, min(len(data), begin + choose.choice((1, 1, 2, 4, 8, 20)))
+
+
+def changed_bytes(choose: random.Random, data: bytes) -> bytes:
+    """Some bytes flipped, replaced, put in, taken out, doubled, swapped or cut."""
+    begin, end = cut_place(choose, data)
+    before, part, behind = data[:begin], data[begin:end], data[end:]
+    way = choose.randrange(8)
+    if way == 0 and part:
+        return before + bytes([part[0] ^ 1 << choose.randrange(8)]) + part[1:] + behind
+    if way == 1 and part:
+        return before + bytes([choose.choice(BYTES)]) + part[1:] + behind
+    if way == 2:
+        return before + bytes(choose.choice(BYTES) for _ in range(choose.randint(1, 4))) + part + behind
+    if way == 3:
+        return before + behind
+    if way == 4:
+        return before + part + part + behind
+    if way == 5 and behind:
+        return before + behind[: len(part)] + part + behind[len(part) :]
+    if way == 6:
+        return before
+    return before + choose.randbytes(len(part)) + behind
+
+
+def changed_character(choose: random.Random, data: bytes) -> bytes:
+    """A character that means something put in, at a place or instead of another."""
+    begin = choose.randint(0, len(data))
+    return data[:begin] + choose.choice(CHARACTERS).encode() + data[begin + choose.randint(0, 1) :]
+
+
+def changed_number(choose: random.Random, data: bytes) -> bytes:
+    """A decimal number replaced by another one."""
+    numbers = list(re.finditer(rb"-?[0-9][0-9_]*", data))
+    if not numbers:
+        return data
+    place = choose.choice(numbers)
+    return data[: place.start()] + choose.choice(TEXT_NUMBERS).encode() + data[place.end() :]
+
+
+def changed_lines(choose: random.Random, data: bytes, others: List[bytes]) -> bytes:
+    """Lines doubled, swapped, moved, taken out, put in, joined, or ended otherwise."""
+    lines = data.splitlines(keepends=True)
+    place, other = choose.randint(0, len(lines)), choose.randint(0, len(lines))
+    low, high = min(place, other), max(place, other)
+    way = choose.randrange(9)
+    if way == 0:
+        return b"".join(lines[:high] + lines[low:])
+    if way == 1 and high < len(lines):
+        lines[low], lines[high] = lines[high], lines[low]
+    elif way == 2:
+        lines = lines[:low] + lines[high:]
+    elif way == 3 and place < len(lines):
+        del lines[place]
+    elif way == 4 and place < len(lines):
+        lines.insert(other, lines.pop(place))
+    elif way == 5 and place < len(lines):
+        lines[place] = choose.choice((b"", b" ", b"\t")) + lines[place].rstrip(b"\n") + choose.choice((b"", b" ", b"\r\n", b"\n\n", b" # x\n"))
+    elif way == 6:
+        return b"".join(lines[:place])
+    else:
+        lines.insert(place, choose.choice(others) + b"\n")
+    return b"".join(lines)
+
+
+@dataclass
+class Layout:
+    """Where the fields and the frames of a whole record stand. A field is its beginning and its width."""
+
+    fields: List[Tuple[int, int]] = field(default_factory=list)
+    frames: List[Tuple[int, int]] = field(default_factory=list)
+    # The fields that only format 2 has: policies and draws.
+    second_format: List[Tuple[int, int]] = field(default_factory=list)
+
+
+class Walker:
+    """Goes through a whole record field by field."""
+
+    def __init__(self, data: bytes) -> None:
+        self.data, self.at, self.layout = data, 0, Layout()
+        self.raw(6)
+        self.version = self.number(2)
+
+    def raw(self, width: int) -> None:
+        if width:
+            self.layout.fields.append((self.at, width))
+        self.at += width
+
+    def number(self, width: int) -> int:
+        self.raw(width)
+        return int.from_bytes(self.data[self.at - width : self.at], "big")
+
+    def added(self, width: int) -> None:
+        """A field of format 2 alone."""
+        if self.version == 2:
+            self.layout.second_format.append((self.at, width))
+            self.raw(width)
+
+    def header(self) -> None:
+        for width in (2, 8, 8):
+            self.raw(width)
+        for _ in range(self.number(2)):
+            self.raw(8)
+        for _ in range(self.number(2)):
+            self.raw(2)
+            self.raw(self.number(1))
+            self.added(1)
+
+    def elements(self, in_run: bool) -> None:
+        for _ in range(self.number(4)):
+            self.raw(self.number(2))
+            if in_run:
+                self.added(4)
+
+    def run(self) -> None:
+        if self.number(1) == 1:
+            self.raw(8)
+        for _ in range(self.number(4)):
+            self.raw(2)
+            self.raw(8)
+        if self.number(1) == 1:
+            for width in (1, 1, 4, 4):
+                self.raw(width)
+        else:
+            self.elements(True)
+            self.raw(self.number(4))
+
+    def frame(self) -> None:
+        begin, tag = self.at, self.number(1)
+        if tag == 3:
+            self.elements(False)
+        elif tag == 4:
+            self.run()
+        self.layout.frames.append((begin, self.at))
+
+
+def layout_of(data: bytes) -> Layout:
+    walker = Walker(data)
+    walker.header()
+    while walker.at < len(data):
+        walker.frame()
+    return walker.layout
+
+
+def in_first_format(data: bytes) -> bytes:
+    """A whole record of format 2 without what only that has."""
+    out, at = bytearray(data[:6] + b"\0\1"), 8
+    for begin, width in layout_of(data).second_format:
+        out += data[at:begin]
+        at = begin + width
+    return bytes(out + data[at:])
+
+
+def changed_field(choose: random.Random, data: bytes) -> bytes:
+    """A number of a whole record replaced by one at a limit, or by one beside it."""
+    begin, width = choose.choice(layout_of(data).fields)
+    number = int.from_bytes(data[begin : begin + width], "big")
+    number = choose.choice((choose.choice(LIMITS), number + choose.choice((-1, 1)), choose.getrandbits(8 * width)))
+    return data[:begin] + (number % (1 << 8 * width)).to_bytes(width, "big") + data[begin + width :]
+
+
+def changed_frames(choose: random.Random, data: bytes) -> bytes:
+    """Frames of a whole record doubled, swapped, moved or taken out, or a tag put between two."""
+    places = layout_of(data).frames
+    frames = [data[begin:end] for begin, end in places]
+    one, two = choose.randrange(len(frames)), choose.randrange(len(frames))
+    way = choose.randrange(5)
+    if way == 0:
+        frames.insert(two, frames[one])
+    elif way == 1:
+        frames[one], frames[two] = frames[two], frames[one]
+    elif way == 2:
+        frames.insert(two, frames.pop(one))
+    elif way == 3:
+        del frames[min(one, two) : max(one, two) + 1]
+    else:
+        frames.insert(one, bytes([choose.randrange(8)]))
+    return data[: places[0][0]] + b"".join(frames)
+
+
+def changed_record(choose: random.Random, data: bytes) -> bytes:
+    """A whole record changed in a field, in its frames, or in its bytes, and perhaps in some bytes more."""
+    way: Callable[[random.Random, bytes], bytes] = choose.choice((changed_field, changed_field, changed_frames, changed_bytes))
+    data = way(choose, data)
+    while choose.random() < 0.2:
+        data = changed_bytes(choose, data)
+    return data
+
+
+def changed_text(choose: random.Random, data: bytes, others: List[bytes]) -> bytes:
+    """A text changed in a number, in its lines, or in its bytes, and perhaps once more."""
+    while True:
+        way = choose.randrange(8)
+        if way < 3:
+            data = changed_number(choose, data)
+        elif way < 6:
+            data = changed_lines(choose, data, others)
+        elif way < 7:
+            data = changed_character(choose, data)
+        else:
+            data = changed_bytes(choose, data)
+        if choose.random() < 0.7:
+            return data
