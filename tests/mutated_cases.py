@@ -5,35 +5,12 @@ import struct
 from dataclasses import dataclass, field
 from typing import Callable, Dict, List, Optional, Sequence, Tuple
 
+from mutated_words import OF_MANIFESTS, OF_STIMULI
 from mutations import changed_record, changed_text, in_first_format
 
 MOST_VALUE = 10**12
+MOST_CYCLES = 1_000_000
 NAMES = ("x", "y", "hold", "pressure", "e_1", "a" * 32, "0", "_")
-MANIFEST_LINES = [line.encode() for line in (
-    "", "# a comment", "x = 1", "a.b = 2", "\"job\" = 'bank'", "'workers' = 3", "\"\" = 1", "key with = 1", "params = []", "params = [1, 2,]",
-    "params = [\n 4, # four\n 2\n]", "params = 4", "params = [1, 'a']", "params = [[1]]", "params = [1.0, 2]", "[[params]]", "event = []",
-    "event = [{name = \"x\", capacity = 1}]", "event = [{name = \"x\",\n capacity = 1, # last\n}, 3]", "event = 3", "[event]", "[[event]]",
-    "[[event.inner]]", "[event.name]", "event.name = 'x'", "name = \"x\"", "name = ''", "name = 3", "name = 'X'", "name = \"a\\u0062\"",
-    "capacity = 2", "capacity = 1_024", "capacity = '2'", "policy = 'last'", "policy = \"fresh\"", "policy = \"stale\"", "policy = true",
-    "platform = 'arm'", "platform = ''", "platform = 1979-05-27", f"platform = '{'p' * 64}'", f"platform = '{'p' * 65}'", "platform = \"\"\"a\nb\"\"\"",
-    "[init_needs]", "[run_needs]", "init_needs = 1", "init_needs = {}", "[[init_needs]]", "run_needs.instructions = 4", "instructions = 0",
-    "sequential_begin = 9223372036854775807", "sequential_end = 0", "speedup_thousandths = 1000000", "speedup_thousandths = 1000001",
-    "run_needs = {instructions = 1, sequential_begin = 2, sequential_end = 3, speedup_thousandths = 4}", "[a.b]", "[[a.b]]", "[a]", "a.b.c = 1",
-    "[x.y.z]", "[x]", "y.z.w = 1", "d = 1979-05-27T07:32:00Z", "d = 1979-05-27 07:32", "d = 1979-02-29", "d = 1980-02-29", "d = 07:32:60",
-    "d = 24:00:00", "d = 1979-05-27T07:32:00.5+23:59", "d = 1979-05-27t07:32-24:00", "f = 1e400", "f = -inf", "f = 3.0_1", "h = 0xdead_BEEF",
-    "h = 0x8000000000000000", "o = 0o777", "b = 0b102", "t = True", "s = \"\\e\\x41\"", "s = \"\\q\"", "s = '''a''b'''", "s = \"\"\"\\\n  a\"\"\"",
-    "workers = 64", "workers = 65", "workers = 0", "workers = 1.0", "job = \"bank\"", "job = 'cloud'", "job = 'Guard'", "job = ''", "job = 3",
-    "cycle_time_ns = 1", "cycle_time_ns = 0x10", "cycle_time_ns = 9223372036854775808", "seed = 7", "\"\\u00e9\" = 1", "\"a b\" = 1",
-    f"'{'k' * 70}' = 1", "n = " + "[" * 80 + "]" * 80, "n = " + "[" * 81 + "]" * 81, "n = " + "{a=" * 80 + "1" + "}" * 80,
-    "n = " + "{a=" * 81 + "1" + "}" * 81, ".".join("k" * 80) + " = 1", ".".join("k" * 81) + " = 1", "[" + ".".join("k" * 80) + "]",
-    "[" + ".".join("k" * 81) + "]")]
-STIMULUS_LINES = [line.encode() for line in (
-    "", "stim 1", "stim 2", "cycle -", "cycle 0", "cycle 18446744073709551615", "cycle 18446744073709551616", "cycle", "cycle ", "cycle  1",
-    " cycle 1", "cycle 1 ", "Cycle 1", "cycle -1", "cycle +1", "sample 0 0", "sample 0 1000000000000", "sample 0 1000000000001",
-    "sample 0 -1000000000000", "sample 0 -1000000000001", "sample 1 5", "sample 255 1", "sample 256 1", "sample 0 -0", "sample 0", "sample 0 1 2",
-    "sample  0 1", "sample -1 0", "sample 00 1", "terminate", "terminate ", "# a comment", "x" * 128, "x" * 129, "sample 0 " + "1" * 119)]
-
-
 @dataclass
 class Case:
     """The words of a case, the first of which is the program, and its files."""
@@ -147,6 +124,25 @@ def free_record(choose: random.Random) -> bytes:
     return out + b"\5"
 
 
+def long_record(choose: random.Random) -> bytes:
+    """A record whose runs are as many as there may be, or one more, without elements or output."""
+    out = b"DETREC" + struct.pack(">HHQQHHH", 2, 1, 0, 1, 0, 0, 0)[:-2] + b"\1\2\3" + number(4, 0)
+    run = b"\4\0" + number(4, 0) + b"\0" + number(4, 0) + number(4, 0)
+    return out + run * (MOST_CYCLES + choose.choice((0, 1))) + b"\5"
+
+
+def long_stimulus(choose: random.Random) -> bytes:
+    return b"stim 1\n" + b"cycle -\n" * (MOST_CYCLES + choose.choice((0, 1))) + b"terminate\n"
+
+
+def stimulus_of_length(length: int) -> bytes:
+    """A stimulus of exactly so many bytes."""
+    begin, line, end = b"stim 1\n", b"cycle -\n", b"terminate\n"
+    text = begin + line * ((length - len(begin) - len(end)) // len(line) - 1)
+    digits = length - len(text) - len(end) - len(b"cycle \n")
+    return text + b"cycle " + b"1" * digits + b"\n" + end
+
+
 # Has a stimulus recorded, given the manifest and the stimulus.
 Recorder = Callable[[bytes, bytes], bytes]
 
@@ -201,7 +197,7 @@ class Cases:
         data = manifest_of(choose, given)
         if choose.random() < 0.02:
             data += b"#" * (65_536 - len(data) - 2 + choose.randrange(4)) + b"\n"
-        data = changed_text(choose, data, MANIFEST_LINES)
+        data = changed_text(choose, data, OF_MANIFESTS)
         strict = ["--strict"] if choose.random() < 0.5 else []
         if choose.random() < 0.7:
             return Case(["det", "needs", "m0", *strict], {"m0": data})
@@ -216,7 +212,7 @@ class Cases:
 
     def stimulus(self, choose: random.Random) -> Case:
         given = profile(choose)
-        data = changed_text(choose, stimulus_of(choose, len(given.events)), STIMULUS_LINES)
+        data = changed_text(choose, stimulus_of(choose, len(given.events)), OF_STIMULI)
         if given.events and choose.random() < 0.01:
             data = b"stim 1\ncycle -\n" + b"sample 0 1\n" * choose.choice((4095, 4096, 4097)) + data[7:]
         way = choose.random()
@@ -243,11 +239,27 @@ class Cases:
         files = {"m0": manifest_of(choose, one), "m1": manifest_of(choose, two), "s": stimulus_of(choose, len(one.events))}
         changed: Optional[str] = choose.choice(("m0", "m1", "s", None))
         if changed:
-            files[changed] = changed_text(choose, files[changed], STIMULUS_LINES if changed == "s" else MANIFEST_LINES)
+            files[changed] = changed_text(choose, files[changed], OF_STIMULI if changed == "s" else OF_MANIFESTS)
         strict = ["--strict"] if choose.random() < 0.3 else []
         return Case(["det", "chain", "m0", "m1", "s", *strict, *self.run_options(choose)], files)
 
+    def large(self, choose: random.Random) -> Case:
+        """A case with as many cycles, events or held bytes as there may be, or one more."""
+        way = choose.randrange(4)
+        if way == 0:
+            words = choose.choice((["show", "r0", "--reports"], ["show", "r0", "--cycle", "1000000"], ["salvage", "r0", "--reports"], ["vote", *["r0"] * 3]))
+            return Case(["det", *words], {"r0": long_record(choose)})
+        if way == 1:
+            return Case(["det", "demo", "s"], {"s": long_stimulus(choose)})
+        if way == 2:
+            events = [(f"e{event}", 1, "") for event in range(choose.choice((256, 257)))]
+            return Case(["det", "needs", "m0"], {"m0": manifest_of(choose, Profile("bank", [4, 2], events))})
+        text = stimulus_of_length(choose.choice((1 << 20, (1 << 20) + 1)))
+        return Case(["det_twin", "2", "m0", "s"], {"m0": manifest_of(choose, Profile("bank", [4, 2], [("x", 1, "")])), "s": text})
+
     def case(self, number: int) -> Case:
         choose = random.Random(f"{self.seed}/{number}")
+        if choose.random() < 0.001:
+            return self.large(choose)
         ways = (self.one_record, self.one_record, self.copies, self.manifest, self.manifest, self.stimulus, self.chain)
         return choose.choice(ways)(choose)

@@ -87,6 +87,16 @@ def changed_lines(choose: random.Random, data: bytes, others: List[bytes]) -> by
     return b"".join(lines)
 
 
+def changed_pair(choose: random.Random, data: bytes, values: List[bytes], keys: List[bytes]) -> bytes:
+    """The value of a line `key = value` replaced by another one, or its key."""
+    pairs = list(re.finditer(rb"(?m)^([a-z_]+) = (.*)$", data))
+    if not pairs:
+        return data
+    place = choose.choice(pairs)
+    group, others = choose.choice(((2, values), (2, values), (1, keys)))
+    return data[: place.start(group)] + choose.choice(others) + data[place.end(group) :]
+
+
 @dataclass
 class Layout:
     """Where the fields and the frames of a whole record stand. A field is its beginning and its width."""
@@ -211,15 +221,26 @@ def changed_record(choose: random.Random, data: bytes) -> bytes:
     return data
 
 
-def changed_text(choose: random.Random, data: bytes, others: List[bytes]) -> bytes:
-    """A text changed in a number, in its lines, or in its bytes, and perhaps once more."""
+@dataclass(frozen=True)
+class Words:
+    """What may be put into a kind of text: whole lines, and, where its lines are pairs, values and keys."""
+
+    lines: List[bytes]
+    values: List[bytes] = field(default_factory=list)
+    keys: List[bytes] = field(default_factory=list)
+
+
+def changed_text(choose: random.Random, data: bytes, words: Words) -> bytes:
+    """A text changed in a number, in a pair, in its lines, or in its bytes, and perhaps once more."""
     while True:
-        way = choose.randrange(8)
-        if way < 3:
+        way = choose.randrange(12)
+        if way < 3 or (way < 7 and not words.values):
             data = changed_number(choose, data)
-        elif way < 6:
-            data = changed_lines(choose, data, others)
         elif way < 7:
+            data = changed_pair(choose, data, words.values, words.keys)
+        elif way < 10:
+            data = changed_lines(choose, data, words.lines)
+        elif way < 11:
             data = changed_character(choose, data)
         else:
             data = changed_bytes(choose, data)
