@@ -1,0 +1,332 @@
+#!/usr/bin/env python3
+"""Runs each command with each of its calls of the system failing in turn, and with reads and writes of few bytes.
+
+    python3 tests/failing_edges.py                       with the programs of bin/, which build where needed
+    python3 tests/failing_edges.py --programs FOLDER     with other builds of them
+    python3 tests/failing_edges.py --all                 every number of a call, also where there are more than 40
+    python3 tests/failing_edges.py --only "det vote"     the commands whose words begin so
+
+A library that is loaded before the program has one call of open, read or write fail, of det_lane also one of posix_spawn, pipe2
+or of those that wait, once or from there on; in the second copy of det_lane too. A failed open or read has to end the run with
+status 6 and `read fault`, a failed write with 7 and `write fault`, in det_lane with `spawn fault` or with the status of the copy, and
+what was written has to be the first bytes of what is written otherwise. A call that was interrupted is tried again, and reads
+and writes of few bytes change nothing. Without the library the same is tried with files that aren't there, with folders, and
+with outputs that are full, closed, or read by nobody. Prints a line for each command, and each run that ended in another
+way; ends with 1 where there is one. Python's standard library and gcc are all that it needs, on Linux.
+"""
+
+import argparse
+import errno
+import os
+import subprocess
+import sys
+import tempfile
+from concurrent.futures import ThreadPoolExecutor
+from dataclasses import dataclass, replace
+from pathlib import Path
+from typing import Dict, Iterator, List, Optional, Tuple
+
+from lanes import children_left
+from mutations import in_first_format
+from refused_memory import built
+
+TOP = Path(__file__).resolve().parent.parent
+LIMIT = 60
+MOST_NUMBERS = 40
+CALLS = ("open", "read", "write", "spawn", "pipe", "wait")
+ERRORS = {
+    "open": (errno.EIO, errno.EMFILE, errno.ENOENT),
+    "read": (errno.EIO,),
+    "write": (errno.EIO, errno.ENOSPC, errno.EPIPE),
+    "spawn": (errno.EAGAIN,),
+    "pipe": (errno.EMFILE,),
+    "wait": (errno.ECHILD,),
+}
+INTERRUPTED = ("open", "read", "write", "wait")
+LANE = "det_lane"
+# The last word of the copy of det_lane that fails, and its number.
+COPY_WORD, COPY = "2", 1
+COMMANDS = """
+det demo examples/bank.stim
+det record examples/wheels.toml examples/wheels.stim --workers 2
+det record examples/bank.toml OUT/bad.stim
+det record OUT/bad.toml examples/bank.stim
+det show OUT/bank.rec
+det show OUT/bank.rec --reports
+det show OUT/bank.rec --cycle 2
+det show OUT/cut.rec
+det replay OUT/bank.rec
+det replay OUT/cut.rec
+det check OUT/bank.rec
+det check OUT/flipped.rec
+det upgrade OUT/old.rec --workers 2
+det upgrade OUT/flipped.rec
+det compare OUT/bank.rec OUT/bank.rec OUT/bank.rec
+det compare OUT/bank.rec OUT/flipped.rec
+det compare OUT/bank.rec OUT/cut.rec
+det vote OUT/bank.rec OUT/flipped.rec OUT/bank.rec
+det vote OUT/bank.rec OUT/flipped.rec OUT/bank.rec --dissent
+det vote OUT/bank.rec OUT/flipped.rec OUT/cut.rec
+det salvage OUT/cut.rec
+det salvage OUT/cut.rec --reports
+det chain examples/bank.toml examples/guard.toml examples/bank.stim --workers 2
+det needs examples/wheels.toml
+det needs OUT/bad.toml --strict
+det sim 7
+det --help
+det --help vote
+det --version
+det record
+det_twin 2 examples/bank.toml examples/bank.stim
+det_twin 3 examples/wheels.toml examples/wheels.stim --flip 1 3
+det_twin 2 examples/bank.toml OUT/bad.stim
+det_twin --help
+det_lane BIN/det 3 examples/bank.toml examples/bank.stim
+det_lane BIN/det 2 OUT/bad.toml examples/bank.stim
+det_lane --version
+"""
+# Commands that take longer, of which fewer numbers are tried.
+LONG = "det sim"
+
+
+@dataclass(frozen=True)
+class Setting:
+    """What the library does to a program: see failing_edges.c."""
+
+    call: str = ""
+    number: int = 0
+    error: int = 0
+    lasting: bool = False
+    read: int = 0
+    write: int = 0
+    only: str = ""
+
+    def names(self) -> Dict[str, str]:
+        values = {"CALL": self.call, "NUMBER": self.number, "ERROR": self.error, "LASTING": int(self.lasting), "READ": self.read,
+                  "WRITE": self.write, "ONLY": self.only}
+        return {name: str(value) for name, value in values.items()}
+
+    def told(self) -> str:
+        failing = f"{self.call} {self.number} fails with {errno.errorcode[self.error]}" if self.call else "no call fails"
+        more = [", and all behind it"] if self.lasting else []
+        more += [f", reads of {self.read}"] if self.read else []
+        more += [f", writes of {self.write}"] if self.write else []
+        return failing + "".join(more) + (", in a copy" if self.only else "")
+
+
+@dataclass(frozen=True)
+class Ended:
+    """How a run ended. A negative status is that of a signal, and 1000 of a run without an end."""
+
+    status: int
+    out: bytes
+    err: bytes
+
+    def line(self) -> bytes:
+        """The first line on standard error. Those behind it are hints."""
+        return self.err.partition(b"\n")[0]
+
+
+NO_END = Ended(1000, b"", b"")
+
+
+class Trial:
+    """The programs, the library, and a folder with inputs."""
+
+    def __init__(self, programs: Path, folder: Path) -> None:
+        self.programs, self.folder = programs, folder
+        self.library = folder / "failing_edges.so"
+        source = TOP / "tests" / "failing_edges.c"
+        subprocess.run(["gcc", "-O1", "-shared", "-fPIC", "-o", self.library, source], check=True)
+        self.make_inputs()
+
+    def make_inputs(self) -> None:
+        record = self.plain(self.command("det demo examples/bank.stim"), {}).out
+        flipped = record[:-30] + bytes([record[-30] ^ 1]) + record[-29:]
+        inputs = {"bank.rec": record, "old.rec": in_first_format(record), "cut.rec": record[:-3], "flipped.rec": flipped,
+                  "bad.stim": b"stim 1\ncycle 0\ncycle 5\nsample 1 1\n", "bad.toml": b"job = 'bank'\n"}
+        for name, data in inputs.items():
+            (self.folder / name).write_bytes(data)
+
+    def command(self, words: str) -> List[str]:
+        """A command's words, with its program by its path."""
+        program, *others = words.split()
+        places = {"OUT/": f"{self.folder}/", "BIN/": f"{self.programs}/"}
+        for name, place in places.items():
+            others = [place + word[len(name) :] if word.startswith(name) else word for word in others]
+        return [str(self.programs / program), *others]
+
+    def plain(self, command: List[str], more: Dict[str, object]) -> Ended:
+        """How a command ends without the library."""
+        edges: Dict[str, object] = dict(stdin=subprocess.DEVNULL, stdout=subprocess.PIPE, stderr=subprocess.PIPE, cwd=TOP, env={})
+        try:
+            done = subprocess.run(command, timeout=LIMIT, check=False, **{**edges, **more})  # type: ignore[call-overload]
+        except subprocess.TimeoutExpired:
+            return NO_END
+        return Ended(done.returncode, done.stdout or b"", done.stderr or b"")
+
+    def run(self, words: str, setting: Setting) -> Tuple[Ended, Dict[str, int]]:
+        """How a command ends beneath the library, and how often it made each call."""
+        counts, counted = os.pipe()
+        mark = f"{self.folder.name}-{counted}-{id(setting)}"
+        env = dict(setting.names(), LD_PRELOAD=str(self.library), COUNTED=str(counted), MARK=mark)
+        ended = self.plain(self.command(words), {"env": env, "pass_fds": [counted]})
+        os.close(counted)
+        with os.fdopen(counts) as told:
+            numbers = [int(count) for count in told.read().split()]
+        if words.startswith(LANE) and children_left(mark):
+            ended = replace(ended, err=b"a child is left\n")
+        return ended, dict(zip(CALLS, numbers))
+
+
+def begins(ended: Ended, status: int, line: bytes, whole: Ended) -> bool:
+    """Whether a run ended with a status and a line, behind the first bytes of the whole."""
+    return (ended.status, ended.line()) == (status, line) and whole.out.startswith(ended.out)
+
+
+def failed_write(setting: Setting, ended: Ended, whole: Ended) -> bool:
+    """Whether a run ended as it has to where a write failed, of standard output or of standard error."""
+    lost_line = ended.status == whole.status and ended.out == whole.out and ended.err != whole.err and whole.err.startswith(ended.err)
+    line = b"" if setting.lasting else b"write fault"
+    return lost_line or begins(ended, 7, line, whole)
+
+
+def is_good(words: str, setting: Setting, ended: Ended, whole: Ended) -> bool:
+    """Whether a run ended as it has to."""
+    if not setting.call or setting.error == errno.EINTR:
+        return ended == whole
+    status = 7 if setting.call == "write" else 6
+    if setting.only:
+        return ended == Ended(9, b"", b"child %d status %d\n" % (COPY, status))
+    if setting.call == "write":
+        return failed_write(setting, ended, whole)
+    if words.startswith(LANE):
+        # Where one copy has decided, no other needs to be waited for.
+        is_decided = setting.call == "wait" and whole.status == 9 and ended == whole
+        return is_decided or begins(ended, 10, b"spawn fault", whole)
+    return begins(ended, 6, b"read fault", whole)
+
+
+def numbers_of(count: int, most: int) -> List[int]:
+    """The numbers from 1 to a count, or as many of them as are tried, with the first and the last."""
+    if count <= most:
+        return list(range(1, count + 1))
+    return sorted({1 + at * (count - 1) // (most - 1) for at in range(most)})
+
+
+def failing(words: str, base: Setting, counts: Dict[str, int], most: int) -> Iterator[Setting]:
+    """Each call failing in turn, with each error, once and from there on; and each interrupted once."""
+    # What det_lane opens itself is /dev/null, which is never interrupted.
+    interrupted = INTERRUPTED[1:] if words.startswith(LANE) and not base.only else INTERRUPTED
+    for call, count in counts.items():
+        for number in numbers_of(count, most):
+            for error in ERRORS[call]:
+                for lasting in (False, True):
+                    yield replace(base, call=call, number=number, error=error, lasting=lasting)
+            if call in interrupted:
+                yield replace(base, call=call, number=number, error=errno.EINTR)
+
+
+def pieces() -> Iterator[Setting]:
+    for read in (1, 2, 7):
+        yield Setting(read=read)
+    yield Setting(write=1)
+    yield Setting(read=1, write=1)
+
+
+def in_pieces(counts: Dict[str, int], base: Setting, most: int) -> Iterator[Setting]:
+    """Each read or write of few bytes failing, or interrupted, in turn."""
+    call = "read" if base.read else "write"
+    for number in numbers_of(counts.get(call, 0), most):
+        for error in (errno.EIO, errno.EINTR):
+            yield replace(base, call=call, number=number, error=error)
+
+
+def settings(trial: Trial, words: str, most: int) -> Iterator[Setting]:
+    """All settings that a command is run with."""
+    most = 3 if words.startswith(LONG) else most
+    yield from pieces()
+    yield from failing(words, Setting(), trial.run(words, Setting())[1], most)
+    for base in (Setting(read=7), Setting(write=1)):
+        yield from in_pieces(trial.run(words, base)[1], base, most)
+    if words.startswith(LANE + " BIN") and trial.run(words, Setting())[0].status == 0:
+        yield from (replace(base, only=COPY_WORD) for base in pieces())
+        copy = Setting(only=COPY_WORD)
+        yield from failing(words, copy, trial.run(words, copy)[1], most)
+
+
+def real_edges(trial: Trial, words: str, whole: Ended) -> Iterator[Tuple[str, bool]]:
+    """Outputs and inputs that fail without any library: what was tried, and whether the run ended as it has to."""
+    command = trial.command(words)
+    closing, unread = os.pipe()
+    os.close(closing)
+    with open("/dev/full", "wb") as full:
+        outputs: Dict[str, Dict[str, object]] = {
+            "a full output": {"stdout": full},
+            "an output that nobody reads": {"stdout": unread},
+            "a closed output": {"stdout": None, "preexec_fn": lambda: os.close(1)},
+        }
+        for told, more in outputs.items():
+            ended = trial.plain(command, more)
+            yield told, ended.status == whole.status if not whole.out else (ended.status, ended.line()) == (7, b"write fault")
+        for told, more in (("a full standard error", {"stderr": full}), ("a closed one", {"stderr": None, "preexec_fn": lambda: os.close(2)})):
+            ended = trial.plain(command, more)
+            yield told, (ended.status, ended.out) == (whole.status, whole.out)
+    os.close(unread)
+    yield from bad_inputs(trial, words, whole)
+
+
+def bad_inputs(trial: Trial, words: str, whole: Ended) -> Iterator[Tuple[str, bool]]:
+    """Each file that a command names isn't there, or is a folder."""
+    command = trial.command(words)
+    for place, word in enumerate(words.split()):
+        if "/" not in word or word.startswith("BIN/"):
+            continue
+        for bad in (str(trial.folder / "nothing"), str(trial.folder)):
+            ended = trial.plain([*command[:place], bad, *command[place + 1 :]], {})
+            if words.startswith(LANE):
+                good = ended in (Ended(9, b"", b"child 0 status 6\n"), whole)
+            else:
+                good = begins(ended, 6, b"read fault", whole) or (ended == whole and whole.status == 3)
+            yield f"{bad} as word {place}", good
+
+
+def tried(trial: Trial, words: str, most: int, jobs: int) -> bool:
+    """Whether every run of a command ended as it has to."""
+    whole = trial.plain(trial.command(words), {})
+    wrong: List[str] = []
+    all_settings = list(settings(trial, words, most))
+    with ThreadPoolExecutor(jobs) as threads:
+        ends = threads.map(lambda setting: trial.run(words, setting), all_settings)
+        for setting, (ended, counts) in zip(all_settings, ends):
+            # How many reads a pipe takes isn't the same in every run.
+            is_reached = not setting.call or counts.get(setting.call, setting.number) >= setting.number
+            if not is_good(words, setting if is_reached else Setting(), ended, whole):
+                wrong.append(f"{setting.told()}: status {ended.status}, {ended.err!r}, {len(ended.out)} bytes")
+    edges = list(real_edges(trial, words, whole))
+    wrong += [told for told, good in edges if not good]
+    print(f"{words}: status {whole.status}, {len(all_settings) + len(edges)} runs, {len(wrong)} ended otherwise", flush=True)
+    for told in wrong[:10]:
+        print(f"  {told}")
+    return not wrong
+
+
+def main() -> int:
+    parser = argparse.ArgumentParser(description="Has each call of the system fail in turn.")
+    parser.add_argument("--programs", type=Path, help="a folder of builds to take in place of bin/")
+    parser.add_argument("--only", default="", help="what the commands begin with")
+    parser.add_argument("--all", action="store_true", help="every number of a call")
+    parser.add_argument("--jobs", type=int, default=os.cpu_count(), help="how many runs at a time")
+    given = parser.parse_args()
+    commands = [line for line in COMMANDS.split("\n") if line and line.startswith(given.only)]
+    with tempfile.TemporaryDirectory() as name:
+        folder = Path(name)
+        programs = given.programs.resolve() if given.programs else built(folder / "programs")
+        trial = Trial(programs, folder)
+        most = sys.maxsize if given.all else MOST_NUMBERS
+        good = [tried(trial, words, most, given.jobs) for words in commands]
+    return 0 if good and all(good) else 1
+
+
+if __name__ == "__main__":
+    sys.exit(main())
