@@ -1,16 +1,19 @@
 #!/usr/bin/env python3
-"""Holds `det` and `det_twin` against a plain program, tests/plain, over changed manifests, stimuli and records.
+"""Holds `det`, `det_twin` and `det_lane` against a plain program over changed inputs.
 
-    python3 tests/mutated.py                             1,000 cases with the programs of bin/, which build where needed
+    python3 tests/mutated.py                             1,000 cases with the programs of bin/
     python3 tests/mutated.py --count 100000 --seed 7     so many cases of another seed
     python3 tests/mutated.py --first 4711 --count 1      one case again
-    python3 tests/mutated.py --programs FOLDER           with other builds of both programs
+    python3 tests/mutated.py --programs FOLDER           with other builds of the programs
     python3 tests/mutated.py --jobs 4                    in so many processes
 
-A case is made of the seed and its number alone. Its exit status, its line on standard error and its standard output have to be those
-of the plain program; lines on standard error that begin with two spaces are hints, and aren't compared. Prints how often each
-command ended with which status, and each case that ended otherwise, whose files are kept; ends with 1 where there is one.
-Python's standard library and rustc are all that it needs.
+A case is made of the seed and its number alone: manifests, stimuli, records and words that were
+good before they were changed, and texts that are nearly TOML. Its exit status, its line on standard
+error and its standard output have to be those of tests/plain; lines on standard error that begin
+with two spaces are hints, and aren't compared. Where the words ask for a text of the program, it
+has to end well and to write one. Prints how often each command ended with which status, and each
+case that ended otherwise, whose files are kept; ends with 1 where there is one. The programs of
+bin/ build where needed. Python's standard library and rustc are all that it needs, on Linux.
 """
 
 import argparse
@@ -27,12 +30,18 @@ from pathlib import Path
 from typing import Counter as CounterOf
 from typing import Dict, List, Tuple
 
-from mutated_cases import Case, Cases
+from mutated_cases import PROGRAM, Case, Cases
 
 TOP = Path(__file__).resolve().parent.parent
-PROGRAMS = ("det", "det_twin")
+PROGRAMS = ("det", "det_twin", "det_lane")
+# What the plain program answers where the words ask for a text.
+TEXT = "(a text)"
 # The most seconds that a run may take.
 LIMIT = 60
+COMMANDS = (
+    "demo", "record", "show", "replay", "check", "upgrade", "compare", "vote", "salvage", "chain",
+    "needs",
+)
 # The cases that a process makes at a time.
 PART = 50
 # The most cases that are told and kept.
@@ -50,7 +59,7 @@ class Ended:
 
 @dataclass
 class Found:
-    """What a part of the cases showed: how each command ended, and which cases ended otherwise than they have to."""
+    """How each command ended in a part of the cases, and which of them ended otherwise."""
 
     statuses: CounterOf[Tuple[str, int]] = field(default_factory=Counter)
     wrong: List[Tuple[int, Ended, Ended]] = field(default_factory=list)
@@ -64,7 +73,7 @@ class Plain:
 
     def run(self, words: List[str]) -> Ended:
         assert self.process.stdin and self.process.stdout
-        self.process.stdin.write("\t".join(words).encode() + b"\n")
+        self.process.stdin.write(b"\0".join(os.fsencode(word) for word in words) + b"\n")
         self.process.stdin.flush()
         told = self.process.stdout.readline().decode()
         if not told:
@@ -101,17 +110,31 @@ class Real:
         return os.waitstatus_to_exitcode(how)
 
     def run(self, words: List[str]) -> Ended:
-        program = str(self.programs / words[0])
-        status = self.waited(os.posix_spawn(program, [program, *words[1:]], {}, file_actions=self.actions))
+        program, det = str(self.programs / words[0]), str(self.programs / "det")
+        words = [program, *(det if word == PROGRAM else word for word in words[1:])]
+        status = self.waited(os.posix_spawn(program, words, {}, file_actions=self.actions))
         lines = Path("err").read_bytes().decode(errors="replace").splitlines()
         while len(lines) > 1 and lines[-1].startswith("  "):
             lines.pop()
         return Ended(status, "\n".join(lines), Path("out").read_bytes())
 
 
+def is_as_wanted(given: Ended, wanted: Ended) -> bool:
+    if wanted.line == TEXT:
+        return (given.status, given.line) == (0, "") and given.out != b""
+    return given == wanted
+
+
 def write_files(case: Case, folder: Path) -> None:
     for name, data in case.files.items():
         (folder / name).write_bytes(data)
+
+
+def command_of(case: Case) -> str:
+    """What a case is counted under."""
+    if case.words[0] != "det":
+        return case.words[0]
+    return case.words[1] if len(case.words) > 1 and case.words[1] in COMMANDS else "other words"
 
 
 class Bench:
@@ -135,9 +158,8 @@ class Bench:
             case = self.cases.case(number)
             write_files(case, Path())
             wanted, given = self.plain.run(case.words), self.real.run(case.words)
-            command = case.words[1] if case.words[0] == "det" else case.words[0]
-            found.statuses[command, given.status] += 1
-            if given != wanted:
+            found.statuses[command_of(case), given.status] += 1
+            if not is_as_wanted(given, wanted):
                 found.wrong.append((number, wanted, given))
         return found
 
@@ -163,26 +185,30 @@ def keep(folder: Path, case: Case, wanted: Ended, given: Ended) -> None:
     """Keeps the files of a case, and what both programs wrote."""
     folder.mkdir(parents=True, exist_ok=True)
     write_files(case, folder)
-    (folder / "words").write_text(" ".join(case.words) + "\n")
+    (folder / "words").write_bytes(b"\n".join(os.fsencode(word) for word in case.words) + b"\n")
     for name, ended in (("wanted", wanted), ("given", given)):
         (folder / name).write_bytes(ended.out)
         (folder / f"{name}.end").write_text(f"{ended.status}\n{ended.line}\n")
 
 
 def print_statuses(statuses: CounterOf[Tuple[str, int]]) -> None:
-    for command in sorted({command for command, _ in statuses}):
-        ended = sorted((status, count) for (name, status), count in statuses.items() if name == command)
-        print(f"{command}: " + ", ".join(f"{count} with status {status}" for status, count in ended))
+    ended: Dict[str, List[str]] = {}
+    for (command, status), count in sorted(statuses.items()):
+        ended.setdefault(command, []).append(f"{count} with status {status}")
+    for command, counts in ended.items():
+        print(f"{command}: {', '.join(counts)}")
 
 
 def build_plain(folder: Path) -> Path:
-    plain = folder / "plain"
-    subprocess.run(["rustc", "--edition", "2021", "-O", "-C", "overflow-checks=on", "-o", plain, TOP / "tests" / "plain" / "main.rs"], check=True)
+    """Builds the plain program, which stops where a sum overflows."""
+    plain, source = folder / "plain", TOP / "tests" / "plain" / "main.rs"
+    options = ["--edition", "2021", "-O", "-C", "overflow-checks=on"]
+    subprocess.run(["rustc", *options, "-o", plain, source], check=True)
     return plain
 
 
 def programs_of(given: argparse.Namespace) -> Path:
-    """The folder of both programs. Those of bin/ are built first, and linked into one folder."""
+    """The folder of the programs. Those of bin/ are built first, and linked into one folder."""
     if given.programs:
         return given.programs.resolve()
     folder = Path(given.room) / "programs"
@@ -208,20 +234,22 @@ def run_all(given: argparse.Namespace) -> int:
                 if wrong <= MOST_KEPT:
                     folder = given.keep / f"{given.seed}-{number}"
                     keep(folder, cases[number], wanted, ended)
-                    print(f"seed {given.seed}, number {number}: {' '.join(cases[number].words)}, files in {folder}")
-                    print(f"  wanted {told(wanted)}\n  given  {told(ended)}", flush=True)
+                    print(f"seed {given.seed}, number {number}, files in {folder}:")
+                    print(f"  {cases[number].words}\n  wanted {told(wanted)}")
+                    print(f"  given  {told(ended)}", flush=True)
     print_statuses(statuses)
     return wrong
 
 
 def main() -> int:
-    parser = argparse.ArgumentParser(description=__doc__, formatter_class=argparse.RawDescriptionHelpFormatter)
+    parser = argparse.ArgumentParser(description="Holds the programs against a plain one.")
     parser.add_argument("--count", type=int, default=1000, help="how many cases")
     parser.add_argument("--first", type=int, default=0, help="the number of the first case")
     parser.add_argument("--seed", default="0", help="any text")
     parser.add_argument("--jobs", type=int, default=os.cpu_count(), help="how many processes")
-    parser.add_argument("--programs", type=Path, help="a folder of builds to take in place of bin/")
-    parser.add_argument("--keep", type=Path, default=TOP / "out" / "mutated", help="a folder for the files of cases that ended otherwise")
+    parser.add_argument("--programs", type=Path, help="a folder of builds in place of bin/")
+    parser.add_argument("--keep", type=Path, default=TOP / "out" / "mutated",
+                        help="a folder for the files of cases that ended otherwise")
     given = parser.parse_args()
     memory = Path("/dev/shm")
     given.room = Path(tempfile.mkdtemp(dir=memory if memory.is_dir() else None))
@@ -229,7 +257,7 @@ def main() -> int:
         wrong = run_all(given)
     finally:
         shutil.rmtree(given.room)
-    print(f"{given.count} cases of seed {given.seed}, {wrong} ended otherwise than by the plain program")
+    print(f"{given.count} cases of seed {given.seed}, {wrong} ended otherwise")
     return 1 if wrong else 0
 
 

@@ -1,22 +1,35 @@
-"""Ways to change inputs: bytes, lines of text, and fields and frames of a record. Each is a function of a source of random choices,
-so that the same source gives the same change."""
+"""Ways to change inputs: bytes, lines of text, fields and frames of a record, and words.
+
+Each is a function of a source of random choices, so that the same source gives the same change.
+"""
 
 import random
 import re
 from dataclasses import dataclass, field
-from typing import Callable, List, Tuple
+from typing import Callable, List, Sequence, Tuple
 
-TEXT_NUMBERS = ("0", "-0", "1", "-1", "+1", "01", "00", "2", "16", "17", "32", "33", "64", "65", "255", "256", "257", "1000", "1024",
-                "1025", "4096", "65535", "65536", "65537", "1000000", "1000001", "1_000", "1__0", "0x10", "0xfg", "0o17", "0b101", "1.0", "1e3",
-                "1e400", "1e-400", "1.", ".5", "inf", "nan", "4294967295", "4294967296", "1000000000000", "1000000000001", "-1000000000000",
-                "-1000000000001", "4000000000000", "4000000000001", "9223372036854775807", "9223372036854775808", "-9223372036854775808",
-                "-9223372036854775809", "18446744073709551615", "18446744073709551616", "99999999999999999999999", "", " ", "-")
 # Numbers at the limits of a record's fields.
-LIMITS = (0, 1, 2, 3, 4, 5, 7, 8, 16, 17, 32, 33, 64, 65, 255, 256, 257, 1024, 1025, 4096, 4097, 65535, 65536, 65537, 1 << 20, (1 << 20) + 1,
-          10**12, 10**12 + 1, -10**12, -10**12 - 1, -1, 1 << 31, 1 << 63, (1 << 63) - 1, (1 << 64) - 1)
-BYTES = (0, 1, 2, 3, 4, 5, 6, 9, 10, 13, 32, 34, 35, 39, 45, 46, 48, 61, 91, 93, 95, 97, 123, 125, 127, 128, 192, 239, 255)
-CHARACTERS = ("\"", "'", "\\", "#", "=", "[", "]", "{", "}", ",", ".", " ", "\t", "\r", "\r\n", "\n", "_", "-", "+", "\x00", "\x7f", "\x1f", "é",
-              "\ufeff", "\u2028", "0", "9", "a", "Z", "\"\"\"", "'''", "[[", "]]", "\\n", "\\x41", "\\u0041", "\\U00110000", "\\ud800", "\\e")
+LIMITS = (
+    0, 1, 2, 3, 4, 5, 7, 8, 16, 17, 32, 33, 64, 65, 255, 256, 257, 1024, 1025, 4096, 4097,
+    65535, 65536, 65537, 1 << 20, (1 << 20) + 1, 10**12, 10**12 + 1, -(10**12), -(10**12) - 1,
+    -1, 1 << 31, 1 << 63, (1 << 63) - 1, (1 << 64) - 1,
+)
+BYTES = (
+    0, 1, 2, 3, 4, 5, 6, 9, 10, 13, 32, 34, 35, 39, 45, 46, 48, 61, 91, 93, 95, 97, 123, 125,
+    127, 128, 192, 239, 255,
+)
+
+
+@dataclass(frozen=True)
+class Words:
+    """What may be put into a kind of text: lines, numbers and characters, and where its lines are
+    pairs, values and keys too."""
+
+    lines: List[bytes]
+    numbers: List[bytes]
+    characters: List[bytes]
+    values: List[bytes] = field(default_factory=list)
+    keys: List[bytes] = field(default_factory=list)
 
 
 def cut_place(choose: random.Random, data: bytes) -> Tuple[int, int]:
@@ -35,7 +48,8 @@ def changed_bytes(choose: random.Random, data: bytes) -> bytes:
     if way == 1 and part:
         return before + bytes([choose.choice(BYTES)]) + part[1:] + behind
     if way == 2:
-        return before + bytes(choose.choice(BYTES) for _ in range(choose.randint(1, 4))) + part + behind
+        put = bytes(choose.choice(BYTES) for _ in range(choose.randint(1, 4)))
+        return before + put + part + behind
     if way == 3:
         return before + behind
     if way == 4:
@@ -47,59 +61,84 @@ def changed_bytes(choose: random.Random, data: bytes) -> bytes:
     return before + choose.randbytes(len(part)) + behind
 
 
-def changed_character(choose: random.Random, data: bytes) -> bytes:
+def changed_character(choose: random.Random, data: bytes, words: Words) -> bytes:
     """A character that means something put in, at a place or instead of another."""
     begin = choose.randint(0, len(data))
-    return data[:begin] + choose.choice(CHARACTERS).encode() + data[begin + choose.randint(0, 1) :]
+    return data[:begin] + choose.choice(words.characters) + data[begin + choose.randint(0, 1) :]
 
 
-def changed_number(choose: random.Random, data: bytes) -> bytes:
+def changed_number(choose: random.Random, data: bytes, words: Words) -> bytes:
     """A decimal number replaced by another one."""
     numbers = list(re.finditer(rb"-?[0-9][0-9_]*", data))
     if not numbers:
         return data
     place = choose.choice(numbers)
-    return data[: place.start()] + choose.choice(TEXT_NUMBERS).encode() + data[place.end() :]
+    return data[: place.start()] + choose.choice(words.numbers) + data[place.end() :]
 
 
-def changed_lines(choose: random.Random, data: bytes, others: List[bytes]) -> bytes:
+def changed_pair(choose: random.Random, data: bytes, words: Words) -> bytes:
+    """The value of a line `key = value` replaced by another one, or its key."""
+    pairs = list(re.finditer(rb"(?m)^([a-z_]+) = (.*)$", data))
+    if not pairs:
+        return data
+    place = choose.choice(pairs)
+    group, others = choose.choice(((2, words.values), (2, words.values), (1, words.keys)))
+    return data[: place.start(group)] + choose.choice(others) + data[place.end(group) :]
+
+
+def changed_line(choose: random.Random, line: bytes) -> bytes:
+    """A line with blanks, another end, or a comment."""
+    before = choose.choice((b"", b" ", b"\t"))
+    behind = choose.choice((b"", b" ", b"\r\n", b"\n\n", b" # x\n"))
+    return before + line.rstrip(b"\n") + behind
+
+
+def changed_lines(choose: random.Random, data: bytes, words: Words) -> bytes:
     """Lines doubled, swapped, moved, taken out, put in, joined, or ended otherwise."""
     lines = data.splitlines(keepends=True)
     place, other = choose.randint(0, len(lines)), choose.randint(0, len(lines))
     low, high = min(place, other), max(place, other)
     way = choose.randrange(9)
     if way == 0:
-        return b"".join(lines[:high] + lines[low:])
-    if way == 1 and high < len(lines):
+        lines = lines[:high] + lines[low:]
+    elif way == 1 and high < len(lines):
         lines[low], lines[high] = lines[high], lines[low]
     elif way == 2:
-        lines = lines[:low] + lines[high:]
+        del lines[low:high]
     elif way == 3 and place < len(lines):
         del lines[place]
     elif way == 4 and place < len(lines):
         lines.insert(other, lines.pop(place))
     elif way == 5 and place < len(lines):
-        lines[place] = choose.choice((b"", b" ", b"\t")) + lines[place].rstrip(b"\n") + choose.choice((b"", b" ", b"\r\n", b"\n\n", b" # x\n"))
+        lines[place] = changed_line(choose, lines[place])
     elif way == 6:
-        return b"".join(lines[:place])
+        del lines[place:]
     else:
-        lines.insert(place, choose.choice(others) + b"\n")
+        lines.insert(place, choose.choice(words.lines) + b"\n")
     return b"".join(lines)
 
 
-def changed_pair(choose: random.Random, data: bytes, values: List[bytes], keys: List[bytes]) -> bytes:
-    """The value of a line `key = value` replaced by another one, or its key."""
-    pairs = list(re.finditer(rb"(?m)^([a-z_]+) = (.*)$", data))
-    if not pairs:
-        return data
-    place = choose.choice(pairs)
-    group, others = choose.choice(((2, values), (2, values), (1, keys)))
-    return data[: place.start(group)] + choose.choice(others) + data[place.end(group) :]
+def changed_text(choose: random.Random, data: bytes, words: Words) -> bytes:
+    """A text changed in a number, in a pair, in its lines, or in its bytes, and perhaps again."""
+    while True:
+        way = choose.randrange(12)
+        if way < 3 or (way < 7 and not words.values):
+            data = changed_number(choose, data, words)
+        elif way < 7:
+            data = changed_pair(choose, data, words)
+        elif way < 10:
+            data = changed_lines(choose, data, words)
+        elif way < 11:
+            data = changed_character(choose, data, words)
+        else:
+            data = changed_bytes(choose, data)
+        if choose.random() < 0.7:
+            return data
 
 
 @dataclass
 class Layout:
-    """Where the fields and the frames of a whole record stand. A field is its beginning and its width."""
+    """Where fields and frames of a whole record stand. A field is its beginning and its width."""
 
     fields: List[Tuple[int, int]] = field(default_factory=list)
     frames: List[Tuple[int, int]] = field(default_factory=list)
@@ -146,25 +185,27 @@ class Walker:
             if in_run:
                 self.added(4)
 
-    def run(self) -> None:
-        if self.number(1) == 1:
-            self.raw(8)
+    def samples(self) -> None:
         for _ in range(self.number(4)):
             self.raw(2)
             self.raw(8)
-        if self.number(1) == 1:
-            for width in (1, 1, 4, 4):
-                self.raw(width)
-        else:
+
+    def outcome(self) -> None:
+        if self.number(1) == 0:
             self.elements(True)
             self.raw(self.number(4))
+            return
+        for width in (1, 1, 4, 4):
+            self.raw(width)
 
     def frame(self) -> None:
         begin, tag = self.at, self.number(1)
         if tag == 3:
             self.elements(False)
         elif tag == 4:
-            self.run()
+            self.raw(8 * self.number(1))
+            self.samples()
+            self.outcome()
         self.layout.frames.append((begin, self.at))
 
 
@@ -186,11 +227,13 @@ def in_first_format(data: bytes) -> bytes:
 
 
 def changed_field(choose: random.Random, data: bytes) -> bytes:
-    """A number of a whole record replaced by one at a limit, or by one beside it."""
+    """A number of a whole record replaced by one at a limit, by one beside it, or by any."""
     begin, width = choose.choice(layout_of(data).fields)
     number = int.from_bytes(data[begin : begin + width], "big")
-    number = choose.choice((choose.choice(LIMITS), number + choose.choice((-1, 1)), choose.getrandbits(8 * width)))
-    return data[:begin] + (number % (1 << 8 * width)).to_bytes(width, "big") + data[begin + width :]
+    beside = number + choose.choice((-1, 1))
+    number = choose.choice((choose.choice(LIMITS), beside, choose.getrandbits(8 * width)))
+    changed = (number % (1 << 8 * width)).to_bytes(width, "big")
+    return data[:begin] + changed + data[begin + width :]
 
 
 def changed_frames(choose: random.Random, data: bytes) -> bytes:
@@ -213,36 +256,30 @@ def changed_frames(choose: random.Random, data: bytes) -> bytes:
 
 
 def changed_record(choose: random.Random, data: bytes) -> bytes:
-    """A whole record changed in a field, in its frames, or in its bytes, and perhaps in some bytes more."""
-    way: Callable[[random.Random, bytes], bytes] = choose.choice((changed_field, changed_field, changed_frames, changed_bytes))
-    data = way(choose, data)
+    """A whole record changed in a field, in its frames or in its bytes, and perhaps once more."""
+    ways: Sequence[Callable[[random.Random, bytes], bytes]]
+    ways = (changed_field, changed_field, changed_frames, changed_bytes)
+    data = choose.choice(ways)(choose, data)
     while choose.random() < 0.2:
         data = changed_bytes(choose, data)
     return data
 
 
-@dataclass(frozen=True)
-class Words:
-    """What may be put into a kind of text: whole lines, and, where its lines are pairs, values and keys."""
-
-    lines: List[bytes]
-    values: List[bytes] = field(default_factory=list)
-    keys: List[bytes] = field(default_factory=list)
-
-
-def changed_text(choose: random.Random, data: bytes, words: Words) -> bytes:
-    """A text changed in a number, in a pair, in its lines, or in its bytes, and perhaps once more."""
-    while True:
-        way = choose.randrange(12)
-        if way < 3 or (way < 7 and not words.values):
-            data = changed_number(choose, data)
-        elif way < 7:
-            data = changed_pair(choose, data, words.values, words.keys)
-        elif way < 10:
-            data = changed_lines(choose, data, words.lines)
-        elif way < 11:
-            data = changed_character(choose, data)
-        else:
-            data = changed_bytes(choose, data)
-        if choose.random() < 0.7:
-            return data
+def changed_words(choose: random.Random, words: List[str], others: Sequence[str]) -> List[str]:
+    """Words doubled, swapped, moved, taken out, put in, replaced or cut."""
+    words = list(words)
+    place, other = choose.randint(0, len(words)), choose.randint(0, len(words))
+    way = choose.randrange(6)
+    if way == 0 and place < len(words):
+        words.insert(other, words[place])
+    elif way == 1 and max(place, other) < len(words):
+        words[place], words[other] = words[other], words[place]
+    elif way == 2 and place < len(words):
+        words.insert(other, words.pop(place))
+    elif way == 3:
+        del words[place : place + 1]
+    elif way == 4 and place < len(words):
+        words[place] = choose.choice(others)
+    else:
+        words.insert(place, choose.choice(others))
+    return words if choose.random() < 0.7 else changed_words(choose, words, others)

@@ -56,7 +56,10 @@ pub fn salvage(bytes: &[u8], tells_reports: bool) -> Ended {
         let text = format!("salvaged {count}\n{}", reports(record.runs()));
         return Ended::done(text.into());
     }
-    let saved = record.frames.iter().filter(|(frame, _)| !matches!(frame, Frame::Terminate));
+    let saved = record
+        .frames
+        .iter()
+        .filter(|(frame, _)| !matches!(frame, Frame::Terminate));
     let length = saved.map(|(_, place)| place.end).last().unwrap_or(0);
     let mut out = bytes[..length].to_vec();
     out.push(tags::TERMINATE);

@@ -10,7 +10,8 @@ pub struct Copy {
     pub record: Record,
 }
 
-/// What stands in a row of a copy: row 0 is the header, row F + 1 is frame F, then comes the end or the fault.
+/// What stands in a row of a copy: row 0 is the header, row F + 1 is frame F, then comes the end or
+/// the fault.
 #[derive(Clone, Copy, PartialEq, Eq)]
 enum Row<'a> {
     Item(&'a [u8]),
@@ -19,9 +20,9 @@ enum Row<'a> {
 }
 
 impl Copy {
-    pub fn of(bytes: Vec<u8>) -> self::Copy {
+    pub fn of(bytes: Vec<u8>) -> Copy {
         let record = Record::of(&bytes);
-        self::Copy { bytes, record }
+        Copy { bytes, record }
     }
 
     fn row(&self, number: usize) -> Row<'_> {
@@ -38,18 +39,22 @@ impl Copy {
     }
 
     /// Where another copy's row parts from its own, which isn't equal.
-    fn place(&self, number: usize, other: &self::Copy) -> String {
+    fn place(&self, number: usize, other: &Copy) -> String {
         if number == 0 {
             return "header".into();
         }
         let frame = number - 1;
-        difference(frame, &self.record.frames[frame].0, &other.record.frames[frame].0)
-            .expect("rows with other bytes have a difference")
+        difference(
+            frame,
+            &self.record.frames[frame].0,
+            &other.record.frames[frame].0,
+        )
+        .expect("rows with other bytes have a difference")
     }
 }
 
 /// The verdict on copies, which differ first where not all have an equal row.
-pub fn compare(copies: &[self::Copy]) -> Ended {
+pub fn compare(copies: &[Copy]) -> Ended {
     for number in 0.. {
         let rows: Vec<Row> = copies.iter().map(|copy| copy.row(number)).collect();
         if let Some(copy) = rows.iter().position(|&row| row == Row::Fault) {
@@ -75,12 +80,14 @@ fn majority<'a>(rows: &[Option<Row<'a>>]) -> Option<Row<'a>> {
 }
 
 /// The record that more than half of the copies are; or in its place which copies aren't.
-pub fn vote(copies: &[self::Copy], tells_dissent: bool) -> Ended {
+pub fn vote(copies: &[Copy], tells_dissent: bool) -> Ended {
     let mut left: Vec<Option<usize>> = vec![None; copies.len()];
     let (mut out, mut cycles) = (Vec::new(), 0);
     for number in 0.. {
         let in_step = copies.iter().zip(&left);
-        let rows: Vec<_> = in_step.map(|(copy, left)| left.is_none().then(|| copy.row(number))).collect();
+        let rows: Vec<_> = in_step
+            .map(|(copy, left)| left.is_none().then(|| copy.row(number)))
+            .collect();
         let Some(row) = majority(&rows) else {
             let out = if tells_dissent { Vec::new() } else { out };
             return Ended::new(9, format!("no majority: row {number}"), out);

@@ -81,13 +81,15 @@ impl<'a> Cursor<'a> {
         Ok(taken)
     }
 
-    /// The further bytes of a big-endian number that begins with these bytes. A value in the range has to remain.
+    /// The further bytes of a big-endian number that begins with these bytes. A value in the range
+    /// has to remain.
     fn go_on(&mut self, begun: i128, behind: u32, range: &RangeInclusive<i128>) -> Taken<i128> {
         let mut value = begun;
         for left in (0..behind).rev() {
             let with = |byte: u8| (value << 8 | i128::from(byte)) << (8 * left);
             let spread = (1 << (8 * left)) - 1;
-            let remains = |byte| with(byte) <= *range.end() && *range.start() <= with(byte) + spread;
+            let remains =
+                |byte| with(byte) <= *range.end() && *range.start() <= with(byte) + spread;
             value = value << 8 | i128::from(self.byte(remains)?);
         }
         Ok(value)
@@ -98,7 +100,8 @@ impl<'a> Cursor<'a> {
         self.go_on(0, width, &range)
     }
 
-    /// An i64. A negative one begins with a byte from 0x80 on, as if ones without end stood before it.
+    /// An i64. A negative one begins with a byte from 0x80 on, as if ones without end stood before
+    /// it.
     pub fn signed(&mut self, range: RangeInclusive<i64>) -> Taken<i64> {
         let is_negative = self.bytes.get(self.at).is_some_and(|&byte| byte >= 0x80);
         let begun = if is_negative { -1 } else { 0 };

@@ -23,12 +23,25 @@ impl Ended {
         Ended::new(1, "", out)
     }
 
+    pub fn bad_words() -> Ended {
+        Ended::new(2, "bad words", Vec::new())
+    }
+
+    /// The program writes a text of its own.
+    pub fn text() -> Ended {
+        Ended::new(0, "(a text)", Vec::new())
+    }
+
     pub fn bad_manifest(what: String) -> Ended {
         Ended::new(3, format!("bad manifest: {what}"), Vec::new())
     }
 
     pub fn bad_record(copy: usize, fault: Fault, out: Vec<u8>) -> Ended {
-        let line = format!("bad record: copy {copy} offset {} {}", fault.offset, fault.reason.word());
+        let line = format!(
+            "bad record: copy {copy} offset {} {}",
+            fault.offset,
+            fault.reason.word()
+        );
         Ended::new(5, line, out)
     }
 

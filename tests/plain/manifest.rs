@@ -7,11 +7,23 @@ use std::ops::RangeInclusive;
 
 const MOST_BYTES: usize = 65_536;
 const MOST_TOLD: usize = 64;
-const TOP_KEYS: [&str; 8] =
-    ["job", "cycle_time_ns", "workers", "params", "event", "platform", "init_needs", "run_needs"];
+const TOP_KEYS: [&str; 8] = [
+    "job",
+    "cycle_time_ns",
+    "workers",
+    "params",
+    "event",
+    "platform",
+    "init_needs",
+    "run_needs",
+];
 const EVENT_KEYS: [&str; 3] = ["name", "capacity", "policy"];
-const NEEDS_KEYS: [&str; 4] =
-    ["instructions", "sequential_begin", "sequential_end", "speedup_thousandths"];
+const NEEDS_KEYS: [&str; 4] = [
+    "instructions",
+    "sequential_begin",
+    "sequential_end",
+    "speedup_thousandths",
+];
 const NEEDS: [&str; 2] = ["init_needs", "run_needs"];
 
 pub struct Manifest {
@@ -35,7 +47,11 @@ fn whole(value: Option<&Value>, key: &str, range: RangeInclusive<i64>) -> Judged
     }
 }
 
-fn text<'a>(value: Option<&'a Value>, key: &str, is_good: impl Fn(&str) -> bool) -> Judged<&'a str> {
+fn text<'a>(
+    value: Option<&'a Value>,
+    key: &str,
+    is_good: impl Fn(&str) -> bool,
+) -> Judged<&'a str> {
     match value {
         None => Err(format!("missing {key}")),
         Some(Value::Text(text)) if is_good(text) => Ok(text),
@@ -46,7 +62,9 @@ fn text<'a>(value: Option<&'a Value>, key: &str, is_good: impl Fn(&str) -> bool)
 
 fn is_name(text: &str) -> bool {
     (1..=32).contains(&text.len())
-        && text.bytes().all(|byte| matches!(byte, b'a'..=b'z' | b'0'..=b'9' | b'_'))
+        && text
+            .bytes()
+            .all(|byte| matches!(byte, b'a'..=b'z' | b'0'..=b'9' | b'_'))
 }
 
 fn is_platform(text: &str) -> bool {
@@ -58,12 +76,20 @@ fn params(root: &Table) -> Judged<Vec<i64>> {
         None => return Ok(Vec::new()),
         Some(Value::Array(values)) if values.len() > 16 => return Err("out of range params".into()),
         Some(Value::Array(values)) => values,
-        Some(Value::Tables(tables)) if tables.len() > 16 => return Err("out of range params".into()),
+        Some(Value::Tables(tables)) if tables.len() > 16 => {
+            return Err("out of range params".into())
+        }
         Some(Value::Tables(_)) => return Err("wrong kind params.0".into()),
         Some(_) => return Err("wrong kind params".into()),
     };
     let numbered = (0..).zip(values);
-    let take = |(number, value): (usize, _)| whole(Some(value), &format!("params.{number}"), i64::MIN..=i64::MAX);
+    let take = |(number, value): (usize, _)| {
+        whole(
+            Some(value),
+            &format!("params.{number}"),
+            i64::MIN..=i64::MAX,
+        )
+    };
     numbered.map(take).collect()
 }
 
@@ -118,7 +144,11 @@ fn needs(root: &Table, key: &str) -> Judged<Option<[u64; 4]>> {
     };
     let mut needs = [0; 4];
     for (need, name) in needs.iter_mut().zip(NEEDS_KEYS) {
-        let range = if name == "speedup_thousandths" { 1..=1_000_000 } else { 0..=i64::MAX };
+        let range = if name == "speedup_thousandths" {
+            1..=1_000_000
+        } else {
+            0..=i64::MAX
+        };
         *need = whole(table.entries.get(name), &format!("{key}.{name}"), range)? as u64;
     }
     Ok(Some(needs))
@@ -127,11 +157,22 @@ fn needs(root: &Table, key: &str) -> Judged<Option<[u64; 4]>> {
 /// A key that no table knows, as it is told.
 fn told_key(key: &str) -> String {
     let told = key.bytes().take(MOST_TOLD);
-    told.map(|byte| if byte.is_ascii_graphic() { byte.into() } else { '?' }).collect()
+    told.map(|byte| {
+        if byte.is_ascii_graphic() {
+            byte.into()
+        } else {
+            '?'
+        }
+    })
+    .collect()
 }
 
 fn refuse_unknown(table: &Table, name: &str, known: &[&str]) -> Judged<()> {
-    match table.entries.keys().find(|key| !known.contains(&key.as_str())) {
+    match table
+        .entries
+        .keys()
+        .find(|key| !known.contains(&key.as_str()))
+    {
         None => Ok(()),
         Some(key) => Err(format!("unknown key {name}{}", told_key(key))),
     }
@@ -152,7 +193,10 @@ fn refuse_all_unknown(root: &Table, events: &[Option<&Table>]) -> Judged<()> {
 
 fn refuse_equal_names(events: &[Event]) -> Judged<()> {
     for (number, event) in events.iter().enumerate() {
-        if events[..number].iter().any(|earlier| earlier.name == event.name) {
+        if events[..number]
+            .iter()
+            .any(|earlier| earlier.name == event.name)
+        {
             return Err(format!("duplicate event {number}"));
         }
     }
@@ -166,11 +210,18 @@ pub fn read(bytes: &[u8], seed: u64, is_strict: bool) -> Judged<Manifest> {
     }
     let root = toml::read(bytes).map_err(|_| "not toml".to_string())?;
     let job = text(root.entries.get("job"), "job", |_| true)?;
-    let cycle_time = whole(root.entries.get("cycle_time_ns"), "cycle_time_ns", 1..=i64::MAX)?;
+    let cycle_time = whole(
+        root.entries.get("cycle_time_ns"),
+        "cycle_time_ns",
+        1..=i64::MAX,
+    )?;
     let workers = whole(root.entries.get("workers"), "workers", 1..=64)?;
     let params = params(&root)?;
     let tables = event_tables(&root)?;
-    let events = tables.iter().enumerate().map(|(number, &table)| event(number, table));
+    let events = tables
+        .iter()
+        .enumerate()
+        .map(|(number, &table)| event(number, table));
     let events = events.collect::<Judged<Vec<_>>>()?;
     let platform = platform(&root)?;
     let needs = [needs(&root, NEEDS[0])?, needs(&root, NEEDS[1])?];

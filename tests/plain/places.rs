@@ -3,7 +3,8 @@
 use crate::common::profile::Input;
 use crate::record::{Element, Frame, Outcome, Run};
 
-/// Whether two elements are equal. Draws that one of them doesn't tell, as in format 1, aren't compared.
+/// Whether two elements are equal. Draws that one of them doesn't tell, as in format 1, aren't
+/// compared.
 fn is_equal(left: &Element, right: &Element) -> bool {
     let have_equal_draws = match (left.draws, right.draws) {
         (Some(draws), Some(other)) => draws == other,
@@ -14,12 +15,20 @@ fn is_equal(left: &Element, right: &Element) -> bool {
 
 /// The least element that differs, or that only one list has.
 fn element(left: &[Element], right: &[Element]) -> Option<usize> {
-    let equal = left.iter().zip(right).take_while(|(left, right)| is_equal(left, right)).count();
+    let equal = left
+        .iter()
+        .zip(right)
+        .take_while(|(left, right)| is_equal(left, right))
+        .count();
     (equal < left.len().max(right.len())).then_some(equal)
 }
 
 fn samples(input: &Input) -> Vec<(u16, i64)> {
-    input.samples.iter().map(|sample| (sample.event, sample.value)).collect()
+    input
+        .samples
+        .iter()
+        .map(|sample| (sample.event, sample.value))
+        .collect()
 }
 
 fn in_outcomes(left: &Outcome, right: &Outcome, cycle: usize) -> Option<String> {
@@ -34,7 +43,11 @@ fn in_outcomes(left: &Outcome, right: &Outcome, cycle: usize) -> Option<String> 
             Some(number) => Some(format!("element {cycle} {number}")),
             None => (output != other).then(|| format!("output {cycle}")),
         },
-        (Outcome::Refused(refusal), Outcome::Refused(other)) if refusal.parts() == other.parts() => None,
+        (Outcome::Refused(refusal), Outcome::Refused(other))
+            if refusal.parts() == other.parts() =>
+        {
+            None
+        }
         _ => Some(format!("result {cycle}")),
     }
 }

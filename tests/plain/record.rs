@@ -69,7 +69,11 @@ fn take_event(format: u16, cursor: &mut Cursor) -> Taken<Event> {
     let length = cursor.number(1, 1..=32)?;
     let mut name = String::new();
     for _ in 0..length {
-        name.push(cursor.byte(|byte| matches!(byte, b'a'..=b'z' | b'0'..=b'9' | b'_'))?.into());
+        name.push(
+            cursor
+                .byte(|byte| matches!(byte, b'a'..=b'z' | b'0'..=b'9' | b'_'))?
+                .into(),
+        );
     }
     let is_fresh = format == 2 && cursor.number(1, 0..=1)? == 1;
     Ok(Event {
@@ -91,9 +95,13 @@ fn take_header(cursor: &mut Cursor) -> Taken<Header> {
     let seed = cursor.number(8, 0..=u64::MAX.into())? as u64;
     let cycle_time = cursor.number(8, 1..=i64::MAX.into())? as u64;
     let count = cursor.number(2, 0..=16)?;
-    let params = (0..count).map(|_| cursor.signed(i64::MIN..=i64::MAX)).collect::<Taken<_>>()?;
+    let params = (0..count)
+        .map(|_| cursor.signed(i64::MIN..=i64::MAX))
+        .collect::<Taken<_>>()?;
     let count = cursor.number(2, 0..=256)?;
-    let events = (0..count).map(|_| take_event(format, cursor)).collect::<Taken<_>>()?;
+    let events = (0..count)
+        .map(|_| take_event(format, cursor))
+        .collect::<Taken<_>>()?;
     let profile = Profile {
         cycle_time,
         seed,
@@ -112,7 +120,11 @@ fn take_elements(has_draws: bool, cursor: &mut Cursor) -> Taken<Vec<Element>> {
     let take = |_| {
         let length = cursor.number(2, 0..=64)? as usize;
         let bytes = cursor.bytes(length)?.to_vec();
-        let draws = if has_draws { Some(cursor.number(4, 0..=u32::MAX.into())? as u32) } else { None };
+        let draws = if has_draws {
+            Some(cursor.number(4, 0..=u32::MAX.into())? as u32)
+        } else {
+            None
+        };
         Ok(Element { bytes, draws })
     };
     (0..count).map(take).collect()
@@ -120,7 +132,11 @@ fn take_elements(has_draws: bool, cursor: &mut Cursor) -> Taken<Vec<Element>> {
 
 fn take_input(events: usize, cursor: &mut Cursor) -> Taken<Input> {
     let has_time = cursor.number(1, 0..=1)? == 1;
-    let time = if has_time { Some(cursor.number(8, 0..=u64::MAX.into())? as u64) } else { None };
+    let time = if has_time {
+        Some(cursor.number(8, 0..=u64::MAX.into())? as u64)
+    } else {
+        None
+    };
     let most = if events == 0 { 0 } else { MOST_SAMPLES as i128 };
     let count = cursor.number(4, 0..=most)?;
     let take = |_| {
@@ -134,7 +150,11 @@ fn take_input(events: usize, cursor: &mut Cursor) -> Taken<Input> {
 
 fn take_refusal(cursor: &mut Cursor) -> Taken<Refusal> {
     let phase = cursor.number(1, 0..=2)?;
-    let (most_pass, most_element) = if phase == 1 { (7, MOST_ELEMENTS - 1) } else { (0, 0) };
+    let (most_pass, most_element) = if phase == 1 {
+        (7, MOST_ELEMENTS - 1)
+    } else {
+        (0, 0)
+    };
     let pass = cursor.number(1, 0..=most_pass)? as u8;
     let element = cursor.number(4, 0..=most_element)? as u32;
     let code = cursor.number(4, 0..=u32::MAX.into())? as u32;
@@ -173,7 +193,11 @@ pub fn take_frame(number: usize, shape: Shape, cursor: &mut Cursor) -> Taken<Fra
     let tag = cursor.byte(|byte| (1..=5).contains(&byte))?;
     let (tags, reason_of_run) = tags_at(number);
     if !tags.contains(&tag) {
-        let reason = if tag == 4 { reason_of_run } else { Reason::Order };
+        let reason = if tag == 4 {
+            reason_of_run
+        } else {
+            Reason::Order
+        };
         return Err(Fault { offset: at, reason });
     }
     Ok(match tag {

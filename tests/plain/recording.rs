@@ -1,7 +1,6 @@
 //! The commands on manifests and stimuli.
 
 use crate::common::profile::{Event, Input, Profile, Sample};
-use crate::common::program::Failure;
 use crate::common::spelling::{put_header, tags};
 use crate::common::stimulus::{Place, Stimulus};
 use crate::common::MOST_VALUE;
@@ -12,22 +11,20 @@ use crate::record::{Frame, Outcome, Run};
 use crate::rerun::Rerun;
 use crate::texts::manifest_lines;
 
-/// The most bytes of a stimulus of `det_twin`.
-const MOST_HELD: usize = 1 << 20;
-
 /// The inputs of a stimulus, and its bad line, if it has one.
-fn inputs(stimulus: &[u8], events: usize) -> Result<(Vec<Input>, Option<u64>), Failure> {
-    let mut stimulus = Stimulus::open(stimulus, events)?;
+pub fn inputs(stimulus: &[u8], events: usize) -> (Vec<Input>, Option<u64>) {
+    let read = "bytes in memory can be read";
+    let mut stimulus = Stimulus::open(stimulus, events).expect(read);
     let mut inputs = Vec::new();
     let mut input = Input::default();
-    while stimulus.next_block(&mut input)? {
+    while stimulus.next_block(&mut input).expect(read) {
         inputs.push(std::mem::take(&mut input));
     }
     let bad_line = match stimulus.place {
         Place::BadLine(line) => Some(line),
         _ => None,
     };
-    Ok((inputs, bad_line))
+    (inputs, bad_line)
 }
 
 /// A record that is being made.
@@ -65,20 +62,20 @@ impl<'a> Recording<'a> {
     }
 }
 
-fn record_profile(job: u16, profile: &Profile, stimulus: &[u8]) -> Result<Ended, Failure> {
-    let (inputs, bad_line) = inputs(stimulus, profile.events.len())?;
+fn record_profile(job: u16, profile: &Profile, stimulus: &[u8]) -> Ended {
+    let (inputs, bad_line) = inputs(stimulus, profile.events.len());
     let mut recording = Recording::of(job, profile);
     for input in &inputs {
         recording.run(input);
     }
-    Ok(recording.end(bad_line))
+    recording.end(bad_line)
 }
 
-pub fn record(manifest: &Manifest, stimulus: &[u8]) -> Result<Ended, Failure> {
+pub fn record(manifest: &Manifest, stimulus: &[u8]) -> Ended {
     record_profile(manifest.job, &manifest.profile, stimulus)
 }
 
-pub fn demo(stimulus: &[u8]) -> Result<Ended, Failure> {
+pub fn demo(stimulus: &[u8]) -> Ended {
     let event = Event {
         name: "x".into(),
         capacity: 2,
@@ -93,7 +90,8 @@ pub fn demo(stimulus: &[u8]) -> Result<Ended, Failure> {
     record_profile(1, &profile, stimulus)
 }
 
-/// What a cycle of a first client gives to a second one: the words of its output that are good samples.
+/// What a cycle of a first client gives to a second one: the words of its output that are good
+/// samples.
 fn derived(input: &Input, frame: &Frame, events: usize) -> Input {
     let output: &[u8] = match frame {
         Frame::Run(Run {
@@ -102,52 +100,32 @@ fn derived(input: &Input, frame: &Frame, events: usize) -> Input {
         }) => output,
         _ => &[],
     };
-    let words = output.chunks_exact(8).map(|word| i64::from_be_bytes(word.try_into().expect("8 bytes")));
+    let words = output
+        .chunks_exact(8)
+        .map(|word| i64::from_be_bytes(word.try_into().expect("8 bytes")));
     let is_good = |sample: &Sample| (-MOST_VALUE..=MOST_VALUE).contains(&sample.value);
-    let samples = (0..).zip(words.take(events)).map(|(event, value)| Sample { event, value });
+    let samples = (0..)
+        .zip(words.take(events))
+        .map(|(event, value)| Sample { event, value });
     Input {
         time: input.time,
         samples: samples.filter(is_good).collect(),
     }
 }
 
-pub fn chain(first: &Manifest, second: &Manifest, stimulus: &[u8]) -> Result<Ended, Failure> {
-    let (inputs, bad_line) = inputs(stimulus, first.profile.events.len())?;
+pub fn chain(first: &Manifest, second: &Manifest, stimulus: &[u8]) -> Ended {
+    let (inputs, bad_line) = inputs(stimulus, first.profile.events.len());
     let mut source = Recording::of(first.job, &first.profile);
     let mut recording = Recording::of(second.job, &second.profile);
     for input in &inputs {
         let frame = source.run(input);
         recording.run(&derived(input, &frame, second.profile.events.len()));
     }
-    Ok(recording.end(bad_line))
+    recording.end(bad_line)
 }
 
 pub fn needs(manifest: &Manifest) -> Ended {
     Ended::done(manifest_lines(manifest).into())
-}
-
-/// Copies that run now, in one of which the output of a frame may be turned.
-pub fn twins(manifest: &Manifest, stimulus: &[u8], flip: Option<(u64, u64)>) -> Result<Ended, Failure> {
-    if stimulus.len() > MOST_HELD {
-        return Ok(Ended::new(4, "bad stimulus: too long", Vec::new()));
-    }
-    let (inputs, bad_line) = inputs(stimulus, manifest.profile.events.len())?;
-    if let Some(line) = bad_line {
-        return Ok(Ended::new(4, format!("bad stimulus: line {line}"), Vec::new()));
-    }
-    let mut recording = Recording::of(manifest.job, &manifest.profile);
-    for (input, cycle) in inputs.iter().zip(1..) {
-        let frame = recording.run(input);
-        let has_output = matches!(&frame, Frame::Run(Run { outcome: Outcome::Finished { output, .. }, .. })
-            if !output.is_empty());
-        if let (Some((copy, turned)), true) = (flip, has_output) {
-            if turned == cycle + 2 {
-                let text = format!("differ copy {} output {cycle}\n", copy.max(1));
-                return Ok(Ended::differs(text.into()));
-            }
-        }
-    }
-    Ok(Ended::done(format!("agree {}\n", inputs.len()).into()))
 }
 
 /// Reads a manifest, or ends as where it is refused.

@@ -35,7 +35,8 @@ pub struct Rerun<'a> {
 pub const FIRST_RUN: usize = 3;
 
 impl<'a> Rerun<'a> {
-    /// The run of a job's number and a profile, where there is such a job and it takes the parameters.
+    /// The run of a job's number and a profile, where there is such a job and it takes the
+    /// parameters.
     pub fn of(job: u16, profile: &'a Profile) -> Option<Rerun<'a>> {
         if !(1..=3).contains(&job) || bad_parameter(job, &profile.params).is_some() {
             return None;

@@ -1,7 +1,7 @@
 //! Records as text, and reports on their runs.
 
-use crate::judging::job_name;
 use crate::jobs::Refusal;
+use crate::judging::job_name;
 use crate::manifest::Manifest;
 use crate::record::{Element, Frame, Header, Outcome, Run};
 use std::fmt::Write;
@@ -19,8 +19,15 @@ pub fn header_lines(header: &Header) -> String {
     if header.format == 2 {
         text += "format 2\n";
     }
-    text += &format!("job {}\nseed {}\ncycle_time {}\n", header.job, profile.seed, profile.cycle_time);
-    let params: String = profile.params.iter().map(|param| format!(" {param}")).collect();
+    text += &format!(
+        "job {}\nseed {}\ncycle_time {}\n",
+        header.job, profile.seed, profile.cycle_time
+    );
+    let params: String = profile
+        .params
+        .iter()
+        .map(|param| format!(" {param}"))
+        .collect();
     text += &format!("params{}\n", if params.is_empty() { " -" } else { &params });
     for (number, event) in profile.events.iter().enumerate() {
         let policy = match (header.format, event.is_fresh) {
@@ -36,7 +43,9 @@ pub fn header_lines(header: &Header) -> String {
 fn element_lines(elements: &[Element]) -> String {
     let mut text = String::new();
     for (number, element) in elements.iter().enumerate() {
-        let draws = element.draws.map_or(String::new(), |draws| format!(" {draws}"));
+        let draws = element
+            .draws
+            .map_or(String::new(), |draws| format!(" {draws}"));
         let _ = writeln!(text, "element {number} {}{draws}", hex(&element.bytes));
     }
     text
@@ -59,7 +68,12 @@ fn run_lines(run: &Run, cycle: usize) -> String {
     }
     text + &match &run.outcome {
         Outcome::Finished { elements, output } => {
-            format!("finished {}\n{}output {}\n", elements.len(), element_lines(elements), hex(output))
+            format!(
+                "finished {}\n{}output {}\n",
+                elements.len(),
+                element_lines(elements),
+                hex(output)
+            )
         }
         Outcome::Refused(refusal) => format!("refused {}\n", refusal_words(*refusal)),
     }

@@ -1,116 +1,161 @@
-//! The words of a case.
+//! The words of a case, read as `docs/FORMATS.md` says.
 
-use crate::commands::{check, replay, salvage, show, upgrade, Part};
-use crate::common::program::Failure;
-use crate::copies::{compare, vote, Copy};
-use crate::ended::Ended;
-use crate::manifest::Manifest;
-use crate::recording::{chain, demo, needs, read_manifest, record, twins};
-use std::fs;
+use std::collections::BTreeMap;
 
-/// The options of a case that say something about what it writes.
-#[derive(Default)]
-struct Options {
-    seed: u64,
-    is_strict: bool,
-    has_reports: bool,
-    has_dissent: bool,
-    cycle: Option<usize>,
-    flip: Option<(u64, u64)>,
+/// What words of `det` or of `det_twin` are.
+pub enum Read<'a> {
+    Command(Command<'a>),
+    /// They ask for a text of the program.
+    Text,
+    Bad,
 }
 
-/// Why a case ends before its command begins.
-enum Stop {
-    Ended(Ended),
-    Failed(String),
+/// The names of a command, and its options with their numbers.
+pub struct Command<'a> {
+    pub word: &'a str,
+    pub names: Vec<&'a str>,
+    pub options: BTreeMap<&'a str, Vec<u64>>,
 }
 
-impl From<Ended> for Stop {
-    fn from(ended: Ended) -> Stop {
-        Stop::Ended(ended)
+impl Command<'_> {
+    pub fn has(&self, option: &str) -> bool {
+        self.options.contains_key(option)
+    }
+
+    /// The number of an option that has one.
+    pub fn number(&self, option: &str) -> Option<u64> {
+        self.options.get(option).map(|numbers| numbers[0])
     }
 }
 
-impl From<Failure> for Stop {
-    fn from(_: Failure) -> Stop {
-        Stop::Failed("bytes in memory can't be read".into())
+/// What a command of `det` takes: the least and the greatest number of its names, and its options.
+const COMMANDS: [(&str, usize, usize, &[&str]); 11] = [
+    ("demo", 1, 1, &[]),
+    ("record", 2, 2, &["--seed", "--workers", "--strict"]),
+    ("show", 1, 1, &["--reports", "--cycle"]),
+    ("replay", 1, 1, &["--workers"]),
+    ("check", 1, 1, &["--workers"]),
+    ("upgrade", 1, 1, &["--workers"]),
+    ("compare", 2, 8, &[]),
+    ("vote", 3, 7, &["--dissent"]),
+    ("salvage", 1, 1, &["--reports"]),
+    ("chain", 3, 3, &["--seed", "--workers", "--strict"]),
+    ("needs", 1, 1, &["--strict"]),
+];
+/// The command that no case runs. Its page can be asked for.
+const OTHER: &str = "sim";
+
+/// A decimal number in its one spelling, in a range.
+fn number(word: &str, least: u64, most: u64) -> Option<u64> {
+    let is_decimal = word.bytes().all(|byte| byte.is_ascii_digit());
+    let has_needless_zero = word.len() > 1 && word.starts_with('0');
+    if !is_decimal || has_needless_zero {
+        return None;
+    }
+    word.parse()
+        .ok()
+        .filter(|number| (least..=most).contains(number))
+}
+
+fn is_name(word: &str) -> bool {
+    !word.is_empty() && !word.starts_with('-')
+}
+
+/// The range of each number behind an option of `det`.
+fn ranges(option: &str) -> &'static [(u64, u64)] {
+    match option {
+        "--seed" => &[(0, u64::MAX)],
+        "--workers" => &[(1, 64)],
+        "--cycle" => &[(1, 1_000_000)],
+        _ => &[],
     }
 }
 
-fn number(word: Option<&&str>) -> Result<u64, Stop> {
-    let word = word.ok_or(Stop::Failed("a number is missing".into()))?;
-    word.parse().map_err(|_| Stop::Failed(format!("no number: {word}")))
-}
-
-/// Parts words into names and options.
-fn part<'a>(words: &[&'a str]) -> Result<(Vec<&'a str>, Options), Stop> {
-    let (mut names, mut options) = (Vec::new(), Options::default());
-    let mut words = words.iter();
-    while let Some(&word) = words.next() {
-        match word {
-            "--strict" => options.is_strict = true,
-            "--reports" => options.has_reports = true,
-            "--dissent" => options.has_dissent = true,
-            "--seed" => options.seed = number(words.next())?,
-            "--cycle" => options.cycle = Some(number(words.next())? as usize),
-            "--flip" => options.flip = Some((number(words.next())?, number(words.next())?)),
-            // The number of workers changes no byte.
-            "--workers" => drop(number(words.next())?),
-            name => names.push(name),
+fn read_command<'a>(words: &[&'a str]) -> Option<Command<'a>> {
+    let (&word, others) = words.split_first()?;
+    let &(_, least, most, known) = COMMANDS.iter().find(|(name, ..)| *name == word)?;
+    let (mut names, mut options) = (Vec::new(), BTreeMap::new());
+    let mut others = others.iter();
+    while let Some(&other) = others.next() {
+        if !known.contains(&other) {
+            names.push(other);
+            continue;
+        }
+        let ranges = ranges(other).iter();
+        let numbers = ranges.map(|&(least, most)| number(others.next()?, least, most));
+        if options
+            .insert(other, numbers.collect::<Option<_>>()?)
+            .is_some()
+        {
+            return None;
         }
     }
-    Ok((names, options))
-}
-
-fn file(name: &str) -> Result<Vec<u8>, Stop> {
-    fs::read(name).map_err(|_| Ended::read_fault().into())
-}
-
-fn manifest(name: &str, options: &Options) -> Result<Manifest, Stop> {
-    Ok(read_manifest(&file(name)?, options.seed, options.is_strict)?)
-}
-
-fn copies(names: &[&str]) -> Result<Vec<Copy>, Stop> {
-    names.iter().map(|name| Ok(Copy::of(file(name)?))).collect()
-}
-
-fn part_of(options: &Options) -> Part {
-    match options.cycle {
-        Some(cycle) => Part::Cycle(cycle),
-        None if options.has_reports => Part::Reports,
-        None => Part::All,
-    }
-}
-
-fn ended(words: &[&str]) -> Result<Ended, Stop> {
-    let (names, options) = part(words)?;
-    Ok(match names[..] {
-        ["det", "demo", text] => demo(&file(text)?)?,
-        ["det", "record", first, text] => record(&manifest(first, &options)?, &file(text)?)?,
-        ["det", "show", name] => show(&file(name)?, part_of(&options)),
-        ["det", "replay", name] => replay(&file(name)?),
-        ["det", "check", name] => check(&file(name)?),
-        ["det", "upgrade", name] => upgrade(&file(name)?),
-        ["det", "salvage", name] => salvage(&file(name)?, options.has_reports),
-        ["det", "compare", ref names @ ..] => compare(&copies(names)?),
-        ["det", "vote", ref names @ ..] => vote(&copies(names)?, options.has_dissent),
-        ["det", "needs", name] => needs(&manifest(name, &options)?),
-        ["det", "chain", first, second, text] => {
-            let (first, second) = (manifest(first, &options)?, manifest(second, &options)?);
-            chain(&first, &second, &file(text)?)?
-        }
-        ["det_twin", _, first, text] => {
-            let manifest = manifest(first, &options)?;
-            twins(&manifest, &file(text)?, options.flip)?
-        }
-        _ => return Err(Stop::Failed("not the words of a case".into())),
+    let is_good = (least..=most).contains(&names.len()) && names.iter().all(|name| is_name(name));
+    let asks_twice = options.contains_key("--reports") && options.contains_key("--cycle");
+    (is_good && !asks_twice).then_some(Command {
+        word,
+        names,
+        options,
     })
 }
 
-/// How the program of a case ends. A case that isn't one has a status that no program ends with.
-pub fn run(words: &[&str]) -> Ended {
-    match ended(words) {
-        Ok(ended) | Err(Stop::Ended(ended)) => ended,
-        Err(Stop::Failed(why)) => Ended::new(255, why, Vec::new()),
+fn is_page(word: &str) -> bool {
+    word == OTHER || COMMANDS.iter().any(|(name, ..)| *name == word)
+}
+
+fn asks_for_text(words: &[&str]) -> bool {
+    match *words {
+        ["--help" | "-h" | "help" | "--version" | "-V" | "version"] => true,
+        ["--help" | "help", command] => is_page(command),
+        [command, "--help"] => is_page(command),
+        _ => false,
     }
+}
+
+/// The words behind `det`.
+pub fn read<'a>(words: &[&'a str]) -> Read<'a> {
+    if asks_for_text(words) {
+        return Read::Text;
+    }
+    read_command(words).map_or(Read::Bad, Read::Command)
+}
+
+fn read_twin_command<'a>(words: &[&'a str]) -> Option<Command<'a>> {
+    let [word, manifest, stimulus, options @ ..] = words else {
+        return None;
+    };
+    let copies = number(word, 2, 8)?;
+    let mut found = BTreeMap::new();
+    let mut words = options.iter();
+    while let Some(&option) = words.next() {
+        let numbers = match option {
+            "--strict" => Vec::new(),
+            "--flip" => vec![
+                number(words.next()?, 0, copies - 1)?,
+                number(words.next()?, 0, u64::from(u32::MAX))?,
+            ],
+            _ => return None,
+        };
+        if found.insert(option, numbers).is_some() {
+            return None;
+        }
+    }
+    let names = vec![*manifest, *stimulus];
+    let is_good = names.iter().all(|name| is_name(name));
+    is_good.then_some(Command {
+        word,
+        names,
+        options: found,
+    })
+}
+
+/// The words behind `det_twin`.
+pub fn read_twin<'a>(words: &[&'a str]) -> Read<'a> {
+    if matches!(
+        words,
+        ["--help" | "-h" | "help" | "--version" | "-V" | "version"]
+    ) {
+        return Read::Text;
+    }
+    read_twin_command(words).map_or(Read::Bad, Read::Command)
 }

@@ -36,7 +36,8 @@ impl<'a> Scanner<'a> {
         taken
     }
 
-    /// Takes the longest beginning whose bytes are of a kind. All bytes of a character beyond ASCII are, or none is.
+    /// Takes the longest beginning whose bytes are of a kind. All bytes of a character beyond ASCII
+    /// are, or none is.
     pub fn take_while(&mut self, is_taken: impl Fn(u8) -> bool) -> &'a str {
         let length = self.rest.bytes().take_while(|&byte| is_taken(byte)).count();
         self.take(length)

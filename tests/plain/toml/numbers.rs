@@ -28,14 +28,19 @@ pub fn whole_number(text: &str) -> Parsed<Option<i64>> {
     for (prefix, radix) in [("0x", 16), ("0o", 8), ("0b", 2)] {
         if let Some(rest) = text.strip_prefix(prefix) {
             let digits = digits(rest, radix).ok_or(NotToml)?;
-            return i64::from_str_radix(&digits, radix).map(Some).map_err(|_| NotToml);
+            return i64::from_str_radix(&digits, radix)
+                .map(Some)
+                .map_err(|_| NotToml);
         }
     }
     let Some(digits) = plain_digits(without_sign(text)) else {
         return Ok(None);
     };
     let sign = if text.starts_with('-') { "-" } else { "" };
-    format!("{sign}{digits}").parse().map(Some).map_err(|_| NotToml)
+    format!("{sign}{digits}")
+        .parse()
+        .map(Some)
+        .map_err(|_| NotToml)
 }
 
 /// Whether a text spells a number that isn't whole, and that an f64 holds.
@@ -58,5 +63,9 @@ pub fn is_float(text: &str) -> bool {
     let is_well_formed = plain_digits(whole).is_some()
         && fraction.is_none_or(|fraction| digits(fraction, 10).is_some())
         && exponent.is_none_or(|exponent| digits(without_sign(exponent), 10).is_some());
-    is_well_formed && plain.replace('_', "").parse::<f64>().is_ok_and(f64::is_finite)
+    is_well_formed
+        && plain
+            .replace('_', "")
+            .parse::<f64>()
+            .is_ok_and(f64::is_finite)
 }

@@ -61,8 +61,8 @@ pub fn take_literal(scanner: &mut Scanner) -> Parsed<String> {
     Ok(text.to_string())
 }
 
-/// Takes a run of quotes within a long text. Answers whether it ended the text: its last three do, and up to two before
-/// them are part of it.
+/// Takes a run of quotes within a long text. Answers whether it ended the text: its last three do,
+/// and up to two before them are part of it.
 fn take_quotes(scanner: &mut Scanner, quote: u8, text: &mut String) -> Parsed<bool> {
     let run = scanner.take_while(|byte| byte == quote);
     match run.len() {

@@ -48,7 +48,8 @@ impl Table {
         Table::new(Made::Inline)
     }
 
-    /// Adds a value under a key. The tables that the key names before its end are made where they aren't there.
+    /// Adds a value under a key. The tables that the key names before its end are made where they
+    /// aren't there.
     pub fn assign(&mut self, key: &[String], value: Value) -> Parsed<()> {
         let Some((last, path)) = key.split_last() else {
             return Err(NotToml);
@@ -74,7 +75,9 @@ impl Table {
     fn inner(&mut self, part: &str) -> Parsed<&mut Table> {
         let made = Value::Table(Table::new(Made::ByDottedKey));
         match self.entries.entry(part.to_string()).or_insert(made) {
-            Value::Table(table) if matches!(table.made, Made::ByDottedKey | Made::ByInnerHeader) => {
+            Value::Table(table)
+                if matches!(table.made, Made::ByDottedKey | Made::ByInnerHeader) =>
+            {
                 table.made = Made::ByDottedKey;
                 Ok(table)
             }

@@ -25,7 +25,9 @@ fn behind_date(text: &str) -> Option<&str> {
     let (year, rest) = number(text, 4)?;
     let (month, rest) = number(rest.strip_prefix('-')?, 2)?;
     let (day, rest) = number(rest.strip_prefix('-')?, 2)?;
-    (1..=month_length(year, month)?).contains(&day).then_some(rest)
+    (1..=month_length(year, month)?)
+        .contains(&day)
+        .then_some(rest)
 }
 
 /// What stands behind an hour and a minute.

@@ -65,7 +65,8 @@ fn take_value(scanner: &mut Scanner, depth: usize) -> Parsed<Value> {
     }
 }
 
-/// The characters of a number, a truth value or a time. Between a date and a time one space may stand.
+/// The characters of a number, a truth value or a time. Between a date and a time one space may
+/// stand.
 fn take_scalar<'a>(scanner: &mut Scanner<'a>) -> &'a str {
     let all = scanner.rest();
     let is_part =
