@@ -10,6 +10,8 @@ starts at the top of the repository. Prints each command that printed something 
 Python's standard library and bash are all that it needs.
 """
 
+from __future__ import annotations
+
 import argparse
 import os
 import subprocess

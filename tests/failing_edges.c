@@ -1,5 +1,5 @@
-// Loaded before a program, has its calls of the C library fail, or move few bytes at a time. Files of /sys and /proc, by which a
-// program finds out how many processors there are, are left alone.
+// Loaded before a program, has its calls of the C library fail, or move few bytes at a time. Files
+// of /sys and /proc, by which a program finds out how many processors there are, are left alone.
 //
 // CALL     which call fails: open, read, write, spawn, pipe or wait
 // NUMBER   which one of these, counted from 1; none where it is 0
@@ -7,7 +7,8 @@
 // LASTING  1 where all such calls behind that one fail too, 0 where they don't
 // READ     the most bytes that a read gives, 0 for no limit
 // WRITE    the most bytes that a write takes, 0 for no limit
-// ONLY     the last word of the process that is meant, which other processes start; empty where the first one is
+// ONLY     the last word of the process that is meant, which another one starts; empty where it is
+//          the first one
 // COUNTED  a file descriptor, to which the process that is meant writes how often it made each call
 #define _GNU_SOURCE
 #include <dlfcn.h>
@@ -26,7 +27,7 @@
 
 enum call { OPEN, READ, WRITE, SPAWN, PIPE, WAIT, CALLS };
 
-static const char *const names[CALLS] = {"open", "read", "write", "spawn", "pipe", "wait"};
+static const char *const call_names[CALLS] = {"open", "read", "write", "spawn", "pipe", "wait"};
 static atomic_long counts[CALLS];
 static atomic_flag is_told = ATOMIC_FLAG_INIT;
 static int is_meant;
@@ -52,7 +53,7 @@ __attribute__((constructor)) static void begin(int count, char **words) {
     const char *call = getenv("CALL");
     failing = CALLS;
     for (int at = 0; at < CALLS; at++) {
-        if (call != NULL && strcmp(call, names[at]) == 0) {
+        if (call != NULL && strcmp(call, call_names[at]) == 0) {
             failing = at;
         }
     }
@@ -133,11 +134,13 @@ ssize_t write(int file, const void *bytes, size_t length) {
     return is_failing(WRITE) ? -1 : syscall(SYS_write, file, bytes, limited(length, most_written));
 }
 
-int posix_spawn(pid_t *process, const char *path, const posix_spawn_file_actions_t *actions, const posix_spawnattr_t *attributes,
-                char *const words[], char *const names_and_values[]) {
-    int (*next)(pid_t *, const char *, const posix_spawn_file_actions_t *, const posix_spawnattr_t *, char *const[], char *const[]) =
-        dlsym(RTLD_NEXT, "posix_spawn");
-    return is_failing(SPAWN) ? error : next(process, path, actions, attributes, words, names_and_values);
+typedef int spawner(pid_t *, const char *, const posix_spawn_file_actions_t *,
+                    const posix_spawnattr_t *, char *const[], char *const[]);
+
+int posix_spawn(pid_t *process, const char *path, const posix_spawn_file_actions_t *actions,
+                const posix_spawnattr_t *attributes, char *const words[], char *const names[]) {
+    spawner *next = (spawner *)dlsym(RTLD_NEXT, "posix_spawn");
+    return is_failing(SPAWN) ? error : next(process, path, actions, attributes, words, names);
 }
 
 int pipe2(int ends[2], int flags) {

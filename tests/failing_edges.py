@@ -1,18 +1,21 @@
 #!/usr/bin/env python3
-"""Runs each command with each of its calls of the system failing in turn, and with reads and writes of few bytes.
+"""Runs each command with each of its calls of the system failing in turn, and with small ones.
 
-    python3 tests/failing_edges.py                       with the programs of bin/, which build where needed
+    python3 tests/failing_edges.py                       with the programs of bin/
     python3 tests/failing_edges.py --programs FOLDER     with other builds of them
-    python3 tests/failing_edges.py --all                 every number of a call, also where there are more than 40
+    python3 tests/failing_edges.py --all                 of a call that is made often, not 40 alone
     python3 tests/failing_edges.py --only "det vote"     the commands whose words begin so
 
-A library that is loaded before the program has one call of open, read or write fail, of det_lane also one of posix_spawn, pipe2
-or of those that wait, once or from there on; in the second copy of det_lane too. A failed open or read has to end the run with
-status 6 and `read fault`, a failed write with 7 and `write fault`, in det_lane with `spawn fault` or with the status of the copy, and
-what was written has to be the first bytes of what is written otherwise. A call that was interrupted is tried again, and reads
-and writes of few bytes change nothing. Without the library the same is tried with files that aren't there, with folders, and
-with outputs that are full, closed, or read by nobody. Prints a line for each command, and each run that ended in another
-way; ends with 1 where there is one. Python's standard library and gcc are all that it needs, on Linux.
+A library that is loaded before the program has one call of open, read or write fail, once or from
+there on; of `det_lane` also one of posix_spawn, pipe2 or of those that wait, and one of its second
+copy. A failed open or read has to end the run with status 6 and `read fault`, a failed write with 7
+and `write fault`; in `det_lane` the first, and what children need, with 10 and `spawn fault`, and a
+failed copy with 9 and its status. What was written has to be the first bytes of what is written
+otherwise. A call that was interrupted has to be tried again, and reads and writes of few bytes may
+change nothing. Without the library the same is tried with files that aren't there, with folders,
+and with outputs that are full, closed, or read by nobody. Prints a line for each command, and each
+run that ended in another way; ends with 1 where there is one. The programs of bin/ build where
+needed. Python's standard library and gcc are all that it needs, on Linux.
 """
 
 import argparse
@@ -24,15 +27,17 @@ import tempfile
 from concurrent.futures import ThreadPoolExecutor
 from dataclasses import dataclass, replace
 from pathlib import Path
-from typing import Dict, Iterator, List, Optional, Tuple
+from typing import Any, Dict, Iterator, List, Tuple
 
 from lanes import children_left
 from mutations import in_first_format
-from refused_memory import built
+from refused_memory import built, placed
 
 TOP = Path(__file__).resolve().parent.parent
 LIMIT = 60
 MOST_NUMBERS = 40
+# The most runs of a command that are told.
+MOST_TOLD = 10
 CALLS = ("open", "read", "write", "spawn", "pipe", "wait")
 ERRORS = {
     "open": (errno.EIO, errno.EMFILE, errno.ENOENT),
@@ -102,16 +107,26 @@ class Setting:
     only: str = ""
 
     def names(self) -> Dict[str, str]:
-        values = {"CALL": self.call, "NUMBER": self.number, "ERROR": self.error, "LASTING": int(self.lasting), "READ": self.read,
-                  "WRITE": self.write, "ONLY": self.only}
+        values = {
+            "CALL": self.call,
+            "NUMBER": self.number,
+            "ERROR": self.error,
+            "LASTING": int(self.lasting),
+            "READ": self.read,
+            "WRITE": self.write,
+            "ONLY": self.only,
+        }
         return {name: str(value) for name, value in values.items()}
 
     def told(self) -> str:
-        failing = f"{self.call} {self.number} fails with {errno.errorcode[self.error]}" if self.call else "no call fails"
-        more = [", and all behind it"] if self.lasting else []
-        more += [f", reads of {self.read}"] if self.read else []
-        more += [f", writes of {self.write}"] if self.write else []
-        return failing + "".join(more) + (", in a copy" if self.only else "")
+        parts = ["no call fails"]
+        if self.call:
+            parts = [f"{self.call} {self.number} fails with {errno.errorcode[self.error]}"]
+        parts += ["and all behind it"] if self.lasting else []
+        parts += [f"reads of {self.read}"] if self.read else []
+        parts += [f"writes of {self.write}"] if self.write else []
+        parts += ["in a copy"] if self.only else []
+        return ", ".join(parts)
 
 
 @dataclass(frozen=True)
@@ -143,24 +158,34 @@ class Trial:
     def make_inputs(self) -> None:
         record = self.plain(self.command("det demo examples/bank.stim"), {}).out
         flipped = record[:-30] + bytes([record[-30] ^ 1]) + record[-29:]
-        inputs = {"bank.rec": record, "old.rec": in_first_format(record), "cut.rec": record[:-3], "flipped.rec": flipped,
-                  "bad.stim": b"stim 1\ncycle 0\ncycle 5\nsample 1 1\n", "bad.toml": b"job = 'bank'\n"}
+        inputs = {
+            "bank.rec": record,
+            "old.rec": in_first_format(record),
+            "cut.rec": record[:-3],
+            "flipped.rec": flipped,
+            "bad.stim": b"stim 1\ncycle 0\ncycle 5\nsample 1 1\n",
+            "bad.toml": b"job = 'bank'\n",
+        }
         for name, data in inputs.items():
             (self.folder / name).write_bytes(data)
 
     def command(self, words: str) -> List[str]:
         """A command's words, with its program by its path."""
         program, *others = words.split()
-        places = {"OUT/": f"{self.folder}/", "BIN/": f"{self.programs}/"}
-        for name, place in places.items():
-            others = [place + word[len(name) :] if word.startswith(name) else word for word in others]
-        return [str(self.programs / program), *others]
+        placed_words = (placed(word, self.folder, self.programs) for word in others)
+        return [str(self.programs / program), *placed_words]
 
-    def plain(self, command: List[str], more: Dict[str, object]) -> Ended:
+    def plain(self, command: List[str], more: Dict[str, Any]) -> Ended:
         """How a command ends without the library."""
-        edges: Dict[str, object] = dict(stdin=subprocess.DEVNULL, stdout=subprocess.PIPE, stderr=subprocess.PIPE, cwd=TOP, env={})
+        edges: Dict[str, Any] = {
+            "stdin": subprocess.DEVNULL,
+            "stdout": subprocess.PIPE,
+            "stderr": subprocess.PIPE,
+            "cwd": TOP,
+            "env": {},
+        }
         try:
-            done = subprocess.run(command, timeout=LIMIT, check=False, **{**edges, **more})  # type: ignore[call-overload]
+            done = subprocess.run(command, timeout=LIMIT, check=False, **{**edges, **more})
         except subprocess.TimeoutExpired:
             return NO_END
         return Ended(done.returncode, done.stdout or b"", done.stderr or b"")
@@ -185,10 +210,11 @@ def begins(ended: Ended, status: int, line: bytes, whole: Ended) -> bool:
 
 
 def failed_write(setting: Setting, ended: Ended, whole: Ended) -> bool:
-    """Whether a run ended as it has to where a write failed, of standard output or of standard error."""
-    lost_line = ended.status == whole.status and ended.out == whole.out and ended.err != whole.err and whole.err.startswith(ended.err)
+    """Whether a run ended as it has to where a write failed, which may be one to standard error."""
+    is_told = (ended.status, ended.out) == (whole.status, whole.out)
+    is_line_lost = is_told and ended.err != whole.err and whole.err.startswith(ended.err)
     line = b"" if setting.lasting else b"write fault"
-    return lost_line or begins(ended, 7, line, whole)
+    return is_line_lost or begins(ended, 7, line, whole)
 
 
 def is_good(words: str, setting: Setting, ended: Ended, whole: Ended) -> bool:
@@ -208,14 +234,14 @@ def is_good(words: str, setting: Setting, ended: Ended, whole: Ended) -> bool:
 
 
 def numbers_of(count: int, most: int) -> List[int]:
-    """The numbers from 1 to a count, or as many of them as are tried, with the first and the last."""
+    """The numbers from 1 to a count, or so many of them, with the first and the last."""
     if count <= most:
         return list(range(1, count + 1))
     return sorted({1 + at * (count - 1) // (most - 1) for at in range(most)})
 
 
 def failing(words: str, base: Setting, counts: Dict[str, int], most: int) -> Iterator[Setting]:
-    """Each call failing in turn, with each error, once and from there on; and each interrupted once."""
+    """Each call failing in turn with each error, once and from there on; each interrupted once."""
     # What det_lane opens itself is /dev/null, which is never interrupted.
     interrupted = INTERRUPTED[1:] if words.startswith(LANE) and not base.only else INTERRUPTED
     for call, count in counts.items():
@@ -256,20 +282,25 @@ def settings(trial: Trial, words: str, most: int) -> Iterator[Setting]:
 
 
 def real_edges(trial: Trial, words: str, whole: Ended) -> Iterator[Tuple[str, bool]]:
-    """Outputs and inputs that fail without any library: what was tried, and whether the run ended as it has to."""
+    """Failing outputs and inputs without any library: what each is, and whether the run is good."""
     command = trial.command(words)
     closing, unread = os.pipe()
     os.close(closing)
     with open("/dev/full", "wb") as full:
-        outputs: Dict[str, Dict[str, object]] = {
+        outputs: Dict[str, Dict[str, Any]] = {
             "a full output": {"stdout": full},
             "an output that nobody reads": {"stdout": unread},
             "a closed output": {"stdout": None, "preexec_fn": lambda: os.close(1)},
         }
         for told, more in outputs.items():
             ended = trial.plain(command, more)
-            yield told, ended.status == whole.status if not whole.out else (ended.status, ended.line()) == (7, b"write fault")
-        for told, more in (("a full standard error", {"stderr": full}), ("a closed one", {"stderr": None, "preexec_fn": lambda: os.close(2)})):
+            status, line = (7, b"write fault") if whole.out else (whole.status, whole.line())
+            yield told, (ended.status, ended.line()) == (status, line)
+        errors: Dict[str, Dict[str, Any]] = {
+            "a full standard error": {"stderr": full},
+            "a closed standard error": {"stderr": None, "preexec_fn": lambda: os.close(2)},
+        }
+        for told, more in errors.items():
             ended = trial.plain(command, more)
             yield told, (ended.status, ended.out) == (whole.status, whole.out)
     os.close(unread)
@@ -284,11 +315,12 @@ def bad_inputs(trial: Trial, words: str, whole: Ended) -> Iterator[Tuple[str, bo
             continue
         for bad in (str(trial.folder / "nothing"), str(trial.folder)):
             ended = trial.plain([*command[:place], bad, *command[place + 1 :]], {})
+            # What stands behind a manifest that is refused isn't opened.
+            is_of_manifest = whole.status == 3 or whole.line().endswith(b"status 3")
+            is_read_fault = begins(ended, 6, b"read fault", whole)
             if words.startswith(LANE):
-                good = ended in (Ended(9, b"", b"child 0 status 6\n"), whole)
-            else:
-                good = begins(ended, 6, b"read fault", whole) or (ended == whole and whole.status == 3)
-            yield f"{bad} as word {place}", good
+                is_read_fault = ended == Ended(9, b"", b"child 0 status 6\n")
+            yield f"{bad} as word {place}", is_read_fault or (ended == whole and is_of_manifest)
 
 
 def tried(trial: Trial, words: str, most: int, jobs: int) -> bool:
@@ -300,20 +332,22 @@ def tried(trial: Trial, words: str, most: int, jobs: int) -> bool:
         ends = threads.map(lambda setting: trial.run(words, setting), all_settings)
         for setting, (ended, counts) in zip(all_settings, ends):
             # How many reads a pipe takes isn't the same in every run.
-            is_reached = not setting.call or counts.get(setting.call, setting.number) >= setting.number
+            is_reached = counts.get(setting.call, setting.number) >= setting.number
             if not is_good(words, setting if is_reached else Setting(), ended, whole):
-                wrong.append(f"{setting.told()}: status {ended.status}, {ended.err!r}, {len(ended.out)} bytes")
+                how = f"status {ended.status}, {ended.err!r}, {len(ended.out)} bytes"
+                wrong.append(f"{setting.told()}: {how}")
     edges = list(real_edges(trial, words, whole))
     wrong += [told for told, good in edges if not good]
-    print(f"{words}: status {whole.status}, {len(all_settings) + len(edges)} runs, {len(wrong)} ended otherwise", flush=True)
-    for told in wrong[:10]:
+    runs = len(all_settings) + len(edges)
+    print(f"{words}: status {whole.status}, {runs} runs, {len(wrong)} ended otherwise", flush=True)
+    for told in wrong[:MOST_TOLD]:
         print(f"  {told}")
     return not wrong
 
 
 def main() -> int:
     parser = argparse.ArgumentParser(description="Has each call of the system fail in turn.")
-    parser.add_argument("--programs", type=Path, help="a folder of builds to take in place of bin/")
+    parser.add_argument("--programs", type=Path, help="a folder of builds in place of bin/")
     parser.add_argument("--only", default="", help="what the commands begin with")
     parser.add_argument("--all", action="store_true", help="every number of a call")
     parser.add_argument("--jobs", type=int, default=os.cpu_count(), help="how many runs at a time")

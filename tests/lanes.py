@@ -10,6 +10,8 @@ be left running. Prints a line for each case, and ends with 1 where one ended ot
 needs, on a machine with /proc.
 """
 
+from __future__ import annotations
+
 import argparse
 import os
 import resource

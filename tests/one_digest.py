@@ -1,17 +1,20 @@
 #!/usr/bin/env python3
 """Shows that the records of many disturbed runs are the same bytes.
 
-    python3 tests/one_digest.py                       1,000 runs with the program that bin/det builds
+    python3 tests/one_digest.py                       1,000 runs with the program of bin/det
     python3 tests/one_digest.py --runs 20             so many runs
     python3 tests/one_digest.py --programs FOLDER     with another build of det
-    python3 tests/one_digest.py --busy 4              beside so many busy processes, one for each processor where none are given
+    python3 tests/one_digest.py --busy 4              beside so many busy processes
     python3 tests/one_digest.py --seed 7              other random choices
 
-A run records a bank, and a cloud and a guard that refuse cycles, with some number of workers from 1 to 64. Its digest is the
-SHA-256 of the three records, and has to be that of the records of the plain program, tests/plain, which has one thread. While a
-record is made, the process is stopped and goes on at random moments, and its threads are pinned to random processors. Prints the digest, how many runs had it and how they were disturbed, and the first run that hasn't; ends with 1
-where there is one, or where a run takes more than a minute. Python's standard library and rustc are all that it needs, on
-Linux.
+A run records a bank, and a cloud and a guard that refuse cycles, with some number of workers from 1
+to 64. Its digest is the SHA-256 of the three records, and has to be that of the records that
+tests/plain writes, which has one thread. While a record is made, the process is stopped and goes on
+at random moments, and its threads are pinned to random processors; beside it one process for each
+processor is busy, where no other number is given. Prints the digest, how many runs had it and how
+they were disturbed, or the first run that hasn't; ends with 1 where there is one. A run that takes
+more than a minute has none. bin/det builds where needed. Python's standard library and rustc are
+all that it needs, on Linux.
 """
 
 import argparse
@@ -38,9 +41,16 @@ LIMIT = 60
 MOST_WORKERS = 64
 # The most seconds between two disturbances, and that a process stands still.
 MOMENT = 0.004
-BUSY = "import os\nparent = os.getppid()\nwhile os.getppid() == parent:\n    for _ in range(1000000): pass\n"
-# Each client with the cycles and the values of its stimulus. The cloud refuses where the third event is negative, or its
-# nearest particle is too far away; the guard where a channel is bad twice in a row, or more than half of all are bad.
+BUSY = """
+import os
+parent = os.getppid()
+while os.getppid() == parent:
+    for _ in range(1000000):
+        pass
+"""
+# Each client with the cycles and the values of its stimulus. The cloud refuses where its third
+# event is negative or its nearest particle is too far away, the guard where a channel is bad twice
+# in a row or more than half of all are bad.
 INPUTS = (
     (Client("bank", [9000, 1], 3), 15, [0, 7, -5, MOST, -MOST, 1000]),
     (Client("cloud", [1500, 50, 3, 6000], 3), 30, [0, 2000, 40, 3000, 3000, 3000, -1, 90]),
@@ -74,7 +84,8 @@ class Disturber:
         self.counts: CounterOf[str] = Counter()
 
     def some_processors(self) -> Set[int]:
-        return set(self.choose.sample(self.processors, self.choose.randint(1, len(self.processors))))
+        count = self.choose.randint(1, len(self.processors))
+        return set(self.choose.sample(self.processors, count))
 
     def stop(self, process: int) -> None:
         os.kill(process, signal.SIGSTOP)
@@ -119,7 +130,12 @@ class Runs:
         command = [str(self.program), *words, "--workers", str(workers)]
         pinned = self.disturber.some_processors()
         with open(self.folder / "record", "wb") as out:
-            process = subprocess.Popen(command, stdout=out, stderr=subprocess.DEVNULL, preexec_fn=lambda: os.sched_setaffinity(0, pinned))
+            process = subprocess.Popen(
+                command,
+                stdout=out,
+                stderr=subprocess.DEVNULL,
+                preexec_fn=lambda: os.sched_setaffinity(0, pinned),
+            )
             if not self.disturber.disturb(process):
                 raise NoRecord(f"no end in {LIMIT} seconds")
         if process.returncode != 0:
@@ -174,16 +190,22 @@ def first_other(runs: Runs, made: Made, count: int, wanted: str) -> Optional[str
     return None
 
 
+def program_of(programs: Optional[Path]) -> Path:
+    """The build of det in a folder, or that of bin/det."""
+    if programs:
+        return programs.resolve() / "det"
+    subprocess.run([TOP / "bin" / "det", "--version"], stdout=subprocess.DEVNULL, check=True)
+    return TOP / "crates" / "det" / "out" / "det"
+
+
 def main() -> int:
-    parser = argparse.ArgumentParser(description="Shows that the records of many disturbed runs are the same bytes.")
+    parser = argparse.ArgumentParser(description="Compares the records of many disturbed runs.")
     parser.add_argument("--runs", type=int, default=1000)
-    parser.add_argument("--programs", type=Path, help="a folder with a build of det to take in place of bin/det's")
-    parser.add_argument("--busy", type=int, default=os.cpu_count(), help="how many processes are busy beside it")
+    parser.add_argument("--programs", type=Path, help="a folder of builds in place of bin/")
+    parser.add_argument("--busy", type=int, default=os.cpu_count(), help="how many busy processes")
     parser.add_argument("--seed", default="0", help="any text")
     given = parser.parse_args()
-    if not given.programs:
-        subprocess.run([TOP / "bin" / "det", "--version"], stdout=subprocess.DEVNULL, check=True)
-    program = given.programs.resolve() / "det" if given.programs else TOP / "crates" / "det" / "out" / "det"
+    program = program_of(given.programs)
     with tempfile.TemporaryDirectory() as name, busy(given.busy):
         folder, disturber = Path(name), Disturber(random.Random(given.seed))
         made = Made.of(folder)

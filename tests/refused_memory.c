@@ -1,6 +1,7 @@
-// Loaded before a program, refuses one of its requests for memory: number REFUSED, counted from 1 over malloc, calloc, realloc,
-// aligned_alloc, posix_memalign and pthread_create, which wants a thread's room; none where that is 0. When the program ends, the
-// number of its requests is written to the file descriptor COUNTED. The programs that it starts are left alone.
+// Loaded before a program, refuses one of its requests for memory: number REFUSED, counted from 1
+// over malloc, calloc, realloc, aligned_alloc, posix_memalign and pthread_create, which wants a
+// thread's room; none where that is 0. When the program ends, the number of its requests is written
+// to the file descriptor COUNTED. The programs that it starts are left alone.
 #define _GNU_SOURCE
 #include <errno.h>
 #include <dlfcn.h>
@@ -78,7 +79,8 @@ int posix_memalign(void **block, size_t alignment, size_t size) {
     return 0;
 }
 
-int pthread_create(pthread_t *thread, const pthread_attr_t *attributes, void *(*run)(void *), void *with) {
+int pthread_create(pthread_t *thread, const pthread_attr_t *attributes, void *(*run)(void *),
+                   void *with) {
     return is_refused() ? EAGAIN : create(thread, attributes, run, with);
 }
 

@@ -1,19 +1,22 @@
 #!/usr/bin/env python3
-"""Runs each command with each of its requests for memory refused in turn, and tells how the runs ended.
+"""Runs each command with each of its requests for memory refused in turn, and tells how they ended.
 
-    python3 tests/refused_memory.py                       with the programs of bin/, which build where needed
+    python3 tests/refused_memory.py                       with the programs of bin/
     python3 tests/refused_memory.py --programs FOLDER     with other builds of them
-    python3 tests/refused_memory.py --every 7             refuses every seventh request alone, the first of all
+    python3 tests/refused_memory.py --every 7             every seventh request, from the first on
     python3 tests/refused_memory.py --only det_twin       the commands whose words begin so
-    python3 tests/refused_memory.py --table FILE          these commands in place of the shipped ones
-    python3 tests/refused_memory.py --sim                 sim too, which makes so many requests that every 1,009th is refused
+    python3 tests/refused_memory.py --table FILE          the commands of a table
+    python3 tests/refused_memory.py --sim                 sim too, every 1,009th of its requests
 
-A run has to end with status 8, the line `out of memory` on standard error and the first bytes of what the command writes
-otherwise; or as if nothing had been refused, where the program can do without (a thread's room, for one). `det_lane` may also
-end with status 10, since a child that can't be started is a spawn fault, and has to leave no child. A line of a table is
-a program, by a name of bin/ or a path with a `/`, and its words; `OUT` in it is a folder that has the records guard.rec and
-old.rec, in formats 2 and 1. Blank lines, and those that begin with `#`, are left out. Prints a line for each command, and each
-run that ended in another way; ends with 1 where there is one. Python's standard library and gcc are all that it needs.
+A run has to end with status 8, the line `out of memory` on standard error and the first bytes of
+what the command writes otherwise; or as if nothing had been refused, where the program can do
+without (a thread's room, for one). `det_lane` may also end with status 10, since a child that can't
+be started is a spawn fault, and has to leave no child. A line of a table is a program, by a name of
+bin/ or a path with a `/`, and its words; `OUT/` before a word is a folder that has the records
+guard.rec and old.rec, in formats 2 and 1, and `BIN/` the folder of the programs. Blank lines, and
+those that begin with `#`, are left out. Prints a line for each command, and each run that ended in
+another way; ends with 1 where there is one. The programs of bin/ build where needed. Python's
+standard library and gcc are all that it needs, on Linux.
 """
 
 import argparse
@@ -69,7 +72,8 @@ det_lane BIN/det 3 examples/guard.toml examples/guard.stim
 """
 SIM = "det sim 7 --workers 2"
 SIM_STEP = 1_009
-# The ways in which a run may end early, by status and first line on standard error. The second is for `det_lane` alone.
+# The ways in which a run may end early, by status and first line on standard error. The second is
+# for `det_lane` alone.
 EARLY = {(8, b"out of memory"): "out of memory", (10, b"spawn fault"): "spawn fault"}
 LANE = "det_lane"
 # Two threads may make a few requests more or fewer than in another run.
@@ -84,6 +88,14 @@ class Ended:
     status: int
     out: bytes
     line: bytes
+
+
+def placed(word: str, out: Path, programs: Path) -> str:
+    """A word of a table, whose folder may be one that was made for it."""
+    for name, folder in (("OUT/", out), ("BIN/", programs)):
+        if word.startswith(name):
+            return str(folder / word[len(name) :])
+    return word
 
 
 class Trial:
@@ -104,20 +116,17 @@ class Trial:
         """A command's words, with its program by its path."""
         program, *others = words.split()
         path = program if "/" in program else str(self.programs / program)
-        names = {"OUT": str(self.folder), "BIN": str(self.programs)}
-        for name, folder in names.items():
-            others = [word.replace(name + "/", folder + "/") for word in others]
-        return [path, *others]
+        return [path, *(placed(word, self.folder, self.programs) for word in others)]
 
     def run(self, words: str, refused: int) -> Tuple[Ended, int]:
         """How a command ends with a request refused, and how many requests it made."""
         counts, counted = os.pipe()
         mark = f"{self.folder.name}-{refused}"
-        names = dict(LD_PRELOAD=str(self.library), REFUSED=str(refused), COUNTED=str(counted), MARK=mark)
+        names = {"LD_PRELOAD": str(self.library), "REFUSED": str(refused), "COUNTED": str(counted)}
         done = subprocess.run(
             self.command(words),
             cwd=TOP,
-            env=names,
+            env={**names, "MARK": mark},
             pass_fds=[counted],
             stdin=subprocess.DEVNULL,
             capture_output=True,
@@ -156,7 +165,8 @@ def tried(trial: Trial, words: str, every: int) -> bool:
     ways: CounterOf[str] = Counter()
     numbers = range(1, requests + MORE + 1, every)
     with ThreadPoolExecutor(os.cpu_count()) as threads:
-        for number, ended in zip(numbers, threads.map(partial(ending, trial, words), numbers)):
+        ends = threads.map(partial(ending, trial, words), numbers)
+        for number, ended in zip(numbers, ends):
             way = way_of(words, ended, whole) if ended else "otherwise"
             ways[way] += 1
             if way == "otherwise":
@@ -183,10 +193,10 @@ def built(folder: Path) -> Path:
 
 def main() -> int:
     parser = argparse.ArgumentParser(description="Refuses each request for memory in turn.")
-    parser.add_argument("--programs", type=Path, help="a folder of builds to take in place of bin/")
-    parser.add_argument("--every", type=int, default=1, metavar="K", help="every K-th request alone")
+    parser.add_argument("--programs", type=Path, help="a folder of builds in place of bin/")
+    parser.add_argument("--every", type=int, default=1, metavar="K", help="every K-th request")
     parser.add_argument("--only", default="", help="what the commands begin with")
-    parser.add_argument("--table", type=Path, help="a file of commands in place of the shipped ones")
+    parser.add_argument("--table", type=Path, help="a file of commands to take instead")
     parser.add_argument("--sim", action="store_true", help="sim too")
     given = parser.parse_args()
     commands = commands_of(given.table.read_text() if given.table else SHIPPED, given.only)
