@@ -13,32 +13,30 @@ and `write fault`; in `det_lane` the first, and what children need, with 10 and 
 failed copy with 9 and its status. What was written has to be the first bytes of what is written
 otherwise. A call that was interrupted has to be tried again, and reads and writes of few bytes may
 change nothing. Without the library the same is tried with files that aren't there, with folders,
-and with outputs that are full, closed, or read by nobody. Prints a line for each command, and each
-run that ended in another way; ends with 1 where there is one. The programs of bin/ build where
-needed. Python's standard library and gcc are all that it needs, on Linux.
+and with outputs that are full, closed, limited, or read by nobody, and with few files. Prints a
+line for each command, and each run that ended in another way; ends with 1 where there is one. The
+programs of bin/ build where needed. Python's standard library and gcc are all that it needs, on
+Linux.
 """
 
 import argparse
 import errno
 import os
-import subprocess
 import sys
 import tempfile
 from concurrent.futures import ThreadPoolExecutor
-from dataclasses import dataclass, replace
+from dataclasses import replace
 from pathlib import Path
-from typing import Any, Dict, Iterator, List, Tuple
+from typing import Dict, Iterator, List
 
-from lanes import children_left
-from mutations import in_first_format
-from refused_memory import built, placed
+from edge_trial import LANE, Ended, Setting, Trial, begins
+from real_edges import real_edges
+from refused_memory import built
 
-TOP = Path(__file__).resolve().parent.parent
-LIMIT = 60
+# The most numbers of a call that are tried where --all isn't given.
 MOST_NUMBERS = 40
 # The most runs of a command that are told.
 MOST_TOLD = 10
-CALLS = ("open", "read", "write", "spawn", "pipe", "wait")
 ERRORS = {
     "open": (errno.EIO, errno.EMFILE, errno.ENOENT),
     "read": (errno.EIO,),
@@ -48,7 +46,6 @@ ERRORS = {
     "wait": (errno.ECHILD,),
 }
 INTERRUPTED = ("open", "read", "write", "wait")
-LANE = "det_lane"
 # The last word of the copy of det_lane that fails, and its number.
 COPY_WORD, COPY = "2", 1
 COMMANDS = """
@@ -92,121 +89,6 @@ det_lane --version
 """
 # Commands that take longer, of which fewer numbers are tried.
 LONG = "det sim"
-
-
-@dataclass(frozen=True)
-class Setting:
-    """What the library does to a program: see failing_edges.c."""
-
-    call: str = ""
-    number: int = 0
-    error: int = 0
-    lasting: bool = False
-    read: int = 0
-    write: int = 0
-    only: str = ""
-
-    def names(self) -> Dict[str, str]:
-        values = {
-            "CALL": self.call,
-            "NUMBER": self.number,
-            "ERROR": self.error,
-            "LASTING": int(self.lasting),
-            "READ": self.read,
-            "WRITE": self.write,
-            "ONLY": self.only,
-        }
-        return {name: str(value) for name, value in values.items()}
-
-    def told(self) -> str:
-        parts = ["no call fails"]
-        if self.call:
-            parts = [f"{self.call} {self.number} fails with {errno.errorcode[self.error]}"]
-        parts += ["and all behind it"] if self.lasting else []
-        parts += [f"reads of {self.read}"] if self.read else []
-        parts += [f"writes of {self.write}"] if self.write else []
-        parts += ["in a copy"] if self.only else []
-        return ", ".join(parts)
-
-
-@dataclass(frozen=True)
-class Ended:
-    """How a run ended. A negative status is that of a signal, and 1000 of a run without an end."""
-
-    status: int
-    out: bytes
-    err: bytes
-
-    def line(self) -> bytes:
-        """The first line on standard error. Those behind it are hints."""
-        return self.err.partition(b"\n")[0]
-
-
-NO_END = Ended(1000, b"", b"")
-
-
-class Trial:
-    """The programs, the library, and a folder with inputs."""
-
-    def __init__(self, programs: Path, folder: Path) -> None:
-        self.programs, self.folder = programs, folder
-        self.library = folder / "failing_edges.so"
-        source = TOP / "tests" / "failing_edges.c"
-        subprocess.run(["gcc", "-O1", "-shared", "-fPIC", "-o", self.library, source], check=True)
-        self.make_inputs()
-
-    def make_inputs(self) -> None:
-        record = self.plain(self.command("det demo examples/bank.stim"), {}).out
-        flipped = record[:-30] + bytes([record[-30] ^ 1]) + record[-29:]
-        inputs = {
-            "bank.rec": record,
-            "old.rec": in_first_format(record),
-            "cut.rec": record[:-3],
-            "flipped.rec": flipped,
-            "bad.stim": b"stim 1\ncycle 0\ncycle 5\nsample 1 1\n",
-            "bad.toml": b"job = 'bank'\n",
-        }
-        for name, data in inputs.items():
-            (self.folder / name).write_bytes(data)
-
-    def command(self, words: str) -> List[str]:
-        """A command's words, with its program by its path."""
-        program, *others = words.split()
-        placed_words = (placed(word, self.folder, self.programs) for word in others)
-        return [str(self.programs / program), *placed_words]
-
-    def plain(self, command: List[str], more: Dict[str, Any]) -> Ended:
-        """How a command ends without the library."""
-        edges: Dict[str, Any] = {
-            "stdin": subprocess.DEVNULL,
-            "stdout": subprocess.PIPE,
-            "stderr": subprocess.PIPE,
-            "cwd": TOP,
-            "env": {},
-        }
-        try:
-            done = subprocess.run(command, timeout=LIMIT, check=False, **{**edges, **more})
-        except subprocess.TimeoutExpired:
-            return NO_END
-        return Ended(done.returncode, done.stdout or b"", done.stderr or b"")
-
-    def run(self, words: str, setting: Setting) -> Tuple[Ended, Dict[str, int]]:
-        """How a command ends beneath the library, and how often it made each call."""
-        counts, counted = os.pipe()
-        mark = f"{self.folder.name}-{counted}-{id(setting)}"
-        env = dict(setting.names(), LD_PRELOAD=str(self.library), COUNTED=str(counted), MARK=mark)
-        ended = self.plain(self.command(words), {"env": env, "pass_fds": [counted]})
-        os.close(counted)
-        with os.fdopen(counts) as told:
-            numbers = [int(count) for count in told.read().split()]
-        if words.startswith(LANE) and children_left(mark):
-            ended = replace(ended, err=b"a child is left\n")
-        return ended, dict(zip(CALLS, numbers))
-
-
-def begins(ended: Ended, status: int, line: bytes, whole: Ended) -> bool:
-    """Whether a run ended with a status and a line, behind the first bytes of the whole."""
-    return (ended.status, ended.line()) == (status, line) and whole.out.startswith(ended.out)
 
 
 def failed_write(setting: Setting, ended: Ended, whole: Ended) -> bool:
@@ -279,48 +161,6 @@ def settings(trial: Trial, words: str, most: int) -> Iterator[Setting]:
         yield from (replace(base, only=COPY_WORD) for base in pieces())
         copy = Setting(only=COPY_WORD)
         yield from failing(words, copy, trial.run(words, copy)[1], most)
-
-
-def real_edges(trial: Trial, words: str, whole: Ended) -> Iterator[Tuple[str, bool]]:
-    """Failing outputs and inputs without any library: what each is, and whether the run is good."""
-    command = trial.command(words)
-    closing, unread = os.pipe()
-    os.close(closing)
-    with open("/dev/full", "wb") as full:
-        outputs: Dict[str, Dict[str, Any]] = {
-            "a full output": {"stdout": full},
-            "an output that nobody reads": {"stdout": unread},
-            "a closed output": {"stdout": None, "preexec_fn": lambda: os.close(1)},
-        }
-        for told, more in outputs.items():
-            ended = trial.plain(command, more)
-            status, line = (7, b"write fault") if whole.out else (whole.status, whole.line())
-            yield told, (ended.status, ended.line()) == (status, line)
-        errors: Dict[str, Dict[str, Any]] = {
-            "a full standard error": {"stderr": full},
-            "a closed standard error": {"stderr": None, "preexec_fn": lambda: os.close(2)},
-        }
-        for told, more in errors.items():
-            ended = trial.plain(command, more)
-            yield told, (ended.status, ended.out) == (whole.status, whole.out)
-    os.close(unread)
-    yield from bad_inputs(trial, words, whole)
-
-
-def bad_inputs(trial: Trial, words: str, whole: Ended) -> Iterator[Tuple[str, bool]]:
-    """Each file that a command names isn't there, or is a folder."""
-    command = trial.command(words)
-    for place, word in enumerate(words.split()):
-        if "/" not in word or word.startswith("BIN/"):
-            continue
-        for bad in (str(trial.folder / "nothing"), str(trial.folder)):
-            ended = trial.plain([*command[:place], bad, *command[place + 1 :]], {})
-            # What stands behind a manifest that is refused isn't opened.
-            is_of_manifest = whole.status == 3 or whole.line().endswith(b"status 3")
-            is_read_fault = begins(ended, 6, b"read fault", whole)
-            if words.startswith(LANE):
-                is_read_fault = ended == Ended(9, b"", b"child 0 status 6\n")
-            yield f"{bad} as word {place}", is_read_fault or (ended == whole and is_of_manifest)
 
 
 def tried(trial: Trial, words: str, most: int, jobs: int) -> bool:

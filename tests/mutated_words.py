@@ -198,6 +198,23 @@ false
 """,
     ['"""x"""', "'''\nlast'''", f"'{'n' * 32}'", f"'{'n' * 33}'", f"'{'p' * 64}'",
      f"'{'p' * 65}'", f"[{'1, ' * 16}]", f"[{'1, ' * 17}]"])
+# Values at the limits of a key, whose good ones are among them.
+MANIFEST_VALUES_OF = {
+    b"job": [b"'bank'", b"'cloud'", b"'guard'", b"'Bank'", b"''"],
+    b"cycle_time_ns": [b"0", b"1", b"9223372036854775807", b"9223372036854775808"],
+    b"workers": [b"0", b"1", b"64", b"65"],
+    b"params": [value for value in MANIFEST_VALUES if value.startswith(b"[")],
+    b"platform": [b"''", b"' '", b"'~'", b"'\x7f'", b'"\\u007f"', b'"\\u001f"', b"'\xc3\xa9'",
+                  b"'" + b"p" * 64 + b"'", b"'" + b"p" * 65 + b"'"],
+    b"name": [b"''", b"'`'", b"'a'", b"'z'", b"'{'", b"'0'", b"'9'", b"'/'", b"':'", b"'_'", b"'A'",
+              b"'a_9'", b"'x'", b"'y'", b"'" + b"n" * 32 + b"'", b"'" + b"n" * 33 + b"'"],
+    b"capacity": [b"0", b"1", b"1024", b"1025"],
+    b"policy": [b"'last'", b"'fresh'", b"'Last'", b"''"],
+    b"instructions": [b"-1", b"0", b"9223372036854775807", b"9223372036854775808"],
+    b"sequential_begin": [b"-1", b"0", b"9223372036854775807", b"9223372036854775808"],
+    b"sequential_end": [b"-1", b"0", b"9223372036854775807", b"9223372036854775808"],
+    b"speedup_thousandths": [b"0", b"1", b"1000000", b"1000001"],
+}
 MANIFEST_KEYS = lines_of(
     r"""
 job
@@ -268,8 +285,8 @@ terminate
 
 ENCODED_NUMBERS = [number.encode() for number in NUMBERS]
 ENCODED_CHARACTERS = [character.encode() for character in CHARACTERS]
-OF_MANIFESTS = Words(MANIFEST_LINES, ENCODED_NUMBERS, ENCODED_CHARACTERS, MANIFEST_VALUES,
-                     MANIFEST_KEYS)
+OF_MANIFESTS = Words(MANIFEST_LINES, ENCODED_NUMBERS, ENCODED_CHARACTERS, MANIFEST_KEYS,
+                     MANIFEST_VALUES, MANIFEST_VALUES_OF)
 OF_STIMULI = Words(STIMULUS_LINES, ENCODED_NUMBERS, ENCODED_CHARACTERS)
 # Words of a command line. The last one isn't UTF-8.
 COMMAND_WORDS = [word for word in """

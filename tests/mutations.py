@@ -6,9 +6,31 @@ Each is a function of a source of random choices, so that the same source gives 
 import random
 import re
 from dataclasses import dataclass, field
-from typing import Callable, List, Sequence, Tuple
+from typing import Callable, Dict, List, Sequence, Tuple
 
-# Numbers at the limits of a record's fields.
+# Numbers at the limits of a record's fields, by what the field is, and of fields of any kind.
+LIMITS_OF: Dict[str, Sequence[int]] = {
+    "version": (0, 1, 2, 3, 256),
+    "cycle time": (0, 1, (1 << 63) - 1, 1 << 63),
+    "parameters": (0, 16, 17),
+    "events": (0, 1, 256, 257),
+    "capacity": (0, 1, 1024, 1025),
+    "name length": (0, 1, 32, 33),
+    "letter": tuple(b"/09:@AZ[^_`az{"),
+    "policy": (0, 1, 2),
+    "tag": (0, 1, 2, 3, 4, 5, 6, 255),
+    "elements": (0, 1, 65536, 65537),
+    "element length": (0, 1, 64, 65),
+    "has time": (0, 1, 2),
+    "samples": (0, 1, 4096, 4097),
+    "event": (0, 1, 2, 3, 255, 256),
+    "value": (10**12, 10**12 + 1, -(10**12), -(10**12) - 1),
+    "outcome": (0, 1, 2),
+    "phase": (0, 1, 2, 3),
+    "pass": (0, 1, 7, 8),
+    "refused element": (0, 1, 65535, 65536),
+    "output length": (0, 1, 1 << 20, (1 << 20) + 1),
+}
 LIMITS = (
     0, 1, 2, 3, 4, 5, 7, 8, 16, 17, 32, 33, 64, 65, 255, 256, 257, 1024, 1025, 4096, 4097,
     65535, 65536, 65537, 1 << 20, (1 << 20) + 1, 10**12, 10**12 + 1, -(10**12), -(10**12) - 1,
@@ -23,13 +45,14 @@ BYTES = (
 @dataclass(frozen=True)
 class Words:
     """What may be put into a kind of text: lines, numbers and characters, and where its lines are
-    pairs, values and keys too."""
+    pairs, keys and values too, by the key and for any."""
 
     lines: List[bytes]
     numbers: List[bytes]
     characters: List[bytes]
-    values: List[bytes] = field(default_factory=list)
     keys: List[bytes] = field(default_factory=list)
+    values: List[bytes] = field(default_factory=list)
+    values_of: Dict[bytes, List[bytes]] = field(default_factory=dict)
 
 
 def cut_place(choose: random.Random, data: bytes) -> Tuple[int, int]:
@@ -82,7 +105,8 @@ def changed_pair(choose: random.Random, data: bytes, words: Words) -> bytes:
     if not pairs:
         return data
     place = choose.choice(pairs)
-    group, others = choose.choice(((2, words.values), (2, words.values), (1, words.keys)))
+    own = words.values_of.get(place.group(1), words.values)
+    group, others = choose.choice(((2, own), (2, own), (2, words.values), (1, words.keys)))
     return data[: place.start(group)] + choose.choice(others) + data[place.end(group) :]
 
 
@@ -138,9 +162,10 @@ def changed_text(choose: random.Random, data: bytes, words: Words) -> bytes:
 
 @dataclass
 class Layout:
-    """Where fields and frames of a whole record stand. A field is its beginning and its width."""
+    """Where the fields of each kind stand in a whole record, by their beginnings and widths, and
+    where its frames do."""
 
-    fields: List[Tuple[int, int]] = field(default_factory=list)
+    fields: Dict[str, List[Tuple[int, int]]] = field(default_factory=dict)
     frames: List[Tuple[int, int]] = field(default_factory=list)
     # The fields that only format 2 has: policies and draws.
     second_format: List[Tuple[int, int]] = field(default_factory=list)
@@ -151,59 +176,60 @@ class Walker:
 
     def __init__(self, data: bytes) -> None:
         self.data, self.at, self.layout = data, 0, Layout()
-        self.raw(6)
-        self.version = self.number(2)
+        self.raw(6, "magic")
+        self.version = self.number(2, "version")
 
-    def raw(self, width: int) -> None:
+    def raw(self, width: int, kind: str) -> None:
         if width:
-            self.layout.fields.append((self.at, width))
+            self.layout.fields.setdefault(kind, []).append((self.at, width))
         self.at += width
 
-    def number(self, width: int) -> int:
-        self.raw(width)
+    def number(self, width: int, kind: str) -> int:
+        self.raw(width, kind)
         return int.from_bytes(self.data[self.at - width : self.at], "big")
 
-    def added(self, width: int) -> None:
+    def added(self, width: int, kind: str) -> None:
         """A field of format 2 alone."""
         if self.version == 2:
             self.layout.second_format.append((self.at, width))
-            self.raw(width)
+            self.raw(width, kind)
 
     def header(self) -> None:
-        for width in (2, 8, 8):
-            self.raw(width)
-        for _ in range(self.number(2)):
-            self.raw(8)
-        for _ in range(self.number(2)):
-            self.raw(2)
-            self.raw(self.number(1))
-            self.added(1)
+        for width, kind in ((2, "job"), (8, "seed"), (8, "cycle time")):
+            self.raw(width, kind)
+        for _ in range(self.number(2, "parameters")):
+            self.raw(8, "parameter")
+        for _ in range(self.number(2, "events")):
+            self.raw(2, "capacity")
+            for _ in range(self.number(1, "name length")):
+                self.raw(1, "letter")
+            self.added(1, "policy")
 
     def elements(self, in_run: bool) -> None:
-        for _ in range(self.number(4)):
-            self.raw(self.number(2))
+        for _ in range(self.number(4, "elements")):
+            self.raw(self.number(2, "element length"), "element")
             if in_run:
-                self.added(4)
+                self.added(4, "draws")
 
     def samples(self) -> None:
-        for _ in range(self.number(4)):
-            self.raw(2)
-            self.raw(8)
+        for _ in range(self.number(4, "samples")):
+            self.raw(2, "event")
+            self.raw(8, "value")
 
     def outcome(self) -> None:
-        if self.number(1) == 0:
+        if self.number(1, "outcome") == 0:
             self.elements(True)
-            self.raw(self.number(4))
+            self.raw(self.number(4, "output length"), "output")
             return
-        for width in (1, 1, 4, 4):
-            self.raw(width)
+        for width, kind in ((1, "phase"), (1, "pass"), (4, "refused element"), (4, "code")):
+            self.raw(width, kind)
 
     def frame(self) -> None:
-        begin, tag = self.at, self.number(1)
+        begin, tag = self.at, self.number(1, "tag")
         if tag == 3:
             self.elements(False)
         elif tag == 4:
-            self.raw(8 * self.number(1))
+            self.raw(8 * self.number(1, "has time"), "time")
             self.samples()
             self.outcome()
         self.layout.frames.append((begin, self.at))
@@ -228,10 +254,12 @@ def in_first_format(data: bytes) -> bytes:
 
 def changed_field(choose: random.Random, data: bytes) -> bytes:
     """A number of a whole record replaced by one at a limit, by one beside it, or by any."""
-    begin, width = choose.choice(layout_of(data).fields)
-    number = int.from_bytes(data[begin : begin + width], "big")
-    beside = number + choose.choice((-1, 1))
-    number = choose.choice((choose.choice(LIMITS), beside, choose.getrandbits(8 * width)))
+    fields = layout_of(data).fields
+    kind = choose.choice(sorted(fields))
+    begin, width = choose.choice(fields[kind])
+    beside = int.from_bytes(data[begin : begin + width], "big") + choose.choice((-1, 1))
+    limit, any_limit = choose.choice(LIMITS_OF.get(kind, LIMITS)), choose.choice(LIMITS)
+    number = choose.choice((limit, limit, any_limit, beside, choose.getrandbits(8 * width)))
     changed = (number % (1 << 8 * width)).to_bytes(width, "big")
     return data[:begin] + changed + data[begin + width :]
 
