@@ -12,11 +12,11 @@ copy. A failed open or read has to end the run with status 6 and `read fault`, a
 and `write fault`; in `det_lane` the first, and what children need, with 10 and `spawn fault`, and a
 failed copy with 9 and its status. What was written has to be the first bytes of what is written
 otherwise. A call that was interrupted has to be tried again, and reads and writes of few bytes may
-change nothing. Without the library the same is tried with files that aren't there, with folders,
-and with outputs that are full, closed, limited, or read by nobody, and with few files. Prints a
-line for each command, and each run that ended in another way; ends with 1 where there is one. The
-programs of bin/ build where needed. Python's standard library and gcc are all that it needs, on
-Linux.
+change nothing. Without the library the same is tried with files that aren't there or have no end,
+with folders, and with outputs that are full, closed, limited, or read by nobody, and with few
+files. Prints a line for each command, and each run that ended in another way; ends with 1 where
+there is one. The programs of bin/ build where needed. Python's standard library and gcc are all
+that it needs, on Linux.
 """
 
 import argparse

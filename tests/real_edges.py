@@ -9,6 +9,8 @@ from typing import IO, Any, Callable, Dict, Iterator, Tuple
 
 from edge_trial import LANE, Ended, Trial, begins
 
+TWIN = "det_twin"
+
 
 def limited(limit: int, most: int) -> Callable[[], None]:
     """Sets a limit of a process. The signal of one that writes too much is ignored."""
@@ -39,6 +41,11 @@ def limits(trial: Trial, words: str, whole: Ended) -> Iterator[Tuple[str, bool]]
         yield f"{files} files", ended == whole or begins(ended, status, line, whole)
 
 
+def refuses_manifest(whole: Ended) -> bool:
+    """Whether a manifest is refused, behind which nothing more is opened."""
+    return whole.status == 3 or whole.line().endswith(b"status 3")
+
+
 def bad_inputs(trial: Trial, words: str, whole: Ended) -> Iterator[Tuple[str, bool]]:
     """Each file that a command names isn't there, or is a folder."""
     command = trial.command(words)
@@ -47,12 +54,37 @@ def bad_inputs(trial: Trial, words: str, whole: Ended) -> Iterator[Tuple[str, bo
             continue
         for bad in (str(trial.folder / "nothing"), str(trial.folder)):
             ended = trial.plain([*command[:place], bad, *command[place + 1 :]], {})
-            # What stands behind a manifest that is refused isn't opened.
-            is_of_manifest = whole.status == 3 or whole.line().endswith(b"status 3")
             is_read_fault = begins(ended, 6, b"read fault", whole)
             if words.startswith(LANE):
                 is_read_fault = ended == Ended(9, b"", b"child 0 status 6\n")
-            yield f"{bad} as word {place}", is_read_fault or (ended == whole and is_of_manifest)
+            is_refused = ended == whole and refuses_manifest(whole)
+            yield f"{bad} as word {place}", is_read_fault or is_refused
+
+
+def of_endless(words: str, place: int) -> Tuple[int, bytes]:
+    """Status and line where the file at a place has zeros without end."""
+    command, name = words.split()[:2], words.split()[place]
+    status = {".toml": 3, ".stim": 4, ".rec": 5}[name[name.rindex(".") :]]
+    if command[0] == LANE:
+        return 9, b"child 0 status %d" % status
+    if status == 5:
+        return 5, b"bad record: copy %d offset 0 magic" % (place - 2)
+    if status == 3 or command[0] == TWIN:
+        return status, b"bad %s: too long" % (b"manifest" if status == 3 else b"stimulus")
+    return 4, b"bad stimulus: line 1"
+
+
+def endless_inputs(trial: Trial, words: str, whole: Ended) -> Iterator[Tuple[str, bool]]:
+    """Each file that a command names has zeros without end."""
+    command = trial.command(words)
+    for place, word in enumerate(words.split()):
+        if "/" not in word or word.startswith("BIN/"):
+            continue
+        ended = trial.plain([*command[:place], "/dev/zero", *command[place + 1 :]], {})
+        is_told = (ended.status, ended.line()) == of_endless(words, place)
+        if words.startswith("det vote"):
+            is_told = ended.status in (0, 9)
+        yield f"/dev/zero as word {place}", is_told or (ended == whole and refuses_manifest(whole))
 
 
 def bad_outputs(trial: Trial, words: str, whole: Ended) -> Iterator[Tuple[str, bool]]:
@@ -85,3 +117,4 @@ def real_edges(trial: Trial, words: str, whole: Ended) -> Iterator[Tuple[str, bo
     yield from bad_outputs(trial, words, whole)
     yield from limits(trial, words, whole)
     yield from bad_inputs(trial, words, whole)
+    yield from endless_inputs(trial, words, whole)
