@@ -1,65 +1,95 @@
 //! The program `det`: the real shelf, standard output and standard error, the shipped probes, and
-//! `top`.
+//! `top`; before it a look at the terminal, and behind it hints.
 #![tactic(auto)]
 
+mod hinting;
+mod terminal;
+
 use det_cli::{Answer, Host, Status, top};
-use det_edges::{DirShelf, StdSink, write_all};
+use det_edges::{DirShelf, Shelf, Sink, StdSink, write_all};
+use hinting::{give_hints, refuse_terminal};
 use probes::{Audience, CountProbe, FirstRefusalProbe, GapProbe, Probe};
+use std::alloc::AllocError;
 use std::env;
-use std::io::ErrorKind;
+use std::io::{ErrorKind, IsTerminal};
 use std::process::ExitCode;
 use std::sync::Arc;
-use worker_pool::NapGate;
+use std::thread::Threads;
+use terminal::{is_forced, writes_record};
+use worker_pool::{Gate, NapGate};
+
+/// The words behind the program's name. A word that isn't UTF-8 makes no command, and neither does
+/// no word at all.
+fn words_given(rt: &HostRuntime) -> Result<Vec<String>, AllocError> {
+    let alloc = rt.alloc();
+    match env::args(rt) {
+        Ok(args) => args.skip(1).collect::<Vec<String>>(alloc),
+        Err(error) if error.kind() == ErrorKind::OutOfMemory => Err(AllocError),
+        Err(_) => Ok(Vec::new(alloc)),
+    }
+}
+
+/// A gate at which idle threads of a run sleep by the clock.
+fn gate_of(rt: &HostRuntime) -> Result<Arc<NapGate<HostRuntime>>, AllocError> {
+    let clock = rt.clone()?;
+    Ok(Arc::new(rt.alloc(), NapGate { clock })?)
+}
+
+/// `top` with the shipped probes.
+fn run<R, G, S, K, E>(
+    host: &Host<'_, R, G>,
+    words: &[String],
+    shelf: &mut S,
+    out: &mut K,
+    err: &mut E,
+) -> Result<Status, AllocError>
+where
+    R: Threads,
+    G: Gate + Send + Sync + 'static,
+    S: Shelf,
+    K: Sink,
+    E: Sink,
+{
+    let alloc = host.alloc;
+    let mut probes = Vec::<Box<dyn Probe>>::with_capacity(alloc, 3)?;
+    probes.push(Box::new(alloc, CountProbe::new())?)?;
+    probes.push(Box::new(alloc, GapProbe::new())?)?;
+    probes.push(Box::new(alloc, FirstRefusalProbe::new())?)?;
+    let mut audience = Audience::of(alloc, probes);
+    Ok(top(host, words, shelf, out, err, &mut audience))
+}
 
 /// Tells that memory could not be had before the program began, as `top` does.
-fn no_memory(rt: &HostRuntime) -> ExitCode {
+fn no_memory<E: Sink>(err: &mut E) -> ExitCode {
     let line = Answer::OutOfMemory.line();
-    let _ = write_all(&mut StdSink::new(rt.stderr()), line.as_slice());
+    let _ = write_all(err, line.as_slice());
     ExitCode::from(Status::OutOfMemory.number())
 }
 
 fn main(rt: HostRuntime) -> ExitCode {
     let alloc = rt.alloc();
-    let read = match env::args(&rt) {
-        Ok(args) => args.skip(1).collect::<Vec<String>>(alloc),
-        Err(error) if error.kind() == ErrorKind::OutOfMemory => return no_memory(&rt),
-        // A word that isn't UTF-8 makes no command, and neither does no word at all.
-        Err(_) => Ok(Vec::new(alloc)),
-    };
-    let Ok(words) = read else {
-        return no_memory(&rt);
-    };
-    let Ok(count) = Box::new(alloc, CountProbe::new()) else {
-        return no_memory(&rt);
-    };
-    let Ok(gap) = Box::new(alloc, GapProbe::new()) else {
-        return no_memory(&rt);
-    };
-    let Ok(refusal) = Box::new(alloc, FirstRefusalProbe::new()) else {
-        return no_memory(&rt);
-    };
-    let Ok(mut probes) = Vec::<Box<dyn Probe>>::with_capacity(alloc, 3) else {
-        return no_memory(&rt);
-    };
-    if probes.push(count).is_err() || probes.push(gap).is_err() || probes.push(refusal).is_err() {
-        return no_memory(&rt);
-    }
-    // Idle threads of a run sleep by the clock.
-    let Ok(clock) = rt.clone() else {
-        return no_memory(&rt);
-    };
-    let Ok(gate) = Arc::new(alloc, NapGate { clock }) else {
-        return no_memory(&rt);
-    };
-    let mut shelf = DirShelf::new(&rt, alloc);
-    let mut out = StdSink::new(rt.stdout());
     let mut err = StdSink::new(rt.stderr());
+    let (Ok(mut words), Ok(gate)) = (words_given(&rt), gate_of(&rt)) else {
+        return no_memory(&mut err);
+    };
+    if is_forced(&words) {
+        words.pop();
+    } else if writes_record(&words) && rt.stdout().is_terminal() {
+        let status = refuse_terminal(alloc, &mut err);
+        return ExitCode::from(status.number());
+    }
     let host = Host {
         rt: &rt,
         alloc,
         gate: &gate,
     };
-    let mut audience = Audience::of(alloc, probes);
-    let status = top(&host, &words, &mut shelf, &mut out, &mut err, &mut audience);
+    let mut shelf = DirShelf::new(&rt, alloc);
+    let mut out = StdSink::new(rt.stdout());
+    let Ok(status) = run(&host, &words, &mut shelf, &mut out, &mut err) else {
+        return no_memory(&mut err);
+    };
+    if err.failed().is_none() {
+        give_hints(&rt, &words, status, shelf.failed(), out.failed(), &mut err);
+    }
     ExitCode::from(status.number())
 }

@@ -1,37 +1,49 @@
 //! The program `det_lane`: processes of the system, standard output and standard error, and
-//! `lane_top`.
+//! `lane_top`; behind it hints.
 #![tactic(auto)]
 
+mod hinting;
+
 use children::{ChildShelf, ProcessSpawner};
-use det_edges::{StdSink, write_all};
+use det_edges::{Sink, StdSink, write_all};
+use hinting::give_hints;
 use lane_cli::{LaneAnswer, LaneStatus, lane_top};
+use std::alloc::AllocError;
 use std::env;
 use std::io::ErrorKind;
 use std::process::ExitCode;
 
+/// The words behind the program's name. A word that isn't UTF-8 makes no command, and neither does
+/// no word at all.
+fn words_given(rt: &HostRuntime) -> Result<Vec<String>, AllocError> {
+    let alloc = rt.alloc();
+    match env::args(rt) {
+        Ok(args) => args.skip(1).collect::<Vec<String>>(alloc),
+        Err(error) if error.kind() == ErrorKind::OutOfMemory => Err(AllocError),
+        Err(_) => Ok(Vec::new(alloc)),
+    }
+}
+
 /// Tells that memory could not be had before the program began, as `lane_top` does.
-fn no_memory(rt: &HostRuntime) -> ExitCode {
+fn no_memory<E: Sink>(err: &mut E) -> ExitCode {
     let line = LaneAnswer::OutOfMemory.line();
-    let _ = write_all(&mut StdSink::new(rt.stderr()), line.as_slice());
+    let _ = write_all(err, line.as_slice());
     ExitCode::from(LaneStatus::OutOfMemory.number())
 }
 
 fn main(rt: HostRuntime) -> ExitCode {
     let alloc = rt.alloc();
-    let read = match env::args(&rt) {
-        Ok(args) => args.skip(1).collect::<Vec<String>>(alloc),
-        Err(error) if error.kind() == ErrorKind::OutOfMemory => return no_memory(&rt),
-        // A word that isn't UTF-8 makes no command, and neither does no word at all.
-        Err(_) => Ok(Vec::new(alloc)),
-    };
-    let Ok(words) = read else {
-        return no_memory(&rt);
+    let mut err = StdSink::new(rt.stderr());
+    let Ok(words) = words_given(&rt) else {
+        return no_memory(&mut err);
     };
     let mut children = ChildShelf {
         spawner: ProcessSpawner::new(&rt, alloc),
     };
     let mut out = StdSink::new(rt.stdout());
-    let mut err = StdSink::new(rt.stderr());
     let status = lane_top(alloc, &words, &mut children, &mut out, &mut err);
+    if err.failed().is_none() {
+        give_hints(&rt, &words, status, out.failed(), &mut err);
+    }
     ExitCode::from(status.number())
 }

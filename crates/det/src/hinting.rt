@@ -1,0 +1,83 @@
+//! Lines behind the one line of an answer.
+use cli_words::read_words;
+use det_cli::{Answer, Status};
+use det_edges::{DirShelf, Sink, write_all};
+use hint_text::{OddWord, Unread, can_reread, help_for, tell, unwritten, words_fault};
+use hints::hint_of;
+use std::alloc::Global;
+use std::io::Error;
+
+/// Refuses to write a record to a terminal.
+pub(crate) fn refuse_terminal<E: Sink>(alloc: Global, err: &mut E) -> Status {
+    let line = Answer::WriteFault.line();
+    if write_all(err, line.as_slice()).is_ok() {
+        let hint = "standard output is a terminal: redirect it, or add --force";
+        tell(alloc, hint, err);
+    }
+    Status::WriteFault
+}
+
+/// Hints on words that are no command.
+fn on_words<E: Sink>(rt: &HostRuntime, words: &[String], err: &mut E) {
+    let alloc = rt.alloc();
+    match OddWord::first(rt) {
+        Some(odd) => tell(alloc, odd.fault(), err),
+        None => {
+            if let Some(fault) = words_fault(words) {
+                tell(alloc, fault, err);
+            }
+        }
+    }
+    tell(alloc, help_for(words), err);
+}
+
+/// A hint on what a shelf couldn't read.
+fn on_read<E: Sink>(alloc: Global, words: &[String], failed: Option<(u32, Error)>, err: &mut E) {
+    let Some(command) = read_words(words) else {
+        return;
+    };
+    if let Some(unread) = Unread::of(alloc, command.names.as_slice(), failed) {
+        tell(alloc, unread, err);
+    }
+}
+
+/// A hint on a file that was refused.
+fn on_file<E: Sink>(rt: &HostRuntime, words: &[String], status: Status, err: &mut E) {
+    let alloc = rt.alloc();
+    let Some(command) = read_words(words) else {
+        return;
+    };
+    if !can_reread(rt, command.names.as_slice()) {
+        return;
+    }
+    let mut shelf = DirShelf::new(rt, alloc);
+    if let Some(hint) = hint_of(alloc, &command, status, &mut shelf) {
+        tell(alloc, hint, err);
+    }
+}
+
+/// Tells what stands behind a status that a line was written for: why the words are no command,
+/// what the system failed for, or what is wrong with a file, which is read once more.
+pub(crate) fn give_hints<E: Sink>(
+    rt: &HostRuntime,
+    words: &[String],
+    status: Status,
+    unread: Option<(u32, Error)>,
+    failed: Option<Error>,
+    err: &mut E,
+) {
+    let alloc = rt.alloc();
+    match status {
+        Status::BadWords => on_words(rt, words, err),
+        Status::ReadFault => on_read(alloc, words, unread, err),
+        Status::WriteFault => {
+            if let Some(reason) = unwritten(alloc, failed) {
+                tell(alloc, reason, err);
+            }
+        }
+        Status::BadManifest | Status::BadStimulus | Status::BadRecord => {
+            on_file(rt, words, status, err);
+        }
+        _ => {}
+    }
+}

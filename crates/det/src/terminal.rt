@@ -1,0 +1,30 @@
+//! Which commands write a record, which is no text for a terminal.
+use cli_words::{CommandWord, read_words};
+
+/// The last word by which a record is written to a terminal.
+const FORCE: &str = "--force";
+
+/// Whether the words are a command whose standard output is a record.
+pub(crate) fn writes_record(words: &[String]) -> bool {
+    let Some(command) = read_words(words) else {
+        return false;
+    };
+    match command.word {
+        CommandWord::Record
+        | CommandWord::Demo
+        | CommandWord::Replay
+        | CommandWord::Upgrade
+        | CommandWord::Chain => true,
+        CommandWord::Vote => !command.options.dissent,
+        CommandWord::Salvage => !command.options.reports,
+        _ => false,
+    }
+}
+
+/// Whether the words are such a command and `--force` behind it.
+pub(crate) fn is_forced(words: &[String]) -> bool {
+    match words {
+        [front @ .., last] => last.as_str() == FORCE && writes_record(front),
+        [] => false,
+    }
+}

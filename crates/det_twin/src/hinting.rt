@@ -1,0 +1,96 @@
+//! Lines behind the one line of an answer.
+use crate::misfit::words_fault;
+use det_edges::{DirShelf, Shelf, Sink};
+use hint_text::{Help, OddWord, Unread, can_reread, tell, unwritten};
+use hints::{Hint, events_of, manifest_hint, stimulus_hint};
+use std::alloc::Global;
+use std::io::Error;
+use twin_cli::{TwinCommand, TwinStatus, Twins};
+
+/// Hints on words that are no twins.
+fn on_words<E: Sink>(rt: &HostRuntime, words: &[String], err: &mut E) {
+    let alloc = rt.alloc();
+    match OddWord::first(rt) {
+        Some(odd) => tell(alloc, odd.fault(), err),
+        None => {
+            if let Some(fault) = words_fault(words) {
+                tell(alloc, fault, err);
+            }
+        }
+    }
+    let help = Help {
+        program: "det_twin",
+        command: None,
+    };
+    tell(alloc, help, err);
+}
+
+/// What is wrong with a file of twins that ended with this status.
+fn file_hint<S: Shelf>(
+    alloc: Global,
+    twins: &Twins<'_>,
+    status: TwinStatus,
+    shelf: &mut S,
+) -> Option<Hint> {
+    match status {
+        TwinStatus::BadManifest => {
+            manifest_hint(alloc, &[twins.manifest], twins.options.strict, shelf)
+        }
+        TwinStatus::BadStimulus => {
+            let events = events_of(alloc, twins.manifest, shelf)?;
+            stimulus_hint(alloc, twins.stimulus, events, shelf)
+        }
+        _ => None,
+    }
+}
+
+/// Hints on the run of twins.
+fn on_twins<E: Sink>(
+    rt: &HostRuntime,
+    twins: &Twins<'_>,
+    status: TwinStatus,
+    unread: Option<(u32, Error)>,
+    err: &mut E,
+) {
+    let alloc = rt.alloc();
+    let names = [twins.manifest, twins.stimulus];
+    if let TwinStatus::ReadFault = status {
+        if let Some(unread) = Unread::of(alloc, &names, unread) {
+            tell(alloc, unread, err);
+        }
+        return;
+    }
+    if !can_reread(rt, &names) {
+        return;
+    }
+    let mut shelf = DirShelf::new(rt, alloc);
+    if let Some(hint) = file_hint(alloc, twins, status, &mut shelf) {
+        tell(alloc, hint, err);
+    }
+}
+
+/// Tells what stands behind a status that a line was written for: why the words are no twins, what
+/// the system failed for, or what is wrong with a file, which is read once more.
+pub(crate) fn give_hints<E: Sink>(
+    rt: &HostRuntime,
+    words: &[String],
+    status: TwinStatus,
+    unread: Option<(u32, Error)>,
+    failed: Option<Error>,
+    err: &mut E,
+) {
+    match status {
+        TwinStatus::BadWords => on_words(rt, words, err),
+        TwinStatus::WriteFault => {
+            if let Some(reason) = unwritten(rt.alloc(), failed) {
+                tell(rt.alloc(), reason, err);
+            }
+        }
+        TwinStatus::BadManifest | TwinStatus::BadStimulus | TwinStatus::ReadFault => {
+            if let Some(TwinCommand::Run(twins)) = TwinCommand::of(words) {
+                on_twins(rt, &twins, status, unread, err);
+            }
+        }
+        _ => {}
+    }
+}

@@ -1,0 +1,97 @@
+//! At which word the words of `det_twin` stop being twins.
+use cli_words::number_of;
+use hint_text::{Shown, WordKind, WordsFault, misplaced};
+
+/// What the words of twins are, before their options.
+const KINDS: [WordKind; 3] = [
+    WordKind::Copies("COPIES"),
+    WordKind::Name("MANIFEST"),
+    WordKind::Name("STIM"),
+];
+
+/// What is told of the options so far, and how many words that took.
+#[derive(Clone, Copy)]
+struct Told {
+    words: usize,
+    strict: bool,
+    flip: bool,
+}
+
+/// A number at a place behind `--flip`.
+fn flip_number<'a>(
+    words: &'a [String],
+    place: usize,
+    what: &'static str,
+    most: u64,
+) -> Result<(), WordsFault<'a>> {
+    let taker = "--flip";
+    let Some(word) = words.get(place) else {
+        return Err(WordsFault::MissingBehind { what, taker });
+    };
+    match number_of(word.as_str()) {
+        Some(number) if number <= most => Ok(()),
+        _ => Err(WordsFault::OutOfRange {
+            number: place.saturating_add(1),
+            word: Shown::of(word.as_str()),
+            taker,
+            least: 0,
+            most,
+        }),
+    }
+}
+
+impl Told {
+    /// What is told with the next option.
+    fn with_option<'a>(self, copies: u64, words: &'a [String]) -> Result<Told, WordsFault<'a>> {
+        let place = self.words;
+        let Some(word) = words.get(place) else {
+            return Ok(self);
+        };
+        match word.as_str() {
+            "--strict" if !self.strict => Ok(Told {
+                words: place.saturating_add(1),
+                strict: true,
+                ..self
+            }),
+            "--flip" if !self.flip => {
+                flip_number(
+                    words,
+                    place.saturating_add(1),
+                    "a copy",
+                    copies.saturating_sub(1),
+                )?;
+                flip_number(words, place.saturating_add(2), "a frame", u32::MAX as u64)?;
+                Ok(Told {
+                    words: place.saturating_add(3),
+                    flip: true,
+                    ..self
+                })
+            }
+            other => Err(WordsFault::At {
+                number: place.saturating_add(1),
+                word: Shown::of(other),
+            }),
+        }
+    }
+}
+
+/// Why words are no twins.
+pub(crate) fn words_fault(words: &[String]) -> Option<WordsFault<'_>> {
+    let fault = misplaced(&KINDS, words);
+    if fault.is_some() {
+        return fault;
+    }
+    let copies = number_of(words.first()?.as_str())?;
+    let mut told = Told {
+        words: KINDS.len(),
+        strict: false,
+        flip: false,
+    };
+    for _ in 0..words.len() {
+        match told.with_option(copies, words) {
+            Ok(next) => told = next,
+            Err(fault) => return Some(fault),
+        }
+    }
+    None
+}

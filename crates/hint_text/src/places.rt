@@ -1,0 +1,68 @@
+//! Words that have fixed places.
+ghost use Rattle.std.specs.Prelude.{◌≤◌, length, IsNone};
+
+use crate::fault::WordsFault;
+use crate::shown::Shown;
+use cli_words::{is_name, number_of};
+
+/// What stands at a place, with the word by which help names it.
+#[derive(Clone, Copy)]
+pub enum WordKind {
+    /// The path of a file.
+    Name(&'static str),
+    /// A number from 2 to 8.
+    Copies(&'static str),
+}
+
+const LEAST_COPIES: u64 = 2;
+
+const MOST_COPIES: u64 = 8;
+
+impl WordKind {
+    fn takes(self, word: &str) -> bool {
+        match self {
+            WordKind::Name(_) => is_name(word),
+            WordKind::Copies(_) => { matches!(number_of(word), Some(LEAST_COPIES..=MOST_COPIES)) }
+        }
+    }
+
+    fn called(self) -> &'static str {
+        match self {
+            WordKind::Name(what) | WordKind::Copies(what) => what,
+        }
+    }
+
+    /// Why a word can't stand at this number.
+    fn refusal(self, number: usize, word: &str) -> WordsFault<'_> {
+        let word = Shown::of(word);
+        match self {
+            WordKind::Name(_) => WordsFault::At { number, word },
+            WordKind::Copies(taker) => WordsFault::OutOfRange {
+                number,
+                word,
+                taker,
+                least: LEAST_COPIES,
+                most: MOST_COPIES,
+            },
+        }
+    }
+}
+
+/// The first of these places at which another word stands, or none. None where the words begin with
+/// all of these kinds.
+pub fn misplaced<'a>(kinds: &[WordKind], words: &'a [String]) -> Option<WordsFault<'a>>
+    ensures { IsNone result → length kinds.now ≤ length words.now }
+{
+    for place in 0..kinds.len() {
+        let kind = kinds[place];
+        let Some(word) = words.get(place) else {
+            return Some(WordsFault::Missing {
+                what: kind.called(),
+            });
+        };
+        if !kind.takes(word.as_str()) {
+            return Some(kind.refusal(place + 1, word.as_str()));
+        }
+    }
+    None
+}
