@@ -20,7 +20,7 @@ import subprocess
 import sys
 import tempfile
 import time
-from concurrent.futures import ThreadPoolExecutor
+from concurrent.futures import ThreadPoolExecutor, as_completed
 from pathlib import Path
 from typing import Optional
 
@@ -47,10 +47,11 @@ def run(test: Test) -> tuple[Test, str, Optional[str], float]:
 
 
 def run_all(tests: list[Test], jobs: int) -> dict[str, int]:
-    """Runs the tests, and prints a line for each in their order. Answers how many went how."""
+    """Runs the tests, and prints a line for each as it ends. Answers how many went how."""
     counts = {OK: 0, SKIPPED: 0, WRONG: 0}
     with ThreadPoolExecutor(jobs) as threads:
-        for test, word, told, took in threads.map(run, tests):
+        for ended in as_completed([threads.submit(run, test) for test in tests]):
+            test, word, told, took = ended.result()
             counts[word] += 1
             print(f"{word:8}{test.name} ({took:.1f} s)" + (f": {told}" if told else ""), flush=True)
     return counts

@@ -43,6 +43,8 @@ INTERRUPTED = 130
 MOST_MEMORY = 3_000_000_000
 # Lines of a log that are shown of what failed.
 SHOWN = 15
+# How lines of a log begin that count modules.
+COUNTS = ("statements ", "library ", "logic /", "crate ", "axioms ")
 # Seconds between two looks at a build.
 PAUSE = 0.5
 
@@ -110,7 +112,9 @@ def started(words: list[str], folder: Path, log: Path) -> Iterator[subprocess.Po
 
 
 def last_lines(text: str) -> str:
-    return "\n".join(f"    {line}" for line in text.rstrip().splitlines()[-SHOWN:])
+    """The last lines of a log, without those that only count what was loaded."""
+    lines = [line for line in text.splitlines() if line and not line.startswith(COUNTS)]
+    return "\n".join(f"    {line}" for line in lines[-SHOWN:])
 
 
 def part_of(log: str, crate: str) -> str:

@@ -11,14 +11,15 @@ from functools import partial
 from pathlib import Path
 from typing import Optional
 
-from suite.test import TOP, Programs, Test, ended, shown
+from suite.test import TOP, Programs, Skipped, Test, ended, shown
 
 TUTORIAL = "docs/TUTORIAL.md"
 CONSOLE = (TUTORIAL, "README.md")
 README = TOP / "README.md"
 # Beginnings of lines of the README that aren't run here: they build, install or run tests.
-BUILDING = ("rt ", "make", "g++ ", "gcc ", "bin/build_library", "sudo ", "git ", "man ")
-TESTING = ("python3 tests/", "python3 bench/")
+NOT_RUN = ("rt ", "make", "bin/build_library", "sudo ", "git ", "python3 tests/", "python3 bench/")
+COMPILER = "g++"
+LIBRARY = TOP / "out" / "lib" / "libdeterministic_client.a"
 # Words of a remark that the command has to print.
 PRINTED = ("agree", "genuine", "terminate")
 
@@ -68,20 +69,41 @@ def wrong_line(line: Line, room: Path, programs: Programs) -> Optional[str]:
     return None
 
 
-def readme(programs: Programs) -> Optional[str]:
-    """Runs the commands of the README in a folder like the top one, with the programs in bin/."""
-    left_out = BUILDING + TESTING
-    lines = [line for line in shown_lines(README) if not line.command.startswith(left_out)]
-    if not lines:
-        return "it shows no command that can be run"
+def readme_lines() -> tuple[list[Line], list[Line]]:
+    """The lines of the README that are run: those without the library for C++, and those with it,
+    which call the compiler or name a file that it makes."""
+    lines = [line for line in shown_lines(README) if not line.command.startswith(NOT_RUN)]
+    calls = [line.command for line in lines if line.command.startswith(f"{COMPILER} ")]
+    made = [name for call in calls for name in re.findall(r" -o (\S+)", call)]
+    wanted = [*calls, *made]
+    compiled = [line for line in lines if any(text in line.command for text in wanted)]
+    return [line for line in lines if line not in compiled], compiled
+
+
+def wrong_lines(lines: list[Line], programs: Programs) -> Optional[str]:
+    """Runs lines in a folder like the top one, with the programs under test in bin/."""
     with tempfile.TemporaryDirectory(prefix="det-readme-") as name:
         room = Path(name)
         for path in TOP.iterdir():
             if path.name not in ("bin", "out", ".git"):
                 (room / path.name).symlink_to(path)
         (room / "bin").symlink_to(programs.folder)
+        (room / "out").mkdir()
+        (room / "out" / "lib").symlink_to(LIBRARY.parent)
         wrong = [wrong_line(line, room, programs) for line in lines]
     return "\n    ".join(text for text in wrong if text) or None
+
+
+def readme(programs: Programs) -> Optional[str]:
+    lines, _ = readme_lines()
+    return wrong_lines(lines, programs) if lines else "it shows no command that can be run"
+
+
+def readme_on_library(programs: Programs) -> Optional[str]:
+    _, lines = readme_lines()
+    if lines and not LIBRARY.is_file():
+        raise Skipped(f"{LIBRARY.relative_to(TOP)} isn't built")
+    return wrong_lines(lines, programs)
 
 
 def tests(programs: Programs) -> list[Test]:
@@ -89,4 +111,9 @@ def tests(programs: Programs) -> list[Test]:
     has_block[TUTORIAL] = True
     have = [name for name in CONSOLE if has_block[name]]
     blocks = [Test(f"console blocks of {name}", partial(console, name, programs)) for name in have]
-    return [*blocks, Test("commands of README.md", partial(readme, programs))]
+    commands = {"": readme, " over the library": readme_on_library}
+    shown_there = [
+        Test(f"commands of README.md{which}", partial(run, programs))
+        for which, run in commands.items()
+    ]
+    return [*blocks, *shown_there]

@@ -24,7 +24,7 @@ SCRIPTS = {
     "chained.py": [],
 }
 # The most seconds that one of them may take.
-LIMIT = 900
+LIMIT = 1800
 # How many lines are shown of one that failed.
 SHOWN = 12
 
