@@ -13,6 +13,7 @@ from suite.test import NAMES, TOP, Ended, Programs, Skipped, Test, ended, shown
 
 PREFIX = "/opt/of det"
 OWN_FOLDERS = ("share/det", "share/doc/det", "include/ara")
+OTHER = "share/man/man1/other.1"
 LIBRARY = "lib/libdeterministic_client.a"
 
 
@@ -29,6 +30,18 @@ def needs_library() -> None:
         raise Skipped(f"out/{LIBRARY} isn't built")
 
 
+def wanted_files() -> list[str]:
+    """What is installed at least: programs, manual pages, documents, and the library where it is."""
+    found = [f"bin/{it}" for it in NAMES] + [f"share/man/man1/{it}.1" for it in NAMES]
+    found += [f"share/doc/det/{it}" for it in ("README.md", "docs/FORMATS.md", "examples/bank.toml")]
+    if (TOP / "cpp").is_dir():
+        headers = [path.name for path in (TOP / "include/ara/exec").glob("*.h")]
+        found += [LIBRARY, "lib/pkgconfig/deterministic_client.pc"]
+        found += [f"include/ara/exec/{it}" for it in headers]
+    tools = [it for it in ("det_record", "det_view") if (TOP / "tools" / f"{it}.py").is_file()]
+    return found + [f"bin/{it}" for it in tools]
+
+
 def wrong_modes(root: Path) -> list[str]:
     """The files whose modes aren't those of an installed file, whatever the umask was."""
     found = []
@@ -39,6 +52,18 @@ def wrong_modes(root: Path) -> list[str]:
     return found
 
 
+def printed_by(program: Path) -> bytes:
+    if not os.access(program, os.X_OK):
+        return b"it can't be run"
+    return ended([str(program), "--version"], program.parent, {}).out
+
+
+def make_other(root: Path) -> None:
+    """A file of another package, in a folder that both use."""
+    (root / OTHER).parent.mkdir(parents=True, exist_ok=True)
+    (root / OTHER).write_text("of another package")
+
+
 def comes_and_goes(programs: Programs) -> Optional[str]:
     """Installed files have their modes and run; removed, they and their own folders are gone."""
     needs_library()
@@ -46,17 +71,17 @@ def comes_and_goes(programs: Programs) -> Optional[str]:
         root = Path(name + PREFIX)
         first = installer(programs, Path(name), "--version", "0.1.0", umask=0o077)
         modes = wrong_modes(root)
-        ran = [ended([str(root / "bin" / it), "--version"], root, {}).out for it in NAMES]
-        manuals = [(root / "share/man/man1" / f"{it}.1").is_file() for it in NAMES]
-        (root / "share/man/man1/other.1").write_text("of another package")
+        ran = [printed_by(root / "bin" / it) for it in NAMES]
+        lacking = [it for it in wanted_files() if not (root / it).is_file()]
+        make_other(root)
         second = installer(programs, Path(name), "--uninstall")
         left = [str(path.relative_to(root)) for path in root.rglob("*") if path.is_file()]
         own = [path for path in OWN_FOLDERS if (root / path).exists()]
-    if first.status or second.status or modes or not all(manuals):
-        return f"{first}, {second}, modes {modes}"
+    if first.status or second.status or modes or lacking:
+        return f"{first}, {second}, modes {modes}, lacking {lacking}"
     if ran != [f"{it} 0.1.0\n".encode() for it in NAMES]:
         return f"the installed programs print {ran}"
-    return None if left == ["share/man/man1/other.1"] and not own else f"left: {left} {own}"
+    return None if left == [OTHER] and not own else f"left: {left} {own}"
 
 
 def is_refused(programs: Programs) -> Optional[str]:
