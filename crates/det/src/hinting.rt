@@ -2,7 +2,7 @@
 use cli_words::read_words;
 use det_cli::{Answer, Status};
 use det_edges::{DirShelf, Sink, write_all};
-use hint_text::{OddWord, Unread, can_reread, help_for, tell, unwritten, words_fault};
+use hint_text::{Unread, can_reread, help_for, tell, tell_words, unwritten, words_fault};
 use hints::hint_of;
 use std::alloc::Global;
 use std::io::Error;
@@ -19,16 +19,7 @@ pub(crate) fn refuse_terminal<E: Sink>(alloc: Global, err: &mut E) -> Status {
 
 /// Hints on words that are no command.
 fn on_words<E: Sink>(rt: &HostRuntime, words: &[String], err: &mut E) {
-    let alloc = rt.alloc();
-    match OddWord::first(rt) {
-        Some(odd) => tell(alloc, odd.fault(), err),
-        None => {
-            if let Some(fault) = words_fault(words) {
-                tell(alloc, fault, err);
-            }
-        }
-    }
-    tell(alloc, help_for(words), err);
+    tell_words(rt, rt.alloc(), words_fault(words), help_for(words), err);
 }
 
 /// A hint on what a shelf couldn't read.

@@ -1,6 +1,6 @@
 //! Lines behind the one line of an answer.
 use det_edges::Sink;
-use hint_text::{Help, OddWord, Shown, WordKind, WordsFault, misplaced, tell, unwritten};
+use hint_text::{Help, Shown, WordKind, WordsFault, misplaced, tell, tell_words, unwritten};
 use lane_cli::LaneStatus;
 use std::io::Error;
 
@@ -24,20 +24,11 @@ fn words_fault(words: &[String]) -> Option<WordsFault<'_>> {
 
 /// Hints on words that are no lane.
 fn on_words<E: Sink>(rt: &HostRuntime, words: &[String], err: &mut E) {
-    let alloc = rt.alloc();
-    match OddWord::first(rt) {
-        Some(odd) => tell(alloc, odd.fault(), err),
-        None => {
-            if let Some(fault) = words_fault(words) {
-                tell(alloc, fault, err);
-            }
-        }
-    }
     let help = Help {
         program: "det_lane",
         command: None,
     };
-    tell(alloc, help, err);
+    tell_words(rt, rt.alloc(), words_fault(words), help, err);
 }
 
 /// Tells what stands behind a status that a line was written for: why the words are no lane, or

@@ -1,7 +1,7 @@
 //! Lines behind the one line of an answer.
 use crate::misfit::words_fault;
 use det_edges::{DirShelf, Shelf, Sink};
-use hint_text::{Help, OddWord, Unread, can_reread, tell, unwritten};
+use hint_text::{Help, Unread, can_reread, tell, tell_words, unwritten};
 use hints::{Hint, events_of, manifest_hint, stimulus_hint};
 use std::alloc::Global;
 use std::io::Error;
@@ -9,20 +9,11 @@ use twin_cli::{TwinCommand, TwinStatus, Twins};
 
 /// Hints on words that are no twins.
 fn on_words<E: Sink>(rt: &HostRuntime, words: &[String], err: &mut E) {
-    let alloc = rt.alloc();
-    match OddWord::first(rt) {
-        Some(odd) => tell(alloc, odd.fault(), err),
-        None => {
-            if let Some(fault) = words_fault(words) {
-                tell(alloc, fault, err);
-            }
-        }
-    }
     let help = Help {
         program: "det_twin",
         command: None,
     };
-    tell(alloc, help, err);
+    tell_words(rt, rt.alloc(), words_fault(words), help, err);
 }
 
 /// What is wrong with a file of twins that ended with this status.

@@ -14,16 +14,17 @@ mod reason;
 mod shown;
 mod system;
 mod telling;
+mod words_told;
 
 pub use command_words::{help_for, words_fault};
 pub use fault::WordsFault;
 pub use help::Help;
-pub use odd_word::OddWord;
 pub use places::{WordKind, misplaced};
 pub use reason::Reason;
 pub use shown::Shown;
 pub use system::{Unread, can_reread, unwritten};
 pub use telling::tell;
+pub use words_told::tell_words;
 
 #[cfg(test)]
 mod tests;
