@@ -87,6 +87,8 @@ det_lane BIN/det 3 examples/bank.toml examples/bank.stim
 det_lane BIN/det 2 OUT/bad.toml examples/bank.stim
 det_lane --version
 """
+# The statuses with which a file was refused.
+REFUSED = (3, 4, 5)
 # Commands that take longer, of which fewer numbers are tried.
 LONG = "det sim"
 
@@ -97,6 +99,13 @@ def failed_write(setting: Setting, ended: Ended, whole: Ended) -> bool:
     is_line_lost = is_told and ended.err != whole.err and whole.err.startswith(ended.err)
     line = b"" if setting.lasting else b"write fault"
     return is_line_lost or begins(ended, 7, line, whole)
+
+
+def lost_hint(ended: Ended, whole: Ended) -> bool:
+    """Whether a run ended as the whole one did, without its hints. A file that was refused is read
+    once more for them."""
+    is_same = (ended.status, ended.out, ended.line()) == (whole.status, whole.out, whole.line())
+    return whole.status in REFUSED and is_same and whole.err.startswith(ended.err)
 
 
 def is_good(words: str, setting: Setting, ended: Ended, whole: Ended) -> bool:
@@ -112,7 +121,7 @@ def is_good(words: str, setting: Setting, ended: Ended, whole: Ended) -> bool:
         # Where one copy has decided, no other needs to be waited for.
         is_decided = setting.call == "wait" and whole.status == 9 and ended == whole
         return is_decided or begins(ended, 10, b"spawn fault", whole)
-    return begins(ended, 6, b"read fault", whole)
+    return begins(ended, 6, b"read fault", whole) or lost_hint(ended, whole)
 
 
 def numbers_of(count: int, most: int) -> List[int]:
