@@ -65,6 +65,10 @@ class Ended:
         """The first line on standard error. Those behind it are hints."""
         return self.err.partition(b"\n")[0]
 
+    def is_as(self, other: "Ended") -> bool:
+        """Whether both ended alike, but for hints."""
+        return (self.status, self.out, self.line()) == (other.status, other.out, other.line())
+
 
 NO_END = Ended(1000, b"", b"")
 

@@ -104,8 +104,8 @@ def failed_write(setting: Setting, ended: Ended, whole: Ended) -> bool:
 def lost_hint(ended: Ended, whole: Ended) -> bool:
     """Whether a run ended as the whole one did, without its hints. A file that was refused is read
     once more for them."""
-    is_same = (ended.status, ended.out, ended.line()) == (whole.status, whole.out, whole.line())
-    return whole.status in REFUSED and is_same and whole.err.startswith(ended.err)
+    is_less = ended.is_as(whole) and whole.err.startswith(ended.err)
+    return whole.status in REFUSED and is_less
 
 
 def is_good(words: str, setting: Setting, ended: Ended, whole: Ended) -> bool:

@@ -38,7 +38,7 @@ def limits(trial: Trial, words: str, whole: Ended) -> Iterator[Tuple[str, bool]]
     status, line = (10, b"spawn fault") if words.startswith(LANE) else (6, b"read fault")
     for files in (4, 5, 6):
         ended = trial.plain(command, {"preexec_fn": limited(resource.RLIMIT_NOFILE, files)})
-        yield f"{files} files", ended == whole or begins(ended, status, line, whole)
+        yield f"{files} files", ended.is_as(whole) or begins(ended, status, line, whole)
 
 
 def refuses_manifest(whole: Ended) -> bool:
@@ -57,7 +57,7 @@ def bad_inputs(trial: Trial, words: str, whole: Ended) -> Iterator[Tuple[str, bo
             is_read_fault = begins(ended, 6, b"read fault", whole)
             if words.startswith(LANE):
                 is_read_fault = ended == Ended(9, b"", b"child 0 status 6\n")
-            is_refused = ended == whole and refuses_manifest(whole)
+            is_refused = ended.is_as(whole) and refuses_manifest(whole)
             yield f"{bad} as word {place}", is_read_fault or is_refused
 
 
@@ -84,7 +84,7 @@ def endless_inputs(trial: Trial, words: str, whole: Ended) -> Iterator[Tuple[str
         is_told = (ended.status, ended.line()) == of_endless(words, place)
         if words.startswith("det vote"):
             is_told = ended.status in (0, 9)
-        yield f"/dev/zero as word {place}", is_told or (ended == whole and refuses_manifest(whole))
+        yield f"/dev/zero as word {place}", is_told or (ended.is_as(whole) and refuses_manifest(whole))
 
 
 def bad_outputs(trial: Trial, words: str, whole: Ended) -> Iterator[Tuple[str, bool]]:

@@ -21,7 +21,8 @@ class Room:
     def det(self, *words: str) -> tuple[bytes, str]:
         """What the program writes, and its line for the user."""
         done = subprocess.run([self.program, *words], capture_output=True)
-        return done.stdout, done.stderr.decode()
+        told = done.stderr.decode().splitlines(keepends=True)
+        return done.stdout, "".join(line for line in told if not line.startswith("  "))
 
     def tool(self, name: str, *words: str) -> tuple[int, str, str]:
         """The status of a tool, and what it writes."""

@@ -7,14 +7,14 @@ use det_edges::{Sink, write_all};
 use std::alloc::Global;
 use std::fmt::Display;
 
-/// Writes a hint as one line that begins with two spaces. Where there is no memory for it, or the
-/// sink fails, nothing is done about it.
-pub fn tell<D: Display + Drop, K: Sink>(alloc: Global, hint: D, err: &mut K)
+/// Writes a hint as one line that begins with two spaces. False where there was no memory for it,
+/// or the sink failed.
+pub fn tell<D: Display + Drop, K: Sink>(alloc: Global, hint: D, err: &mut K) -> bool
     ensures { IfSome (D.output hint) (λ text.
         GrewByPrefix (K.took err.old) (K.took err.new) (hint_line text)) }
 {
     let Ok(line) = format!(in alloc; "  {hint}\n") else {
-        return;
+        return false;
     };
-    let _ = write_all(err, line.as_bytes());
+    write_all(err, line.as_bytes()).is_ok()
 }

@@ -8,7 +8,8 @@ use std::alloc::Global;
 use std::env::Env;
 
 /// Writes why the words of a program can't be, and where help is found. Words of which one isn't
-/// UTF-8 were taken for none, so such a word is told before any other fault.
+/// UTF-8 were taken for none, so such a word is told before any other fault. Where the first hint
+/// can't be written the second isn't tried.
 pub fn tell_words<R: Env, E: Sink>(
     rt: &R,
     alloc: Global,
@@ -16,13 +17,14 @@ pub fn tell_words<R: Env, E: Sink>(
     help: Help,
     err: &mut E,
 ) {
-    match OddWord::first(rt) {
+    let is_told = match OddWord::first(rt) {
         Some(odd) => tell(alloc, odd.fault(), err),
-        None => {
-            if let Some(fault) = fault {
-                tell(alloc, fault, err);
-            }
-        }
+        None => match fault {
+            Some(fault) => tell(alloc, fault, err),
+            None => true,
+        },
+    };
+    if is_told {
+        tell(alloc, help, err);
     }
-    tell(alloc, help, err);
 }
