@@ -31,9 +31,10 @@ def needs_library() -> None:
 
 
 def wanted_files() -> list[str]:
-    """What is installed at least: programs, manual pages, documents, and the library where it is."""
+    """What is installed at least: programs, manual pages, documents, library and tools."""
     found = [f"bin/{it}" for it in NAMES] + [f"share/man/man1/{it}.1" for it in NAMES]
-    found += [f"share/doc/det/{it}" for it in ("README.md", "docs/FORMATS.md", "examples/bank.toml")]
+    documents = ("README.md", "docs/FORMATS.md", "examples/bank.toml")
+    found += [f"share/doc/det/{it}" for it in documents]
     if (TOP / "cpp").is_dir():
         headers = [path.name for path in (TOP / "include/ara/exec").glob("*.h")]
         found += [LIBRARY, "lib/pkgconfig/deterministic_client.pc"]
