@@ -237,6 +237,10 @@ STIMULI = [
          {"s": STIMULUS + b"\n"}),
     Case("a bad stimulus of twins", "2 m s", 4, ["bad stimulus: line 2", f"wanted: {TIME}"], b"",
          {"m": BANK, "s": b"stim 1\ncycle 01\n"}, program="det_twin"),
+    Case("a long stimulus of twins", "2 m s", 4, ["bad stimulus: too long", "a stimulus has at most 1048576 bytes here"], b"",
+         {"m": BANK, "s": b"x" * 1_048_577}, program="det_twin"),
+    Case("a stimulus of twins that isn't too long", "2 m s", 4, ["bad stimulus: line 1", "wanted: stim 1"], b"",
+         {"m": BANK, "s": b"stim\n" + b"x" * 1_048_571}, program="det_twin"),
     Case("a bad stimulus of a chain", "chain m m s", 4, ["bad stimulus: line 3", "wanted: E as a decimal below 1"],
          HEADER + OPENING, {"m": BANK, "s": b"stim 1\ncycle 0\nsample 1 0\n"}),
 ]

@@ -2,7 +2,7 @@
 use crate::misfit::words_fault;
 use det_edges::{DirShelf, Shelf, Sink};
 use hint_text::{Help, Unread, can_reread, tell, tell_words, unwritten};
-use hints::{Hint, events_of, manifest_hint, stimulus_hint};
+use hints::{Hint, events_of, manifest_hint, short_stimulus_hint};
 use std::alloc::Global;
 use std::io::Error;
 use twin_cli::{TwinCommand, TwinStatus, Twins};
@@ -29,7 +29,7 @@ fn file_hint<S: Shelf>(
         }
         TwinStatus::BadStimulus => {
             let events = events_of(alloc, twins.manifest, shelf)?;
-            stimulus_hint(alloc, twins.stimulus, events, shelf)
+            short_stimulus_hint(alloc, twins.stimulus, events, shelf)
         }
         _ => None,
     }

@@ -5,7 +5,7 @@ use Rattle.cli_answers.specs.declared.status.Status.TheVariants.{BadManifest, Ba
 use Rattle.cli_answers.specs.declared.status.Status.TheVariants.{BadRecord}
 use Rattle.hints.specs.declared.hint.Hint.{Hint}
 use Rattle.hints.specs.declared.hint.Hint.TheVariants.{LongManifest, Toml, Key, Parameter, NoJob}
-use Rattle.hints.specs.declared.hint.Hint.TheVariants.{Stimulus, Record}
+use Rattle.hints.specs.declared.hint.Hint.TheVariants.{LongStimulus, Stimulus, Record}
 
 abbrev pub is_of_manifest : Hint → Bool
 is_of_manifest LongManifest = true
@@ -15,6 +15,7 @@ is_of_manifest (Parameter parameter) = true
 is_of_manifest other = false
 
 abbrev pub is_of_stimulus : Hint → Bool
+is_of_stimulus LongStimulus = true
 is_of_stimulus (Stimulus line) = true
 is_of_stimulus other = false
 

@@ -18,7 +18,8 @@ use Rattle.hints.specs.declared.frame.FramePlace.{FramePlace}
 use Rattle.hints.specs.declared.frame.FramePlace.TheVariants as place
 use Rattle.hints.specs.declared.hint.Hint.{Hint}
 use Rattle.hints.specs.declared.hint.Hint.TheVariants.{LongManifest, Toml, Key as OfKey}
-use Rattle.hints.specs.declared.hint.Hint.TheVariants.{Parameter, NoJob, Stimulus, Record}
+use Rattle.hints.specs.declared.hint.Hint.TheVariants.{Parameter, NoJob, LongStimulus, Stimulus}
+use Rattle.hints.specs.declared.hint.Hint.TheVariants.{Record}
 
 abbrev pub toml_text : TomlLine → List ℕ
 toml_text at = codes "line " ++ decimal at.line
@@ -101,5 +102,6 @@ hint_text (Toml line) = toml_text line
 hint_text (OfKey key) = key_hint_text key
 hint_text (Parameter parameter) = parameter_text parameter
 hint_text (NoJob number) = codes "no job has the number " ++ decimal number
+hint_text LongStimulus = codes "a stimulus has at most 1048576 bytes here"
 hint_text (Stimulus line) = wanted_text line
 hint_text (Record at) = frame_text at

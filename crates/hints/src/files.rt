@@ -2,7 +2,10 @@
 use det_edges::{PIECE, Shelf, Stopped, TooLong, read_limited};
 use std::alloc::Global;
 
-/// How many pieces of a text are read at most: 1,048,576 bytes.
+/// The greatest length of what is read of a text, in bytes.
+const MOST_BYTES: usize = 1_048_576;
+
+/// How many pieces that is.
 const PIECES: u32 = 256;
 
 /// What lies under a name, where it has at most so many bytes.
@@ -29,13 +32,16 @@ pub(crate) fn front_under<S: Shelf>(alloc: Global, name: &str, shelf: &mut S) ->
     let slot = shelf.open_input(name).ok()?;
     let mut bytes = Vec::new(alloc);
     let mut piece = [0; PIECE];
-    for _ in 0..PIECES {
+    for _ in 0..=PIECES {
         let n = shelf.read(slot, &mut piece).ok()?;
         if n == 0 {
             return Some(Front {
                 bytes,
                 is_whole: true,
             });
+        }
+        if bytes.len().saturating_add(n) > MOST_BYTES {
+            break;
         }
         bytes.extend_from_slice(&piece[..n]).ok()?;
     }

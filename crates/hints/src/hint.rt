@@ -20,6 +20,8 @@ pub enum Hint {
     Parameter(ParameterHint),
     /// A record names a job of this number.
     NoJob(u16),
+    /// A stimulus of more than 1,048,576 bytes, where it may have no more.
+    LongStimulus,
     Stimulus(Wanted),
     Record(FramePlace),
 }
@@ -34,6 +36,7 @@ impl Display for Hint {
             Hint::Key(key) => write!(f, "{key}"),
             Hint::Parameter(parameter) => write!(f, "{parameter}"),
             Hint::NoJob(number) => write!(f, "no job has the number {number}"),
+            Hint::LongStimulus => f.write_str("a stimulus has at most 1048576 bytes here"),
             Hint::Stimulus(wanted) => write!(f, "{wanted}"),
             Hint::Record(place) => write!(f, "{place}"),
         }

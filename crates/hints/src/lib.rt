@@ -26,7 +26,7 @@ pub use keys::KeyHint;
 pub use manifests::manifest_hint;
 pub use parameter::ParameterHint;
 pub use records::{copies_hint, run_hint};
-pub use stimuli::{events_of, stimulus_hint};
+pub use stimuli::{events_of, short_stimulus_hint, stimulus_hint};
 pub use toml_line::TomlLine;
 pub use wanted::Wanted;
 

@@ -99,3 +99,20 @@ pub fn stimulus_hint<S: Shelf>(
     };
     Some(Hint::Stimulus(wanted))
 }
+
+/// The same of a stimulus that may have no more bytes than that.
+pub fn short_stimulus_hint<S: Shelf>(
+    alloc: Global,
+    name: &str,
+    events: u16,
+    shelf: &mut S,
+) -> Option<Hint>
+    ensures { IfSome result (λ hint. is_of_stimulus hint ≡ true) }
+{
+    let front = front_under(alloc, name, shelf)?;
+    if !front.is_whole {
+        return Some(Hint::LongStimulus);
+    }
+    let wanted = wanted_in(alloc, front.bytes, events)?;
+    Some(Hint::Stimulus(wanted))
+}
