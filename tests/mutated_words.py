@@ -287,7 +287,20 @@ ENCODED_NUMBERS = [number.encode() for number in NUMBERS]
 ENCODED_CHARACTERS = [character.encode() for character in CHARACTERS]
 OF_MANIFESTS = Words(MANIFEST_LINES, ENCODED_NUMBERS, ENCODED_CHARACTERS, MANIFEST_KEYS,
                      MANIFEST_VALUES, MANIFEST_VALUES_OF)
-OF_STIMULI = Words(STIMULUS_LINES, ENCODED_NUMBERS, ENCODED_CHARACTERS)
+# The limits of a stimulus come as often as all other numbers together.
+STIMULUS_LIMITS = lines_of(
+    """
+-0
+01
+1000000000000
+1000000000001
+-1000000000000
+-1000000000001
+18446744073709551615
+18446744073709551616
+""",
+    [])
+OF_STIMULI = Words(STIMULUS_LINES, ENCODED_NUMBERS + STIMULUS_LIMITS * 8, ENCODED_CHARACTERS)
 # Words of a command line. The last one isn't UTF-8.
 COMMAND_WORDS = [word for word in """
 demo record show replay check upgrade compare vote salvage chain needs --workers --seed --strict
