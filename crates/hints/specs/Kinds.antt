@@ -16,7 +16,7 @@ is_of_manifest other = false
 
 abbrev pub is_of_stimulus : Hint → Bool
 is_of_stimulus LongStimulus = true
-is_of_stimulus (Stimulus line) = true
+is_of_stimulus (Stimulus wanted) = true
 is_of_stimulus other = false
 
 abbrev pub is_of_record : Hint → Bool
