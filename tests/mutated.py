@@ -191,6 +191,19 @@ def keep(folder: Path, case: Case, wanted: Ended, given: Ended) -> None:
         (folder / f"{name}.end").write_text(f"{ended.status}\n{ended.line}\n")
 
 
+def tell(given: argparse.Namespace, number: int, case: Case, wanted: Ended, ended: Ended) -> None:
+    """Prints a case that ended otherwise, and keeps its files."""
+    folder = given.keep / f"{given.seed}-{number}"
+    keep(folder, case, wanted, ended)
+    print(f"seed {given.seed}, number {number}, files in {folder}:")
+    print(f"  {case.words}\n  wanted {told(wanted)}\n  given  {told(ended)}", flush=True)
+
+
+def on_end(*_: object) -> None:
+    """A signal that ends the run has its processes end and its folder removed first."""
+    sys.exit(1)
+
+
 def print_statuses(statuses: CounterOf[Tuple[str, int]]) -> None:
     ended: Dict[str, List[str]] = {}
     for (command, status), count in sorted(statuses.items()):
@@ -226,17 +239,16 @@ def run_all(given: argparse.Namespace) -> int:
     words = (programs_of(given), build_plain(given.room), given.room, given.seed)
     statuses: CounterOf[Tuple[str, int]] = Counter()
     wrong = 0
-    with ProcessPoolExecutor(given.jobs, initializer=begin_process, initargs=words) as processes:
+    processes = ProcessPoolExecutor(given.jobs, initializer=begin_process, initargs=words)
+    try:
         for found, cases in processes.map(run_part, parts):
             statuses += found.statuses
             for number, wanted, ended in found.wrong:
                 wrong += 1
                 if wrong <= MOST_KEPT:
-                    folder = given.keep / f"{given.seed}-{number}"
-                    keep(folder, cases[number], wanted, ended)
-                    print(f"seed {given.seed}, number {number}, files in {folder}:")
-                    print(f"  {cases[number].words}\n  wanted {told(wanted)}")
-                    print(f"  given  {told(ended)}", flush=True)
+                    tell(given, number, cases[number], wanted, ended)
+    finally:
+        processes.shutdown(cancel_futures=True)
     print_statuses(statuses)
     return wrong
 
@@ -252,6 +264,7 @@ def main() -> int:
                         help="a folder for the files of cases that ended otherwise")
     given = parser.parse_args()
     memory = Path("/dev/shm")
+    signal.signal(signal.SIGTERM, on_end)
     given.room = Path(tempfile.mkdtemp(dir=memory if memory.is_dir() else None))
     try:
         wrong = run_all(given)
