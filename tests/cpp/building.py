@@ -1,5 +1,7 @@
 """How tests are compiled and run, and how their lines are counted."""
 
+import os
+import signal
 import subprocess
 from dataclasses import dataclass
 from pathlib import Path
@@ -9,7 +11,7 @@ TOP = Path(__file__).resolve().parent.parent.parent
 SOURCES = TOP / "tests" / "cpp"
 INCLUDE = TOP / "include"
 # The most seconds that a test program, or a compiler, may take.
-LIMIT = 600
+LIMIT = 1800
 WARNINGS = ("-Wall", "-Wextra", "-Wpedantic", "-Werror")
 CPP = ("-std=c++17", *WARNINGS, f"-I{INCLUDE}", f"-I{SOURCES}")
 
@@ -49,13 +51,19 @@ class Bench:
         self.det = det
         self.folder = folder
 
-    def command(self, words: Sequence[object], **more: object) -> "subprocess.CompletedProcess[bytes]":
-        """Runs a command, whatever status it ends with."""
-        try:
-            return subprocess.run([str(word) for word in words], capture_output=True, timeout=LIMIT, check=False,
-                                  stdin=subprocess.DEVNULL, cwd=self.folder, **more)  # type: ignore[call-overload]
-        except subprocess.TimeoutExpired:
-            raise Failure(f"took more than {LIMIT} seconds: {words[0]}") from None
+    def command(self, words: Sequence[object]) -> "subprocess.CompletedProcess[bytes]":
+        """Runs a command, whatever status it ends with. None of its children outlives it."""
+        command = [str(word) for word in words]
+        with subprocess.Popen(command, stdin=subprocess.DEVNULL, stdout=subprocess.PIPE, stderr=subprocess.PIPE, cwd=self.folder,
+                              start_new_session=True) as child:
+            try:
+                out, err = child.communicate(timeout=LIMIT)
+            except BaseException as ended:
+                os.killpg(child.pid, signal.SIGKILL)
+                if isinstance(ended, subprocess.TimeoutExpired):
+                    raise Failure(f"took more than {LIMIT} seconds: {command[0]}") from None
+                raise
+        return subprocess.CompletedProcess(command, child.returncode, out, err)
 
     def output(self, words: Sequence[object]) -> bytes:
         """What a command writes that has to end well."""

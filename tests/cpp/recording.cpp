@@ -231,7 +231,11 @@ void Streams() {
   std::ostringstream stream;
   StreamSink sink(stream);
   Recorder recorder(sink);
-  CHECK(Opens(recorder) && recorder.Terminate() && stream.str().size() == 99);
+  std::vector<std::uint8_t> const output(1000, 0xab);
+  CHECK(Opens(recorder) && recorder.Finished({}, {}, output) && recorder.Terminate());
+  std::string const written = stream.str();
+  CHECK(HexOf({written.begin(), written.end()}) ==
+        kOpening + "04" "00" "00000000" "00" "00000000" "000003e8" + Times(1000, "ab") + "05");
   std::ofstream held("/dev/full", std::ios::binary);  // a short record is held back up to its end
   StreamSink full(held);
   Recorder other(full);

@@ -54,6 +54,8 @@ bool TellsTheLeast(std::vector<std::uint32_t> const& bad, std::uint32_t least, u
   for (std::uint32_t i = 0; i < 6000; ++i) {
     bool const ran = elements[i] == Added(i, 1);
     if (!ran && (i <= least || elements[i] != i)) return false;
+    // A thread that is alone claims no block behind the one in which it ended.
+    if (ran && workers == 1 && i / 64 > least / 64) return false;
   }
   Thrower harmless({});
   elements = Numbered(6000);
