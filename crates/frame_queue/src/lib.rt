@@ -6,15 +6,19 @@
 #![tactic(auto)]
 
 mod ends;
+mod pace;
 mod queue;
 mod rest;
 mod row;
 mod rule;
 
 pub use ends::{Receiver, Sender};
+pub use pace::Pace;
 pub use queue::FrameQueue;
 pub use rest::Rest;
 pub use row::Row;
 
+#[cfg(test)]
+mod pace_tests;
 #[cfg(test)]
 mod queue_tests;

@@ -3,7 +3,7 @@ ghost use Rattle.std.specs.Prelude.{◌≡◌, ◌∷◌, ◌++◌, [], IfOk, If
 ghost use Rattle.frame_queue.specs.Queues.{sent_of, taken_of, IsSenderOf, IsReceiverOf};
 
 use crate::rule::{OrderRule, QueueView, Roles, Sends, Takes, Total};
-use crate::{Receiver, Rest, Row, Sender};
+use crate::{Pace, Receiver, Rest, Row, Sender};
 use crossbeam_queue::RuledArrayQueue;
 use det_values::OutOfMemory;
 use std::alloc::Global;
@@ -19,6 +19,7 @@ pub(crate) type Rows = RuledArrayQueue<Row, QueueView, OrderRule>;
 #[derive(Drop)]
 pub struct FrameQueue {
     rows: Rows,
+    pace: Pace,
 }
 
 impl FrameQueue {
@@ -32,15 +33,33 @@ impl FrameQueue {
         let (rows, mut pass) = Rows::ruled(alloc, PLACES)?;
         let other = rows.another::<Roles>(&mut pass);
         Ok((
-            FrameQueue { rows },
+            FrameQueue {
+                rows,
+                pace: Pace::new(PLACES as u64),
+            },
             Sender { pass },
             Receiver { pass: other },
         ))
     }
 
+    /// How its two ends wait for each other.
+    pub fn pace(&self) -> &Pace {
+        &self.pace
+    }
+
     /// Sends a row, and tries again while the queue is full. Another thread may run between two
     /// tries.
     pub fn send<R: Wait>(&self, rt: &R, sender: &mut Sender, row: Row)
+        requires { IsSenderOf self.now sender.old }
+        ensures queue { IsSenderOf self.now sender.new }
+        ensures sent { sent_of sender.new ≡ sent_of sender.old ++ row ∷ [] }
+    {
+        self.pace.begin_send();
+        self.push(rt, sender, row);
+        self.pace.end_send();
+    }
+
+    fn push<R: Wait>(&self, rt: &R, sender: &mut Sender, row: Row)
         requires { IsSenderOf self.now sender.old }
         ensures queue { IsSenderOf self.now sender.new }
         ensures sent { sent_of sender.new ≡ sent_of sender.old ++ row ∷ [] }
@@ -76,6 +95,16 @@ impl FrameQueue {
         ensures queue { IsReceiverOf self.now receiver.new }
         ensures taken { taken_of receiver.new ≡ taken_of receiver.old ++ result ∷ [] }
     {
+        let row = self.pop(rt, receiver);
+        self.pace.end_take();
+        row
+    }
+
+    fn pop<R: Wait>(&self, rt: &R, receiver: &mut Receiver) -> Row
+        requires { IsReceiverOf self.now receiver.old }
+        ensures queue { IsReceiverOf self.now receiver.new }
+        ensures taken { taken_of receiver.new ≡ taken_of receiver.old ++ result ∷ [] }
+    {
         for _ in rt.forever() {
             match self.try_take(receiver) {
                 Some(row) => return row,
@@ -103,7 +132,7 @@ impl FrameQueue {
     {
         let Sender { mut pass } = sender;
         let Receiver { pass: other } = receiver;
-        let FrameQueue { rows } = self;
+        let FrameQueue { rows, .. } = self;
         rows.absorb::<Roles>(&mut pass, other);
         rows.learn_as::<Total>(&mut pass);
         Rest { rows, pass }

@@ -204,7 +204,7 @@ impl Tamper for CountingTamper {
     }
 }
 
-/// While the first batch is taken, the second one is made, and no other: 32 frames a copy.
+/// Frame 7 is the eighth that is taken, and a queue has 32 places, so at most 40 frames a copy are made.
 #[test]
 fn behind_a_difference_nothing_more_is_run(rt: HostRuntime) -> Result<(), Fail> {
     let alloc = rt.alloc();
@@ -217,7 +217,7 @@ fn behind_a_difference_nothing_more_is_run(rt: HostRuntime) -> Result<(), Fail> 
         verdict_on(&rt, alloc, &run, 2)?,
         differ(1, Difference::Output(5))
     );
-    assert_eq!(rt; run.tamper.frames.load(Ordering::SeqCst), 64);
+    assert!(rt; run.tamper.frames.load(Ordering::SeqCst) <= 80);
     Ok(())
 }
 

@@ -1,4 +1,4 @@
-//! One batch is sent while the one before it is taken.
+//! Rows are taken while they are sent.
 ghost use Rattle.std.specs.Prelude.{◌≡◌, ◌+◌, ◌<◌, ◌≤◌, ◌∷◌, ◌++◌, [], length};
 ghost use Rattle.std.specs.Prelude.{vec_capacity, IfNone, IfOk};
 ghost use Rattle.std.specs.Thread.{IsSend, IsSync};
@@ -7,7 +7,6 @@ ghost use Rattle.twins.specs.Sending.{AreTwins, numbers_of};
 ghost use Rattle.twins.specs.Sides.{twins_of};
 ghost use Rattle.twins.specs.Taking.{Agreed, Judged};
 
-use crate::sending::BATCH;
 use crate::sides::Sides;
 use crate::taker::Taker;
 use crate::threads::sent;
@@ -21,7 +20,25 @@ use std::alloc::Global;
 use std::sync::Wait;
 use std::thread::{Threads, join};
 
-/// Takes `more` rows of each copy, and gives the taker back.
+/// The side that takes comes to all queues.
+fn come_to(queues: &[FrameQueue]) {
+    'queues: for queue in queues {
+        queue.pace().receiver_comes();
+    }
+}
+
+/// The side that takes leaves all queues, for good where it wants no more rows.
+fn leave(queues: &[FrameQueue], is_over: bool) {
+    'queues: for queue in queues {
+        let pace = queue.pace();
+        if is_over {
+            pace.refuse();
+        }
+        pace.receiver_leaves();
+    }
+}
+
+/// Takes at most `more` rows of each copy, and gives the taker back.
 fn taken<R: Wait>(
     rt: &R,
     queues: &[FrameQueue],
@@ -33,50 +50,17 @@ fn taken<R: Wait>(
     requires room { taker.rows + more < 4294967295 }
     requires agreed { Agreed queues.now taker }
     ensures judged { Judged result.1 queues.now result.0 }
-    ensures rows { IfNone result.1 (result.0.rows ≡ taker.rows + more) }
+    ensures within { result.0.rows ≤ taker.rows + more }
 {
-    let found = taker.take_batch(rt, queues, more);
+    come_to(queues);
+    let found = taker.take_rows(rt, queues, more);
+    leave(queues, found.is_some());
     (taker, found)
 }
 
-/// Each copy sends its first batch.
-fn first_sent<J, T, R>(
-    rt: &R,
-    alloc: Global,
-    run: &TwinRun<T>,
-    queues: &[FrameQueue],
-    sides: Sides<J>,
-) -> Sides<J>
-where
-    J: Job + Send + Sync,
-    J::Globals: Send,
-    J::Element: Send + Sync,
-    J::Plan: Send + Sync,
-    J::Part: Send + Sync,
-    T: Tamper,
-    R: Threads + Wait + Sync,
-    requires known { AreKnown run.now.profile run.now.inputs }
-    requires twins { AreTwins J.meaning run.now.profile run.now.inputs (T.altered run.now.tamper)
-        queues.now (twins_of sides) }
-    ensures twins { AreTwins J.meaning run.now.profile run.now.inputs (T.altered run.now.tamper)
-        queues.now (twins_of result) }
-    ensures numbers { numbers_of (twins_of result) ≡ numbers_of (twins_of sides) }
-    ensures taker { result.taker ≡ sides.taker }
-{
-    let Sides {
-        last,
-        others,
-        taker,
-    } = sides;
-    let (last, others) = sent(rt, alloc, run, queues, last, others);
-    Sides {
-        last,
-        others,
-        taker,
-    }
-}
-
-/// Each copy sends a batch, while `more` rows of each are taken, which were sent before.
+/// Each copy sends rows while its queue has a place, and at most `more` of each are taken meanwhile.
+/// Where all have a thread, this can go on to the last row. Where one side runs after the other, at
+/// most as many rows are sent as the queues have places for.
 pub(crate) fn exchange<J, T, R>(
     rt: &R,
     alloc: Global,
@@ -104,8 +88,11 @@ where
         queues.now (twins_of result.0) }
     ensures numbers { numbers_of (twins_of result.0) ≡ numbers_of (twins_of sides) }
     ensures judged { Judged result.1 queues.now result.0.taker }
-    ensures rows { IfNone result.1 (result.0.taker.rows ≡ sides.taker.rows + more) }
+    ensures within { result.0.taker.rows ≤ sides.taker.rows + more }
 {
+    'queues: for queue in queues {
+        queue.pace().reset();
+    }
     let Sides {
         last,
         others,
@@ -132,7 +119,7 @@ where
             requires room { taker.rows + more < 4294967295 }
             requires agreed { Agreed queues.now taker }
             ensures judged { Judged result.1 queues.entry.now result.0 }
-            ensures rows { IfNone result.1 (result.0.rows ≡ taker.rows + more) }
+            ensures within { result.0.rows ≤ taker.rows + more }
         { taken(rt, queues, taker, more) },
     );
     let (last, others) = twins;
@@ -150,8 +137,7 @@ fn any_failed<J: Job>(sides: &Sides<J>) -> bool {
     sides.last.failed || sides.others.iter().any(|twin| twin.failed)
 }
 
-/// Sends and takes all rows, batch by batch, up to the first that not all copies have equal. A
-/// batch is taken once all copies have sent it.
+/// Sends and takes all rows, up to the first that not all copies have equal.
 pub(crate) fn exchange_all<J, T, R>(
     rt: &R,
     alloc: Global,
@@ -183,17 +169,20 @@ where
         IfNone all.1 (all.0.taker.rows ≡ length run.now.inputs + 4)) }
 {
     let rows = run.rows();
-    let mut sides = first_sent(rt, alloc, run, queues, sides);
-    'batches: while sides.taker.rows < rows {
+    let mut sides = sides;
+    'turns: for _ in rt.forever() {
+        if sides.taker.rows >= rows {
+            return Ok((sides, None));
+        }
         if any_failed(&sides) {
             return Err(OutOfMemory);
         }
-        let more = (rows - sides.taker.rows).min(BATCH);
+        let more = rows - sides.taker.rows;
         let (stood, found) = exchange(rt, alloc, run, queues, sides, more);
         sides = stood;
         if found.is_some() {
             return Ok((sides, found));
         }
     }
-    Ok((sides, None))
+    unreachable!()
 }

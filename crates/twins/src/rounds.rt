@@ -13,8 +13,9 @@ use lockstep::{Verdict, first_difference};
 use std::sync::Wait;
 
 impl Taker {
-    /// Takes `more` rows of each copy, and ends behind the first that not all have equal.
-    pub(crate) fn take_batch<R: Wait>(
+    /// Takes at most `more` rows of each copy, as long as all send them, and ends behind the first
+    /// that not all have equal.
+    pub(crate) fn take_rows<R: Wait>(
         &mut self,
         rt: &R,
         queues: &[FrameQueue],
@@ -25,9 +26,12 @@ impl Taker {
         requires room { self.old.rows + more < 4294967295 }
         requires agreed { Agreed queues.now self.old }
         ensures judged { Judged result queues.now self.new }
-        ensures rows { IfNone result (self.new.rows ≡ self.old.rows + more) }
+        ensures within { self.new.rows ≤ self.old.rows + more }
     {
         'rounds: for _ in 0..more {
+            if !all_have_rows(rt, queues) {
+                break;
+            }
             if let Some(verdict) = self.take_next(rt, queues) {
                 return Some(verdict);
             }
@@ -48,6 +52,16 @@ impl Taker {
         self.rows += 1;
         take_round(rt, queues, self.intakes.as_mut_slice(), number)
     }
+}
+
+/// Whether a row of each copy is there to be taken. It waits for copies that are at work.
+fn all_have_rows<R: Wait>(rt: &R, queues: &[FrameQueue]) -> bool {
+    'queues: for queue in queues {
+        if !queue.pace().has_row(rt) {
+            return false;
+        }
+    }
+    true
 }
 
 /// Takes the row of this number of each copy, and holds it against that of copy 0.

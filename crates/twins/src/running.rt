@@ -22,10 +22,11 @@ use std::thread::Threads;
 /// rows while they run. Each copy makes the frames of the whole run, from Register to Terminate,
 /// and runs its passes with one worker.
 ///
-/// They work in batches of 16 rows: one batch is made and sent while the one before it is taken
-/// and compared, so no queue ever holds more than 32 rows. Once a row was found that not all
-/// copies have equal, no further batch is run. A copy that finds no memory ends its sending, and
-/// the answer is OutOfMemory. That copies run at the same time is not promised.
+/// All start at once, and each goes on while its queue has a place, while their rows are taken and
+/// compared on the caller's thread. So no more than 32 rows of a copy are held. Where there aren't
+/// threads for all, they take turns of as many rows. Once a row was found that not all copies have
+/// equal, no further row is begun. A copy that finds no memory ends its sending, and the answer is
+/// OutOfMemory. That copies run at the same time is not promised.
 pub fn run_twins<J, T, R>(
     rt: &R,
     alloc: Global,

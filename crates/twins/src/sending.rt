@@ -11,13 +11,10 @@ use job_trait::Job;
 use std::alloc::Global;
 use std::sync::Wait;
 
-/// How many rows a copy sends at most while those before are taken.
-pub(crate) const BATCH: u32 = 16;
-
 impl<J: Job> Twin<J> {
-    /// Makes and sends the next rows, at most a batch of them. Where memory can't be had, it ends
-    /// its sending.
-    pub(crate) fn send_batch<T: Tamper, R: Wait>(
+    /// Makes and sends rows while its queue has a place, up to the last. Where memory can't be had,
+    /// it ends its sending.
+    pub(crate) fn send_rows<T: Tamper, R: Wait>(
         &mut self,
         rt: &R,
         alloc: Global,
@@ -31,12 +28,18 @@ impl<J: Job> Twin<J> {
             (T.altered run.now.tamper) queue.now self.new }
         ensures copy { self.new.copy ≡ self.old.copy }
     {
-        'rows: for _ in 0..BATCH {
+        let pace = queue.pace();
+        pace.sender_comes();
+        'rows: for _ in 0..run.rows() {
+            if self.failed || self.number >= run.rows() || !pace.has_place(rt) {
+                break;
+            }
             self.send_next(rt, alloc, run, queue);
         }
+        pace.sender_leaves();
     }
 
-    /// Makes and sends the next row, if there is one.
+    /// Makes and sends the next row.
     fn send_next<T: Tamper, R: Wait>(
         &mut self,
         rt: &R,
@@ -45,18 +48,15 @@ impl<J: Job> Twin<J> {
         queue: &FrameQueue,
     )
         requires known { AreKnown run.now.profile run.now.inputs }
+        requires more { self.old.number < length run.now.inputs + 4 }
+        requires few { self.old.number < 1000004 }
+        requires going { self.old.failed ≡ false }
         requires twin { IsTwin J.meaning run.now.profile run.now.inputs
             (T.altered run.now.tamper) queue.now self.old }
         ensures twin { IsTwin J.meaning run.now.profile run.now.inputs
             (T.altered run.now.tamper) queue.now self.new }
         ensures copy { self.new.copy ≡ self.old.copy }
     {
-        if self.failed {
-            return;
-        }
-        if self.number >= run.rows() {
-            return;
-        }
         match self.next_row(alloc, run) {
             Ok(row) => {
                 queue.send(rt, &mut self.sender, row);

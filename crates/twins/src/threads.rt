@@ -1,4 +1,4 @@
-//! Copies send a batch, each on a thread of its own, while the batch before is taken.
+//! Copies send their rows, each on a thread of its own.
 ghost use Rattle.std.specs.Prelude.{◌≡◌, ◌+◌, ◌<◌, ◌≤◌, ◌∷◌, ◌++◌, [], length};
 ghost use Rattle.std.specs.Prelude.{vec_len, vec_capacity, IfSome, IfNone};
 ghost use Rattle.std.specs.Thread.{IsSend, IsSync};
@@ -47,7 +47,7 @@ fn put_back<J: Job>(twins: &mut Vec<Twin<J>>, twin: Twin<J>)
     }
 }
 
-/// All copies send a batch, each on a thread of its own where there is one. It takes no memory for
+/// All copies send rows, each on a thread of its own where there is one. It takes no memory for
 /// that.
 pub(crate) fn sent<J, T, R>(
     rt: &R,
@@ -75,7 +75,7 @@ where
     ensures room { vec_capacity others ≤ vec_capacity result.1 }
 {
     let Some((next, front, back)) = next_of(queues, &mut others) else {
-        last.send_batch(rt, alloc, run, &queues[0]);
+        last.send_rows(rt, alloc, run, &queues[0]);
         return (last, others);
     };
     let none = Vec::new(alloc);

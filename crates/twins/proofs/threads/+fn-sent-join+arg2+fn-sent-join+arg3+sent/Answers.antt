@@ -11,10 +11,10 @@ returns-in_default-clause-twins g t c =
     let twin = IsTwin g.J.Job.meaning c.args.run.now.profile c.args.run.now.inputs (g.T.Tamper.altered c.args.run.now.tamper) in
     let alone : EachPair twin c.args.queues.now (c.args.last ∷ []) = rw c.in_default.ensures.none at c.requires.twins in
     rw c.in_default.ensures.same
-    (pair_swap twin c.args.queues.now c.args.last c.send_batch.new.self alone
-    (λ x. subst (λ (q : FrameQueue). twin q c.send_batch.new.self)
+    (pair_swap twin c.args.queues.now c.args.last c.send_rows.new.self alone
+    (λ x. subst (λ (q : FrameQueue). twin q c.send_rows.new.self)
     (c.index-queues-0.is ∙ get_or_default c.args.queues.now 0 c.index-queues-0.result x (let n = alone.count in omega (arith, n)))
-    c.send_batch.ensures.twin))
+    c.send_rows.ensures.twin))
 
 pub join-last-requires-after_bounds : goal.join-last-requires-after_bounds
 join-last-requires-after_bounds g t c κs within =

@@ -1,6 +1,6 @@
 use Rattle.std.proofs.Common.{◌≡◌, ◌+◌}
 use Rattle.twins.specs.Taking.{Agreed}
-use Rattle.twins.proofs.taker.Taker.take_batch.Given as goal
+use Rattle.twins.proofs.taker.Taker.take_rows.Given as goal
 
 abbrev pub invariant-rounds : goal.invariant-rounds
 invariant-rounds g l = record {

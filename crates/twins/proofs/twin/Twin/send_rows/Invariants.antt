@@ -1,6 +1,6 @@
 use Rattle.std.proofs.Common.{◌≡◌}
 use Rattle.twins.specs.Making.{IsTwin}
-use Rattle.twins.proofs.twin.Twin.send_batch.Given as goal
+use Rattle.twins.proofs.twin.Twin.send_rows.Given as goal
 
 abbrev pub invariant-rows : goal.invariant-rows
 invariant-rows g l = record {
