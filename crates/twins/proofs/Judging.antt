@@ -2,7 +2,7 @@
 use Rattle.std.proofs.Common.{◌≡◌, ◌≢◌, ◌<◌, ◌≤◌, ◌+◌, ◌⊎◌, inl, inr, ℕ}
 use Rattle.std.proofs.Common.{List, [], ◌∷◌, length, map, get_or, true, false, eqb}
 use Rattle.std.proofs.Common.{Option, Some, None, refl, sym, ap, ◌∙◌, subst, arith, length-append}
-use Rattle.std.specs.Prelude.{IfNone, is_some}
+use Rattle.std.specs.Prelude.{IfNone}
 use Rattle.std.specs.Option.{unwrap_or}
 use Rattle.std.specs.List.{All, range_with_len}
 use Rattle.std.proofs.lemmas.Bool.Decides.{eqb_tells}
@@ -100,19 +100,6 @@ pub intakes-judged : (found : Option Verdict) (queues : List FrameQueue) (taker 
     → AreIntakes queues taker.intakes.items
 intakes-judged None queues taker h = h.intakes
 intakes-judged (Some verdict) queues taker h = h.intakes
-
-pub went-on : (found : Option Verdict) (queues : List FrameQueue) (taker : Taker) → is_some found ≡ false → Judged found queues taker
-    → Agreed queues taker
-went-on None queues taker e h = h
-went-on (Some verdict) queues taker e h = absurd cc
-
-pub rows-went-on : (found : Option Verdict) (X : Type 0) → is_some found ≡ false → IfNone found X → X
-rows-went-on None X e h = h
-rows-went-on (Some verdict) X e h = absurd cc
-
-pub rows-ended : (found : Option Verdict) (X : Type 0) → is_some found ≡ true → IfNone found X
-rows-ended None X e = absurd cc
-rows-ended (Some verdict) X e = tt
 
 -- ---- all rows
 

@@ -1,6 +1,6 @@
 //! Rows are taken while they are sent.
 ghost use Rattle.std.specs.Prelude.{◌≡◌, ◌+◌, ◌<◌, ◌≤◌, ◌∷◌, ◌++◌, [], length};
-ghost use Rattle.std.specs.Prelude.{vec_capacity, IfNone, IfOk};
+ghost use Rattle.std.specs.Prelude.{IfNone, IfOk};
 ghost use Rattle.std.specs.Thread.{IsSend, IsSync};
 ghost use Rattle.twins.specs.Making.{AreKnown};
 ghost use Rattle.twins.specs.Sending.{AreTwins, numbers_of};
