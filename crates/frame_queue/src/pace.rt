@@ -8,7 +8,7 @@ use std::{hint, thread};
 const BUSY_LOOKS: u32 = 200;
 
 /// The looks after which a receiver waits no longer for a sender that hasn't come.
-const PATIENT_LOOKS: u32 = 20_000;
+const PATIENT_LOOKS: u32 = 2_000;
 
 /// One end of a queue: whether its thread is at work, and where that sleeps.
 #[derive(Drop)]
@@ -52,8 +52,8 @@ impl End {
         self.has_left.store(true, Ordering::SeqCst);
     }
 
-    /// Waits a little for the other end. One that has come wakes this one whenever it sends, takes
-    /// or leaves.
+    /// Waits a little for the other end. One that has come wakes this one when it has sent or taken
+    /// enough, and when it leaves.
     fn pause<R: Wait>(&self, rt: &R, other: &End, looks: u32) {
         if looks < BUSY_LOOKS {
             hint::spin_loop();
@@ -125,13 +125,18 @@ impl Pace {
         self.held.fetch_add(1, Ordering::SeqCst);
     }
 
+    /// A receiver that sleeps is woken for several rows at once; for fewer, where the sender leaves.
     pub(crate) fn end_send(&self) {
-        self.receiver.sleep.unpark();
+        if self.held.load(Ordering::SeqCst) >= self.places / 4 {
+            self.receiver.sleep.unpark();
+        }
     }
 
+    /// A sender that sleeps is woken once half of the places are free.
     pub(crate) fn end_take(&self) {
-        self.held.fetch_sub(1, Ordering::SeqCst);
-        self.sender.sleep.unpark();
+        if self.held.fetch_sub(1, Ordering::SeqCst) <= self.places / 2 {
+            self.sender.sleep.unpark();
+        }
     }
 
     fn holds_row(&self) -> bool {
