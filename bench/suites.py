@@ -212,7 +212,7 @@ class Bench:
     # ---- copies that run now ----
 
     def running_copies(self) -> None:
-        """Two copies of a cloud as processes and as threads, and one of them alone."""
+        """Two copies of a cloud as processes and as threads, one of them alone, and two that nobody compares."""
         if None in (self.programs.lane, self.programs.twin):
             self.remarks.append("running copies are left out: there are no programs of them")
             return
@@ -222,8 +222,11 @@ class Bench:
         manifest, stimulus = words[2:4]
         lane = [str(self.programs.lane), str(self.programs.det), "2", manifest, stimulus]
         twin = [str(self.programs.twin), "2", manifest, stimulus]
+        one = self.det("record", manifest, stimulus, "--workers", 1)
+        alone = shlex.join(one)
         commands = [
-            Command("one record", self.det("record", manifest, stimulus, "--workers", 1), 1, keep=record),
+            Command("one record", one, 1, keep=record),
+            Command("two at once", ["sh", "-c", f"{alone} > /dev/null & {alone}; wait"], 1, records=2),
             Command("det_lane 2", lane, gives="verdict on running copies", records=2),
             Command("det_twin 2", twin, gives="verdict on running copies", records=2),
         ]

@@ -98,25 +98,30 @@ impl Pace {
         self.receiver.reset();
     }
 
+    /// The sender's thread is at work from now on.
     pub fn sender_comes(&self) {
         self.sender.come();
     }
 
+    /// The sender's thread sends no more in this turn. A receiver that waits for it is woken.
     pub fn sender_leaves(&self) {
         self.sender.leave();
         self.receiver.sleep.unpark();
     }
 
+    /// The receiver's thread is at work from now on.
     pub fn receiver_comes(&self) {
         self.receiver.come();
     }
 
+    /// The receiver's thread takes no more in this turn. A sender that waits for it is woken.
     pub fn receiver_leaves(&self) {
         self.receiver.leave();
         self.sender.sleep.unpark();
     }
 
-    /// No more rows are wanted, now or in a later turn.
+    /// No more rows are wanted, in this turn and in all later ones. A sender that waits learns it
+    /// when the receiver leaves.
     pub fn refuse(&self) {
         self.is_refused.store(true, Ordering::SeqCst);
     }
@@ -125,7 +130,8 @@ impl Pace {
         self.held.fetch_add(1, Ordering::SeqCst);
     }
 
-    /// A receiver that sleeps is woken for several rows at once; for fewer, where the sender leaves.
+    /// A receiver that sleeps is woken for several rows at once. A sender that leaves wakes it for
+    /// fewer.
     pub(crate) fn end_send(&self) {
         if self.held.load(Ordering::SeqCst) >= self.places / 4 {
             self.receiver.sleep.unpark();

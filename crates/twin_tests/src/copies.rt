@@ -204,7 +204,7 @@ impl Tamper for CountingTamper {
     }
 }
 
-/// Frame 7 is the eighth that is taken, and a queue has 32 places, so at most 40 frames a copy are made.
+/// Frame 7 is the eighth that is taken, and a queue has 32 places, so a copy makes 40 at most.
 #[test]
 fn behind_a_difference_nothing_more_is_run(rt: HostRuntime) -> Result<(), Fail> {
     let alloc = rt.alloc();

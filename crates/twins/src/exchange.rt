@@ -58,9 +58,9 @@ fn taken<R: Wait>(
     (taker, found)
 }
 
-/// Each copy sends rows while its queue has a place, and at most `more` of each are taken meanwhile.
-/// Where all have a thread, this can go on to the last row. Where one side runs after the other, at
-/// most as many rows are sent as the queues have places for.
+/// Each copy sends rows while its queue has a place, and at most `more` of each are taken
+/// meanwhile. Where all have a thread, this can go on to the last row. Where one side runs after
+/// the other, at most as many rows are sent as the queues have places for.
 pub(crate) fn exchange<J, T, R>(
     rt: &R,
     alloc: Global,
