@@ -19,6 +19,7 @@ SCRIPTS = {
     "mutated.py": ["--count", "1000"],
     "failing_edges.py": [],
     "one_digest.py": ["--runs", "20"],
+    "twins.py": ["--runs", "40"],
     "view.py": [],
     "hints.py": [],
     "chained.py": [],
