@@ -163,13 +163,15 @@ impl Decoder {
     }
 }
 
-/// Removes the first bytes.
+/// Removes the first bytes. It moves those that are left, which are few, and not all.
 fn drop_front(bytes: &mut Vec<u8>, count: usize)
     requires { count ≤ vec_len bytes.old }
     ensures items { bytes.new.items ≡ drop count bytes.old.items }
     ensures len { vec_len bytes.new + count ≡ vec_len bytes.old }
 {
     if count > 0 {
-        bytes.drain(..count);
+        let left = bytes.len() - count;
+        bytes.copy_within(count.., 0);
+        bytes.truncate(left);
     }
 }

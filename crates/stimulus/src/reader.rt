@@ -246,9 +246,11 @@ fn drop_read(bytes: &mut Vec<u8>, read: usize) -> usize
     ensures within { result ≤ vec_len bytes.new }
     ensures rest { drop result bytes.new.items ≡ drop read bytes.old.items }
 {
-    if read < bytes.len() - read {
+    let left = bytes.len() - read;
+    if read < left {
         return read;
     }
-    bytes.drain(..read);
+    bytes.copy_within(read.., 0);
+    bytes.truncate(left);
     0
 }
