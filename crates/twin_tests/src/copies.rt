@@ -206,7 +206,7 @@ impl Tamper for CountingTamper {
 
 /// Frame 7 is the eighth that is taken, and a queue has 32 places, so a copy makes 40 at most.
 #[test]
-fn behind_a_difference_nothing_more_is_run(rt: HostRuntime) -> Result<(), Fail> {
+fn behind_a_difference_queues_are_filled_at_most(rt: HostRuntime) -> Result<(), Fail> {
     let alloc = rt.alloc();
     let tamper = CountingTamper {
         flip: FlipTamper::new(1, 7),
