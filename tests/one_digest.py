@@ -190,22 +190,27 @@ def first_other(runs: Runs, made: Made, count: int, wanted: str) -> Optional[str
     return None
 
 
-def program_of(programs: Optional[Path]) -> Path:
-    """The build of det in a folder, or that of bin/det."""
+def program_of(name: str, programs: Optional[Path]) -> Path:
+    """The build of a program in a folder, or that of bin/."""
     if programs:
-        return programs.resolve() / "det"
-    subprocess.run([TOP / "bin" / "det", "--version"], stdout=subprocess.DEVNULL, check=True)
-    return TOP / "crates" / "det" / "out" / "det"
+        return programs.resolve() / name
+    subprocess.run([TOP / "bin" / name, "--version"], stdout=subprocess.DEVNULL, check=True)
+    return TOP / "crates" / name / "out" / name
 
 
-def main() -> int:
-    parser = argparse.ArgumentParser(description="Compares the records of many disturbed runs.")
+def options(description: str) -> argparse.Namespace:
+    """The options of a script of disturbed runs."""
+    parser = argparse.ArgumentParser(description=description)
     parser.add_argument("--runs", type=int, default=1000)
     parser.add_argument("--programs", type=Path, help="a folder of builds in place of bin/")
     parser.add_argument("--busy", type=int, default=os.cpu_count(), help="how many busy processes")
     parser.add_argument("--seed", default="0", help="any text")
-    given = parser.parse_args()
-    program = program_of(given.programs)
+    return parser.parse_args()
+
+
+def main() -> int:
+    given = options("Compares the records of many disturbed runs.")
+    program = program_of("det", given.programs)
     with tempfile.TemporaryDirectory() as name, busy(given.busy):
         folder, disturber = Path(name), Disturber(random.Random(given.seed))
         made = Made.of(folder)

@@ -16,7 +16,6 @@ hasn't; ends with 1 where there is one. bin/det_twin builds where needed. Python
 is all that it needs, on Linux.
 """
 
-import argparse
 import os
 import random
 import subprocess
@@ -27,9 +26,8 @@ from pathlib import Path
 from typing import List, Optional
 
 from chained import Client, stimulus
-from one_digest import LIMIT, Disturber, busy
+from one_digest import LIMIT, Disturber, busy, options, program_of
 
-TOP = Path(__file__).resolve().parent.parent
 COPIES = range(2, 9)
 VALUES = [0, 7, -5, 1000, 250]
 # The frame of cycle 1: Register, Discover and Init come first.
@@ -108,22 +106,9 @@ def first_wrong(program: Path, folder: Path, runs: int, disturber: Disturber) ->
     return None
 
 
-def program_of(programs: Optional[Path]) -> Path:
-    """The build of det_twin in a folder, or that of bin/det_twin."""
-    if programs:
-        return programs.resolve() / "det_twin"
-    subprocess.run([TOP / "bin" / "det_twin", "--version"], stdout=subprocess.DEVNULL, check=True)
-    return TOP / "crates" / "det_twin" / "out" / "det_twin"
-
-
 def main() -> int:
-    parser = argparse.ArgumentParser(description="Compares verdicts of many disturbed runs.")
-    parser.add_argument("--runs", type=int, default=1000)
-    parser.add_argument("--programs", type=Path, help="a folder of builds in place of bin/")
-    parser.add_argument("--busy", type=int, default=os.cpu_count(), help="how many busy processes")
-    parser.add_argument("--seed", default="0", help="any text")
-    given = parser.parse_args()
-    program = program_of(given.programs)
+    given = options("Compares verdicts of many disturbed runs.")
+    program = program_of("det_twin", given.programs)
     with tempfile.TemporaryDirectory() as name, busy(given.busy):
         disturber = Disturber(random.Random(given.seed))
         why = first_wrong(program, Path(name), given.runs, disturber)
