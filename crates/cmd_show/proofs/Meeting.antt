@@ -78,7 +78,8 @@ module _ (result : Result Shown (Stopped RecordFault)) (answer : Answer) (is : a
       (λ t. told-at (shelf.first.left slot) bytes (λ b. Answers result part old b out) (ap shelf.first.left same ∙ t) (told-answers ended))
       r w)
 
-  pub saw-left : (bytes : List ℕ) → answer ≢ OutOfMemory → shelf.first.left here ≡ Some bytes → SawFirst part old now bytes out.before out.after
+  pub saw-left : (bytes : List ℕ) → answer ≢ OutOfMemory → shelf.first.left here ≡ Some bytes
+      → SawFirst part old now bytes out.before out.after
   saw-left bytes ne t =
       sees-by result part old now bytes out (λ e. ne (is ∙ e))
       (told-at (shelf.first.left slot) bytes (λ b. Sees result part old now b out) (ap shelf.first.left same ∙ t) (told-sees ended))

@@ -122,7 +122,8 @@ module _ {first mid : ShelfState} {slots here : List ℕ} (recorded : List (Bor 
         → HasVoted (Err why) mid last here out → ShelfTraffic shelf (failure_in {A = Vote} (Err why))
         → SinkTraffic out (failure_in {A = Vote} (Err why)) → (Rose out.faults_before out.faults_after → ⊥)
         → Meets (dissent_outcome copies) tells rose other before before (answer_of (Err why))
-    meets-unprinted {before = before} (Refused why) h reads writes none = meets-refusal _ _ _ _ before (NoMajority why.row) (λ e. cc) (λ e. cc)
+    meets-unprinted {before = before} (Refused why) h reads writes none =
+        meets-refusal _ _ _ _ before (NoMajority why.row) (λ e. cc) (λ e. cc)
         (λ t. let s : Splits why.row copies out = answered (Err (Refused why)) h t in
         ap (λ m. dissent_by m copies) s.none ∙ ap (λ row. record { answer = NoMajority row; bytes = [] }) (sym s.row))
     meets-unprinted {before = before} (Failed Read) h reads writes none = meets-read-fault _ _ _ _ before (read-failed (reads.cause refl))

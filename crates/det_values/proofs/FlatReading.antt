@@ -6,7 +6,7 @@ use Rattle.std.specs.Int.{w16, w32, to_be_bytes, from_be_bytes}
 use Rattle.std.proofs.Math.Seq.{take-append_seam, drop-append_seam}
 use Rattle.std.proofs.lemmas.List.{append-nil}
 use Rattle.std.proofs.lemmas.List.Concat.{flat_map-append}
-use Rattle.std.proofs.lemmas.List.Elements.{All-nil, All-cons, All-head, All-tail}
+use Rattle.std.proofs.lemmas.List.Elements.{All-nil, All-cons, All-head, All-tail, All-append}
 use Rattle.std.proofs.lemmas.Nat.{from_be_bytes-to_be_bytes_2, from_be_bytes-to_be_bytes_4}
 use Rattle.det_values.specs.declared.frames.DrawnElement.{DrawnElement}
 use Rattle.det_values.specs.Spelling.{spelled_u16, spelled_u32, an_element, spelled_drawn, IsDrawn, spelled_all, first_length, first_of}
@@ -111,15 +111,19 @@ held es count bytes v h = (
 pub nothing_holds : (bytes : List ℕ) → bytes ≡ [] → Holds [] 0 bytes
 nothing_holds bytes e = holds [] 0 bytes e refl (All-nil IsDrawn) (omega arith)
 
-All-both : (es fs : List DrawnElement) → All IsDrawn es → All IsDrawn fs → All IsDrawn (es ++ fs)
-All-both [] fs h k = k
-All-both (e ∷ es) fs h k = All-cons IsDrawn e (es ++ fs) (All-head IsDrawn e es h) (All-both es fs (All-tail IsDrawn e es h) k)
+-- elements added at once
+pub appended : (es : List DrawnElement) (m : ℕ) (a bytes : List ℕ) (others : List DrawnElement) (n : ℕ) → elements_in m a ≡ es
+    → IsFlat m a → All IsDrawn others → length others ≡ n → length es + n ≤ 65536 → bytes ≡ a ++ spelled_all others
+    → Holds (es ++ others) (m + n) bytes
+appended es m a bytes others n v h i counted few eq =
+    let p = held es m a v h in
+    holds (es ++ others) (m + n) bytes (eq ∙ ap (λ (xs : List ℕ). xs ++ spelled_all others) p.0
+    ∙ sym (flat_map-append spelled_drawn es others))
+    (omega (arith, p.1, counted, length-append es others)) (All-append IsDrawn es others p.2 i) (omega (arith, p.1))
 
+-- one element added
 pub pushed : (es : List DrawnElement) (m : ℕ) (a bytes : List ℕ) (e : DrawnElement) → elements_in m a ≡ es → IsFlat m a → IsDrawn e
     → length es < 65536 → bytes ≡ a ++ spelled_drawn e → Holds (es ++ e ∷ []) (m + 1) bytes
 pushed es m a bytes e v h i few eq =
-    let p = held es m a v h in
-    holds (es ++ e ∷ []) (m + 1) bytes (eq ∙ ap (λ (xs : List ℕ). xs ++ spelled_drawn e) p.0
-    ∙ ap (λ (xs : List ℕ). spelled_all es ++ xs) (sym (append-nil (spelled_drawn e))) ∙ sym (flat_map-append spelled_drawn es (e ∷ [])))
-    (omega (arith, p.1, length-append es (e ∷ []))) (All-both es (e ∷ []) p.2 (All-cons IsDrawn e [] i (All-nil IsDrawn)))
-    (omega (arith, p.1))
+    appended es m a bytes (e ∷ []) 1 v h (All-cons IsDrawn e [] i (All-nil IsDrawn)) refl (omega arith)
+    (eq ∙ ap (λ (xs : List ℕ). a ++ xs) (sym (append-nil (spelled_drawn e))))

@@ -1,5 +1,5 @@
 //! The elements of a finished cycle.
-ghost use Rattle.std.specs.Prelude.{◌≡◌, ◌≤◌, ◌<◌, List, ◌++◌, ◌∷◌, [], length, OnOk, OnErr};
+ghost use Rattle.std.specs.Prelude.{◌≡◌, ◌≤◌, ◌<◌, ◌+◌, List, ◌++◌, ◌∷◌, [], length, OnOk, OnErr};
 ghost use Rattle.std.specs.List.{All};
 ghost use Rattle.det_values.specs.Spelling.{an_element, spelled_drawn, spelled_all, IsDrawn};
 ghost use Rattle.det_values.specs.declared.frames.DrawnElement.{DrawnElement};
@@ -79,17 +79,19 @@ impl DrawnElements {
         }
     }
 
-    /// Adds an element that is spelled already, by one copy. A refused call changes nothing.
-    pub fn push_spelled(&mut self, spelled: &[u8]) -> Result<(), OutOfMemory>
-        requires room { length self.old < 65536 }
-        requires spelled { (e : DrawnElement) × IsDrawn e × (spelled.now ≡ spelled_drawn e) }
-        ensures ok { OnOk result ((e : DrawnElement) → IsDrawn e → spelled.now ≡ spelled_drawn e
-            → self.new ≡ self.old ++ e ∷ []) }
+    /// Adds so many elements that are spelled already, one behind another, by one copy. A refused
+    /// call changes nothing.
+    pub fn extend_spelled(&mut self, spelled: &[u8], count: u32) -> Result<(), OutOfMemory>
+        requires room { length self.old + count ≤ 65536 }
+        requires spelled { (es : List DrawnElement) × (spelled.now ≡ spelled_all es)
+            × (length es ≡ count) × All IsDrawn es }
+        ensures ok { OnOk result ((es : List DrawnElement) → spelled.now ≡ spelled_all es
+            → length es ≡ count → All IsDrawn es → self.new ≡ self.old ++ es) }
         ensures err { OnErr result (self.new ≡ self.old) }
     {
         match self.bytes.extend_from_slice(spelled) {
             Ok(()) => {
-                self.count += 1;
+                self.count += count;
                 Ok(())
             }
             Err(_) => Err(OutOfMemory),

@@ -156,6 +156,21 @@ fn elements_are_spelled_as_in_a_record(rt: HostRuntime) -> Result<(), Fail> {
     Ok(())
 }
 
+#[test]
+fn spelled_elements_are_added_at_once(rt: HostRuntime) -> Result<(), Fail> {
+    let alloc = rt.alloc();
+    let mut elements = DrawnElements::new(alloc);
+    elements.push(b"x", 9)?;
+    let mut two = DrawnElements::new(alloc);
+    two.push(b"", 1)?;
+    two.push(b"ab", 66051)?;
+    elements.extend_spelled(two.spelled(), 2)?;
+    let spelling = b"\x00\x01x\x00\x00\x00\x09\x00\x00\x00\x00\x00\x01\x00\x02ab\x00\x01\x02\x03";
+    assert_eq!(rt; elements.spelled(), spelling.as_slice());
+    assert_eq!(rt; elements.len(), 3);
+    Ok(())
+}
+
 // So many numbers, from 0 on.
 fn numbers(alloc: Global, count: u32) -> Result<Container<u32>, OutOfMemory> {
     let mut numbers = Container::with_room(alloc, 65536)?;

@@ -1,4 +1,5 @@
-//! Records of second clients. They stand in functions without a clause, so that no proof reads them.
+//! Records of second clients. They stand in functions without a clause, so that no proof reads
+//! them.
 
 /// A bank of one channel behind the built-in bank over three cycles. Its samples are the sums, the
 /// least and the greatest levels: 0, 0, 0, then 100, 25, 25, then 72, 18, 18. Its third cycle sees

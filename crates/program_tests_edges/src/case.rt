@@ -6,8 +6,8 @@ use program_runs::{
 use std::alloc::{AllocError, Global};
 use std::thread::Threads;
 
-/// A command over the files `m`, which it may open twice, and `s`, how many bytes of them it reads a
-/// call, and what it writes where nothing fails: so many bytes of this SHA-256.
+/// A command over the files `m`, which it may open twice, and `s`, how many bytes of them it reads
+/// a call, and what it writes where nothing fails: so many bytes of this SHA-256.
 #[derive(Drop)]
 pub struct Case {
     words: &'static str,

@@ -1,20 +1,21 @@
 -- Flat elements, spelled in a format.
-use Rattle.std.proofs.Common.{◌≡◌, ℕ, ◌+◌, ◌-◌, ◌<◌, ◌≤◌, List, [], ◌∷◌, ◌++◌, length, take, get_or, refl, sym, ap, ◌∙◌, append_assoc}
-use Rattle.std.proofs.Common.{arith, length-append, length-drop}
-use Rattle.std.proofs.Math.Seq.{take-append_seam}
+use Rattle.std.proofs.Common.{◌≡◌, ℕ, suc, ◌+◌, ◌-◌, ◌<◌, ◌≤◌, List, [], ◌∷◌, ◌++◌, length, take, drop, refl, sym, ap, ◌∙◌, append_assoc}
+use Rattle.std.proofs.Common.{arith, length-append}
+use Rattle.std.proofs.Math.Seq.{take-append_seam, drop-append_seam}
 use Rattle.std.specs.List.{flat_map, All}
-use Rattle.std.proofs.lemmas.List.{append-nil}
+use Rattle.std.proofs.lemmas.List.{append-nil, take-append-drop}
 use Rattle.std.proofs.lemmas.List.Concat.{flat_map-append}
-use Rattle.std.proofs.lemmas.List.Elements.{All-nil, All-cons, All-head, All-tail, All-from_get_or}
+use Rattle.std.proofs.lemmas.List.Elements.{All-nil, All-cons, All-head, All-tail, All-append}
 use Rattle.det_values.specs.declared.format.Format.{Format}
 use Rattle.det_values.specs.declared.format.Format.TheVariants.{One, Two}
 use Rattle.det_values.specs.declared.frames.DrawnElement.{DrawnElement}
 use Rattle.det_values.specs.Spelling as flat
-use Rattle.record_grammar.specs.Read.{Got}
+use Rattle.record_grammar.specs.Read.{Got, many, with_front}
 use Rattle.record_grammar.specs.Grammar.{drawn_at}
-use Rattle.record_grammar.proofs.SteadyFields.{drawn_steady}
+use Rattle.record_laws.proofs.Lawful.{AreBytes-rest}
 use Rattle.record_laws.proofs.LawfulParts.{drawn_lawful}
-use Rattle.record_codec.specs.Gives.{StandsSpelled}
+use Rattle.record_codec.specs.Taking.{StandSpelled, Continues}
+use Rattle.record_codec.proofs.Many.{many_next}
 use Rattle.record_grammar.specs.Spelling.{spelled_u16, spelled_element, spelled_drawn, IsDrawn, MayDraw}
 
 pub in_ranges : (format : Format) (es : List DrawnElement) → All flat.IsDrawn es → All (λ e. MayDraw format e.draws) es
@@ -67,26 +68,95 @@ put_stops es i left old new h e =
     ∙ ap (λ (xs : List DrawnElement). old ++ flat_map (spelled_drawn One) xs)
     (sym (append-nil h.before) ∙ ap (λ (xs : List DrawnElement). h.before ++ xs) (sym e) ∙ sym h.parts)
 
--- ---- an element of format Two, as it stands in the bytes
+-- ---- elements of format Two, as they stand in the bytes
 
-pub spelled_room : (bytes rest : List ℕ) (e : DrawnElement) → drawn_at Two bytes ≡ Got (e, rest) → length rest ≤ length bytes
-spelled_room bytes rest e got =
-    let r = (drawn_steady Two).rest bytes (e, rest) got in
-    omega (arith, r.1, ap length r.2, length-drop r.0 bytes)
+-- what a loop over them keeps
+pub record Stretched (most left : ℕ) (rest bytes : List ℕ) : Type 0 where
+  pub elements : List DrawnElement
+  pub counted : length elements + left ≡ most
+  pub fields : All flat.IsDrawn elements
+  pub front : bytes ≡ flat.spelled_all elements ++ rest
 
-pub stands_spelled : (bytes rest spelled : List ℕ) (e : DrawnElement) → ((i : ℕ) → get_or bytes i 0 < 256) → drawn_at Two bytes
-    ≡ Got (e, rest) → spelled ≡ take (length bytes - length rest) bytes
-    → StandsSpelled spelled rest (drawn_at Two bytes)
-stands_spelled bytes rest spelled e small got is =
-    let are : flat.AreBytes bytes = All-from_get_or (λ b. b < 256) bytes 0 (λ i l. small i) in
-    let s = (drawn_lawful Two).sound bytes (e, rest) are got in
-    let n : length bytes - length rest
-    ≡ length (flat.spelled_drawn e) = omega (arith, ap length s.1, length-append (flat.spelled_drawn e) rest) in
+pub stretch_begins : (most : ℕ) (bytes : List ℕ) → Stretched most most bytes bytes
+stretch_begins most bytes = record { elements = []; counted = omega arith; fields = All-nil flat.IsDrawn; front = refl }
+
+pub stretch_goes_on : (most left : ℕ) (rest bytes behind : List ℕ) (e : DrawnElement) → flat.AreBytes bytes → 0 < left → drawn_at Two rest
+    ≡ Got (e, behind) → Stretched most left rest bytes → Stretched most (left - 1) behind bytes
+stretch_goes_on most left rest bytes behind e are some got h =
+    let s = (drawn_lawful Two).sound rest (e, behind) (AreBytes-rest bytes (flat.spelled_all h.elements) rest h.front are) got in
+    let i : flat.IsDrawn e = record { short = s.0.0.0; bytes = s.0.0.1; draws = s.0.1 } in
+    let es : List DrawnElement = h.elements in
+    let p : flat.spelled_all (es ++ e ∷ []) ≡ flat.spelled_all es ++ flat.spelled_drawn e = flat_map-append flat.spelled_drawn es (e ∷ [])
+    ∙ ap (λ (xs : List ℕ). flat.spelled_all es ++ xs) (append-nil (flat.spelled_drawn e)) in
     record {
-      element = e;
-      fields = record { short = s.0.0.0; bytes = s.0.0.1; draws = s.0.1 };
-      spelling =
-          is ∙ ap (λ (k : ℕ). take k bytes) n ∙ ap (take (length (flat.spelled_drawn e))) s.1
-          ∙ take-append_seam (flat.spelled_drawn e) rest;
-      reads = got;
+      elements = es ++ e ∷ [];
+      counted = omega (arith, h.counted, length-append es (e ∷ []));
+      fields = All-append flat.IsDrawn es (e ∷ []) h.fields (All-cons flat.IsDrawn e [] i (All-nil flat.IsDrawn));
+      front =
+          h.front ∙ ap (λ (xs : List ℕ). flat.spelled_all es ++ xs) s.1
+          ∙ sym (append_assoc (flat.spelled_all es) (flat.spelled_drawn e) behind) ∙ ap (λ (xs : List ℕ). xs ++ behind) (sym p);
+    }
+
+-- what a loop over them comes to
+pub record Stands (most left : ℕ) (rest bytes : List ℕ) : Type 0 where
+  pub room : length rest ≤ length bytes
+  pub few : left ≤ most
+  pub spelled : StandSpelled (most - left) (length bytes - length rest) bytes
+  pub behind : drop (length bytes - length rest) bytes ≡ rest
+
+pub stretch_stands : (most left : ℕ) (rest bytes : List ℕ) → Stretched most left rest bytes → Stands most left rest bytes
+stretch_stands most left rest bytes h =
+    let spelled : List ℕ = flat.spelled_all h.elements in
+    let l : length bytes ≡ length spelled + length rest = ap length h.front ∙ length-append spelled rest in
+    let n : length bytes - length rest ≡ length spelled = omega (arith, l) in
+    let f : bytes ≡ spelled ++ rest = h.front in
+    record {
+      room = omega (arith, l);
+      few = omega (arith, h.counted);
+      spelled =
+          record {
+            elements = h.elements;
+            counted = omega (arith, h.counted);
+            fields = h.fields;
+            spelling = ap (λ (k : ℕ). take k bytes) n ∙ ap (take (length spelled)) f ∙ take-append_seam spelled rest;
+            within = omega (arith, l);
+          };
+      behind = ap (λ (k : ℕ). drop k bytes) n ∙ ap (drop (length spelled)) f ∙ drop-append_seam spelled rest;
+    }
+
+-- elements that stand spelled are read
+pub spelled_read : (front es : List DrawnElement) (left : ℕ) (rest : List ℕ) → All flat.IsDrawn es
+    → with_front front (many (drawn_at Two) (length es + left) (flat.spelled_all es ++ rest))
+    ≡ with_front (front ++ es) (many (drawn_at Two) left rest)
+spelled_read front [] left rest h =
+    let none : 0 + left ≡ left = omega arith in
+    ap (λ (n : ℕ). with_front front (many (drawn_at Two) n rest)) none
+    ∙ ap (λ (xs : List DrawnElement). with_front xs (many (drawn_at Two) left rest)) (sym (append-nil front))
+spelled_read front (e ∷ es) left rest h =
+    let i : flat.IsDrawn e = All-head flat.IsDrawn e es h in
+    let a : flat.spelled_all (e ∷ es) ++ rest ≡ flat.spelled_drawn e ++ (flat.spelled_all es ++ rest) =
+    append_assoc (flat.spelled_drawn e) (flat.spelled_all es) rest in
+    let got : drawn_at Two (flat.spelled_all (e ∷ es) ++ rest) ≡ Got (e, flat.spelled_all es ++ rest) = ap (drawn_at Two) a
+    ∙ (drawn_lawful Two).again e (flat.spelled_all es ++ rest) ((i.short, i.bytes), i.draws, tt) in
+    let k : length (e ∷ es) + left ≡ suc (length es + left) = omega arith in
+    ap (λ (n : ℕ). with_front front (many (drawn_at Two) n (flat.spelled_all (e ∷ es) ++ rest))) k
+    ∙ many_next (drawn_at Two) front (length es + left) (flat.spelled_all (e ∷ es) ++ rest) e (flat.spelled_all es ++ rest) got
+    ∙ spelled_read (front ++ e ∷ []) es left rest (All-tail flat.IsDrawn e es h)
+    ∙ ap (λ (xs : List DrawnElement). with_front xs (many (drawn_at Two) left rest)) (append_assoc front (e ∷ []) es)
+
+-- so reading goes on behind them
+pub spelled_continues : (front : List DrawnElement) (most left len : ℕ) (bytes : List ℕ) (h : StandSpelled (most - left) len bytes) → left
+    ≤ most → Continues (drawn_at Two) (front ++ h.elements) left len front most bytes
+spelled_continues front most left len bytes h few =
+    let spelled : List ℕ = flat.spelled_all h.elements in
+    let k : length h.elements + left ≡ most = omega (arith, h.counted) in
+    let parts : (tail : List ℕ) → bytes ++ tail ≡ spelled ++ (drop len bytes ++ tail) = λ tail.
+    ap (λ (xs : List ℕ). xs ++ tail) (sym (take-append-drop len bytes) ∙ ap (λ (xs : List ℕ). xs ++ drop len bytes) h.spelling)
+    ∙ append_assoc spelled (drop len bytes) tail in
+    record {
+      in_range = h.within;
+      same = λ tail.
+          sym (spelled_read front h.elements left (drop len bytes ++ tail) h.fields)
+          ∙ ap (λ (n : ℕ). with_front front (many (drawn_at Two) n (spelled ++ (drop len bytes ++ tail)))) k
+          ∙ ap (λ (xs : List ℕ). with_front front (many (drawn_at Two) most xs)) (sym (parts tail));
     }

@@ -1,12 +1,13 @@
 -- Values in a row, of which some were read already.
-use Rattle.std.proofs.Common.{◌≡◌, ℕ, zero, suc, ◌+◌, ◌-◌, ◌<◌, ◌≤◌, List, [], ◌∷◌, ◌++◌, length, drop, refl, sym, ap, ◌∙◌, append_assoc}
-use Rattle.std.proofs.Common.{arith, length-drop, length-append}
+use Rattle.std.proofs.Common.{◌≡◌, ℕ, zero, suc, ◌+◌, ◌-◌, ◌<◌, ◌≤◌, List, [], ◌∷◌, ◌++◌, length, drop, refl, sym, ap, subst, ◌∙◌}
+use Rattle.std.proofs.Common.{append_assoc, arith, length-drop, length-append}
 use Rattle.std.proofs.lemmas.List.{append-nil, drop-drop}
 use Rattle.record_grammar.specs.Read.{Read, Got, More, Bad, ◌>>=◌, many, with_front}
 use Rattle.record_grammar.proofs.Steady.{IsSteady}
 use Rattle.record_codec.specs.declared.stop.Stop.{Stop}
 use Rattle.record_codec.specs.declared.stop.Stop.TheVariants as stops
 use Rattle.record_codec.specs.Gives.{Stops}
+use Rattle.record_codec.specs.Taking.{Continues}
 
 module _ {A : Type 0} where
   moved : (front : List A) (first : A) (r : Read (List A)) → with_front front (r >>= λ others. Got (first ∷ others.0, others.1))
@@ -33,14 +34,17 @@ module _ {A : Type 0} where
       ap (with_front front) one ∙ moved front first (many item n rest)
 
   -- the first of these stops
-  pub many_stops : (item : List ℕ → Read A) (front : List A) (n : ℕ) (bytes : List ℕ) (stop : Stop) → 0 < n → Stops stop (item bytes)
-      → Stops stop (with_front front (many item n bytes))
-  many_stops item front zero bytes stop h s = absurd (omega arith)
-  many_stops item front (suc n) bytes stops.Memory h s = tt
-  many_stops item front (suc n) bytes stops.More h s =
-      let e : many item (suc n) bytes ≡ More = rw (many_one, s) refl in ap (with_front front) e
-  many_stops item front (suc n) bytes (stops.Bad reason left) h s =
-      let e : many item (suc n) bytes ≡ Bad reason left = rw (many_one, s) refl in ap (with_front front) e
+  pub many_stops : (item : List ℕ → Read A) (n : ℕ) (bytes : List ℕ) (stop : Stop) → 0 < n → Stops stop (item bytes)
+      → Stops stop (many item n bytes)
+  many_stops item zero bytes stop h s = absurd (omega arith)
+  many_stops item (suc n) bytes stops.Memory h s = tt
+  many_stops item (suc n) bytes stops.More h s = rw (many_one, s) refl
+  many_stops item (suc n) bytes (stops.Bad reason left) h s = rw (many_one, s) refl
+
+  pub with_front_stops : (front : List A) (stop : Stop) (r : Read (List A)) → Stops stop r → Stops stop (with_front front r)
+  with_front_stops front stops.Memory r h = tt
+  with_front_stops front stops.More r h = ap (with_front front) h
+  with_front_stops front (stops.Bad reason left) r h = ap (with_front front) h
 
   pub many_done : (item : List ℕ → Read A) (front : List A) (n : ℕ) (bytes : List ℕ) → n ≤ 0 → with_front front (many item n bytes)
       ≡ Got (front, bytes)
@@ -85,18 +89,12 @@ module _ {A : Type 0} where
       → HasMany item count counter front rest bytes → Stops stop (many item count bytes)
   HasMany-stops item count counter front rest bytes stop lt s h =
       same_stop stop (with_front front (many item (count - counter) rest)) (many item count bytes) h.so_far
-      (many_stops item front (count - counter) rest stop (omega arith) s)
+      (with_front_stops front stop (many item (count - counter) rest)
+      (many_stops item (count - counter) rest stop (omega arith) s))
 
   pub HasMany-done : (item : List ℕ → Read A) (count counter : ℕ) (front : List A) (rest bytes : List ℕ) → count ≤ counter
       → HasMany item count counter front rest bytes → many item count bytes ≡ Got (front, rest)
   HasMany-done item count counter front rest bytes le h = sym h.so_far ∙ many_done item front (count - counter) rest (omega arith)
-
-  -- what a loop keeps that may stop in mid-count, and be taken up again with more bytes
-  pub record Continues (item : List ℕ → Read A) (front : List A) (left read : ℕ) (start : List A) (count : ℕ) (bytes : List ℕ) : Type 0
-    where
-      pub in_range : read ≤ length bytes
-      pub same : (tail : List ℕ) → with_front front (many item left (drop read bytes ++ tail))
-          ≡ with_front start (many item count (bytes ++ tail))
 
   pub Continues-begin : (item : List ℕ → Read A) (start : List A) (count : ℕ) (bytes : List ℕ)
       → Continues item start count 0 start count bytes
@@ -132,3 +130,42 @@ module _ {A : Type 0} where
       let r = steady.rest (drop read bytes) (first, rest) got in
       let m : length rest ≡ length bytes - (read + r.0) = ap length (r.2 ∙ drop-drop r.0 read bytes) ∙ length-drop (read + r.0) bytes in
       omega arith
+
+  -- what a loop over the bytes that are left keeps
+  pub record Remains (item : List ℕ → Read A) (front : List A) (left : ℕ) (rest : List ℕ) (start : List A) (count : ℕ) (bytes : List ℕ)
+      : Type 0 where
+    pub counted : length front + left ≡ length start + count
+    pub room : length rest ≤ length bytes
+    pub behind : drop (length bytes - length rest) bytes ≡ rest
+    pub continues : Continues item front left (length bytes - length rest) start count bytes
+
+  pub Remains-begin : (item : List ℕ → Read A) (start : List A) (count : ℕ) (bytes : List ℕ)
+      → Remains item start count bytes start count bytes
+  Remains-begin item start count bytes =
+      let none : length bytes - length bytes ≡ 0 = omega arith in
+      record {
+        counted = refl;
+        room = omega arith;
+        behind = ap (λ (n : ℕ). drop n bytes) none;
+        continues =
+            subst (λ (n : ℕ). Continues item start count n start count bytes) (sym none) (Continues-begin item start count bytes);
+      }
+
+  pub Remains-next : (item : List ℕ → Read A) → IsSteady 0 item
+      → (front : List A) (left : ℕ) (rest : List ℕ) (start : List A) (count : ℕ) (bytes : List ℕ) (first : A) (behind : List ℕ)
+      → 0 < left → item rest ≡ Got (first, behind) → Remains item front left rest start count bytes
+      → Remains item (front ++ first ∷ []) (left - 1) behind start count bytes
+  Remains-next item steady front left rest start count bytes first behind positive got h =
+      let in_range : length rest ≤ length bytes = h.room in
+      let read : ℕ = length bytes - length rest in
+      let g : item (drop read bytes) ≡ Got (first, behind) = ap item h.behind ∙ got in
+      let r = steady.rest rest (first, behind) got in
+      let e : behind ≡ drop (read + r.0) bytes = r.2 ∙ ap (drop r.0) (sym h.behind) ∙ drop-drop r.0 read bytes in
+      let m : length behind ≡ length bytes - (read + r.0) = ap length e ∙ length-drop (read + r.0) bytes in
+      let n : length bytes - length behind ≡ read + r.0 = omega (arith, r.1) in
+      record {
+        counted = omega (arith, length-append front (first ∷ []), h.counted);
+        room = omega (arith, r.1);
+        behind = ap (λ (i : ℕ). drop i bytes) n ∙ sym e;
+        continues = Continues-next item steady front left read start count bytes first behind positive g h.continues;
+      }

@@ -20,7 +20,8 @@ use Rattle.record_codec.specs.declared.partial.RunSoFar.{RunSoFar}
 use Rattle.record_codec.specs.declared.partial.Partial.TheVariants as partials
 use Rattle.record_codec.specs.Gives.{Stops}
 use Rattle.record_codec.specs.Resuming.{framed, Resumes, AnswersBy}
-use Rattle.record_codec.proofs.Many.{many_stops, many_done, Continues}
+use Rattle.record_codec.specs.Taking.{Continues}
+use Rattle.record_codec.proofs.Many.{many_stops, with_front_stops, many_done}
 
 pub stops_then : {A B : Type 0} (stop : Stop) (r : Read A) (f : A × List ℕ → Read B) → Stops stop r → Stops stop (r >>= f)
 stops_then stops.Memory r f h = tt
@@ -61,7 +62,8 @@ init_stops place p read start count bytes stop positive s h =
     let front = p.elements in
     let one : Stops stop (with_front front (many element_at p.left (drop read bytes)) >>= to_init) =
     stops_then stop (with_front front (many element_at p.left (drop read bytes))) to_init
-    (many_stops element_at front p.left (drop read bytes) stop positive s) in
+    (with_front_stops front stop (many element_at p.left (drop read bytes))
+    (many_stops element_at p.left (drop read bytes) stop positive s)) in
     let two : Stops stop (init_from front p.left (drop read bytes)) = rw init_is one in (
       stops_then stop (init_from front p.left (drop read bytes)) (λ x. Got (items.Frame x.0, x.1)) two,
       init_resumes place p read start count bytes h,
@@ -98,14 +100,15 @@ run_resumes place p read start count bytes h tail =
     ∙ ap (λ (q : Read (List DrawnElement)). q >>= to_run p.input) (h.same tail)
     ∙ sym (run_is p.format p.input start count (bytes ++ tail)))
 
+-- reading the elements that are left stops
 pub run_stops : (place : Place) (p : RunSoFar) (read : ℕ) (start : List DrawnElement) (count : ℕ) (bytes : List ℕ) (stop : Stop)
-    → 0 < p.left → Stops stop (drawn_at p.format (drop read bytes)) → Continues (drawn_at p.format) p.elements p.left read start count bytes
+    → Stops stop (many (drawn_at p.format) p.left (drop read bytes))
+    → Continues (drawn_at p.format) p.elements p.left read start count bytes
     → AnswersBy (λ more. framed (finished_from p.format p.input start count more)) place (partials.Run p) (drop read bytes) (Err stop) bytes
-run_stops place p read start count bytes stop positive s h =
+run_stops place p read start count bytes stop s h =
     let elements = many (drawn_at p.format) p.left (drop read bytes) in
     let one : Stops stop (with_front p.elements elements >>= to_run p.input) =
-    stops_then stop (with_front p.elements elements) (to_run p.input)
-    (many_stops (drawn_at p.format) p.elements p.left (drop read bytes) stop positive s) in
+    stops_then stop (with_front p.elements elements) (to_run p.input) (with_front_stops p.elements stop elements s) in
     let two : Stops stop (finished_from p.format p.input p.elements p.left (drop read bytes)) = rw run_is one in (
       stops_then stop (finished_from p.format p.input p.elements p.left (drop read bytes)) (λ x. Got (items.Frame x.0, x.1)) two,
       run_resumes place p read start count bytes h,

@@ -1,9 +1,8 @@
 //! Bytes of a given length, and lists of given counts.
-ghost use Rattle.std.specs.Prelude.{◌≡◌, ◌≤◌, length, IfOk, IfErr};
+ghost use Rattle.std.specs.Prelude.{◌≡◌, ◌≤◌, length, IfOk};
 ghost use Rattle.record_grammar.specs.Read.{raw_at};
 ghost use Rattle.record_grammar.specs.Grammar.{string_at, element_at, drawn_at};
-ghost use Rattle.record_codec.specs.Gives.{Gives, Stops, StandsSpelled};
-ghost use Rattle.det_values.specs.declared.format.Format.TheVariants.{Two};
+ghost use Rattle.record_codec.specs.Gives.{Gives};
 ghost use Rattle.det_values.specs.Spelling.{an_element};
 
 use crate::number::{u16_at, u32_at};
@@ -59,16 +58,6 @@ pub fn drawn(format: Format, bytes: &[u8]) -> Result<(&[u8], u32, &[u8]), Stop>
             Ok((bytes, draws, rest))
         }
     }
-}
-
-/// An element with its draws as format Two spells it, where it stands.
-pub fn spelled_element(bytes: &[u8]) -> Result<(&[u8], &[u8]), Stop>
-    ensures ok { IfOk result (λ x. StandsSpelled x.0.now x.1.now (drawn_at Two bytes.now)) }
-    ensures err { IfErr result (λ stop. Stops stop (drawn_at Two bytes.now)) }
-{
-    let (_, _, rest) = drawn(Format::Two, bytes)?;
-    let len = bytes.len() - rest.len();
-    Ok((&bytes[..len], rest))
 }
 
 /// An output. Its bytes are copied once, when all of them are there.

@@ -16,6 +16,7 @@ mod put_frame;
 mod put_header;
 mod resume;
 mod stop;
+mod taking;
 
 pub use decode_error::DecodeError;
 pub use decoder::Decoder;

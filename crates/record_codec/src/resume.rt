@@ -1,15 +1,14 @@
 //! Reading an item on from where it was left.
-ghost use Rattle.std.specs.Prelude.{◌≡◌, ◌<◌, ◌≤◌, length, drop, IfOk, IfErr, OnErr};
-ghost use Rattle.det_values.specs.declared.format.Format.TheVariants.{One, Two};
-ghost use Rattle.record_grammar.specs.Grammar.{drawn_at, init_from, finished_from, item_at};
-ghost use Rattle.record_codec.specs.Gives.{Stops, Pushed};
+ghost use Rattle.std.specs.Prelude.{◌≡◌, ◌≤◌, length, drop};
+ghost use Rattle.record_grammar.specs.Grammar.{init_from, finished_from, item_at};
 ghost use Rattle.record_codec.specs.Resuming.{framed, resume, Answers};
 
 use crate::begin::begin;
-use crate::field::{drawn, element, output, spelled_element};
+use crate::field::{element, output};
 use crate::partial::{Begun, InitSoFar, Partial, RunSoFar, Step, stopped};
 use crate::stop::Stop;
-use det_values::{DrawnElements, Format, Frame, Outcome, RunFrame};
+use crate::taking::take_drawn;
+use det_values::{Frame, Outcome, RunFrame};
 use record_grammar::{Item, Place};
 use std::alloc::Global;
 
@@ -54,54 +53,6 @@ fn go_on_init(start: InitSoFar, bytes: &[u8], place: Place) -> Step
     }
 }
 
-/// Reads an element of format One, and adds it.
-fn push_undrawn<'a>(elements: &mut DrawnElements, bytes: &'a [u8]) -> Result<&'a [u8], Stop>
-    requires { length elements.old < 65536 }
-    ensures ok { IfOk result (λ rest. Pushed elements.old elements.new rest.now
-        (drawn_at One bytes.now)) }
-    ensures err { IfErr result (λ stop. Stops stop (drawn_at One bytes.now)) }
-    ensures kept { OnErr result (elements.new ≡ elements.old) }
-{
-    let (shown, draws, rest) = drawn(Format::One, bytes)?;
-    match elements.push(shown, draws) {
-        Ok(()) => Ok(rest),
-        Err(_) => Err(Stop::Memory),
-    }
-}
-
-/// Reads an element of format Two, and adds it as it is spelled.
-fn push_spelled<'a>(elements: &mut DrawnElements, bytes: &'a [u8]) -> Result<&'a [u8], Stop>
-    requires { length elements.old < 65536 }
-    ensures ok { IfOk result (λ rest. Pushed elements.old elements.new rest.now
-        (drawn_at Two bytes.now)) }
-    ensures err { IfErr result (λ stop. Stops stop (drawn_at Two bytes.now)) }
-    ensures kept { OnErr result (elements.new ≡ elements.old) }
-{
-    let (spelled, rest) = spelled_element(bytes)?;
-    match elements.push_spelled(spelled) {
-        Ok(()) => Ok(rest),
-        Err(_) => Err(Stop::Memory),
-    }
-}
-
-/// Reads an element, adds it, and gives the bytes after it. What stops it adds nothing.
-fn push_drawn<'a>(
-    elements: &mut DrawnElements,
-    format: Format,
-    bytes: &'a [u8],
-) -> Result<&'a [u8], Stop>
-    requires { length elements.old < 65536 }
-    ensures ok { IfOk result (λ rest. Pushed elements.old elements.new rest.now
-        (drawn_at format bytes.now)) }
-    ensures err { IfErr result (λ stop. Stops stop (drawn_at format bytes.now)) }
-    ensures kept { OnErr result (elements.new ≡ elements.old) }
-{
-    match format {
-        Format::One => push_undrawn(elements, bytes),
-        Format::Two => push_spelled(elements, bytes),
-    }
-}
-
 /// Reads the elements of a finished run that are left, and the output.
 fn go_on_run(alloc: Global, start: RunSoFar, bytes: &[u8], place: Place) -> Step
     ensures within { result.read ≤ length bytes.now }
@@ -116,37 +67,21 @@ fn go_on_run(alloc: Global, start: RunSoFar, bytes: &[u8], place: Place) -> Step
         left,
     } = start;
     let mut elements = elements;
-    let mut left = left;
-    let mut read = 0;
-    while left > 0 {
-        match push_drawn(&mut elements, format, rest_of(bytes, read)) {
-            Err(stop) => return stopped(
-                Partial::Run(RunSoFar {
-                    format,
-                    input,
-                    elements,
-                    left,
-                }),
-                read,
-                stop,
-            ),
-            Ok(rest) => {
-                read = bytes.len() - rest.len();
-                left -= 1;
-            }
-        }
-    }
-    match output(alloc, rest_of(bytes, read)) {
-        Err(stop) => stopped(
-            Partial::Run(RunSoFar {
+    let taken = take_drawn(&mut elements, format, left, bytes);
+    let ended = match taken.stop {
+        Some(stop) => Err(stop),
+        None => output(alloc, rest_of(bytes, taken.read)),
+    };
+    match ended {
+        Err(stop) => {
+            let run = RunSoFar {
                 format,
                 input,
                 elements,
-                left,
-            }),
-            read,
-            stop,
-        ),
+                left: taken.left,
+            };
+            stopped(Partial::Run(run), taken.read, stop)
+        }
         Ok((output, rest)) => {
             let outcome = Outcome::Finished { elements, output };
             Step {

@@ -1,6 +1,6 @@
 //! Laws of whole runs: what the record of a run is read as, what is printed of it, what its replay
-//! gives, when copies of it agree or have a majority, when it is genuine, what it is upgraded to, and
-//! what a chain makes of its first client. Each function is empty and its contract is the law.
+//! gives, when copies of it agree or have a majority, when it is genuine, what it is upgraded to,
+//! and what a chain makes of its first client. Each function is empty and its contract is the law.
 #![tactic(auto)]
 
 ghost use Rattle.run_laws.specs.Statements.{RecordIsRead, DemoIsRead, RecordIsShown, DemoIsShown};

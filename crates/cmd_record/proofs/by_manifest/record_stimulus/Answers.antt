@@ -13,7 +13,8 @@ use Rattle.cmd_record.proofs.by_manifest.record_stimulus.Goals as goal
 
 pub returns-in-Err-clause-meets : goal.returns-in-Err-clause-meets
 returns-in-Err-clause-meets g c =
-    rw c.from.ensures (met-end c.args.task.now.strict (g.S.Slots.sees c.args.shelf.now) c.args.task.now.manifest.now c.args.task.now.stimulus.now c.args.task.now.seed _ _ _
+    let task = c.args.task.now in
+    rw c.from.ensures (met-end task.strict (g.S.Slots.sees c.args.shelf.now) task.manifest.now task.stimulus.now task.seed _ _ _
     c.in-Err.end c.in-Err.ensures.refused c.in-Err.ensures.traffic.cause c.in-Err.ensures.writes_nothing)
 
 pub returns-in-Err-clause-ends : goal.returns-in-Err-clause-ends
@@ -33,7 +34,8 @@ returns-in_default-clause-judged g c = λ tells.
 
 pub record_named-requires-clause-good : goal.record_named-requires-clause-good
 record_named-requires-clause-good g c κs lives =
-    profile-good c.in-Ok.setup c.in-Ok-profile.profile c.kind-kind.result (unwrap_or c.args.task.now.seed 0) c.in-Ok.ensures.good c.kind-kind.ensures
+    profile-good c.in-Ok.setup c.in-Ok-profile.profile c.kind-kind.result (unwrap_or c.args.task.now.seed 0)
+    c.in-Ok.ensures.good c.kind-kind.ensures
     (c.in-Ok-profile.ensures.profile ∙ ap (profile_of c.in-Ok.setup) c.unwrap_or.ensures)
 
 pub returns-clause-ends : goal.returns-clause-ends
@@ -44,19 +46,22 @@ returns-clause-meets g c =
     let first = g.S.Slots.sees c.args.shelf.now in
     let mid = g.S.Slots.sees c.read_setup.new.shelf in
     let is = c.in-Ok.ensures.manifest in
-    let profile = c.in-Ok-profile.ensures.profile ∙ ap (profile_of c.in-Ok.setup) c.unwrap_or.ensures in
+    let task = c.args.task.now in
+    let setup = c.in-Ok.setup in
+    let profile = c.in-Ok-profile.ensures.profile ∙ ap (profile_of setup) c.unwrap_or.ensures in
     meets-as _ _ _ _ _ _ _ _ _ _
-    (still-told c.args.task.now.strict first c.args.task.now.manifest.now c.args.task.now.stimulus.now c.in-Ok.setup is mid c.read_setup.ensures.holds)
-    (by-told c.args.task.now.strict first c.args.task.now.manifest.now c.args.task.now.stimulus.now c.in-Ok.setup is mid c.args.task.now.seed c.kind-kind.result
-    c.in-Ok-profile.profile c.read_setup.ensures.holds c.kind-kind.ensures profile)
+    (still-told task.strict first task.manifest.now task.stimulus.now setup is mid c.read_setup.ensures.holds)
+    (by-told task.strict first task.manifest.now task.stimulus.now setup is mid task.seed c.kind-kind.result c.in-Ok-profile.profile
+    c.read_setup.ensures.holds c.kind-kind.ensures profile)
     (rose-later _ _ _ c.read_setup.ensures.traffic.counted) c.record_named.ensures.meets
 
 pub returns-clause-asked : goal.returns-clause-asked
 returns-clause-asked g c =
-    asks-then-prefix _ _ _ (c.args.task.now.manifest.now ∷ []) (c.args.task.now.stimulus.now ∷ []) c.read_setup.ensures.asked c.record_named.ensures.asked
+    asks-then-prefix _ _ _ (c.args.task.now.manifest.now ∷ []) (c.args.task.now.stimulus.now ∷ [])
+    c.read_setup.ensures.asked c.record_named.ensures.asked
 
 pub returns-clause-judged : goal.returns-clause-judged
 returns-clause-judged g c =
-    asked-both c.args.task.now.strict (g.S.Slots.sees c.args.shelf.now) c.args.task.now.manifest.now c.args.task.now.stimulus.now c.in-Ok.setup
-    c.in-Ok.ensures.manifest _
-    (asks-then-prefix _ _ _ (c.args.task.now.manifest.now ∷ []) (c.args.task.now.stimulus.now ∷ []) c.read_setup.ensures.asked c.record_named.ensures.asked)
+    let task = c.args.task.now in
+    asked-both task.strict (g.S.Slots.sees c.args.shelf.now) task.manifest.now task.stimulus.now c.in-Ok.setup c.in-Ok.ensures.manifest _
+    (asks-then-prefix _ _ _ (task.manifest.now ∷ []) (task.stimulus.now ∷ []) c.read_setup.ensures.asked c.record_named.ensures.asked)

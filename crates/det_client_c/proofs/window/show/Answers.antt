@@ -11,6 +11,7 @@ returns-clause-seen c =
     let second : c.copy_within-2.new.self
     ≡ copy_within c.copy_within.new.self w.capacity (w.capacity + w.arriving) (w.seen - c.args.gone) =
     c.copy_within-2.ensures.after
-    ∙ (λ i. copy_within c.copy_within.new.self (c.from-waiting.ensures i) (c.from-waiting.ensures i + c.from.ensures i) (c.from-4.ensures i)) in
+    ∙ (λ i. copy_within c.copy_within.new.self (c.from-waiting.ensures i) (c.from-waiting.ensures i + c.from.ensures i)
+    (c.from-4.ensures i)) in
     moved _ _ _ c.args.gone w.seen w.capacity w.arriving c.requires.gone c.requires.fits.seen c.requires.fits.arriving
     c.requires.fits.room first second

@@ -2,7 +2,8 @@ use Rattle.std.proofs.Common.{rules, ◌≡◌, [], ◌∷◌, drop, arith, refl
 use Rattle.record_grammar.specs.Read.{Got}
 use Rattle.record_grammar.specs.Grammar.{element_at}
 use Rattle.record_grammar.proofs.SteadyFields.{element_steady}
-use Rattle.record_codec.proofs.Many.{Continues, Continues-next, Continues-room}
+use Rattle.record_codec.specs.Taking.{Continues}
+use Rattle.record_codec.proofs.Many.{Continues-next, Continues-room}
 use Rattle.record_codec.proofs.Resumed.{init_resumes, init_stops, init_ends}
 use Rattle.record_codec.proofs.resume.go_on_init.Goals as goal
 

@@ -1,6 +1,6 @@
 use Rattle.std.proofs.Common.{◌+◌, ◌≤◌, length}
 use Rattle.record_grammar.specs.Grammar.{element_at}
-use Rattle.record_codec.proofs.Many.{Continues}
+use Rattle.record_codec.specs.Taking.{Continues}
 use Rattle.record_codec.proofs.resume.go_on_init.Given as goal
 
 abbrev pub invariant-loop-left : goal.invariant-loop-left
