@@ -5,10 +5,10 @@
     python3 tools/build.py det det_lane det_twin   several, one after another
     python3 tools/build.py det --jobs 2            at most so many crates at a time
 
-The crates below a program are built side by side, each behind those that it uses: without --jobs as
-many at a time as there are processors and memory for. Standard error takes a line whenever
-something changed. The whole log of a program's build is out/build/NAME.log. Two builds in one
-checkout take turns.
+The crates below a program are built side by side, each behind those that it uses. --jobs counts
+those that wait for another one too: without it there are four for each processor, or as many as
+there is memory for. Standard error takes a line whenever something changed. The whole log of a
+program's build is out/build/NAME.log. Two builds in one checkout take turns.
 
 It ends with 0 where all programs are built, with 70 where one can't be, and with 130 where it is
 stopped by Ctrl-C. Python's standard library is all that it needs.
@@ -31,6 +31,7 @@ from typing import Iterator, Optional
 
 sys.dont_write_bytecode = True
 
+from build_order import niceness_of, set_niceness  # noqa: E402
 from build_progress import Progress, seconds_of, tell  # noqa: E402
 from crate_list import CRATES, TOP, is_built, listed_crates, needed_by, program_file  # noqa: E402
 
@@ -39,8 +40,11 @@ LOCK = LOGS / "lock"
 # Exit statuses: a program can't be built (no program of bin/ ends with it), and Ctrl-C.
 NOT_BUILT = 70
 INTERRUPTED = 130
-# Bytes of memory that a check of one crate may take.
-MOST_MEMORY = 3_000_000_000
+# How many crates are begun for each processor. Most of them wait for another one.
+PLACES = 4
+# Bytes of memory for a crate that is begun. A check takes 0.8 to 2.3 GB, sixteen that were begun took
+# up to 10 GB, and the look over the sources of `det` before them 5.4 GB.
+MEMORY = 1_500_000_000
 # Lines of a log that are shown of what failed.
 SHOWN = 15
 # How lines of a log begin that count modules.
@@ -67,11 +71,12 @@ def free_memory() -> int:
     used = number_in(group / "memory.current", r"(\d+)")
     known = [] if free is None else [1024 * free]
     known += [] if most is None or used is None else [most - used]
-    return min(known, default=MOST_MEMORY)
+    return min(known, default=MEMORY)
 
 
 def jobs_that_fit() -> int:
-    return max(1, min(len(os.sched_getaffinity(0)), free_memory() // MOST_MEMORY))
+    processors = len(os.sched_getaffinity(0))
+    return max(1, min(PLACES * processors, free_memory() // MEMORY))
 
 
 @contextmanager
@@ -138,6 +143,7 @@ def stop_on_failure(progress: Progress, log: Path) -> None:
 def build_crates(progress: Progress, log: Path) -> None:
     """Builds the crates below a program side by side, and checks the program's own."""
     words = ["rt", "all", "check", "--jobs", str(progress.jobs)]
+    niceness = niceness_of(progress.uses, progress.seconds)
     with started(words, CRATES / progress.program, log) as command:
         is_running = True
         while is_running:
@@ -146,6 +152,7 @@ def build_crates(progress: Progress, log: Path) -> None:
             progress.read(text)
             stop_on_failure(progress, log)
             progress.tell()
+            set_niceness(niceness)
             time.sleep(PAUSE if is_running else 0)
     if command.returncode:
         told = part_of(text, progress.program)
@@ -173,7 +180,7 @@ def build(program: str, jobs: Optional[int]) -> None:
     progress = Progress(program, uses, jobs or jobs_that_fit(), seconds_of(needed))
     log = LOGS / f"{program}.log"
     log.write_text("")
-    tell(program, f"building {len(needed)} crates, {progress.jobs} at a time; log: {log}")
+    tell(program, f"building {len(needed)} crates, at most {progress.jobs} at a time; log: {log}")
     build_crates(progress, log)
     link(program, log)
     os.utime(program_file(program), (begun, begun))

@@ -2,6 +2,7 @@
 
 from __future__ import annotations
 
+import os
 import re
 import sys
 import time
@@ -14,9 +15,14 @@ SECONDS = TOP / "tools" / "build_seconds.txt"
 # What a crate takes that the table lacks: seconds for itself, and lines that take one more.
 AT_LEAST = 20
 LINES_IN_A_SECOND = 20
-# The pace of a build is taken from what it did once it runs so many seconds, within bounds.
+# Seconds that rt looks over all sources before the first crate, and that linking takes.
+LOOK = 130
+LINK = 100
+# The pace of a build is taken from what it did in so many seconds or more, within bounds.
 SETTLED = 60
-BOUNDS = (0.2, 10.0)
+BOUNDS = (0.2, 3.0)
+# The part of a crate at work that may count as done.
+MOST_GONE = 0.9
 # rt heads what it prints of a crate by its name, and says where it waits for another rt.
 DONE = re.compile(r"^== (\w+)$", re.M)
 WAITS = re.compile(r"^rt: (.*\bwaiting for .*)$", re.M)
@@ -48,9 +54,9 @@ class Progress:
     uses: dict[str, list[str]]
     jobs: int
     seconds: dict[str, float]
-    # Those whose lines the log has, and those that were seen at work.
+    # Those whose lines the log has, and those that were seen at work, with the time.
     done: set[str] = field(default_factory=set)
-    worked: set[str] = field(default_factory=set)
+    worked: dict[str, float] = field(default_factory=dict)
     begun: float = field(default_factory=time.time)
     told: str = ""
     # The lines in which rt said that it waits.
@@ -68,7 +74,8 @@ class Progress:
         """The crates at work. rt makes the folder of a library first, and writes its stamp last."""
         made = {name: CRATES / name / "out" / "rlib" for name in self.uses if name not in self.done}
         found = [name for name, it in made.items() if self.is_begun(it) and not has_stamp(it)]
-        self.worked.update(found)
+        for name in found:
+            self.worked.setdefault(name, time.time())
         return found
 
     def is_begun(self, folder: Path) -> bool:
@@ -81,21 +88,39 @@ class Progress:
         return [name for name in done if not has_stamp(CRATES / name / "out" / "rlib")]
 
     def seconds_left(self) -> float:
-        """What is left, dealt to all jobs or along its longest chain, at the pace so far."""
-        chains: dict[str, float] = {}
-        left = {name: 0 if name in self.done else self.seconds[name] for name in self.uses}
-        for name, below in self.uses.items():
-            chains[name] = left[name] + max((chains[it] for it in below), default=0)
-        return self.pace() * max(sum(left.values()) / self.jobs, *chains.values())
+        """What is left by the table, at the pace so far."""
+        seconds = self.at_table({name: self.part_left(name) for name in self.uses})
+        if not self.worked and not self.done:
+            return max(self.begun + LOOK - time.time(), 0) + seconds + LINK
+        return self.pace(seconds) * seconds + LINK
 
-    def pace(self) -> float:
-        """How much longer it takes than the table says; what is at work counts as half done."""
-        elapsed = time.time() - self.begun
-        done = sum(self.seconds[name] for name in self.worked & self.done)
-        half = sum(self.seconds[name] for name in self.worked - self.done) / 2
-        if elapsed < SETTLED or not done + half:
+    def part_left(self, name: str) -> float:
+        """Which part of a crate is left: of one at work by the time since it was seen, as if the
+        table were right, and some to its end."""
+        if name in self.done:
+            return 0
+        gone = (time.time() - self.worked.get(name, time.time())) / self.seconds[name]
+        return 1 - min(gone, MOST_GONE)
+
+    def at_table(self, parts: dict[str, float]) -> float:
+        """What the table gives to these parts of crates: dealt to all processors, or along their
+        longest chain."""
+        seconds = {name: self.seconds[name] * parts.get(name, 0) for name in self.uses}
+        chains: dict[str, float] = {}
+        for name, below in self.uses.items():
+            chains[name] = seconds[name] + max((chains[it] for it in below), default=0)
+        at_once = min(self.jobs, len(os.sched_getaffinity(0)))
+        return max(sum(seconds.values()) / at_once, *chains.values())
+
+    def pace(self, left: float) -> float:
+        """How much longer it takes than the table says, by what was done since the first crate was
+        at work. Crates that were never seen at work stood there before."""
+        elapsed = time.time() - min(self.worked.values(), default=time.time())
+        built = self.uses.keys() - self.done | self.worked.keys()
+        gone = self.at_table({name: 1 for name in built}) - left
+        if elapsed < SETTLED or gone <= 0:
             return 1
-        return min(max(elapsed * self.jobs / (done + half), BOUNDS[0]), BOUNDS[1])
+        return min(max(elapsed / gone, BOUNDS[0]), BOUNDS[1])
 
     def tell(self) -> None:
         """Writes a line to standard error where something changed."""

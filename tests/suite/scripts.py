@@ -31,9 +31,10 @@ SHOWN = 12
 
 
 def given_programs(script: Path, programs: Programs) -> list[str]:
-    """The options by which a script takes the programs: their folder, or each that it wants."""
+    """The options by which a script takes the programs, as it says at its head or reads them: their
+    folder, or each that it wants."""
     text = script.read_text()
-    if '"--programs"' in text:
+    if "--programs FOLDER" in text:
         return ["--programs", str(programs.folder)]
     one_by_one = {"--program": "det", "--det": "det", "--lane": "det_lane"}
     taken = [(option, name) for option, name in one_by_one.items() if f'"{option}"' in text]

@@ -1,5 +1,5 @@
 -- What a shelf over children shows.
-use Rattle.std.specs.Prelude.{◌≡◌, ℕ, None, IsSome}
+use Rattle.std.specs.Prelude.{ℕ, None, IsSome}
 use mathlib.Core.Path.{refl, ◌∙◌}
 use Rattle.det_edges.specs.Shelf.{ShelfState}
 use Rattle.children.specs.Spawners.{SpawnerState, Stays}

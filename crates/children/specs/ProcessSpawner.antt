@@ -26,5 +26,6 @@ EndedWith s child status =
 pub record HasRoom {R A B C D : Type 0} {w : WriteGhosts B} {r : ReadGhosts C} {e : ReadGhosts D}
     (s : ProcessSpawner R A B C D w r e) : Type 0 where
   pub children : vec_len s.children < vec_capacity s.children
+  pub outputs : vec_len s.outputs < vec_capacity s.outputs
   pub at_end : vec_len s.at_end < vec_capacity s.at_end
   pub finished : vec_len s.finished < vec_capacity s.finished

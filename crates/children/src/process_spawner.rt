@@ -5,8 +5,15 @@ ghost use Rattle.children.specs.Processes.{code_of};
 use crate::{SpawnFailed, Spawner};
 use det_edges::{push_within, read_trying};
 use std::alloc::Global;
-use std::io;
-use std::process::{Child, Command, Processes, Stdio};
+use std::io::{self, BufReader};
+use std::process::{Child, Command, OpenProcess, Processes, Stdio};
+
+/// How many bytes of a child's output are read at once, at most: what a pipe of Linux holds. So the
+/// child can fill it again while they are looked at.
+const READ_AHEAD: usize = 65_536;
+
+/// The output of a child.
+type Output<R> = BufReader<<<R as Processes>::Started as OpenProcess>::Stdout>;
 
 /// Starts programs of the system. A child's input is empty, its output is a pipe, and what it
 /// writes to standard error is dropped. It tells neither words nor bytes nor statuses.
@@ -28,12 +35,15 @@ pub struct ProcessSpawner<R: Processes> {
     rt: R,
     alloc: Global,
     children: Vec<Child<R::Started>>,
+    // What they write. A child that was given to `finish` has none.
+    outputs: Vec<Option<Output<R>>>,
     // Of which children a read met the end of the output.
     at_end: Vec<bool>,
     // Which children were given to `finish`.
     finished: Vec<bool>,
     faults: u64,
     ghost one_child_each: { vec_len children ≡ vec_len finished },
+    ghost one_output_each: { vec_len outputs ≡ vec_len finished },
     ghost one_end_each: { vec_len at_end ≡ vec_len finished },
 }
 
@@ -50,6 +60,7 @@ impl<R: Processes + Copy> ProcessSpawner<R> {
             rt: *rt,
             alloc,
             children: Vec::new(alloc),
+            outputs: Vec::new(alloc),
             at_end: Vec::new(alloc),
             finished: Vec::new(alloc),
             faults: 0,
@@ -66,17 +77,18 @@ impl<R: Processes> ProcessSpawner<R> {
     ghost use Rattle.children.specs.ProcessSpawner.{process_state, finished_of, HasRoom};
 
     // Keeps a child that was started.
-    fn keep(&mut self, child: Child<R::Started>)
+    fn keep(&mut self, child: Child<R::Started>, output: Output<R>)
         requires { HasRoom self.old }
         ensures { process_state self.new
             ≡ untold (finished_of self.old ++ false ∷ []) (process_state self.old).faults }
     {
         push_within(&mut self.children, child);
+        push_within(&mut self.outputs, Some(output));
         push_within(&mut self.at_end, false);
         push_within(&mut self.finished, false);
     }
 
-    // Starts a child. The room for it is taken first, so that no process is started in vain.
+    // Starts a child. The room for it in the lists is taken first.
     fn add(&mut self, words: &[String]) -> Option<u32>
         requires { 0 < length words.now }
         ensures starts { IfSome result
@@ -86,10 +98,15 @@ impl<R: Processes> ProcessSpawner<R> {
     {
         let number = u32::try_from(self.children.len()).ok()?;
         self.children.reserve(1).ok()?;
+        self.outputs.reserve(1).ok()?;
         self.at_end.reserve(1).ok()?;
         self.finished.reserve(1).ok()?;
-        let child = launch(&self.rt, self.alloc, words).ok()?;
-        self.keep(child);
+        let mut child = launch(&self.rt, self.alloc, words).ok()?;
+        let Some(output) = output_of::<R>(self.alloc, &mut child) else {
+            let _ = end_of::<R>(&mut child, false);
+            return None;
+        };
+        self.keep(child, output);
         Some(number)
     }
 
@@ -126,7 +143,7 @@ impl<R: Processes + Copy> Spawner for ProcessSpawner<R> {
         if self.finished[index] {
             return Ok(0);
         }
-        let moved = read_output::<R>(&mut self.children[index], buf);
+        let moved = read_output::<R>(&mut self.outputs[index], buf);
         if moved == Ok(0) && !buf.is_empty() {
             self.at_end[index] = true;
         }
@@ -148,6 +165,7 @@ impl<R: Processes + Copy> Spawner for ProcessSpawner<R> {
         let index = child as usize;
         self.finished[index] = true;
         let is_at_end = self.at_end[index];
+        self.outputs[index] = None;
         let status = end_of::<R>(&mut self.children[index], is_at_end);
         self.counted(status)
     }
@@ -167,14 +185,20 @@ fn launch<R: Processes>(rt: &R, alloc: Global, words: &[String]) -> io::Result<C
         .spawn(rt)
 }
 
+// The output of a child that was just started; none where there is no memory to read it ahead.
+fn output_of<R: Processes>(alloc: Global, child: &mut Child<R::Started>) -> Option<Output<R>> {
+    let pipe = child.stdout.take()?;
+    BufReader::with_capacity(alloc, READ_AHEAD, pipe).ok()
+}
+
 // One read of what a child writes. A child without an output has failed.
 fn read_output<R: Processes>(
-    child: &mut Child<R::Started>,
+    output: &mut Option<Output<R>>,
     buf: &mut [u8],
 ) -> Result<usize, SpawnFailed>
     ensures { IfOk result (λ n. n ≤ length buf.old) }
 {
-    match child.stdout.as_mut() {
+    match output.as_mut() {
         Some(output) => read_trying(output, buf).map_err(|_| SpawnFailed),
         None => Err(SpawnFailed),
     }
@@ -185,7 +209,6 @@ fn read_output<R: Processes>(
 fn end_of<R: Processes>(child: &mut Child<R::Started>, is_at_end: bool) -> Result<u8, SpawnFailed>
     ensures { IfOk result (λ status. code_of child.new ≡ Some (pos status)) }
 {
-    drop(child.stdout.take());
     if !is_at_end {
         let _ = child.kill();
     }

@@ -255,8 +255,8 @@ fn a_program_that_is_not_there_and_an_end_by_a_signal_fail(rt: HostRuntime) -> R
     Ok(())
 }
 
-// The output of a process that isn't one: a read that is interrupted and tried again, one that
-// fails, and the end.
+// The output of a process that isn't one: a read that is interrupted and tried again, which gives
+// three bytes, one that fails, and the end.
 #[derive(Drop)]
 struct Turns {
     made: u32,
@@ -267,7 +267,7 @@ impl Read for Turns {
         self.made = self.made.saturating_add(1);
         match self.made {
             1 => Err(io::Error::from(ErrorKind::Interrupted)),
-            2 => Ok(buf.len().min(1)),
+            2 => Ok(buf.len().min(3)),
             3 => Err(io::Error::from(ErrorKind::Other)),
             _ => Ok(0),
         }
@@ -311,7 +311,7 @@ impl Processes for NoProcesses {
 }
 
 #[test]
-fn a_failed_read_is_not_the_end_and_an_interrupted_one_is_tried_again(
+fn reads_go_ahead_are_tried_again_where_interrupted_and_a_failed_one_is_not_the_end(
     rt: HostRuntime,
 ) -> Result<(), Fail> {
     let alloc = rt.alloc();
@@ -322,7 +322,8 @@ fn a_failed_read_is_not_the_end_and_an_interrupted_one_is_tried_again(
         spawner.read(child, &mut buf),
         spawner.read(child, &mut buf),
         spawner.read(child, &mut buf),
+        spawner.read(child, &mut buf),
     ];
-    assert_eq!(rt; answers, [Ok(1), Err(SpawnFailed), Ok(0)]);
+    assert_eq!(rt; answers, [Ok(2), Ok(1), Err(SpawnFailed), Ok(0)]);
     Ok(())
 }
