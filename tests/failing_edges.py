@@ -50,6 +50,7 @@ INTERRUPTED = ("open", "read", "write", "wait")
 COPY_WORD, COPY = "2", 1
 COMMANDS = """
 det demo examples/bank.stim
+det demo examples/empty.stim
 det record examples/wheels.toml examples/wheels.stim --workers 2
 det record examples/bank.toml OUT/bad.stim
 det record OUT/bad.toml examples/bank.stim

@@ -27,7 +27,7 @@ from typing import Optional
 sys.dont_write_bytecode = True
 
 from suite import agreement, building, documents, installed, limits  # noqa: E402
-from suite import paths, scripts, stored  # noqa: E402
+from suite import pages, paths, scripts, stored  # noqa: E402
 from suite.test import NAMES, TOP, Programs, Skipped, Test, copied  # noqa: E402
 
 OK, SKIPPED, WRONG = "ok", "skipped", "WRONG"
@@ -74,6 +74,7 @@ def tests_of(programs: Programs) -> list[Test]:
         *installed.tests(programs),
         *stored.tests(programs),
         *agreement.tests(programs),
+        *pages.tests(programs),
         *paths.tests(programs),
     ]
 

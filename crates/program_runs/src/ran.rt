@@ -34,12 +34,6 @@ impl Ran {
         self.status == status && self.err.bytes() == line.as_bytes()
     }
 
-    /// Whether it wrote these bytes at this place.
-    pub fn holds_at(&self, at: usize, bytes: &[u8]) -> bool {
-        let all = self.out.bytes();
-        at <= all.len() && all[at..].starts_with(bytes)
-    }
-
     /// Whether it ended with this status, and what it wrote ends with this text.
     pub fn wrote_last(&self, status: u8, text: &str) -> bool {
         self.status == status && self.out.bytes().ends_with(text.as_bytes())
