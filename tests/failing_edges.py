@@ -150,6 +150,7 @@ def pieces() -> Iterator[Setting]:
         yield Setting(read=read)
     yield Setting(write=1)
     yield Setting(read=1, write=1)
+    yield Setting(read=7, write=7)
 
 
 def in_pieces(counts: Dict[str, int], base: Setting, most: int) -> Iterator[Setting]:
