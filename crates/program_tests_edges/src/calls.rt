@@ -1,7 +1,8 @@
 //! Calls of the shelf and of the output that fail in turn, and pieces of few bytes.
 use crate::{
-    Case, chain_case, check_case, compare_case, failing_reads, failing_writes, needs_case,
-    record_case, replay_case, salvage_case, show_case, two_cycles_case, upgrade_case, vote_case,
+    Case, chain_case, check_case, compare_case, dissent_case, failing_reads, failing_writes,
+    needs_case, record_case, replay_case, salvage_case, salvage_reports_case, show_case,
+    two_cycles_case, upgrade_case, vote_case,
 };
 use program_runs::{Edges, empty_run, run, two_cycles_stimulus};
 use std::alloc::Global;
@@ -166,7 +167,9 @@ fn pieces_of_any_length_give_the_same(rt: HostRuntime) -> Result<(), Fail> {
     same_in_pieces(&rt, alloc, &check_case(alloc)?)?;
     same_in_pieces(&rt, alloc, &upgrade_case(alloc)?)?;
     same_in_pieces(&rt, alloc, &salvage_case(alloc)?)?;
+    same_in_pieces(&rt, alloc, &salvage_reports_case(alloc)?)?;
     same_in_pieces(&rt, alloc, &vote_case(alloc)?)?;
+    same_in_pieces(&rt, alloc, &dissent_case(alloc)?)?;
     same_in_pieces(&rt, alloc, &chain_case(alloc)?)?;
     same_in_pieces(&rt, alloc, &needs_case(alloc)?)
 }

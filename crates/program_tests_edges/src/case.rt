@@ -84,6 +84,19 @@ pub fn vote_case(alloc: Global) -> Result<Case, AllocError> {
     })
 }
 
+/// The same copies, of which none dissents.
+pub fn dissent_case(alloc: Global) -> Result<Case, AllocError> {
+    Ok(Case {
+        words: "vote m s m --dissent",
+        is_twice: true,
+        manifest: Vec::from_slice(alloc, two_cycles_1())?,
+        stimulus: Vec::from_slice(alloc, two_cycles_1())?,
+        most_read: 7,
+        len: 8,
+        digest: "4153869138bfb5598ef9f2f5c70a8aa70fd9c33fa1b5d4f5c7987d7411492bd1",
+    })
+}
+
 /// The bank of two cycles, and a bank of the same manifest behind it.
 pub fn chain_case(alloc: Global) -> Result<Case, AllocError> {
     Ok(Case {
@@ -131,6 +144,19 @@ pub fn upgrade_case(alloc: Global) -> Result<Case, AllocError> {
 /// The record of two cycles, which is whole, salvaged.
 pub fn salvage_case(alloc: Global) -> Result<Case, AllocError> {
     given_again(alloc, "salvage m")
+}
+
+/// How much is salvaged of the record of two cycles, and its reports.
+pub fn salvage_reports_case(alloc: Global) -> Result<Case, AllocError> {
+    Ok(Case {
+        words: "salvage m --reports",
+        is_twice: false,
+        manifest: Vec::from_slice(alloc, two_cycles_1())?,
+        stimulus: Vec::new(alloc),
+        most_read: 7,
+        len: 47,
+        digest: "7b79441807caac720155d27a282e1112f4acedfcf244a5366a243c5eba9af54b",
+    })
 }
 
 /// The record of two cycles, which these words give again.

@@ -5,8 +5,8 @@ mod case;
 mod failing;
 
 pub use case::{
-    Case, chain_case, check_case, compare_case, needs_case, record_case, replay_case, salvage_case,
-    show_case, two_cycles_case, upgrade_case, vote_case,
+    Case, chain_case, check_case, compare_case, dissent_case, needs_case, record_case, replay_case,
+    salvage_case, salvage_reports_case, show_case, two_cycles_case, upgrade_case, vote_case,
 };
 pub use failing::{failing_reads, failing_writes};
 
