@@ -57,8 +57,8 @@ fn the_workers_of_a_simulated_run_meet(rt: HostRuntime) -> Result<(), Fail> {
     let gate = Arc::new(rt.alloc(), MeetGate::new())?;
     let ran = sim_through(&rt, rt.alloc(), &gate)?;
     assert!(rt; gate.met());
-    let summary =
-        b"sim 7\ncycles 200\nrefused 0\nbytes 52235088\nsha256 ed0f402596464e7c87bae1fad7ef47127b63eb3386280edcb60ca40c8b9ec4e9\n";
+    let summary = b"sim 7\ncycles 200\nrefused 0\nbytes 52235088\nsha256 \
+        ed0f402596464e7c87bae1fad7ef47127b63eb3386280edcb60ca40c8b9ec4e9\n";
     assert!(rt; ran.wrote(0, summary));
     Ok(())
 }
