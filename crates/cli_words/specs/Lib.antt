@@ -5,3 +5,4 @@ pub mod Command
 pub mod Ranges
 pub mod Reading
 pub mod Items
+pub mod Alone

@@ -2,6 +2,7 @@
 #![tactic(auto)]
 
 mod command;
+mod copies;
 pub mod laws;
 mod name_kind;
 mod names;
@@ -9,8 +10,10 @@ mod number;
 mod options;
 mod reading;
 mod table;
+mod text_word;
 
 pub use command::Command;
+pub use copies::copies_of;
 pub use name_kind::is_name;
 pub use names::Names;
 pub use number::number_of;
@@ -19,6 +22,7 @@ pub use reading::{meant, read_words};
 pub use table::{
     COMMANDS, CommandWord, NONE, NameKind, OPTIONS, OptionRow, OptionSet, OptionWord, Row,
 };
+pub use text_word::TextWord;
 
 #[cfg(test)]
 mod tests;

@@ -166,3 +166,40 @@ fn bad_words(rt: HostRuntime) -> Result<(), Fail> {
     }
     Ok(())
 }
+
+#[test]
+fn two_to_eight_copies(rt: HostRuntime) -> Result<(), Fail> {
+    assert_eq!(rt; copies_of("1"), None);
+    assert_eq!(rt; copies_of("2"), Some(2));
+    assert_eq!(rt; copies_of("8"), Some(8));
+    assert_eq!(rt; copies_of("9"), None);
+    assert_eq!(rt; copies_of("02"), None);
+    assert_eq!(rt; copies_of("two"), None);
+    Ok(())
+}
+
+/// The text that a word asks for.
+fn asked(word: &str) -> &'static str {
+    match TextWord::of(word) {
+        Some(TextWord::Help) => "the usage",
+        Some(TextWord::Version) => "the version",
+        None => "none",
+    }
+}
+
+#[test]
+fn words_that_ask_for_a_text(rt: HostRuntime) -> Result<(), Fail> {
+    for (word, text) in [
+        ("--help", "the usage"),
+        ("-h", "the usage"),
+        ("help", "the usage"),
+        ("--version", "the version"),
+        ("-V", "the version"),
+        ("version", "the version"),
+        ("-v", "none"),
+        ("", "none"),
+    ] {
+        assert_eq!(rt; asked(word), text, "{word}");
+    }
+    Ok(())
+}

@@ -10,11 +10,13 @@ use Rattle.lockstep.specs.declared.verdict.Verdict.TheVariants.{Agree, Differ}
 use Rattle.lockstep.specs.Verdict.{verdict}
 use Rattle.verdict_text.specs.Verdicts.{verdict_line}
 use Rattle.cli_answers.specs.Outcome.{OutcomeIn}
+use Rattle.cli_words.specs.declared.text_word.TextWord.{TextWord}
+use Rattle.cli_words.specs.declared.text_word.TextWord.TheVariants.{Help, Version}
 use Rattle.lane_cli.specs.declared.answer.LaneAnswer.{LaneAnswer}
 use Rattle.lane_cli.specs.declared.answer.LaneAnswer.TheVariants.{Done, Differs, BadWords}
 use Rattle.lane_cli.specs.declared.answer.LaneAnswer.TheVariants.{BadRecord, ChildFailed}
 use Rattle.lane_cli.specs.declared.texts.TheConstants.{USAGE, VERSION}
-use Rattle.lane_cli.specs.Words.{LaneValue, CommandValue, help, version, run, words_of_all}
+use Rattle.lane_cli.specs.Words.{LaneValue, CommandValue, printing, run, words_of_all}
 
 -- a text and an answer
 abbrev pub telling : LaneAnswer → List ℕ → OutcomeIn LaneAnswer
@@ -57,11 +59,15 @@ abbrev pub lane_outcome : SpawnerState → LaneValue → OutcomeIn LaneAnswer
 lane_outcome spawner lane = lane_by (verdict (outputs spawner (words_of_all lane)))
     (statuses_of spawner (words_of_all lane))
 
+-- the text that a word asks for
+abbrev pub text_of : TextWord → List ℕ
+text_of Help = USAGE.now
+text_of Version = VERSION.now
+
 -- the outcome of a command
 abbrev pub outcome_of : SpawnerState → Option CommandValue → OutcomeIn LaneAnswer
 outcome_of spawner None = telling BadWords []
-outcome_of spawner (Some help) = telling Done USAGE.now
-outcome_of spawner (Some version) = telling Done VERSION.now
+outcome_of spawner (Some (printing word)) = telling Done (text_of word)
 outcome_of spawner (Some (run lane)) = lane_outcome spawner lane
 
 -- the lists of words with which a command starts children

@@ -1,14 +1,13 @@
 -- The words of `det_lane`, and those with which it starts its children.
-use Rattle.std.specs.Prelude.{ℕ, ◌+◌, zero, suc, List, [], ◌∷◌, Bool, ◌&&◌, nat_le, Option, Some}
-use Rattle.std.specs.Prelude.{None, option_map, option_and_then, if◌then◌else◌, codes, decimal}
-use Rattle.std.specs.Str.{bytes_eq}
+use Rattle.std.specs.Prelude.{ℕ, ◌+◌, zero, suc, List, [], ◌∷◌, Bool, ◌&&◌, Option, None}
+use Rattle.std.specs.Prelude.{option_map, if◌then◌else◌, codes, decimal}
 use Rattle.children.specs.Spawners.{Words}
+use Rattle.cli_words.specs.declared.text_word.TextWord.{TextWord}
+use Rattle.cli_words.specs.Alone.{copies_of, text_word}
 use Rattle.cli_words.specs.Names.{is_name}
-use Rattle.cli_words.specs.Number.{number_of}
-use Rattle.cli_words.specs.Reading.{meant}
 use Rattle.lane_cli.specs.declared.lane.Lane as code
 use Rattle.lane_cli.specs.declared.words.LaneCommand as commands
-use Rattle.lane_cli.specs.declared.words.LaneCommand.TheVariants.{Help, Version, Run}
+use Rattle.lane_cli.specs.declared.words.LaneCommand.TheVariants.{Text, Run}
 
 -- a program that is run in so many copies, each with this manifest and stimulus
 pub record LaneValue : Type 0 where
@@ -26,18 +25,12 @@ lane_seen lane = record {
 }
 
 pub data CommandValue : Type 0 where
-  help : CommandValue
-  version : CommandValue
+  printing : (word : TextWord) → CommandValue
   run : (lane : LaneValue) → CommandValue
 
 abbrev pub command_seen : commands.LaneCommand → CommandValue
-command_seen Help = help
-command_seen Version = version
+command_seen (Text word) = printing word
 command_seen (Run lane) = run (lane_seen lane)
-
--- 2 to 8 copies
-abbrev pub copies_in : ℕ → Option ℕ
-copies_in n = if nat_le 2 n && nat_le n 8 then Some n else None
 
 abbrev pub are_names : List ℕ → List ℕ → List ℕ → Bool
 are_names program manifest stimulus = is_name program && (is_name manifest && is_name stimulus)
@@ -51,19 +44,12 @@ lane_of program copies manifest stimulus =
       copies = n;
       manifest = manifest;
       stimulus = stimulus;
-    })) (option_and_then copies_in (number_of copies))
-    else None
-
--- a word that asks for a text
-abbrev pub text_word : List ℕ → Option CommandValue
-text_word word =
-    if bytes_eq word (codes "--help") then Some help
-    else if bytes_eq word (codes "--version") then Some version
+    })) (copies_of copies)
     else None
 
 -- the command that the words after the program's name are
 abbrev pub command_of : List (List ℕ) → Option CommandValue
-command_of (word ∷ []) = text_word (meant word)
+command_of (word ∷ []) = option_map printing (text_word word)
 command_of (program ∷ copies ∷ manifest ∷ stimulus ∷ []) =
     lane_of program copies manifest stimulus
 command_of words = None

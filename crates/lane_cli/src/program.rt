@@ -14,7 +14,7 @@ use crate::judging::judged;
 use crate::lane::Lane;
 use crate::running::{finish_all, start_all};
 use crate::status::LaneStatus;
-use crate::texts::{USAGE, VERSION};
+use crate::texts::text_of;
 use crate::words::LaneCommand;
 use children::{ChildShelf, Spawner};
 use det_edges::{Sink, write_all};
@@ -68,8 +68,7 @@ fn run<P: Spawner, K: Sink>(
         (K.took out.old) (K.took out.new) result }
 {
     match LaneCommand::of(words) {
-        Some(LaneCommand::Help) => print(USAGE.as_bytes(), LaneAnswer::Done, out),
-        Some(LaneCommand::Version) => print(VERSION.as_bytes(), LaneAnswer::Done, out),
+        Some(LaneCommand::Text(word)) => print(text_of(word).as_bytes(), LaneAnswer::Done, out),
         Some(LaneCommand::Run(lane)) => {
             let found = watch(alloc, &lane, children);
             tell(alloc, found, out)

@@ -1,4 +1,8 @@
 //! The texts of `--help` and `--version`.
+ghost use Rattle.std.specs.Prelude.{◌≡◌};
+ghost use Rattle.lane_cli.specs.Outcome.{text_of};
+
+use cli_words::TextWord;
 
 /// The words of the program, and its exit statuses.
 pub const USAGE: &str = "\
@@ -31,3 +35,13 @@ Exit statuses:
 
 /// The name of the program and its version.
 pub const VERSION: &str = "det_lane 0.1.0\n";
+
+/// The text that a word asks for.
+pub(crate) fn text_of(word: TextWord) -> &'static str
+    ensures { result.now ≡ text_of word }
+{
+    match word {
+        TextWord::Help => USAGE,
+        TextWord::Version => VERSION,
+    }
+}

@@ -4,7 +4,6 @@ ghost use Rattle.det_edges.specs.Shelf.{ShelfState};
 ghost use Rattle.det_edges.specs.Traffic.{ShelfTraffic, shelf_run, failure_in};
 ghost use Rattle.record_grammar.specs.declared.item.Item.{Item};
 ghost use Rattle.record_reader.specs.StandsFor.{slot_of, room};
-ghost use Rattle.record_reader.specs.Salvaged.{runs_in};
 ghost use Rattle.lockstep.specs.Compared.{AreDifferent, AreGiven, ReadsAmong};
 ghost use Rattle.lockstep.specs.Copies.{slots_of, Stand};
 ghost use Rattle.lockstep.specs.Copies.{RowRead, IsCounted};
@@ -12,9 +11,9 @@ ghost use Rattle.lockstep.specs.Copies.{RowRead, IsCounted};
 use crate::reading::{read_copy, read_others, readers_at};
 use crate::{BadCopy, Verdict};
 use det_edges::{Slots, Stopped};
-use det_values::{Frame, OutOfMemory};
+use det_values::OutOfMemory;
 use record_codec::Item;
-use record_reader::RecordReader;
+use record_reader::{RecordReader, runs_in};
 use std::alloc::Global;
 
 /// Copies behind equal items, one reader each.
@@ -77,20 +76,7 @@ impl Copies {
             });
         };
         self.rows += 1;
-        self.cycles += runs(&item);
+        self.cycles += runs_in(&item);
         None
-    }
-}
-
-fn runs(item: &Item) -> u32
-    ensures value { result ≡ runs_in item.now }
-    ensures most { result ≤ 1 }
-{
-    match item {
-        Item::Header(_) => 0,
-        Item::Frame(frame) => match frame {
-            Frame::Run(_) => 1,
-            Frame::Register | Frame::Discover | Frame::Init(_) | Frame::Terminate => 0,
-        },
     }
 }

@@ -2,11 +2,13 @@
 //! whole frame.
 #![tactic(auto)]
 
+mod counting;
 mod digest_sink;
 mod reader;
 mod salvage;
 mod salvaging;
 
+pub use counting::runs_in;
 pub use digest_sink::DigestSink;
 pub use reader::RecordReader;
 pub use salvage::Salvaged;

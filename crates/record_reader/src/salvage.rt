@@ -3,6 +3,7 @@ ghost use Rattle.std.specs.Prelude.{◌≡◌, ◌+◌, ◌<◌, ◌≤◌, ◌|
 ghost use Rattle.record_grammar.specs.declared.item.Item.TheVariants as items;
 ghost use Rattle.record_reader.specs.Salvaged.{is_init, runs_in, refusals_in};
 
+use crate::counting::runs_in;
 use det_edges::{Failure, Sink, Stopped, write_all};
 use det_values::{Format, Frame, OutOfMemory, Outcome};
 use record_codec::{Item, Layout, RecordFault, encode_frame, encode_header};
@@ -26,19 +27,6 @@ pub struct Salvage {
     pub has_begun: bool,
     pub cycles: u32,
     pub refused: u32,
-}
-
-fn runs(item: &Item) -> u32
-    ensures value { result ≡ runs_in item.now }
-    ensures most { result ≤ 1 }
-{
-    match item {
-        Item::Header(_) => 0,
-        Item::Frame(frame) => match frame {
-            Frame::Run(_) => 1,
-            Frame::Register | Frame::Discover | Frame::Init(_) | Frame::Terminate => 0,
-        },
-    }
 }
 
 fn refusals(item: &Item) -> u32
@@ -166,7 +154,7 @@ impl Salvage {
         ensures out { self.new.out.items ≡ self.old.out.items }
     {
         self.has_begun = has_begun_by(self.has_begun, item);
-        self.cycles += runs(item);
+        self.cycles += runs_in(item);
         self.refused += refusals(item);
     }
 

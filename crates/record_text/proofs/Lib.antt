@@ -1,4 +1,4 @@
-mod Appending
+pub mod Appending
 mod Digits
 mod Fronts
 mod Numbering

@@ -14,6 +14,8 @@ use Rattle.lockstep.specs.declared.verdict.Verdict.TheVariants.{Agree, Differ}
 use Rattle.verdict_text.specs.Verdicts.{verdict_line}
 use Rattle.cli_answers.specs.declared.answer.BadManifest as refusals
 use Rattle.cli_answers.specs.Outcome.{OutcomeIn}
+use Rattle.cli_words.specs.declared.text_word.TextWord.{TextWord}
+use Rattle.cli_words.specs.declared.text_word.TextWord.TheVariants.{Help, Version}
 use Rattle.cmd_setup.specs.Setup.{setup_of}
 use Rattle.twins.specs.Tampers.{turned_at}
 use Rattle.twins.specs.Verdict.{twin_verdict}
@@ -23,7 +25,7 @@ use Rattle.twin_cli.specs.declared.answer.TwinAnswer.TheVariants.{BadManifest, B
 use Rattle.twin_cli.specs.declared.answer.TwinAnswer.TheVariants.{LongStimulus}
 use Rattle.twin_cli.specs.declared.texts.TheConstants.{USAGE, VERSION}
 use Rattle.twin_cli.specs.declared.copies.Flip.{Flip}
-use Rattle.twin_cli.specs.Words.{TwinsValue, CommandValue, help, version, run}
+use Rattle.twin_cli.specs.Words.{TwinsValue, CommandValue, printing, run}
 
 -- a text and an answer
 abbrev pub telling : TwinAnswer → List ℕ → OutcomeIn TwinAnswer
@@ -71,11 +73,15 @@ module _ (twins : TwinsValue) where
   twins_outcome holds =
       twinned_by (setup_of twins.options.strict (holds twins.manifest)) (holds twins.stimulus)
 
+-- the text that a word asks for
+abbrev pub text_of : TextWord → List ℕ
+text_of Help = USAGE.now
+text_of Version = VERSION.now
+
 -- the outcome of a command where these are the bytes under each name
 abbrev pub outcome_of : Option CommandValue → (List ℕ → List ℕ) → OutcomeIn TwinAnswer
 outcome_of None holds = refusal BadWords
-outcome_of (Some help) holds = telling Done USAGE.now
-outcome_of (Some version) holds = telling Done VERSION.now
+outcome_of (Some (printing word)) holds = telling Done (text_of word)
 outcome_of (Some (run twins)) holds = twins_outcome twins holds
 
 -- the names that a command opens, in their order

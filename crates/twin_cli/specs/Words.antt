@@ -1,13 +1,14 @@
 -- The words of `det_twin`.
-use Rattle.std.specs.Prelude.{ℕ, ◌^◌, List, [], ◌∷◌, Bool, true, false, ◌&&◌, nat_le, nat_lt}
+use Rattle.std.specs.Prelude.{ℕ, ◌^◌, List, [], ◌∷◌, Bool, true, false, ◌&&◌, nat_lt}
 use Rattle.std.specs.Prelude.{Option, Some, None, option_map, option_and_then, if◌then◌else◌, codes}
 use Rattle.std.specs.Str.{bytes_eq}
+use Rattle.cli_words.specs.declared.text_word.TextWord.{TextWord}
+use Rattle.cli_words.specs.Alone.{copies_of, text_word}
 use Rattle.cli_words.specs.Names.{is_name}
 use Rattle.cli_words.specs.Number.{number_of}
-use Rattle.cli_words.specs.Reading.{meant}
 use Rattle.twin_cli.specs.declared.copies.Twins as code
 use Rattle.twin_cli.specs.declared.words.TwinCommand as commands
-use Rattle.twin_cli.specs.declared.words.TwinCommand.TheVariants.{Help, Version, Run}
+use Rattle.twin_cli.specs.declared.words.TwinCommand.TheVariants.{Text, Run}
 use Rattle.twin_cli.specs.declared.copies.Options.{Options}
 use Rattle.twin_cli.specs.declared.copies.Flip.{Flip}
 
@@ -27,18 +28,12 @@ twins_seen twins = record {
 }
 
 pub data CommandValue : Type 0 where
-  help : CommandValue
-  version : CommandValue
+  printing : (word : TextWord) → CommandValue
   run : (twins : TwinsValue) → CommandValue
 
 abbrev pub command_seen : commands.TwinCommand → CommandValue
-command_seen Help = help
-command_seen Version = version
+command_seen (Text word) = printing word
 command_seen (Run twins) = run (twins_seen twins)
-
--- 2 to 8 copies
-abbrev pub copies_in : ℕ → Option ℕ
-copies_in n = if nat_le 2 n && nat_le n 8 then Some n else None
 
 -- the frame of this number, which fits 32 bits, of one of the copies
 abbrev pub flip_in : (copies copy number : ℕ) → Option Flip
@@ -95,18 +90,11 @@ abbrev pub twins_of : (copies manifest stimulus : List ℕ) → List (List ℕ) 
 twins_of copies manifest stimulus rest =
     if is_name manifest && is_name stimulus
     then option_and_then (λ n. twins_by manifest stimulus n rest)
-    (option_and_then copies_in (number_of copies))
-    else None
-
--- a word that asks for a text
-abbrev pub text_word : List ℕ → Option CommandValue
-text_word word =
-    if bytes_eq word (codes "--help") then Some help
-    else if bytes_eq word (codes "--version") then Some version
+    (copies_of copies)
     else None
 
 -- the command that the words after the program's name are
 abbrev pub command_of : List (List ℕ) → Option CommandValue
-command_of (word ∷ []) = text_word (meant word)
+command_of (word ∷ []) = option_map printing (text_word word)
 command_of (copies ∷ manifest ∷ stimulus ∷ rest) = twins_of copies manifest stimulus rest
 command_of words = None

@@ -12,7 +12,7 @@ ghost use Rattle.twin_cli.specs.Words.{command_of};
 use crate::answer::TwinAnswer;
 use crate::running::find;
 use crate::status::TwinStatus;
-use crate::texts::{USAGE, VERSION};
+use crate::texts::text_of;
 use crate::words::TwinCommand;
 use det_edges::{Shelf, Sink, write_all};
 use lockstep::Verdict;
@@ -54,8 +54,7 @@ fn run<S: Shelf, K: Sink, R: Threads + Wait + Sync>(
         (Rose (K.faults out.old) (K.faults out.new)) (K.took out.old) (K.took out.new) result }
 {
     match TwinCommand::of(words) {
-        Some(TwinCommand::Help) => print(USAGE.as_bytes(), TwinAnswer::Done, out),
-        Some(TwinCommand::Version) => print(VERSION.as_bytes(), TwinAnswer::Done, out),
+        Some(TwinCommand::Text(word)) => print(text_of(word).as_bytes(), TwinAnswer::Done, out),
         Some(TwinCommand::Run(twins)) => {
             let found = find(rt, alloc, &twins, shelf);
             tell(alloc, found, out)

@@ -1,32 +1,17 @@
 //! The words of twins.
-ghost use Rattle.std.specs.Prelude.{◌≡◌, ◌≤◌, option_map, IfSome};
+ghost use Rattle.std.specs.Prelude.{◌≡◌, option_map};
 ghost use Rattle.cli_words.specs.Names.{texts};
-ghost use Rattle.twin_cli.specs.Words.{alone, both, command_of, command_seen, copies_in};
-ghost use Rattle.twin_cli.specs.Words.{flip_in, flip_of, flipping, is_strict, options_of};
-ghost use Rattle.twin_cli.specs.Words.{text_word, twins_of};
+ghost use Rattle.twin_cli.specs.Words.{alone, both, command_of, command_seen};
+ghost use Rattle.twin_cli.specs.Words.{flip_in, flip_of, flipping, is_strict, options_of, twins_of};
 
 use crate::copies::{Flip, Options, Twins};
-use cli_words::{is_name, meant, number_of};
+use cli_words::{TextWord, copies_of, is_name, number_of};
 
 /// What the words after the program's name ask for.
 #[derive(Clone, Copy)]
 pub enum TwinCommand<'a> {
-    Help,
-    Version,
+    Text(TextWord),
     Run(Twins<'a>),
-}
-
-/// 2 to 8 copies.
-fn copies_in(number: u64) -> Option<u32>
-    ensures is { result ≡ copies_in number }
-    ensures some { IfSome result (λ copies. 2 ≤ copies) }
-    ensures few { IfSome result (λ copies. copies ≤ 8) }
-{
-    if (2..=8).contains(&number) {
-        Some(number as u32)
-    } else {
-        None
-    }
 }
 
 /// A frame of one of so many copies.
@@ -129,7 +114,7 @@ fn twins_of<'a>(
     if !(is_name(manifest) && is_name(stimulus)) {
         return None;
     }
-    let copies = copies_in(number_of(copies)?)?;
+    let copies = copies_of(copies)?;
     let options = options_of(copies, rest)?;
     Some(TwinCommand::Run(Twins {
         copies,
@@ -139,23 +124,13 @@ fn twins_of<'a>(
     }))
 }
 
-fn text_word<'a>(word: &str) -> Option<TwinCommand<'a>>
-    ensures { option_map command_seen result ≡ text_word word.now }
-{
-    match word {
-        "--help" => Some(TwinCommand::Help),
-        "--version" => Some(TwinCommand::Version),
-        _ => None,
-    }
-}
-
 impl<'a> TwinCommand<'a> {
     /// Reads the words after the program's name. None where they are no command.
     pub fn of(words: &'a [String]) -> Option<TwinCommand<'a>>
         ensures { option_map command_seen result ≡ command_of (texts words.now) }
     {
         match words {
-            [word] => text_word(meant(word.as_str())),
+            [word] => Some(TwinCommand::Text(TextWord::of(word.as_str())?)),
             [copies, manifest, stimulus, rest @ ..] => twins_of(
                 copies.as_str(),
                 manifest.as_str(),

@@ -5,7 +5,6 @@ ghost use Rattle.std.specs.List.{count_by};
 ghost use Rattle.det_edges.specs.Shelf.{ShelfState};
 ghost use Rattle.det_edges.specs.Traffic.{ShelfTraffic, shelf_run, failure_in};
 ghost use Rattle.record_grammar.specs.declared.item.Item.{Item};
-ghost use Rattle.record_reader.specs.Salvaged.{runs_in};
 ghost use Rattle.lockstep.specs.Compared.{AreDifferent, AreGiven, ReadsAmong};
 ghost use Rattle.voter.specs.Majority.{is_most};
 ghost use Rattle.voter.specs.Rows.{is_in_step, voter_slot};
@@ -16,8 +15,9 @@ use crate::majority::{item_of, most_held, part};
 use crate::reading::{Voter, read_rows, voters_at};
 use crate::{Dissent, Dissenter, NoMajority, Vote};
 use det_edges::{Slots, Stopped};
-use det_values::{Frame, OutOfMemory};
+use det_values::OutOfMemory;
 use record_codec::Item;
+use record_reader::runs_in;
 use std::alloc::Global;
 
 /// The copies, and the rows that more than half of them hold together.
@@ -80,7 +80,7 @@ impl Voters {
     {
         if let Some(item) = item {
             self.rows += 1;
-            self.cycles += runs(item);
+            self.cycles += runs_in(item);
         }
     }
 
@@ -120,18 +120,5 @@ fn add_left(dissent: &mut Dissent, copy: u32, left: Option<u32>) -> Result<(), O
     match left {
         Some(row) => dissent.push(Dissenter { copy, row }),
         None => Ok(()),
-    }
-}
-
-fn runs(item: &Item) -> u32
-    ensures value { result ≡ runs_in item.now }
-    ensures most { result ≤ 1 }
-{
-    match item {
-        Item::Header(_) => 0,
-        Item::Frame(frame) => match frame {
-            Frame::Run(_) => 1,
-            Frame::Register | Frame::Discover | Frame::Init(_) | Frame::Terminate => 0,
-        },
     }
 }

@@ -1,5 +1,5 @@
 use Rattle.cmd_vote.specs.Vote.{dissenter_line}
-use Rattle.cmd_vote.proofs.Appending.{HasPut}
+use Rattle.record_text.proofs.Appending.{HasPut}
 use Rattle.cmd_vote.proofs.text.put_dissenters.Given as goal
 
 abbrev pub invariant-dissenters : goal.invariant-dissenters

@@ -1,0 +1,26 @@
+-- Words of programs that have no commands.
+use Rattle.std.specs.Prelude.{ℕ, List, ◌&&◌, nat_le, Option, Some, None, option_and_then}
+use Rattle.std.specs.Prelude.{if◌then◌else◌, codes}
+use Rattle.std.specs.Str.{bytes_eq}
+use Rattle.cli_words.specs.declared.text_word.TextWord.{TextWord}
+use Rattle.cli_words.specs.declared.text_word.TextWord.TheVariants.{Help, Version}
+use Rattle.cli_words.specs.Number.{number_of}
+use Rattle.cli_words.specs.Reading.{meant}
+
+-- 2 to 8 copies
+abbrev pub copies_in : ℕ → Option ℕ
+copies_in n = if nat_le 2 n && nat_le n 8 then Some n else None
+
+-- the copies that a word asks for, in decimal
+abbrev pub copies_of : List ℕ → Option ℕ
+copies_of word = option_and_then copies_in (number_of word)
+
+abbrev pub text_meant : List ℕ → Option TextWord
+text_meant word =
+    if bytes_eq word (codes "--help") then Some Help
+    else if bytes_eq word (codes "--version") then Some Version
+    else None
+
+-- the text that a word asks for where it stands alone
+abbrev pub text_word : List ℕ → Option TextWord
+text_word word = text_meant (meant word)

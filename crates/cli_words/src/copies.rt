@@ -1,0 +1,26 @@
+//! How many copies run side by side.
+ghost use Rattle.std.specs.Prelude.{◌≡◌, ◌≤◌, IfSome};
+ghost use Rattle.cli_words.specs.Alone.{copies_in, copies_of};
+
+use crate::number::number_of;
+
+fn copies_in(number: u64) -> Option<u32>
+    ensures is { result ≡ copies_in number }
+    ensures some { IfSome result (λ copies. 2 ≤ copies) }
+    ensures few { IfSome result (λ copies. copies ≤ 8) }
+{
+    if (2..=8).contains(&number) {
+        Some(number as u32)
+    } else {
+        None
+    }
+}
+
+/// The copies that a word asks for, 2 to 8 in decimal.
+pub fn copies_of(word: &str) -> Option<u32>
+    ensures is { result ≡ copies_of word.now }
+    ensures some { IfSome result (λ copies. 2 ≤ copies) }
+    ensures few { IfSome result (λ copies. copies ≤ 8) }
+{
+    copies_in(number_of(word)?)
+}
