@@ -9,6 +9,3 @@ mod steps;
 pub use chaining::chain_run;
 pub use counts::ChainCounts;
 pub use derived::derived_input;
-
-#[cfg(test)]
-mod tests;

@@ -12,6 +12,3 @@ pub use mem_spawner::{MemSpawner, Script, Scripts};
 pub use process_spawner::ProcessSpawner;
 pub use spawn_failed::SpawnFailed;
 pub use spawner::Spawner;
-
-#[cfg(test)]
-mod tests;

@@ -3,7 +3,5 @@
 
 mod command;
 mod lines;
-#[cfg(test)]
-mod tests;
 
 pub use command::needs;

@@ -8,6 +8,3 @@ mod over_stimulus;
 
 pub use built_in::demo;
 pub use by_manifest::{RecordTask, record_stimulus};
-
-#[cfg(test)]
-mod tests;

@@ -6,6 +6,3 @@ mod run;
 mod simulating;
 
 pub use simulating::sim;
-
-#[cfg(test)]
-mod tests;

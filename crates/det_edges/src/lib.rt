@@ -36,6 +36,3 @@ pub use text_shelf::TextShelf;
 pub use trying::read_trying;
 pub use within::push_within;
 pub use writing::write_all;
-
-#[cfg(test)]
-mod edge_tests;

@@ -37,6 +37,3 @@ pub use profile::Profile;
 pub use refused_at::{Phase, RefusedAt};
 pub use sample::Sample;
 pub use walk::Walk;
-
-#[cfg(test)]
-mod values_tests;

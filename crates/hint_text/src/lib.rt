@@ -25,6 +25,3 @@ pub use shown::Shown;
 pub use system::{Unread, can_reread, unwritten};
 pub use telling::tell;
 pub use words_told::tell_words;
-
-#[cfg(test)]
-mod tests;

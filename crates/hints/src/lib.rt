@@ -29,6 +29,3 @@ pub use records::{copies_hint, run_hint};
 pub use stimuli::{events_of, short_stimulus_hint, stimulus_hint};
 pub use toml_line::TomlLine;
 pub use wanted::Wanted;
-
-#[cfg(test)]
-mod tests;

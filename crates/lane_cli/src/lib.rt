@@ -21,6 +21,3 @@ pub use program::lane_top;
 pub use status::LaneStatus;
 pub use texts::{USAGE, VERSION};
 pub use words::LaneCommand;
-
-#[cfg(test)]
-mod tests;

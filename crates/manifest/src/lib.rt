@@ -13,10 +13,6 @@ mod params;
 mod platform_name;
 mod read;
 mod stage;
-#[cfg(test)]
-mod strict_tests;
-#[cfg(test)]
-mod tests;
 mod unknown;
 
 pub use fault::{ManifestError, ManifestFault};

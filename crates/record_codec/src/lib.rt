@@ -22,6 +22,3 @@ pub use decode_error::DecodeError;
 pub use decoder::Decoder;
 pub use encode::{encode_frame, encode_header};
 pub use record_grammar::{Item, Layout, Limits, Place, Reason, RecordFault};
-
-#[cfg(test)]
-mod tests;

@@ -1,6 +1,8 @@
-//! Tests of records, fed in pieces, read from shelves and salvaged.
+//! Tests of records, written, fed in pieces, read from shelves, salvaged and voted.
 #![tactic(auto)]
 
+#[cfg(test)]
+mod encoded;
 #[cfg(test)]
 mod failing;
 #[cfg(test)]
@@ -17,3 +19,5 @@ mod slow;
 mod sources;
 #[cfg(test)]
 mod vectors;
+#[cfg(test)]
+mod votes;

@@ -20,7 +20,5 @@ pub use answer::TwinAnswer;
 pub use copies::{Flip, Options, Twins};
 pub use program::twin_top;
 pub use status::TwinStatus;
+pub use texts::{USAGE, VERSION};
 pub use words::TwinCommand;
-
-#[cfg(test)]
-mod tests;

@@ -1,5 +1,7 @@
-//! Tests of copies in threads, which would prove `twins` again if they stood in it.
+//! Tests of copies in threads, and of whole runs of `det_twin`.
 #![tactic(auto)]
 
 #[cfg(test)]
 mod copies;
+#[cfg(test)]
+mod runs;

@@ -10,6 +10,3 @@ mod voting;
 
 pub use outcome::{Dissent, Dissenter, NoMajority, Vote};
 pub use voting::vote;
-
-#[cfg(test)]
-mod tests;

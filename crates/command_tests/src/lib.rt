@@ -1,0 +1,13 @@
+//! Tests of commands, and of what one client of a chain gives to another.
+#![tactic(auto)]
+
+#[cfg(test)]
+mod chained;
+#[cfg(test)]
+mod needs;
+#[cfg(test)]
+mod ran;
+#[cfg(test)]
+mod recorded;
+#[cfg(test)]
+mod simulated;
