@@ -31,6 +31,7 @@ from typing import Iterator, Optional
 
 sys.dont_write_bytecode = True
 
+from build_ahead import first_of, proved_ahead  # noqa: E402
 from build_order import niceness_of, set_niceness  # noqa: E402
 from build_progress import Progress, seconds_of, tell  # noqa: E402
 from crate_list import CRATES, TOP, is_built, listed_crates, needed_by, program_file  # noqa: E402
@@ -41,7 +42,7 @@ LOCK = LOGS / "lock"
 NOT_BUILT = 70
 INTERRUPTED = 130
 # How many crates are begun for each processor. Most of them wait for another one.
-PLACES = 4
+PLACES = 8
 # Bytes of memory for a crate that is begun. A check takes 0.8 to 2.3 GB, sixteen that were begun took
 # up to 10 GB, and the look over the sources of `det` before them 5.4 GB.
 MEMORY = 1_500_000_000
@@ -144,7 +145,9 @@ def build_crates(progress: Progress, log: Path) -> None:
     """Builds the crates below a program side by side, and checks the program's own."""
     words = ["rt", "all", "check", "--jobs", str(progress.jobs)]
     niceness = niceness_of(progress.uses, progress.seconds)
-    with started(words, CRATES / progress.program, log) as command:
+    first = first_of(progress.uses, progress.seconds)
+    ahead = proved_ahead(first, LOGS / "ahead", LOGS / "ahead.log", started)
+    with ahead, started(words, CRATES / progress.program, log) as command:
         is_running = True
         while is_running:
             is_running = command.poll() is None

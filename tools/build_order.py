@@ -18,12 +18,19 @@ from crate_list import CRATES
 NICEST = 19
 
 
-def niceness_of(uses: dict[str, list[str]], seconds: dict[str, float]) -> dict[str, int]:
-    """The niceness of each crate. They come in their order, each behind those that it uses."""
+def ways_of(uses: dict[str, list[str]], seconds: dict[str, float]) -> dict[str, float]:
+    """The seconds from each crate's beginning to the program's end, along the longest way. The
+    crates come in their order, each behind those that it uses."""
     ways = dict(seconds)
     for name in reversed(uses):
         for below in uses[name]:
             ways[below] = max(ways[below], seconds[below] + ways[name])
+    return ways
+
+
+def niceness_of(uses: dict[str, list[str]], seconds: dict[str, float]) -> dict[str, int]:
+    """The niceness of each crate."""
+    ways = ways_of(uses, seconds)
     longest = max(ways.values())
     return {name: round(NICEST * (1 - way / longest)) for name, way in ways.items()}
 

@@ -22,6 +22,12 @@ def listed_crates() -> dict[str, list[str]]:
     return {name: [it for it in names if it in found] for name, names in found.items()}
 
 
+def line_of(crate: str) -> str:
+    """The line of a crate."""
+    lines = LIST.read_text().splitlines()
+    return next(line for line in lines if line.partition(":")[0].split()[:1] == [crate])
+
+
 def needed_by(program: str, crates: dict[str, list[str]]) -> list[str]:
     """A program and the crates below it, each behind those that it uses."""
     found: list[str] = []
