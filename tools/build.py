@@ -6,7 +6,7 @@
     python3 tools/build.py det --jobs 2            at most so many crates at a time
 
 The crates below a program are built side by side, each behind those that it uses. --jobs counts
-those that wait for another one too: without it there are four for each processor, or as many as
+those that wait for another one too: without it there are eight for each processor, or as many as
 there is memory for. Standard error takes a line whenever something changed. The whole log of a
 program's build is out/build/NAME.log. Two builds in one checkout take turns.
 
@@ -43,9 +43,11 @@ NOT_BUILT = 70
 INTERRUPTED = 130
 # How many crates are begun for each processor. Most of them wait for another one.
 PLACES = 8
-# Bytes of memory for a crate that is begun. A check takes 0.8 to 2.3 GB, sixteen that were begun took
-# up to 10 GB, and the look over the sources of `det` before them 5.4 GB.
+# Bytes of memory for a crate that is begun, where there is less than plenty. A check takes 0.8 to 2.3
+# GB. Of 32 that were begun on four processors most waited, and the others took up to 7 GB; the look
+# over the sources of `det` before them took 5.4 GB.
 MEMORY = 1_500_000_000
+PLENTY = 16_000_000_000
 # Lines of a log that are shown of what failed.
 SHOWN = 15
 # How lines of a log begin that count modules.
@@ -76,8 +78,8 @@ def free_memory() -> int:
 
 
 def jobs_that_fit() -> int:
-    processors = len(os.sched_getaffinity(0))
-    return max(1, min(PLACES * processors, free_memory() // MEMORY))
+    places, free = PLACES * len(os.sched_getaffinity(0)), free_memory()
+    return places if free >= PLENTY else max(1, min(places, free // MEMORY))
 
 
 @contextmanager
