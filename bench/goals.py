@@ -32,6 +32,11 @@ class Goal:
             return None
         return of.trial.memory / beside.trial.memory if self.is_memory else of.seconds / beside.seconds
 
+    def by_medians(self, of: Result, beside: Result) -> str:
+        """The ratio of the medians of both, which a goal doesn't go by."""
+        has_both = of.median is not None and beside.median is not None
+        return f"{of.median / beside.median:.3f}" if has_both and not self.is_memory else ""
+
     def verdict(self, figure: Optional[float], processors: int) -> str:
         if figure is None:
             return ABSENT
@@ -44,7 +49,7 @@ class Goal:
         figure = self.figure(of, beside)
         told = "" if figure is None else f"{figure:.3f}"
         bound = f"at {'least' if self.is_least else 'most'} {self.bound}"
-        return [self.what, told, bound, self.verdict(figure, processors)]
+        return [self.what, told, bound, self.verdict(figure, processors), self.by_medians(of, beside)]
 
 
 def workers_goals(what: str) -> list[Goal]:

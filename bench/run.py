@@ -22,7 +22,7 @@ POOL = TOP / "crates" / "bench_pool"
 ROUNDS = 5
 
 ROW_HEADS = ["command", "workers", "wall time", "MB/s of record", "memory", "speed, 1 worker = 1"]
-GOAL_HEADS = ["goal", "figure", "asked", "verdict"]
+GOAL_HEADS = ["goal", "figure", "asked", "verdict", "by medians"]
 
 
 def row_cells(row: Row) -> list[str]:

@@ -3,6 +3,7 @@
 import ctypes
 import hashlib
 import os
+import statistics
 import subprocess
 import sys
 import time
@@ -44,11 +45,21 @@ class Trial:
 
 @dataclass(frozen=True)
 class Result:
-    """What was found of a command. There is nothing where the program hasn't got it."""
+    """What was found of a command, with the wall time of each of its rounds in seconds. There is nothing where the
+    program hasn't got it."""
 
     command: Command
     trial: Optional[Trial]
-    seconds: Optional[float]
+    walls: list[float]
+
+    @property
+    def seconds(self) -> Optional[float]:
+        """The least wall time."""
+        return min(self.walls, default=None)
+
+    @property
+    def median(self) -> Optional[float]:
+        return statistics.median(self.walls) if self.walls else None
 
 
 def size(path: Path) -> int:
@@ -122,14 +133,14 @@ def wall_time(words: list[str]) -> float:
     return seconds
 
 
-def least_times(commands: list[Command], rounds: int) -> list[float]:
-    """The least wall time of each command. They take turns, so that what else the host does hits all of them alike."""
+def wall_times(commands: list[Command], rounds: int) -> list[list[float]]:
+    """The wall times of each command. They take turns, so that what else the host does hits all of them alike."""
     walls: list[list[float]] = [[] for _ in commands]
     turns = list(zip(commands, walls))
     for number in range(rounds):
         for command, found in turns if number % 2 == 0 else reversed(turns):
             found.append(wall_time(command.words))
-    return [min(found) for found in walls]
+    return walls
 
 
 class Runner:
@@ -155,5 +166,5 @@ class Runner:
         """Tries the commands one after another, and then takes the times of those that the programs have."""
         trials = [self.trial(command) for command in commands]
         present = [command for command, trial in zip(commands, trials) if trial]
-        times = iter(least_times(present, self.rounds))
-        return [Result(command, trial, next(times) if trial else None) for command, trial in zip(commands, trials)]
+        walls = iter(wall_times(present, self.rounds))
+        return [Result(command, trial, next(walls) if trial else []) for command, trial in zip(commands, trials)]
