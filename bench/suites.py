@@ -224,9 +224,11 @@ class Bench:
         twin = [str(self.programs.twin), "2", manifest, stimulus]
         one = self.det("record", manifest, stimulus, "--workers", 1)
         alone = shlex.join(one)
+        read = f"{alone} | cat > /dev/null"
         commands = [
             Command("one record", one, 1, keep=record),
             Command("two at once", ["sh", "-c", f"{alone} > /dev/null & {alone}; wait"], 1, records=2),
+            Command("two at once, read", ["sh", "-c", f"{read} & {read}; wait"], 1, records=2),
             Command("det_lane 2", lane, gives="verdict on running copies", records=2),
             Command("det_twin 2", twin, gives="verdict on running copies", records=2),
         ]
