@@ -31,8 +31,8 @@ from typing import Iterator, Optional
 
 sys.dont_write_bytecode = True
 
-from build_ahead import first_of, proved_ahead  # noqa: E402
-from build_order import niceness_of, set_niceness  # noqa: E402
+from build_ahead import proved_ahead  # noqa: E402
+from build_order import step_back, ways_of  # noqa: E402
 from build_progress import Progress, seconds_of, tell  # noqa: E402
 from crate_list import CRATES, TOP, is_built, listed_crates, needed_by, program_file  # noqa: E402
 
@@ -146,8 +146,8 @@ def stop_on_failure(progress: Progress, log: Path) -> None:
 def build_crates(progress: Progress, log: Path) -> None:
     """Builds the crates below a program side by side, and checks the program's own."""
     words = ["rt", "all", "check", "--jobs", str(progress.jobs)]
-    niceness = niceness_of(progress.uses, progress.seconds)
-    first = first_of(progress.uses, progress.seconds)
+    ways = ways_of(progress.uses, progress.seconds)
+    first = max(ways, key=ways.__getitem__)
     ahead = proved_ahead(first, LOGS / "ahead", LOGS / "ahead.log", started)
     with ahead, started(words, CRATES / progress.program, log) as command:
         is_running = True
@@ -157,7 +157,7 @@ def build_crates(progress: Progress, log: Path) -> None:
             progress.read(text)
             stop_on_failure(progress, log)
             progress.tell()
-            set_niceness(niceness)
+            step_back(ways, len(os.sched_getaffinity(0)))
             time.sleep(PAUSE if is_running else 0)
     if command.returncode:
         told = part_of(text, progress.program)

@@ -13,18 +13,11 @@ from contextlib import contextmanager, nullcontext
 from pathlib import Path
 from typing import Callable, ContextManager, Iterator
 
-from build_order import ways_of
 from build_progress import has_stamp
 from crate_list import CRATES, line_of
 
 # Starts a command in a folder, with a log.
 Start = Callable[[list[str], Path, Path], ContextManager]
-
-
-def first_of(uses: dict[str, list[str]], seconds: dict[str, float]) -> str:
-    """The crate with the longest way to the program's end."""
-    ways = ways_of(uses, seconds)
-    return max(ways, key=ways.__getitem__)
 
 
 def copy_of(name: str, room: Path) -> Path:

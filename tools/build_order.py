@@ -1,7 +1,8 @@
-"""Which of the crates that are proved side by side get more of the processors.
+"""Which of the crates that are proved side by side get the processors.
 
-A crate that many others wait for, one above the other, is the first to be wanted. So its process is
-the less nice, the longer the way is from its beginning to the program's end. On a system without
+A crate that many others wait for, one above the other, is the first to be wanted. So of the crates
+at work those with the longest way from their beginning to the program's end keep a processor each,
+and the processes of all others are made so nice that they take what is left. On a system without
 /proc all share alike.
 """
 
@@ -14,7 +15,7 @@ from typing import Iterator
 
 from crate_list import CRATES
 
-# The niceness of a process that would be the last to be wanted.
+# The niceness of a process that takes what is left.
 NICEST = 19
 
 
@@ -26,13 +27,6 @@ def ways_of(uses: dict[str, list[str]], seconds: dict[str, float]) -> dict[str, 
         for below in uses[name]:
             ways[below] = max(ways[below], seconds[below] + ways[name])
     return ways
-
-
-def niceness_of(uses: dict[str, list[str]], seconds: dict[str, float]) -> dict[str, int]:
-    """The niceness of each crate."""
-    ways = ways_of(uses, seconds)
-    longest = max(ways.values())
-    return {name: round(NICEST * (1 - way / longest)) for name, way in ways.items()}
 
 
 def crate_of(process: Path) -> str:
@@ -54,9 +48,12 @@ def proving() -> Iterator[tuple[str, int]]:
                     yield name, int(thread.name)
 
 
-def set_niceness(wanted: dict[str, int]) -> None:
-    """Makes the processes that prove these crates so nice, and none less nice than it is."""
-    for name, thread in proving():
-        with suppress(OSError):
-            if os.getpriority(os.PRIO_PROCESS, thread) < wanted.get(name, 0):
-                os.setpriority(os.PRIO_PROCESS, thread, wanted[name])
+def step_back(ways: dict[str, float], processors: int) -> None:
+    """Makes nice what proves a crate that as many others at work as there are processors go before.
+    Nothing is made less nice again: what has stepped back has a processor as soon as one is free."""
+    threads = [(name, thread) for name, thread in proving() if name in ways]
+    at_work = sorted({name for name, _ in threads}, key=ways.__getitem__, reverse=True)
+    for name, thread in threads:
+        if name in at_work[processors:]:
+            with suppress(OSError):
+                os.setpriority(os.PRIO_PROCESS, thread, NICEST)
