@@ -1,5 +1,5 @@
 -- How a lane meets its outcome, by what it finds of its children.
-use Rattle.std.proofs.Common.{◌≡◌, ◌≤◌, ◌⊎◌, inl, inr, ℕ, List, [], sym, ap, ◌∙◌, subst}
+use Rattle.std.proofs.Common.{◌≡◌, ◌≤◌, ◌⊎◌, inl, inr, ℕ, List, [], refl, sym, ap, ◌∙◌, subst, arith}
 use Rattle.std.specs.Prelude.{Option, Some, Result, Err}
 use Rattle.det_edges.specs.Sink.{Grew, GrewByPrefix}
 use Rattle.det_edges.proofs.Growth.{part-wider}
@@ -7,14 +7,15 @@ use Rattle.det_edges.proofs.Prefixes.{prefix-none}
 use Rattle.children.specs.Spawners.{SpawnerState}
 use Rattle.lockstep.specs.declared.verdict.Verdict.{Verdict}
 use Rattle.cli_answers.specs.Outcome.{OutcomeIn, MeetsBy}
+use Rattle.cli_words.specs.declared.text_word.TextWord.{TextWord}
 use Rattle.lane_cli.specs.declared.answer.LaneAnswer.{LaneAnswer}
-use Rattle.lane_cli.specs.declared.answer.LaneAnswer.TheVariants.{BadWords, WriteFault, OutOfMemory, SpawnFault}
+use Rattle.lane_cli.specs.declared.answer.LaneAnswer.TheVariants.{Done, BadWords, WriteFault, OutOfMemory, SpawnFault}
 use Rattle.lane_cli.specs.Answers.{failed}
-use Rattle.lane_cli.specs.Outcome.{outcome_of, children_of, Tells}
+use Rattle.lane_cli.specs.Outcome.{telling, text_of, outcome_of, children_of, Tells}
 use Rattle.lane_cli.specs.Promise.{Runs}
 use Rattle.lane_cli.specs.Watched.{found_by, Watched}
-use Rattle.lane_cli.specs.Words.{LaneValue, CommandValue, run}
-use Rattle.lane_cli.proofs.Asking.{words-long}
+use Rattle.lane_cli.specs.Words.{LaneValue, CommandValue, printing, run}
+use Rattle.lane_cli.proofs.Asking.{asks-kept, words-long}
 
 -- nothing is written where a lane finds a fault or no memory
 nothing-part : (before after : List ℕ → Type 0) (bytes : List ℕ) (found : Result Verdict LaneAnswer) (answer : LaneAnswer)
@@ -71,3 +72,22 @@ module _ {first last : SpawnerState} {lane : LaneValue} {found : Result Verdict 
     children = subst (λ n. last.children ≤ n) (sym (words-long lane 0 lane.copies)) w.children;
     finished = w.finished;
   })
+
+-- a text was printed, and no child was started
+pub runs-text : {first : SpawnerState} {other : Type 0} {before after : List ℕ → Type 0} {answer : LaneAnswer} (word : TextWord)
+    (bytes : List ℕ) (command : Option CommandValue) → text_of word ≡ bytes → Some (printing word) ≡ command → first.children ≡ 0
+    → MeetsBy failed (telling Done bytes) (Unit {0}) ⊥ other before after answer → (answer ≡ BadWords → ⊥)
+    → Runs command first first other before after answer
+runs-text {first = first} {other = other} {before = before} {after = after} {answer = answer} word bytes command same is none m no_words =
+    subst (λ (c : Option CommandValue). Runs c first first other before after answer) is (record {
+      meets = record {
+        part = λ t. rw same (m.part tt);
+        whole = λ t. rw same (m.whole tt);
+        read_fault = λ e. absurd (m.read_fault e);
+        write_fault = m.write_fault;
+      };
+      bad_words = (λ e. absurd (no_words e), λ e. absurd cc);
+      asked = ([], prefix-none [], asks-kept refl);
+      children = omega arith;
+      finished = λ k lt. absurd (omega arith);
+    })

@@ -2,8 +2,14 @@ use Rattle.std.proofs.Common.{sym, ap, ◌∙◌}
 use Rattle.std.specs.Prelude.{Some}
 use Rattle.lane_cli.specs.declared.words.LaneCommand.{LaneCommand}
 use Rattle.lane_cli.specs.Words.{command_seen}
-use Rattle.lane_cli.proofs.Meeting.{runs-lane}
+use Rattle.lane_cli.proofs.Meeting.{runs-lane, runs-text}
 use Rattle.lane_cli.proofs.program.run.Goals as goal
+
+pub returns-in-Some-Text : goal.returns-in-Some-Text
+returns-in-Some-Text g c =
+    runs-text _ _ _ (sym (c.as_bytes.ensures.value ∙ c.text_of.ensures))
+    (ap (λ (l : LaneCommand). Some (command_seen l)) (sym c.in-Some-Text.field-0-is) ∙ c.in-Some-Text.ensures)
+    c.requires c.print.ensures.meets c.print.ensures.words
 
 pub returns-in-Some-Run : goal.returns-in-Some-Run
 returns-in-Some-Run g c =
