@@ -1,24 +1,22 @@
 //! The command `chain`.
-ghost use Rattle.std.specs.Prelude.{◌≡◌, ◌∷◌, [], length, None, IfOk, IfSome, true};
+ghost use Rattle.std.specs.Prelude.{◌≡◌, ◌∷◌, [], length, None, IfSome, true};
 ghost use Rattle.std.specs.Option.{unwrap_or};
 ghost use Rattle.det_edges.specs.Count.{Rose};
 ghost use Rattle.det_edges.specs.Shelf.{AsksPrefix};
 ghost use Rattle.manifest.specs.Limits.{IsWorkers};
 ghost use Rattle.cli_answers.specs.Ends.{can_end};
 ghost use Rattle.cli_answers.specs.Outcome.{Meets, Tells, told};
-ghost use Rattle.manifest.specs.Profiles.{profile_of};
 ghost use Rattle.shipped_jobs.specs.Kinds.{bad_param};
-ghost use Rattle.cmd_setup.specs.Setup.{IsGood, setup_of};
+ghost use Rattle.cmd_setup.specs.Setup.{setup_of};
 ghost use Rattle.cmd_record.specs.Outcomes.{record_names};
 ghost use Rattle.cmd_chain.specs.Chain.{chain_names, chain_outcome, chain_work, chained_behind};
 
 use crate::over_stimulus::chain_named;
 use cli_answers::Answer;
+use cmd_record::staffed;
 use cmd_setup::read_setup;
 use det_edges::{Shelf, Sink};
-use det_values::OutOfMemory;
-use manifest::Manifest;
-use shipped_crews::{Host, ShippedRun, StaffedRun};
+use shipped_crews::{Host, StaffedRun};
 use std::thread::Threads;
 use worker_pool::Gate;
 
@@ -37,39 +35,6 @@ pub struct ChainTask<'t> {
     pub seed: Option<u64>,
     /// As many for each client as its manifest says where none is given.
     pub workers: Option<u32>,
-}
-
-/// The number of workers that is given, or else the manifest's.
-fn workers_or(given: Option<u32>, own: u32) -> u32
-    requires given { IfSome given IsWorkers }
-    requires own { IsWorkers own }
-    ensures { IsWorkers result }
-{
-    match given {
-        Some(workers) => workers,
-        None => own,
-    }
-}
-
-/// The run of a manifest for this task, and the workers for it.
-fn staffed<'h, R, G>(
-    host: &Host<'h, R, G>,
-    task: &ChainTask<'_>,
-    setup: &Manifest,
-) -> Result<StaffedRun<'h, R, G>, OutOfMemory>
-    requires good { IsGood setup.now }
-    requires workers { IfSome task.now.workers IsWorkers }
-    ensures kind { IfOk result (λ staffed. staffed.run.kind ≡ setup.now.kind) }
-    ensures profile { IfOk result (λ staffed.
-        staffed.run.profile ≡ profile_of setup.now (unwrap_or task.now.seed 0)) }
-    ensures good { IfOk result (λ staffed. bad_param staffed.run.kind staffed.run.profile.params
-        (length staffed.run.profile.events) ≡ None) }
-{
-    let profile = setup.profile(host.alloc, task.seed.unwrap_or(0))?;
-    let kind = setup.kind();
-    let workers = host.workers(workers_or(task.workers, setup.workers()));
-    let run = ShippedRun { kind, profile };
-    Ok(StaffedRun { run, workers })
 }
 
 /// Chains the second manifest's client behind a first one.
@@ -111,7 +76,7 @@ where
         Ok(setup) => setup,
         Err(end) => return Answer::from(end),
     };
-    let Ok(second) = staffed(host, task, &setup) else {
+    let Ok(second) = staffed(host, &setup, task.seed, task.workers) else {
         return Answer::OutOfMemory;
     };
     chain_named(first, second, task.stimulus, shelf, out)
@@ -158,7 +123,7 @@ where
         Ok(setup) => setup,
         Err(end) => return Answer::from(end),
     };
-    let Ok(first) = staffed(host, task, &setup) else {
+    let Ok(first) = staffed(host, &setup, task.seed, task.workers) else {
         return Answer::OutOfMemory;
     };
     chain_behind(host, first, task, shelf, out)

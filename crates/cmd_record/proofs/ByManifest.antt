@@ -17,7 +17,7 @@ use Rattle.manifest.specs.Profiles.{profile_of}
 use Rattle.cli_answers.specs.Answers.{without_manifest}
 use Rattle.cli_answers.specs.declared.answer.BadManifest.{BadManifest}
 use Rattle.cli_answers.specs.Outcome.{Meets, Tells, told}
-use Rattle.cmd_setup.specs.Setup.{IsGood, setup_of}
+use Rattle.cmd_setup.specs.Setup.{setup_of}
 use Rattle.cmd_setup.proofs.Ending.{meets-end}
 use Rattle.cmd_record.specs.Outcomes.{demo_profile, demo_outcome, recorded_by_kind, recorded_by}
 use Rattle.cmd_record.specs.Outcomes.{record_names, record_outcome}
@@ -38,12 +38,6 @@ is-demo_outcome p text is = sym (ap (λ q. recorded_by_kind Bank q text) is)
 -- its job takes its parameters
 pub demo-good : (p : ProfileValue) → p ≡ demo_profile → bad_param Bank p.params (length p.events) ≡ None
 demo-good p is = ap (λ q. bad_param Bank q.params (length q.events)) is
-
--- the job of a manifest's profile takes its parameters
-pub profile-good : (m : ManifestValue) (p : ProfileValue) (kind : JobKind) (seed : ℕ) → IsGood m → kind ≡ m.kind
-    → p ≡ profile_of m seed → bad_param kind p.params (length p.events) ≡ None
-profile-good m p kind seed good same is =
-    ap (λ k. bad_param k p.params (length p.events)) same ∙ ap (λ q. bad_param m.kind q.params (length q.events)) is ∙ good
 
 module _ (strict : Bool) (first : ShelfState) (name stimulus : List ℕ) where
   -- the names that are opened, by what the manifest is

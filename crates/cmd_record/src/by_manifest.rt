@@ -9,10 +9,11 @@ ghost use Rattle.cmd_setup.specs.Setup.{setup_of};
 ghost use Rattle.cmd_record.specs.Outcomes.{record_names, record_outcome, record_work};
 
 use crate::over_stimulus::record_named;
+use crate::staffing::staffed;
 use cli_answers::Answer;
 use cmd_setup::read_setup;
 use det_edges::{Shelf, Sink};
-use shipped_crews::{Host, ShippedRun};
+use shipped_crews::{Host, StaffedRun};
 use std::thread::Threads;
 use worker_pool::Gate;
 
@@ -29,18 +30,6 @@ pub struct RecordTask<'t> {
     pub seed: Option<u64>,
     /// As many as the manifest says where none is given.
     pub workers: Option<u32>,
-}
-
-/// The number of workers that is given, or else the manifest's.
-fn workers_or(given: Option<u32>, own: u32) -> u32
-    requires given { IfSome given IsWorkers }
-    requires own { IsWorkers own }
-    ensures { IsWorkers result }
-{
-    match given {
-        Some(workers) => workers,
-        None => own,
-    }
 }
 
 /// Writes the record of a manifest's profile over a stimulus. The manifest is read and judged
@@ -78,11 +67,9 @@ where
         Ok(setup) => setup,
         Err(end) => return Answer::from(end),
     };
-    let Ok(profile) = setup.profile(host.alloc, task.seed.unwrap_or(0)) else {
+    let Ok(client) = staffed(host, &setup, task.seed, task.workers) else {
         return Answer::OutOfMemory;
     };
-    let kind = setup.kind();
-    let workers = host.workers(workers_or(task.workers, setup.workers()));
-    let run = ShippedRun { kind, profile };
+    let StaffedRun { run, workers } = client;
     record_named(&workers, run, task.stimulus, shelf, out)
 }

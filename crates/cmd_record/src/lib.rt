@@ -5,6 +5,8 @@
 mod built_in;
 mod by_manifest;
 mod over_stimulus;
+mod staffing;
 
 pub use built_in::demo;
 pub use by_manifest::{RecordTask, record_stimulus};
+pub use staffing::staffed;

@@ -1,13 +1,11 @@
-use Rattle.std.proofs.Common.{[], ◌∷◌, refl, ap, ◌∙◌}
-use Rattle.std.specs.Option.{unwrap_or}
+use Rattle.std.proofs.Common.{[], ◌∷◌, refl}
 use Rattle.det_edges.proofs.Opening.{asks-then-prefix}
-use Rattle.manifest.specs.Profiles.{profile_of}
 use Rattle.cli_answers.specs.Outcome.{told}
 use Rattle.cmd_setup.specs.Setup.{setup_of}
 use Rattle.cmd_setup.proofs.Ending.{can-end}
 use Rattle.cmd_record.specs.Outcomes.{record_work}
 use Rattle.cmd_record.proofs.Meeting.{rose-later, meets-as}
-use Rattle.cmd_record.proofs.ByManifest.{profile-good, by-told, still-told, met-end, asked-manifest, asked-both}
+use Rattle.cmd_record.proofs.ByManifest.{by-told, still-told, met-end, asked-manifest, asked-both}
 use Rattle.cmd_record.proofs.Recorded.{ends-record}
 use Rattle.cmd_record.proofs.by_manifest.record_stimulus.Goals as goal
 
@@ -33,10 +31,7 @@ returns-in_default-clause-judged g c = λ tells.
     (setup_of c.args.task.now.strict (told first c.args.task.now.manifest.now)) c.read_setup.ensures.asked
 
 pub record_named-requires-clause-good : goal.record_named-requires-clause-good
-record_named-requires-clause-good g c κs lives =
-    profile-good c.in-Ok.setup c.in-Ok-profile.profile c.kind-kind.result (unwrap_or c.args.task.now.seed 0)
-    c.in-Ok.ensures.good c.kind-kind.ensures
-    (c.in-Ok-profile.ensures.profile ∙ ap (profile_of c.in-Ok.setup) c.unwrap_or.ensures)
+record_named-requires-clause-good g c κs lives = c.in-Ok-staffed.ensures.good
 
 pub returns-clause-ends : goal.returns-clause-ends
 returns-clause-ends g c = ends-record _ c.record_named.ensures.ends
@@ -48,11 +43,11 @@ returns-clause-meets g c =
     let is = c.in-Ok.ensures.manifest in
     let task = c.args.task.now in
     let setup = c.in-Ok.setup in
-    let profile = c.in-Ok-profile.ensures.profile ∙ ap (profile_of setup) c.unwrap_or.ensures in
+    let run = c.in-Ok-staffed.client.run in
     meets-as _ _ _ _ _ _ _ _ _ _
     (still-told task.strict first task.manifest.now task.stimulus.now setup is mid c.read_setup.ensures.holds)
-    (by-told task.strict first task.manifest.now task.stimulus.now setup is mid task.seed c.kind-kind.result c.in-Ok-profile.profile
-    c.read_setup.ensures.holds c.kind-kind.ensures profile)
+    (by-told task.strict first task.manifest.now task.stimulus.now setup is mid task.seed run.kind run.profile
+    c.read_setup.ensures.holds c.in-Ok-staffed.ensures.kind c.in-Ok-staffed.ensures.profile)
     (rose-later _ _ _ c.read_setup.ensures.traffic.counted) c.record_named.ensures.meets
 
 pub returns-clause-asked : goal.returns-clause-asked
