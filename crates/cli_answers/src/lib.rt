@@ -5,8 +5,6 @@
 mod answer;
 mod line;
 mod status;
-#[cfg(test)]
-mod tests;
 
 pub use answer::{Answer, BadManifest};
 pub use line::Line;

@@ -23,6 +23,3 @@ pub use table::{
     COMMANDS, CommandWord, NONE, NameKind, OPTIONS, OptionRow, OptionSet, OptionWord, Row,
 };
 pub use text_word::TextWord;
-
-#[cfg(test)]
-mod tests;

@@ -4,6 +4,7 @@ ghost use Rattle.cli_words.specs.Alone.{text_word};
 
 use crate::reading::meant;
 
+/// Which text is asked for.
 #[derive(Clone, Copy)]
 pub enum TextWord {
     Help,

@@ -1,6 +1,8 @@
-//! Tests of commands, and of what one client of a chain gives to another.
+//! Tests of words, of answers, of commands, and of what one client of a chain gives to another.
 #![tactic(auto)]
 
+#[cfg(test)]
+mod answers;
 #[cfg(test)]
 mod chained;
 #[cfg(test)]
@@ -11,3 +13,5 @@ mod ran;
 mod recorded;
 #[cfg(test)]
 mod simulated;
+#[cfg(test)]
+mod words;

@@ -11,6 +11,3 @@ mod client;
 
 pub use activation::{Activation, Next};
 pub use client::{Client, MOST_CYCLES, NotAvailable};
-
-#[cfg(test)]
-mod tests;

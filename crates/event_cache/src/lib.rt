@@ -6,6 +6,3 @@ mod cache;
 mod rings;
 
 pub use cache::EventCache;
-
-#[cfg(test)]
-mod tests;

@@ -17,8 +17,3 @@ pub use pace::Pace;
 pub use queue::FrameQueue;
 pub use rest::Rest;
 pub use row::Row;
-
-#[cfg(test)]
-mod pace_tests;
-#[cfg(test)]
-mod queue_tests;

@@ -17,6 +17,3 @@ pub use first_refusal::FirstRefusalProbe;
 pub use gap::GapProbe;
 pub use limit::LimitProbe;
 pub use probe::{Probe, Wish};
-
-#[cfg(test)]
-mod tests;

@@ -13,6 +13,3 @@ mod state;
 pub use item::{StimError, StimFault, StimItem};
 pub use made::made_stimulus;
 pub use reader::StimReader;
-
-#[cfg(test)]
-mod tests;

@@ -1,5 +1,5 @@
 use Rattle.frame_queue.specs.Queues.{IsSenderOf}
-use Rattle.frame_queue.proofs.queue_tests.send_rows.Given as goal
+use Rattle.twin_tests.proofs.queue.send_rows.Given as goal
 
 abbrev pub invariant-loop-number : goal.invariant-loop-number
 invariant-loop-number g l = IsSenderOf l.queue l.sender

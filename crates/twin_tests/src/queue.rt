@@ -2,10 +2,10 @@
 ghost use Rattle.std.specs.Prelude.{◌≡◌, ◌∷◌, [], IfOk};
 ghost use Rattle.frame_queue.specs.Queues.{IsSenderOf, IsReceiverOf};
 
-use crate::{FrameQueue, Receiver, Rest, Row, Sender};
 use det_values::{
     Bytes, CycleInput, DrawnElements, Frame, OutOfMemory, Outcome, RunFrame, Sample, Samples,
 };
+use frame_queue::{FrameQueue, Receiver, Rest, Row, Sender};
 use std::alloc::Global;
 use std::sync::Wait;
 use std::test::Fail;

@@ -1,9 +1,10 @@
+//! Tests of the reading of a stimulus.
 ghost use Rattle.std.specs.Prelude.{◌<◌};
 
-use super::*;
 use det_values::OutOfMemory;
 use std::alloc::Global;
 use std::test::Fail;
+use stimulus::{StimError, StimFault, StimItem, StimReader, made_stimulus};
 
 /// What a text came to: how many blocks, whether the end was given, and the bad line, or 0.
 type Told = (usize, bool, u64);

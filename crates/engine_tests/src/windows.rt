@@ -1,7 +1,8 @@
+//! Tests of the windows of samples.
 ghost use Rattle.std.specs.Prelude.{◌≡◌, length, IfOk};
 
-use super::*;
 use det_values::{EventName, EventSpec, Events, OutOfMemory, Policy, Sample};
+use event_cache::EventCache;
 use std::alloc::Global;
 use std::test::Fail;
 

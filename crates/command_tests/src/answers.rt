@@ -1,5 +1,5 @@
 //! The lines of answers, and their exit statuses.
-use crate::{Answer, BadManifest};
+use cli_answers::{Answer, BadManifest};
 use manifest::{Key, KeyTable, ManifestFault, NeedKey, UnknownKey};
 use record_grammar::{Reason, RecordFault};
 use std::test::Fail;

@@ -2,8 +2,8 @@
 ghost use Rattle.std.specs.Prelude.{◌≡◌};
 ghost use Rattle.frame_queue.specs.Queues.{IsSenderOf, IsReceiverOf};
 
-use crate::{FrameQueue, Receiver, Row, Sender};
 use det_values::Frame;
+use frame_queue::{FrameQueue, Receiver, Row, Sender};
 use std::sync::Wait;
 use std::test::Fail;
 use std::thread::{Threads, join};

@@ -1,5 +1,6 @@
-use super::*;
+//! Tests of probes, and of an audience of them.
 use det_values::{Bytes, CycleInput, DrawnElements, Outcome, Phase, RefusedAt, RunFrame, Samples};
+use probes::{Audience, CountProbe, FirstRefusalProbe, GapProbe, LimitProbe, Probe};
 use std::alloc::Global;
 use std::test::Fail;
 

@@ -1,6 +1,7 @@
+//! Tests of the client: its activations, its times and its own words.
 ghost use Rattle.std.specs.Prelude.{◌≡◌};
 
-use super::*;
+use det_client::{Activation, Client, Next, NotAvailable};
 
 #[test]
 fn activation_life(rt: HostRuntime) {

@@ -1,5 +1,5 @@
 use Rattle.frame_queue.specs.Queues.{IsSenderOf}
-use Rattle.frame_queue.proofs.pace_tests.send_on.Given as goal
+use Rattle.twin_tests.proofs.pace.send_on.Given as goal
 
 abbrev pub invariant-rows : goal.invariant-rows
 invariant-rows g l = IsSenderOf l.queue l.sender

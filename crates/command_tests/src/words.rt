@@ -1,5 +1,5 @@
 //! Which words are a command.
-use super::*;
+use cli_words::{Options, TextWord, copies_of, read_words};
 use std::alloc::{AllocError, Global};
 use std::test::Fail;
 
