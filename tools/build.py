@@ -144,14 +144,15 @@ def stop_on_failure(progress: Progress, log: Path) -> None:
 
 
 def build_crates(progress: Progress, log: Path) -> None:
-    """Builds the crates below a program side by side, and checks the program's own."""
+    """Builds the crates below a program side by side. rt would go on and check the program, which
+    `link` does too: so it is stopped where all others are built."""
     words = ["rt", "all", "check", "--jobs", str(progress.jobs)]
     ways = ways_of(progress.uses, progress.seconds)
     first = max(ways, key=ways.__getitem__)
     ahead = proved_ahead(first, LOGS / "ahead", LOGS / "ahead.log", started)
     with ahead, started(words, CRATES / progress.program, log) as command:
         is_running = True
-        while is_running:
+        while is_running and not progress.is_program_left():
             is_running = command.poll() is None
             text = log.read_text(errors="replace")
             progress.read(text)
@@ -159,19 +160,20 @@ def build_crates(progress: Progress, log: Path) -> None:
             progress.tell()
             step_back(ways, len(os.sched_getaffinity(0)))
             time.sleep(PAUSE if is_running else 0)
-    if command.returncode:
+    if not is_running and command.returncode:
         told = part_of(text, progress.program)
         raise NotBuilt(f"it isn't proved; the last lines of {log} are:\n{last_lines(told)}")
 
 
 def link(program: str, log: Path) -> None:
-    """Compiles and links a program over the crates that are built. rt runs it then, too."""
-    tell(program, "all its crates are done; linking")
+    """Proves, compiles and links a program over the crates that are built, which takes minutes to
+    read, so by one command. rt runs the program then, too."""
+    tell(program, "all crates below it are built; proving and linking it")
     with started(["rt", "run", "--", "--version"], CRATES / program, log) as command:
         status = command.wait()
     if status or not program_file(program).is_file():
         told = last_lines(log.read_text(errors="replace"))
-        raise NotBuilt(f"it can't be linked and run; the last lines of {log} are:\n{told}")
+        raise NotBuilt(f"it isn't proved, linked or run; the last lines of {log} are:\n{told}")
 
 
 def build(program: str, jobs: Optional[int]) -> None:

@@ -2,8 +2,9 @@
 
 A crate that many others wait for, one above the other, is the first to be wanted. So of the crates
 at work those with the longest way from their beginning to the program's end keep a processor each,
-and the processes of all others are made so nice that they take what is left. On a system without
-/proc all share alike.
+and each further one is nicer than the one before it. One that comes to the front again is made
+less nice where the system lets, as it does for root; elsewhere it goes before those that are nicer
+still. On a system without /proc all share alike.
 """
 
 from __future__ import annotations
@@ -15,7 +16,8 @@ from typing import Iterator
 
 from crate_list import CRATES
 
-# The niceness of a process that takes what is left.
+# How much nicer each crate is than the one before it, and the most that a process can be.
+STEP = 5
 NICEST = 19
 
 
@@ -49,11 +51,13 @@ def proving() -> Iterator[tuple[str, int]]:
 
 
 def step_back(ways: dict[str, float], processors: int) -> None:
-    """Makes nice what proves a crate that as many others at work as there are processors go before.
-    Nothing is made less nice again: what has stepped back has a processor as soon as one is free."""
+    """Makes nice what proves a crate that as many others at work as there are processors go before,
+    and the nicer the more others do."""
     threads = [(name, thread) for name, thread in proving() if name in ways]
     at_work = sorted({name for name, _ in threads}, key=ways.__getitem__, reverse=True)
+    own = os.getpriority(os.PRIO_PROCESS, 0)
     for name, thread in threads:
-        if name in at_work[processors:]:
-            with suppress(OSError):
-                os.setpriority(os.PRIO_PROCESS, thread, NICEST)
+        behind = max(at_work.index(name) + 1 - processors, 0)
+        # It can end meanwhile, and only some may make a process less nice.
+        with suppress(OSError):
+            os.setpriority(os.PRIO_PROCESS, thread, min(own + STEP * behind, NICEST))

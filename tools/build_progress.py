@@ -82,6 +82,10 @@ class Progress:
         """Whether a folder was made in this build."""
         return folder.is_dir() and folder.stat().st_mtime >= self.begun
 
+    def is_program_left(self) -> bool:
+        """Whether all crates below the program are done, and the program isn't."""
+        return self.uses.keys() - self.done == {self.program}
+
     def failed(self) -> list[str]:
         """The libraries whose lines are there, and that weren't made."""
         done = [name for name in self.done if name != self.program]
