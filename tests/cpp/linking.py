@@ -47,25 +47,38 @@ MISUSED = {
 }
 
 
-def misused(bench: Bench, container: str, message: str) -> None:
-    """A pass over this container doesn't compile, for the reason that is told."""
+def refused(bench: Bench, text: str, message: str) -> None:
+    """A source of this text doesn't compile, for the reason that is told."""
     source = bench.folder / "misused.cpp"
-    source.write_text(f"""#include <array>
+    source.write_text(text)
+    for compiler in ("g++", "clang++"):
+        done = bench.command([compiler, *CPP, "-fsyntax-only", source])
+        if done.returncode == 0 or message not in done.stderr.decode(errors="replace"):
+            raise Failure(f"{compiler} takes it, or tells another reason")
+
+
+def misused(bench: Bench, container: str, message: str) -> None:
+    """A pass over this container doesn't compile."""
+    refused(bench, f"""#include <array>
 #include <list>
 #include "ara/exec/deterministic_client.h"
 bool Runs(ara::exec::DeterministicClient& client, ara::exec::WorkerRunnable<bool>& runnable, {container}& container) {{
   return client.RunWorkerPool(runnable, container).HasValue();
 }}
-""")
-    for compiler in ("g++", "clang++"):
-        done = bench.command([compiler, *CPP, "-fsyntax-only", source])
-        if done.returncode == 0 or message not in done.stderr.decode(errors="replace"):
-            raise Failure(f"{compiler} takes {container}, or tells another reason")
+""", message)
+
+
+def braced(bench: Bench) -> None:
+    """Numbers in braces, of which the first would be a null pointer, are no parameters of a record."""
+    refused(bench, """#include "ara/exec/recorder.h"
+bool Writes(ara::exec::Recorder& recorder, DetProfile const& profile) { return recorder.Header(profile, {0, 2}).HasValue(); }
+""", "deleted")
 
 
 def run_misused(bench: Bench) -> Sequence[str]:
-    return [line for container, message in MISUSED.items()
-            for line in told(f"misuse: {container} is refused by the compiler", partial(misused, bench, container, message))]
+    lines = [line for container, message in MISUSED.items()
+             for line in told(f"misuse: {container} is refused by the compiler", partial(misused, bench, container, message))]
+    return [*lines, *told("misuse: parameters in braces are refused by the compiler", partial(braced, bench))]
 
 
 def run_c(bench: Bench) -> Sequence[str]:

@@ -148,6 +148,7 @@ void HeadersOutOfRange() {
                                   std::string(1000, 'a')}) {
     CHECK(HeaderOutOfRange(kProfile, {}, {EventOf(name, 1)}));
   }
+  CHECK(HeaderOutOfRange(kProfile, {}, {EventOf({}, 1)}));  // a view of nothing
   CHECK(HeaderOutOfRange(kProfile, {}, {EventOf("x", 0)}));
   CHECK(HeaderOutOfRange(kProfile, {}, {EventOf("x", 1025)}));
   CHECK(HeaderOutOfRange(kProfile, {}, {EventOf("x", 1, static_cast<WindowPolicy>(2))}));

@@ -5,7 +5,7 @@
 #include <algorithm>
 #include <cstddef>
 #include <cstdint>
-#include <cstring>
+#include <initializer_list>
 #include <iterator>
 #include <memory>
 #include <new>
@@ -20,7 +20,7 @@
 
 namespace ara::exec {
 
-/// Items that lie in a row in the caller's memory, and are only looked at.
+/// Items that lie in a row in memory of the caller, who keeps them as long, and are only looked at.
 template <typename T>
 class Items {
  public:
@@ -28,6 +28,8 @@ class Items {
   constexpr Items(T const* first, std::size_t count) noexcept : first_(first), count_(count) {}
   template <typename Container>
   constexpr Items(Container const& items) noexcept : Items(std::data(items), std::size(items)) {}
+  /// Numbers in braces are no items: {0, 2} would be a null pointer and a count.
+  constexpr Items(std::initializer_list<T>) = delete;
 
   /// Never null, also where there are no items.
   T const* data() const noexcept { return count_ == 0 ? &nothing_ : first_; }
@@ -43,7 +45,7 @@ class Items {
 inline DetEvent EventOf(std::string_view name, std::uint16_t capacity,
                         WindowPolicy policy = WindowPolicy::kLast) noexcept {
   DetEvent event{};
-  std::memcpy(event.name, name.data(), std::min(name.size(), sizeof event.name));
+  std::copy_n(name.data(), std::min(name.size(), sizeof event.name), event.name);
   event.len = static_cast<std::uint8_t>(std::min(name.size(), std::size_t{255}));
   event.capacity = capacity;
   event.policy = static_cast<std::uint8_t>(policy);
