@@ -1,10 +1,10 @@
 /* A deterministic client for C: the exports of the static library det_client_c, which are proved.
  *
- * Memory is the caller's. Each pointer is to one live object, no two pointers of a call overlap,
- * and no other thread uses what a call is given. No call keeps a pointer, takes memory, waits or
- * ends the process. A struct is filled by the calls alone, and a copy of it is the same client,
- * stream or window again. A call that answers false leaves all that it was given as it was, but
- * for det_block. */
+ * Memory is the caller's. Each pointer is to one live object, or to as many as a count tells, and
+ * no two pointers of a call overlap. While a call runs, no other thread uses what it may change, or
+ * changes what it reads. No call keeps a pointer, takes memory, waits or ends the process. A struct
+ * is filled by the calls alone, and a copy of it is the same client, stream or window again. A call
+ * that answers false leaves all that it was given as it was, but for det_block. */
 #ifndef ARA_EXEC_DET_CLIENT_H
 #define ARA_EXEC_DET_CLIENT_H
 
@@ -52,15 +52,17 @@ bool det_client_new(DetClient *client, uint64_t cycle_time);
 
 /* Answers what the process does next: 0 register services, 1 discover services, 2 initialize, 3 run
  * a cycle, 4 terminate. A cycle has a time where `has_time`. With `stop`, and ever after, the
- * process terminates. False where 1,000,000 cycles ran and none is to stop. */
+ * process terminates. False where 1,000,000 cycles ran and this call has no `stop`, also where an
+ * earlier one had. */
 bool det_client_wait(DetClient *client, bool stop, bool has_time, uint64_t time,
                      uint8_t *activation);
 
-/* The time of the present cycle. False where it has none. */
+/* The time of the present cycle. False where it has none, before the first cycle, and where the
+ * process terminates. */
 bool det_client_time(const DetClient *client, uint64_t *time);
 
-/* The time of the next cycle: the present one and the cycle time. False where the present cycle has
- * none, or where the sum exceeds 2^64 - 1. */
+/* The time of the next cycle: that of the present one and the cycle time. False where
+ * det_client_time answers false, or where the sum exceeds 2^64 - 1. */
 bool det_client_next_time(const DetClient *client, uint64_t *time);
 
 /* Sets the seed of all words to come, and begins the client's own stream anew. */
@@ -72,7 +74,8 @@ uint64_t det_client_random(DetClient *client);
 /* The present seed. */
 uint64_t det_client_seed(const DetClient *client);
 
-/* The number of the present cycle, counted from 1; 0 before the first one. */
+/* The number of the present cycle, counted from 1; 0 before the first one, and where the process
+ * terminates that of the last one. */
 uint32_t det_client_cycle(const DetClient *client);
 
 /* ---- Random words of elements ---- */

@@ -6,9 +6,10 @@
  * part the bytes of all parts, in order, are one whole record.
  *
  * Memory is the caller's. Each pointer is to live objects, also one to no items; no two pointers of
- * a call overlap; no other thread uses what a call is given, and no call keeps a pointer. What a
- * call needs for itself it takes and gives back by rattle_alloc, rattle_realloc and
- * rattle_dealloc. */
+ * a call overlap; and no call keeps a pointer. While a call runs, no other thread uses what it may
+ * change, or changes what it reads. What a call needs for itself it takes and gives back by
+ * rattle_alloc, rattle_realloc and rattle_dealloc. No call is made in a signal handler, or in a
+ * child that a process with threads forked. */
 #ifndef ARA_EXEC_DET_RECORD_H
 #define ARA_EXEC_DET_RECORD_H
 
@@ -20,8 +21,9 @@
 extern "C" {
 #endif
 
-/* What a call answers, the first that holds. But for DET_RECORD_DONE, record, `out` and `written`
- * are as they were. */
+/* What a call answers. Where a part is misplaced nothing else is told, and of the other causes a
+ * value out of range goes first. But for DET_RECORD_DONE, record, `out` and `written` are as they
+ * were. */
 enum {
   DET_RECORD_DONE = 0,
   DET_RECORD_MISPLACED = 1,    /* this part may not come now */
@@ -95,7 +97,8 @@ uint8_t det_record_init(DetRecord *record, const DetElement *elements, size_t co
                         size_t room, size_t *written);
 
 /* A cycle that finished: its time, the samples that arrived in it, at most 4,096, the elements
- * behind it, and its output of at most 1,048,576 bytes. At most 1,000,000 cycles. */
+ * behind it, and its output of at most 1,048,576 bytes. Behind 1,000,000 cycles one more is
+ * misplaced. */
 uint8_t det_record_finished(DetRecord *record, const DetTime *time, const DetSample *samples,
                             size_t sample_count, const DetElement *elements, size_t count,
                             const uint8_t *output, size_t output_count, uint8_t *out, size_t room,

@@ -92,7 +92,8 @@ class DeterministicClient {
   DeterministicClient& operator=(DeterministicClient&&) noexcept = default;
 
   /// Waits for the next activation, and answers what to do: the three first ones once each, then
-  /// cycles, until the source stops the process.
+  /// cycles, at most 1,000,000, until the source stops the process. An error leaves the client at
+  /// the activation before.
   Result<ActivationReturnType> WaitForActivation() noexcept {
     Activation next;
     try {
@@ -145,7 +146,8 @@ class DeterministicClient {
   /// Sets the seed of all words to come.
   void SetRandomSeed(std::uint64_t seed) noexcept { det_client_set_seed(&client_, seed); }
 
-  /// The time of the present cycle, and of the next one by the cycle time.
+  /// The time of the present cycle, and of the next one by the cycle time. They count from where
+  /// the source's times do, so they are those of the steady clock where the source reads that one.
   Result<ActivationTimeStamp> GetActivationTime() const noexcept {
     return Stamp(GetActivationNanoseconds());
   }
@@ -170,10 +172,13 @@ class DeterministicClient {
     return {};
   }
 
-  /// How many words each element drew since the cycle began, over all passes.
+  /// How many words each element drew since the cycle began, over all passes; 2^32 - 1 stands for
+  /// more. There are as many numbers as the longest container had elements, and the next pass or
+  /// cycle changes them.
   std::vector<std::uint32_t> const& Draws() const noexcept { return draws_; }
 
-  /// The number of the present cycle, from 1; 0 before the first one.
+  /// The number of the present cycle, from 1; 0 before the first one, and behind kTerminate that of
+  /// the last one.
   std::uint32_t Cycle() const noexcept { return det_client_cycle(&client_); }
 
   std::uint64_t Seed() const noexcept { return det_client_seed(&client_); }

@@ -14,9 +14,9 @@
 
 namespace ara::exec {
 
-/// Which samples a window shows, at most as many as its capacity.
+/// Of which samples a window shows the newest, at most as many as its capacity.
 enum class WindowPolicy : std::uint8_t {
-  kLast = 0,  ///< the last of all cycles before
+  kLast = 0,  ///< those of all cycles before
   kFresh = 1  ///< those of the cycle just before
 };
 

@@ -99,7 +99,8 @@ class Recorder {
     });
   }
 
-  /// A cycle that was refused before its passes or behind them.
+  /// A cycle that was refused before its passes or behind them. With kPool it would be by element 0
+  /// in pass 0.
   Result<void> Refused(CycleInput const& input, RefusalPhase phase, std::uint32_t code) noexcept {
     return Refused(input, DetRefusal{0, code, static_cast<std::uint8_t>(phase), 0});
   }

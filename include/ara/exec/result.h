@@ -71,7 +71,8 @@ struct DeterministicError {
 };
 
 /// A value or an error. `Value` may be called only where there is one, `Error` only where not.
-/// Where <ara/core/result.h> is there, it turns into an ara::core::Result of the same value.
+/// Where <ara/core/result.h> is there, an rvalue turns into an ara::core::Result of the same value
+/// or code.
 template <typename T>
 class [[nodiscard]] Result {
  public:

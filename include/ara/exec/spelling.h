@@ -10,8 +10,8 @@
 
 namespace ara::exec {
 
-/// Appends a byte to an element. One of more than 64 bytes has the length 65, which the recorder
-/// answers as out of range.
+/// Appends a byte to an element, which begins as `DetElement{}`. One of more than 64 bytes has the
+/// length 65, which the recorder answers as out of range.
 inline void Append(DetElement& element, std::uint8_t byte) noexcept {
   if (element.len < sizeof element.bytes) element.bytes[element.len] = byte;
   if (element.len <= sizeof element.bytes) ++element.len;
