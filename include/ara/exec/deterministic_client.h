@@ -111,7 +111,7 @@ class DeterministicClient {
     return *activation_;
   }
 
-  /// The same by its later name.
+  /// The same by the name that other releases of the standard have.
   Result<ActivationReturnType> WaitForNextActivation() noexcept { return WaitForActivation(); }
 
   /// Runs the application's runnable over all elements of a container, once each. Behind it the
