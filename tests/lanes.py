@@ -27,6 +27,8 @@ MANIFEST = TOP / "examples" / "guard.toml"
 STIMULUS = TOP / "examples" / "guard.stim"
 # Bytes of the record that the slow cases write.
 LARGE = 100_000_000
+# What det_lane has on its own standard input.
+FOR_NO_CHILD = "no child is given this\n"
 
 
 @dataclass(frozen=True)
@@ -127,7 +129,7 @@ class Bench:
         name, value = self.mark.split("=")
         began = time.monotonic()
         done = subprocess.run([*self.lane, str(script), str(case.copies), str(MANIFEST), str(STIMULUS)], cwd=self.folder,
-                              capture_output=True, text=True, env=dict(os.environ, **{name: value}), stdin=subprocess.DEVNULL,
+                              capture_output=True, text=True, env=dict(os.environ, **{name: value}), input=FOR_NO_CHILD,
                               timeout=120, check=False)
         took = time.monotonic() - began
         wanted = (case.status, case.out.replace("LARGE", str(cycles)), case.err)
