@@ -6,6 +6,7 @@ Python's standard library is all that it needs. README.md in this folder says wh
 
 import argparse
 import os
+import shutil
 import subprocess
 import sys
 import tempfile
@@ -72,7 +73,8 @@ def pool_program(options: argparse.Namespace) -> Optional[Path]:
     """The program that times passes: the one that is given, or, where no program is, one that is built."""
     if options.pool or options.program:
         return options.pool and options.pool.resolve()
-    if subprocess.run(["rt", "run"], cwd=POOL, stdout=subprocess.DEVNULL).returncode != 0:
+    words = ["rt", "run"]
+    if not shutil.which("rt") or subprocess.run(words, cwd=POOL, stdout=subprocess.DEVNULL).returncode != 0:
         raise Failure("bench_pool can't be built")
     return POOL / "out" / "bench_pool"
 

@@ -115,7 +115,8 @@ def memory_of(words: list[str], output: Path, errors: Path) -> Optional[int]:
     _, status, usage = os.wait4(number, 0)
     code = os.waitstatus_to_exitcode(status)
     told = errors.read_text()
-    if code == BAD_WORDS and told == "bad words\n":
+    # Hints stand behind the line.
+    if code == BAD_WORDS and told.startswith("bad words\n"):
         return None
     if code != 0:
         print(told, end="", file=sys.stderr)

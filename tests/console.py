@@ -16,6 +16,7 @@ import argparse
 import os
 import subprocess
 import sys
+import tempfile
 from dataclasses import dataclass, field
 from pathlib import Path
 
@@ -57,9 +58,9 @@ def script_of(commands: list[Command], programs: Path | None) -> str:
     return "\n".join(parts) + "\n"
 
 
-def printed_by(commands: list[Command], programs: Path | None) -> list[list[str]]:
-    """What each command prints, line by line."""
-    environment = dict(os.environ, PROGRAMS=str(programs))
+def printed_by(commands: list[Command], programs: Path | None, room: str) -> list[list[str]]:
+    """What each command prints, line by line. Temporary files go to a folder."""
+    environment = dict(os.environ, PROGRAMS=str(programs), TMPDIR=room)
     done = subprocess.run(
         ["bash"],
         input=script_of(commands, programs),
@@ -91,7 +92,9 @@ def main() -> int:
         parser.error(f"{programs} has no program {', '.join(lacking)}")
     commands = commands_of(given.document)
     bad = 0
-    for command, output in zip(commands, printed_by(commands, programs)):
+    with tempfile.TemporaryDirectory(prefix="det-console-") as room:
+        outputs = printed_by(commands, programs, room)
+    for command, output in zip(commands, outputs):
         if output != command.prints:
             bad += 1
             print(f"{given.document}:{command.line}: {command.text}")

@@ -7,7 +7,7 @@ from dataclasses import dataclass, replace
 from pathlib import Path
 from typing import Any, Dict, List, Tuple
 
-from lanes import children_left
+from lanes import stays_child
 from mutations import in_first_format
 from refused_memory import placed
 
@@ -125,9 +125,11 @@ class Trial:
         env = dict(setting.names(), LD_PRELOAD=str(self.library), COUNTED=str(counted), MARK=mark)
         ended = self.plain(self.command(words), {"env": env, "pass_fds": [counted]})
         os.close(counted)
+        is_left = words.startswith(LANE) and stays_child(f"MARK={mark}")
         with os.fdopen(counts) as told:
-            numbers = [int(count) for count in told.read().split()]
-        if words.startswith(LANE) and children_left(mark):
+            # A child that is left has the other end too, so there would be no end to read to.
+            numbers = [] if is_left else [int(count) for count in told.read().split()]
+        if is_left:
             ended = replace(ended, err=b"a child is left\n")
         return ended, dict(zip(CALLS, numbers))
 

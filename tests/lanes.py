@@ -27,6 +27,8 @@ MANIFEST = TOP / "examples" / "guard.toml"
 STIMULUS = TOP / "examples" / "guard.stim"
 # Bytes of the record that the slow cases write.
 LARGE = 100_000_000
+# What det_lane has on its own standard input.
+FOR_NO_CHILD = "no child is given this\n"
 
 
 @dataclass(frozen=True)
@@ -75,15 +77,24 @@ CASES = [
 
 
 def children_left(mark: str) -> list[int]:
-    """The processes that have this mark among their words."""
+    """The processes that have this mark, NAME=VALUE, among their variables."""
     found = []
     for folder in Path("/proc").iterdir():
         try:
-            if folder.name.isdigit() and mark.encode() in (folder / "environ").read_bytes() and int(folder.name) != os.getpid():
+            if folder.name.isdigit() and mark.encode() in (folder / "environ").read_bytes().split(b"\0"):
                 found.append(int(folder.name))
         except OSError:
             pass
     return found
+
+
+def stays_child(mark: str) -> bool:
+    """Whether a child with this mark runs on. What a child started itself has a moment to find its output closed."""
+    for _ in range(20):
+        if not children_left(mark):
+            return False
+        time.sleep(0.1)
+    return True
 
 
 def large_record(program: list[str], folder: Path) -> int:
@@ -118,24 +129,16 @@ class Bench:
         name, value = self.mark.split("=")
         began = time.monotonic()
         done = subprocess.run([*self.lane, str(script), str(case.copies), str(MANIFEST), str(STIMULUS)], cwd=self.folder,
-                              capture_output=True, text=True, env=dict(os.environ, **{name: value}), stdin=subprocess.DEVNULL,
+                              capture_output=True, text=True, env=dict(os.environ, **{name: value}), input=FOR_NO_CHILD,
                               timeout=120, check=False)
         took = time.monotonic() - began
         wanted = (case.status, case.out.replace("LARGE", str(cycles)), case.err)
         got = (done.returncode, done.stdout, done.stderr)
         if got != wanted:
             return f"{got} in place of {wanted}"
-        if self.leaves_children():
+        if stays_child(self.mark):
             return "a child is left running"
         return f"took {took:.1f} seconds" if took > case.within else None
-
-    def leaves_children(self) -> bool:
-        """Whether a child runs on. What a child started itself has a moment to find its output closed."""
-        for _ in range(20):
-            if not children_left(self.mark):
-                return False
-            time.sleep(0.1)
-        return True
 
     def refused_starts(self) -> str | None:
         """Starts that are refused for want of files, at each of three copies: no child is left behind."""
@@ -148,7 +151,7 @@ class Bench:
             statuses.add(done.returncode)
             if done.stdout or (done.returncode == 10) != (done.stderr == "spawn fault\n"):
                 return f"with {most} files: {done.returncode} {done.stdout!r} {done.stderr!r}"
-            if self.leaves_children():
+            if stays_child(self.mark):
                 return f"with {most} files: a child is left"
         return None if statuses >= {9, 10} else f"statuses {statuses}"
 

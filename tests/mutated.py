@@ -31,9 +31,9 @@ from typing import Counter as CounterOf
 from typing import Dict, List, Tuple
 
 from mutated_cases import PROGRAM, Case, Cases
+from refused_memory import built
 
 TOP = Path(__file__).resolve().parent.parent
-PROGRAMS = ("det", "det_twin", "det_lane")
 # What the plain program answers where the words ask for a text.
 TEXT = "(a text)"
 # The most seconds that a run may take.
@@ -224,12 +224,7 @@ def programs_of(given: argparse.Namespace) -> Path:
     """The folder of the programs. Those of bin/ are built first, and linked into one folder."""
     if given.programs:
         return given.programs.resolve()
-    folder = Path(given.room) / "programs"
-    folder.mkdir()
-    for name in PROGRAMS:
-        subprocess.run([TOP / "bin" / name, "--version"], stdout=subprocess.DEVNULL, check=True)
-        (folder / name).symlink_to(TOP / "crates" / name / "out" / name)
-    return folder
+    return built(given.room / "programs")
 
 
 def run_all(given: argparse.Namespace) -> int:

@@ -12,9 +12,9 @@ to 64. Its digest is the SHA-256 of the three records, and has to be that of the
 tests/plain writes, which has one thread. While a record is made, the process is stopped and goes on
 at random moments, and its threads are pinned to random processors; beside it one process for each
 processor is busy, where no other number is given. Prints the digest, how many runs had it and how
-they were disturbed, or the first run that hasn't; ends with 1 where there is one. A run that takes
-more than a minute has none. bin/det builds where needed. Python's standard library and rustc are
-all that it needs, on Linux.
+they were disturbed, or the first run that hasn't; ends with 1 where there is one. A run with a
+record that takes more than a minute has none. bin/det builds where needed. Python's standard
+library and rustc are all that it needs, on Linux.
 """
 
 import argparse

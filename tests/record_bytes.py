@@ -77,6 +77,16 @@ def many_runs(runs: int) -> bytes:
     return header(2, 9, [], []) + init([]) + run * runs + b"\5"
 
 
+def of_words(cycles: list[list[int]]) -> bytes:
+    """A record of an unknown job in whose cycles the elements are these numbers."""
+    runs = []
+    for words in cycles:
+        elements = [(number(8, word), 0) for word in words]
+        runs.append(given(None, []) + finished(2, elements, b""))
+    start = header(2, 9, [], []) + init([bytes(8)] * len(cycles[0]))
+    return start + b"".join(runs) + b"\5"
+
+
 def counted(runs: int) -> bytes:
     """A bank of one channel whose level is the number of the cycle, at one time a cycle. Each
     cycle of which 1,000 is a divisor is refused in prepare with code 3."""

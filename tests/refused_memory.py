@@ -32,7 +32,7 @@ from pathlib import Path
 from typing import Counter as CounterOf
 from typing import List, Optional, Tuple
 
-from lanes import children_left
+from lanes import stays_child
 from mutations import in_first_format
 
 TOP = Path(__file__).resolve().parent.parent
@@ -134,11 +134,12 @@ class Trial:
             check=False,
         )
         os.close(counted)
+        is_left = words.startswith(LANE) and stays_child(f"MARK={mark}")
         with os.fdopen(counts) as told:
-            count = told.read()
-        if words.startswith(LANE) and children_left(mark):
-            return Ended(done.returncode, done.stdout, b"a child is left"), int(count or 0)
-        return Ended(done.returncode, done.stdout, done.stderr.partition(b"\n")[0]), int(count or 0)
+            # A child that is left has the other end too, so there would be no end to read to.
+            count = "" if is_left else told.read()
+        line = b"a child is left" if is_left else done.stderr.partition(b"\n")[0]
+        return Ended(done.returncode, done.stdout, line), int(count or 0)
 
 
 def way_of(words: str, ended: Ended, whole: Ended) -> str:

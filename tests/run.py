@@ -9,7 +9,7 @@ the documents.
 
 Prints a line for each test: `ok`, `skipped` with the reason, or `WRONG` with what is wrong, and
 behind the name how long it took. Ends with 1 where a test is wrong or none was run. Python's
-standard library is all that it needs; some tests want gcc and bash.
+standard library is all that it needs; some tests want bash, make, gcc, g++, clang++ or rustc.
 """
 
 from __future__ import annotations

@@ -5,7 +5,7 @@ from __future__ import annotations
 import re
 from typing import Callable, Iterator, Optional
 
-from record_bytes import counted, many_runs, mixed_record
+from record_bytes import counted, many_runs, mixed_record, of_words
 from view_room import Room
 from view_texts import Page, Shown, ShownCycle, pixels, shown_of, signed
 
@@ -130,6 +130,14 @@ def other_jobs(room: Room) -> Optional[str]:
     return None if page.rows[-5:] == expected else f"{page.rows[-5:]} for {expected}"
 
 
+def near_values(room: Room) -> Optional[str]:
+    """Numbers that are the same as floats are drawn, and told apart."""
+    words = [2**62, 2**62 + 1]
+    page = Page(record_page(room.file("near.rec", of_words([[word] for word in words])), None))
+    found = page.series("word 0", "element 0")
+    return None if found == [str(word) for word in words] else f"{found}"
+
+
 def broken_records(room: Room) -> Optional[str]:
     data = mixed_record(2)
     for length in range(len(data)):
@@ -227,6 +235,17 @@ def maps(room: Room) -> Optional[str]:
     return None
 
 
+def own_elements(room: Room) -> Optional[str]:
+    """Element 0 differs in cycle 1 and element 2 in cycle 3, and no title tells of both."""
+    cycles = [[0, 0, 0], [0, 0, 0], [0, 0, 0]]
+    others = [[5, 0, 0], [0, 0, 0], [0, 0, 5]]
+    files = [room.file("one.rec", of_words(cycles)), room.file("two.rec", of_words(others))]
+    titles = Page(copies_page(files, None)).titles["Where copy 1 differs from copy 0"]
+    told = "elements differ: 1, from {0} to {0}"
+    expected = [f"cycle 1\n{told.format(0)}", "cycle 2\nequal", f"cycle 3\n{told.format(2)}"]
+    return None if titles == expected else f"{titles} for {expected}"
+
+
 def words_of_places(room: Room) -> Optional[str]:
     """Register, Discover and Init are before cycle 1, and of rows the header too."""
     frame = 3
@@ -309,20 +328,34 @@ def wrong_words(room: Room) -> Optional[str]:
     return None
 
 
+def full_outputs(room: Room) -> Optional[str]:
+    """Where standard output is full, each tool says so in one line, and ends with 7."""
+    file = room.file("full.rec", mixed_record(2))
+    for name in ("det_view.py", "det_record.py"):
+        with open("/dev/full", "wb") as full:
+            status, _, err = room.tool(name, file, out=full)
+        if status != 7 or err.count("\n") != 1 or "write" not in err:
+            return f"{name} ends with {status}: {err}"
+    return None
+
+
 PAGES: list[tuple[str, Callable[[Room], Optional[str]]]] = [
     ("the summary of a page is that of the text", facts),
     ("the strip tells each cycle as the text does", strips),
     ("the charts have the values of the elements", element_values),
     ("elements of another job are words or hex digits", other_jobs),
+    ("numbers that are the same as floats are told apart", near_values),
     ("a page of each shorter length tells the fault and the cycles before it", broken_records),
     ("a page of copies, one of them shorter, tells the fault", broken_copies),
     ("copies with any byte changed have the verdict of `compare`", verdicts),
     ("eight copies have the verdict of `compare`", eight_copies),
     ("the map has each cycle and element that differs", maps),
+    ("a cycle of the map has its own elements alone", own_elements),
     ("the first difference is said in words", words_of_places),
     ("columns of many cycles have their sums and ranges", columns),
     ("a map of many cycles has the one that differs", large_maps),
     ("a page of 1,000,000 cycles is small and says what a column is", one_million),
     ("a page is well formed and needs no network", no_network),
     ("wrong words and files end with their status", wrong_words),
+    ("a full standard output is a write fault", full_outputs),
 ]

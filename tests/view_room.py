@@ -5,6 +5,7 @@ from __future__ import annotations
 import subprocess
 import sys
 from pathlib import Path
+from typing import IO, Union
 
 from record_bytes import FORMATS, mixed_record
 
@@ -24,11 +25,13 @@ class Room:
         told = done.stderr.decode().splitlines(keepends=True)
         return done.stdout, "".join(line for line in told if not line.startswith("  "))
 
-    def tool(self, name: str, *words: str) -> tuple[int, str, str]:
+    def tool(
+        self, name: str, *words: str, out: Union[int, IO[bytes]] = subprocess.PIPE
+    ) -> tuple[int, str, str]:
         """The status of a tool, and what it writes."""
         words = (sys.executable, str(TOP / "tools" / name), *words)
-        done = subprocess.run(words, capture_output=True)
-        return done.returncode, done.stdout.decode(), done.stderr.decode()
+        done = subprocess.run(words, stdout=out, stderr=subprocess.PIPE)
+        return done.returncode, (done.stdout or b"").decode(), done.stderr.decode()
 
     def file(self, name: str, data: bytes) -> str:
         path = self.folder / name

@@ -4,7 +4,8 @@
     python3 tools/det_record.py RECORD
 
 prints a summary of a record. It ends with 5 where the record has a fault, whose line is that of
-`det show`, and with 6 where the file can't be read. As a module:
+`det show`, with 6 where the file can't be read, and with 7 where the summary can't be written. As a
+module:
 
     with open(name, "rb") as stream:
         for item in RecordReader(stream).items():
@@ -21,7 +22,7 @@ import argparse
 import struct
 import sys
 from dataclasses import dataclass
-from typing import BinaryIO, Iterator, NoReturn, Optional, Sequence
+from typing import BinaryIO, Container, Iterator, NoReturn, Optional, Sequence
 
 from record_values import (
     BadRecord,
@@ -70,6 +71,7 @@ MOST_SAMPLES = 4_096
 MOST_OUTPUT = 1_048_576
 MOST_VALUE = 10**12
 PIECE = 1 << 18
+STANDARD_OUTPUT = 1
 NAME_BYTES = frozenset(b"abcdefghijklmnopqrstuvwxyz0123456789_")
 SAMPLE = struct.Struct(">Hq")
 # What reads an unsigned number of so many bytes.
@@ -163,7 +165,7 @@ class Cursor:
         for byte in expected:
             self.one_of((byte,), reason)
 
-    def one_of(self, allowed: Sequence[int], reason: Reason) -> int:
+    def one_of(self, allowed: Container[int], reason: Reason) -> int:
         """A byte that is one of those allowed."""
         if not self.has(1):
             self.truncated()
@@ -371,16 +373,23 @@ def header_lines(header: Header) -> Iterator[str]:
         yield f"event {number} {event.name} {event.capacity} {event.policy}"
 
 
-def summarize(name: str) -> int:
+def summary_of(name: str) -> Summary:
     summary = Summary()
     with open(name, "rb") as stream:
         for _ in summary.read(stream):
             pass
-    print("\n".join(summary.lines()))
-    if summary.fault is None:
-        return 0
-    print(f"bad record: copy 0 {summary.fault}", file=sys.stderr)
-    return 5
+    return summary
+
+
+def write(summary: Summary) -> None:
+    """Writes a summary to standard output, which may be closed."""
+    with open(STANDARD_OUTPUT, "w", encoding="ascii", closefd=False) as out:
+        out.writelines(f"{line}\n" for line in summary.lines())
+
+
+def fail(status: int, line: str) -> int:
+    print(line, file=sys.stderr)
+    return status
 
 
 def main() -> int:
@@ -388,11 +397,16 @@ def main() -> int:
         description=__doc__, formatter_class=argparse.RawDescriptionHelpFormatter
     )
     parser.add_argument("record", metavar="RECORD")
+    name = parser.parse_args().record
     try:
-        return summarize(parser.parse_args().record)
+        summary = summary_of(name)
     except OSError as error:
-        print(f"read fault: {error}", file=sys.stderr)
-        return 6
+        return fail(6, f"read fault: {error}")
+    try:
+        write(summary)
+    except OSError as error:
+        return fail(7, f"write fault: {error}")
+    return 0 if summary.fault is None else fail(5, f"bad record: copy 0 {summary.fault}")
 
 
 if __name__ == "__main__":

@@ -23,6 +23,7 @@ from view.gather import MOST_CHOSEN, NoSuchElement
 from view.page import record_page
 
 MOST_RECORDS = 8
+STANDARD_OUTPUT = 1
 
 
 def chosen_elements(word: str) -> list[int]:
@@ -43,11 +44,14 @@ def page_of(names: Sequence[str], elements: Optional[Sequence[int]]) -> str:
 
 
 def write(page: str, name: Optional[str]) -> None:
-    if name is None:
-        sys.stdout.buffer.write(page.encode())
-        sys.stdout.buffer.flush()
-    else:
-        Path(name).write_text(page, encoding="utf-8")
+    """Writes a page to a file, or to standard output, which may be closed."""
+    # The name of a record, which stands on the page, may not be UTF-8.
+    data = page.encode(errors="replace")
+    if name is not None:
+        Path(name).write_bytes(data)
+        return
+    with open(STANDARD_OUTPUT, "wb", closefd=False) as out:
+        out.write(data)
 
 
 def fail(status: int, line: str) -> int:

@@ -3,9 +3,9 @@
 
     rt ci | python3 tools/gate_times.py
 
-The gate's lines pass through. Behind them stands a table of what was proved or tried in this run, in the order in which it was
-done; what was kept from an earlier run is counted alone. Crates are proved side by side, so the minutes of two crates
-aren't apart by the time that one took. Python's standard library is all that it needs.
+The gate's lines pass through. Behind them stands a table of the crates and tests that were proved in this run, and of the crates
+whose edits were begun, in that order; what was kept from an earlier run is counted alone. Crates are proved side by side, so the
+minutes of two crates aren't apart by the time that one took. Python's standard library is all that it needs.
 """
 
 from __future__ import annotations
@@ -17,7 +17,7 @@ import time
 DONE = (
     (re.compile(r"^rt: (\w+) proved$"), "proved"),
     (re.compile(r"^rt: (\w+): its tests are proved$"), "its tests proved"),
-    (re.compile(r"^rt: (\w+): (\d+) .*refused$"), "its edits refused"),
+    (re.compile(r"^rt: (\w+): trying its must-fail edits"), "its edits begun"),
 )
 KEPT = re.compile(r"^rt: \w+ is kept")
 

@@ -12,10 +12,9 @@ is all that it needs.
 
 from __future__ import annotations
 
-from __future__ import annotations
-
 import argparse
 import os
+import shlex
 import sys
 from dataclasses import dataclass
 from pathlib import Path
@@ -81,8 +80,10 @@ def tools(prefix: str) -> list[Copy]:
     """The tools of records, and for each a program of its name."""
     names = [name for pattern in MODULES for name in matching(pattern)]
     there = [name for name in TOOLS if f"tools/{name}.py" in names]
-    call = '#!/bin/sh\nexec python3 "{}/share/det/tools/{}.py" "$@"\n'
-    calls = [Copy(f"bin/{it}", call.format(prefix, it).encode(), PROGRAM) for it in there]
+    files = {it: shlex.quote(f"{prefix}/share/det/tools/{it}.py") for it in there}
+    # Python would leave files of its own beside the modules, which nothing removes.
+    call = '#!/bin/sh\nexec python3 -B {} "$@"\n'
+    calls = [Copy(f"bin/{it}", call.format(file).encode(), PROGRAM) for it, file in files.items()]
     return calls + [Copy(f"share/det/{name}", source(name)) for name in names]
 
 

@@ -73,12 +73,11 @@ class Bench:
             raise Failure(f"{Path(str(words[0])).name} ended with {done.returncode}: {first_error(told)}")
         return done.stdout
 
-    def compiled(self, compiler: str, sources: Sequence[str], name: str, flags: Sequence[str] = (),
-                 linked: Sequence[object] = ()) -> Path:
+    def compiled(self, compiler: str, sources: Sequence[str], name: str, flags: Sequence[str]) -> Path:
         """A program of these sources and the library."""
         program = self.folder / name
         files = [SOURCES / source for source in sources]
-        self.output([compiler, *flags, *files, *linked, self.archive, "-pthread", "-o", program])
+        self.output([compiler, *flags, *files, self.archive, "-pthread", "-o", program])
         return program
 
     def lines(self, words: Sequence[object]) -> Sequence[str]:

@@ -19,7 +19,7 @@ SEQUENTIAL = ("words", "blocks", "windows")
 def run_program(program: str, build: str, bench: Bench) -> Sequence[str]:
     compiler, flags = BUILDS[build]
     try:
-        made = bench.compiled(compiler, [f"{program}.cpp"], f"{program}_{build}", [*CPP, *flags], ())
+        made = bench.compiled(compiler, [f"{program}.cpp"], f"{program}_{build}", [*CPP, *flags])
         return bench.lines([made])
     except Failure as failure:
         return [f"FAILED {program}: {failure}"]

@@ -8,7 +8,7 @@ from typing import Sequence
 
 from building import CPP, INCLUDE, SOURCES, TOP, WARNINGS, Bench, Failure, Group, told
 
-C = ("-std=c11", "-Wall", "-Wextra", "-Werror", "-pedantic", f"-I{INCLUDE}")
+C = ("-std=c11", *WARNINGS, f"-I{INCLUDE}")
 C_HEADERS = ("det_client", "det_record")
 ARM = "aarch64-unknown-linux-gnu"
 

@@ -19,7 +19,7 @@ OWN = ("command", "rows", "status", "stdout", "stdout.hex", "stderr", "stdin", "
 
 def bytes_of_hex(text: str) -> bytes:
     """The bytes of hex digits, with remarks behind #, and `N*(..)` for digits N times."""
-    digits = "".join(line.split("#")[0] for line in text.splitlines())
+    digits = "\n".join(line.split("#")[0] for line in text.splitlines())
     digits = re.sub(r"(\d+)\*\(([^()]*)\)", lambda found: int(found[1]) * found[2], digits)
     return bytes.fromhex(digits)
 

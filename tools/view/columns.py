@@ -13,7 +13,7 @@ MOST_COLUMNS = 512
 RefusalKind = tuple[Phase, int]
 
 
-@dataclass
+@dataclass(frozen=True)
 class Range:
     """The least and the greatest of some values, their sum and their number."""
 
@@ -26,12 +26,6 @@ class Range:
     def mean(self) -> float:
         return self.total / self.count
 
-    def join(self, other: Range) -> None:
-        self.least = min(self.least, other.least)
-        self.greatest = max(self.greatest, other.greatest)
-        self.total += other.total
-        self.count += other.count
-
 
 def range_of(values: Sequence[int]) -> Optional[Range]:
     if not values:
@@ -42,8 +36,8 @@ def range_of(values: Sequence[int]) -> Optional[Range]:
 def joined(one: Optional[Range], other: Optional[Range]) -> Optional[Range]:
     if one is None or other is None:
         return one or other
-    one.join(other)
-    return one
+    least, greatest = min(one.least, other.least), max(one.greatest, other.greatest)
+    return Range(least, greatest, one.total + other.total, one.count + other.count)
 
 
 @dataclass

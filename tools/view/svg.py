@@ -61,7 +61,10 @@ def scale_of(values: Iterable[float], start: float, end: float) -> Scale:
     """A scale that has room for values, of which there is one."""
     kept = list(values)
     low, high = min(kept), max(kept)
-    margin = (high - low) * 0.05 or max(1.0, abs(high) * 0.05)
+    margin = (high - low) * 0.05
+    # They are equal, or nearer to one another than a float tells.
+    if low - margin == high + margin:
+        margin = max(1.0, abs(high) * 0.05)
     return Scale(low - margin, high + margin, start, end)
 
 
