@@ -14,7 +14,7 @@ programs:
 
 # The static library for C and C++ is out/lib/libdeterministic_client.a.
 library:
-	if [ -e bin/build_library ]; then bin/build_library; fi
+	bin/build_library
 
 # The list of the theorem's definitions, the gate, and the tests behind it.
 check:

@@ -88,9 +88,7 @@ def tools(prefix: str) -> list[Copy]:
 
 
 def library(prefix: str, version: str) -> list[Copy]:
-    """The static library with its headers and the file for pkg-config, where cpp/ is there."""
-    if not (TOP / "cpp").is_dir():
-        return []
+    """The static library with its headers and the file for pkg-config."""
     headers = matching("include/ara/exec/*.h")
     if not headers:
         raise Refused("include/ara/exec has no headers")

@@ -25,8 +25,8 @@ def installer(programs: Programs, folder: Path, *words: str, umask: int = 0o022)
 
 
 def needs_library() -> None:
-    """Skips a test where the library is part of the repository and isn't built."""
-    if (TOP / "cpp").is_dir() and not (TOP / "out" / LIBRARY).is_file():
+    """Skips a test where the library isn't built."""
+    if not (TOP / "out" / LIBRARY).is_file():
         raise Skipped(f"out/{LIBRARY} isn't built")
 
 
@@ -35,12 +35,10 @@ def wanted_files() -> list[str]:
     found = [f"bin/{it}" for it in NAMES] + [f"share/man/man1/{it}.1" for it in NAMES]
     documents = ("README.md", "docs/FORMATS.md", "examples/bank.toml")
     found += [f"share/doc/det/{it}" for it in documents]
-    if (TOP / "cpp").is_dir():
-        headers = [path.name for path in (TOP / "include/ara/exec").glob("*.h")]
-        found += [LIBRARY, "lib/pkgconfig/deterministic_client.pc"]
-        found += [f"include/ara/exec/{it}" for it in headers]
-    tools = [it for it in ("det_record", "det_view") if (TOP / "tools" / f"{it}.py").is_file()]
-    return found + [f"bin/{it}" for it in tools]
+    headers = [path.name for path in (TOP / "include/ara/exec").glob("*.h")]
+    found += [LIBRARY, "lib/pkgconfig/deterministic_client.pc"]
+    found += [f"include/ara/exec/{it}" for it in headers]
+    return found + ["bin/det_record", "bin/det_view"]
 
 
 def wrong_modes(root: Path) -> list[str]:

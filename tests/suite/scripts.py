@@ -1,4 +1,4 @@
-"""The other test programs of this folder, each as one test, where they are there."""
+"""The other test programs of tests/, each as one test."""
 
 from __future__ import annotations
 
@@ -63,9 +63,7 @@ def wrong(script: Path, programs: Programs) -> Optional[str]:
 
 
 def tests(programs: Programs) -> list[Test]:
-    scripts = [TOP / "tests" / name for name in SCRIPTS]
     return [
-        Test(" ".join([f"tests/{it.name}", *SCRIPTS[it.name]]), partial(wrong, it, programs))
-        for it in scripts
-        if it.is_file()
+        Test(" ".join([f"tests/{name}", *words]), partial(wrong, TOP / "tests" / name, programs))
+        for name, words in SCRIPTS.items()
     ]
