@@ -16,8 +16,8 @@ SECONDS = TOP / "tools" / "build_seconds.txt"
 AT_LEAST = 20
 LINES_IN_A_SECOND = 20
 # Seconds that rt looks over all sources before the first crate, and that linking takes.
-LOOK = 130
-LINK = 100
+LOOK = 150
+LINK = 60
 # The pace of a build is taken from what it did in so many seconds or more, within bounds.
 SETTLED = 60
 BOUNDS = (0.2, 3.0)
