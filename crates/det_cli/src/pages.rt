@@ -146,7 +146,7 @@ Standard output takes one line: `agree N`, where all copies are equal and whole
 and have N cycles, or `differ copy K PLACE`, where K is the first copy that is
 not equal to copy 0 at that place. The places, in the order of a record:
 
-  header         the job, seed, parameters, events or the format
+  header         the job, seed, cycle time, parameters, events or the format
   kind F         the kind of frame F, counted from 0
   time C         the time that cycle C was given
   samples C      the samples that cycle C was given
