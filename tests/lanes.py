@@ -22,13 +22,19 @@ import time
 from dataclasses import dataclass
 from pathlib import Path
 
+from children import run_group, stays_child
+
 TOP = Path(__file__).resolve().parent.parent
 MANIFEST = TOP / "examples" / "guard.toml"
 STIMULUS = TOP / "examples" / "guard.stim"
+# The most seconds that a run may take.
+LIMIT = 120
 # Bytes of the record that the slow cases write.
 LARGE = 100_000_000
 # What det_lane has on its own standard input.
 FOR_NO_CHILD = "no child is given this\n"
+# What it writes is read as text.
+PIPES = {"stdout": subprocess.PIPE, "stderr": subprocess.PIPE, "text": True}
 
 
 @dataclass(frozen=True)
@@ -76,27 +82,6 @@ CASES = [
 ]
 
 
-def children_left(mark: str) -> list[int]:
-    """The processes that have this mark, NAME=VALUE, among their variables."""
-    found = []
-    for folder in Path("/proc").iterdir():
-        try:
-            if folder.name.isdigit() and mark.encode() in (folder / "environ").read_bytes().split(b"\0"):
-                found.append(int(folder.name))
-        except OSError:
-            pass
-    return found
-
-
-def stays_child(mark: str) -> bool:
-    """Whether a child with this mark runs on. What a child started itself has a moment to find its output closed."""
-    for _ in range(20):
-        if not children_left(mark):
-            return False
-        time.sleep(0.1)
-    return True
-
-
 def large_record(program: list[str], folder: Path) -> int:
     """Writes the file `large`, and answers how many cycles it has."""
     (folder / "large.toml").write_text("job = 'cloud'\ncycle_time_ns = 10\nworkers = 4\nparams = [60000, 1000000, 3, 4000000]\n"
@@ -128,9 +113,8 @@ class Bench:
         script.chmod(0o755)
         name, value = self.mark.split("=")
         began = time.monotonic()
-        done = subprocess.run([*self.lane, str(script), str(case.copies), str(MANIFEST), str(STIMULUS)], cwd=self.folder,
-                              capture_output=True, text=True, env=dict(os.environ, **{name: value}), input=FOR_NO_CHILD,
-                              timeout=120, check=False)
+        done = run_group([*self.lane, str(script), str(case.copies), str(MANIFEST), str(STIMULUS)], LIMIT, cwd=self.folder,
+                         env=dict(os.environ, **{name: value}), input=FOR_NO_CHILD, **PIPES)
         took = time.monotonic() - began
         wanted = (case.status, case.out.replace("LARGE", str(cycles)), case.err)
         got = (done.returncode, done.stdout, done.stderr)
@@ -145,9 +129,8 @@ class Bench:
         statuses = set()
         name, value = self.mark.split("=")
         for most in range(4, 24):
-            done = subprocess.run([*self.lane, "yes", "3", "m", "s"], cwd=self.folder, capture_output=True, text=True, timeout=60,
-                                  env=dict(os.environ, **{name: value}), check=False,
-                                  preexec_fn=lambda most=most: resource.setrlimit(resource.RLIMIT_NOFILE, (most, most)))
+            done = run_group([*self.lane, "yes", "3", "m", "s"], LIMIT, cwd=self.folder, env=dict(os.environ, **{name: value}),
+                             preexec_fn=lambda most=most: resource.setrlimit(resource.RLIMIT_NOFILE, (most, most)), **PIPES)
             statuses.add(done.returncode)
             if done.stdout or (done.returncode == 10) != (done.stderr == "spawn fault\n"):
                 return f"with {most} files: {done.returncode} {done.stdout!r} {done.stderr!r}"

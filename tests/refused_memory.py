@@ -32,7 +32,7 @@ from pathlib import Path
 from typing import Counter as CounterOf
 from typing import List, Optional, Tuple
 
-from lanes import stays_child
+from children import run_group, stays_child
 from mutations import in_first_format
 
 TOP = Path(__file__).resolve().parent.parent
@@ -123,15 +123,15 @@ class Trial:
         counts, counted = os.pipe()
         mark = f"{self.folder.name}-{refused}"
         names = {"LD_PRELOAD": str(self.library), "REFUSED": str(refused), "COUNTED": str(counted)}
-        done = subprocess.run(
+        done = run_group(
             self.command(words),
+            LIMIT,
             cwd=TOP,
             env={**names, "MARK": mark},
             pass_fds=[counted],
             stdin=subprocess.DEVNULL,
-            capture_output=True,
-            timeout=LIMIT,
-            check=False,
+            stdout=subprocess.PIPE,
+            stderr=subprocess.PIPE,
         )
         os.close(counted)
         is_left = words.startswith(LANE) and stays_child(f"MARK={mark}")

@@ -46,13 +46,21 @@ def program_file(name: str) -> Path:
     return CRATES / name / "out" / name
 
 
+def changed(path: str) -> float:
+    """When a file was changed last; 0 where there is none, as behind an editor's link."""
+    try:
+        return os.stat(path).st_mtime
+    except FileNotFoundError:
+        return 0.0
+
+
 def newest_source(crate: str) -> float:
     """When a source of a crate, or a folder of its sources, was changed last."""
     times = [0.0]
     for part in PARTS:
         for folder, _, files in os.walk(CRATES / crate / part):
-            times.append(os.stat(folder).st_mtime)
-            times += [os.stat(os.path.join(folder, name)).st_mtime for name in files]
+            times.append(changed(folder))
+            times += [changed(os.path.join(folder, name)) for name in files]
     return max(times)
 
 

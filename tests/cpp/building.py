@@ -1,11 +1,11 @@
 """How tests are compiled and run, and how their lines are counted."""
 
-import os
-import signal
 import subprocess
 from dataclasses import dataclass
 from pathlib import Path
 from typing import Callable, Sequence
+
+from children import run_group
 
 TOP = Path(__file__).resolve().parent.parent.parent
 SOURCES = TOP / "tests" / "cpp"
@@ -54,16 +54,11 @@ class Bench:
     def command(self, words: Sequence[object]) -> "subprocess.CompletedProcess[bytes]":
         """Runs a command, whatever status it ends with. None of its children outlives it."""
         command = [str(word) for word in words]
-        with subprocess.Popen(command, stdin=subprocess.DEVNULL, stdout=subprocess.PIPE, stderr=subprocess.PIPE, cwd=self.folder,
-                              start_new_session=True) as child:
-            try:
-                out, err = child.communicate(timeout=LIMIT)
-            except BaseException as ended:
-                os.killpg(child.pid, signal.SIGKILL)
-                if isinstance(ended, subprocess.TimeoutExpired):
-                    raise Failure(f"took more than {LIMIT} seconds: {command[0]}") from None
-                raise
-        return subprocess.CompletedProcess(command, child.returncode, out, err)
+        try:
+            return run_group(command, LIMIT, stdin=subprocess.DEVNULL, stdout=subprocess.PIPE, stderr=subprocess.PIPE,
+                             cwd=self.folder)
+        except subprocess.TimeoutExpired:
+            raise Failure(f"took more than {LIMIT} seconds: {command[0]}") from None
 
     def output(self, words: Sequence[object]) -> bytes:
         """What a command writes that has to end well."""

@@ -1,4 +1,4 @@
-"""The usage and the pages of `det`: their size, and what they say of each command."""
+"""The usage of each program and the pages of `det`: their size, and what these say of commands."""
 
 from __future__ import annotations
 
@@ -41,15 +41,15 @@ OPTIONS = {
 }
 
 
-def run(programs: Programs, *words: str) -> Ended:
-    """Runs `det` in an empty folder, so that a file that it opens isn't there."""
+def run(programs: Programs, *words: str, program: str = "det") -> Ended:
+    """Runs a program in an empty folder, so that a file that it opens isn't there."""
     with tempfile.TemporaryDirectory(prefix="det-page-") as name:
-        return ended([programs.path("det"), *words], Path(name), programs.environment())
+        return ended([programs.path(program), *words], Path(name), programs.environment())
 
 
-def text_of(programs: Programs, *words: str) -> str:
+def text_of(programs: Programs, *words: str, program: str = "det") -> str:
     """The text that words ask for."""
-    given = run(programs, *words)
+    given = run(programs, *words, program=program)
     if given.status or given.err:
         raise ValueError(f"{words}: status {given.status}, {given.err!r}")
     return given.out.decode()
@@ -106,10 +106,17 @@ def usage(programs: Programs) -> Optional[str]:
     return too_large(given, USAGE_LINES) or other_statuses(given, "0123456789")
 
 
+def other_usage(programs: Programs, name: str) -> Optional[str]:
+    """The usage of a program without commands fits a terminal, as a page does."""
+    return too_large(text_of(programs, "--help", program=name), PAGE_LINES)
+
+
 def tests(programs: Programs) -> list[Test]:
     made: list[tuple[str, Callable[[], Optional[str]]]] = [
         (f"the page of {name} is that of its row", partial(page, programs, name))
         for name in COMMANDS
     ]
     made.append(("the usage names what is built", partial(usage, programs)))
+    for name in ("det_lane", "det_twin"):
+        made.append((f"the usage of {name} fits", partial(other_usage, programs, name)))
     return [Test(name, call) for name, call in made]

@@ -9,6 +9,7 @@ from functools import partial
 from pathlib import Path
 from typing import Optional
 
+from children import run_group
 from suite.test import TOP, Programs, Test
 
 # The test programs, the longest first, with the words that they are given beside the programs.
@@ -44,8 +45,9 @@ def given_programs(script: Path, programs: Programs) -> list[str]:
 def wrong(script: Path, programs: Programs) -> Optional[str]:
     """Runs a script. Answers the last lines that it wrote where it failed."""
     words = [*given_programs(script, programs), *SCRIPTS[script.name]]
-    done = subprocess.run(
+    done = run_group(
         [sys.executable, "-B", str(script), *words],
+        LIMIT,
         cwd=TOP,
         env=dict(os.environ, LC_ALL="C.UTF-8"),
         stdin=subprocess.DEVNULL,
@@ -53,8 +55,6 @@ def wrong(script: Path, programs: Programs) -> Optional[str]:
         stderr=subprocess.STDOUT,
         text=True,
         errors="replace",
-        timeout=LIMIT,
-        check=False,
     )
     if done.returncode == 0:
         return None

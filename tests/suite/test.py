@@ -9,6 +9,8 @@ from dataclasses import dataclass
 from pathlib import Path
 from typing import Callable, Optional
 
+from children import run_group
+
 TOP = Path(__file__).resolve().parent.parent.parent
 NAMES = ("det", "det_lane", "det_twin")
 # The most seconds that one command of a test may take.
@@ -77,13 +79,9 @@ def without_hints(err: bytes) -> bytes:
 
 
 def ended(words: list[str], folder: Path, environment: dict[str, str], **how: object) -> Ended:
-    """Runs a command to its end; how is handed to subprocess.run."""
-    how.setdefault("stdin", subprocess.DEVNULL)
-    if how.get("input") is not None:
-        del how["stdin"]
-    done = subprocess.run(
-        words, cwd=folder, env=environment, capture_output=True, timeout=LIMIT, check=False, **how
-    )  # type: ignore[call-overload]
+    """Runs a command to its end; how has further names that subprocess.run takes."""
+    pipes = {"stdin": subprocess.DEVNULL, "stdout": subprocess.PIPE, "stderr": subprocess.PIPE}
+    done = run_group(words, LIMIT, cwd=folder, env=environment, **{**pipes, **how})
     return Ended(done.returncode, done.stdout, done.stderr)
 
 

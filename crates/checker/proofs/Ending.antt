@@ -22,7 +22,7 @@ use Rattle.record_reader.specs.Taking.{OfSlot}
 use Rattle.record_reader.proofs.Items.{more_items}
 use Rattle.record_reader.proofs.Taking.{told}
 use Rattle.probes.specs.Reports.{AudienceState}
-use Rattle.probes.specs.Shows.{Shows}
+use Rattle.probes.specs.Shows.{Shows, SawRuns}
 use Rattle.probes.proofs.Shown.{shows-then, all-reports}
 use Rattle.run_writer.specs.declared.recording.Recording.{Recording}
 use Rattle.replayer.specs.Again.{inputs}
@@ -34,7 +34,7 @@ use Rattle.checker.specs.declared.verdict.CheckVerdict.TheVariants.{Genuine, Dep
 use Rattle.checker.specs.Departure.{frame_in, frames_in, run_of, departure, checked_runs}
 use Rattle.checker.specs.Given.{given_frame}
 use Rattle.checker.specs.Verdict.{verdict_by, check_verdict}
-use Rattle.checker.specs.Checked.{Saw, Answers, ReadsTo, IsChecked}
+use Rattle.checker.specs.Checked.{Answers, ReadsTo, IsChecked}
 use Rattle.checker.proofs.Departing.{inputs_of, departs, departs-one}
 use Rattle.checker.proofs.Records.{runs_of, inputs-are, frames-are, frames-behind, agree-all, agree-first, departs-at}
 use Rattle.checker.proofs.Running.{items_with, Comparing, Next}
@@ -81,8 +81,8 @@ module _ {S G E L P : Type 0} (m : Meaning S G E L P) (profile : ProfileValue) w
 
     -- the audience has seen all runs that are checked
     saw : (runs : List RunFrame) (bytes : List ℕ) → checked_runs m profile bytes ≡ runs → Shows start now runs
-        → Saw start now (checked_runs m profile bytes)
-    saw runs bytes is shown = subst (Saw start now) (sym is) (all-reports shown)
+        → SawRuns start now (checked_runs m profile bytes)
+    saw runs bytes is shown = subst (SawRuns start now) (sym is) (all-reports shown)
 
     -- a record with these items, none of whose frames differs, and this fault
     faulty : (front : List Frame) (fault : RecordFault) (bytes : List ℕ) → items_in bytes ≡ items_with profile front

@@ -12,16 +12,12 @@ use Rattle.job_trait.specs.Meaning.{Meaning}
 use Rattle.record_grammar.specs.declared.fault.RecordFault.{RecordFault}
 use Rattle.record_grammar.specs.Record.{fault_so_far}
 use Rattle.record_reader.specs.Taking.{OfSlot}
-use Rattle.probes.specs.Reports.{AudienceState, reported}
+use Rattle.probes.specs.Reports.{AudienceState}
+use Rattle.probes.specs.Shows.{SawRuns}
 use Rattle.checker.specs.declared.verdict.CheckVerdict.{CheckVerdict}
 use Rattle.checker.specs.declared.verdict.CheckVerdict.TheVariants.{Genuine, Departs}
 use Rattle.checker.specs.Departure.{departure, checked_runs}
 use Rattle.checker.specs.Verdict.{check_verdict}
-
--- an audience has seen these runs: what it reports of no more is what it would have reported of
--- them
-abbrev pub Saw : AudienceState → AudienceState → List RunFrame → Type 0
-Saw old now runs = reported now [] ≡ reported old runs
 
 module _ {S G E L P : Type 0} (m : Meaning S G E L P) (profile : ProfileValue)
     (old now : AudienceState) where
@@ -29,14 +25,14 @@ module _ {S G E L P : Type 0} (m : Meaning S G E L P) (profile : ProfileValue)
   pub record SawFirst (record_bytes : List ℕ) : Type 0 where
     pub seen : List RunFrame
     pub first : IsPrefix seen (checked_runs m profile record_bytes)
-    pub saw : Saw old now seen
+    pub saw : SawRuns old now seen
 
   -- what an answer says of a record
   abbrev pub Answers : Result CheckVerdict (Stopped RecordFault) → List ℕ → Type 0
   Answers (Ok verdict) record_bytes = (check_verdict m profile record_bytes ≡ Ok verdict)
-      × Saw old now (checked_runs m profile record_bytes)
+      × SawRuns old now (checked_runs m profile record_bytes)
   Answers (Err (Refused fault)) record_bytes = (check_verdict m profile record_bytes ≡ Err fault)
-      × Saw old now (checked_runs m profile record_bytes)
+      × SawRuns old now (checked_runs m profile record_bytes)
   Answers (Err (Failed Read)) record_bytes = SawFirst record_bytes
   Answers (Err (Failed Write)) record_bytes = ⊥
   Answers (Err (Failed OutOfMemory)) record_bytes = Unit {0}

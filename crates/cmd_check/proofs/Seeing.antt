@@ -22,9 +22,9 @@ use Rattle.record_grammar.specs.declared.item.Item.TheVariants.{Header}
 use Rattle.record_reader.specs.declared.reader.RecordReader.{RecordReader}
 use Rattle.record_reader.specs.StandsFor.{StandsFor, slot_of}
 use Rattle.probes.specs.Reports.{ProbeLife, AudienceState, reported, reports, in_turn, staying}
+use Rattle.probes.specs.Shows.{SawRuns}
 use Rattle.checker.specs.declared.verdict.CheckVerdict.{CheckVerdict}
 use Rattle.checker.specs.Departure.{run_of, frames_in, genuine_frames, checked_runs}
-use Rattle.checker.specs.Checked.{Saw}
 use Rattle.cli_answers.specs.declared.answer.Answer.{Answer}
 use Rattle.cli_answers.specs.declared.answer.Answer.TheVariants.{OutOfMemory}
 use Rattle.cli_answers.specs.Answers.{stopped}
@@ -57,7 +57,7 @@ module _ {S G E L P : Type 0} (m : Meaning S G E L P) (profile : ProfileValue) (
     (stands : StandsFor reader read (Header profile ∷ [])) (shelf : ShelfRun) (sink : SinkRun) (old now : AudienceState) where
   -- runs that are checked come first in the record
   saw-checked : (runs : List RunFrame) (last : AudienceState) (bytes : List ℕ) → IsPrefix runs (checked_runs m profile bytes)
-      → Saw old last runs → SawFirst old last bytes
+      → SawRuns old last runs → SawFirst old last bytes
   saw-checked runs last bytes first saw = record {
     seen = runs;
     first = prefix-then runs (checked_runs m profile bytes) (runs_in bytes) first

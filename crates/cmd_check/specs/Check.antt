@@ -10,12 +10,12 @@ use Rattle.job_trait.specs.Meaning.{Meaning}
 use Rattle.shipped_jobs.specs.Kinds.{by_kind}
 use Rattle.record_grammar.specs.declared.fault.RecordFault.{RecordFault}
 use Rattle.probes.specs.Reports.{AudienceState, reported}
+use Rattle.probes.specs.Shows.{SawRuns}
 use Rattle.checker.specs.declared.verdict.CheckVerdict.{CheckVerdict}
 use Rattle.checker.specs.declared.verdict.CheckVerdict.TheVariants.{Genuine, Departs}
 use Rattle.checker.specs.Departure.{frames_in, checked_runs}
 use Rattle.checker.specs.Departure as frames
 use Rattle.checker.specs.Verdict.{check_verdict}
-use Rattle.checker.specs.Checked.{Saw}
 use Rattle.record_text.specs.Words.{number_line}
 use Rattle.verdict_text.specs.Verdicts.{place_text}
 use Rattle.cli_answers.specs.declared.answer.Answer.{Answer}
@@ -74,4 +74,4 @@ runs_in record_bytes = flat_map frames.run_of (frames_in record_bytes)
 pub record SawFirst (old now : AudienceState) (record_bytes : List ℕ) : Type 0 where
   pub seen : List RunFrame
   pub first : IsPrefix seen (runs_in record_bytes)
-  pub saw : Saw old now seen
+  pub saw : SawRuns old now seen

@@ -11,8 +11,8 @@ use Rattle.record_grammar.specs.declared.item.Item.{Item}
 use Rattle.record_grammar.specs.Record.{items as items_in}
 use Rattle.record_reader.specs.Taking.{OfSlot}
 use Rattle.record_show.specs.Text.{runs_in}
-use Rattle.record_show.specs.Ended.{Saw}
 use Rattle.probes.specs.Reports.{AudienceState}
+use Rattle.probes.specs.Shows.{SawRuns}
 use Rattle.cli_answers.specs.declared.answer.Answer.TheVariants.{Done, BadRecord}
 use Rattle.cli_answers.specs.Outcome.{Outcome}
 use Rattle.cmd_salvage.specs.Salvage.{salvage_reports_outcome}
@@ -28,7 +28,7 @@ Gives (Err (Failed failure)) wanted out = GrewByPrefix out.before out.after want
 pub record SawFirst (old now : AudienceState) (record_bytes : List ℕ) : Type 0 where
   pub seen : List Item
   pub first : IsPrefix seen (items_in record_bytes)
-  pub saw : Saw old now (runs_in seen)
+  pub saw : SawRuns old now (runs_in seen)
 
 -- the same at an answer; for want of memory some probes may have seen one run more
 abbrev pub Sees : Result (Unit {0}) (Stopped RecordFault) → AudienceState → AudienceState → List ℕ

@@ -1,2 +1,3 @@
 mod Concluding
 mod Joining
+mod OnWorkers

@@ -1,5 +1,6 @@
--- What a user may conclude from the exit status of a run of the program.
-use Rattle.std.specs.Prelude.{◌≡◌, ℕ, ◌⊎◌, ◌↔◌, List, None}
+-- What a user may conclude from the exit status of a run of the program, and what the number of
+-- workers changes.
+use Rattle.std.specs.Prelude.{◌≡◌, ℕ, ◌⊎◌, ◌↔◌, List, Option, Some, None}
 use Rattle.det_edges.specs.Count.{Rose}
 use Rattle.det_edges.specs.Sink.{Grew}
 use Rattle.det_edges.specs.Shelf.{ShelfState}
@@ -11,7 +12,8 @@ use Rattle.cli_answers.specs.declared.status.Status.TheVariants.{BadRecord, NoMa
 use Rattle.cli_answers.specs.declared.status.Status.TheVariants.{ReadFault, WriteFault, OutOfMemory}
 use Rattle.cli_answers.specs.Answers.{status_of}
 use Rattle.cli_answers.specs.Outcome.{Outcome, Tells, told}
-use Rattle.det_cli.specs.Outcome.{command_in, opened, outcome}
+use Rattle.cli_words.specs.Command.{CommandValue}
+use Rattle.det_cli.specs.Outcome.{command_in, opened, outcome, outcome_of}
 
 -- the bytes under the names that the words open are told
 abbrev pub TellsAll : List (List ℕ) → ShelfState → Type 0
@@ -47,3 +49,14 @@ pub record Concludes (words : List (List ℕ)) (first last : ShelfState) (out_fa
   pub write_fault : status ≡ WriteFault → out_failed
   -- bad words exactly where the words are no command
   pub bad_words : (status ≡ BadWords) ↔ (command_in words ≡ None)
+
+-- the command with this number of workers, or without one
+abbrev pub on_workers : Option ℕ → CommandValue → CommandValue
+on_workers number c = record c { options = record c.options { workers = number } }
+
+-- a command opens the same names and has the same outcome on any number of workers
+pub record IsSameOn (number : Option ℕ) (c : CommandValue) (holds : List ℕ → List ℕ)
+    (audience : AudienceState) : Type 0 where
+  pub names : opened (Some (on_workers number c)) holds ≡ opened (Some c) holds
+  pub same : outcome_of (Some (on_workers number c)) holds audience
+      ≡ outcome_of (Some c) holds audience

@@ -9,7 +9,7 @@ use Rattle.cli_words.specs.declared.table.CommandWord.TheVariants.{Show, Sim, Ch
 use Rattle.cli_words.specs.declared.table.CommandWord.TheVariants.{Salvage}
 use Rattle.cli_words.specs.Command.{CommandValue, name_at, number_in, part_of}
 use Rattle.record_show.specs.Ended as showing
-use Rattle.record_show.specs.Ended.{Saw}
+use Rattle.probes.specs.Shows.{SawRuns}
 use Rattle.cmd_salvage.specs.Ended as salvaging
 use Rattle.cmd_check.specs.Check as checking
 use Rattle.cmd_sim.specs.Sim.{sim_runs}
@@ -40,7 +40,7 @@ SeenBy Show c holds old now before after =
 SeenBy Salvage c holds old now before after =
     SalvageSeen c.options.reports old now (holds (name_at 0 c))
 SeenBy Check c holds old now before after = checking.SawFirst old now (holds (name_at 0 c))
-SeenBy Sim c holds old now before after = Saw old now (sim_runs (number_in c))
+SeenBy Sim c holds old now before after = SawRuns old now (sim_runs (number_in c))
 SeenBy other c holds old now before after = Unit {0}
 
 abbrev pub HasSeen : Option CommandValue → (List ℕ → List ℕ) → AudienceState → AudienceState

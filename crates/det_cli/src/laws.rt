@@ -1,10 +1,11 @@
-//! What follows from the program's promise. The law is a function that computes nothing.
-ghost use Rattle.std.specs.Prelude.{ℕ, List};
+//! What follows from the program's promise. Each law is a function that computes nothing.
+ghost use Rattle.std.specs.Prelude.{ℕ, List, Option};
 ghost use Rattle.det_edges.specs.Count.{Rose};
 ghost use Rattle.det_edges.specs.Shelf.{ShelfState};
 ghost use Rattle.probes.specs.Reports.{AudienceState};
 ghost use Rattle.cli_answers.specs.declared.status.Status.{Status};
-ghost use Rattle.det_cli.specs.Laws.{Concludes};
+ghost use Rattle.cli_words.specs.Command.{CommandValue};
+ghost use Rattle.det_cli.specs.Laws.{Concludes, IsSameOn};
 ghost use Rattle.det_cli.specs.Promise.{IsPromised};
 
 use det_edges::Sink;
@@ -19,4 +20,11 @@ pub fn answers<K: Sink, E: Sink>()
         seeing stayed status
         → Concludes words first last (Rose (K.faults out) (K.faults out_after))
         (K.took out) (K.took out_after) seeing status }
+{}
+
+/// The number of workers changes nothing but time: with any number after `--workers`, and without
+/// the option, a command opens the same names and has the same outcome.
+pub fn workers()
+    ensures { (number : Option ℕ) (c : CommandValue) (holds : List ℕ → List ℕ)
+        (audience : AudienceState) → IsSameOn number c holds audience }
 {}

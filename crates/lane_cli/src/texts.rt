@@ -22,9 +22,9 @@ The copies run side by side, each as a child process with the words
 `record MANIFEST STIM --workers K`, where K is 1 for copy 0, 2 for copy 1 and so
 on. What they write is compared as it comes. Standard output takes one line:
 `agree N`, where N is the number of cycles, or `differ copy K PLACE`. Copies are
-counted from 0. A copy whose output isn't read to its end is stopped, and no copy
-runs on when this program has ended. The statuses of all copies count where they
-agree, and that of a copy whose record breaks off.
+counted from 0. A copy whose output isn't read to its end is stopped, and no
+copy runs on when this program has ended. The statuses of all copies count where
+they agree, and that of a copy whose record breaks off.
 
 Exit statuses:
   0  done                      7  write fault

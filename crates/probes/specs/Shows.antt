@@ -12,6 +12,11 @@ use Rattle.probes.specs.Reports.{ProbeLife, AudienceState, Sees, reported}
 pub record Shows (before now : AudienceState) (shown : List RunFrame) : Type 0 where
   pub each : (later : List RunFrame) → reported before (shown ++ later) ≡ reported now later
 
+-- An audience has seen these runs: what it reports of no more is what it would have reported of
+-- them.
+abbrev pub SawRuns : AudienceState → AudienceState → List RunFrame → Type 0
+SawRuns before now runs = reported now [] ≡ reported before runs
+
 -- an audience, by what a boxed probe's life is
 abbrev pub seen : {X : Type 0} {IsProbe : X → Type 0}
     → (DynBox X Global IsProbe → ProbeLife) → Audience X IsProbe → AudienceState

@@ -21,13 +21,13 @@ use Rattle.record_reader.specs.StandsFor.{FoundFault, IsFaulty}
 use Rattle.record_reader.specs.Taking.{AreAll, RecordRead, ItemsRead}
 use Rattle.record_reader.proofs.Taking.{behind, over, told, of-slot}
 use Rattle.probes.specs.Reports.{ProbeLife, AudienceState, reported, reports, in_turn, staying}
-use Rattle.probes.specs.Shows.{Shows}
+use Rattle.probes.specs.Shows.{Shows, SawRuns}
 use Rattle.probes.proofs.Shown.{all-reports}
 use Rattle.record_show.specs.declared.shown.Shown.{Shown}
 use Rattle.record_show.specs.declared.printing.Printer.{Printer}
 use Rattle.record_show.specs.Text.{runs_in, lines_of, reports_of, text_from, text_of}
 use Rattle.record_show.specs.Showing.{Watched, Kept, showing}
-use Rattle.record_show.specs.Ended.{Answers, Saw, SawFirst, Sees, Finished, IsGone, FinishIs, ReadsTo, Ended}
+use Rattle.record_show.specs.Ended.{Answers, SawFirst, Sees, Finished, IsGone, FinishIs, ReadsTo, Ended}
 use Rattle.record_show.proofs.Parts.{part-first, none-yet}
 use Rattle.record_show.proofs.Taken.{kept-same}
 
@@ -68,7 +68,7 @@ reported_all Reports first mid runs h = all-reports h
 reported_all (Cycle number) first mid runs h = refl
 
 finished_saw : (first mid now : AudienceState) (runs : List RunFrame) → Shows first mid runs → now
-    ≡ record { seeing = []; left = reported mid [] } → Saw first now runs
+    ≡ record { seeing = []; left = reported mid [] } → SawRuns first now runs
 finished_saw first mid now runs h is =
     ap (λ (a : AudienceState). reported a []) is ∙ ap (λ (more : List ℕ). reported mid [] ++ more) none_more ∙ append-nil (reported mid [])
     ∙ all-reports h
@@ -85,7 +85,7 @@ module _ (part : ShowPart) (first now : AudienceState) (bytes : List ℕ) (out :
     grew = grew;
   }
 
-  saw-runs : (given : List Item) (rest : List ℕ) → IsPrefix given (items_in bytes) → Saw first now (runs_in given)
+  saw-runs : (given : List Item) (rest : List ℕ) → IsPrefix given (items_in bytes) → SawRuns first now (runs_in given)
       → Grew out.before out.after (lines_of part given ++ rest) → SawFirst part first now bytes out.before out.after
   saw-runs given rest front saw grew = record {
     seen = given;

@@ -16,6 +16,7 @@ use Rattle.record_text.specs.declared.part.ShowPart.{ShowPart}
 use Rattle.record_text.specs.declared.part.ShowPart.TheVariants.{All, Reports, Cycle}
 use Rattle.record_reader.specs.Taking.{OfSlot}
 use Rattle.probes.specs.Reports.{AudienceState, reported}
+use Rattle.probes.specs.Shows.{SawRuns}
 use Rattle.record_show.specs.declared.shown.Shown.{Shown}
 use Rattle.record_show.specs.Showing.{Kept}
 use Rattle.record_show.specs.Text.{runs_in, lines_of, reports_of, text_of}
@@ -44,17 +45,12 @@ Answers (Err (Failed OutOfMemory)) part audience record_bytes out =
 
 -- ---- the audience
 
--- An audience has seen these runs: what it reports of no more is what it would have reported of
--- them.
-abbrev pub Saw : AudienceState → AudienceState → List RunFrame → Type 0
-Saw old now runs = reported now [] ≡ reported old runs
-
 -- the audience has seen the runs of the first items of a record, whose lines a sink took
 pub record SawFirst (part : ShowPart) (old now : AudienceState) (record_bytes : List ℕ)
     (before after : List ℕ → Type 0) : Type 0 where
   pub seen : List Item
   pub first : IsPrefix seen (items_in record_bytes)
-  pub saw : Saw old now (runs_in seen)
+  pub saw : SawRuns old now (runs_in seen)
   pub taken : List ℕ
   pub lines : IsPrefix (lines_of part seen) taken
   pub grew : Grew before after taken

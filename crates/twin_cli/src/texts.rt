@@ -17,8 +17,8 @@ det_twin: runs a job in several copies in one process and compares their frames
   STIM        a file with the text of a stimulus, at most 1,048,576 bytes
 
   --flip K F  turn the lowest bit of the last byte of the output in frame F of
-              copy K, where it has one. Copies and frames are counted from 0, and
-              cycle C is frame C + 2
+              copy K, where it has one. Copies and frames are counted from 0,
+              and cycle C is frame C + 2
   --strict    refuse a manifest with a key that isn't known
 
 Each copy runs on a thread of its own, with one worker and the seed 0. Standard

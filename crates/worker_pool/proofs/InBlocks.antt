@@ -9,7 +9,8 @@ use Rattle.element_random.specs.Words.{key}
 use Rattle.job_trait.specs.Meaning.{Meaning}
 use Rattle.job_trait.specs.Pass.{Passed, Refusal, nothing, more, taken, passed, block}
 use Rattle.job_trait.specs.Passes.{blocks_of}
-use Rattle.worker_pool.specs.Gather.{beside, refuses, left_by, together}
+use Rattle.pass_in_blocks.specs.Steps.{beside}
+use Rattle.worker_pool.specs.Gather.{refuses, left_by, together}
 
 append_nil : {A : Type 0} (es : List A) → es ++ [] ≡ es
 append_nil [] = refl

@@ -1,17 +1,10 @@
 -- What an ended machine gathers from the answers of the blocks.
-use Rattle.std.specs.Prelude.{ℕ, zero, suc, Bool, cond, ltb, [], ◌++◌, Result, Ok, Err, is_err}
+use Rattle.std.specs.Prelude.{ℕ, zero, suc, Bool, cond, ltb, [], Result, Ok, Err, is_err}
 use Rattle.job_trait.specs.Pass.{Passed, Refusal}
+use Rattle.pass_in_blocks.specs.Steps.{beside}
 use Rattle.worker_pool.specs.Machine.{Machine}
 
 module _ {E P : Type 0} where
-  -- what two neighbours give together
-  abbrev pub beside : (P → P → P) → Passed E P → Passed E P → Passed E P
-  beside join done next = record {
-    elements = done.elements ++ next.elements;
-    draws = done.draws ++ next.draws;
-    part = join done.part next.part;
-  }
-
   -- whether a block is a refusal, by what each block gives
   abbrev pub refuses : (ℕ → Result (Passed E P) Refusal) → ℕ → Bool
   refuses block b = is_err (block b)

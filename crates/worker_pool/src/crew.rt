@@ -80,6 +80,13 @@ fn give_back<J: Job, B: Room>(lines: &mut [Line<J, B>], mut spelled: Vec<Spelled
     }
 }
 
+/// Lets the workers from this one on pass the gate on the caller's thread.
+fn enter_here<G: Gate>(gate: &G, first: u32, workers: u32) {
+    for worker in first..workers {
+        gate.enter(worker);
+    }
+}
+
 /// A pass by the caller and the kept threads. No more of these get work than there are blocks
 /// beside the caller's first one, and where none gets any the caller has no table.
 fn crew_pass<J: Job, B: Room, G: Gate>(
@@ -98,15 +105,11 @@ fn crew_pass<J: Job, B: Room, G: Gate>(
     let more = ((pass.elements.len() + 63) / 64).saturating_sub(1);
     let helpers = more.min(lines.len());
     if helpers == 0 || keeper.number() >= MOST_PASSES {
-        for worker in 0..workers {
-            gate.enter(worker);
-        }
+        enter_here(gate, 0, workers);
         return finish_pass(alloc, &**pass, Vec::new(alloc), &[]);
     }
     let Found { results, spelled } = shared_pass(alloc, keeper, &mut lines[..helpers], pass, gate)?;
-    for worker in helpers as u32 + 1..workers {
-        gate.enter(worker);
-    }
+    enter_here(gate, helpers as u32 + 1, workers);
     let done = finish_pass(alloc, &**pass, results, spelled.as_slice());
     give_back(lines, spelled);
     done

@@ -1,0 +1,51 @@
+-- No outcome rests on the number of workers, and no name that is opened.
+use Rattle.std.proofs.Common.{◌≡◌, ℕ, List, refl}
+use Rattle.std.specs.Prelude.{Option}
+use Rattle.probes.specs.Reports.{AudienceState}
+use Rattle.cli_words.specs.declared.table.CommandWord.{CommandWord}
+use Rattle.cli_words.specs.declared.table.CommandWord.TheVariants.{Demo, Record, Replay, Check, Compare, Show, Needs, Sim}
+use Rattle.cli_words.specs.declared.table.CommandWord.TheVariants.{Salvage, Upgrade, Vote, Chain, Help, Version}
+use Rattle.cli_words.specs.Command.{CommandValue}
+use Rattle.det_cli.specs.Outcome.{opened_by, outcome_by}
+use Rattle.det_cli.specs.Laws.{on_workers, IsSameOn}
+
+same_names : (word : CommandWord) (number : Option ℕ) (c : CommandValue) (holds : List ℕ → List ℕ)
+    → opened_by word (on_workers number c) holds ≡ opened_by word c holds
+same_names Demo number c holds = refl
+same_names Record number c holds = refl
+same_names Replay number c holds = refl
+same_names Check number c holds = refl
+same_names Compare number c holds = refl
+same_names Show number c holds = refl
+same_names Needs number c holds = refl
+same_names Sim number c holds = refl
+same_names Salvage number c holds = refl
+same_names Upgrade number c holds = refl
+same_names Vote number c holds = refl
+same_names Chain number c holds = refl
+same_names Help number c holds = refl
+same_names Version number c holds = refl
+
+same_outcome : (word : CommandWord) (number : Option ℕ) (c : CommandValue) (holds : List ℕ → List ℕ) (audience : AudienceState)
+    → outcome_by word (on_workers number c) holds audience ≡ outcome_by word c holds audience
+same_outcome Demo number c holds audience = refl
+same_outcome Record number c holds audience = refl
+same_outcome Replay number c holds audience = refl
+same_outcome Check number c holds audience = refl
+same_outcome Compare number c holds audience = refl
+same_outcome Show number c holds audience = refl
+same_outcome Needs number c holds audience = refl
+same_outcome Sim number c holds audience = refl
+same_outcome Salvage number c holds audience = refl
+same_outcome Upgrade number c holds audience = refl
+same_outcome Vote number c holds audience = refl
+same_outcome Chain number c holds audience = refl
+same_outcome Help number c holds audience = refl
+same_outcome Version number c holds audience = refl
+
+pub same-on : (number : Option ℕ) (c : CommandValue) (holds : List ℕ → List ℕ) (audience : AudienceState)
+    → IsSameOn number c holds audience
+same-on number c holds audience = record {
+  names = same_names c.word number c holds;
+  same = same_outcome c.word number c holds audience;
+}

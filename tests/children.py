@@ -1,0 +1,72 @@
+"""Runs commands that start others, with all that they start, and looks for what one has left."""
+
+from __future__ import annotations
+
+import contextlib
+import os
+import signal
+import subprocess
+import time
+from pathlib import Path
+from typing import Any
+
+
+def run_group(words: list[str], limit: float, **how: Any) -> "subprocess.CompletedProcess[Any]":
+    """Runs a command as `subprocess.run` does, given the same names.
+
+    Where it takes more than limit seconds, or this is interrupted, all that it started is killed
+    with it.
+    """
+    given = how.pop("input", None)
+    if given is not None:
+        how["stdin"] = subprocess.PIPE
+    with subprocess.Popen(words, start_new_session=True, **how) as child:
+        try:
+            out, err = child.communicate(given, timeout=limit)
+        except BaseException:
+            for process in started_by(child.pid):
+                with contextlib.suppress(ProcessLookupError):
+                    os.kill(process, signal.SIGKILL)
+            with contextlib.suppress(ProcessLookupError):
+                os.killpg(child.pid, signal.SIGKILL)
+            raise
+    return subprocess.CompletedProcess(words, child.returncode, out, err)
+
+
+def started_by(process: int) -> list[int]:
+    """The children of a process, theirs, and so on; those in sessions of their own too."""
+    parents: dict[int, int] = {}
+    for stat in Path("/proc").glob("[0-9]*/stat"):
+        with contextlib.suppress(OSError):
+            # The name of a program stands in parentheses and may have any bytes.
+            _, parent, *_ = stat.read_bytes().rpartition(b")")[2].split()
+            parents[int(stat.parent.name)] = int(parent)
+    found = [process]
+    for above in found:
+        found += [child for child, parent in parents.items() if parent == above]
+    return found[1:]
+
+
+def children_left(mark: str) -> list[int]:
+    """The processes that have this mark, NAME=VALUE, among their variables."""
+    found = []
+    for folder in Path("/proc").iterdir():
+        try:
+            names = (folder / "environ").read_bytes() if folder.name.isdigit() else b""
+        except OSError:
+            continue
+        if mark.encode() in names.split(b"\0"):
+            found.append(int(folder.name))
+    return found
+
+
+def stays_child(mark: str) -> bool:
+    """Whether a child with this mark runs on.
+
+    What a child started itself has a moment to find its output closed.
+    """
+    for _ in range(20):
+        if not children_left(mark):
+            return False
+        time.sleep(0.1)
+    return True
