@@ -30,7 +30,8 @@ pub record SawFirst (old now : AudienceState) (record_bytes : List ℕ) : Type 0
   pub first : IsPrefix seen (items_in record_bytes)
   pub saw : SawRuns old now (runs_in seen)
 
--- the same at an answer; for want of memory some probes may have seen one run more
+-- the same at an answer; where memory was wanting nothing is said: some probes may have seen one
+-- run more, or be gone
 abbrev pub Sees : Result (Unit {0}) (Stopped RecordFault) → AudienceState → AudienceState → List ℕ
     → Type 0
 Sees (Err (Failed OutOfMemory)) old now record_bytes = Unit {0}

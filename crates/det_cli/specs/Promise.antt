@@ -69,8 +69,8 @@ pub record Runs (command : Option CommandValue) (first last : ShelfState) (out_f
   -- have reported and left
   pub left : shows_runs command ≡ false → stayed ≡ seeing
   pub gone : shows_runs command ≡ true → answer ≡ Done → stayed.seeing ≡ []
-  -- where the names are told it has seen first runs; for want of memory some probes may have seen
-  -- one run more than the others
+  -- where the names are told it has seen first runs; where memory was wanting nothing is said: some
+  -- probes may have seen one run more, or be gone
   pub saw : Tells first (opened command (told first)) → (answer ≡ OutOfMemory → ⊥)
       → HasSeen command (told first) seeing stayed before after
 

@@ -56,7 +56,8 @@ pub record SawFirst (part : ShowPart) (old now : AudienceState) (record_bytes : 
   pub grew : Grew before after taken
 
 -- The same at an answer: where the record is whole the audience has seen all its runs and reported
--- of them, and no probe is left. For want of memory some probes may have seen one run more.
+-- of them, and no probe is left. Where memory was wanting nothing is said: some probes may have
+-- seen one run more, or be gone.
 abbrev pub Sees : Result Shown (Stopped RecordFault) → ShowPart → AudienceState → AudienceState
     → List ℕ → SinkRun → Type 0
 Sees (Err (Failed OutOfMemory)) part old now record_bytes out = Unit {0}
