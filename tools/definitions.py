@@ -1,23 +1,28 @@
 #!/usr/bin/env python3
-"""Lists the definitions that the contract of `top` rests on, in reading order, with their lengths.
+"""Lists the definitions that the contract of `top` rests on, in reading order, with their lengths; and all files of definitions.
 
     python3 tools/definitions.py            prints the table that docs/THEOREM.md has between its marks
-    python3 tools/definitions.py --write    puts the table there
-    python3 tools/definitions.py --check    ends with 1 where docs/THEOREM.md has another table, or more lines than it allows
+    python3 tools/definitions.py --write    puts the table there, and writes docs/DEFINITIONS.md
+    python3 tools/definitions.py --check    ends with 1 where one of the two is older, or more lines are needed than is allowed
 
 It starts at the clauses of `top` and follows each name through the imports of its file. What belongs to the kit is left out.
-Types that are declared in code are listed by their file. Python's standard library is all that it needs.
+Types that are declared in code are listed by their file. docs/DEFINITIONS.md has each file of specs/ with the comment that it
+begins with. Python's standard library is all that it needs.
 """
 
 import argparse
+import itertools
 import re
 import sys
 from dataclasses import dataclass, field
 from pathlib import Path
 
+from crate_list import listed_crates
+
 TOP = Path(__file__).resolve().parent.parent
 CRATES = TOP / "crates"
 THEOREM = TOP / "docs" / "THEOREM.md"
+ROOMS = TOP / "docs" / "DEFINITIONS.md"
 BEGIN, END = "<!-- definitions -->", "<!-- end of definitions -->"
 ROOT_CRATE, ROOT_FILE, ROOT_FUNCTION = "det_cli", "program", "top"
 # The record of any job over a stimulus, what a slot gives of it, and what a sink takes.
@@ -27,6 +32,12 @@ RECORD = [
     ("det_edges", "specs.Shelf", "IsAtEnd"),
     ("det_edges", "specs.Sink", "GrewByPrefix"),
 ]
+ROOMS_HEAD = """# Definitions, room by room
+
+Each file of definitions with its first words, crate by crate, each behind those that it uses. Contracts cite them: those of a
+crate its own files and those of the crates below. `docs/THEOREM.md` has the ones that the program's promise rests on, in reading
+order. This page is made by `python3 tools/definitions.py --write`, and `--check` fails where it is older.
+"""
 MOST_LINES = 2500
 MOST_LINES_OF_A_RECORD = 450
 
@@ -212,27 +223,51 @@ def made() -> tuple[str, list[str]]:
     return "\n".join(text), faults
 
 
-def main() -> int:
-    parser = argparse.ArgumentParser(description="Lists the definitions that the contract of top rests on.")
-    parser.add_argument("--write", action="store_true", help="puts the table into docs/THEOREM.md")
-    parser.add_argument("--check", action="store_true", help="ends with 1 where docs/THEOREM.md has another table")
-    options = parser.parse_args()
-    text, faults = made()
-    for fault in faults:
-        print(fault, file=sys.stderr)
-    if not (options.write or options.check):
-        print(text)
-        return 0
+def first_words(path: Path) -> str:
+    """The comment that a file of definitions begins with."""
+    lines = path.read_text(encoding="utf-8").splitlines()
+    return " ".join(line[2:].strip() for line in itertools.takewhile(lambda line: line.startswith("--"), lines))
+
+
+def rooms() -> tuple[str, list[str]]:
+    """A page with each file of specs/, crate by crate from the lowest up, and those that say nothing of themselves."""
+    lines, faults = [ROOMS_HEAD, "| file | what it says |", "|---|---|"], []
+    for crate in listed_crates():
+        for path in sorted((CRATES / crate / "specs").glob("*.antt")):
+            words = first_words(path)
+            if path.stem != "Lib":
+                lines.append(f"| `{crate}/specs/{path.stem}` | {words.replace('|', chr(92) + '|')} |")
+                faults += [] if words else [f"{path.relative_to(TOP)} begins with no comment"]
+    return "\n".join(lines) + "\n", faults
+
+
+def theorem_with(text: str) -> str:
+    """docs/THEOREM.md with this text between its marks."""
     page = THEOREM.read_text(encoding="utf-8")
     begin, end = page.index(BEGIN) + len(BEGIN), page.index(END)
-    wanted = f"{page[:begin]}\n{text}\n{page[end:]}"
+    return f"{page[:begin]}\n{text}\n{page[end:]}"
+
+
+def main() -> int:
+    parser = argparse.ArgumentParser(description="Lists the definitions that the contract of top rests on.")
+    parser.add_argument("--write", action="store_true", help="writes the table of docs/THEOREM.md, and docs/DEFINITIONS.md")
+    parser.add_argument("--check", action="store_true", help="ends with 1 where one of the two is older")
+    options = parser.parse_args()
+    (text, faults), (page, silent) = made(), rooms()
+    for fault in faults + silent:
+        print(fault, file=sys.stderr)
+    wanted = {THEOREM: theorem_with(text), ROOMS: page}
     if options.write:
-        THEOREM.write_text(wanted, encoding="utf-8")
+        for path, content in wanted.items():
+            path.write_text(content, encoding="utf-8")
         return 0
-    if wanted != page:
-        print("docs/THEOREM.md has another table: python3 tools/definitions.py --write", file=sys.stderr)
-        return 1
-    return 1 if faults else 0
+    if not options.check:
+        print(text)
+        return 0
+    older = [path for path, content in wanted.items() if not path.is_file() or path.read_text(encoding="utf-8") != content]
+    for path in older:
+        print(f"{path.relative_to(TOP)} is older: python3 tools/definitions.py --write", file=sys.stderr)
+    return 1 if older or faults or silent else 0
 
 
 if __name__ == "__main__":
