@@ -11,33 +11,38 @@ from pathlib import Path
 from typing import Any
 
 
-def run_group(words: list[str], limit: float, **how: Any) -> "subprocess.CompletedProcess[Any]":
-    """Runs a command as `subprocess.run` does, given the same names.
+def run_within(words: list[str], limit: float, **how: Any) -> "subprocess.CompletedProcess[Any]":
+    """Runs a command as `subprocess.run` does, given `input` and the names that `Popen` takes.
 
-    Where it takes more than limit seconds, or this is interrupted, all that it started is killed
-    with it.
+    Where it takes more than limit seconds, or this thread is interrupted, it is killed, and with it
+    what it started.
     """
     given = how.pop("input", None)
     if given is not None:
         how["stdin"] = subprocess.PIPE
-    with subprocess.Popen(words, start_new_session=True, **how) as child:
+    with subprocess.Popen(words, **how) as child:
         try:
             out, err = child.communicate(given, timeout=limit)
         except BaseException:
-            for process in started_by(child.pid):
-                with contextlib.suppress(ProcessLookupError):
-                    os.kill(process, signal.SIGKILL)
-            with contextlib.suppress(ProcessLookupError):
-                os.killpg(child.pid, signal.SIGKILL)
+            # A stopped process starts no other one while its children are looked for.
+            end(child.pid, signal.SIGSTOP)
+            for process in (child.pid, *started_by(child.pid)):
+                end(process, signal.SIGKILL)
             raise
     return subprocess.CompletedProcess(words, child.returncode, out, err)
 
 
+def end(process: int, by: signal.Signals) -> None:
+    """Sends a signal to a process that may have ended."""
+    with contextlib.suppress(ProcessLookupError, PermissionError):
+        os.kill(process, by)
+
+
 def started_by(process: int) -> list[int]:
-    """The children of a process, theirs, and so on; those in sessions of their own too."""
+    """The children of a process, theirs, and so on, as far as their parents are still there."""
     parents: dict[int, int] = {}
     for stat in Path("/proc").glob("[0-9]*/stat"):
-        with contextlib.suppress(OSError):
+        with contextlib.suppress(OSError, ValueError):
             # The name of a program stands in parentheses and may have any bytes.
             _, parent, *_ = stat.read_bytes().rpartition(b")")[2].split()
             parents[int(stat.parent.name)] = int(parent)

@@ -7,7 +7,7 @@ from dataclasses import dataclass, replace
 from pathlib import Path
 from typing import Any, Dict, List, Tuple
 
-from children import run_group, stays_child
+from children import run_within, stays_child
 from mutations import in_first_format
 from refused_memory import placed
 
@@ -113,7 +113,7 @@ class Trial:
             "env": {},
         }
         try:
-            done = run_group(command, LIMIT, **{**edges, **more})
+            done = run_within(command, LIMIT, **{**edges, **more})
         except subprocess.TimeoutExpired:
             return NO_END
         return Ended(done.returncode, done.stdout or b"", done.stderr or b"")

@@ -22,7 +22,7 @@ import time
 from dataclasses import dataclass
 from pathlib import Path
 
-from children import run_group, stays_child
+from children import run_within, stays_child
 
 TOP = Path(__file__).resolve().parent.parent
 MANIFEST = TOP / "examples" / "guard.toml"
@@ -33,7 +33,7 @@ LIMIT = 120
 LARGE = 100_000_000
 # What det_lane has on its own standard input.
 FOR_NO_CHILD = "no child is given this\n"
-# What it writes is read as text.
+# What det_lane writes is read as text.
 PIPES = {"stdout": subprocess.PIPE, "stderr": subprocess.PIPE, "text": True}
 
 
@@ -113,7 +113,7 @@ class Bench:
         script.chmod(0o755)
         name, value = self.mark.split("=")
         began = time.monotonic()
-        done = run_group([*self.lane, str(script), str(case.copies), str(MANIFEST), str(STIMULUS)], LIMIT, cwd=self.folder,
+        done = run_within([*self.lane, str(script), str(case.copies), str(MANIFEST), str(STIMULUS)], LIMIT, cwd=self.folder,
                          env=dict(os.environ, **{name: value}), input=FOR_NO_CHILD, **PIPES)
         took = time.monotonic() - began
         wanted = (case.status, case.out.replace("LARGE", str(cycles)), case.err)
@@ -129,7 +129,7 @@ class Bench:
         statuses = set()
         name, value = self.mark.split("=")
         for most in range(4, 24):
-            done = run_group([*self.lane, "yes", "3", "m", "s"], LIMIT, cwd=self.folder, env=dict(os.environ, **{name: value}),
+            done = run_within([*self.lane, "yes", "3", "m", "s"], LIMIT / 2, cwd=self.folder, env=dict(os.environ, **{name: value}),
                              preexec_fn=lambda most=most: resource.setrlimit(resource.RLIMIT_NOFILE, (most, most)), **PIPES)
             statuses.add(done.returncode)
             if done.stdout or (done.returncode == 10) != (done.stderr == "spawn fault\n"):

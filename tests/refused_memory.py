@@ -32,7 +32,7 @@ from pathlib import Path
 from typing import Counter as CounterOf
 from typing import List, Optional, Tuple
 
-from children import run_group, stays_child
+from children import run_within, stays_child
 from mutations import in_first_format
 
 TOP = Path(__file__).resolve().parent.parent
@@ -123,7 +123,7 @@ class Trial:
         counts, counted = os.pipe()
         mark = f"{self.folder.name}-{refused}"
         names = {"LD_PRELOAD": str(self.library), "REFUSED": str(refused), "COUNTED": str(counted)}
-        done = run_group(
+        done = run_within(
             self.command(words),
             LIMIT,
             cwd=TOP,

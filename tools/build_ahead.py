@@ -24,7 +24,8 @@ def copy_of(name: str, room: Path) -> Path:
     """A checkout of one crate alone. Answers the crate's folder in it."""
     shutil.rmtree(room, ignore_errors=True)
     folder = room / "crates" / name
-    shutil.copytree(CRATES / name, folder, ignore=shutil.ignore_patterns("out"))
+    # A link stays one: it may lead nowhere, as an editor's does.
+    shutil.copytree(CRATES / name, folder, symlinks=True, ignore=shutil.ignore_patterns("out"))
     (room / "crates.txt").write_text(line_of(name) + "\n")
     return folder
 

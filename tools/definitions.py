@@ -3,7 +3,8 @@
 
     python3 tools/definitions.py            prints the table that docs/THEOREM.md has between its marks
     python3 tools/definitions.py --write    puts the table there, and writes docs/DEFINITIONS.md
-    python3 tools/definitions.py --check    ends with 1 where one of the two is older, or more lines are needed than is allowed
+    python3 tools/definitions.py --check    ends with 1 where one of the two is older, a file begins with no comment, or too many
+                                            lines are needed
 
 It starts at the clauses of `top` and follows each name through the imports of its file. What belongs to the kit is left out.
 Types that are declared in code are listed by their file. docs/DEFINITIONS.md has each file of specs/ with the comment that it
@@ -32,11 +33,11 @@ RECORD = [
     ("det_edges", "specs.Shelf", "IsAtEnd"),
     ("det_edges", "specs.Sink", "GrewByPrefix"),
 ]
-ROOMS_HEAD = """# Definitions, room by room
+ROOMS_HEAD = """# Definitions, crate by crate
 
-Each file of definitions with its first words, crate by crate, each behind those that it uses. Contracts cite them: those of a
-crate its own files and those of the crates below. `docs/THEOREM.md` has the ones that the program's promise rests on, in reading
-order. This page is made by `python3 tools/definitions.py --write`, and `--check` fails where it is older.
+Each file of definitions with the comment that it begins with, in the order of `crates.txt`. The contracts of a crate cite its own
+files and those of crates below it. `docs/THEOREM.md` has the definitions that the program's promise rests on, in reading order.
+This page is made by `python3 tools/definitions.py --write`, and `--check` fails where it is older.
 """
 MOST_LINES = 2500
 MOST_LINES_OF_A_RECORD = 450
@@ -230,7 +231,7 @@ def first_words(path: Path) -> str:
 
 
 def rooms() -> tuple[str, list[str]]:
-    """A page with each file of specs/, crate by crate from the lowest up, and those that say nothing of themselves."""
+    """A page with each file of specs/, in the order of crates.txt, and the files that begin with no comment."""
     lines, faults = [ROOMS_HEAD, "| file | what it says |", "|---|---|"], []
     for crate in listed_crates():
         for path in sorted((CRATES / crate / "specs").glob("*.antt")):

@@ -5,7 +5,7 @@ from dataclasses import dataclass
 from pathlib import Path
 from typing import Callable, Sequence
 
-from children import run_group
+from children import run_within
 
 TOP = Path(__file__).resolve().parent.parent.parent
 SOURCES = TOP / "tests" / "cpp"
@@ -52,10 +52,10 @@ class Bench:
         self.folder = folder
 
     def command(self, words: Sequence[object]) -> "subprocess.CompletedProcess[bytes]":
-        """Runs a command, whatever status it ends with. None of its children outlives it."""
+        """Runs a command, whatever status it ends with. What it started ends with it where it takes too long."""
         command = [str(word) for word in words]
         try:
-            return run_group(command, LIMIT, stdin=subprocess.DEVNULL, stdout=subprocess.PIPE, stderr=subprocess.PIPE,
+            return run_within(command, LIMIT, stdin=subprocess.DEVNULL, stdout=subprocess.PIPE, stderr=subprocess.PIPE,
                              cwd=self.folder)
         except subprocess.TimeoutExpired:
             raise Failure(f"took more than {LIMIT} seconds: {command[0]}") from None

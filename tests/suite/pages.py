@@ -1,4 +1,4 @@
-"""The usage of each program and the pages of `det`: their size, and what these say of commands."""
+"""The usage of each program and the pages of `det`: their size, and what a page says."""
 
 from __future__ import annotations
 
@@ -51,7 +51,7 @@ def text_of(programs: Programs, *words: str, program: str = "det") -> str:
     """The text that words ask for."""
     given = run(programs, *words, program=program)
     if given.status or given.err:
-        raise ValueError(f"{words}: status {given.status}, {given.err!r}")
+        raise ValueError(f"{program} {words}: status {given.status}, {given.err!r}")
     return given.out.decode()
 
 

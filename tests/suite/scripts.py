@@ -9,7 +9,7 @@ from functools import partial
 from pathlib import Path
 from typing import Optional
 
-from children import run_group
+from children import run_within
 from suite.test import TOP, Programs, Test
 
 # The test programs, the longest first, with the words that they are given beside the programs.
@@ -45,7 +45,7 @@ def given_programs(script: Path, programs: Programs) -> list[str]:
 def wrong(script: Path, programs: Programs) -> Optional[str]:
     """Runs a script. Answers the last lines that it wrote where it failed."""
     words = [*given_programs(script, programs), *SCRIPTS[script.name]]
-    done = run_group(
+    done = run_within(
         [sys.executable, "-B", str(script), *words],
         LIMIT,
         cwd=TOP,

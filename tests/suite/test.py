@@ -9,7 +9,7 @@ from dataclasses import dataclass
 from pathlib import Path
 from typing import Callable, Optional
 
-from children import run_group
+from children import run_within
 
 TOP = Path(__file__).resolve().parent.parent.parent
 NAMES = ("det", "det_lane", "det_twin")
@@ -79,9 +79,9 @@ def without_hints(err: bytes) -> bytes:
 
 
 def ended(words: list[str], folder: Path, environment: dict[str, str], **how: object) -> Ended:
-    """Runs a command to its end; how has further names that subprocess.run takes."""
+    """Runs a command to its end; how has further names that run_within takes."""
     pipes = {"stdin": subprocess.DEVNULL, "stdout": subprocess.PIPE, "stderr": subprocess.PIPE}
-    done = run_group(words, LIMIT, cwd=folder, env=environment, **{**pipes, **how})
+    done = run_within(words, LIMIT, cwd=folder, env=environment, **{**pipes, **how})
     return Ended(done.returncode, done.stdout, done.stderr)
 
 

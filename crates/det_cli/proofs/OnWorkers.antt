@@ -1,13 +1,17 @@
 -- No outcome rests on the number of workers, and no name that is opened.
-use Rattle.std.proofs.Common.{◌≡◌, ℕ, List, refl}
-use Rattle.std.specs.Prelude.{Option}
+use Rattle.std.proofs.Common.{◌≡◌, ℕ, List, Result, refl, sym, ap, ◌∙◌}
+use Rattle.std.specs.Prelude.{Bool, Option, unwrap_or}
 use Rattle.probes.specs.Reports.{AudienceState}
 use Rattle.cli_words.specs.declared.table.CommandWord.{CommandWord}
 use Rattle.cli_words.specs.declared.table.CommandWord.TheVariants.{Demo, Record, Replay, Check, Compare, Show, Needs, Sim}
 use Rattle.cli_words.specs.declared.table.CommandWord.TheVariants.{Salvage, Upgrade, Vote, Chain, Help, Version}
 use Rattle.cli_words.specs.Command.{CommandValue}
+use Rattle.manifest.specs.Values.{ManifestValue}
+use Rattle.cli_answers.specs.declared.answer.BadManifest.{BadManifest}
+use Rattle.cli_answers.specs.Outcome.{Outcome}
+use Rattle.cmd_record.specs.Outcomes.{record_outcome, recorded_by}
 use Rattle.det_cli.specs.Outcome.{opened_by, outcome_by}
-use Rattle.det_cli.specs.Laws.{on_workers, IsSameOn}
+use Rattle.det_cli.specs.Laws.{on_workers, IsSameOn, DifferInWorkers}
 
 same_names : (word : CommandWord) (number : Option ℕ) (c : CommandValue) (holds : List ℕ → List ℕ)
     → opened_by word (on_workers number c) holds ≡ opened_by word c holds
@@ -49,3 +53,9 @@ same-on number c holds audience = record {
   names = same_names c.word number c holds;
   same = same_outcome c.word number c holds audience;
 }
+
+pub same-record : (strict : Bool) (one other stimulus : List ℕ) (seed : Option ℕ) → DifferInWorkers strict one other
+    → record_outcome strict other stimulus seed ≡ record_outcome strict one stimulus seed
+same-record strict one other stimulus seed d =
+    let by : Result ManifestValue BadManifest → Outcome = recorded_by (unwrap_or seed 0) stimulus in
+    ap by d.second ∙ sym (ap by d.first)

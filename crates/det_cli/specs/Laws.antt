@@ -1,10 +1,12 @@
--- What a user may conclude from the exit status of a run of the program, and what the number of
--- workers changes.
-use Rattle.std.specs.Prelude.{◌≡◌, ℕ, ◌⊎◌, ◌↔◌, List, Option, Some, None}
+-- What a user may conclude from the exit status of a run of the program, and what stays the same
+-- whatever the number of workers is.
+use Rattle.std.specs.Prelude.{◌≡◌, ℕ, Bool, ◌⊎◌, ◌↔◌, List, Option, Some, None, Ok}
 use Rattle.det_edges.specs.Count.{Rose}
 use Rattle.det_edges.specs.Sink.{Grew}
 use Rattle.det_edges.specs.Shelf.{ShelfState}
 use Rattle.probes.specs.Reports.{AudienceState}
+use Rattle.manifest.specs.Values.{ManifestValue}
+use Rattle.cmd_setup.specs.Setup.{setup_of}
 use Rattle.cli_answers.specs.declared.status.Status.{Status}
 use Rattle.cli_answers.specs.declared.status.Status.TheVariants.{Done, Differs, BadWords}
 use Rattle.cli_answers.specs.declared.status.Status.TheVariants.{BadManifest, BadStimulus}
@@ -60,3 +62,10 @@ pub record IsSameOn (number : Option ℕ) (c : CommandValue) (holds : List ℕ �
   pub names : opened (Some (on_workers number c)) holds ≡ opened (Some c) holds
   pub same : outcome_of (Some (on_workers number c)) holds audience
       ≡ outcome_of (Some c) holds audience
+
+-- two manifests tell the same but for their number of workers
+pub record DifferInWorkers (strict : Bool) (one other : List ℕ) : Type 0 where
+  pub manifest : ManifestValue
+  pub number : ℕ
+  pub first : setup_of strict one ≡ Ok manifest
+  pub second : setup_of strict other ≡ Ok (record manifest { workers = number })

@@ -1,11 +1,13 @@
-//! What follows from the program's promise. Each law is a function that computes nothing.
-ghost use Rattle.std.specs.Prelude.{ℕ, List, Option};
+//! What follows from the program's promise, and a law of its outcomes. Each is a function that
+//! computes nothing.
+ghost use Rattle.std.specs.Prelude.{◌≡◌, ℕ, Bool, List, Option};
 ghost use Rattle.det_edges.specs.Count.{Rose};
 ghost use Rattle.det_edges.specs.Shelf.{ShelfState};
 ghost use Rattle.probes.specs.Reports.{AudienceState};
 ghost use Rattle.cli_answers.specs.declared.status.Status.{Status};
 ghost use Rattle.cli_words.specs.Command.{CommandValue};
-ghost use Rattle.det_cli.specs.Laws.{Concludes, IsSameOn};
+ghost use Rattle.cmd_record.specs.Outcomes.{record_outcome};
+ghost use Rattle.det_cli.specs.Laws.{Concludes, IsSameOn, DifferInWorkers};
 ghost use Rattle.det_cli.specs.Promise.{IsPromised};
 
 use det_edges::Sink;
@@ -22,9 +24,13 @@ pub fn answers<K: Sink, E: Sink>()
         (K.took out) (K.took out_after) seeing status }
 {}
 
-/// The number of workers changes nothing but time: with any number after `--workers`, and without
-/// the option, a command opens the same names and has the same outcome.
+/// The number of workers changes no outcome. Two commands that differ only in the number after
+/// `--workers`, or in whether it stands there, open the same names and have the same outcome; and
+/// `record` has the same outcome of two manifests that tell the same but for their workers.
 pub fn workers()
-    ensures { (number : Option ℕ) (c : CommandValue) (holds : List ℕ → List ℕ)
+    ensures command { (number : Option ℕ) (c : CommandValue) (holds : List ℕ → List ℕ)
         (audience : AudienceState) → IsSameOn number c holds audience }
+    ensures manifest { (strict : Bool) (one other stimulus : List ℕ) (seed : Option ℕ)
+        → DifferInWorkers strict one other
+        → record_outcome strict other stimulus seed ≡ record_outcome strict one stimulus seed }
 {}

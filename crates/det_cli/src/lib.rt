@@ -3,8 +3,8 @@
 //! `top` reads the words of the command line, runs their command and tells its answer. Each command
 //! is a crate of its own, whose contract says that it meets its outcome for the bytes under its
 //! names. `specs/Outcome.antt` joins these to the outcome of the words, `specs/Promise.antt` says
-//! what `top` promises of it, and `laws` what follows: what a user may conclude from a status, and
-//! that the number of workers changes no outcome.
+//! what `top` promises of it, and `laws` what a user may conclude from a status, and that the
+//! number of workers changes no outcome.
 #![tactic(auto)]
 
 pub mod laws;

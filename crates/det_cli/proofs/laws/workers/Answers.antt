@@ -1,5 +1,8 @@
-use Rattle.det_cli.proofs.OnWorkers.{same-on}
+use Rattle.det_cli.proofs.OnWorkers.{same-on, same-record}
 use Rattle.det_cli.proofs.laws.workers.Goals as goal
 
-pub returns : goal.returns
-returns g number c holds audience = same-on number c holds audience
+pub returns-clause-command : goal.returns-clause-command
+returns-clause-command c number command holds audience = same-on number command holds audience
+
+pub returns-clause-manifest : goal.returns-clause-manifest
+returns-clause-manifest c strict one other stimulus seed differ = same-record strict one other stimulus seed differ
