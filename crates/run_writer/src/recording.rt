@@ -188,7 +188,8 @@ impl<J: Job> Recording<J> {
 
     /// The number of elements, which stays over a run.
     pub fn elements(&self) -> usize
-        ensures { result ≤ 65536 }
+        ensures count { result ≡ length self.now.engine.state.elements }
+        ensures few { result ≤ 65536 }
     {
         self.engine.elements()
     }
