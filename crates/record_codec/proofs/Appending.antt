@@ -38,6 +38,9 @@ module _ {X : Type 0} (f : X → List ℕ) (P : X → Type 0) (xs : List X) wher
       let t : take i xs ≡ xs = take_all i xs le in
       (h.written ∙ ap (λ (ys : List X). old ++ flat_map f ys) t, subst (All P) t h.fields)
 
+  pub HasPut-grown : (i : ℕ) (old new : List ℕ) → HasPut f P xs i old new → Grows old new
+  HasPut-grown i old new h = record { added = flat_map f (take i xs); is = h.written }
+
   pub HasPut-grows : (i : ℕ) (old new last : List ℕ) → HasPut f P xs i old new → Grows new last → Grows old last
   HasPut-grows i old new last h g =
       record {

@@ -1,7 +1,20 @@
-use Rattle.record_codec.proofs.Flat.{put_more}
+use Rattle.record_codec.proofs.Appending.{grows_then}
+use Rattle.record_codec.proofs.Flat.{put_more, put_grows}
 use Rattle.record_codec.proofs.put_frame.put_undrawn.Goals as goal
+
+pub returns-in_err-put_u16-in-Some-clause-grows : goal.returns-in_err-put_u16-in-Some-clause-grows
+returns-in_err-put_u16-in-Some-clause-grows c = grows_then _ _ _ (put_grows _ _ _ _ _ c.loop.invariant) c.put_u16.ensures.grows
+
+pub returns-in_err-put_slice-in-Some-clause-grows : goal.returns-in_err-put_slice-in-Some-clause-grows
+returns-in_err-put_slice-in-Some-clause-grows c = grows_then _ _ _ (put_grows _ _ _ _ _ c.loop.invariant) (grows_then _ _ _ c.put_u16.ensures.grows c.put_slice.ensures.grows)
+
+pub returns-in-None-clause-grows : goal.returns-in-None-clause-grows
+returns-in-None-clause-grows c = put_grows _ _ _ _ _ c.loop.invariant
 
 pub loop-preserved : goal.loop-preserved
 loop-preserved c =
     put_more _ _ _ _ _ _ _ _ _ _ c.loop.invariant c.in-Some.ensures.some c.in_ok-put_u16-in-Some.ensures.ok
     c.in_ok-put_slice-in-Some.ensures.ok
+
+pub returns-clause-grows : goal.returns-clause-grows
+returns-clause-grows c = put_grows _ _ _ _ _ c.loop.invariant
