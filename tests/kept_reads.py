@@ -8,8 +8,8 @@ from edge_trial import TOP, Ended, Setting, Trial
 
 # How many bytes a read gives.
 PIECE = 7
-# Commands, of whose files the last one fails, and how many bytes at the end of their output wait for
-# the file's end: Terminate, or the reports.
+# Commands, of whose files the last one fails, and how many bytes at the end of their output wait
+# for the file's end: Terminate, or the reports.
 KEEPING = {
     "det demo examples/bank.stim": 1,
     "det record examples/wheels.toml examples/wheels.stim --workers 2": 1,
