@@ -1,15 +1,15 @@
 #!/usr/bin/env python3
 """Shows records with each byte at each place, and holds that against what a plain program shows.
 
-    python3 tests/each_byte.py                       with the program of bin/, which builds where needed
+    python3 tests/each_byte.py                       with the program of bin/det
     python3 tests/each_byte.py --programs FOLDER     with another build of det
     python3 tests/each_byte.py --jobs 4              in so many processes
 
 Each byte of the record of a run without cycles in format 1 is replaced by each of the 256 values in
 turn, and so are those bytes of format 2 that make it another format: the version and the policy.
 Status, line and output have to be those of tests/plain. Prints how many changed records were shown,
-and those that were shown otherwise; ends with 1 where there is one. Python's standard library and
-rustc are all that it needs, on Linux.
+and those that were shown otherwise; ends with 1 where there is one. bin/det builds where needed.
+Python's standard library and rustc are all that it needs, on Linux.
 """
 
 import argparse
@@ -63,7 +63,7 @@ def main() -> int:
         words = (programs, build_plain(Path(name)), Path(name))
         with ProcessPoolExecutor(given.jobs, initializer=begin_process, initargs=words) as pool:
             wrong = [line for lines in pool.map(wrong_at, PLACES) for line in lines]
-    print("\n".join(wrong[:20]))
+    print("".join(line + "\n" for line in wrong[:20]), end="")
     print(f"{256 * len(PLACES)} records, {len(wrong)} of them shown otherwise")
     return 1 if wrong else 0
 
