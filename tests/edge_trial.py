@@ -91,6 +91,8 @@ class Trial:
             "old.rec": in_first_format(record),
             "cut.rec": record[:-3],
             "flipped.rec": flipped,
+            # No job has the number 9.
+            "job.rec": record[:9] + b"\x09" + record[10:],
             "bad.stim": b"stim 1\ncycle 0\ncycle 5\nsample 1 1\n",
             "bad.toml": b"job = 'bank'\n",
         }

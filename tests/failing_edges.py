@@ -11,12 +11,13 @@ there on; of `det_lane` also one of posix_spawn, pipe2 or of those that wait, an
 copy. A failed open or read has to end the run with status 6 and `read fault`, a failed write with 7
 and `write fault`; in `det_lane` the first, and what children need, with 10 and `spawn fault`, and a
 failed copy with 9 and its status. What was written has to be the first bytes of what is written
-otherwise. A call that was interrupted has to be tried again, and reads and writes of few bytes may
-change nothing. Without the library the same is tried with files that aren't there or have no end,
-with folders, and with outputs that are full, closed, limited, or read by nobody, and with few
-files. Prints a line for each command, and each run that ended in another way; ends with 1 where
-there is one. The programs of bin/ build where needed. Python's standard library and gcc are all
-that it needs, on Linux.
+otherwise; and where a read of a record or a stimulus failed, all that stood whole before it. A call
+that was interrupted has to be tried again, and reads and writes of few bytes may change nothing.
+Without the library the same is tried with files that aren't there or have no end, with folders,
+and with outputs that are full, closed, limited, or read by nobody, and with few files. Prints a
+line for each command, and each run that ended in another way; ends with 1 where there is one. The
+programs of bin/ build where needed. Python's standard library and gcc are all that it needs, on
+Linux.
 """
 
 import argparse
@@ -30,6 +31,7 @@ from pathlib import Path
 from typing import Dict, Iterator, List
 
 from edge_trial import LANE, Ended, Setting, Trial, begins
+from kept_reads import kept_reads
 from real_edges import real_edges
 from refused_memory import built
 
@@ -60,10 +62,12 @@ det show OUT/bank.rec --cycle 2
 det show OUT/cut.rec
 det replay OUT/bank.rec
 det replay OUT/cut.rec
+det replay OUT/job.rec
 det check OUT/bank.rec
 det check OUT/flipped.rec
 det upgrade OUT/old.rec --workers 2
 det upgrade OUT/flipped.rec
+det upgrade OUT/job.rec
 det compare OUT/bank.rec OUT/bank.rec OUT/bank.rec
 det compare OUT/bank.rec OUT/flipped.rec
 det compare OUT/bank.rec OUT/cut.rec
@@ -187,7 +191,7 @@ def tried(trial: Trial, words: str, most: int, jobs: int) -> bool:
             if not is_good(words, setting if is_reached else Setting(), ended, whole):
                 how = f"status {ended.status}, {ended.err!r}, {len(ended.out)} bytes"
                 wrong.append(f"{setting.told()}: {how}")
-    edges = list(real_edges(trial, words, whole))
+    edges = [*real_edges(trial, words, whole), *kept_reads(trial, words, whole)]
     wrong += [told for told, good in edges if not good]
     runs = len(all_settings) + len(edges)
     print(f"{words}: status {whole.status}, {runs} runs, {len(wrong)} ended otherwise", flush=True)

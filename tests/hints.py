@@ -64,8 +64,10 @@ params = [4, 2]
 name = "x"
 capacity = 2
 """
+EVENT_Y = b'[[event]]\nname = "y"\ncapacity = 1\n'
 CLOUD = BANK.replace(b"bank", b"cloud").replace(b"[4, 2]", b"[1000, 1000, 50, 4_000_000_000_000]")
 GUARD = BANK.replace(b"bank", b"guard").replace(b"[4, 2]", b"[100, 0, 1000, 1, 100]")
+NEEDS = b"[run_needs]\ninstructions = 1\nsequential_begin = 1\nsequential_end = 1\nspeedup_thousandths = 2500\n"
 STIMULUS = b"stim 1\nterminate\n"
 FORCE = "standard output is a terminal: redirect it, or add --force"
 
@@ -119,6 +121,9 @@ WORDS = [
     bad_words("record m s --seed -1", "at the word 5: -1, where --seed takes 0 to 18446744073709551615", "record"),
     bad_words("show r --cycle 0", "at the word 4: 0, where --cycle takes 1 to 1000000", "show"),
     bad_words("show r --reports --reports", "at the word 4: --reports", "show"),
+    bad_words("show r --cycle", "a value is missing behind --cycle", "show"),
+    bad_words("record m s --seed 1 --seed 2", "at the word 6: --seed", "record"),
+    bad_words("sim 0 --workers 65", "at the word 4: 65, where --workers takes 1 to 64", "sim"),
     bad_words("show r --reports --cycle 1", "--reports and --cycle stand together", "show"),
     bad_words("show r --force", "at the word 3: --force", "show"),
     bad_words("demo s --force --force", "at the word 3: --force", "demo"),
@@ -133,6 +138,8 @@ WORDS = [
     bad_words("show r " + "x" * 64, "at the word 3: " + "x" * 64, "show"),
     bad_words("show r " + "x" * 65, "at the word 3: " + "x" * 64 + "..", "show"),
     bad_words("show r \u00e9\x7f", "at the word 3: ???", "show"),
+    bad_words("show \u00e9\x7f x", "at the word 3: x", "show"),
+    bad_words("\u00e9\x7f", "at the word 1: ???"),
     Case("an empty word", [b"show", b""], 2, ["bad words", "at the word 2: ", "see det show --help"]),
     Case("a blank in a word", [b"a b\nc"], 2, ["bad words", "at the word 1: a b?c", "see det --help"]),
     Case("a word that isn't UTF-8", [b"show", b"a\xffb"], 2, ["bad words", "at the word 2: a?b", "see det --help"]),
@@ -214,10 +221,13 @@ STIMULI = [
     bad_stimulus("another first line", b"stim 2\nterminate\n", 1, "stim 1"),
     bad_stimulus("a first line alone", b"stim 1\n", 2, "cycle T, cycle - or terminate"),
     bad_stimulus("a sample before a cycle", b"stim 1\nsample 0 1\n", 2, "cycle T, cycle - or terminate"),
+    bad_stimulus("a first time that is no number", b"stim 1\ncycle x\n", 2, TIME),
     bad_stimulus("a first time too large", b"stim 1\ncycle 18446744073709551616\n", 2, TIME),
     bad_stimulus("a word that no line begins with", b"stim 1\ncycle 0\nsampel 0 1\n", 3, BLOCK),
     bad_stimulus("a sample without a value", b"stim 1\ncycle 0\nsample 0\n", 3, BLOCK),
     bad_stimulus("an event that isn't there", b"stim 1\ncycle 0\nsample 1 1\n", 3, "E as a decimal below 1"),
+    Case("an event that two events don't have", "2 m s", 4, ["bad stimulus: line 3", "wanted: E as a decimal below 2"], b"",
+         {"m": BANK + EVENT_Y, "s": b"stim 1\ncycle 0\nsample 2 0\n"}, program="det_twin"),
     bad_stimulus("an event with a leading zero", b"stim 1\ncycle 0\nsample 00 1\n", 3, "E as a decimal below 1"),
     bad_stimulus("a value too large", b"stim 1\ncycle 0\nsample 0 1000000000001\n", 3, VALUE),
     bad_stimulus("a minus zero", b"stim 1\ncycle 0\nsample 0 -0\n", 3, VALUE),
@@ -279,6 +289,8 @@ MANIFESTS = [
     bad_manifest("missing job", "job: bank, cloud or guard", b""),
     bad_manifest("unknown job", "job: bank, cloud or guard", BANK.replace(b"bank", b"tank")),
     bad_manifest("wrong kind workers", "workers: a whole number, 1 to 64", BANK.replace(b"workers = 1", b"workers = 1.0")),
+    bad_manifest("out of range run_needs.speedup_thousandths", "run_needs.speedup_thousandths: a whole number, 1 to 1000000",
+                 b'platform = "p"\n' + BANK + NEEDS.replace(b"2500", b"0")),
     bad_manifest("out of range event.0.capacity", "event.0.capacity: a whole number, 1 to 1024",
                  BANK.replace(b"capacity = 2", b"capacity = 1025")),
     bad_manifest("unknown key event.0.polcy", None, BANK.replace(b"[4,", b"[0,") + b'polcy = "last"\n', "needs m --strict"),

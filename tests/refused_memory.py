@@ -10,7 +10,8 @@
 
 A run has to end with status 8, the line `out of memory` on standard error and the first bytes of
 what the command writes otherwise; or as if nothing had been refused, where the program can do
-without (a thread's room, for one). `det_lane` may also end with status 10, since a child that can't
+without (a thread's room, for one). Where standard error is full or closed it ends likewise, which
+is tried with some of the commands. `det_lane` may also end with status 10, since a child that can't
 be started is a spawn fault, and has to leave no child. A line of a table is a program, by a name of
 bin/ or a path with a `/`, and its words; `OUT/` before a word is a folder that has the records
 guard.rec and old.rec, in formats 2 and 1, and `BIN/` the folder of the programs. Blank lines, and
@@ -29,8 +30,8 @@ from concurrent.futures import ThreadPoolExecutor
 from dataclasses import dataclass
 from functools import partial
 from pathlib import Path
+from typing import Any, Dict, List, Optional, Tuple
 from typing import Counter as CounterOf
-from typing import List, Optional, Tuple
 
 from children import run_within, stays_child
 from mutations import in_first_format
@@ -70,6 +71,11 @@ det_twin 8 examples/bank.toml examples/bank.stim
 det_twin 2 examples/guard.toml examples/guard.stim --flip 1 3
 det_lane BIN/det 3 examples/guard.toml examples/guard.stim
 """
+# The commands that are tried without a place for the line, too.
+WITHOUT_LINE = (
+    "det needs examples/wheels.toml",
+    "det_twin 2 examples/guard.toml examples/guard.stim",
+)
 SIM = "det sim 7 --workers 2"
 SIM_STEP = 1_009
 # The ways in which a run may end early, by status and first line on standard error. The second is
@@ -118,27 +124,26 @@ class Trial:
         path = program if "/" in program else str(self.programs / program)
         return [path, *(placed(word, self.folder, self.programs) for word in others)]
 
-    def run(self, words: str, refused: int) -> Tuple[Ended, int]:
+    def run(self, words: str, refused: int, **how: Any) -> Tuple[Ended, int]:
         """How a command ends with a request refused, and how many requests it made."""
         counts, counted = os.pipe()
         mark = f"{self.folder.name}-{refused}"
         names = {"LD_PRELOAD": str(self.library), "REFUSED": str(refused), "COUNTED": str(counted)}
-        done = run_within(
-            self.command(words),
-            LIMIT,
-            cwd=TOP,
-            env={**names, "MARK": mark},
-            pass_fds=[counted],
-            stdin=subprocess.DEVNULL,
-            stdout=subprocess.PIPE,
-            stderr=subprocess.PIPE,
-        )
+        edges: Dict[str, Any] = {
+            "cwd": TOP,
+            "env": {**names, "MARK": mark},
+            "pass_fds": [counted],
+            "stdin": subprocess.DEVNULL,
+            "stdout": subprocess.PIPE,
+            "stderr": subprocess.PIPE,
+        }
+        done = run_within(self.command(words), LIMIT, **{**edges, **how})
         os.close(counted)
         is_left = words.startswith(LANE) and stays_child(f"MARK={mark}")
         with os.fdopen(counts) as told:
             # A child that is left has the other end too, so there would be no end to read to.
             count = "" if is_left else told.read()
-        line = b"a child is left" if is_left else done.stderr.partition(b"\n")[0]
+        line = b"a child is left" if is_left else (done.stderr or b"").partition(b"\n")[0]
         return Ended(done.returncode, done.stdout, line), int(count or 0)
 
 
@@ -178,6 +183,25 @@ def tried(trial: Trial, words: str, every: int) -> bool:
     return not ways["otherwise"] and whole.status in (0, 1) and ways["out of memory"] > 0
 
 
+def ends_without_line(trial: Trial, words: str) -> bool:
+    """Whether each run of a command ends as it has to where its line finds no place."""
+    whole, requests = trial.run(words, 0)
+    ways: CounterOf[str] = Counter()
+    with open("/dev/full", "wb") as full:
+        places: List[Dict[str, Any]] = [
+            {"stderr": full},
+            {"stderr": None, "preexec_fn": lambda: os.close(2)},
+        ]
+        for number in range(1, requests + 1):
+            for place in places:
+                ended = trial.run(words, number, **place)[0]
+                line = b"out of memory" if ended.status == 8 else whole.line
+                ways[way_of(words, Ended(ended.status, ended.out, line), whole)] += 1
+    told = ", ".join(f"{count} {way}" for way, count in sorted(ways.items()))
+    print(f"{words}: without a place for the line {told}", flush=True)
+    return not ways["otherwise"] and ways["out of memory"] > 0
+
+
 def commands_of(table: str, only: str) -> List[str]:
     lines = [line.strip() for line in table.splitlines()]
     return [line for line in lines if line and not line.startswith("#") and line.startswith(only)]
@@ -206,6 +230,8 @@ def main() -> int:
         programs = given.programs.resolve() if given.programs else built(folder / "programs")
         trial = Trial(programs, folder)
         good = [tried(trial, words, given.every) for words in commands]
+        lost = [words for words in commands if words in WITHOUT_LINE]
+        good += [ends_without_line(trial, words) for words in lost]
         if given.sim:
             good.append(tried(trial, SIM, SIM_STEP * given.every))
     return 0 if good and all(good) else 1

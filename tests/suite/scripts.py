@@ -19,6 +19,7 @@ SCRIPTS = {
     "lanes.py": [],
     "mutated.py": ["--count", "1000"],
     "failing_edges.py": [],
+    "each_byte.py": [],
     "one_digest.py": ["--runs", "20"],
     "twins.py": ["--runs", "40"],
     "view.py": [],

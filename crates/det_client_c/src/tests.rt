@@ -58,7 +58,7 @@ fn stopped(client: &mut DetClient) -> u8 {
 #[test]
 fn life_of_a_client(rt: HostRuntime) {
     let mut client = any_client();
-    assert!(rt; det_client_new(&mut client, 10));
+    assert!(rt; det_client_new(&mut client, 10_000_000));
     let mut time = 1;
     for activation in [0, 1, 2] {
         assert_eq!(rt; went_on(&mut client, 5), activation);
@@ -70,11 +70,14 @@ fn life_of_a_client(rt: HostRuntime) {
     assert!(rt; det_client_time(&client, &mut time));
     assert_eq!(rt; time, 5);
     assert!(rt; det_client_next_time(&client, &mut time));
-    assert_eq!(rt; time, 15);
+    assert_eq!(rt; time, 10_000_005);
     assert_eq!(rt; det_client_cycle(&client), 1);
     assert_eq!(rt; stopped(&mut client), 4);
+    assert!(rt; !det_client_time(&client, &mut time));
     assert_eq!(rt; went_on(&mut client, 5), 4);
     assert!(rt; !det_client_time(&client, &mut time));
+    assert!(rt; det_client_new(&mut client, 10_000_000));
+    assert_eq!(rt; stopped(&mut client), 4);
 }
 
 #[test]
@@ -89,6 +92,7 @@ fn times_of_a_cycle(rt: HostRuntime) {
     assert_eq!(rt; activation, 3);
     let mut time = 1;
     assert!(rt; !det_client_time(&client, &mut time));
+    assert!(rt; !det_client_next_time(&client, &mut time));
     assert_eq!(rt; went_on(&mut client, 18_446_744_073_709_551_615), 3);
     assert!(rt; !det_client_next_time(&client, &mut time));
     assert_eq!(rt; time, 1);
@@ -229,6 +233,8 @@ fn window_of_the_last_round(rt: HostRuntime) {
     }
     assert!(rt; det_window_turn(&mut window, &mut places));
     assert_eq!(rt; (window.seen, places[0], places[1]), (2, 2, 3));
+    assert!(rt; det_window_turn(&mut window, &mut places));
+    assert_eq!(rt; window.seen, 0);
     assert!(rt; det_window_arrive(&mut window, &mut places, 4));
     assert!(rt; det_window_turn(&mut window, &mut places));
     assert_eq!(rt; (window.seen, places[0]), (1, 4));
