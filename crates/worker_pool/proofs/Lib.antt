@@ -9,4 +9,5 @@ mod MarkKept
 mod Marks
 mod Right
 mod Schedules
+mod Shares
 mod Sharing

@@ -1,16 +1,20 @@
 -- What goes to a kept thread, and what comes back.
-use Rattle.std.specs.Prelude.{◌≡◌, ℕ, List, [], ◌∷◌}
+use Rattle.std.specs.Prelude.{◌≡◌, ℕ, List, [], ◌∷◌, ◌++◌, ◌⊎◌, Result, IfOk}
 use Rattle.std.specs.Arc.{arc_value}
-use Rattle.std.specs.List.{All}
 use Rattle.job_trait.specs.Meaning.{Meaning}
 use Rattle.job_trait.specs.Passes.{IsReady, block_in, blocks_in}
 use Rattle.pass_in_blocks.specs.Answers.{AreRight}
 use Rattle.pass_in_blocks.specs.Showing.{AreBlocksOf, shown_in}
 use Rattle.pass_in_blocks.specs.declared.answers.BlockResult.{BlockResult}
 use Rattle.pass_in_blocks.specs.declared.spelled_blocks.SpelledBlocks.{SpelledBlocks}
+use Rattle.det_values.specs.declared.out_of_memory.OutOfMemory.{OutOfMemory}
+use Rattle.worker_pool.specs.declared.messages.Reply.{Reply}
+use Rattle.worker_pool.specs.declared.messages.Share.{Share}
+use Rattle.worker_pool.specs.declared.messages.Work.{Work}
 use Rattle.worker_pool.specs.declared.seat.PassSeat.{PassSeat}
 use Rattle.worker_pool.specs.declared.task.Task.{Task}
 use Rattle.worker_pool.specs.Handles.{view_of, block_count, IsAt}
+use Rattle.worker_pool.specs.Results.{IsShare}
 use Rattle.worker_pool.specs.Views.{IsNew}
 
 module _ {S G E L P : Type 0} where
@@ -29,6 +33,13 @@ module _ {S G E L P : Type 0} where
   abbrev pub IsSpelledOf : Meaning S G E L P → Task S G E L P → SpelledBlocks → Type 0
   IsSpelledOf m t spelled = AreBlocksOf (shown_in m (arc_value t.pass)) spelled
 
+  -- the results of the blocks that the worker with this seat claimed, which has tried all of the pass
+  -- or knows of a refusal
+  abbrev pub IsShareOf : Meaning S G E L P → Task S G E L P → PassSeat
+      → List (BlockResult E P) → Type 0
+  IsShareOf m t seat results = IsShare (block_in m (arc_value t.pass)) (block_count t.table)
+      (view_of seat) results
+
   -- the ticket is for this task, and the seat is a new one at its table
   pub record IsWork (m : Meaning S G E L P) (Covers : S → P → ℕ → Type 0) (Own : S → E → Type 0)
       (Fit : S → L → Type 0) (announced : List (Task S G E L P)) (t : Task S G E L P)
@@ -38,10 +49,19 @@ module _ {S G E L P : Type 0} where
     pub here : IsAt seat t.table
     pub new : IsNew (view_of seat)
 
-  -- where the ticket is for one task, the seat is one at its table, and the results and what was
-  -- spelled are right
+  -- where the ticket is for one task, the seat is one at its table, and unless memory was short its
+  -- worker's share of the pass is there, right and spelled
   abbrev pub IsReply : Meaning S G E L P → List (Task S G E L P) → PassSeat
-      → List (BlockResult E P) → SpelledBlocks → Type 0
-  IsReply m announced seat results spelled =
+      → Result (Share E P) OutOfMemory → Type 0
+  IsReply m announced seat share =
       (t : Task S G E L P) → announced ≡ t ∷ []
-      → IsAt seat t.table × AreOf m t results × IsSpelledOf m t spelled
+      → IsAt seat t.table × IfOk share (λ given. AreOf m t given.results.items
+      × IsSpelledOf m t given.spelled × IsShareOf m t seat given.results.items)
+
+-- One more piece of work was received, and its reply was sent, unless there was no place for it.
+-- What was received and sent stands before and after, and how many places are known to be free.
+abbrev pub IsServed : {S B G E L P : Type 0} → List (Work S B G E L P) → List (Work S B G E L P)
+    → List (Reply S B G E L P) → List (Reply S B G E L P) → ℕ → Type 0
+IsServed {S} {B} {G} {E} {L} {P} had has sent sends free = (work : Work S B G E L P)
+    × (reply : Reply S B G E L P) × (has ≡ had ++ work ∷ []) × (reply.ticket ≡ work.ticket)
+    × ((sends ≡ sent ++ reply ∷ []) ⊎ ((sends ≡ sent) × (free ≡ 0)))

@@ -57,3 +57,9 @@ module _ {E P : Type 0} (block : ℕ → Result (Passed E P) Refusal) where
   pub record Works (v : PoolView) (rs : List (BlockResult E P)) : Type 0 where
     pub tidy : Tidy v
     pub results : map shown rs ≡ results_of v.entries
+
+  -- what a worker with this view gives of so many blocks: exactly the results of those that it
+  -- claimed, and it has tried each, or knows of one that refuses
+  pub record IsShare (blocks : ℕ) (v : PoolView) (rs : List (BlockResult E P)) : Type 0 where
+    pub results : map shown rs ≡ results_of v.entries
+    pub tried : (blocks ≤ v.seen) ⊎ Stops v.entries

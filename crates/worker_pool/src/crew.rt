@@ -27,8 +27,7 @@ const MOST_PASSES: u64 = 1_000_000_000_000;
 /// The caller and threads that are kept from pass to pass. Contracts see the number of workers.
 ///
 /// An answer rests on no thread: what a kept thread doesn't give in time is run by the caller. A
-/// crew is ended by `stop`.
-#[derive(Drop)]
+/// crew can't be dropped, so each ends by `stop`.
 pub struct Crew<J: Job, B: Room, G: Gate> {
     pub(crate) keeper: Keeper<Task<J>, B>,
     pub(crate) lines: Vec<Line<J, B>>,
@@ -65,12 +64,12 @@ fn shared_pass<J: Job, B: Room, G: Gate>(
         All (AreBlocksOf (shown_in J.meaning (arc_value pass.now))) found.spelled.items) }
 {
     let blocks = (pass.elements.len() + 63) / 64;
-    let (table, seat) = PassTable::new(alloc, blocks as u32)?;
+    let (table, mut seat) = PassTable::new(alloc, blocks as u32)?;
     let pass = Arc::try_clone(pass)?;
     let Ok(task) = Arc::new(alloc, Task { pass, table }) else {
         return Err(OutOfMemory);
     };
-    work_together(alloc, keeper, lines, &task, seat, gate)
+    work_together(alloc, keeper, lines, &task, &mut seat, gate)
 }
 
 /// Keeps the memory of what was spelled for the next pass.

@@ -30,7 +30,7 @@ mod work;
 pub use crew::Crew;
 pub use gate::{Gate, MeetGate, NapGate, NoGate};
 pub use line::Line;
-pub use messages::{Reply, ReplyFits, Work, WorkFits};
+pub use messages::{Reply, ReplyFits, Share, Work, WorkFits};
 pub use pool::run_worker_pool;
 pub use room::CrewRoom;
 pub use seat::{PassSeat, PassTable, PoolRule};

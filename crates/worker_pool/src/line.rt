@@ -1,19 +1,21 @@
 //! The way to one kept thread and back.
-ghost use Rattle.std.specs.Prelude.{◌≡◌, ◌+◌, ◌≤◌, [], ◌∷◌, IfOk};
+ghost use Rattle.std.specs.Prelude.{◌≡◌, ◌+◌, ◌≤◌, [], ◌∷◌, IfOk, OnOk, IsTrue};
 ghost use Rattle.std.specs.Arc.{arc_value};
 ghost use Rattle.worker_pool.specs.Handles.{view_of, IsAt, IsSameSeat};
 ghost use Rattle.std.specs.List.{All};
+ghost use Rattle.rtrb.specs.Ring.{sent, received, known_free};
 ghost use Rattle.worker_pool.specs.Messages.{IsTask, IsWork, IsReply, AreOf, IsSpelledOf};
+ghost use Rattle.worker_pool.specs.Messages.{IsShareOf, IsServed};
 ghost use Rattle.worker_pool.specs.Views.{IsNew};
 
 use crate::gate::Gate;
-use crate::messages::{Found, Reply, ReplyFits, Work, WorkFits};
+use crate::messages::{Found, Reply, ReplyFits, Share, Work, WorkFits};
 use crate::seat::PassSeat;
 use crate::task::Task;
 use crate::work::work_blocks;
 use det_values::OutOfMemory;
 use job_trait::Job;
-use pass_in_blocks::{BlockResult, BlockResults, SpelledBlocks};
+use pass_in_blocks::SpelledBlocks;
 use rtrb::{Consumer, Producer};
 use std::alloc::Global;
 use std::sync::Arc;
@@ -33,14 +35,16 @@ pub(crate) fn work_at<J: Job>(
     alloc: Global,
     task: &Task<J>,
     seat: &mut PassSeat,
-    spelled: &mut SpelledBlocks,
-) -> Result<BlockResults<J::Element, J::Part>, OutOfMemory>
+    mut spelled: SpelledBlocks,
+) -> Result<Share<J::Element, J::Part>, OutOfMemory>
     requires task { IsTask J.meaning J.Covers J.Own J.Fit task.now }
     requires here { IsAt seat.old task.now.table }
     requires new { IsNew (view_of seat.old) }
     ensures seat { IsSameSeat seat.new seat.old }
-    ensures right { IfOk result (AreOf J.meaning task.now) }
-    ensures spelled { IfOk result (λ results. IsSpelledOf J.meaning task.now spelled.new) }
+    ensures right { IfOk result (λ share. AreOf J.meaning task.now share.results.items) }
+    ensures spelled { IfOk result (λ share. IsSpelledOf J.meaning task.now share.spelled) }
+    ensures share { IfOk result (λ share.
+        IsShareOf J.meaning task.now seat.new share.results.items) }
 {
     let places = if task.pass.shows {
         task.table.blocks()
@@ -48,15 +52,19 @@ pub(crate) fn work_at<J: Job>(
         0
     };
     spelled.begin(alloc, places as usize)?;
-    work_blocks(alloc, &task.table, seat, &*task.pass, spelled)
+    let results = work_blocks(alloc, &task.table, seat, &*task.pass, &mut spelled)?;
+    Ok(Share {
+        results: results.into_vec(),
+        spelled,
+    })
 }
 
-/// Does a piece of work. Where memory is short it has no results.
+/// Does a piece of work.
 fn reply_to<J: Job, B: Room>(alloc: Global, work: Work<J, B>) -> Reply<J, B>
     requires { IsWork J.meaning J.Covers J.Own J.Fit work.ticket.work
         (arc_value work.task) work.seat }
-    ensures { IsReply J.meaning result.ticket.work result.seat result.results.items
-        result.spelled }
+    ensures ticket { result.ticket ≡ work.ticket }
+    ensures reply { IsReply J.meaning result.ticket.work result.seat result.share }
 {
     let Work {
         ticket,
@@ -64,21 +72,35 @@ fn reply_to<J: Job, B: Room>(alloc: Global, work: Work<J, B>) -> Reply<J, B>
         mut seat,
         spare,
     } = work;
-    let mut spelled = spare.unwrap_or(SpelledBlocks::new(alloc));
-    match work_at(alloc, &*task, &mut seat, &mut spelled) {
-        Ok(found) => Reply {
-            ticket,
-            seat,
-            results: found.into_vec(),
-            spelled,
-        },
-        Err(_) => Reply {
-            ticket,
-            seat,
-            results: Vec::new(alloc),
-            spelled: SpelledBlocks::new(alloc),
-        },
+    let spelled = spare.unwrap_or(SpelledBlocks::new(alloc));
+    let share = work_at(alloc, &*task, &mut seat, spelled);
+    Reply {
+        ticket,
+        seat,
+        share,
     }
+}
+
+/// Takes the next piece of work, does it and replies, and says whether there was one. A reply that
+/// finds no place is thrown away.
+fn serve_next<J: Job, B: Room, G: Gate>(
+    alloc: Global,
+    worker: u32,
+    gate: &G,
+    works: &mut Consumer<Work<J, B>, Global, WorkFits>,
+    replies: &mut Producer<Reply<J, B>, Global, ReplyFits>,
+) -> bool
+    ensures none { ¬ IsTrue result → (received works.new ≡ received works.old)
+        × (sent replies.new ≡ sent replies.old) }
+    ensures served { IsTrue result → IsServed (received works.old) (received works.new)
+        (sent replies.old) (sent replies.new) (known_free replies.new) }
+{
+    let Ok(work) = works.pop() else {
+        return false;
+    };
+    gate.enter(worker);
+    let _ = replies.push(reply_to(alloc, work));
+    true
 }
 
 /// What a kept thread does until the other end of its line is gone.
@@ -91,19 +113,13 @@ pub(crate) fn serve<J: Job, B: Room, G: Gate>(
 ) {
     let mut idle = 0u32;
     'serve: for _ in 0..u64::MAX {
-        match works.pop() {
-            Ok(work) => {
-                gate.enter(worker);
-                let _ = replies.push(reply_to(alloc, work));
-                idle = 0;
-            }
-            Err(_) => {
-                if works.is_abandoned() {
-                    return;
-                }
-                gate.rest(idle);
-                idle = idle.saturating_add(1);
-            }
+        if serve_next(alloc, worker, &*gate, &mut works, &mut replies) {
+            idle = 0;
+        } else if works.is_abandoned() {
+            return;
+        } else {
+            gate.rest(idle);
+            idle = idle.saturating_add(1);
         }
     }
 }
@@ -139,33 +155,41 @@ pub(crate) fn give<J: Job, B: Room>(
     line.works.push(work).is_ok()
 }
 
-/// What a reply to the task that was announced last has found and spelled. Its seat is joined to
-/// the caller's.
-fn share_of<J: Job, B: Room>(
+/// Adds the share that a reply to the task announced last brings. Its seat is joined to the
+/// caller's.
+fn add_reply<J: Job, B: Room>(
     keeper: &mut Keeper<Task<J>, B>,
     task: &Task<J>,
     seat: &mut PassSeat,
+    found: &mut Found<J::Element, J::Part>,
     reply: Reply<J, B>,
-) -> (Vec<BlockResult<J::Element, J::Part>>, SpelledBlocks)
+) -> Result<(), OutOfMemory>
     requires announced { keeper.old.work ≡ task.now ∷ [] }
     requires present { reply.ticket.number ≡ keeper.old.number }
-    requires reply { IsReply J.meaning reply.ticket.work reply.seat reply.results.items
-        reply.spelled }
+    requires reply { IsReply J.meaning reply.ticket.work reply.seat reply.share }
     requires here { IsAt seat.old task.now.table }
+    requires right { AreOf J.meaning task.now found.old.results.items }
+    requires spelled { All (IsSpelledOf J.meaning task.now) found.old.spelled.items }
+    requires share { IsShareOf J.meaning task.now seat.old found.old.results.items }
     ensures same { keeper.new ≡ keeper.old }
     ensures seat { IsSameSeat seat.new seat.old }
-    ensures right { AreOf J.meaning task.now result.0.items }
-    ensures spelled { IsSpelledOf J.meaning task.now result.1 }
+    ensures right { OnOk result (AreOf J.meaning task.now found.new.results.items) }
+    ensures spelled { OnOk result (
+        All (IsSpelledOf J.meaning task.now) found.new.spelled.items) }
+    ensures share { OnOk result (
+        IsShareOf J.meaning task.now seat.new found.new.results.items) }
 {
     let Reply {
         ticket,
         seat: other,
-        results,
-        spelled,
+        share,
     } = reply;
+    let Ok(share) = share else {
+        return Ok(());
+    };
     keeper.check(ticket);
     task.table.join(seat, other);
-    (results, spelled)
+    found.add(share)
 }
 
 /// Adds what a kept thread has found that has replied to the task announced last, and says whether
@@ -181,11 +205,14 @@ pub(crate) fn take_reply<J: Job, B: Room>(
     requires here { IsAt seat.old task.now.table }
     requires right { AreOf J.meaning task.now found.old.results.items }
     requires spelled { All (IsSpelledOf J.meaning task.now) found.old.spelled.items }
+    requires share { IsShareOf J.meaning task.now seat.old found.old.results.items }
     ensures same { keeper.new ≡ keeper.old }
     ensures seat { IsSameSeat seat.new seat.old }
     ensures right { IfOk result (λ came. AreOf J.meaning task.now found.new.results.items) }
     ensures spelled { IfOk result (λ came.
         All (IsSpelledOf J.meaning task.now) found.new.spelled.items) }
+    ensures share { IfOk result (λ came.
+        IsShareOf J.meaning task.now seat.new found.new.results.items) }
 {
     let Ok(reply) = line.replies.pop() else {
         return Ok(false);
@@ -193,7 +220,6 @@ pub(crate) fn take_reply<J: Job, B: Room>(
     if reply.ticket.number() != keeper.number() {
         return Ok(false);
     }
-    let (results, spelled) = share_of(keeper, task, seat, reply);
-    found.add(results, spelled)?;
+    add_reply(keeper, task, seat, found, reply)?;
     Ok(true)
 }

@@ -3,7 +3,7 @@ ghost use Rattle.std.specs.Prelude.{◌≡◌, ◌+◌, ◌<◌, ◌≤◌, ◌^
 ghost use Rattle.std.specs.Arc.{arc_value};
 ghost use Rattle.worker_pool.specs.Handles.{view_of, IsAt, IsSameSeat};
 ghost use Rattle.std.specs.List.{All};
-ghost use Rattle.worker_pool.specs.Messages.{IsTask, AreOf, IsSpelledOf};
+ghost use Rattle.worker_pool.specs.Messages.{IsTask, AreOf, IsSpelledOf, IsShareOf};
 ghost use Rattle.worker_pool.specs.Views.{IsNew, fresh, all_shares};
 
 use crate::gate::Gate;
@@ -72,11 +72,14 @@ fn take_replies<J: Job, B: Room>(
     requires here { IsAt seat.old task.now.table }
     requires right { AreOf J.meaning task.now found.old.results.items }
     requires spelled { All (IsSpelledOf J.meaning task.now) found.old.spelled.items }
+    requires share { IsShareOf J.meaning task.now seat.old found.old.results.items }
     ensures same { keeper.new ≡ keeper.old }
     ensures seat { IsSameSeat seat.new seat.old }
     ensures right { IfOk result (λ came. AreOf J.meaning task.now found.new.results.items) }
     ensures spelled { IfOk result (λ came.
         All (IsSpelledOf J.meaning task.now) found.new.spelled.items) }
+    ensures share { IfOk result (λ came.
+        IsShareOf J.meaning task.now seat.new found.new.results.items) }
 {
     let mut came = 0u32;
     'each: for line in lines {
@@ -100,9 +103,13 @@ fn collect<J: Job, B: Room>(
     requires here { IsAt seat.old task.now.table }
     requires right { AreOf J.meaning task.now found.old.results.items }
     requires spelled { All (IsSpelledOf J.meaning task.now) found.old.spelled.items }
+    requires share { IsShareOf J.meaning task.now seat.old found.old.results.items }
+    ensures seat { IsSameSeat seat.new seat.old }
     ensures right { IfOk result (λ done. AreOf J.meaning task.now found.new.results.items) }
     ensures spelled { IfOk result (λ done.
         All (IsSpelledOf J.meaning task.now) found.new.spelled.items) }
+    ensures share { IfOk result (λ done.
+        IsShareOf J.meaning task.now seat.new found.new.results.items) }
 {
     let blocks = task.table.blocks() as usize;
     let elements = task.pass.elements.len() as u32;
@@ -122,31 +129,34 @@ fn collect<J: Job, B: Room>(
     Ok(())
 }
 
-/// What the caller and the kept threads find of a task. Some blocks may be missing.
+/// What the caller and the kept threads find of a task. Some blocks may be missing, but none that
+/// the caller claimed.
 pub(crate) fn work_together<J: Job, B: Room, G: Gate>(
     alloc: Global,
     keeper: &mut Keeper<Task<J>, B>,
     lines: &mut [Line<J, B>],
     task: &Arc<Task<J>, Global>,
-    mut seat: PassSeat,
+    seat: &mut PassSeat,
     gate: &G,
 ) -> Result<Found<J::Element, J::Part>, OutOfMemory>
     requires room { keeper.old.number < 2 ^ 63 }
     requires few { length lines.old ≤ 63 }
     requires task { IsTask J.meaning J.Covers J.Own J.Fit (arc_value task.now) }
-    requires here { IsAt seat (arc_value task.now).table }
-    requires fresh { view_of seat ≡ fresh all_shares }
+    requires here { IsAt seat.old (arc_value task.now).table }
+    requires fresh { view_of seat.old ≡ fresh all_shares }
+    ensures seat { IsSameSeat seat.new seat.old }
     ensures right { IfOk result (λ found.
         AreOf J.meaning (arc_value task.now) found.results.items) }
     ensures spelled { IfOk result (λ found.
         All (IsSpelledOf J.meaning (arc_value task.now)) found.spelled.items) }
+    ensures share { IfOk result (λ found.
+        IsShareOf J.meaning (arc_value task.now) seat.new found.results.items) }
 {
     keeper.announce(slice::from_ref(&**task));
-    let given = give_all(keeper, lines, task, &mut seat, gate);
+    let given = give_all(keeper, lines, task, seat, gate);
     gate.enter(0);
-    let mut mine = SpelledBlocks::new(alloc);
-    let results = work_at(alloc, &**task, &mut seat, &mut mine)?;
-    let mut found = Found::of(alloc, results.into_vec(), mine)?;
-    collect(keeper, lines, &**task, &mut seat, &mut found, given)?;
+    let share = work_at(alloc, &**task, seat, SpelledBlocks::new(alloc))?;
+    let mut found = Found::of(alloc, share)?;
+    collect(keeper, lines, &**task, seat, &mut found, given)?;
     Ok(found)
 }

@@ -21,14 +21,19 @@ pub struct Work<J: Job, B: Room> {
     pub spare: Option<SpelledBlocks>,
 }
 
-/// A ticket that came back, with the seat, the results of the blocks that were claimed with it, and
-/// what was spelled of them.
+/// What one worker found in the blocks that it claimed, and what it spelled of them.
+#[derive(Drop)]
+pub struct Share<E, P> {
+    pub results: Vec<BlockResult<E, P>>,
+    pub spelled: SpelledBlocks,
+}
+
+/// A ticket that came back, with the seat, and the share of its worker.
 #[derive(Drop)]
 pub struct Reply<J: Job, B: Room> {
     pub ticket: Ticket<Task<J>, B>,
     pub seat: PassSeat,
-    pub results: Vec<BlockResult<J::Element, J::Part>>,
-    pub spelled: SpelledBlocks,
+    pub share: Result<Share<J::Element, J::Part>, OutOfMemory>,
 }
 
 /// What the workers of a pass found in their blocks, and what they spelled of them.
@@ -39,15 +44,12 @@ pub(crate) struct Found<E, P> {
 }
 
 impl<E: Drop, P: Drop> Found<E, P> {
-    /// What one worker found and spelled.
-    pub(crate) fn of(
-        alloc: Global,
-        results: Vec<BlockResult<E, P>>,
-        spelled: SpelledBlocks,
-    ) -> Result<Found<E, P>, OutOfMemory>
-        ensures results { IfOk result (λ found. found.results ≡ results) }
-        ensures spelled { IfOk result (λ found. found.spelled.items ≡ spelled ∷ []) }
+    /// The share of one worker.
+    pub(crate) fn of(alloc: Global, share: Share<E, P>) -> Result<Found<E, P>, OutOfMemory>
+        ensures results { IfOk result (λ found. found.results ≡ share.results) }
+        ensures spelled { IfOk result (λ found. found.spelled.items ≡ share.spelled ∷ []) }
     {
+        let Share { results, spelled } = share;
         let mut all = Vec::new(alloc);
         match all.push(spelled) {
             Ok(()) => Ok(Found {
@@ -58,17 +60,17 @@ impl<E: Drop, P: Drop> Found<E, P> {
         }
     }
 
-    /// Adds what another worker found and spelled.
-    pub(crate) fn add(
-        &mut self,
-        mut results: Vec<BlockResult<E, P>>,
-        spelled: SpelledBlocks,
-    ) -> Result<(), OutOfMemory>
+    /// Adds the share of another worker.
+    pub(crate) fn add(&mut self, share: Share<E, P>) -> Result<(), OutOfMemory>
         ensures results { OnOk result (
-            self.new.results.items ≡ self.old.results.items ++ results.items) }
+            self.new.results.items ≡ self.old.results.items ++ share.results.items) }
         ensures spelled { OnOk result (
-            self.new.spelled.items ≡ self.old.spelled.items ++ spelled ∷ []) }
+            self.new.spelled.items ≡ self.old.spelled.items ++ share.spelled ∷ []) }
     {
+        let Share {
+            mut results,
+            spelled,
+        } = share;
         self.results.append(&mut results)?;
         match self.spelled.push(spelled) {
             Ok(()) => Ok(()),
@@ -94,6 +96,5 @@ pub struct ReplyFits;
 impl<J: Job, B: Room> Protocol<Reply<J, B>> for ReplyFits {
     ghost use Rattle.worker_pool.specs.Messages.{IsReply};
 
-    ghost allows = { λ _ reply.
-        IsReply J.meaning reply.ticket.work reply.seat reply.results.items reply.spelled };
+    ghost allows = { λ _ reply. IsReply J.meaning reply.ticket.work reply.seat reply.share };
 }

@@ -1,0 +1,48 @@
+-- A worker's share of a pass, and two of them together.
+use Rattle.std.proofs.Common.{◌≡◌, ℕ, ◌≤◌, ◌⊎◌, List, [], ◌∷◌, ◌++◌, map, Result, Ok, IfOk, sym, ap, ◌∙◌, subst, inl, inr, ⊎_elim, arith}
+use mathlib.Core.List.{map-append}
+use Rattle.det_values.specs.declared.out_of_memory.OutOfMemory.{OutOfMemory}
+use Rattle.job_trait.specs.Meaning.{Meaning}
+use Rattle.job_trait.specs.Pass.{Passed, Refusal}
+use Rattle.pass_in_blocks.specs.declared.answers.BlockResult.{BlockResult}
+use Rattle.worker_pool.specs.declared.messages.Share.{Share}
+use Rattle.worker_pool.specs.declared.seat.PassSeat.{PassSeat}
+use Rattle.worker_pool.specs.declared.task.Task.{Task}
+use Rattle.worker_pool.specs.declared.view.Mark.{Mark}
+use Rattle.worker_pool.specs.declared.view.PoolEntry.{PoolEntry}
+use Rattle.worker_pool.specs.declared.view.PoolView.{PoolView}
+use Rattle.worker_pool.specs.Views.{entry, Stands, joined}
+use Rattle.worker_pool.specs.Messages.{AreOf, IsSpelledOf, IsShareOf, IsReply}
+use Rattle.worker_pool.specs.Results.{Stops, shown, Works, IsShare}
+use Rattle.worker_pool.proofs.Done.{results_append}
+
+stands_before : (b : ℕ) (k : Mark) (es fs : List PoolEntry) → Stands b k es → Stands b k (es ++ fs)
+stands_before b k [] fs h = absurd h
+stands_before b k (e ∷ es) fs h = ⊎_elim (λ (x : e ≡ entry b k). inl x) (λ (x : Stands b k es). inr (stands_before b k es fs x)) h
+
+module _ {E P : Type 0} (block : ℕ → Result (Passed E P) Refusal) (blocks : ℕ) where
+  pub share_of : (n : ℕ) (v : PoolView) (rs : List (BlockResult E P)) → n ≡ blocks → Works block v rs → (v.seen ≡ n) ⊎ Stops v.entries
+      → IsShare block blocks v rs
+  share_of n v rs is works tried = record {
+    results = works.results;
+    tried = ⊎_elim (λ (x : v.seen ≡ n). inl (omega arith)) (λ (x : Stops v.entries). inr x) tried;
+  }
+
+  tried_joined : (v w : PoolView) → (blocks ≤ v.seen) ⊎ Stops v.entries → (blocks ≤ (joined v w).seen) ⊎ Stops (joined v w).entries
+  tried_joined v w tried = ⊎_elim (λ (x : blocks ≤ v.seen). inl (omega arith)) (λ (x : Stops v.entries).
+      inr (x.0, ⊎_elim (λ y. inl (stands_before x.0 _ v.entries w.entries y)) (λ y. inr (stands_before x.0 _ v.entries w.entries y)) x.1)) tried
+
+  pub share_joined : (v w u : PoolView) (rs qs ps : List (BlockResult E P)) → IsShare block blocks v rs → IsShare block blocks w qs
+      → u ≡ joined v w → ps ≡ rs ++ qs → IsShare block blocks u ps
+  share_joined v w u rs qs ps h k is all = subst (λ (x : PoolView). IsShare block blocks x ps) (sym is) (record {
+    results = ap (map shown) all ∙ map-append shown rs qs ∙ (λ i. h.results i ++ k.results i)
+        ∙ sym (results_append block v.entries w.entries);
+    tried = tried_joined v w h.tried;
+  })
+
+-- what a reply that isn't short of memory brings to the task that its ticket is for
+pub brought : {S G E L P : Type 0} (m : Meaning S G E L P) (announced : List (Task S G E L P)) (t : Task S G E L P) (seat : PassSeat)
+    (share : Result (Share E P) OutOfMemory) (given : Share E P) → IsReply m announced seat share → announced ≡ t ∷ [] → share ≡ Ok given
+    → AreOf m t given.results.items × IsSpelledOf m t given.spelled × IsShareOf m t seat given.results.items
+brought m announced t seat share given reply is ok = subst
+    (λ s. IfOk s (λ x. AreOf m t x.results.items × IsSpelledOf m t x.spelled × IsShareOf m t seat x.results.items)) ok (reply t is).1
