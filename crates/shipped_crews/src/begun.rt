@@ -1,5 +1,6 @@
 //! A run that has just begun, and its crew.
-ghost use Rattle.std.specs.Prelude.{◌≡◌, length, None, IfOk};
+ghost use Rattle.std.specs.Prelude.{◌≡◌, length, min, max, None, IfOk};
+ghost use Rattle.job_trait.specs.Passes.{blocks_of};
 ghost use Rattle.run_writer.specs.Recording.{IsNew};
 ghost use Rattle.worker_pool.specs.Crews.{room_name};
 
@@ -28,6 +29,8 @@ pub(crate) fn begin<'r, J: Job, R, G>(
     requires good { J.meaning.bad_param profile.params (length profile.events) ≡ None }
     ensures new { IfOk result (λ begun. IsNew J.meaning begun.recording) }
     ensures profile { IfOk result (λ begun. begun.recording.profile ≡ profile) }
+    ensures workers { IfOk result (λ begun. begun.workers.count ≡ max (min workers.now.count
+        (blocks_of (length begun.recording.engine.state.elements))) 1) }
 {
     let events = profile.events.len() as u16;
     let Ok(job) = J::make(&profile.params, events) else {
@@ -58,7 +61,8 @@ where
     R: Threads,
     G: Gate + Send + Sync + 'static,
     requires { room_name begun.room ≡ N.table }
-    ensures { IfOk result (λ runner. runner.recording ≡ begun.entry.recording) }
+    ensures recording { IfOk result (λ runner. runner.recording ≡ begun.entry.recording) }
+    ensures workers { IfOk result (λ runner. runner.pool ≡ begun.entry.workers.count) }
 {
     let Begun {
         recording,

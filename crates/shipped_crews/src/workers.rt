@@ -1,5 +1,6 @@
 //! The workers of a run, and the machine that they run on.
-ghost use Rattle.std.specs.Prelude.{◌≡◌, ◌≤◌};
+ghost use Rattle.std.specs.Prelude.{◌≡◌, ◌≤◌, min, max};
+ghost use Rattle.job_trait.specs.Passes.{blocks_of};
 
 use std::alloc::Global;
 use std::sync::Arc;
@@ -43,6 +44,7 @@ pub struct Workers<'r, R, G> {
 /// As many of the workers as there are blocks of elements, and one at least.
 pub(crate) fn busy<'r, R, G>(workers: &Workers<'r, R, G>, elements: usize) -> Workers<'r, R, G>
     requires { elements ≤ 65536 }
+    ensures { result.count ≡ max (min workers.now.count (blocks_of elements)) 1 }
 {
     let blocks = ((elements + 63) / 64) as u32;
     Workers {
