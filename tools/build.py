@@ -22,11 +22,11 @@ import sys
 import tempfile
 import time
 from contextlib import suppress
+from functools import partial
 from pathlib import Path
-from subprocess import DEVNULL, PIPE, STDOUT, Popen
 from typing import Optional
 
-from compile import NoModule, compile_program
+from compile import NoModule, compile_program, run_logged
 from crate_list import CRATES, TOP, is_built, listed_crates, needed_by, program_file
 
 COMPILED = TOP / "out" / "compiled"
@@ -43,6 +43,7 @@ class Build:
         self.name, self.is_proof = name, is_proof
         self.needed = needed_by(name, listed_crates())
         self.compiled, self.log = COMPILED / name, COMPILED / f"{name}.log"
+        self.run = partial(run_logged, self.log)
 
     def tell(self, text: str) -> None:
         print(f"{self.name}: {text}", file=sys.stderr, flush=True)
@@ -57,24 +58,6 @@ class Build:
                     os.utime(file, (looked, looked))
                 return file
         return None
-
-    def run(self, words: list[str], folder: Path) -> tuple[int, str]:
-        """Runs a command to its end, and logs what it writes."""
-        pipes = {"stdin": DEVNULL, "stdout": PIPE, "stderr": STDOUT}
-        try:
-            command = Popen(words, cwd=folder, errors="replace", start_new_session=True, **pipes)
-        except (FileNotFoundError, PermissionError) as why:
-            return 127, str(why)
-        try:
-            told, _ = command.communicate()
-        except BaseException:
-            os.killpg(command.pid, signal.SIGKILL)
-            raise
-        with open(self.log, "a") as log:
-            log.write(f"$ {' '.join(words[:2])} ..\n{told}")
-        if os.strerror(errno.ENOSPC) in told:
-            raise OSError(errno.ENOSPC, os.strerror(errno.ENOSPC))
-        return command.returncode, told
 
     def compile(self, room: Path) -> Path:
         begun = time.time()  # what is changed from now on is newer than the program
