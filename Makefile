@@ -30,8 +30,8 @@ prove:
 
 # Both: the gate, the library over what it proved, and the tests over the proved programs.
 check: prove
-	bin/build_library
-	$(PYTHON) tests/run.py --proved
+	bin/build_library --prove
+	$(PYTHON) tests/run.py --prove
 
 # Copies what `make` built, and builds nothing.
 install:
