@@ -89,10 +89,10 @@ def print_table(minutes: Counter[Work]) -> None:
     crates = sorted({crate for crate, _ in minutes}, key=lambda it: -total(minutes, it))
     print(f"\n| crate | {' | '.join(KINDS)} | all |\n|---|---:|---:|---:|---:|")
     for crate in crates:
-        cells = [f"{minutes[crate, kind]:.1f}" for kind in KINDS]
-        print(f"| `{crate}` | {' | '.join(cells)} | {total(minutes, crate):.1f} |")
+        cells = [f"{minutes[crate, kind]:.2f}" for kind in KINDS]
+        print(f"| `{crate}` | {' | '.join(cells)} | {total(minutes, crate):.2f} |")
     sums = [sum(minutes[crate, kind] for crate in crates) for kind in KINDS]
-    print(f"| all | {' | '.join(f'{it:.1f}' for it in sums)} | {sum(sums):.1f} |")
+    print(f"| all | {' | '.join(f'{it:.2f}' for it in sums)} | {sum(sums):.2f} |")
 
 
 def total(minutes: Counter[Work], crate: str) -> float:
