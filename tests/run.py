@@ -28,8 +28,8 @@ from typing import Optional
 sys.dont_write_bytecode = True
 
 from built_programs import built, is_proved  # noqa: E402
-from suite import agreement, building, documents, gate, installed, limits  # noqa: E402
-from suite import pages, paths, scripts, stored  # noqa: E402
+from suite import agreement, building, documents, gate, installed, library  # noqa: E402
+from suite import limits, pages, paths, scripts, stored  # noqa: E402
 from suite.test import NAMES, Programs, Skipped, Test, copied  # noqa: E402
 
 OK, SKIPPED, WRONG = "ok", "skipped", "WRONG"
@@ -80,6 +80,7 @@ def tests_of(programs: Programs, is_proof: bool) -> list[Test]:
         *documents.tests(programs),
         *limits.tests(programs),
         *building.tests(programs),
+        *library.tests(programs),
         *gate.tests(programs),
         *installed.tests(programs),
         *stored.tests(programs),

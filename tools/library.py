@@ -86,6 +86,7 @@ class Library:
             return False
         words += ["--target", self.target] * (self.target != HOST)
         words += ["--toolchain", f"{self.kit}/toolchain", "-o", f"out/lib{crate}.a"]
+        (CRATES / crate / "out").mkdir(exist_ok=True)
         tell(f"proving {crate} for {self.target} over what the gate proved ..")
         status, _ = self.run([f"{self.kit}/bin/rattle", "build", *words], CRATES / crate)
         return status == 0
