@@ -59,10 +59,12 @@ def run_all(tests: list[Test], jobs: int) -> dict[str, int]:
     return counts
 
 
-def built_all(more: list[str]) -> list[Path]:
-    """Builds the programs where needed, side by side. Answers where they lie."""
-    with ThreadPoolExecutor(len(NAMES)) as threads:
-        return list(threads.map(lambda name: built(name, more), NAMES))
+def built_all(is_proof: bool) -> list[Path]:
+    """Builds the programs and the library where needed, side by side. Answers where the programs
+    lie; tests/cpp.py is skipped where there is no library."""
+    with ThreadPoolExecutor(len(NAMES) + 1) as threads:
+        threads.submit(scripts.library, is_proof)
+        return list(threads.map(lambda name: built(name, ["--prove"] * is_proof), NAMES))
 
 
 def kind_of(files: list[Path], folder: Optional[Path]) -> str:
@@ -106,7 +108,7 @@ def main() -> int:
     begun = time.monotonic()
     with tempfile.TemporaryDirectory(prefix="det-tests-") as name:
         try:
-            files = files or built_all(["--prove"] * given.prove)
+            files = files or built_all(given.prove)
         except subprocess.CalledProcessError as why:
             return why.returncode
         print(f"over {kind_of(files, given.programs)}", flush=True)

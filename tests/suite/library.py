@@ -3,6 +3,7 @@
 from __future__ import annotations
 
 import tempfile
+import time
 from pathlib import Path
 from typing import Callable, Optional
 
@@ -69,6 +70,18 @@ def proves_where_wanted(it: LibraryRoom) -> Optional[str]:
     return None if again == Ended(0, proved.out, b"") else f"{again}"
 
 
+def takes_the_gate(it: LibraryRoom) -> Optional[str]:
+    """Over libraries that the gate left the two crates alone are proved, and not over older ones."""
+    it.write("crates/low/out/rlib/low.rlib/format")
+    first, text = it.build("--prove"), it.archive()
+    time.sleep(0.05)
+    it.write("crates/low/src/lib.rt")
+    second = it.build("--prove")
+    if first.status or text != "over the gate\n" * 2 + "heap\n" or it.calls("rt lib") != 2:
+        return f"{first}, {text}"
+    return None if it.archive() == proved_both("x86_64-unknown-linux-gnu") else f"{second}"
+
+
 def proves_for_arm(it: LibraryRoom) -> Optional[str]:
     given = it.build("--target", ARM)
     return None if it.archive(ARM) == proved_both(ARM) else f"{given}"
@@ -102,6 +115,7 @@ def tests(_: Programs) -> list[Test]:
     made = {
         "compiled once": compiles_once,
         "proved where wanted": proves_where_wanted,
+        "over what the gate proved": takes_the_gate,
         "for another target": proves_for_arm,
         "proved instead": proves_instead,
         "failures": fails,
