@@ -1,5 +1,5 @@
-# Builds, checks and installs. `make` needs the Rattle kit (rt on the path) and Python 3.9 or later,
-# `make install` Python alone. README.md says more.
+# Builds, tests, proves and installs. `make` needs the Rattle kit (rt on the path) and Python 3.9 or
+# later, `make install` Python alone. README.md says more.
 VERSION = 0.1.0
 PREFIX = /usr/local
 DESTDIR =
@@ -8,17 +8,30 @@ PROGRAMS = det det_lane det_twin
 
 all: programs library
 
-# The programs lie in crates/NAME/out/NAME; those of bin/ run them.
+# Proved programs are taken where they are there; else they are compiled, without their proofs.
 programs:
-	$(PYTHON) tools/build.py $(PROGRAMS)
+	@$(MAKE) --no-print-directory -j3 $(PROGRAMS)
+
+$(PROGRAMS):
+	$(PYTHON) -B tools/build.py $@
 
 # The static library for C and C++ is out/lib/libdeterministic_client.a.
 library:
 	bin/build_library
 
-# The list of the theorem's definitions, the gate, and the tests behind it.
-check:
-	.ci/run
+# The tests behind the gate, over the programs that are there, proved or compiled.
+test:
+	$(PYTHON) tests/run.py
+
+# The gate: the list of the theorem's definitions, all proofs, edits that must fail, tests in Rattle.
+prove:
+	$(PYTHON) tools/definitions.py --check
+	rt ci
+
+# Both: the gate, the library over what it proved, and the tests over the proved programs.
+check: prove
+	bin/build_library --prove
+	$(PYTHON) tests/run.py --prove
 
 # Copies what `make` built, and builds nothing.
 install:
@@ -29,6 +42,6 @@ uninstall:
 
 # Records that stand in out/ stay.
 clean:
-	rm -rf crates/*/out out/build out/lib
+	rm -rf crates/*/out out/compiled out/lib
 
-.PHONY: all programs library check install uninstall clean
+.PHONY: all programs $(PROGRAMS) library test prove check install uninstall clean

@@ -33,6 +33,7 @@ from pathlib import Path
 from typing import Counter as CounterOf
 from typing import Iterator, List, Optional, Set
 
+from built_programs import built
 from chained import MOST, Client, stimulus
 from mutated import Plain, build_plain
 
@@ -192,10 +193,7 @@ def first_other(runs: Runs, made: Made, count: int, wanted: str) -> Optional[str
 
 def program_of(name: str, programs: Optional[Path]) -> Path:
     """The build of a program in a folder, or that of bin/."""
-    if programs:
-        return programs.resolve() / name
-    subprocess.run([TOP / "bin" / name, "--version"], stdout=subprocess.DEVNULL, check=True)
-    return TOP / "crates" / name / "out" / name
+    return programs.resolve() / name if programs else built(name)
 
 
 def options(description: str) -> argparse.Namespace:

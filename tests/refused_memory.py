@@ -33,6 +33,7 @@ from pathlib import Path
 from typing import Any, Dict, List, Optional, Tuple
 from typing import Counter as CounterOf
 
+from built_programs import built
 from children import run_within, stays_child
 from mutations import in_first_format
 
@@ -207,12 +208,11 @@ def commands_of(table: str, only: str) -> List[str]:
     return [line for line in lines if line and not line.startswith("#") and line.startswith(only)]
 
 
-def built(folder: Path) -> Path:
+def built_in(folder: Path) -> Path:
     """The programs of bin/, built where needed, in one folder."""
     folder.mkdir()
     for name in PROGRAMS:
-        subprocess.run([TOP / "bin" / name, "--version"], stdout=subprocess.DEVNULL, check=True)
-        (folder / name).symlink_to(TOP / "crates" / name / "out" / name)
+        (folder / name).symlink_to(built(name))
     return folder
 
 
@@ -227,7 +227,7 @@ def main() -> int:
     commands = commands_of(given.table.read_text() if given.table else SHIPPED, given.only)
     with tempfile.TemporaryDirectory() as name:
         folder = Path(name)
-        programs = given.programs.resolve() if given.programs else built(folder / "programs")
+        programs = given.programs.resolve() if given.programs else built_in(folder / "programs")
         trial = Trial(programs, folder)
         good = [tried(trial, words, given.every) for words in commands]
         lost = [words for words in commands if words in WITHOUT_LINE]

@@ -3,6 +3,7 @@
 the documents.
 
     python3 tests/run.py                      with the programs of bin/, which build where needed
+    python3 tests/run.py --prove              with proved ones, and a proved library for C++
     python3 tests/run.py --programs FOLDER    with other builds of det, det_lane and det_twin
     python3 tests/run.py --only WORD          the tests whose names have WORD
     python3 tests/run.py --jobs N             so many tests at a time, in place of one a processor
@@ -26,9 +27,10 @@ from typing import Optional
 
 sys.dont_write_bytecode = True
 
-from suite import agreement, building, documents, installed, limits  # noqa: E402
-from suite import pages, paths, scripts, stored  # noqa: E402
-from suite.test import NAMES, TOP, Programs, Skipped, Test, copied  # noqa: E402
+from built_programs import built, is_proved  # noqa: E402
+from suite import agreement, building, documents, gate, installed, library  # noqa: E402
+from suite import limits, pages, paths, scripts, stored  # noqa: E402
+from suite.test import NAMES, Programs, Skipped, Test, copied  # noqa: E402
 
 OK, SKIPPED, WRONG = "ok", "skipped", "WRONG"
 
@@ -57,20 +59,31 @@ def run_all(tests: list[Test], jobs: int) -> dict[str, int]:
     return counts
 
 
-def built() -> list[Path]:
-    """Builds the programs where needed. Answers where they lie."""
-    for name in NAMES:
-        subprocess.run([TOP / "bin" / name, "--version"], stdout=subprocess.DEVNULL, check=True)
-    return [TOP / "crates" / name / "out" / name for name in NAMES]
+def built_all(is_proof: bool) -> list[Path]:
+    """Builds the programs and the library where needed, side by side. Answers where the programs
+    lie; tests/cpp.py is skipped where there is no library."""
+    with ThreadPoolExecutor(len(NAMES) + 1) as threads:
+        threads.submit(scripts.library, is_proof)
+        return list(threads.map(lambda name: built(name, ["--prove"] * is_proof), NAMES))
 
 
-def tests_of(programs: Programs) -> list[Test]:
+def kind_of(files: list[Path], folder: Optional[Path]) -> str:
+    """What is told of the programs under test."""
+    if folder:
+        return f"the programs of {folder}"
+    kinds = {file: "proved" if is_proved(file) else "compiled" for file in files}
+    return ", ".join(f"{file.name} {kind}" for file, kind in kinds.items())
+
+
+def tests_of(programs: Programs, is_proof: bool) -> list[Test]:
     """All tests, the longest ones first."""
     return [
-        *scripts.tests(programs),
+        *scripts.tests(programs, is_proof),
         *documents.tests(programs),
         *limits.tests(programs),
         *building.tests(programs),
+        *library.tests(programs),
+        *gate.tests(programs),
         *installed.tests(programs),
         *stored.tests(programs),
         *agreement.tests(programs),
@@ -82,6 +95,7 @@ def tests_of(programs: Programs) -> list[Test]:
 def main() -> int:
     parser = argparse.ArgumentParser(description="Runs the tests behind the gate.")
     parser.add_argument("--programs", type=Path, help="a folder with det, det_lane and det_twin")
+    parser.add_argument("--prove", action="store_true", help="proved programs, and no others")
     parser.add_argument("--only", default="", metavar="WORD", help="the tests whose names have it")
     parser.add_argument("--jobs", type=int, default=len(os.sched_getaffinity(0)), metavar="N")
     given = parser.parse_args()
@@ -93,8 +107,13 @@ def main() -> int:
         parser.error(f"there is no program {', '.join(lacking)}")
     begun = time.monotonic()
     with tempfile.TemporaryDirectory(prefix="det-tests-") as name:
-        programs = copied(Path(name), files or built())
-        counts = run_all([it for it in tests_of(programs) if given.only in it.name], given.jobs)
+        try:
+            files = files or built_all(given.prove)
+        except subprocess.CalledProcessError as why:
+            return why.returncode
+        print(f"over {kind_of(files, given.programs)}", flush=True)
+        tests = tests_of(copied(Path(name), files), given.prove)
+        counts = run_all([it for it in tests if given.only in it.name], given.jobs)
     seconds = time.monotonic() - begun
     told = f"{counts[OK]} passed, {counts[SKIPPED]} skipped, {counts[WRONG]} failed"
     print(f"{told}, in {seconds:.0f} seconds")

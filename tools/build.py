@@ -1,256 +1,132 @@
 #!/usr/bin/env python3
-"""Proves and builds programs where they aren't built, or a source that they need is newer.
+"""Has a program built where it isn't, or where a source that it needs is newer.
 
-    python3 tools/build.py det                     one program; the programs of bin/ call this
-    python3 tools/build.py det det_lane det_twin   several, one after another
-    python3 tools/build.py det --jobs 2            at most so many crates at a time
+    python3 tools/build.py det             what bin/det calls
+    python3 tools/build.py --prove det     proves and builds it, by rt
 
-The crates below a program are built side by side, each behind those that it uses. --jobs counts
-those that wait for another one too: without it there are eight for each processor, or as many as
-there is memory for. Standard error takes a line whenever something changed. The whole log of a
-program's build is out/build/NAME.log. Two builds in one checkout take turns.
-
-It ends with 0 where all programs are built, with 70 where one can't be, and with 130 where it is
-stopped by Ctrl-C. Python's standard library is all that it needs.
+Prints its path. A proved program, crates/NAME/out/NAME, is taken where it is there; else it is
+compiled from source, without its proofs, as out/compiled/NAME, or proved where the kit doesn't
+serve for that. Beside it NAME.log has what the tools write. Of two builds of a program the second
+waits, and takes what the first one made. Where it isn't built, a line says why; the status is 70.
 """
 
 from __future__ import annotations
 
 import argparse
+import errno
 import fcntl
 import os
-import re
 import shutil
 import signal
-import subprocess
 import sys
+import tempfile
 import time
-from contextlib import contextmanager, suppress
+from contextlib import suppress
+from functools import partial
 from pathlib import Path
-from typing import Iterator, Optional
+from typing import Optional
 
-sys.dont_write_bytecode = True
+from compile import NoModule, compile_program, run_logged
+from crate_list import CRATES, TOP, is_built, listed_crates, needed_by, program_file
 
-from build_ahead import proved_ahead  # noqa: E402
-from build_order import step_back, ways_of  # noqa: E402
-from build_progress import Progress, seconds_of, tell  # noqa: E402
-from crate_list import CRATES, TOP, is_built, listed_crates, needed_by, program_file  # noqa: E402
-
-LOGS = TOP / "out" / "build"
-LOCK = LOGS / "lock"
-# Exit statuses: a program can't be built (no program of bin/ ends with it), and Ctrl-C.
+COMPILED = TOP / "out" / "compiled"
 NOT_BUILT = 70
-INTERRUPTED = 130
-# How many crates are begun for each processor. Most of them wait for another one.
-PLACES = 8
-# Bytes of memory for a crate that is begun, where there is less than plenty. A check takes 0.8 to 2.3
-# GB. Of 32 that were begun on four processors most waited, and the others took up to 7 GB; the look
-# over the sources of `det` before them took 5.4 GB.
-MEMORY = 1_500_000_000
-PLENTY = 16_000_000_000
-# Lines of a log that are shown of what failed.
-SHOWN = 15
-# How lines of a log begin that count modules.
-COUNTS = ("statements ", "library ", "logic /", "crate ", "axioms ")
-# Seconds between two looks at a build.
-PAUSE = 0.5
+SHOWN = 15  # lines of a log
 
 
 class NotBuilt(Exception):
-    """A program can't be built; the text says why."""
+    """The program can't be built; the text says why."""
 
 
-def number_in(file: Path, pattern: str) -> Optional[int]:
-    """The number that a pattern finds in a file of the system, if there is one."""
-    found = re.search(pattern, file.read_text()) if file.is_file() else None
-    return int(found[1]) if found else None
+class Build:
+    def __init__(self, name: str, is_proof: bool) -> None:
+        self.name, self.is_proof = name, is_proof
+        self.needed = needed_by(name, listed_crates())
+        self.compiled, self.log = COMPILED / name, COMPILED / f"{name}.log"
+        self.run = partial(run_logged, self.log)
 
+    def tell(self, text: str) -> None:
+        print(f"{self.name}: {text}", file=sys.stderr, flush=True)
 
-def free_memory() -> int:
-    """Bytes that are free, by the system and by the limit of a control group where one is set."""
-    group = Path("/sys/fs/cgroup")
-    free = number_in(Path("/proc/meminfo"), r"MemAvailable:\s+(\d+)")
-    most = number_in(group / "memory.max", r"(\d+)")
-    used = number_in(group / "memory.current", r"(\d+)")
-    known = [] if free is None else [1024 * free]
-    known += [] if most is None or used is None else [most - used]
-    return min(known, default=MEMORY)
+    def found(self) -> Optional[Path]:
+        """The program that is there and as new as its sources. It is made as new as this look at
+        them, so that bin/build_and_run sees that no source is newer."""
+        looked = time.time()
+        for file in [program_file(self.name)] + [self.compiled] * (not self.is_proof):
+            if is_built(file, self.needed):
+                with suppress(OSError):
+                    os.utime(file, (looked, looked))
+                return file
+        return None
 
+    def compile(self, room: Path) -> Path:
+        begun = time.time()  # what is changed from now on is newer than the program
+        self.tell("compiling it from source, in a minute or two ..")
+        kit = Path(self.run(["rt", "doc"], TOP)[1].strip()).parent
+        program = compile_program(kit, CRATES / self.name, room, self.run)
+        os.utime(program, (begun, begun))
+        program.rename(self.compiled)
+        self.tell("compiled from source; its proofs weren't checked here: make prove")
+        return self.compiled
 
-def jobs_that_fit() -> int:
-    places, free = PLACES * len(os.sched_getaffinity(0)), free_memory()
-    return places if free >= PLENTY else max(1, min(places, free // MEMORY))
+    def prove(self) -> Path:
+        begun, program = time.time(), program_file(self.name)
+        self.tell(f"proving {len(self.needed)} crates, which takes long; log: {self.log}")
+        for words in (["rt", "all", "check"], ["rt", "run", "--", "--version"]):
+            status, told = self.run(words, CRATES / self.name)
+            if status or (words[1] == "run" and not program.is_file()):
+                end = "\n".join(f"    {line}" for line in told.splitlines()[-SHOWN:])
+                remedy = f"mend what {self.log} says, or see whether `rt selftest` passes"
+                raise NotBuilt(f"`{' '.join(words)}` fails: {remedy}\n{end}")
+        os.utime(program, (begun, begun))
+        return program
 
-
-@contextmanager
-def alone() -> Iterator[None]:
-    """Waits until no other build runs in this checkout, and keeps others waiting."""
-    LOGS.mkdir(parents=True, exist_ok=True)
-    with open(LOCK, "a+") as lock:
+    def build(self, room: Path) -> Path:
+        if not shutil.which("rt"):
+            raise NotBuilt("no rt on the path; README.md says what is needed")
+        self.log.write_text("")
         try:
-            fcntl.flock(lock, fcntl.LOCK_EX | fcntl.LOCK_NB)
-        except BlockingIOError:
-            lock.seek(0)
-            tell("build", f"process {lock.read()} builds in this checkout; waiting for its end")
-            fcntl.flock(lock, fcntl.LOCK_EX)
-        lock.truncate(0)
-        lock.write(str(os.getpid()))
-        lock.flush()
-        yield
+            return self.prove() if self.is_proof else self.compile(room)
+        except NoModule as why:
+            self.tell(f"can't be compiled without its proofs with this kit: {why}")
+            return self.prove()
 
-
-@contextmanager
-def started(words: list[str], folder: Path, log: Path) -> Iterator[subprocess.Popen]:
-    """Starts a command that writes to a log, and stops it where this program is stopped first."""
-    with open(log, "a") as out:
-        command = subprocess.Popen(
-            words,
-            cwd=folder,
-            stdin=subprocess.DEVNULL,
-            stdout=out,
-            stderr=subprocess.STDOUT,
-            start_new_session=True,
-        )
-    try:
-        yield command
-    finally:
-        if command.poll() is None:
-            os.killpg(command.pid, signal.SIGTERM)
-            command.wait()
-
-
-def last_lines(text: str) -> str:
-    """The last lines of a log, without those that only count what was loaded."""
-    lines = [line for line in text.splitlines() if line and not line.startswith(COUNTS)]
-    return "\n".join(f"    {line}" for line in lines[-SHOWN:])
-
-
-def part_of(log: str, crate: str) -> str:
-    """What a log has of a crate."""
-    found = re.search(rf"^== {crate}\n(.*?)(?=^== |\Z)", log, re.M | re.S)
-    return found[1] if found else log
-
-
-def stop_on_failure(progress: Progress, log: Path) -> None:
-    """Raises where a crate below the program wasn't built."""
-    for name in progress.failed():
-        # Its lines may still be written.
-        time.sleep(PAUSE)
-        part = part_of(log.read_text(errors="replace"), name)
-        is_proved = re.search(r"^logic=proved .*\n\Z", part, re.M)
-        cause = "changed while it was built" if is_proved else "isn't proved or built"
-        told = f"the crate {name} {cause}; its last lines in {log} are:"
-        raise NotBuilt(f"{told}\n{last_lines(part)}")
-
-
-def build_crates(progress: Progress, log: Path) -> None:
-    """Builds the crates below a program side by side. rt would go on and check the program, which
-    `link` does too: so it is stopped where all others are built."""
-    words = ["rt", "all", "check", "--jobs", str(progress.jobs)]
-    ways = ways_of(progress.uses, progress.seconds)
-    first = max(ways, key=ways.__getitem__)
-    ahead = proved_ahead(first, LOGS / "ahead", LOGS / "ahead.log", started)
-    with ahead, started(words, CRATES / progress.program, log) as command:
-        is_running = True
-        while is_running and not progress.is_program_left():
-            is_running = command.poll() is None
-            text = log.read_text(errors="replace")
-            progress.read(text)
-            stop_on_failure(progress, log)
-            progress.tell()
-            step_back(ways, len(os.sched_getaffinity(0)))
-            time.sleep(PAUSE if is_running else 0)
-    if not is_running and command.returncode:
-        told = part_of(text, progress.program)
-        raise NotBuilt(f"it isn't proved; the last lines of {log} are:\n{last_lines(told)}")
-
-
-def link(program: str, log: Path) -> None:
-    """Proves, compiles and links a program over the crates that are built, which takes minutes to
-    read, so by one command. rt runs the program then, too."""
-    tell(program, "all crates below it are built; proving and linking it")
-    with started(["rt", "run", "--", "--version"], CRATES / program, log) as command:
-        status = command.wait()
-    if status or not program_file(program).is_file():
-        told = last_lines(log.read_text(errors="replace"))
-        raise NotBuilt(f"it isn't proved, linked or run; the last lines of {log} are:\n{told}")
-
-
-def build(program: str, jobs: Optional[int]) -> None:
-    """Builds a program where it isn't built. Its file is as old as the beginning of its build."""
-    crates = listed_crates()
-    needed = needed_by(program, crates)
-    begun = time.time()
-    if is_built(program, needed):
-        return
-    uses = {name: crates[name] for name in needed}
-    progress = Progress(program, uses, jobs or jobs_that_fit(), seconds_of(needed))
-    log = LOGS / f"{program}.log"
-    log.write_text("")
-    tell(program, f"building {len(needed)} crates, at most {progress.jobs} at a time; log: {log}")
-    build_crates(progress, log)
-    link(program, log)
-    os.utime(program_file(program), (begun, begun))
-    tell(program, f"built in {(time.time() - begun) / 60:.1f} minutes")
-
-
-def are_built(names: list[str]) -> bool:
-    """Whether all these programs are built. If so they are made as new as this look at them, so
-    that the next call needs none."""
-    crates, looked = listed_crates(), time.time()
-    if not all(is_built(name, needed_by(name, crates)) for name in names):
-        return False
-    with suppress(OSError):
-        for name in names:
-            os.utime(program_file(name), (looked, looked))
-    return True
-
-
-def programs() -> list[str]:
-    """The programs of bin/ that are crates."""
-    names = (path.name for path in (TOP / "bin").iterdir())
-    return sorted(name for name in names if (CRATES / name / "src" / "main.rt").is_file())
-
-
-def build_all(names: list[str], jobs: Optional[int]) -> int:
-    """Builds programs one after another. Answers the exit status."""
-    if are_built(names):
-        return 0
-    if not shutil.which("rt"):
-        tell("build", "no rt on the path; README.md says under 'Two commands' what is needed")
-        return NOT_BUILT
-    with alone():
-        for name in names:
+    def build_alone(self) -> Path:
+        """Has the program built once no other process builds it, in a folder that goes again."""
+        COMPILED.mkdir(parents=True, exist_ok=True)
+        with open(COMPILED / f"{self.name}.lock", "w") as lock:
             try:
-                build(name, jobs)
-            except NotBuilt as why:
-                tell(name, str(why))
-                return NOT_BUILT
-    return 0
-
-
-def end(*_: object) -> None:
-    raise KeyboardInterrupt
+                fcntl.flock(lock, fcntl.LOCK_EX | fcntl.LOCK_NB)
+            except BlockingIOError:
+                self.tell("another process builds it; waiting for its end")
+                fcntl.flock(lock, fcntl.LOCK_EX)
+            for left in COMPILED.glob(f"{self.name}-*"):  # of a build that was killed
+                shutil.rmtree(left, ignore_errors=True)
+            with tempfile.TemporaryDirectory(prefix=f"{self.name}-", dir=COMPILED) as room:
+                os.environ["TMPDIR"] = room
+                return self.found() or self.build(Path(room))
 
 
 def main() -> int:
-    parser = argparse.ArgumentParser(description="Proves and builds programs where needed.")
-    parser.add_argument("programs", nargs="+", metavar="NAME", choices=programs())
-    parser.add_argument("--jobs", type=int, metavar="N", help="crates at a time")
+    parser = argparse.ArgumentParser(description="Has a program built where needed.")
+    names = [path.parent.parent.name for path in CRATES.glob("*/src/main.rt")]
+    parser.add_argument("program", metavar="NAME", choices=names)
+    parser.add_argument("--prove", action="store_true", help="prove it, by rt")
     given = parser.parse_args()
-    if given.jobs is not None and given.jobs < 1:
-        parser.error("--jobs takes a number from 1 on")
     for number in (signal.SIGTERM, signal.SIGHUP):
-        if signal.getsignal(number) is signal.SIG_DFL:
-            signal.signal(number, end)
+        signal.signal(number, signal.default_int_handler)
+    build = Build(given.program, given.prove)
     try:
-        return build_all(given.programs, given.jobs)
-    except OSError as error:
-        tell("build", str(error))
-        return NOT_BUILT
+        print(build.found() or build.build_alone())
+        return 0
+    except NotBuilt as why:
+        build.tell(str(why))
     except KeyboardInterrupt:
-        tell("build", "stopped")
-        return INTERRUPTED
+        build.tell("stopped; the next call builds it anew")
+    except OSError as why:
+        is_full = why.errno == errno.ENOSPC
+        build.tell(f"{why}" + f": free a gigabyte for {COMPILED}, and call again" * is_full)
+    return NOT_BUILT
 
 
 if __name__ == "__main__":

@@ -22,12 +22,6 @@ def listed_crates() -> dict[str, list[str]]:
     return {name: [it for it in names if it in found] for name, names in found.items()}
 
 
-def line_of(crate: str) -> str:
-    """The line of a crate."""
-    lines = LIST.read_text().splitlines()
-    return next(line for line in lines if line.partition(":")[0].split()[:1] == [crate])
-
-
 def needed_by(program: str, crates: dict[str, list[str]]) -> list[str]:
     """A program and the crates below it, each behind those that it uses."""
     found: list[str] = []
@@ -64,15 +58,8 @@ def newest_source(crate: str) -> float:
     return max(times)
 
 
-def lines_of(crate: str) -> int:
-    """How many lines the sources of a crate have."""
-    paths = [path for part in PARTS for path in (CRATES / crate / part).rglob("*")]
-    return sum(path.read_bytes().count(b"\n") for path in paths if path.is_file())
-
-
-def is_built(program: str, needed: list[str]) -> bool:
-    """Whether a program is there, and no source that it needs is newer."""
-    file = program_file(program)
+def is_built(file: Path, needed: list[str]) -> bool:
+    """Whether a program is there, and no source of the crates that it needs is newer."""
     if not os.access(file, os.X_OK):
         return False
     built = file.stat().st_mtime

@@ -20,6 +20,10 @@ from dataclasses import dataclass
 from pathlib import Path
 from typing import Optional
 
+sys.dont_write_bytecode = True
+
+from crate_list import is_built, listed_crates, needed_by, program_file  # noqa: E402
+
 TOP = Path(__file__).resolve().parent.parent
 PROGRAMS = ("det", "det_lane", "det_twin")
 # The tools of records: each is a program under its own name, over the modules beside it.
@@ -60,9 +64,26 @@ def matching(pattern: str) -> list[str]:
     return sorted(str(path.relative_to(TOP)) for path in TOP.glob(pattern) if path.is_file())
 
 
+def built(name: str) -> Path:
+    """A program that `make` built: proved, or else compiled."""
+    if is_built(program_file(name), needed_by(name, listed_crates())):
+        return program_file(name)
+    return TOP / "out" / "compiled" / name
+
+
+def kinds(folder: Optional[Path]) -> str:
+    """Which programs are proved."""
+    if folder:
+        return f"the programs of {folder}"
+    kinds = {it: "proved" if built(it) == program_file(it) else "compiled" for it in PROGRAMS}
+    made = TOP / "out" / "lib" / "made"
+    kinds["the library"] = made.read_text().strip() if made.is_file() else "proved"
+    return ", ".join(f"{it} {kind}" for it, kind in kinds.items())
+
+
 def programs(folder: Optional[Path]) -> list[Copy]:
     """The programs, from a folder or from where `make` builds them."""
-    files = {it: folder / it if folder else TOP / "crates" / it / "out" / it for it in PROGRAMS}
+    files = {it: folder / it if folder else built(it) for it in PROGRAMS}
     return [Copy(f"bin/{it}", source(str(file)), PROGRAM) for it, file in files.items()]
 
 
@@ -166,7 +187,7 @@ def main() -> int:
         else:
             copies = all_copies(given.prefix, given.version, given.programs)
             install(root, copies)
-            print(f"installed {len(copies)} files below {root}")
+            print(f"installed {len(copies)} files below {root}: {kinds(given.programs)}")
     except (Refused, OSError) as why:
         print(f"install: {why}", file=sys.stderr)
         return 1

@@ -165,14 +165,15 @@ def for_arm(bench: Bench) -> None:
         raise Failure(f"it holds {sorted(formats)}")
 
 
-def run_building(bench: Bench) -> Sequence[str]:
+def run_building(for_more: bool, bench: Bench) -> Sequence[str]:
     wrong = subprocess.run([TOP / "bin" / "build_library", "--target", "avr"], capture_output=True, text=True, check=False)
     good = wrong.returncode == 2 and not wrong.stdout
     return [*told("building: the source for memory without a warning", partial(heap, bench)),
             "ok building: another target is refused" if good else "FAILED building: target avr isn't refused",
-            *told("building: the library for AArch64", partial(for_arm, bench))]
+            *(told("building: the library for AArch64", partial(for_arm, bench)) if for_more else [])]
 
 
-def linking_groups() -> list[Group]:
+def linking_groups(for_more: bool) -> list[Group]:
+    """The groups; with the library for AArch64, which is proved, where that is wanted."""
     return [Group("headers", run_headers), Group("misuse", run_misused), Group("surface", run_c), Group("core", run_core),
-            Group("plugin", run_plugin), Group("library", run_library), Group("building", run_building)]
+            Group("plugin", run_plugin), Group("library", run_library), Group("building", partial(run_building, for_more))]

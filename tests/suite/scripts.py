@@ -10,12 +10,14 @@ from pathlib import Path
 from typing import Optional
 
 from children import run_within
-from suite.test import TOP, Programs, Test
+from suite.test import TOP, Programs, Skipped, Test
 
+# The one that is over the library for C++.
+CPP = "cpp.py"
 # The test programs, the longest first, with the words that they are given beside the programs.
 SCRIPTS = {
     "refused_memory.py": [],
-    "cpp.py": [],
+    CPP: [],
     "lanes.py": [],
     "mutated.py": ["--count", "1000"],
     "failing_edges.py": [],
@@ -43,9 +45,21 @@ def given_programs(script: Path, programs: Programs) -> list[str]:
     return [word for option, name in taken for word in (option, programs.path(name))]
 
 
-def wrong(script: Path, programs: Programs) -> Optional[str]:
+def library(is_proof: bool) -> list[str]:
+    """The words for the library for C++: one that is there or is compiled, or a proved one."""
+    if is_proof:
+        return ["--prove"]
+    words = [str(TOP / "bin" / "build_library"), "--compile"]
+    done = subprocess.run(words, stdout=subprocess.PIPE, text=True)
+    if done.returncode:
+        raise Skipped("the library can't be compiled here: left to `make check`")
+    return ["--archive", done.stdout.strip()]
+
+
+def wrong(script: Path, programs: Programs, is_proof: bool) -> Optional[str]:
     """Runs a script. Answers the last lines that it wrote where it failed."""
     words = [*given_programs(script, programs), *SCRIPTS[script.name]]
+    words += library(is_proof) if script.name == CPP else []
     done = run_within(
         [sys.executable, "-B", str(script), *words],
         LIMIT,
@@ -63,8 +77,11 @@ def wrong(script: Path, programs: Programs) -> Optional[str]:
     return f"status {done.returncode}; its last lines:\n    {lines}"
 
 
-def tests(programs: Programs) -> list[Test]:
+def tests(programs: Programs, is_proof: bool) -> list[Test]:
     return [
-        Test(" ".join([f"tests/{name}", *words]), partial(wrong, TOP / "tests" / name, programs))
+        Test(
+            " ".join([f"tests/{name}", *words]),
+            partial(wrong, TOP / "tests" / name, programs, is_proof),
+        )
         for name, words in SCRIPTS.items()
     ]
