@@ -1,4 +1,6 @@
 //! How the two ends of a queue wait for each other.
+ghost use Rattle.std.specs.Prelude.{◌≡◌};
+
 use std::sync::Wait;
 use std::sync::atomic::{AtomicBool, AtomicU64, Ordering};
 use std::thread::Parker;
@@ -82,7 +84,9 @@ pub struct Pace {
 }
 
 impl Pace {
-    pub(crate) fn new(places: u64) -> Pace {
+    pub(crate) fn new(places: u64) -> Pace
+        ensures { result.places ≡ places }
+    {
         Pace {
             places,
             held: AtomicU64::new(0),

@@ -1,6 +1,7 @@
 //! A queue, with its sender and its receiver.
 ghost use Rattle.std.specs.Prelude.{◌≡◌, ◌∷◌, ◌++◌, [], IfOk, IfErr, OnOk, OnErr, MatchOption};
 ghost use Rattle.frame_queue.specs.Queues.{sent_of, taken_of, IsSenderOf, IsReceiverOf};
+ghost use Rattle.frame_queue.specs.Queues.{places_of, paced_places};
 
 use crate::rule::{OrderRule, QueueView, Roles, Sends, Takes, Total};
 use crate::{Pace, Receiver, Rest, Row, Sender};
@@ -29,6 +30,8 @@ impl FrameQueue {
         ensures receiver { IfOk result (λ made. IsReceiverOf made.0 made.2) }
         ensures sent { IfOk result (λ made. sent_of made.1 ≡ []) }
         ensures taken { IfOk result (λ made. taken_of made.2 ≡ []) }
+        ensures places { IfOk result (λ made. places_of made.0 ≡ 32) }
+        ensures pace { IfOk result (λ made. paced_places made.0 ≡ 32) }
     {
         let (rows, mut pass) = Rows::ruled(alloc, PLACES)?;
         let other = rows.another::<Roles>(&mut pass);
