@@ -1,11 +1,7 @@
-//! Tests of copies in threads, of the queues between them, and of whole runs of `det_twin`.
+//! Tests of threads that meet: two copies of a run, and the two ends of a queue.
 #![tactic(auto)]
 
 #[cfg(test)]
 mod copies;
 #[cfg(test)]
-mod pace;
-#[cfg(test)]
 mod queue;
-#[cfg(test)]
-mod runs;
