@@ -7,7 +7,7 @@ from pathlib import Path
 from running import Command, Result, Trial, failure
 
 # A line of `bench_pool --times`, and the units of its times in seconds.
-LINE = re.compile(r"^(\d+) heavy elements, (\d+) workers, 1 passes: ([\d.]+)(ns|µs|ms|s)$")
+LINE = re.compile(r"^(\d+) heavy elements, (\d+) workers: ([\d.]+)(ns|µs|ms|s)$")
 UNITS = {"ns": 1e-9, "µs": 1e-6, "ms": 1e-3, "s": 1.0}
 
 

@@ -1,4 +1,4 @@
-//! Passes of a job, timed.
+//! A pass of a job, timed.
 
 ghost use Rattle.std.specs.Prelude.{◌≡◌, ◌≤◌, length, IfOk, IfSome};
 ghost use Rattle.std.specs.Arc.{arc_value};
@@ -86,21 +86,17 @@ fn first_pass<J: Job>(alloc: Global, params: &Params) -> Option<Arc<PassOf<J>, G
     pass_zero(alloc, job, plan, carry, elements, client.seed()).ok()
 }
 
-/// The time of a pass, run so many times in this pool.
+/// The time of a pass in this pool.
 fn timed<J: Job, P: Pool<J>, R: Clock>(
     rt: &R,
     alloc: Global,
     pool: &mut P,
     pass: &Arc<PassOf<J>, Global>,
-    passes: u32,
 ) -> Result<Duration>
     requires { IsReady J.meaning J.Covers J.Own J.Fit (arc_value pass.now) }
 {
     let start = Instant::now(rt)?;
-    for _pass in 0..passes {
-        let done = pool.run_pass(alloc, pass);
-        done.ok().context("refused")?;
-    }
+    pool.run_pass(alloc, pass).ok().context("refused")?;
     Ok(start.elapsed(rt)?)
 }
 
@@ -111,7 +107,6 @@ fn timed_in_room<J, B, R>(
     room: CrewRoom<J>,
     pass: &Arc<PassOf<J>, Global>,
     workers: u32,
-    passes: u32,
 ) -> Result<Duration>
 where
     J: Job + Send + Sync + 'static,
@@ -131,20 +126,14 @@ where
     let Ok(mut crew) = Crew::<J, B, NoGate>::start(rt, alloc, room, workers, &gate) else {
         bail!("out of memory");
     };
-    let time = timed(rt, alloc, &mut crew, pass, passes);
+    let time = timed(rt, alloc, &mut crew, pass);
     crew.stop(rt);
     time
 }
 
-/// The time of so many first passes over the elements that a job of these parameters starts with,
-/// by one crew.
-pub fn timed_passes<J, R>(
-    rt: &R,
-    alloc: Global,
-    params: &Params,
-    workers: u32,
-    passes: u32,
-) -> Result<Duration>
+/// The time of the first pass over the elements that a job of these parameters starts with, by a
+/// crew.
+pub fn timed_pass<J, R>(rt: &R, alloc: Global, params: &Params, workers: u32) -> Result<Duration>
 where
     J: Job + Send + Sync + 'static,
     J::Globals: Send + 'static,
@@ -160,5 +149,5 @@ where
     let Ok(room) = CrewRoom::new(alloc) else {
         bail!("out of memory");
     };
-    timed_in_room::<J, Brand, R>(rt, alloc, room, &pass, workers, passes)
+    timed_in_room::<J, Brand, R>(rt, alloc, room, &pass, workers)
 }
