@@ -1,11 +1,11 @@
 -- Lists related place by place.
-use Rattle.std.proofs.Common.{◌≡◌, ◌≢◌, ◌<◌, ◌≤◌, ◌+◌, ◌⊎◌, inl, inr, ℕ, zero, suc, ◌-◌, List, [], ◌∷◌, ◌++◌, length, get_or, set, map}
-use Rattle.std.proofs.Common.{refl, sym, ap, ◌∙◌, arith, eqb, leb, true, false, subst, length-append, length-take, take, drop}
+use Rattle.std.proofs.Common.{◌≡◌, ◌≢◌, ◌<◌, ◌≤◌, ◌+◌, ◌⊎◌, inl, inr, ℕ, suc, ◌-◌, List, [], ◌∷◌, ◌++◌, length, get_or, set, map}
+use Rattle.std.proofs.Common.{refl, sym, ap, ◌∙◌, arith, eqb, leb, true, false, subst, length-append}
 use Rattle.std.proofs.lemmas.Bool.Decides.{eqb_tells, leb_tells}
 use Rattle.std.proofs.Math.ListN.{get_or-append}
-use Rattle.std.proofs.lemmas.List.{get_or-take, get_or-drop, get_or-append-add, length-drop, get_or-set_same, get_or-set_other, length-set}
+use Rattle.std.proofs.lemmas.List.{get_or-append-add, get_or-set_same, get_or-set_other, length-set}
 use Rattle.std.proofs.lemmas.List.Elements.{All-get_or}
-use Rattle.std.proofs.Math.Seq.{get_or-append_seam, take-append_seam, drop-append_seam}
+use Rattle.std.proofs.Math.Seq.{get_or-append_seam}
 use Rattle.std.specs.List.{All}
 use Rattle.twins.specs.Pairs.{EachPair}
 
@@ -45,21 +45,6 @@ module _ {X Y : Type 0} where
         rw (first, get_or-append_seam ys y [] y) at last,
       )
 
-  pub pair_cut : (R : X → Y → Type 0) (xs : List X) (ys zs : List Y) → EachPair R xs (ys ++ zs)
-      → EachPair R (take (length ys) xs) ys × EachPair R (drop (length ys) xs) zs
-  pair_cut R xs ys zs p = (
-    record {
-      count = length-take (length ys) xs ∙ (let c = p.count in let l = length-append ys zs in omega (arith, c, l));
-      each = λ k a b h. rw (get_or-take (length ys) xs k a h, ← get_or-append ys zs b k h) (p.each k a b
-          (let l = length-append ys zs in omega arith));
-    },
-    record {
-      count = length-drop (length ys) xs ∙ (let c = p.count in let l = length-append ys zs in omega (arith, c, l));
-      each = λ k a b h. rw (get_or-drop (length ys) xs k a, ← get_or-append-add ys zs k b) (p.each (length ys + k) a b
-          (let l = length-append ys zs in omega arith));
-    },
-  )
-
   pub pair_join : (R : X → Y → Type 0) (xs us : List X) (ys bs : List Y) → EachPair R xs ys → EachPair R us bs
       → EachPair R (xs ++ us) (ys ++ bs)
   pair_join R xs us ys bs p q = record {
@@ -83,14 +68,6 @@ module _ {X Y : Type 0} where
           (k - length ys) b in
           rw (left, right) (q.each (k - length ys) a b (omega arith))
 
-  pub pair_swap : (R : X → Y → Type 0) (xs : List X) (y z : Y) → EachPair R xs (y ∷ []) → ((x : X) → R (get_or xs 0 x) z)
-      → EachPair R xs (z ∷ [])
-  pair_swap R xs y z p one = record { count = p.count; each = λ k a b h. at k a b h }
-    where
-      at : (k : ℕ) (a : X) (b : Y) → k < 1 → R (get_or xs k a) (get_or (z ∷ []) k b)
-      at zero a b h = one a
-      at (suc k) a b h = absurd (omega arith)
-
   pub pair_head : (R : X → Y → Type 0) (x : X) (xs : List X) (y : Y) (ys : List Y) → EachPair R (x ∷ xs) (y ∷ ys) → R x y
   pair_head R x xs y ys p = p.each 0 x y (omega arith)
 
@@ -107,15 +84,6 @@ module _ {X Y : Type 0} where
       → EachPair (λ x y. R x y × P x) xs ys
   pair_with R P xs ys p all =
       record { count = p.count; each = λ k a b h. (p.each k a b h, All-get_or P xs k a (let c = p.count in omega arith) all) }
-
-  -- the parts of two lists, of which the first ones are of one length
-  pub pair_parts : (R : X → Y → Type 0) (us vs : List X) (xs ys : List Y) → EachPair R (us ++ vs) (xs ++ ys) → length us ≡ length xs
-      → EachPair R us xs × EachPair R vs ys
-  pair_parts R us vs xs ys p n =
-      let front : take (length xs) (us ++ vs) ≡ us = subst (λ k. take k (us ++ vs) ≡ us) n (take-append_seam us vs) in
-      let back : drop (length xs) (us ++ vs) ≡ vs = subst (λ k. drop k (us ++ vs) ≡ vs) n (drop-append_seam us vs) in
-      let cut = pair_cut R (us ++ vs) xs ys p in
-      (subst (λ l. EachPair R l xs) front cut.0, subst (λ l. EachPair R l ys) back cut.1)
 
   -- one item is replaced
   pub pair_set : (R : X → Y → Type 0) (xs : List X) (ys : List Y) (i : ℕ) (z : Y) → EachPair R xs ys → i < length ys

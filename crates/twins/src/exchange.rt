@@ -9,7 +9,7 @@ ghost use Rattle.twins.specs.Taking.{Agreed, Judged};
 
 use crate::sides::Sides;
 use crate::taker::Taker;
-use crate::threads::sent;
+use crate::threads::send_all;
 use crate::twin::Twin;
 use crate::{Tamper, TwinRun};
 use det_values::OutOfMemory;
@@ -112,7 +112,7 @@ where
                 (result.1.items ++ result.0 ∷ []) }
             ensures numbers { numbers_of (result.1.items ++ result.0 ∷ [])
                 ≡ numbers_of (others.items ++ last ∷ []) }
-        { sent(rt, alloc, run, queues, last, others) },
+        { send_all(rt, alloc, run, queues, last, others) },
         move || -> (Taker, Option<Verdict>)
             requires some { 0 < length queues.now }
             requires few { length queues.now ≤ 8 }

@@ -1,8 +1,7 @@
 //! Copies send their rows, each on a thread of its own.
-ghost use Rattle.std.specs.Prelude.{◌≡◌, ◌+◌, ◌<◌, ◌≤◌, ◌∷◌, ◌++◌, [], length};
-ghost use Rattle.std.specs.Prelude.{vec_len, vec_capacity, IfSome, IfNone};
+ghost use Rattle.std.specs.Prelude.{◌≡◌, ◌+◌, ◌≤◌, ◌∷◌, ◌++◌, [], vec_len, vec_capacity};
 ghost use Rattle.std.specs.Thread.{IsSend, IsSync};
-ghost use Rattle.twins.specs.Making.{AreKnown};
+ghost use Rattle.twins.specs.Making.{AreKnown, IsTwin};
 ghost use Rattle.twins.specs.Sending.{AreTwins, numbers_of};
 
 use crate::twin::Twin;
@@ -12,28 +11,6 @@ use job_trait::Job;
 use std::alloc::Global;
 use std::sync::Wait;
 use std::thread::{Threads, join};
-
-/// The last of these copies, the queues up to its own, and those behind it.
-fn next_of<'a, J: Job>(
-    queues: &'a [FrameQueue],
-    twins: &mut Vec<Twin<J>>,
-) -> Option<(Twin<J>, &'a [FrameQueue], &'a [FrameQueue])>
-    requires { length twins.old.items ≤ length queues.now }
-    ensures queues { IfSome result (λ all. queues.now ≡ all.1.now ++ all.2.now) }
-    ensures front { IfSome result (λ all.
-        length all.1.now ≡ length (twins.new.items ++ all.0 ∷ [])) }
-    ensures twins { IfSome result (λ all. twins.old.items ≡ twins.new.items ++ all.0 ∷ []) }
-    ensures room { IfSome result (λ all. (vec_len twins.new + 1 ≤ vec_capacity twins.new)
-        × (vec_capacity twins.new ≡ vec_capacity twins.old)) }
-    ensures none { IfNone result (twins.old.items ≡ []) }
-    ensures same { IfNone result (twins.new.items ≡ []) }
-    ensures capacity { IfNone result (vec_capacity twins.new ≡ vec_capacity twins.old) }
-{
-    let before = twins.len();
-    let next = twins.pop()?;
-    let (front, back) = queues.split_at(before);
-    Some((next, front, back))
-}
 
 /// Adds a copy, for which there is room.
 fn put_back<J: Job>(twins: &mut Vec<Twin<J>>, twin: Twin<J>)
@@ -47,14 +24,33 @@ fn put_back<J: Job>(twins: &mut Vec<Twin<J>>, twin: Twin<J>)
     }
 }
 
+/// A copy sends rows to its queue, and is handed back.
+fn send_alone<J: Job, T: Tamper, R: Wait>(
+    rt: &R,
+    alloc: Global,
+    run: &TwinRun<T>,
+    queue: &FrameQueue,
+    mut twin: Twin<J>,
+) -> Twin<J>
+    requires known { AreKnown run.now.profile run.now.inputs }
+    requires twin { IsTwin J.meaning run.now.profile run.now.inputs (T.altered run.now.tamper)
+        queue.now twin }
+    ensures twin { IsTwin J.meaning run.now.profile run.now.inputs (T.altered run.now.tamper)
+        queue.now result }
+    ensures copy { result.copy ≡ twin.copy }
+{
+    twin.send_rows(rt, alloc, run, queue);
+    twin
+}
+
 /// All copies send rows, each on a thread of its own where there is one. It takes no memory for
 /// that.
-pub(crate) fn sent<J, T, R>(
+pub(crate) fn send_all<J, T, R>(
     rt: &R,
     alloc: Global,
     run: &TwinRun<T>,
     queues: &[FrameQueue],
-    mut last: Twin<J>,
+    last: Twin<J>,
     mut others: Vec<Twin<J>>,
 ) -> (Twin<J>, Vec<Twin<J>>)
 where
@@ -74,28 +70,23 @@ where
         ≡ numbers_of (others.items ++ last ∷ []) }
     ensures room { vec_capacity others ≤ vec_capacity result.1 }
 {
-    let Some((next, front, back)) = next_of(queues, &mut others) else {
-        last.send_rows(rt, alloc, run, &queues[0]);
-        return (last, others);
+    let Some((queue, front)) = queues.split_last() else {
+        unreachable!()
     };
-    let none = Vec::new(alloc);
+    let Some(next) = others.pop() else {
+        return (send_alone(rt, alloc, run, queue, last), others);
+    };
     let (last, second) = join(
         rt,
         move || -> Twin<J>
-            requires threads { IsSync R.row × IsSync T.row × IsSync J.row × IsSend J.row
-                × IsSend J.Globals.row × IsSend J.Element.row × IsSync J.Element.row
-                × IsSend J.Plan.row × IsSync J.Plan.row × IsSend J.Part.row × IsSync J.Part.row }
+            requires tamper { IsSync T.row }
             requires known { AreKnown run.now.profile run.now.inputs }
-            requires twins { AreTwins J.meaning run.now.profile run.now.inputs
-                (T.altered run.now.tamper) back.now (last ∷ []) }
-            requires none { none.items ≡ [] }
-            ensures twins { AreTwins J.meaning run.entry.now.profile run.entry.now.inputs
-                (T.altered run.entry.now.tamper) back.entry.now (result ∷ []) }
-            ensures numbers { result.copy ≡ last.copy }
-        {
-            let (last, _none) = sent(rt, alloc, run, back, last, none);
-            last
-        },
+            requires twin { IsTwin J.meaning run.now.profile run.now.inputs
+                (T.altered run.now.tamper) queue.now last }
+            ensures twin { IsTwin J.meaning run.entry.now.profile run.entry.now.inputs
+                (T.altered run.entry.now.tamper) queue.entry.now result }
+            ensures copy { result.copy ≡ last.copy }
+        { send_alone(rt, alloc, run, queue, last) },
         move || -> (Twin<J>, Vec<Twin<J>>)
             requires threads { IsSync R.row × IsSync T.row × IsSync J.row × IsSend J.row
                 × IsSend J.Globals.row × IsSend J.Element.row × IsSync J.Element.row
@@ -109,7 +100,7 @@ where
             ensures numbers { numbers_of (result.1.items ++ result.0 ∷ [])
                 ≡ numbers_of (others.items ++ next ∷ []) }
             ensures room { vec_capacity others ≤ vec_capacity result.1 }
-        { sent(rt, alloc, run, front, next, others) },
+        { send_all(rt, alloc, run, front, next, others) },
     );
     let (next, mut others) = second;
     put_back(&mut others, next);

@@ -1,0 +1,103 @@
+use mir.Syntax.{of_param}
+use denote.Exit.{unseen}
+use denote.Param.{param}
+use denote.Param.Send.{IsSend, IsSync, Quiet-if}
+use Rattle.std.proofs.Common.{◌≡◌, ◌+◌, List, [], ◌∷◌, ◌++◌, rules, arith, length, sym, ap, ◌∙◌, subst, length-append}
+use Rattle.frame_queue.specs.declared.queue.FrameQueue.{FrameQueue}
+use Rattle.twins.proofs.Pairs.{pair_less, pair_more}
+use Rattle.twins.specs.Making.{IsTwin}
+use Rattle.twins.specs.Pairs.{EachPair}
+use Rattle.twins.proofs.threads.+fn-send_all-join+arg3+send_all.Goals as goal
+
+pub send_alone-requires-clause-twin : goal.send_alone-requires-clause-twin
+send_alone-requires-clause-twin g t c κs within =
+    let twin = IsTwin g.J.Job.meaning c.args.run.now.profile c.args.run.now.inputs (g.T.Tamper.altered c.args.run.now.tamper) in
+    let apart = pair_less twin c.in-Some.front.now c.args.others.items c.in-Some.queue.now c.args.last
+    (subst (λ (queues : List FrameQueue). EachPair twin queues (c.args.others.items ++ c.args.last ∷ [])) c.in-Some.ensures.cases.0
+    c.requires.twins) in
+    apart.1
+
+pub returns-in_default-pop-clause-twins : goal.returns-in_default-pop-clause-twins
+returns-in_default-pop-clause-twins g t c =
+    let twin = IsTwin g.J.Job.meaning c.args.run.now.profile c.args.run.now.inputs (g.T.Tamper.altered c.args.run.now.tamper) in
+    let apart = pair_less twin c.in-Some.front.now c.args.others.items c.in-Some.queue.now c.args.last
+    (subst (λ (queues : List FrameQueue). EachPair twin queues (c.args.others.items ++ c.args.last ∷ [])) c.in-Some.ensures.cases.0
+    c.requires.twins) in
+    let same : c.args.others.items ≡ c.pop.new.self.items = search rules in
+    subst (λ (queues : List FrameQueue). EachPair twin queues (c.pop.new.self.items ++ c.send_alone.result ∷ []))
+    (sym c.in-Some.ensures.cases.0)
+    (pair_more twin c.in-Some.front.now c.pop.new.self.items c.in-Some.queue.now c.send_alone.result
+    (subst (λ twins. EachPair twin c.in-Some.front.now twins) same apart.0) c.send_alone.ensures.twin)
+
+pub join-last-requires-after_bounds : goal.join-last-requires-after_bounds
+join-last-requires-after_bounds g t c κs within =
+    let twin = IsTwin g.J.Job.meaning c.args.run.now.profile c.args.run.now.inputs (g.T.Tamper.altered c.args.run.now.tamper) in
+    let apart = pair_less twin c.in-Some.front.now c.args.others.items c.in-Some.queue.now c.args.last
+    (subst (λ (queues : List FrameQueue). EachPair twin queues (c.args.others.items ++ c.args.last ∷ [])) c.in-Some.ensures.cases.0
+    c.requires.twins) in
+    let pairs = subst (λ twins. EachPair twin c.in-Some.front.now twins) c.in-Some-pop.ensures.items apart.0 in
+    let fewer : length c.args.others.items ≡ length c.pop.new.self.items + 1 =
+    ap length c.in-Some-pop.ensures.items ∙ length-append c.pop.new.self.items (c.in-Some-pop.next ∷ []) in
+    let tamper : IsSync (param 1 g.row.T) = search rules in
+    let sends : IsSend (param 0 g.row.J) × IsSend (param 3 g.row.J-Globals) × IsSend (param 4 g.row.J-Element)
+    × IsSend (param 5 g.row.J-Plan) × IsSend (param 6 g.row.J-Part) = search rules in
+    let syncs : IsSync (param 0 g.row.J) × IsSync (param 2 g.row.R) × IsSync (param 4 g.row.J-Element)
+    × IsSync (param 5 g.row.J-Plan) × IsSync (param 6 g.row.J-Part) = search rules in (
+      (
+        record { shared = tamper.shared },
+        (
+          c.requires.known,
+          (
+            apart.1,
+            (
+              record { owned = sends.0.owned; leaving = λ k. Quiet-if (k (of_param 0)) unseen unseen (λ x w. tt) (λ x w. tt) },
+              record { owned = sends.1.owned; leaving = λ k. Quiet-if (k (of_param 3)) unseen unseen (λ x w. tt) (λ x w. tt) },
+              record { owned = sends.2.owned; leaving = λ k. Quiet-if (k (of_param 4)) unseen unseen (λ x w. tt) (λ x w. tt) },
+              record { owned = sends.3.owned; leaving = λ k. Quiet-if (k (of_param 5)) unseen unseen (λ x w. tt) (λ x w. tt) },
+              record { owned = sends.4.owned; leaving = λ k. Quiet-if (k (of_param 6)) unseen unseen (λ x w. tt) (λ x w. tt) },
+              record { shared = syncs.0.shared },
+              record { shared = tamper.shared },
+              record { shared = syncs.1.shared },
+              record { shared = syncs.2.shared },
+              record { shared = syncs.3.shared },
+              record { shared = syncs.4.shared },
+            ),
+          ),
+        ),
+      ),
+      (
+        (let d = c.decreases in omega (arith, fewer)),
+        (
+          (λ a m. m),
+          (
+            (λ a m. m),
+            (
+              (λ a m. m),
+              (
+                (λ a m. m),
+                (
+                  (λ a m. m),
+                  (
+                    (λ a m. m),
+                    (
+                      (λ a m. m),
+                      (search rules, (c.requires.known, (pairs, search rules))),
+                    ),
+                  ),
+                ),
+              ),
+            ),
+          ),
+        ),
+      ),
+    )
+
+pub returns-clause-twins : goal.returns-clause-twins
+returns-clause-twins g t c =
+    let twin = IsTwin g.J.Job.meaning c.args.run.now.profile c.args.run.now.inputs (g.T.Tamper.altered c.args.run.now.tamper) in
+    let others : EachPair twin c.in-Some.front.now (c.join-last.result.1.1.items ++ c.join-last.result.1.0 ∷ []) = search rules in
+    let last : twin c.in-Some.queue.now c.join-last.result.0 = search rules in
+    subst (λ (queues : List FrameQueue). EachPair twin queues (c.put_back.new.twins.items ++ c.join-last.result.0 ∷ []))
+    (sym c.in-Some.ensures.cases.0)
+    (pair_more twin c.in-Some.front.now c.put_back.new.twins.items c.in-Some.queue.now c.join-last.result.0
+    (subst (λ twins. EachPair twin c.in-Some.front.now twins) (sym c.put_back.ensures.items) others) last)
