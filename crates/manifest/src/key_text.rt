@@ -6,7 +6,7 @@ use itoa::Buffer;
 use std::marker::Model;
 
 /// The text of a key, at most 48 bytes. It takes no memory beyond its place.
-#[derive(Debug, Drop)]
+#[derive(Drop)]
 pub struct KeyText {
     text: ArrayString<48>,
 }

@@ -12,7 +12,7 @@ use std::alloc::Global;
 use std::marker::Model;
 
 /// A manifest without a fault. The events of a manifest have different names.
-#[derive(Debug, Drop)]
+#[derive(Drop)]
 pub struct Manifest {
     pub(crate) kind: JobKind,
     pub(crate) cycle_time: u64,

@@ -7,7 +7,7 @@ use det_values::Bytes64;
 use std::marker::Model;
 
 /// The name of a platform: 1 to 64 bytes of printable ASCII, the blank among them.
-#[derive(Debug, Drop)]
+#[derive(Drop)]
 pub struct PlatformName {
     bytes: Bytes64,
 }

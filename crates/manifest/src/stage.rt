@@ -15,7 +15,7 @@ use crate::{Key, ManifestFault, NeedKey, Needs};
 use toml::Value;
 
 /// What has needs of its own: the initialisation, or a run.
-#[derive(Clone, Copy, Debug, PartialEq, Eq, Drop)]
+#[derive(Clone, Copy, Drop)]
 pub(crate) enum Stage {
     Init,
     Run,
