@@ -1,11 +1,8 @@
-//! Tests of values, of shelves and sinks, of the stimulus, and of probes.
+//! Tests of the real edges: readers and writers that are interrupted, that fail or that move little,
+//! and a folder that is read as a file.
 #![tactic(auto)]
 
 #[cfg(test)]
-mod audiences;
-#[cfg(test)]
 mod edges;
 #[cfg(test)]
-mod stimuli;
-#[cfg(test)]
-mod values;
+mod folders;

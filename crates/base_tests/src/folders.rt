@@ -1,0 +1,19 @@
+//! Reads of the operating system that fail.
+use det_edges::{DirShelf, Shelf, ShelfFailed, Slots};
+use std::io::ErrorKind;
+use std::test::Fail;
+
+/// A folder is opened, and none of its reads gives bytes.
+#[test]
+fn a_read_of_a_folder_fails(rt: HostRuntime) -> Result<(), Fail> {
+    let mut buf = [0; 2];
+    let mut shelf = DirShelf::new(&rt, rt.alloc());
+    let slot = shelf.open_input(".")?;
+    assert!(rt; shelf.failed().is_none());
+    assert_eq!(rt; shelf.read(slot, &mut buf), Err(ShelfFailed));
+    assert_eq!(rt;
+        shelf.failed().map(|(slot, error)| (slot, error.kind())),
+        Some((0, ErrorKind::IsADirectory))
+    );
+    Ok(())
+}

@@ -1,7 +1,0 @@
-//! Tests of hints, on words and on files.
-#![tactic(auto)]
-
-#[cfg(test)]
-mod files;
-#[cfg(test)]
-mod words;

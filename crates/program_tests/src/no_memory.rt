@@ -1,0 +1,79 @@
+//! Want of memory, which a shelf tells in place of a slot.
+use crate::running::{fail_list, words_of};
+use det_cli::{Host, top};
+use det_edges::{Failure, MemSink, Shelf, ShelfFailed, Slots};
+use probes::Audience;
+use std::alloc::{AllocError, Global};
+use std::sync::Arc;
+use std::test::*;
+use std::thread::Threads;
+use worker_pool::NoGate;
+
+/// A shelf that never has memory for a slot.
+#[derive(Drop)]
+struct NoRoom;
+
+impl Slots for NoRoom {
+    ghost use Rattle.std.specs.Prelude.{◌≡◌, ◌<◌, ◌≤◌, length, IfOk, OnErr};
+    ghost use Rattle.det_edges.specs.Count.{Rose};
+    ghost use Rattle.det_edges.specs.Shelf.{Reads, moved, IsAtEnd};
+    ghost use Rattle.program_tests.specs.NoRoom.{no_slots};
+
+    ghost sees = { λ _. no_slots };
+
+    ghost stays = { λ _ _. Unit {0} };
+
+    ghost stays_same = { λ _. tt };
+
+    ghost stays_on = { λ _ _ _ _ _. tt };
+
+    fn read(&mut self, _: u32, _: &mut [u8]) -> Result<usize, ShelfFailed> {
+        Ok(0)
+    }
+}
+
+impl Shelf for NoRoom {
+    fn open_input(&mut self, _: &str) -> Result<u32, Failure> {
+        Err(Failure::OutOfMemory)
+    }
+}
+
+/// The status of `show`, and what it told, where this write of the line for the user fails.
+fn show<R: Threads + Sync>(
+    rt: &R,
+    alloc: Global,
+    failing_line: u64,
+) -> Result<(u8, MemSink), AllocError> {
+    let words = words_of(alloc, "show m")?;
+    let fails = fail_list(alloc, failing_line)?;
+    let mut out = MemSink::new(alloc, 100, 100, fail_list(alloc, 0)?).map_err(|_| AllocError)?;
+    let mut err = MemSink::new(alloc, 100, 3, fails).map_err(|_| AllocError)?;
+    let gate = Arc::new(alloc, NoGate)?;
+    let host = Host {
+        rt,
+        alloc,
+        gate: &gate,
+    };
+    let mut audience = Audience::of(alloc, Vec::new(alloc));
+    let status = top(
+        &host,
+        &words,
+        &mut NoRoom,
+        &mut out,
+        &mut err,
+        &mut audience,
+    );
+    Ok((status.number(), err))
+}
+
+#[test]
+fn want_of_memory_is_told_where_its_line_can_be(rt: HostRuntime) -> Result<(), Fail> {
+    let alloc = rt.alloc();
+    let (status, err) = show(&rt, alloc, 0)?;
+    assert!(rt; status == 8 && err.bytes() == b"out of memory\n".as_slice());
+    let (status, err) = show(&rt, alloc, 1)?;
+    assert!(rt; status == 8 && err.bytes().is_empty());
+    let (status, err) = show(&rt, alloc, 2)?;
+    assert!(rt; status == 8 && err.bytes() == b"out".as_slice());
+    Ok(())
+}

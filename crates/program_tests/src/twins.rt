@@ -1,0 +1,79 @@
+//! Whole runs of `det_twin` over a shelf and sinks in memory, on real threads.
+use crate::running::{CALM, Edges, Ran, prepare, row_of};
+use crate::tables::twin_rows;
+use std::alloc::{AllocError, Global};
+use std::sync::Wait;
+use std::test::*;
+use std::thread::Threads;
+use twin_cli::twin_top;
+
+fn run_twins<R: Threads + Wait + Sync>(
+    rt: &R,
+    alloc: Global,
+    line: &str,
+    edges: &Edges,
+) -> Result<Ran, AllocError> {
+    let mut ran = prepare(alloc, line, edges)?;
+    let status = twin_top(
+        rt,
+        alloc,
+        &ran.words,
+        &mut ran.shelf,
+        &mut ran.out,
+        &mut ran.err,
+    );
+    ran.status = status.number();
+    Ok(ran)
+}
+
+/// The rows that end otherwise than they want.
+fn wrong_rows<R: Threads + Wait + Sync>(rt: &R, alloc: Global) -> Result<String, AllocError> {
+    let mut wrong = String::new(alloc);
+    for row in twin_rows().lines() {
+        let (words, wanted) = row_of(row);
+        let ran = run_twins(rt, alloc, words, &CALM)?;
+        if !ran.ended_as(alloc, &wanted)? {
+            wrong.push_str(row)?;
+        }
+    }
+    Ok(wrong)
+}
+
+#[test]
+fn twins_tell_what_their_rows_want(rt: HostRuntime) -> Result<(), Fail> {
+    let wrong = wrong_rows(&rt, rt.alloc())?;
+    assert!(rt; wrong.is_empty(), "{wrong}");
+    Ok(())
+}
+
+/// How many of the first calls of the shelf make a read fault where they fail.
+fn read_faults<R: Threads + Wait + Sync>(rt: &R, alloc: Global) -> Result<u32, AllocError> {
+    let mut faults: u32 = 0;
+    for failing_read in 1..9u64 {
+        let edges = Edges {
+            failing_read,
+            ..CALM
+        };
+        let ran = run_twins(rt, alloc, "2 bank s.two", &edges)?;
+        if ran.status == 6 && ran.err.bytes() == b"read fault\n".as_slice() {
+            faults = faults.saturating_add(1);
+        }
+    }
+    Ok(faults)
+}
+
+/// Two files are opened, and each is read twice.
+#[test]
+fn each_failing_call_of_the_shelf_is_a_read_fault(rt: HostRuntime) -> Result<(), Fail> {
+    assert_eq!(rt; read_faults(&rt, rt.alloc())?, 6);
+    Ok(())
+}
+
+#[test]
+fn an_output_without_room_is_a_write_fault(rt: HostRuntime) -> Result<(), Fail> {
+    let edges = Edges { room: 3, ..CALM };
+    let ran = run_twins(&rt, rt.alloc(), "2 bank s.two", &edges)?;
+    assert!(rt; ran.status == 7 && ran.out.bytes() == b"agr".as_slice());
+    assert_eq!(rt; ran.err.bytes(), b"write fault\n".as_slice());
+    Ok(())
+}
