@@ -55,7 +55,8 @@ put_more es i left more old mid next new bytes draws h l n w =
           ∙ append_assoc old (flat_map (spelled_drawn One) b) (spelled_element bytes) ∙ ap (λ (xs : List ℕ). old ++ xs) (sym s);
     }
 
-pub put_grows : (es : List DrawnElement) (i : ℕ) (left : List DrawnElement) (old new : List ℕ) → PutSoFar es i left old new → flat.Grows old new
+pub put_grows : (es : List DrawnElement) (i : ℕ) (left : List DrawnElement) (old new : List ℕ) → PutSoFar es i left old new
+    → flat.Grows old new
 put_grows es i left old new h = record { added = flat_map (spelled_drawn One) h.before; is = h.written }
 
 pub put_end : (es : List DrawnElement) (i : ℕ) (left : List DrawnElement) (old new : List ℕ) → length es ≤ i → PutSoFar es i left old new

@@ -3,7 +3,8 @@ use Rattle.record_codec.proofs.Appending.{HasPut-next, HasPut-grows, HasPut-grow
 use Rattle.record_codec.proofs.put_frame.put_elements.Goals as goal
 
 pub returns-in_err-put_element-clause-grows : goal.returns-in_err-put_element-clause-grows
-returns-in_err-put_element-clause-grows c = HasPut-grows spelled_element IsElement _ _ _ _ _ c.loop-element.invariant c.put_element.ensures.grows
+returns-in_err-put_element-clause-grows c =
+    HasPut-grows spelled_element IsElement _ _ _ _ _ c.loop-element.invariant c.put_element.ensures.grows
 
 pub loop-element-preserved : goal.loop-element-preserved
 loop-element-preserved c =

@@ -14,7 +14,8 @@ pub returns-in_err-put_u32-in-Init-clause-grows : goal.returns-in_err-put_u32-in
 returns-in_err-put_u32-in-Init-clause-grows c = grows_then _ _ _ c.put_u8-in-Init.ensures.grows c.put_u32.ensures.grows
 
 pub returns-in_err-put_elements-in-Init-clause-grows : goal.returns-in_err-put_elements-in-Init-clause-grows
-returns-in_err-put_elements-in-Init-clause-grows c = grows_then _ _ _ c.put_u8-in-Init.ensures.grows (grows_then _ _ _ c.put_u32.ensures.grows c.put_elements.ensures.grows)
+returns-in_err-put_elements-in-Init-clause-grows c =
+    grows_then _ _ _ c.put_u8-in-Init.ensures.grows (grows_then _ _ _ c.put_u32.ensures.grows c.put_elements.ensures.grows)
 
 pub returns-in_err-put_u8-in-Run-clause-grows : goal.returns-in_err-put_u8-in-Run-clause-grows
 returns-in_err-put_u8-in-Run-clause-grows c = c.put_u8-in-Run.ensures.grows
@@ -23,7 +24,8 @@ pub returns-in_err-put_input-in-Run-clause-grows : goal.returns-in_err-put_input
 returns-in_err-put_input-in-Run-clause-grows c = grows_then _ _ _ c.put_u8-in-Run.ensures.grows c.put_input.ensures.grows
 
 pub returns-in_err-put_outcome-in-Run-clause-grows : goal.returns-in_err-put_outcome-in-Run-clause-grows
-returns-in_err-put_outcome-in-Run-clause-grows c = grows_then _ _ _ c.put_u8-in-Run.ensures.grows (grows_then _ _ _ c.put_input.ensures.grows c.put_outcome.ensures.grows)
+returns-in_err-put_outcome-in-Run-clause-grows c =
+    grows_then _ _ _ c.put_u8-in-Run.ensures.grows (grows_then _ _ _ c.put_input.ensures.grows c.put_outcome.ensures.grows)
 
 pub returns-in_err-put_u8-in-Terminate-clause-grows : goal.returns-in_err-put_u8-in-Terminate-clause-grows
 returns-in_err-put_u8-in-Terminate-clause-grows c = c.put_u8-in-Terminate.ensures.grows
@@ -35,10 +37,12 @@ pub returns-in_ok-put_u8-in-Discover-clause-grows : goal.returns-in_ok-put_u8-in
 returns-in_ok-put_u8-in-Discover-clause-grows c = c.put_u8-in-Discover.ensures.grows
 
 pub returns-in_ok-put_elements-in-Init-clause-grows : goal.returns-in_ok-put_elements-in-Init-clause-grows
-returns-in_ok-put_elements-in-Init-clause-grows c = grows_then _ _ _ c.put_u8-in-Init.ensures.grows (grows_then _ _ _ c.put_u32.ensures.grows c.put_elements.ensures.grows)
+returns-in_ok-put_elements-in-Init-clause-grows c =
+    grows_then _ _ _ c.put_u8-in-Init.ensures.grows (grows_then _ _ _ c.put_u32.ensures.grows c.put_elements.ensures.grows)
 
 pub returns-in_ok-put_outcome-in-Run-clause-grows : goal.returns-in_ok-put_outcome-in-Run-clause-grows
-returns-in_ok-put_outcome-in-Run-clause-grows c = grows_then _ _ _ c.put_u8-in-Run.ensures.grows (grows_then _ _ _ c.put_input.ensures.grows c.put_outcome.ensures.grows)
+returns-in_ok-put_outcome-in-Run-clause-grows c =
+    grows_then _ _ _ c.put_u8-in-Run.ensures.grows (grows_then _ _ _ c.put_input.ensures.grows c.put_outcome.ensures.grows)
 
 pub returns-in_ok-put_u8-in-Terminate-clause-grows : goal.returns-in_ok-put_u8-in-Terminate-clause-grows
 returns-in_ok-put_u8-in-Terminate-clause-grows c = c.put_u8-in-Terminate.ensures.grows

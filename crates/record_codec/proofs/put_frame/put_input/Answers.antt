@@ -8,7 +8,8 @@ pub returns-in_err-put_u32-clause-grows : goal.returns-in_err-put_u32-clause-gro
 returns-in_err-put_u32-clause-grows c = grows_then _ _ _ c.put_time.ensures.grows c.put_u32.ensures.grows
 
 pub returns-in_err-put_samples-clause-grows : goal.returns-in_err-put_samples-clause-grows
-returns-in_err-put_samples-clause-grows c = grows_then _ _ _ c.put_time.ensures.grows (grows_then _ _ _ c.put_u32.ensures.grows c.put_samples.ensures.grows)
+returns-in_err-put_samples-clause-grows c =
+    grows_then _ _ _ c.put_time.ensures.grows (grows_then _ _ _ c.put_u32.ensures.grows c.put_samples.ensures.grows)
 
 pub returns-clause-grows : goal.returns-clause-grows
 returns-clause-grows c = grows_then _ _ _ c.put_time.ensures.grows (grows_then _ _ _ c.put_u32.ensures.grows c.put_samples.ensures.grows)

@@ -3,7 +3,8 @@ use Rattle.record_codec.proofs.Appending.{HasPut-next, HasPut-grows, HasPut-grow
 use Rattle.record_codec.proofs.put_frame.put_samples.Goals as goal
 
 pub returns-in_err-put_sample-clause-grows : goal.returns-in_err-put_sample-clause-grows
-returns-in_err-put_sample-clause-grows c = HasPut-grows spelled_sample (IsSample c.args.events) _ _ _ _ _ c.loop-sample.invariant c.put_sample.ensures.grows
+returns-in_err-put_sample-clause-grows c =
+    HasPut-grows spelled_sample (IsSample c.args.events) _ _ _ _ _ c.loop-sample.invariant c.put_sample.ensures.grows
 
 pub loop-sample-preserved : goal.loop-sample-preserved
 loop-sample-preserved c =

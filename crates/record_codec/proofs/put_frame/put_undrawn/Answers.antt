@@ -6,7 +6,8 @@ pub returns-in_err-put_u16-in-Some-clause-grows : goal.returns-in_err-put_u16-in
 returns-in_err-put_u16-in-Some-clause-grows c = grows_then _ _ _ (put_grows _ _ _ _ _ c.loop.invariant) c.put_u16.ensures.grows
 
 pub returns-in_err-put_slice-in-Some-clause-grows : goal.returns-in_err-put_slice-in-Some-clause-grows
-returns-in_err-put_slice-in-Some-clause-grows c = grows_then _ _ _ (put_grows _ _ _ _ _ c.loop.invariant) (grows_then _ _ _ c.put_u16.ensures.grows c.put_slice.ensures.grows)
+returns-in_err-put_slice-in-Some-clause-grows c =
+    grows_then _ _ _ (put_grows _ _ _ _ _ c.loop.invariant) (grows_then _ _ _ c.put_u16.ensures.grows c.put_slice.ensures.grows)
 
 pub returns-in-None-clause-grows : goal.returns-in-None-clause-grows
 returns-in-None-clause-grows c = put_grows _ _ _ _ _ c.loop.invariant

@@ -8,10 +8,15 @@ pub returns-in_err-put_u8-clause-grows : goal.returns-in_err-put_u8-clause-grows
 returns-in_err-put_u8-clause-grows c = grows_then _ _ _ c.put_u16.ensures.grows c.put_u8.ensures.grows
 
 pub returns-in_err-put_slice-clause-grows : goal.returns-in_err-put_slice-clause-grows
-returns-in_err-put_slice-clause-grows c = grows_then _ _ _ c.put_u16.ensures.grows (grows_then _ _ _ c.put_u8.ensures.grows c.put_slice.ensures.grows)
+returns-in_err-put_slice-clause-grows c =
+    grows_then _ _ _ c.put_u16.ensures.grows (grows_then _ _ _ c.put_u8.ensures.grows c.put_slice.ensures.grows)
 
 pub returns-in_err-put_policy-clause-grows : goal.returns-in_err-put_policy-clause-grows
-returns-in_err-put_policy-clause-grows c = grows_then _ _ _ c.put_u16.ensures.grows (grows_then _ _ _ c.put_u8.ensures.grows (grows_then _ _ _ c.put_slice.ensures.grows c.put_policy.ensures.grows))
+returns-in_err-put_policy-clause-grows c =
+    grows_then _ _ _ c.put_u16.ensures.grows (grows_then _ _ _ c.put_u8.ensures.grows (grows_then _ _ _ c.put_slice.ensures.grows
+    c.put_policy.ensures.grows))
 
 pub returns-clause-grows : goal.returns-clause-grows
-returns-clause-grows c = grows_then _ _ _ c.put_u16.ensures.grows (grows_then _ _ _ c.put_u8.ensures.grows (grows_then _ _ _ c.put_slice.ensures.grows c.put_policy.ensures.grows))
+returns-clause-grows c =
+    grows_then _ _ _ c.put_u16.ensures.grows (grows_then _ _ _ c.put_u8.ensures.grows (grows_then _ _ _ c.put_slice.ensures.grows
+    c.put_policy.ensures.grows))

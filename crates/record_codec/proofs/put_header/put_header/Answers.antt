@@ -8,7 +8,9 @@ pub returns-in_err-put_params-clause-grows : goal.returns-in_err-put_params-clau
 returns-in_err-put_params-clause-grows c = grows_then _ _ _ c.put_numbers.ensures.grows c.put_params.ensures.grows
 
 pub returns-in_err-put_events-clause-grows : goal.returns-in_err-put_events-clause-grows
-returns-in_err-put_events-clause-grows c = grows_then _ _ _ c.put_numbers.ensures.grows (grows_then _ _ _ c.put_params.ensures.grows c.put_events.ensures.grows)
+returns-in_err-put_events-clause-grows c =
+    grows_then _ _ _ c.put_numbers.ensures.grows (grows_then _ _ _ c.put_params.ensures.grows c.put_events.ensures.grows)
 
 pub returns-clause-grows : goal.returns-clause-grows
-returns-clause-grows c = grows_then _ _ _ c.put_numbers.ensures.grows (grows_then _ _ _ c.put_params.ensures.grows c.put_events.ensures.grows)
+returns-clause-grows c =
+    grows_then _ _ _ c.put_numbers.ensures.grows (grows_then _ _ _ c.put_params.ensures.grows c.put_events.ensures.grows)

@@ -8,13 +8,20 @@ pub returns-in_err-put_u16-clause-grows : goal.returns-in_err-put_u16-clause-gro
 returns-in_err-put_u16-clause-grows c = grows_then _ _ _ c.put_magic.ensures.grows c.put_u16.ensures.grows
 
 pub returns-in_err-put_u16-2-clause-grows : goal.returns-in_err-put_u16-2-clause-grows
-returns-in_err-put_u16-2-clause-grows c = grows_then _ _ _ c.put_magic.ensures.grows (grows_then _ _ _ c.put_u16.ensures.grows c.put_u16-2.ensures.grows)
+returns-in_err-put_u16-2-clause-grows c =
+    grows_then _ _ _ c.put_magic.ensures.grows (grows_then _ _ _ c.put_u16.ensures.grows c.put_u16-2.ensures.grows)
 
 pub returns-in_err-put_u64-clause-grows : goal.returns-in_err-put_u64-clause-grows
-returns-in_err-put_u64-clause-grows c = grows_then _ _ _ c.put_magic.ensures.grows (grows_then _ _ _ c.put_u16.ensures.grows (grows_then _ _ _ c.put_u16-2.ensures.grows c.put_u64.ensures.grows))
+returns-in_err-put_u64-clause-grows c =
+    grows_then _ _ _ c.put_magic.ensures.grows (grows_then _ _ _ c.put_u16.ensures.grows (grows_then _ _ _
+    c.put_u16-2.ensures.grows c.put_u64.ensures.grows))
 
 pub returns-in_err-put_u64-2-clause-grows : goal.returns-in_err-put_u64-2-clause-grows
-returns-in_err-put_u64-2-clause-grows c = grows_then _ _ _ c.put_magic.ensures.grows (grows_then _ _ _ c.put_u16.ensures.grows (grows_then _ _ _ c.put_u16-2.ensures.grows (grows_then _ _ _ c.put_u64.ensures.grows c.put_u64-2.ensures.grows)))
+returns-in_err-put_u64-2-clause-grows c =
+    grows_then _ _ _ c.put_magic.ensures.grows (grows_then _ _ _ c.put_u16.ensures.grows (grows_then _ _ _
+    c.put_u16-2.ensures.grows (grows_then _ _ _ c.put_u64.ensures.grows c.put_u64-2.ensures.grows)))
 
 pub returns-clause-grows : goal.returns-clause-grows
-returns-clause-grows c = grows_then _ _ _ c.put_magic.ensures.grows (grows_then _ _ _ c.put_u16.ensures.grows (grows_then _ _ _ c.put_u16-2.ensures.grows (grows_then _ _ _ c.put_u64.ensures.grows c.put_u64-2.ensures.grows)))
+returns-clause-grows c =
+    grows_then _ _ _ c.put_magic.ensures.grows (grows_then _ _ _ c.put_u16.ensures.grows (grows_then _ _ _
+    c.put_u16-2.ensures.grows (grows_then _ _ _ c.put_u64.ensures.grows c.put_u64-2.ensures.grows)))
