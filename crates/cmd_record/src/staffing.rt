@@ -14,7 +14,8 @@ use shipped_crews::{Host, ShippedRun, StaffedRun};
 fn workers_or(given: Option<u32>, own: u32) -> u32
     requires given { IfSome given IsWorkers }
     requires own { IsWorkers own }
-    ensures { IsWorkers result }
+    ensures chosen { result ≡ unwrap_or given own }
+    ensures fits { IsWorkers result }
 {
     match given {
         Some(workers) => workers,
@@ -37,6 +38,8 @@ pub fn staffed<'h, R, G>(
         staffed.run.profile ≡ profile_of setup.now (unwrap_or seed 0)) }
     ensures good { IfOk result (λ staffed. bad_param staffed.run.kind staffed.run.profile.params
         (length staffed.run.profile.events) ≡ None) }
+    ensures workers { IfOk result (λ staffed.
+        staffed.workers.count ≡ unwrap_or workers setup.now.workers) }
 {
     let profile = setup.profile(host.alloc, seed.unwrap_or(0))?;
     let kind = setup.kind();
