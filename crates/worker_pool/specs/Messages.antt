@@ -33,8 +33,8 @@ module _ {S G E L P : Type 0} where
   abbrev pub IsSpelledOf : Meaning S G E L P → Task S G E L P → SpelledBlocks → Type 0
   IsSpelledOf m t spelled = AreBlocksOf (shown_in m (arc_value t.pass)) spelled
 
-  -- the results of the blocks that the worker with this seat claimed, which has tried all of the pass
-  -- or knows of a refusal
+  -- the results of the blocks that the worker with this seat claimed, and it has tried all blocks
+  -- of the pass or knows of a refusal
   abbrev pub IsShareOf : Meaning S G E L P → Task S G E L P → PassSeat
       → List (BlockResult E P) → Type 0
   IsShareOf m t seat results = IsShare (block_in m (arc_value t.pass)) (block_count t.table)
