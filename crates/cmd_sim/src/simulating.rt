@@ -1,7 +1,6 @@
 //! The command `sim`.
-ghost use Rattle.std.specs.Prelude.{◌≡◌, ◌≢◌, [], ◌++◌, true, OnOk, IfOk, IfSome};
+ghost use Rattle.std.specs.Prelude.{◌≡◌, ◌≢◌, [], ◌++◌, true, OnOk, IfOk};
 ghost use Rattle.det_edges.specs.Count.{Rose};
-ghost use Rattle.manifest.specs.Limits.{IsWorkers};
 ghost use Rattle.probes.specs.Reports.{reported};
 ghost use Rattle.probes.specs.Shows.{seen};
 ghost use Rattle.record_text.specs.Summaries.{summary_lines};
@@ -16,7 +15,7 @@ use det_edges::{Sink, write_all};
 use det_values::{JobKind, OutOfMemory};
 use probes::{Audience, Probe};
 use record_text::{Summary, put_summary_lines};
-use shipped_crews::{Host, ShippedRun};
+use shipped_crews::{ShippedRun, Workers};
 use std::alloc::Global;
 use std::thread::Threads;
 use stimulus::made_stimulus;
@@ -35,15 +34,13 @@ fn lines_of(alloc: Global, summary: &Summary, reports: &[u8]) -> Result<Vec<u8>,
 
 /// The text of `sim`.
 fn sim_text<R, G>(
-    host: &Host<'_, R, G>,
+    workers: &Workers<'_, R, G>,
     number: u64,
-    workers: u32,
     audience: &mut Audience,
 ) -> Result<Vec<u8>, OutOfMemory>
 where
     R: Threads,
     G: Gate + Send + Sync + 'static,
-    requires { IsWorkers workers }
     ensures text { IfOk result (λ text. text.items
         ≡ sim_text (seen (λ b. life (b.vtable, b.value)) audience.old) number) }
     ensures saw { OnOk result (reported
@@ -52,23 +49,21 @@ where
     ensures gone { OnOk result
         ((seen (λ b. life (b.vtable, b.value)) audience.new).seeing ≡ []) }
 {
-    let alloc = host.alloc;
+    let alloc = workers.alloc;
     let profile = sim_profile(alloc, number)?;
     let stimulus = made_stimulus(alloc, number)?;
     let kind = JobKind::Cloud;
     let run = ShippedRun { kind, profile };
-    let summary = run_over(&host.workers(workers), run, number, stimulus, audience)?;
+    let summary = run_over(workers, run, number, stimulus, audience)?;
     audience.finish(alloc)?;
     lines_of(alloc, &summary, audience.reports())
 }
 
 /// Prints a summary of the built-in cloud's run over the stimulus that is made of a number, and
-/// shows its cycles to the audience. What it reports is printed behind the summary. One worker runs
-/// where no number is given.
+/// shows its cycles to the audience. What it reports is printed after the summary.
 pub fn sim<K, R, G>(
-    host: &Host<'_, R, G>,
+    workers: &Workers<'_, R, G>,
     number: u64,
-    workers: Option<u32>,
     out: &mut K,
     audience: &mut Audience,
 ) -> Answer
@@ -76,7 +71,6 @@ where
     K: Sink,
     R: Threads,
     G: Gate + Send + Sync + 'static,
-    requires { IfSome workers IsWorkers }
     ensures meets { Meets
         (sim_outcome
         (seen (λ b. life (b.vtable, b.value)) audience.old) number)
@@ -89,7 +83,7 @@ where
     ensures gone { result ≡ Answer.Done
         → (seen (λ b. life (b.vtable, b.value)) audience.new).seeing ≡ [] }
 {
-    let Ok(text) = sim_text(host, number, workers.unwrap_or(1), audience) else {
+    let Ok(text) = sim_text(workers, number, audience) else {
         return Answer::OutOfMemory;
     };
     match write_all(out, &text) {

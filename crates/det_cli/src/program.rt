@@ -1,5 +1,6 @@
 //! The whole program.
 ghost use Rattle.std.specs.Prelude.{◌≡◌, true, map, option_map, IfSome};
+ghost use Rattle.std.specs.Option.{unwrap_or};
 ghost use Rattle.det_edges.specs.Count.{Rose};
 ghost use Rattle.manifest.specs.Limits.{IsWorkers};
 ghost use Rattle.cli_answers.specs.Ends.{can_end, writes_alone};
@@ -134,7 +135,7 @@ where
         }
         CommandWord::Show => show(alloc, first, command.options.part(), shelf, out, audience),
         CommandWord::Needs => needs(alloc, first, strict, shelf, out),
-        CommandWord::Sim => sim(host, command.number(), workers, out, audience),
+        CommandWord::Sim => sim(&workers_of(host, workers), command.number(), out, audience),
         CommandWord::Help => match help_text(command.names.as_slice()) {
             Some(text) => print(text, out),
             None => Answer::BadWords,
@@ -213,6 +214,7 @@ where
 /// One worker where no number is given.
 fn workers_of<'h, R, G>(host: &Host<'h, R, G>, given: Option<u32>) -> Workers<'h, R, G>
     requires { IfSome given IsWorkers }
+    ensures { result.count ≡ unwrap_or given 1 }
 {
     host.workers(given.unwrap_or(1))
 }

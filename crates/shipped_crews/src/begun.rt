@@ -78,3 +78,19 @@ where
     )?;
     Ok(Runner { recording, pool })
 }
+
+/// Ends the crew of a run. None of its threads is left running.
+pub(crate) fn stop_crew<J, N, R, G>(runner: Runner<J, Crew<J, N, G>>, rt: &R)
+where
+    J: Job + Send + Sync + 'static,
+    J::Globals: Send + 'static,
+    J::Element: Send + Sync + 'static,
+    J::Plan: Send + Sync + 'static,
+    J::Part: Send + Sync + 'static,
+    N: Room + Send + Sync + 'static,
+    R: Threads,
+    G: Gate + Send + Sync + 'static,
+{
+    let Runner { recording: _, pool } = runner;
+    pool.stop(rt);
+}

@@ -6,14 +6,13 @@ ghost use Rattle.run_writer.specs.Recording.{IsNew};
 ghost use Rattle.shipped_jobs.specs.Kinds.{bad_param, of_kind};
 ghost use Rattle.worker_pool.specs.Crews.{room_name};
 
-use crate::begun::{Begun, begin, crewed};
+use crate::begun::{Begun, begin, crewed, stop_crew};
 use crate::visit::Visit;
 use crate::workers::Workers;
 use det_edges::{Sink, Slots};
 use det_values::{JobKind, OutOfMemory, Profile};
 use job_trait::Job;
 use probes::{Audience, Probe};
-use run_writer::Runner;
 use shipped_jobs::{Bank, Cloud, Guard};
 use std::marker::Brand;
 use std::thread::Threads;
@@ -62,18 +61,15 @@ where
         ≡ seen (λ b. (⟦<dyn Probe as Probe>⟧ b.vtable).life b.value) audience.old) }
 {
     let rt = begun.workers.rt;
-    let Runner {
-        mut recording,
-        pool: mut crew,
-    } = crewed::<J, N, R, G>(begun)?;
+    let mut runner = crewed::<J, N, R, G>(begun)?;
     let answer = visitor.visit::<J, Crew<J, N, G>, S, K>(
-        &mut recording,
-        &mut crew,
+        &mut runner.recording,
+        &mut runner.pool,
         shelf,
         sink,
         audience,
     );
-    crew.stop(rt);
+    stop_crew(runner, rt);
     Ok(answer)
 }
 

@@ -5,7 +5,7 @@ ghost use Rattle.run_writer.specs.Recording.{IsNew};
 ghost use Rattle.shipped_jobs.specs.Kinds.{bad_param, of_kind};
 ghost use Rattle.worker_pool.specs.Crews.{room_name};
 
-use crate::begun::{Begun, begin, crewed};
+use crate::begun::{Begun, begin, crewed, stop_crew};
 use crate::crews::ShippedRun;
 use crate::visit_two::VisitTwo;
 use crate::workers::Workers;
@@ -69,7 +69,7 @@ where
     let rt = second.workers.rt;
     let mut second = crewed::<B, N, R, G>(second)?;
     let answer = visitor.visit_two(first, &mut second, shelf, first_sink, second_sink);
-    second.pool.stop(rt);
+    stop_crew(second, rt);
     Ok(answer)
 }
 
@@ -232,7 +232,7 @@ where
         first_sink,
         second_sink,
     );
-    first.pool.stop(rt);
+    stop_crew(first, rt);
     answer
 }
 

@@ -13,9 +13,6 @@ pub record_stimulus-requires : goal.record_stimulus-requires
 record_stimulus-requires g c =
     let workers = workers-fit (command_seen c.args.command) c.requires.range in search (rules, workers)
 
-pub sim-requires-after_bounds : goal.sim-requires-after_bounds
-sim-requires-after_bounds g c κs lives = workers-fit (command_seen c.args.command) c.requires.range
-
 pub returns-in-Demo : goal.returns-in-Demo
 returns-in-Demo g c =
     let seen = command_seen c.args.command in
@@ -178,6 +175,9 @@ returns-in-Chain g c = c.chain_by.ensures _
 
 pub workers_of-requires : goal.workers_of-requires
 workers_of-requires g c = workers-fit (command_seen c.args.command) c.requires.range
+
+pub workers_of-requires-in-Replay : goal.workers_of-requires-in-Replay
+workers_of-requires-in-Replay g c = workers-fit (command_seen c.args.command) c.requires.range
 
 pub workers_of-requires-in-Check : goal.workers_of-requires-in-Check
 workers_of-requires-in-Check g c = workers-fit (command_seen c.args.command) c.requires.range
