@@ -1,24 +1,9 @@
 //! A record that is shown to other probes than those of `det`.
-ghost use Rattle.std.specs.Prelude.{◌<◌, ◌^◌};
-
-use crate::running::{CALM, Ran, are, run_with};
+use crate::running::{CALM, are, run_with};
 use probes::{Audience, CountProbe, FirstRefusalProbe, LimitProbe, Probe};
-use std::alloc::{AllocError, Global};
 use std::sync::Arc;
 use std::test::*;
-use std::thread::Threads;
 use worker_pool::NoGate;
-
-/// The record of a guard that refuses its second cycle, shown to an audience.
-fn show_to<R: Threads + Sync>(
-    rt: &R,
-    alloc: Global,
-    line: &str,
-    audience: &mut Audience,
-) -> Result<Ran, AllocError> {
-    let gate = Arc::new(alloc, NoGate)?;
-    run_with(rt, alloc, line, &CALM, audience, &gate)
-}
 
 #[test]
 fn probes_that_left_report_first_and_in_order(rt: HostRuntime) -> Result<(), Fail> {
@@ -28,7 +13,8 @@ fn probes_that_left_report_first_and_in_order(rt: HostRuntime) -> Result<(), Fai
     probes.push(Box::new(alloc, FirstRefusalProbe::new())?)?;
     probes.push(Box::new(alloc, CountProbe::new())?)?;
     let mut audience = Audience::of(alloc, probes);
-    let ran = show_to(&rt, alloc, "show G2 --reports", &mut audience)?;
+    let gate = Arc::new(alloc, NoGate)?;
+    let ran = run_with(&rt, alloc, "show G2 --reports", CALM, &mut audience, &gate)?;
     let wanted = "refusal 2 pool 0 3 1/refusal 2 pool 0 3 1/count 2 1/";
     let is_told = are(alloc, ran.out.bytes(), wanted)?;
     assert!(rt; is_told && audience.staying() == 0);
@@ -43,7 +29,8 @@ fn probes_leave_at_their_limits(rt: HostRuntime) -> Result<(), Fail> {
     probes.push(Box::new(alloc, LimitProbe::new(2))?)?;
     probes.push(Box::new(alloc, LimitProbe::new(1))?)?;
     let mut audience = Audience::of(alloc, probes);
-    let ran = show_to(&rt, alloc, "show G2", &mut audience)?;
+    let gate = Arc::new(alloc, NoGate)?;
+    let ran = run_with(&rt, alloc, "show G2", CALM, &mut audience, &gate)?;
     let digest = "#14725 093269bd4082cccf47bc55f4f52db8570e7420e1f7f1b5e34c4ca05ea0ba7ca0";
     let is_told = are(alloc, ran.out.bytes(), digest)?;
     assert!(rt;

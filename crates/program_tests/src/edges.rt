@@ -83,14 +83,14 @@ fn breaks_at_reads<R: Threads + Sync>(
     line: &str,
 ) -> Result<bool, AllocError> {
     let calls = calls_of(alloc, line)?;
-    let whole = run(rt, alloc, line, &SMALL)?;
+    let whole = run(rt, alloc, line, SMALL)?;
     let mut is_right = whole.status == 0;
     for call in 1..calls.saturating_add(2) {
         let edges = Edges {
             failing_read: call,
             ..SMALL
         };
-        let ran = run(rt, alloc, line, &edges)?;
+        let ran = run(rt, alloc, line, edges)?;
         let breaks = ran.broke_off(&whole, 6, "read fault\n");
         is_right = is_right && breaks == (call <= calls) && breaks != ran.is_as(&whole);
     }
@@ -110,13 +110,13 @@ fn breaks_at_writes<R: Threads + Sync>(
     alloc: Global,
     line: &str,
 ) -> Result<bool, AllocError> {
-    let whole = run(rt, alloc, line, &SMALL)?;
+    let whole = run(rt, alloc, line, SMALL)?;
     for writes in 0..9999u64 {
         let edges = Edges {
             failing_write: writes.saturating_add(1),
             ..SMALL
         };
-        let ran = run(rt, alloc, line, &edges)?;
+        let ran = run(rt, alloc, line, edges)?;
         let breaks = ran.broke_off(&whole, 7, "write fault\n");
         if !breaks || !fits_writes(ran.out.bytes(), writes) {
             return Ok(ran.is_as(&whole) && fits_writes(ran.out.bytes(), writes));
@@ -131,7 +131,7 @@ fn is_same_in_pieces<R: Threads + Sync>(
     alloc: Global,
     line: &str,
 ) -> Result<bool, AllocError> {
-    let whole = run(rt, alloc, line, &SMALL)?;
+    let whole = run(rt, alloc, line, SMALL)?;
     let mut is_right = whole.status == 0;
     for most_read in [1, 2, 7] {
         let edges = Edges {
@@ -139,7 +139,7 @@ fn is_same_in_pieces<R: Threads + Sync>(
             most_written: 1,
             ..SMALL
         };
-        let ran = run(rt, alloc, line, &edges)?;
+        let ran = run(rt, alloc, line, edges)?;
         is_right = is_right && ran.is_as(&whole);
     }
     Ok(is_right)
@@ -193,8 +193,8 @@ fn pieces_of_any_length_give_the_same(rt: HostRuntime) -> Result<(), Fail> {
 #[test]
 fn an_output_without_room_is_a_write_fault(rt: HostRuntime) -> Result<(), Fail> {
     let edges = Edges { room: 50, ..CALM };
-    let ran = run(&rt, rt.alloc(), "demo s.none", &edges)?;
-    let whole = run(&rt, rt.alloc(), "demo s.none", &CALM)?;
+    let ran = run(&rt, rt.alloc(), "demo s.none", edges)?;
+    let whole = run(&rt, rt.alloc(), "demo s.none", CALM)?;
     assert!(rt; ran.broke_off(&whole, 7, "write fault\n") && ran.out.bytes().len() == 50);
     Ok(())
 }
@@ -212,8 +212,8 @@ fn keeps_status<R: Threads + Sync>(rt: &R, alloc: Global, row: &str) -> Result<b
         most_written: 3,
         ..CALM
     };
-    let first = run(rt, alloc, words, &first)?;
-    let second = run(rt, alloc, words, &second)?;
+    let first = run(rt, alloc, words, first)?;
+    let second = run(rt, alloc, words, second)?;
     let told = second.err.bytes();
     let is_short = told.len() == 3 && wanted.err.as_bytes().starts_with(told);
     let is_untold = first.err.bytes().is_empty() && is_short;

@@ -74,7 +74,7 @@ fn run_through<R: Threads + Sync, G: Gate + Send + Sync + 'static>(
     gate: &Arc<G, Global>,
 ) -> Result<Ran, AllocError> {
     let mut audience = Audience::of(alloc, Vec::new(alloc));
-    run_with(rt, alloc, line, &CALM, &mut audience, gate)
+    run_with(rt, alloc, line, CALM, &mut audience, gate)
 }
 
 #[test]

@@ -10,7 +10,7 @@ fn wrong_rows<R: Threads + Sync>(rt: &R, alloc: Global, table: &str) -> Result<S
     let mut wrong = String::new(alloc);
     for row in table.lines() {
         let (words, wanted) = row_of(row);
-        let ran = run(rt, alloc, words, &CALM)?;
+        let ran = run(rt, alloc, words, CALM)?;
         if !ran.ended_as(alloc, &wanted)? {
             wrong.push_str(row)?;
         }
@@ -45,7 +45,7 @@ fn cut_otherwise<R: Threads + Sync>(rt: &R, alloc: Global) -> Result<Option<u32>
     for len in 0..282u32 {
         let words = format!(in alloc; "show B:{len}")?;
         let line = format!(in alloc; "bad record: copy 0 offset {len} truncated\n")?;
-        let ran = run(rt, alloc, words.as_str(), &CALM)?;
+        let ran = run(rt, alloc, words.as_str(), CALM)?;
         if ran.status != 5 || ran.err.bytes() != line.as_bytes() {
             other = Some(len);
         }

@@ -83,19 +83,19 @@ fn files_of(alloc: Global, line: &str) -> Result<MemFiles, AllocError> {
     Ok(files)
 }
 
-fn shelf_of(alloc: Global, line: &str, edges: &Edges) -> Result<MemShelf, AllocError> {
+fn shelf_of(alloc: Global, line: &str, edges: Edges) -> Result<MemShelf, AllocError> {
     let files = files_of(alloc, line)?;
     let fails = fail_list(alloc, edges.failing_read)?;
     MemShelf::limited(alloc, files, fails, 16, edges.most_read.max(1)).map_err(|_| AllocError)
 }
 
-fn sink_of(alloc: Global, room: usize, edges: &Edges, failing: u64) -> Result<MemSink, AllocError> {
+fn sink_of(alloc: Global, room: usize, edges: Edges, failing: u64) -> Result<MemSink, AllocError> {
     let fails = fail_list(alloc, failing)?;
     MemSink::new(alloc, room, edges.most_written.max(1), fails).map_err(|_| AllocError)
 }
 
 /// A run of the words of a line that hasn't begun.
-pub fn prepare(alloc: Global, line: &str, edges: &Edges) -> Result<Ran, AllocError> {
+pub fn prepare(alloc: Global, line: &str, edges: Edges) -> Result<Ran, AllocError> {
     Ok(Ran {
         words: words_of(alloc, line)?,
         shelf: shelf_of(alloc, line, edges)?,
@@ -110,11 +110,11 @@ pub fn run_with<R: Threads + Sync, G: Gate + Send + Sync + 'static>(
     rt: &R,
     alloc: Global,
     line: &str,
-    edges: &Edges,
+    edges: Edges,
     audience: &mut Audience,
     gate: &Arc<G, Global>,
 ) -> Result<Ran, AllocError>
-    requires { edges.now.room < 2 ^ 64 }
+    requires { edges.room < 2 ^ 64 }
 {
     let mut ran = prepare(alloc, line, edges)?;
     let host = Host { rt, alloc, gate };
@@ -135,7 +135,7 @@ pub fn run<R: Threads + Sync>(
     rt: &R,
     alloc: Global,
     line: &str,
-    edges: &Edges,
+    edges: Edges,
 ) -> Result<Ran, AllocError> {
     let mut probes = Vec::<Box<dyn Probe>>::with_capacity(alloc, 3)?;
     probes.push(Box::new(alloc, CountProbe::new())?)?;

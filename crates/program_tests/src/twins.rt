@@ -11,7 +11,7 @@ fn run_twins<R: Threads + Wait + Sync>(
     rt: &R,
     alloc: Global,
     line: &str,
-    edges: &Edges,
+    edges: Edges,
 ) -> Result<Ran, AllocError> {
     let mut ran = prepare(alloc, line, edges)?;
     let status = twin_top(
@@ -31,7 +31,7 @@ fn wrong_rows<R: Threads + Wait + Sync>(rt: &R, alloc: Global) -> Result<String,
     let mut wrong = String::new(alloc);
     for row in twin_rows().lines() {
         let (words, wanted) = row_of(row);
-        let ran = run_twins(rt, alloc, words, &CALM)?;
+        let ran = run_twins(rt, alloc, words, CALM)?;
         if !ran.ended_as(alloc, &wanted)? {
             wrong.push_str(row)?;
         }
@@ -54,7 +54,7 @@ fn read_faults<R: Threads + Wait + Sync>(rt: &R, alloc: Global) -> Result<u32, A
             failing_read,
             ..CALM
         };
-        let ran = run_twins(rt, alloc, "2 bank s.two", &edges)?;
+        let ran = run_twins(rt, alloc, "2 bank s.two", edges)?;
         if ran.status == 6 && ran.err.bytes() == b"read fault\n".as_slice() {
             faults = faults.saturating_add(1);
         }
@@ -72,7 +72,7 @@ fn each_failing_call_of_the_shelf_is_a_read_fault(rt: HostRuntime) -> Result<(),
 #[test]
 fn an_output_without_room_is_a_write_fault(rt: HostRuntime) -> Result<(), Fail> {
     let edges = Edges { room: 3, ..CALM };
-    let ran = run_twins(&rt, rt.alloc(), "2 bank s.two", &edges)?;
+    let ran = run_twins(&rt, rt.alloc(), "2 bank s.two", edges)?;
     assert!(rt; ran.status == 7 && ran.out.bytes() == b"agr".as_slice());
     assert_eq!(rt; ran.err.bytes(), b"write fault\n".as_slice());
     Ok(())
