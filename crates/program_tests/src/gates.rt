@@ -1,25 +1,22 @@
-//! Workers of whole runs that pass a gate, which holds them until it has seen the others come.
+//! Workers of whole runs that pass a gate: one holds two of them until each has seen the other
+//! come, one counts three of them.
 use crate::running::{CALM, Ran, are, run_with};
 use probes::Audience;
 use std::alloc::{AllocError, Global};
 use std::sync::Arc;
 use std::sync::atomic::{AtomicBool, Ordering};
 use std::test::*;
-use std::thread;
 use std::thread::Threads;
 use worker_pool::{Gate, MeetGate};
 
-/// The turns for which a worker waits for the others.
-const MOST_TURNS: u32 = 10_000_000;
-
-/// Holds the workers 0, 1 and 2 until all have come, for a while at most.
+/// Notes whether the workers 0, 1 and 2 have come, and whether a further one has. It holds none of
+/// them, since how many threads a crew has depends on the machine.
 #[derive(Drop)]
 struct ThreeGate {
     first: AtomicBool,
     second: AtomicBool,
     third: AtomicBool,
-    /// Whether a worker waited in vain.
-    missed: AtomicBool,
+    further: AtomicBool,
 }
 
 impl ThreeGate {
@@ -28,29 +25,16 @@ impl ThreeGate {
             first: AtomicBool::new(false),
             second: AtomicBool::new(false),
             third: AtomicBool::new(false),
-            missed: AtomicBool::new(false),
+            further: AtomicBool::new(false),
         }
     }
 
-    fn all_came(&self) -> bool {
+    /// Whether the three came, and no other.
+    fn three_came(&self) -> bool {
         self.first.load(Ordering::SeqCst)
             && self.second.load(Ordering::SeqCst)
             && self.third.load(Ordering::SeqCst)
-    }
-
-    /// Whether the three met.
-    fn met(&self) -> bool {
-        self.all_came() && !self.missed.load(Ordering::SeqCst)
-    }
-
-    fn wait(&self) {
-        for _turn in 0..MOST_TURNS {
-            if self.all_came() {
-                return;
-            }
-            thread::yield_now();
-        }
-        self.missed.store(true, Ordering::SeqCst);
+            && !self.further.load(Ordering::SeqCst)
     }
 }
 
@@ -60,9 +44,8 @@ impl Gate for ThreeGate {
             0 => self.first.store(true, Ordering::SeqCst),
             1 => self.second.store(true, Ordering::SeqCst),
             2 => self.third.store(true, Ordering::SeqCst),
-            _ => return,
+            _ => self.further.store(true, Ordering::SeqCst),
         }
-        self.wait();
     }
 }
 
@@ -94,8 +77,8 @@ fn two_workers_of_a_simulated_run_meet(rt: HostRuntime) -> Result<(), Fail> {
     Ok(())
 }
 
-/// Whether three workers meet in a run that writes this.
-fn three_meet<R: Threads + Sync>(
+/// Whether three workers come in a run that writes this.
+fn three_come<R: Threads + Sync>(
     rt: &R,
     alloc: Global,
     line: &str,
@@ -103,24 +86,24 @@ fn three_meet<R: Threads + Sync>(
 ) -> Result<bool, AllocError> {
     let gate = Arc::new(alloc, ThreeGate::new())?;
     let ran = run_through(rt, alloc, line, &gate)?;
-    Ok(gate.met() && are(alloc, ran.out.bytes(), wanted)?)
+    Ok(gate.three_came() && are(alloc, ran.out.bytes(), wanted)?)
 }
 
 #[test]
-fn three_workers_of_a_record_meet(rt: HostRuntime) -> Result<(), Fail> {
+fn three_workers_of_a_record_come(rt: HostRuntime) -> Result<(), Fail> {
     let alloc = rt.alloc();
-    let asked = three_meet(&rt, alloc, "record wide s.one --workers 3", "=W2")?;
-    let own = three_meet(&rt, alloc, "record wide s.one", "=W2")?;
+    let asked = three_come(&rt, alloc, "record wide s.one --workers 3", "=W2")?;
+    let own = three_come(&rt, alloc, "record wide s.one", "=W2")?;
     assert!(rt; asked && own);
     Ok(())
 }
 
 #[test]
-fn three_workers_of_a_record_that_is_run_again_meet(rt: HostRuntime) -> Result<(), Fail> {
+fn three_workers_of_a_record_that_is_run_again_come(rt: HostRuntime) -> Result<(), Fail> {
     let alloc = rt.alloc();
-    let replay = three_meet(&rt, alloc, "replay W1 --workers 3", "=W1")?;
-    let check = three_meet(&rt, alloc, "check W1 --workers 3", "genuine 1/")?;
-    let upgrade = three_meet(&rt, alloc, "upgrade W1 --workers 3", "=W2")?;
+    let replay = three_come(&rt, alloc, "replay W1 --workers 3", "=W1")?;
+    let check = three_come(&rt, alloc, "check W1 --workers 3", "genuine 1/")?;
+    let upgrade = three_come(&rt, alloc, "upgrade W1 --workers 3", "=W2")?;
     assert!(rt; replay && check && upgrade);
     Ok(())
 }

@@ -39,7 +39,7 @@ fn broken_runs_end_with_their_lines(rt: HostRuntime) -> Result<(), Fail> {
     Ok(())
 }
 
-/// The first length to which a record was cut and `show` told another place.
+/// A length to which a record was cut and `show` told another place, if there is one.
 fn cut_otherwise<R: Threads + Sync>(rt: &R, alloc: Global) -> Result<Option<u32>, AllocError> {
     let mut other = None;
     for len in 0..282u32 {
