@@ -23,8 +23,11 @@ stands_before b k (e ∷ es) fs h = ⊎_elim (λ (x : e ≡ entry b k). inl x) (
 module _ {E P : Type 0} (block : ℕ → Result (Passed E P) Refusal) (blocks : ℕ) where
   tried_joined : (v w : PoolView) → (blocks ≤ v.seen) ⊎ Stops v.entries → (blocks ≤ (joined v w).seen) ⊎ Stops (joined v w).entries
   tried_joined v w tried = ⊎_elim (λ (x : blocks ≤ v.seen). inl (omega arith)) (λ (x : Stops v.entries).
-      inr (x.0, ⊎_elim (λ y. inl (stands_before x.0 _ v.entries w.entries y))
-      (λ y. inr (stands_before x.0 _ v.entries w.entries y)) x.1)) tried
+      inr (
+        x.0,
+        ⊎_elim (λ y. inl (stands_before x.0 _ v.entries w.entries y))
+            (λ y. inr (stands_before x.0 _ v.entries w.entries y)) x.1,
+      )) tried
 
   pub share_joined : (v w u : PoolView) (rs qs ps : List (BlockResult E P)) → IsShare block blocks v rs → IsShare block blocks w qs
       → u ≡ joined v w → ps ≡ rs ++ qs → IsShare block blocks u ps
