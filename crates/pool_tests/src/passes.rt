@@ -1,144 +1,235 @@
-//! Passes of the list job, in a pool, by a crew and in order.
-
-ghost use Rattle.std.specs.Prelude.{◌≡◌, ◌≤◌, length, IfOk};
+//! Passes of the list job, by a crew and in order.
+ghost use Rattle.std.specs.Prelude.{◌≡◌, ◌≤◌, length};
 ghost use Rattle.std.specs.Arc.{arc_value};
 ghost use Rattle.job_trait.specs.Passes.{IsReady};
 ghost use Rattle.pool_tests.specs.Meaning.{meaning, Covers, Own, Fit};
 ghost use Rattle.worker_pool.specs.Crews.{room_name};
 
+use crate::gates::{HoldGate, Wanted};
 use crate::list_job::{ListJob, Met, NoPlan};
-use crate::owners::{again, shared};
-use det_values::{Container, OutOfMemory};
+use crate::watch::Watch;
+use det_values::Container;
 use job_trait::{PassDone, PassOf, Pool, PoolFault};
 use pass_in_blocks::InOrder;
 use std::alloc::Global;
 use std::marker::Brand;
+use std::process::Abort;
 use std::sync::Arc;
+use std::sync::atomic::{AtomicBool, AtomicU64, Ordering};
 use std::thread::Threads;
 use tickets::Room;
-use worker_pool::{Crew, CrewRoom, Gate, run_worker_pool};
-
-/// The seed of each pass of the list job. Its cycle is 1 and its pass 0.
-pub const SEED: u64 = 7;
+use worker_pool::{Crew, CrewRoom, NoGate, run_worker_pool};
 
 /// A pass of a list job.
-pub type ListPass = Arc<PassOf<ListJob>, Global>;
+pub(crate) type ListPass = Arc<PassOf<ListJob>, Global>;
 
 /// What such a pass answers.
-pub type ListDone = Result<PassDone<u8, Met>, PoolFault>;
+pub(crate) type ListDone = Result<PassDone<u8, Met>, PoolFault>;
+
+/// A value that can have several owners.
+pub(crate) fn shared<T: Drop, R: Abort>(rt: &R, alloc: Global, value: T) -> Arc<T, Global>
+    ensures { arc_value result ≡ value }
+{
+    match Arc::new(alloc, value) {
+        Ok(owner) => owner,
+        Err(_) => panic!(rt; "out of memory"),
+    }
+}
+
+/// One more owner.
+fn again<T: Drop, R: Abort>(rt: &R, owner: &Arc<T, Global>) -> Arc<T, Global>
+    ensures { arc_value result ≡ arc_value owner.now }
+{
+    Arc::try_clone(owner).expect(rt, "out of memory")
+}
+
+/// The bytes i % 251.
+pub(crate) fn many_bytes<R: Abort>(rt: &R, alloc: Global) -> Vec<u8>
+    ensures { length result.items ≡ 65536 }
+{
+    let mut bytes = Vec::new(alloc);
+    'each: for i in 0..65536u32 {
+        bytes.push((i % 251) as u8).expect(rt, "out of memory");
+    }
+    bytes
+}
 
 /// These bytes as elements.
-fn elements_of(alloc: Global, bytes: &[u8]) -> Result<Container<u8>, OutOfMemory>
+fn elements_of<R: Abort>(rt: &R, alloc: Global, bytes: &[u8]) -> Container<u8>
     requires { length bytes.now ≤ 65536 }
-    ensures { IfOk result (λ elements. elements ≡ bytes.now) }
+    ensures { result ≡ bytes.now }
 {
     let mut elements = Container::new(alloc);
     'each: for byte in bytes {
-        elements.push(alloc, *byte)?;
+        elements.push(alloc, *byte).expect(rt, "out of memory");
     }
-    Ok(elements)
+    elements
 }
 
-/// A pass of a list job over these elements.
-pub fn list_pass(
-    alloc: Global,
-    job: &Arc<ListJob, Global>,
-    bytes: &[u8],
-) -> Result<ListPass, OutOfMemory>
-    requires { length bytes.now ≤ 65536 }
-    ensures { IfOk result (λ pass. IsReady meaning Covers Own Fit (arc_value pass)) }
-{
-    let elements = elements_of(alloc, bytes)?;
-    shared(
-        alloc,
-        PassOf {
-            job: again(job)?,
-            plan: shared(alloc, NoPlan)?,
-            carry: shared(alloc, Met::new(alloc))?,
-            number: 0,
-            elements: shared(alloc, elements)?,
-            seed: SEED,
-            cycle: 1,
-            earlier: shared(alloc, Container::new(alloc))?,
-            shows: true,
-        },
-    )
-}
-
-/// One pass of a list job over these elements in a pool.
-pub fn in_pool<G: Gate + Send + Sync + 'static, R: Threads>(
+/// Pass 0 of cycle 1 over these elements, of a list job in which those from `limit` on refuse.
+pub(crate) fn list_pass<R: Abort>(
     rt: &R,
     alloc: Global,
-    job: &Arc<ListJob, Global>,
+    limit: u32,
+    watch: Option<Arc<Watch, Global>>,
     bytes: &[u8],
-    workers: u32,
-    gate: &Arc<G, Global>,
-) -> ListDone
-    requires few { length bytes.now ≤ 65536 }
-    requires workers { (1 ≤ workers) × (workers ≤ 64) }
+) -> ListPass
+    requires { length bytes.now ≤ 65536 }
+    ensures { IsReady meaning Covers Own Fit (arc_value result) }
 {
-    let pass = list_pass(alloc, job, bytes)?;
-    run_worker_pool(rt, alloc, &pass, workers, gate)
+    let job = ListJob {
+        limit,
+        watch,
+        events: 0,
+    };
+    let pass = PassOf {
+        job: shared(rt, alloc, job),
+        plan: shared(rt, alloc, NoPlan),
+        carry: shared(rt, alloc, Met::new(alloc)),
+        number: 0,
+        elements: shared(rt, alloc, elements_of(rt, alloc, bytes)),
+        seed: 7,
+        cycle: 1,
+        earlier: shared(rt, alloc, Container::new(alloc)),
+        shows: true,
+    };
+    shared(rt, alloc, pass)
 }
 
-/// The same on one thread.
-pub fn in_order(alloc: Global, job: &Arc<ListJob, Global>, bytes: &[u8]) -> ListDone
+/// Such a pass by one thread. Nothing watches it.
+pub(crate) fn alone<R: Abort>(rt: &R, alloc: Global, limit: u32, bytes: &[u8]) -> ListDone
     requires { length bytes.now ≤ 65536 }
 {
-    let pass = list_pass(alloc, job, bytes)?;
-    InOrder.run_pass(alloc, &pass)
+    InOrder.run_pass(alloc, &list_pass(rt, alloc, limit, None, bytes))
 }
 
-/// Two passes by a crew of two workers in this room. Between them, and at the end, `between` is
-/// called.
-fn twice_in_room<B, G, R, F>(
+/// Whether two containers have the same items.
+fn same_items<T: PartialEq>(left: &Container<T>, right: &Container<T>) -> bool {
+    if left.len() != right.len() {
+        return false;
+    }
+    for i in 0..left.len() {
+        if *left.item(i) != *right.item(i) {
+            return false;
+        }
+    }
+    true
+}
+
+/// Whether two passes ended alike.
+pub(crate) fn is_same(left: &ListDone, right: &ListDone) -> bool {
+    match (left, right) {
+        (Ok(left), Ok(right)) => {
+            left.part == right.part
+                && same_items(&left.elements, &right.elements)
+                && same_items(&left.draws, &right.draws)
+                && left.shown == right.shown
+        }
+        (Err(left), Err(right)) => *left == *right,
+        _ => false,
+    }
+}
+
+/// Whether a pass was refused by this element, whose byte is its number.
+pub(crate) fn is_refused(done: &ListDone, element: u32) -> bool {
+    match done {
+        Ok(_) => false,
+        Err(fault) => {
+            *fault
+                == PoolFault::Refused {
+                    element,
+                    code: element,
+                }
+        }
+    }
+}
+
+/// Whether a pass ends with this answer by whatever number of workers.
+pub(crate) fn is_alike<R: Threads + Abort>(
+    rt: &R,
+    alloc: Global,
+    pass: &ListPass,
+    wanted: &ListDone,
+) -> bool
+    requires { IsReady meaning Covers Own Fit (arc_value pass.now) }
+{
+    let gate = shared(rt, alloc, NoGate);
+    for workers in [1, 2, 3, 8, 64] {
+        if !is_same(&run_worker_pool(rt, alloc, pass, workers, &gate), wanted) {
+            return false;
+        }
+    }
+    true
+}
+
+/// A gate that holds a worker, and what watches the elements.
+pub(crate) fn gate_of<R: Abort>(
+    rt: &R,
+    alloc: Global,
+    worker: u32,
+    wanted: Wanted,
+) -> Arc<HoldGate, Global> {
+    let watch = Watch {
+        runs: AtomicU64::new(0),
+        holds: AtomicBool::new(false),
+        let_go: AtomicBool::new(false),
+    };
+    let gate = HoldGate {
+        watch: shared(rt, alloc, watch),
+        worker,
+        wanted,
+        came: AtomicBool::new(false),
+        rested: AtomicU64::new(0),
+    };
+    shared(rt, alloc, gate)
+}
+
+/// A pass that a gate's watch sees.
+pub(crate) fn watched_pass<R: Abort>(
+    rt: &R,
+    alloc: Global,
+    gate: &Arc<HoldGate, Global>,
+    bytes: &[u8],
+) -> ListPass
+    requires { length bytes.now ≤ 65536 }
+    ensures { IsReady meaning Covers Own Fit (arc_value result) }
+{
+    list_pass(rt, alloc, 256, Some(again(rt, &gate.watch)), bytes)
+}
+
+/// Two passes by a crew of two workers in this room. Between them the held element is let go.
+fn twice_in_room<B: Room + Send + Sync + 'static, R: Threads + Abort>(
     rt: &R,
     alloc: Global,
     room: CrewRoom<ListJob>,
     first: &ListPass,
     second: &ListPass,
-    gate: &Arc<G, Global>,
-    between: &F,
+    gate: &Arc<HoldGate, Global>,
 ) -> (ListDone, ListDone)
-where
-    B: Room + Send + Sync + 'static,
-    G: Gate + Send + Sync + 'static,
-    R: Threads,
-    F: Fn(),
     requires room { room_name room ≡ B.table }
     requires first { IsReady meaning Covers Own Fit (arc_value first.now) }
     requires second { IsReady meaning Covers Own Fit (arc_value second.now) }
-    requires between { F.IsAlwaysCallable between.now }
 {
-    let Ok(mut crew) = Crew::<ListJob, B, G>::start(rt, alloc, room, 2, gate) else {
-        return (Err(PoolFault::OutOfMemory), Err(PoolFault::OutOfMemory));
-    };
+    let crew = Crew::<ListJob, B, HoldGate>::start(rt, alloc, room, 2, gate);
+    let mut crew = crew.expect(rt, "out of memory");
     let before = crew.run_pass(alloc, first);
-    between();
+    gate.watch.let_go.store(true, Ordering::SeqCst);
     let after = crew.run_pass(alloc, second);
     crew.stop(rt);
     (before, after)
 }
 
-/// Two passes by one crew of two workers, and a call between them.
-pub fn twice<G, R, F>(
+/// Two passes by one crew of two workers. Between them the held element is let go.
+pub(crate) fn twice<R: Threads + Abort>(
     rt: &R,
     alloc: Global,
     first: &ListPass,
     second: &ListPass,
-    gate: &Arc<G, Global>,
-    between: &F,
+    gate: &Arc<HoldGate, Global>,
 ) -> (ListDone, ListDone)
-where
-    G: Gate + Send + Sync + 'static,
-    R: Threads,
-    F: Fn(),
     requires first { IsReady meaning Covers Own Fit (arc_value first.now) }
     requires second { IsReady meaning Covers Own Fit (arc_value second.now) }
-    requires between { F.IsAlwaysCallable between.now }
 {
-    let Ok(room) = CrewRoom::new(alloc) else {
-        return (Err(PoolFault::OutOfMemory), Err(PoolFault::OutOfMemory));
-    };
-    twice_in_room::<Brand, G, R, F>(rt, alloc, room, first, second, gate, between)
+    let room = CrewRoom::new(alloc).expect(rt, "out of memory");
+    twice_in_room::<Brand, R>(rt, alloc, room, first, second, gate)
 }
