@@ -1,5 +1,5 @@
-//! Tests of the real edges: readers and writers that are interrupted, that fail or that move little,
-//! and a folder that is read as a file.
+//! Tests of the real edges: readers and writers that are interrupted, fail or move little, and a
+//! folder that is read as a file.
 #![tactic(auto)]
 
 #[cfg(test)]
