@@ -10,15 +10,15 @@ use worker_pool::{MeetGate, run_worker_pool};
 /// The numbers of elements, element i having the byte i % 251, and the byte from which on an
 /// element refuses. So the element `limit` is the least that does.
 const ROWS: [(usize, u32); 9] = [
-    (0, 256),
-    (1, 256),
-    (64, 256),
-    (65, 256),
+    (0, 65536),
+    (1, 65536),
+    (64, 65536),
+    (65, 65536),
     (1000, 0),
     (1000, 63),
     (1000, 64),
     (1000, 200),
-    (65536, 256),
+    (65536, 65536),
 ];
 
 #[test]
