@@ -27,4 +27,4 @@ mod running;
 #[cfg(test)]
 mod tables;
 #[cfg(test)]
-mod twins;
+mod twin_runs;
