@@ -103,31 +103,20 @@ pub(crate) fn alone<R: Abort>(rt: &R, alloc: Global, limit: u32, bytes: &[u8]) -
     InOrder.run_pass(alloc, &list_pass(rt, alloc, limit, None, bytes))
 }
 
-/// Whether two containers have the same items.
-fn same_items<T: PartialEq>(left: &Container<T>, right: &Container<T>) -> bool {
-    if left.len() != right.len() {
-        return false;
-    }
-    for i in 0..left.len() {
-        if *left.item(i) != *right.item(i) {
-            return false;
-        }
-    }
-    true
-}
-
-/// Whether two passes ended alike.
-pub(crate) fn is_same(left: &ListDone, right: &ListDone) -> bool {
+/// Whether two passes ended alike. What they show holds each element with its draws.
+fn is_same(left: &ListDone, right: &ListDone) -> bool {
     match (left, right) {
-        (Ok(left), Ok(right)) => {
-            left.part == right.part
-                && same_items(&left.elements, &right.elements)
-                && same_items(&left.draws, &right.draws)
-                && left.shown == right.shown
-        }
+        (Ok(left), Ok(right)) => left.part == right.part && left.shown == right.shown,
         (Err(left), Err(right)) => *left == *right,
         _ => false,
     }
+}
+
+/// Whether a pass over these elements, none of which refuses, ended as by one thread.
+pub(crate) fn ended_as_alone<R: Abort>(rt: &R, alloc: Global, done: ListDone, bytes: &[u8]) -> bool
+    requires { length bytes.now ≤ 65536 }
+{
+    is_same(&done, &alone(rt, alloc, 65536, bytes))
 }
 
 /// Whether a pass was refused by this element, whose byte is its number.
@@ -194,7 +183,7 @@ pub(crate) fn watched_pass<R: Abort>(
     requires { length bytes.now ≤ 65536 }
     ensures { IsReady meaning Covers Own Fit (arc_value result) }
 {
-    list_pass(rt, alloc, 256, Some(again(rt, &gate.watch)), bytes)
+    list_pass(rt, alloc, 65536, Some(again(rt, &gate.watch)), bytes)
 }
 
 /// Two passes by a crew of two workers in this room. Between them the held element is let go.

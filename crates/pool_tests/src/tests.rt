@@ -1,7 +1,7 @@
 use crate::HELD;
 use crate::gates::Wanted;
 use crate::passes::{
-    alone, gate_of, is_alike, is_refused, is_same, list_pass, many_bytes, shared, twice,
+    alone, ended_as_alone, gate_of, is_alike, is_refused, list_pass, many_bytes, shared, twice,
     watched_pass,
 };
 use std::sync::atomic::Ordering;
@@ -24,9 +24,9 @@ const ROWS: [(usize, u32); 9] = [
 #[test]
 fn workers_meet(rt: HostRuntime) {
     let gate = shared(&rt, rt.alloc(), MeetGate::new());
-    let pass = list_pass(&rt, rt.alloc(), 256, None, &[3; 128]);
+    let pass = list_pass(&rt, rt.alloc(), 65536, None, &[3; 128]);
     let done = run_worker_pool(&rt, rt.alloc(), &pass, 2, &gate);
-    assert!(rt; gate.met() && is_same(&done, &alone(&rt, rt.alloc(), 256, &[3; 128])));
+    assert!(rt; gate.met() && ended_as_alone(&rt, rt.alloc(), done, &[3; 128]));
 }
 
 /// The pool gives what the pass in order gives, whose part is the list of the elements, and of the
@@ -57,7 +57,7 @@ fn blocks_are_claimed(rt: HostRuntime) {
     let pass = watched_pass(&rt, rt.alloc(), &gate, &[3; 128]);
     let done = run_worker_pool(&rt, rt.alloc(), &pass, 2, &gate);
     assert!(rt; gate.came.load(Ordering::SeqCst) && gate.watch.runs.load(Ordering::SeqCst) == 128);
-    assert!(rt; is_same(&done, &alone(&rt, rt.alloc(), 256, &[3; 128])));
+    assert!(rt; ended_as_alone(&rt, rt.alloc(), done, &[3; 128]));
 }
 
 /// The caller is held until a kept thread has run all elements and has replied. What it replied is
@@ -68,7 +68,7 @@ fn a_block_of_a_kept_thread_is_run_once(rt: HostRuntime) {
     let pass = watched_pass(&rt, rt.alloc(), &gate, &[3; 128]);
     let done = run_worker_pool(&rt, rt.alloc(), &pass, 2, &gate);
     assert!(rt; gate.came.load(Ordering::SeqCst) && gate.watch.runs.load(Ordering::SeqCst) == 128);
-    assert!(rt; is_same(&done, &alone(&rt, rt.alloc(), 256, &[3; 128])));
+    assert!(rt; ended_as_alone(&rt, rt.alloc(), done, &[3; 128]));
 }
 
 /// A kept thread is held at the gate through a whole pass, and let go before the next one. Its
@@ -76,12 +76,12 @@ fn a_block_of_a_kept_thread_is_run_once(rt: HostRuntime) {
 #[test]
 fn a_reply_to_an_earlier_pass_is_thrown_away(rt: HostRuntime) {
     let gate = gate_of(&rt, rt.alloc(), 1, Wanted::LetGo);
-    let first = list_pass(&rt, rt.alloc(), 256, None, &[3; 300]);
-    let second = list_pass(&rt, rt.alloc(), 256, None, &[5; 300]);
+    let first = list_pass(&rt, rt.alloc(), 65536, None, &[3; 300]);
+    let second = list_pass(&rt, rt.alloc(), 65536, None, &[5; 300]);
     let (before, after) = twice(&rt, rt.alloc(), &first, &second, &gate);
     assert!(rt; gate.came.load(Ordering::SeqCst));
-    assert!(rt; is_same(&before, &alone(&rt, rt.alloc(), 256, &[3; 300])));
-    assert!(rt; is_same(&after, &alone(&rt, rt.alloc(), 256, &[5; 300])));
+    assert!(rt; ended_as_alone(&rt, rt.alloc(), before, &[3; 300]));
+    assert!(rt; ended_as_alone(&rt, rt.alloc(), after, &[5; 300]));
 }
 
 /// A kept thread claims a block and is held in it until the caller has given it up and run the
@@ -93,6 +93,6 @@ fn a_block_that_is_given_up_is_run_again(rt: HostRuntime) {
     let second = watched_pass(&rt, rt.alloc(), &gate, &[5; 128]);
     let (before, after) = twice(&rt, rt.alloc(), &first, &second, &gate);
     assert!(rt; gate.came.load(Ordering::SeqCst));
-    assert!(rt; is_same(&before, &alone(&rt, rt.alloc(), 256, &[HELD; 128])));
-    assert!(rt; is_same(&after, &alone(&rt, rt.alloc(), 256, &[5; 128])));
+    assert!(rt; ended_as_alone(&rt, rt.alloc(), before, &[HELD; 128]));
+    assert!(rt; ended_as_alone(&rt, rt.alloc(), after, &[5; 128]));
 }
