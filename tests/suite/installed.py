@@ -99,7 +99,8 @@ def is_refused(programs: Programs) -> Optional[str]:
 def makefile() -> Optional[str]:
     """`make install` and `make uninstall` call the installer alone, with PREFIX and DESTDIR."""
     for target, word in (("install", "--version"), ("uninstall", "--uninstall")):
-        words = ["make", "-n", target, "PREFIX=/p q", "DESTDIR=/d"]
+        # Below `make test` it would also print the folder that it is in.
+        words = ["make", "-n", "--no-print-directory", target, "PREFIX=/p q", "DESTDIR=/d"]
         done = subprocess.run(words, cwd=TOP, capture_output=True, check=False)
         wanted = (b'--prefix "/p q"', b'--destdir "/d"', word.encode(), b"tools/install.py")
         lines = done.stdout.splitlines()
