@@ -92,8 +92,8 @@ fn three_come<R: Threads + Sync>(
 #[test]
 fn three_workers_of_a_record_come(rt: HostRuntime) -> Result<(), Fail> {
     let alloc = rt.alloc();
-    let asked = three_come(&rt, alloc, "record wide s.one --workers 3", "=W2")?;
-    let own = three_come(&rt, alloc, "record wide s.one", "=W2")?;
+    let asked = three_come(&rt, alloc, "record wide s.one --workers 3", "=wide.2")?;
+    let own = three_come(&rt, alloc, "record wide s.one", "=wide.2")?;
     assert!(rt; asked && own);
     Ok(())
 }
@@ -101,9 +101,9 @@ fn three_workers_of_a_record_come(rt: HostRuntime) -> Result<(), Fail> {
 #[test]
 fn three_workers_of_a_record_that_is_run_again_come(rt: HostRuntime) -> Result<(), Fail> {
     let alloc = rt.alloc();
-    let replay = three_come(&rt, alloc, "replay W1 --workers 3", "=W1")?;
-    let check = three_come(&rt, alloc, "check W1 --workers 3", "genuine 1/")?;
-    let upgrade = three_come(&rt, alloc, "upgrade W1 --workers 3", "=W2")?;
+    let replay = three_come(&rt, alloc, "replay wide.1 --workers 3", "=wide.1")?;
+    let check = three_come(&rt, alloc, "check wide.1 --workers 3", "genuine 1/")?;
+    let upgrade = three_come(&rt, alloc, "upgrade wide.1 --workers 3", "=wide.2")?;
     assert!(rt; replay && check && upgrade);
     Ok(())
 }

@@ -13,7 +13,7 @@ demo s.three|0|=C2|
 record fresh s.still|0|#418 161069405258d0e1b8e3e378fc007b25d6c0ad013501a4ec6ca90ed6216b6aa2|
 record bank s.still|0|#418 a661f862254ae8c5d6d8833e6da5301a1c36d7851144cb2f7c24aa7f0bf02636|
 record guard s.guard --workers 2|0|=G2|
-record wide s.one --workers 3|0|=W2|
+record wide s.one --workers 3|0|=wide.2|
 record limits s.limits|0|#362 d1e652d0e02bea6d9084ff1b05f0d3a3d041922c76090990710479dbe9acca5d|
 record limit1 s.limits --workers 8|0|#244 aab2166e34a9023a240de1ce993b63f0d7c9466967080580674140d\
 fa116cc74|
@@ -33,7 +33,7 @@ chain guard behind s.guard|0|#272 59f66b651696bf96a1afc1a36ef74c257a3ce602052efd
 replay B|0|=B|
 replay B2 --workers 3|0|=B2|
 replay G2|0|=G2|
-replay W1 --workers 3|0|=W1|
+replay wide.1 --workers 3|0|=wide.1|
 replay B@242=1a|0|=B|
 check B|0|genuine 2/count 2 0/gap 10000000/refusal none/|
 check B2 --workers 3|0|genuine 2/count 2 0/gap 10000000/refusal none/|
