@@ -1,6 +1,7 @@
 //! The command `sim`.
 ghost use Rattle.std.specs.Prelude.{◌≡◌, ◌≢◌, [], ◌++◌, true, OnOk, IfOk};
 ghost use Rattle.det_edges.specs.Count.{Rose};
+ghost use Rattle.manifest.specs.Limits.{IsWorkers};
 ghost use Rattle.probes.specs.Reports.{reported};
 ghost use Rattle.probes.specs.Shows.{seen};
 ghost use Rattle.record_text.specs.Summaries.{summary_lines};
@@ -41,6 +42,7 @@ fn sim_text<R, G>(
 where
     R: Threads,
     G: Gate + Send + Sync + 'static,
+    requires { IsWorkers workers.now.count }
     ensures text { IfOk result (λ text. text.items
         ≡ sim_text (seen (λ b. life (b.vtable, b.value)) audience.old) number) }
     ensures saw { OnOk result (reported
@@ -71,6 +73,7 @@ where
     K: Sink,
     R: Threads,
     G: Gate + Send + Sync + 'static,
+    requires { IsWorkers workers.now.count }
     ensures meets { Meets
         (sim_outcome
         (seen (λ b. life (b.vtable, b.value)) audience.old) number)
