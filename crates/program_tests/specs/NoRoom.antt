@@ -1,11 +1,11 @@
--- What a shelf shows that gives no slots.
+-- What a shelf shows that has no memory for a further slot.
 use Rattle.std.specs.Prelude.{None}
 use Rattle.det_edges.specs.Shelf.{ShelfState}
 
--- no slot was given, and nothing is told
-abbrev pub no_slots : ShelfState
-no_slots = record {
-  slots = 0;
+-- one slot was given, and nothing is told
+abbrev pub untold_slot : ShelfState
+untold_slot = record {
+  slots = 1;
   faults = 0;
   holds = λ name. None;
   asked = None;

@@ -9,7 +9,7 @@ use std::test::*;
 use std::thread::Threads;
 use worker_pool::NoGate;
 
-/// A shelf that never has memory for a slot.
+/// A shelf that has no memory for a further slot. The one that it has is at its end.
 #[derive(Drop)]
 struct NoRoom;
 
@@ -17,9 +17,9 @@ impl Slots for NoRoom {
     ghost use Rattle.std.specs.Prelude.{◌≡◌, ◌<◌, ◌≤◌, length, IfOk, OnErr};
     ghost use Rattle.det_edges.specs.Count.{Rose};
     ghost use Rattle.det_edges.specs.Shelf.{Reads, moved, IsAtEnd};
-    ghost use Rattle.program_tests.specs.NoRoom.{no_slots};
+    ghost use Rattle.program_tests.specs.NoRoom.{untold_slot};
 
-    ghost sees = { λ _. no_slots };
+    ghost sees = { λ _. untold_slot };
 
     ghost stays = { λ _ _. Unit {0} };
 
