@@ -24,9 +24,12 @@ test:
 	$(PYTHON) tests/run.py
 
 # The gate: the list of the theorem's definitions, all proofs, edits that must fail, tests in Rattle.
+# Where it passed, out/proved says when it began.
 prove:
 	$(PYTHON) tools/definitions.py --check
+	mkdir -p out && touch out/proving
 	rt ci
+	mv out/proving out/proved
 
 # Both: the gate, the library over what it proved, and the tests over the proved programs.
 check: prove
@@ -42,6 +45,6 @@ uninstall:
 
 # Records that stand in out/ stay.
 clean:
-	rm -rf crates/*/out out/compiled out/lib
+	rm -rf crates/*/out out/compiled out/lib out/proving out/proved
 
 .PHONY: all programs $(PROGRAMS) library test prove check install uninstall clean

@@ -9,7 +9,7 @@
 Prints where it lies: out/lib/libdeterministic_client.a, or out/lib/TARGET/libdeterministic_client.a
 for a TARGET; `made` beside it says how it was made. One for another target than this machine's is
 always proved, and so is one with a kit that doesn't serve for compiling. Over the libraries that
-the gate left its two crates alone are proved, which takes minutes; else all nine below them are.
+`make prove` left its two crates alone are proved, which takes minutes; else all nine below them are.
 It ends with 0, with 2 for other words, or with 70 and a line that says why it isn't built.
 """
 
@@ -34,6 +34,7 @@ EXPORTING = ("det_client_c", "det_record_c")
 HOST, ARM = "x86_64-unknown-linux-gnu", "aarch64-unknown-linux-gnu"
 HEAP = TOP / "cpp" / "rattle_heap.c"
 OUT = TOP / "out" / "lib"
+GATE = TOP / "out" / "proved"  # as old as the beginning of the gate that passed last
 COMPILED, PROVED = "compiled", "proved"
 NOT_BUILT = 70
 
@@ -70,11 +71,12 @@ class Library:
         return [compile_library(self.kit, CRATES / it, work, self.run) for it in EXPORTING]
 
     def over_the_gate(self, crate: str) -> bool:
-        """Proves and builds a crate over the libraries that `rt ci` left, where they are all there
-        and no source is newer."""
+        """Proves and builds a crate over the libraries that `make prove` left, where they are all
+        there and no source changed since it began. rt gives old libraries that it kept, so their
+        own times say nothing."""
         for name in needed_by(crate, listed_crates())[:-1]:
             checked = CRATES / name / "out/rlib" / f"{name}.rlib" / "format"
-            if changed(str(checked)) < newest_source(name):
+            if not checked.is_file() or changed(str(GATE)) < newest_source(name):
                 return False
         sys.path.insert(0, str(self.kit / "bin"))
         try:
