@@ -71,7 +71,7 @@ def proves_where_wanted(it: LibraryRoom) -> Optional[str]:
 
 
 def takes_the_gate(it: LibraryRoom) -> Optional[str]:
-    """Over libraries that the gate left the two crates alone are proved, and not over older ones."""
+    """Over libraries that the gate left the two crates alone are proved, not over older ones."""
     it.write("crates/low/out/rlib/low.rlib/format")
     it.write("out/proved")
     first, text = it.build("--prove"), it.archive()
