@@ -1,8 +1,8 @@
 -- The keys of the two tables of needs, both at once.
-use Rattle.std.proofs.Common.{◌≡◌, false, is_some, refl}
+use Rattle.std.proofs.Common.{◌≡◌, Bool, true, false, refl, ap, ◌∙◌}
 use Rattle.toml.specs.Data.{Data}
 use Rattle.manifest.specs.Tree.{step, to_member}
-use Rattle.manifest.specs.Keys.{section, found, need_kind, need_word}
+use Rattle.manifest.specs.Keys.{section, found, has, need_kind, need_word}
 use Rattle.manifest.specs.Faults.{fault_at, fault_by}
 use Rattle.manifest.specs.Judged.{section_key, need_key}
 use Rattle.manifest.specs.declared.key.NeedKey.{NeedKey}
@@ -14,12 +14,21 @@ pub need_found : (tree : Data) (stage : Stage) (need : NeedKey)
 need_found tree Init need = refl
 need_found tree Run need = refl
 
-pub need_fault : (tree : Data) (stage : Stage) (need : NeedKey)
+needed_by_table : (tree : Data) (stage : Stage) (need : NeedKey)
     → fault_at tree (need_key stage need)
-    ≡ fault_by (need_key stage need) (is_some (found tree (section_key stage))) (need_kind need)
+    ≡ fault_by (need_key stage need) (has tree (section_key stage)) (need_kind need)
     (step (to_member (need_word need)) (found tree (section_key stage)))
-need_fault tree Init need = refl
-need_fault tree Run need = refl
+needed_by_table tree Init need = refl
+needed_by_table tree Run need = refl
+
+-- where the table is there, each of its keys is needed
+pub need_fault : (tree : Data) (stage : Stage) (need : NeedKey) → has tree (section_key stage) ≡ true
+    → fault_at tree (need_key stage need)
+    ≡ fault_by (need_key stage need) true (need_kind need) (step (to_member (need_word need)) (found tree (section_key stage)))
+need_fault tree stage need there =
+    needed_by_table tree stage need
+    ∙ ap (λ (needed : Bool). fault_by (need_key stage need) needed (need_kind need)
+    (step (to_member (need_word need)) (found tree (section_key stage)))) there
 
 pub section_fault : (tree : Data) (stage : Stage)
     → fault_at tree (section_key stage) ≡ fault_by (section_key stage) false section (found tree (section_key stage))

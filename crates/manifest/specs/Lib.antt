@@ -1,4 +1,5 @@
 pub mod Faults
+pub mod Groups
 pub mod Judged
 pub mod Keys
 pub mod KeyTexts

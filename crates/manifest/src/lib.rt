@@ -4,6 +4,7 @@
 
 mod events;
 mod fault;
+mod hardware;
 mod judge;
 mod key;
 mod key_text;
@@ -14,6 +15,7 @@ mod platform_name;
 mod read;
 mod stage;
 mod unknown;
+mod work;
 
 pub use fault::{ManifestError, ManifestFault};
 pub use key::{Key, NeedKey};

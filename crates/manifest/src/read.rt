@@ -1,7 +1,8 @@
 //! Reads a manifest from its text.
-ghost use Rattle.std.specs.Prelude.{◌≡◌, ◌||◌, Ok, Err, Some, None, IfOk, IfErr, ◌≤◌};
+ghost use Rattle.std.specs.Prelude.{◌≡◌, Ok, Err, Some, None, IfOk, IfErr, ◌≤◌};
 ghost use Rattle.toml.specs.View.{view};
-ghost use Rattle.manifest.specs.Keys.{has, found, keys};
+ghost use Rattle.manifest.specs.declared.key.Key.{Key};
+ghost use Rattle.manifest.specs.Keys.{found, keys};
 ghost use Rattle.manifest.specs.Judged.{IsParsed, IsDocument, Agrees};
 ghost use Rattle.manifest.specs.Tree.{count_of};
 ghost use Rattle.manifest.specs.Faults.{first_fault};
@@ -9,24 +10,16 @@ ghost use Rattle.manifest.specs.Meaning.{manifest_of, strict_manifest_of, docume
 ghost use Rattle.manifest.specs.Meaning.{or_fault, unknown_fault, by_names};
 
 use crate::events::{duplicate_event, read_events};
-use crate::judge::{needed_text, number, platform_name};
+use crate::hardware::Hardware;
 use crate::params::read_params;
-use crate::stage::Stage;
 use crate::unknown::first_unknown;
-use crate::{Key, Manifest, ManifestError, ManifestFault};
-use det_values::JobKind;
+use crate::work::Work;
+use crate::{Manifest, ManifestError, ManifestFault};
 use std::alloc::Global;
 use toml::Value;
 
 /// The greatest length of a manifest in bytes.
 pub const MOST_BYTES: usize = 65_536;
-
-/// Whether a table of needs is there, so that the platform is needed.
-fn has_needs(tree: &Value) -> bool
-    ensures { result ≡ (has (view tree.now) Key.InitNeeds || has (view tree.now) Key.RunNeeds) }
-{
-    tree.get("init_needs").is_some() || tree.get("run_needs").is_some()
-}
 
 /// Refuses a key that no table knows, where such keys are a fault.
 fn refuse_unknown(tree: &Value, count: usize, strict: bool) -> Result<(), ManifestFault>
@@ -44,35 +37,29 @@ fn refuse_unknown(tree: &Value, count: usize, strict: bool) -> Result<(), Manife
     }
 }
 
-#[tactic(auto, using(crate::proofs::Order::first_of_keys))]
 fn read_tree(alloc: Global, tree: &Value, strict: bool) -> Result<Manifest, ManifestError>
     ensures { Agrees result (or_fault (first_fault (view tree.now) (keys (view tree.now)))
         (or_fault (unknown_fault strict (view tree.now)) (by_names (view tree.now)))) }
 {
-    let job = needed_text(tree.get("job"), Key::Job)?;
-    let time = tree.get("cycle_time_ns");
-    let cycle_time = number(time, Key::CycleTime, 1, i64::MAX as u64)?;
-    let workers = number(tree.get("workers"), Key::Workers, 1, 64)?;
+    let work = Work::read(tree)?;
     let params = read_params(alloc, tree)?;
     let events = read_events(alloc, tree)?;
-    let platform = platform_name(tree.get("platform"), Key::Platform, has_needs(tree))?;
-    let init_needs = Stage::Init.read_needs(tree)?;
-    let run_needs = Stage::Run.read_needs(tree)?;
+    let hardware = Hardware::read(tree)?;
     refuse_unknown(tree, events.len(), strict)?;
     if let Some(number) = duplicate_event(events.as_slice()) {
         return Err(ManifestError::Fault(ManifestFault::DuplicateEvent(number)));
     }
-    match JobKind::of_name(job) {
+    match work.kind {
         None => Err(ManifestError::Fault(ManifestFault::UnknownJob)),
         Some(kind) => Ok(Manifest {
             kind,
-            cycle_time,
-            workers: workers as u32,
+            cycle_time: work.cycle_time,
+            workers: work.workers,
             params,
             events,
-            platform,
-            init_needs,
-            run_needs,
+            platform: hardware.platform,
+            init_needs: hardware.init_needs,
+            run_needs: hardware.run_needs,
         }),
     }
 }

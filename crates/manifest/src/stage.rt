@@ -3,10 +3,9 @@ ghost use Rattle.std.specs.Prelude.{◌≡◌, ◌≤◌, true, IfOk};
 ghost use Rattle.std.specs.Option.{ForSome};
 ghost use Rattle.toml.specs.View.{view};
 ghost use Rattle.manifest.specs.Limits.{IsNeeds};
-ghost use Rattle.manifest.specs.Tree.{step, to_member, number_of};
-ghost use Rattle.manifest.specs.Keys.{needs_keys, need_kind, need_word, need_least, need_most};
-ghost use Rattle.manifest.specs.Keys.{found};
-ghost use Rattle.manifest.specs.Faults.{first_fault, fault_by};
+ghost use Rattle.manifest.specs.Tree.{number_of};
+ghost use Rattle.manifest.specs.Keys.{needs_keys, need_least, need_most, found, has};
+ghost use Rattle.manifest.specs.Faults.{first_fault, fault_at};
 ghost use Rattle.manifest.specs.Judged.{seen, section_key, need_key, IsJudged};
 ghost use Rattle.manifest.specs.Meaning.{needs_of};
 
@@ -50,34 +49,41 @@ impl Stage {
         }
     }
 
-    /// The number at a key of the table.
-    fn need(self, needs: Option<&Value>, need: NeedKey) -> Result<u64, ManifestFault>
-        ensures judged { let place = step (to_member (need_word need)) (seen needs.entry) in
-            IsJudged result (fault_by (need_key self need) true (need_kind need) place)
-            (number_of place) }
+    /// Whether the table is there.
+    #[tactic(auto, using(crate::proofs::NeedKeys::section_fault))]
+    fn is_there(self, tree: &Value) -> Result<bool, ManifestFault>
+        ensures { IsJudged result (fault_at (view tree.now) (section_key self))
+            (has (view tree.now) (section_key self)) }
+    {
+        section(self.section(tree), self.section_key())
+    }
+
+    /// The number at a key of the table, which is there.
+    fn need(self, tree: &Value, need: NeedKey) -> Result<u64, ManifestFault>
+        requires { has (view tree.now) (section_key self) ≡ true }
+        ensures judged { IsJudged result (fault_at (view tree.now) (need_key self need))
+            (number_of (found (view tree.now) (need_key self need))) }
         ensures least { IfOk result (λ n. need_least need ≤ n) }
         ensures most { IfOk result (λ n. n ≤ need_most need) }
     {
-        let found = member(needs, need.word());
+        let found = member(self.section(tree), need.word());
         number(found, self.need_key(need), need.least(), need.most())
     }
 
-    /// The table, where its key is there.
-    #[tactic(auto, using(crate::proofs::NeedKeys::need_found, crate::proofs::NeedKeys::need_fault, crate::proofs::NeedKeys::section_fault))]
+    /// What the table says, where its key is there.
     pub(crate) fn read_needs(self, tree: &Value) -> Result<Option<Needs>, ManifestFault>
         ensures judged { IsJudged result (first_fault (view tree.now)
             (needs_keys (section_key self) (need_key self)))
             (needs_of (view tree.now) (section_key self) (need_key self)) }
         ensures range { IfOk result (λ needs. ForSome needs IsNeeds) }
     {
-        let needs = self.section(tree);
-        if !section(needs, self.section_key())? {
+        if !self.is_there(tree)? {
             return Ok(None);
         }
-        let instructions = self.need(needs, NeedKey::Instructions)?;
-        let sequential_begin = self.need(needs, NeedKey::SequentialBegin)?;
-        let sequential_end = self.need(needs, NeedKey::SequentialEnd)?;
-        let speedup = self.need(needs, NeedKey::Speedup)?;
+        let instructions = self.need(tree, NeedKey::Instructions)?;
+        let sequential_begin = self.need(tree, NeedKey::SequentialBegin)?;
+        let sequential_end = self.need(tree, NeedKey::SequentialEnd)?;
+        let speedup = self.need(tree, NeedKey::Speedup)?;
         Ok(Some(Needs {
             instructions,
             sequential_begin,

@@ -1,0 +1,54 @@
+-- What a tree means whose keys have no fault.
+use Rattle.std.proofs.Common.{◌≡◌, ◌∙◌, ap, ℕ, ℤ, Bool, List}
+use Rattle.std.specs.Prelude.{Option, Some, None, Err, option_map}
+use Rattle.det_values.specs.Jobs.{kind_of_name}
+use Rattle.det_values.specs.Values.{EventSpecValue}
+use Rattle.det_values.specs.declared.job_kind.JobKind.{JobKind}
+use Rattle.toml.specs.Data.{Data}
+use Rattle.manifest.specs.Keys.{keys, first_keys, params_keys, events_keys, last_keys, found}
+use Rattle.manifest.specs.Tree.{text_of}
+use Rattle.manifest.specs.Faults.{first_fault, first_duplicate}
+use Rattle.manifest.specs.Groups.{work_in, hardware_in}
+use Rattle.manifest.specs.Meaning.{or_fault, unknown_fault, by_names, with_job, said, params_of, events_of}
+use Rattle.manifest.specs.Values.{ManifestValue}
+use Rattle.manifest.specs.declared.fault.ManifestFault.{ManifestFault}
+use Rattle.manifest.specs.declared.fault.ManifestFault.TheVariants.{DuplicateEvent}
+use Rattle.manifest.specs.declared.hardware.Hardware.{Hardware}
+use Rattle.manifest.specs.declared.key.Key.TheVariants.{Job}
+use Rattle.manifest.specs.declared.work.Work.{Work}
+use Rattle.manifest.proofs.Order.{past_keys}
+
+-- where each key is known too
+pub past_unknown : (tree : Data) (strict : Bool) → first_fault tree first_keys ≡ None → first_fault tree (params_keys tree) ≡ None
+    → first_fault tree (events_keys tree) ≡ None → first_fault tree last_keys ≡ None → unknown_fault strict tree ≡ None
+    → or_fault (first_fault tree (keys tree)) (or_fault (unknown_fault strict tree) (by_names tree)) ≡ by_names tree
+past_unknown tree strict work params events last unknown =
+    past_keys tree (or_fault (unknown_fault strict tree) (by_names tree)) work params events last
+    ∙ ap (λ (o : Option ManifestFault). or_fault o (by_names tree)) unknown
+
+-- an event has the name of an earlier one
+pub repeated : (tree : Data) (number : ℕ) → first_duplicate (events_of tree) ≡ Some number → by_names tree ≡ Err (DuplicateEvent number)
+repeated tree number is =
+    ap (λ (o : Option ℕ). or_fault (option_map DuplicateEvent o) (with_job tree (kind_of_name (text_of (found tree Job))))) is
+
+-- none has, and the job's name is that of this kind, or of none
+pub with_kind : (tree : Data) (kind : Option JobKind) → first_duplicate (events_of tree) ≡ None
+    → kind_of_name (text_of (found tree Job)) ≡ kind → by_names tree ≡ with_job tree kind
+with_kind tree kind none job =
+    ap (λ (o : Option ℕ). or_fault (option_map DuplicateEvent o) (with_job tree (kind_of_name (text_of (found tree Job))))) none
+    ∙ ap (with_job tree) job
+
+-- what a tree says by its parts
+pub said_by : (tree : Data) (kind : JobKind) (work : Work) (params : List ℤ) (events : List EventSpecValue) (hardware : Hardware)
+    → work ≡ work_in tree → params ≡ params_of tree → events ≡ events_of tree → hardware ≡ hardware_in tree
+    → ◌≡◌ {A = ManifestValue} (said tree kind) (record {
+      kind = kind;
+      cycle_time = work.cycle_time;
+      workers = work.workers;
+      params = params;
+      events = events;
+      platform = hardware.platform;
+      init_needs = hardware.init_needs;
+      run_needs = hardware.run_needs;
+    })
+said_by tree kind work params events hardware w p e h = rw (w, p, e, h)

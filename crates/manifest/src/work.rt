@@ -1,0 +1,42 @@
+//! What the first keys of a manifest say.
+ghost use Rattle.std.specs.Prelude.{◌≡◌, IfOk};
+ghost use Rattle.det_values.specs.Limits.{IsCycleTime};
+ghost use Rattle.toml.specs.View.{view};
+ghost use Rattle.manifest.specs.Limits.{IsWorkers};
+ghost use Rattle.manifest.specs.Keys.{first_keys};
+ghost use Rattle.manifest.specs.Faults.{first_fault};
+ghost use Rattle.manifest.specs.Judged.{IsJudged};
+ghost use Rattle.manifest.specs.Groups.{work_in};
+
+use crate::judge::{needed_text, number};
+use crate::{Key, ManifestFault};
+use det_values::JobKind;
+use toml::Value;
+
+/// The work of a client: its job, how often that runs, and by how many workers.
+#[derive(Drop)]
+pub(crate) struct Work {
+    /// None where no shipped job has the name that stands there, which is judged last.
+    pub(crate) kind: Option<JobKind>,
+    pub(crate) cycle_time: u64,
+    pub(crate) workers: u32,
+}
+
+impl Work {
+    pub(crate) fn read(tree: &Value) -> Result<Work, ManifestFault>
+        ensures judged { IsJudged result (first_fault (view tree.now) first_keys)
+            (work_in (view tree.now)) }
+        ensures cycle_time { IfOk result (λ work. IsCycleTime work.cycle_time) }
+        ensures workers { IfOk result (λ work. IsWorkers work.workers) }
+    {
+        let job = needed_text(tree.get("job"), Key::Job)?;
+        let time = tree.get("cycle_time_ns");
+        let cycle_time = number(time, Key::CycleTime, 1, i64::MAX as u64)?;
+        let workers = number(tree.get("workers"), Key::Workers, 1, 64)?;
+        Ok(Work {
+            kind: JobKind::of_name(job),
+            cycle_time,
+            workers: workers as u32,
+        })
+    }
+}
