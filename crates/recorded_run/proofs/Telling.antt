@@ -4,6 +4,9 @@ use Rattle.std.specs.Prelude.{Option, Some, Err, IsSome}
 use Rattle.det_values.specs.Values.{ProfileValue}
 use Rattle.det_values.specs.declared.job_kind.JobKind.{JobKind}
 use Rattle.det_edges.specs.Shelf.{ShelfState, Reads, Opens, IsAtEnd}
+use Rattle.det_edges.specs.Traffic.{IfRefused}
+use Rattle.det_edges.specs.declared.failure.Stopped.{Stopped}
+use Rattle.det_edges.specs.declared.failure.Stopped.TheVariants.{Refused, Failed}
 use Rattle.record_grammar.specs.declared.fault.RecordFault.{RecordFault}
 use Rattle.record_grammar.specs.declared.item.Item.{Item}
 use Rattle.record_grammar.specs.declared.item.Item.TheVariants.{Header}
@@ -13,7 +16,9 @@ use Rattle.record_reader.specs.StandsFor.{StandsFor, FoundFault}
 use Rattle.record_reader.proofs.Items.{more_items}
 use Rattle.cli_answers.specs.Outcome.{told}
 use Rattle.cli_answers.proofs.Telling.{whole-text, read-part}
-use Rattle.recorded_run.specs.declared.bad_run.BadRun.TheVariants.{Fault}
+use Rattle.recorded_run.specs.declared.bad_run.BadRun.{BadRun}
+use Rattle.recorded_run.specs.declared.bad_run.BadRun.TheVariants.{Fault, Profile}
+use Rattle.recorded_run.specs.Header.{HeaderIs}
 use Rattle.recorded_run.specs.Run.{kind_of, run_with, run_by, run_of}
 
 no-items : (bytes : List ℕ) (fault : RecordFault) → items_in bytes ≡ [] → fault_in bytes ≡ Some fault → run_of bytes ≡ Err (Fault fault)
@@ -40,3 +45,11 @@ module _ (first : ShelfState) {opened last : ShelfState} (name : List ℕ) {slot
         ap run_of (sym (whole-text first opened last name slot read opens reads at tells))
         ∙ no-items read fault found.before found.is
   ]
+
+-- why no header was given is why the record has no run
+pub told-end : (first : ShelfState) {opened last : ShelfState} (name : List ℕ) {slot : ℕ} {read : List ℕ} → Opens first opened name slot
+    → Reads opened last slot read → (r : RecordReader) (end : Stopped BadRun) → HeaderIs (Err end) r (IsAtEnd last slot) read
+    → IfRefused end (λ why. IsSome (first.holds name) → run_of (told first name) ≡ Err why)
+told-end first name opens reads r (Refused (Fault fault)) found = λ tells. told-fault first name opens reads tells fault found
+told-end first name opens reads r (Refused Profile) none = absurd none
+told-end first name opens reads r (Failed failure) h = tt

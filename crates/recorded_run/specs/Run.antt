@@ -51,6 +51,11 @@ run_by xs None = Err Profile
 abbrev pub run_of : List ℕ → Result RunValue BadRun
 run_of record_bytes = run_by (items_in record_bytes) (fault_in record_bytes)
 
+-- why there is no run where a record has no whole header
+abbrev pub without_header : Stopped RecordFault → Stopped BadRun
+without_header (Refused fault) = Refused (Fault fault)
+without_header (Failed failure) = Failed failure
+
 -- why a run that is refused isn't there, as a command answers it
 abbrev pub refused : BadRun → Answer
 refused (Fault fault) = BadRecord 0 fault

@@ -1,6 +1,6 @@
 //! Why the run of a record can't be had.
 ghost use Rattle.std.specs.Prelude.{◌≡◌};
-ghost use Rattle.recorded_run.specs.Run.{without_run};
+ghost use Rattle.recorded_run.specs.Run.{without_run, without_header};
 
 use cli_answers::Answer;
 use det_edges::Stopped;
@@ -13,6 +13,16 @@ pub enum BadRun {
     Fault(RecordFault),
     /// No shipped job has the header's number, or that job refuses the header's parameters.
     Profile,
+}
+
+/// Why there is no run where a record has no whole header.
+pub(crate) fn without_header(end: Stopped<RecordFault>) -> Stopped<BadRun>
+    ensures { result ≡ without_header end }
+{
+    match end {
+        Stopped::Refused(fault) => Stopped::Refused(BadRun::Fault(fault)),
+        Stopped::Failed(failure) => Stopped::Failed(failure),
+    }
 }
 
 /// What a command answers that has no run. The one record that it reads is copy 0.

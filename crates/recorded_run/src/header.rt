@@ -5,9 +5,10 @@ ghost use Rattle.det_edges.specs.Shelf.{IsAtEnd};
 ghost use Rattle.record_reader.specs.StandsFor.{StandsFor, slot_of};
 ghost use Rattle.recorded_run.specs.Header.{IsHeader, GaveHeader};
 
-use det_edges::{Slots, Stopped};
+use crate::bad_run::{BadRun, without_header};
+use det_edges::{Failure, Slots, Stopped};
 use det_values::Profile;
-use record_grammar::{Item, RecordFault};
+use record_grammar::Item;
 use record_reader::RecordReader;
 
 /// The profile of a header.
@@ -26,7 +27,7 @@ fn profile_in(first: Option<Item>) -> Profile
 pub(crate) fn read_header<S: Slots>(
     reader: &mut RecordReader,
     shelf: &mut S,
-) -> Result<Profile, Stopped<RecordFault>>
+) -> Result<Profile, Stopped<BadRun>>
     requires slot { slot_of reader.old < (S.sees shelf.old).slots }
     // The reader has given nothing yet.
     requires new { StandsFor reader.old [] [] }
@@ -35,7 +36,10 @@ pub(crate) fn read_header<S: Slots>(
     ensures slot { slot_of reader.new ≡ slot_of reader.old }
     ensures traffic { ShelfTraffic (shelf_run S.sees S.stays shelf.old shelf.new)
         (failure_in result) }
+    ensures writes_nothing { failure_in result ≡ Some Failure.Write → ⊥ }
 {
-    let first = reader.next_item(shelf)?;
-    Ok(profile_in(first))
+    match reader.next_item(shelf) {
+        Ok(first) => Ok(profile_in(first)),
+        Err(end) => Err(without_header(end)),
+    }
 }

@@ -50,11 +50,7 @@ pub fn read_run<S: Shelf>(
 {
     let slot = shelf.open_input(recorded)?;
     let mut reader = RecordReader::at(alloc, slot);
-    let profile = match read_header(&mut reader, shelf) {
-        Ok(profile) => profile,
-        Err(Stopped::Refused(fault)) => return Err(Stopped::Refused(BadRun::Fault(fault))),
-        Err(Stopped::Failed(failure)) => return Err(Stopped::Failed(failure)),
-    };
+    let profile = read_header(&mut reader, shelf)?;
     let Some(kind) = kind_of(&profile) else {
         return Err(Stopped::Refused(BadRun::Profile));
     };
