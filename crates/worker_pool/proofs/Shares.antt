@@ -37,6 +37,14 @@ module _ {E P : Type 0} (block : ℕ → Result (Passed E P) Refusal) (blocks : 
     tried = tried_joined v w h.tried;
   })
 
+  -- what a worker has done is a share where each block was tried, or a refusal is known
+  pub share_of : (v : PoolView) (rs qs : List (BlockResult E P)) → Works block v rs → (v.seen ≡ blocks) ⊎ Stops v.entries → qs ≡ rs
+      → IsShare block blocks v qs
+  share_of v rs qs works tried is = record {
+    results = ap (map shown) is ∙ works.results;
+    tried = ⊎_elim (λ (x : v.seen ≡ blocks). inl (omega arith)) (λ (x : Stops v.entries). inr x) tried;
+  }
+
 -- what a reply that isn't short of memory brings to the task that its ticket is for
 pub brought : {S G E L P : Type 0} (m : Meaning S G E L P) (announced : List (Task S G E L P)) (t : Task S G E L P) (seat : PassSeat)
     (share : Result (Share E P) OutOfMemory) (given : Share E P) → IsReply m announced seat share → announced ≡ t ∷ [] → share ≡ Ok given
