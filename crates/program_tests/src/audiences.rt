@@ -1,9 +1,28 @@
 //! A record that is shown to other probes than those of `det`.
-use crate::running::{CALM, are, run_with};
+ghost use Rattle.std.specs.Prelude.{◌<◌, ◌^◌};
+
+use crate::running::{CALM, Edges, are, run_ungated};
 use probes::{Audience, CountProbe, FirstRefusalProbe, LimitProbe, Probe};
-use std::sync::Arc;
+use std::alloc::{AllocError, Global};
 use std::test::*;
-use worker_pool::NoGate;
+use std::thread::Threads;
+
+/// Whether a run that is shown to an audience writes what is wanted, and ends with these lines.
+fn tells<R: Threads + Sync>(
+    rt: &R,
+    alloc: Global,
+    line: &str,
+    edges: Edges,
+    audience: &mut Audience,
+    wanted: &str,
+    end: &[u8],
+) -> Result<bool, AllocError>
+    requires { edges.room < 2 ^ 64 }
+{
+    let ran = run_ungated(rt, alloc, line, edges, audience)?;
+    let is_told = are(alloc, ran.out.bytes(), wanted)?;
+    Ok(is_told && ran.out.bytes().ends_with(end))
+}
 
 #[test]
 fn probes_that_left_report_first_and_in_order(rt: HostRuntime) -> Result<(), Fail> {
@@ -13,10 +32,17 @@ fn probes_that_left_report_first_and_in_order(rt: HostRuntime) -> Result<(), Fai
     probes.push(Box::new(alloc, FirstRefusalProbe::new())?)?;
     probes.push(Box::new(alloc, CountProbe::new())?)?;
     let mut audience = Audience::of(alloc, probes);
-    let gate = Arc::new(alloc, NoGate)?;
-    let ran = run_with(&rt, alloc, "show G2 --reports", CALM, &mut audience, &gate)?;
+    let line = "show G2 --reports";
     let wanted = "refusal 2 pool 0 3 1/refusal 2 pool 0 3 1/count 2 1/";
-    let is_told = are(alloc, ran.out.bytes(), wanted)?;
+    let is_told = tells(
+        &rt,
+        alloc,
+        line,
+        CALM,
+        &mut audience,
+        wanted,
+        b"\ncount 2 1\n",
+    )?;
     assert!(rt; is_told && audience.staying() == 0);
     Ok(())
 }
@@ -29,17 +55,9 @@ fn probes_leave_at_their_limits(rt: HostRuntime) -> Result<(), Fail> {
     probes.push(Box::new(alloc, LimitProbe::new(2))?)?;
     probes.push(Box::new(alloc, LimitProbe::new(1))?)?;
     let mut audience = Audience::of(alloc, probes);
-    let gate = Arc::new(alloc, NoGate)?;
-    let ran = run_with(&rt, alloc, "show G2", CALM, &mut audience, &gate)?;
-    let digest = "#14725 093269bd4082cccf47bc55f4f52db8570e7420e1f7f1b5e34c4ca05ea0ba7ca0";
-    let is_told = are(alloc, ran.out.bytes(), digest)?;
-    assert!(rt;
-        is_told
-            && ran
-                .out
-                .bytes()
-                .ends_with(b"\nlimit 1 0\nlimit 2 1\nlimit 3 1\n")
-    );
-    assert!(rt; audience.staying() == 0);
+    let wanted = "#14725 093269bd4082cccf47bc55f4f52db8570e7420e1f7f1b5e34c4ca05ea0ba7ca0";
+    let end = b"\nlimit 1 0\nlimit 2 1\nlimit 3 1\n";
+    let is_told = tells(&rt, alloc, "show G2", CALM, &mut audience, wanted, end)?;
+    assert!(rt; is_told && audience.staying() == 0);
     Ok(())
 }

@@ -75,6 +75,41 @@ fn calls_of(alloc: Global, line: &str) -> Result<u64, AllocError> {
     Ok(calls)
 }
 
+/// Whether a run in which this read fails breaks off where it is to, and is as the whole run
+/// otherwise.
+fn breaks_at_read<R: Threads + Sync>(
+    rt: &R,
+    alloc: Global,
+    line: &str,
+    whole: &Ran,
+    failing_read: u64,
+    is_to_break: bool,
+) -> Result<bool, AllocError> {
+    let edges = Edges {
+        failing_read,
+        ..SMALL
+    };
+    let ran = run(rt, alloc, line, edges)?;
+    let breaks = ran.broke_off(whole, 6, "read fault\n");
+    Ok(breaks == is_to_break && breaks != ran.is_as(whole))
+}
+
+/// The same for each of so many reads, and for the number after them.
+fn breaks_at_each_read<R: Threads + Sync>(
+    rt: &R,
+    alloc: Global,
+    line: &str,
+    whole: &Ran,
+    reads: u64,
+) -> Result<bool, AllocError> {
+    let mut is_right = whole.status == 0;
+    for read in 1..reads.saturating_add(2) {
+        let breaks = breaks_at_read(rt, alloc, line, whole, read, read <= reads)?;
+        is_right = is_right && breaks;
+    }
+    Ok(is_right)
+}
+
 /// Whether a run with one failing read breaks off, for each of its reads, and does not for the
 /// number after them.
 fn breaks_at_reads<R: Threads + Sync>(
@@ -82,25 +117,50 @@ fn breaks_at_reads<R: Threads + Sync>(
     alloc: Global,
     line: &str,
 ) -> Result<bool, AllocError> {
-    let calls = calls_of(alloc, line)?;
+    let reads = calls_of(alloc, line)?;
     let whole = run(rt, alloc, line, SMALL)?;
-    let mut is_right = whole.status == 0;
-    for call in 1..calls.saturating_add(2) {
-        let edges = Edges {
-            failing_read: call,
-            ..SMALL
-        };
-        let ran = run(rt, alloc, line, edges)?;
-        let breaks = ran.broke_off(&whole, 6, "read fault\n");
-        is_right = is_right && breaks == (call <= calls) && breaks != ran.is_as(&whole);
-    }
-    Ok(is_right)
+    breaks_at_each_read(rt, alloc, line, &whole, reads)
 }
 
 /// Whether so many writes took these bytes, 1 to 10 each.
 fn fits_writes(bytes: &[u8], writes: u64) -> bool {
     let len = bytes.len() as u64;
     writes <= len && len <= writes.saturating_mul(10)
+}
+
+/// Whether a run in which the write after so many fails breaks off there, and whether it is the
+/// whole run, of so many writes.
+fn shown_after<R: Threads + Sync>(
+    rt: &R,
+    alloc: Global,
+    line: &str,
+    whole: &Ran,
+    writes: u64,
+) -> Result<(bool, bool), AllocError> {
+    let edges = Edges {
+        failing_write: writes.saturating_add(1),
+        ..SMALL
+    };
+    let ran = run(rt, alloc, line, edges)?;
+    let breaks = ran.broke_off(whole, 7, "write fault\n");
+    let fits = fits_writes(ran.out.bytes(), writes);
+    Ok((breaks && fits, ran.is_as(whole) && fits))
+}
+
+/// Whether runs break off at each write until one is the whole run.
+fn breaks_at_each_write<R: Threads + Sync>(
+    rt: &R,
+    alloc: Global,
+    line: &str,
+    whole: &Ran,
+) -> Result<bool, AllocError> {
+    for writes in 0..9999u64 {
+        let (breaks, is_whole) = shown_after(rt, alloc, line, whole, writes)?;
+        if !breaks {
+            return Ok(is_whole);
+        }
+    }
+    Ok(false)
 }
 
 /// Whether a run with one failing write breaks off after the writes before it, for each of its
@@ -111,18 +171,39 @@ fn breaks_at_writes<R: Threads + Sync>(
     line: &str,
 ) -> Result<bool, AllocError> {
     let whole = run(rt, alloc, line, SMALL)?;
-    for writes in 0..9999u64 {
-        let edges = Edges {
-            failing_write: writes.saturating_add(1),
-            ..SMALL
-        };
-        let ran = run(rt, alloc, line, edges)?;
-        let breaks = ran.broke_off(&whole, 7, "write fault\n");
-        if !breaks || !fits_writes(ran.out.bytes(), writes) {
-            return Ok(ran.is_as(&whole) && fits_writes(ran.out.bytes(), writes));
-        }
+    breaks_at_each_write(rt, alloc, line, &whole)
+}
+
+/// Whether a run is as the whole one where a read gives so many bytes and a write takes one.
+fn is_same_at<R: Threads + Sync>(
+    rt: &R,
+    alloc: Global,
+    line: &str,
+    whole: &Ran,
+    most_read: usize,
+) -> Result<bool, AllocError> {
+    let edges = Edges {
+        most_read,
+        most_written: 1,
+        ..SMALL
+    };
+    let ran = run(rt, alloc, line, edges)?;
+    Ok(ran.is_as(whole))
+}
+
+/// The same for reads of 1, 2 and 7 bytes.
+fn is_same_at_each<R: Threads + Sync>(
+    rt: &R,
+    alloc: Global,
+    line: &str,
+    whole: &Ran,
+) -> Result<bool, AllocError> {
+    let mut is_right = whole.status == 0;
+    for most_read in [1, 2, 7] {
+        let is_same = is_same_at(rt, alloc, line, whole, most_read)?;
+        is_right = is_right && is_same;
     }
-    Ok(false)
+    Ok(is_right)
 }
 
 /// Whether a run is the same in pieces of few bytes.
@@ -132,17 +213,7 @@ fn is_same_in_pieces<R: Threads + Sync>(
     line: &str,
 ) -> Result<bool, AllocError> {
     let whole = run(rt, alloc, line, SMALL)?;
-    let mut is_right = whole.status == 0;
-    for most_read in [1, 2, 7] {
-        let edges = Edges {
-            most_read,
-            most_written: 1,
-            ..SMALL
-        };
-        let ran = run(rt, alloc, line, edges)?;
-        is_right = is_right && ran.is_as(&whole);
-    }
-    Ok(is_right)
+    is_same_at_each(rt, alloc, line, &whole)
 }
 
 fn passes<R: Threads + Sync>(
@@ -199,25 +270,40 @@ fn an_output_without_room_is_a_write_fault(rt: HostRuntime) -> Result<(), Fail> 
     Ok(())
 }
 
-/// Whether a run of a row keeps its status where the line for the user fails: at its first write,
-/// or at its second after three bytes.
-fn keeps_status<R: Threads + Sync>(rt: &R, alloc: Global, row: &str) -> Result<bool, AllocError> {
+/// The line for the user fails at its first write.
+const UNTOLD: Edges = Edges {
+    failing_line: 1,
+    ..CALM
+};
+
+/// The line for the user fails at its second write, after three bytes.
+const HALF_TOLD: Edges = Edges {
+    failing_line: 2,
+    most_written: 3,
+    ..CALM
+};
+
+/// Whether a run of a row keeps its status over these edges, and tells as many of the first bytes
+/// of its line.
+fn keeps_status_over<R: Threads + Sync>(
+    rt: &R,
+    alloc: Global,
+    row: &str,
+    edges: Edges,
+    len: usize,
+) -> Result<bool, AllocError> {
     let (words, wanted) = row_of(row);
-    let first = Edges {
-        failing_line: 1,
-        ..CALM
-    };
-    let second = Edges {
-        failing_line: 2,
-        most_written: 3,
-        ..CALM
-    };
-    let first = run(rt, alloc, words, first)?;
-    let second = run(rt, alloc, words, second)?;
-    let told = second.err.bytes();
-    let is_short = told.len() == 3 && wanted.err.as_bytes().starts_with(told);
-    let is_untold = first.err.bytes().is_empty() && is_short;
-    Ok(is_untold && first.status == wanted.status && second.status == wanted.status)
+    let ran = run(rt, alloc, words, edges)?;
+    let told = ran.err.bytes();
+    let is_front = told.len() == len && wanted.err.as_bytes().starts_with(told);
+    Ok(is_front && ran.status == wanted.status)
+}
+
+/// Whether a run of a row keeps its status where the line for the user fails.
+fn keeps_status<R: Threads + Sync>(rt: &R, alloc: Global, row: &str) -> Result<bool, AllocError> {
+    let untold = keeps_status_over(rt, alloc, row, UNTOLD, 0)?;
+    let half_told = keeps_status_over(rt, alloc, row, HALF_TOLD, 3)?;
+    Ok(untold && half_told)
 }
 
 /// The rows of the broken runs that end otherwise where the line for the user fails.

@@ -38,16 +38,20 @@ impl Shelf for NoRoom {
     }
 }
 
-/// The status of `show`, and what it told, where this write of the line for the user fails.
+/// A sink that takes at most three bytes in a write, of which this one fails.
+fn sink_of(alloc: Global, failing: u64) -> Result<MemSink, AllocError> {
+    let fails = fail_list(alloc, failing)?;
+    MemSink::new(alloc, 100, 3, fails).map_err(|_| AllocError)
+}
+
+/// The status of `show` over a shelf without room.
 fn show<R: Threads + Sync>(
     rt: &R,
     alloc: Global,
-    failing_line: u64,
-) -> Result<(u8, MemSink), AllocError> {
+    out: &mut MemSink,
+    err: &mut MemSink,
+) -> Result<u8, AllocError> {
     let words = words_of(alloc, "show m")?;
-    let fails = fail_list(alloc, failing_line)?;
-    let mut out = MemSink::new(alloc, 100, 100, fail_list(alloc, 0)?).map_err(|_| AllocError)?;
-    let mut err = MemSink::new(alloc, 100, 3, fails).map_err(|_| AllocError)?;
     let gate = Arc::new(alloc, NoGate)?;
     let host = Host {
         rt,
@@ -55,25 +59,30 @@ fn show<R: Threads + Sync>(
         gate: &gate,
     };
     let mut audience = Audience::of(alloc, Vec::new(alloc));
-    let status = top(
-        &host,
-        &words,
-        &mut NoRoom,
-        &mut out,
-        &mut err,
-        &mut audience,
-    );
-    Ok((status.number(), err))
+    let status = top(&host, &words, &mut NoRoom, out, err, &mut audience);
+    Ok(status.number())
+}
+
+/// Whether `show` tells this of the want of memory, where this write of the line for the user
+/// fails.
+fn is_told<R: Threads + Sync>(
+    rt: &R,
+    alloc: Global,
+    failing_line: u64,
+    told: &[u8],
+) -> Result<bool, AllocError> {
+    let mut out = sink_of(alloc, 0)?;
+    let mut err = sink_of(alloc, failing_line)?;
+    let status = show(rt, alloc, &mut out, &mut err)?;
+    Ok(status == 8 && err.bytes() == told)
 }
 
 #[test]
 fn want_of_memory_is_told_where_its_line_can_be(rt: HostRuntime) -> Result<(), Fail> {
     let alloc = rt.alloc();
-    let (status, err) = show(&rt, alloc, 0)?;
-    assert!(rt; status == 8 && err.bytes() == b"out of memory\n".as_slice());
-    let (status, err) = show(&rt, alloc, 1)?;
-    assert!(rt; status == 8 && err.bytes().is_empty());
-    let (status, err) = show(&rt, alloc, 2)?;
-    assert!(rt; status == 8 && err.bytes() == b"out".as_slice());
+    let whole = is_told(&rt, alloc, 0, b"out of memory\n")?;
+    let none = is_told(&rt, alloc, 1, b"")?;
+    let front = is_told(&rt, alloc, 2, b"out")?;
+    assert!(rt; whole && none && front);
     Ok(())
 }

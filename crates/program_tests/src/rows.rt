@@ -5,13 +5,18 @@ use std::alloc::{AllocError, Global};
 use std::test::*;
 use std::thread::Threads;
 
+/// Whether a row ends as it wants.
+fn is_right<R: Threads + Sync>(rt: &R, alloc: Global, row: &str) -> Result<bool, AllocError> {
+    let (words, wanted) = row_of(row);
+    let ran = run(rt, alloc, words, CALM)?;
+    ran.ended_as(alloc, &wanted)
+}
+
 /// The rows of a table that end otherwise than they want.
 fn wrong_rows<R: Threads + Sync>(rt: &R, alloc: Global, table: &str) -> Result<String, AllocError> {
     let mut wrong = String::new(alloc);
     for row in table.lines() {
-        let (words, wanted) = row_of(row);
-        let ran = run(rt, alloc, words, CALM)?;
-        if !ran.ended_as(alloc, &wanted)? {
+        if !is_right(rt, alloc, row)? {
             wrong.push_str(row)?;
         }
     }
@@ -39,14 +44,29 @@ fn broken_runs_end_with_their_lines(rt: HostRuntime) -> Result<(), Fail> {
     Ok(())
 }
 
+/// Whether a run of these words ends with this line, and with the status of a bad record.
+fn is_told<R: Threads + Sync>(
+    rt: &R,
+    alloc: Global,
+    words: &str,
+    line: &str,
+) -> Result<bool, AllocError> {
+    let ran = run(rt, alloc, words, CALM)?;
+    Ok(ran.status == 5 && ran.err.bytes() == line.as_bytes())
+}
+
+/// Whether `show` tells that a record which was cut to this length ends there.
+fn is_truncated<R: Threads + Sync>(rt: &R, alloc: Global, len: u32) -> Result<bool, AllocError> {
+    let words = format!(in alloc; "show B:{len}")?;
+    let line = format!(in alloc; "bad record: copy 0 offset {len} truncated\n")?;
+    is_told(rt, alloc, words.as_str(), line.as_str())
+}
+
 /// A length to which a record was cut and `show` told another place, if there is one.
 fn cut_otherwise<R: Threads + Sync>(rt: &R, alloc: Global) -> Result<Option<u32>, AllocError> {
     let mut other = None;
     for len in 0..282u32 {
-        let words = format!(in alloc; "show B:{len}")?;
-        let line = format!(in alloc; "bad record: copy 0 offset {len} truncated\n")?;
-        let ran = run(rt, alloc, words.as_str(), CALM)?;
-        if ran.status != 5 || ran.err.bytes() != line.as_bytes() {
+        if !is_truncated(rt, alloc, len)? {
             other = Some(len);
         }
     }

@@ -130,7 +130,21 @@ pub fn run_with<R: Threads + Sync, G: Gate + Send + Sync + 'static>(
     Ok(ran)
 }
 
-/// The same with the probes of the program, and with no gate.
+/// The same with no gate.
+pub fn run_ungated<R: Threads + Sync>(
+    rt: &R,
+    alloc: Global,
+    line: &str,
+    edges: Edges,
+    audience: &mut Audience,
+) -> Result<Ran, AllocError>
+    requires { edges.room < 2 ^ 64 }
+{
+    let gate = Arc::new(alloc, NoGate)?;
+    run_with(rt, alloc, line, edges, audience, &gate)
+}
+
+/// The same with the probes of the program.
 pub fn run<R: Threads + Sync>(
     rt: &R,
     alloc: Global,
@@ -141,9 +155,8 @@ pub fn run<R: Threads + Sync>(
     probes.push(Box::new(alloc, CountProbe::new())?)?;
     probes.push(Box::new(alloc, GapProbe::new())?)?;
     probes.push(Box::new(alloc, FirstRefusalProbe::new())?)?;
-    let gate = Arc::new(alloc, NoGate)?;
     let mut audience = Audience::of(alloc, probes);
-    run_with(rt, alloc, line, edges, &mut audience, &gate)
+    run_ungated(rt, alloc, line, edges, &mut audience)
 }
 
 /// Whether the bytes have this length and this SHA-256: `LEN HEX`.

@@ -26,13 +26,22 @@ fn run_twins<R: Threads + Wait + Sync>(
     Ok(ran)
 }
 
+/// Whether a row ends as it wants.
+fn is_right<R: Threads + Wait + Sync>(
+    rt: &R,
+    alloc: Global,
+    row: &str,
+) -> Result<bool, AllocError> {
+    let (words, wanted) = row_of(row);
+    let ran = run_twins(rt, alloc, words, CALM)?;
+    ran.ended_as(alloc, &wanted)
+}
+
 /// The rows that end otherwise than they want.
 fn wrong_rows<R: Threads + Wait + Sync>(rt: &R, alloc: Global) -> Result<String, AllocError> {
     let mut wrong = String::new(alloc);
     for row in twin_rows().lines() {
-        let (words, wanted) = row_of(row);
-        let ran = run_twins(rt, alloc, words, CALM)?;
-        if !ran.ended_as(alloc, &wanted)? {
+        if !is_right(rt, alloc, row)? {
             wrong.push_str(row)?;
         }
     }
@@ -46,16 +55,25 @@ fn twins_tell_what_their_rows_want(rt: HostRuntime) -> Result<(), Fail> {
     Ok(())
 }
 
+/// Whether a run in which this call of the shelf fails is a read fault.
+fn is_read_fault<R: Threads + Wait + Sync>(
+    rt: &R,
+    alloc: Global,
+    failing_read: u64,
+) -> Result<bool, AllocError> {
+    let edges = Edges {
+        failing_read,
+        ..CALM
+    };
+    let ran = run_twins(rt, alloc, "2 bank s.two", edges)?;
+    Ok(ran.status == 6 && ran.err.bytes() == b"read fault\n".as_slice())
+}
+
 /// How many of the first calls of the shelf make a read fault where they fail.
 fn read_faults<R: Threads + Wait + Sync>(rt: &R, alloc: Global) -> Result<u32, AllocError> {
     let mut faults: u32 = 0;
     for failing_read in 1..9u64 {
-        let edges = Edges {
-            failing_read,
-            ..CALM
-        };
-        let ran = run_twins(rt, alloc, "2 bank s.two", edges)?;
-        if ran.status == 6 && ran.err.bytes() == b"read fault\n".as_slice() {
+        if is_read_fault(rt, alloc, failing_read)? {
             faults = faults.saturating_add(1);
         }
     }
