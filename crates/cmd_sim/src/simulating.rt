@@ -73,6 +73,8 @@ where
     K: Sink,
     R: Threads,
     G: Gate + Send + Sync + 'static,
+    // True of every `Workers`. It stands here since rattle refuses a function that hands an audience
+    // on and requires nothing.
     requires { IsWorkers workers.now.count }
     ensures meets { Meets
         (sim_outcome
