@@ -73,7 +73,7 @@ where
     K: Sink,
     R: Threads,
     G: Gate + Send + Sync + 'static,
-    // True of every `Workers`. It stands here since rattle refuses a function that hands an audience
+    // True of every `Workers`. Without it rattle refuses this function, since it hands an audience
     // on and requires nothing.
     requires { IsWorkers workers.now.count }
     ensures meets { Meets

@@ -1,7 +1,11 @@
 pub mod Equality
 pub mod FirstDifference
 pub mod Rows
+pub mod ItemRows
 pub mod SideBySide
+pub mod Holding
 pub mod Judging
 pub mod Standing
+pub mod Needed
 pub mod Agreeing
+pub mod Shown

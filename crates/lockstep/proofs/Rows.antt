@@ -24,12 +24,12 @@ shows-row given others bytes e = record {
       ∙ ap (λ xs. first_row xs (fault bytes)) (drop_at given others (length given) refl);
 }
 
-shows-end : (given : List Item) (end : Option RecordFault) (bytes : List ℕ) → items bytes ≡ given → fault bytes ≡ end
+pub shows-end : (given : List Item) (end : Option RecordFault) (bytes : List ℕ) → items bytes ≡ given → fault bytes ≡ end
     → ShowsRow given (first_row [] end) bytes
 shows-end given end bytes e f =
     subst (λ o. ShowsRow given (first_row [] o) bytes) f (shows-row given [] bytes (e ∙ sym (append-nil given)))
 
-at-none : (P : List ℕ → Type 0) (read rest : List ℕ) → rest ≡ [] → P read → P (read ++ rest)
+pub at-none : (P : List ℕ → Type 0) (read rest : List ℕ) → rest ≡ [] → P read → P (read ++ rest)
 at-none P read rest e h = subst P (sym (ap (λ r. read ++ r) e ∙ append-nil read)) h
 
 found-in : {f : RecordFault} {at_end : Type 0} {read : List ℕ} {given : List Item} → FoundFault f at_end read given → (rest : List ℕ)

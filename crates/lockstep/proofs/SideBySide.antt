@@ -1,33 +1,33 @@
 -- Copies that are read one after another.
 use Rattle.std.proofs.Common.{◌≡◌, ◌≢◌, inl, inr, ◌<◌, ◌+◌, ℕ, List, [], ◌∷◌}
-use Rattle.std.proofs.Common.{◌++◌, map, length, get_or, set, Option, Some, None, Result, Ok, Err}
+use Rattle.std.proofs.Common.{◌++◌, map, length, get_or, set, Option, Some, None, Ok, Err}
 use Rattle.std.proofs.Common.{refl, sym, ap, subst, ◌∙◌, append_assoc, length-append, zero, suc, arith}
 use Rattle.std.specs.Prelude.{IfSome}
 use Rattle.std.specs.Option.{option_map, option_or}
 use Rattle.std.specs.List.{AllByRecursion}
-use Rattle.det_edges.specs.declared.failure.Failure.{Failure}
-use Rattle.det_edges.specs.declared.failure.Failure.TheVariants.{Read, Write, OutOfMemory}
 use Rattle.det_edges.specs.declared.failure.Stopped.{Stopped}
 use Rattle.det_edges.specs.declared.failure.Stopped.TheVariants.{Refused, Failed}
 use Rattle.det_edges.specs.Prefix.{IsPrefix}
-use Rattle.det_edges.specs.Shelf.{ShelfState, Reads, Gave, IsAtEnd}
-use Rattle.det_edges.specs.Traffic.{failure_in, failure_of}
-use Rattle.det_edges.proofs.SlotReads.{gave-none, gave-reads, gave-told, reads-kept, kept-same, kept-then}
+use Rattle.det_edges.specs.Shelf.{ShelfState, Reads}
+use Rattle.det_edges.proofs.SlotReads.{gave-none, gave-told, reads-kept, kept-same, kept-then}
 use Rattle.record_grammar.specs.declared.item.Item.{Item}
 use Rattle.record_grammar.specs.Record.{items}
 use Rattle.record_reader.specs.declared.reader.RecordReader.{RecordReader}
-use Rattle.record_reader.specs.StandsFor.{StandsFor, HasRead, slot_of}
 use Rattle.record_reader.proofs.Items.{more_items}
+use Rattle.item_reader.specs.declared.reader.ItemReader.{ItemReader}
+use Rattle.item_reader.specs.StandsFor.{StandsFor, slot_of}
 use Rattle.lockstep.specs.declared.row.Row.{Row}
 use Rattle.lockstep.specs.declared.row.Row.TheVariants as rows
 use Rattle.lockstep.specs.declared.verdict.BadCopy.{BadCopy}
+use Rattle.lockstep.specs.declared.difference.Difference.{Difference}
 use Rattle.lockstep.specs.declared.verdict.Verdict.{Verdict}
 use Rattle.lockstep.specs.declared.verdict.Verdict.TheVariants.{Differ}
-use Rattle.lockstep.specs.Rows.{row_at, RowIs, RowShown, ShowsRow, Fell}
+use Rattle.lockstep.specs.Rows.{row_at, RowShown, ShowsRow}
 use Rattle.lockstep.specs.Verdict.{row_difference, first_bad, first_other}
 use Rattle.lockstep.specs.Compared.{AreDifferent, AreLeft, ReadsAmong}
-use Rattle.lockstep.specs.Copies.{IsBehind, AreBehind, HasRow, HaveRows}
-use Rattle.lockstep.specs.Copies.{row_of, copy_answer, FellIf, CopyRow, FindsBad, OthersRead}
+use Rattle.lockstep.specs.ItemRows.{ReaderBehind, ReadersBehind, ReaderAtRow, ReadersAtRows}
+use Rattle.lockstep.specs.Copies.{IsBehind, HasRow, row_of, CopyStopped, CopyHeld, FindsBad, OthersRead}
+use Rattle.lockstep.proofs.ItemRows.{gave-on, behind-on, row-on, row-shows, same-slot}
 
 -- ---- slots that are read
 
@@ -52,95 +52,27 @@ among-again p q = record { kept = kept-then p.kept q.kept; others = λ k ne. q.o
 
 -- ---- what other reads leave
 
-gave-later : {first mid now : ShelfState} {slot : ℕ} {bytes : List ℕ} → Gave first mid slot bytes → now.left slot ≡ mid.left slot
-    → Gave first now slot bytes
-gave-later {bytes = bytes} p same = record { left = p.left ∙ ap (option_map (λ rest. bytes ++ rest)) (sym same) }
-
-behind-later : {first mid now : ShelfState} {given : List Item} {slot : ℕ} {reader : RecordReader} → IsBehind first mid given slot reader
-    → now.left slot ≡ mid.left slot → IsBehind first now given slot reader
-behind-later h same = record { read = h.read; at = h.at; gave = gave-later h.gave same; stands = h.stands }
-
-pub row-later : {first mid now : ShelfState} {given : List Item} {slot : ℕ} {reader : RecordReader} {row : Row}
-    → HasRow first mid given slot reader row → now.left slot ≡ mid.left slot → HasRow first now given slot reader row
-row-later {given = given} {reader = reader} {row = row} h same = record {
-  read = h.read;
-  at = h.at;
-  gave = gave-later h.gave same;
-  shown = subst (λ (left : Option (List ℕ)). RowShown row reader (IfSome left (λ rest. rest ≡ [])) h.read given) (sym same) h.shown;
-}
-
-pub all-later : (first : ShelfState) {mid now : ShelfState} (given : List Item) (slot : ℕ) (slots : List ℕ) (readers : List RecordReader)
-    → AllByRecursion (λ other. slot ≢ other) slots → ReadsAmong mid now (slot ∷ []) → AreBehind first mid given slots readers
-    → AreBehind first now given slots readers
+pub all-later : (first : ShelfState) {mid now : ShelfState} (given : List Item) (slot : ℕ) (slots : List ℕ) (readers : List ItemReader)
+    → AllByRecursion (λ other. slot ≢ other) slots → ReadsAmong mid now (slot ∷ []) → ReadersBehind first mid given slots readers
+    → ReadersBehind first now given slots readers
 all-later first given slot [] [] ne p h = tt
 all-later first given slot [] (r ∷ readers) ne p h = absurd h
 all-later first given slot (other ∷ slots) [] ne p h = absurd h
 all-later first given slot (other ∷ slots) (r ∷ readers) ne p h =
-    (behind-later h.0 (p.others other (λ e. ne.0 (sym e), tt)), all-later first given slot slots readers ne.1 p h.1)
+    (behind-on h.0 (p.others other (λ e. ne.0 (sym e), tt)), all-later first given slot slots readers ne.1 p h.1)
 
 -- ---- what is told of the copies
 
-pub behind-told : {first now : ShelfState} {given : List Item} {slot : ℕ} {reader : RecordReader} (copy : List ℕ)
-    → IsBehind first now given slot reader → first.left slot ≡ Some copy → IsPrefix given (items copy)
-behind-told {given = given} {reader = reader} copy h told =
-    let all = gave-told copy h.gave told in
-    let more = more_items reader h.read given h.stands all.0 in (more.0, sym more.1 ∙ ap items all.2)
-
-pub row-told : {first now : ShelfState} {given : List Item} {slot : ℕ} {reader : RecordReader} {row : Row} (copy : List ℕ)
-    → HasRow first now given slot reader row → first.left slot ≡ Some copy → ShowsRow given row copy
-row-told {now = now} {given = given} {slot = slot} {row = row} copy h told =
-    let all = gave-told copy h.gave told in
-    subst (ShowsRow given row) all.2
-    (h.shown.shows all.0 (λ end. subst (λ (left : Option (List ℕ)). IfSome left (λ rest. rest ≡ [])) all.1 end))
-
-pub rows-told : (first now : ShelfState) (given : List Item) (slots : List ℕ) (readers : List RecordReader) (more : List Row)
-    (copies : List (List ℕ)) → HaveRows first now given slots readers more → AreLeft first slots copies
+pub rows-told : (first now : ShelfState) (given : List Item) (slots : List ℕ) (readers : List ItemReader) (more : List Row)
+    (copies : List (List ℕ)) → ReadersAtRows first now given slots readers more → AreLeft first slots copies
     → map (row_at (length given)) copies ≡ more
 rows-told first now given [] [] [] [] h l = refl
 rows-told first now given (s ∷ slots) (r ∷ readers) (row ∷ more) (c ∷ copies) h l =
-    ap (λ x. x ∷ map (row_at (length given)) copies) (row-told c h.0 l.0).is
+    ap (λ x. x ∷ map (row_at (length given)) copies) (row-shows c h.0 l.0).is
     ∙ ap (λ xs. row ∷ xs) (rows-told first now given slots readers more copies h.1 l.1)
 rows-told first now given [] [] [] (c ∷ copies) h l = absurd l
 rows-told first now given (s ∷ slots) (r ∷ readers) (row ∷ more) [] h l = absurd l
 rows-told first now given slots readers more copies h l = absurd h
-
--- ---- one copy
-
-pub copy-row : {first mid now : ShelfState} {given : List Item} {slot : ℕ} {reader : RecordReader} (next : RecordReader) (copy : ℕ)
-    (answer : Result Row Failure) → slot_of next ≡ slot_of reader
-    → HasRead mid now reader (RowIs answer next (IsAtEnd now (slot_of reader)))
-    → IsBehind first mid given slot reader → CopyRow (copy_answer copy answer) copy first now given slot next
-copy-row {first} {mid} {now} {given} {slot} {reader} next copy answer at read h = by answer read
-  where
-    shown : (row : Row) → HasRead mid now reader (RowIs (Ok row) next (IsAtEnd now (slot_of reader)))
-        → HasRow first now given slot next row
-    shown row p = record {
-      read = h.read ++ p.0;
-      at = at ∙ h.at;
-      gave = gave-reads h.gave (subst (λ (k : ℕ). Reads mid now k p.0) h.at p.1);
-      shown = subst (λ (k : ℕ). RowShown row next (IsAtEnd now k) (h.read ++ p.0) given) h.at (p.2 h.read given h.stands);
-    }
-
-    by : (answer : Result Row Failure) → HasRead mid now reader (RowIs answer next (IsAtEnd now (slot_of reader)))
-        → CopyRow (copy_answer copy answer) copy first now given slot next
-    by (Ok (rows.Item item)) p = shown (rows.Item item) p
-    by (Ok rows.Whole) p = shown rows.Whole p
-    by (Ok (rows.Fault found)) p = (refl, shown (rows.Fault found) p)
-    by (Err Read) p = λ e. cc
-    by (Err Write) p = absurd (p.2 h.read given h.stands)
-    by (Err OutOfMemory) p = λ e. cc
-
-pub copy-fell : (copy : ℕ) (answer : Result Row Failure) (old new : ℕ) → Fell answer old new → FellIf (copy_answer copy answer) old new
-copy-fell copy (Ok (rows.Item item)) old new h = h
-copy-fell copy (Ok rows.Whole) old new h = tt
-copy-fell copy (Ok (rows.Fault found)) old new h = tt
-copy-fell copy (Err failure) old new h = tt
-
-pub copy-failure : (copy : ℕ) (answer : Result Row Failure) → failure_of answer ≡ failure_in (copy_answer copy answer)
-copy-failure copy (Ok (rows.Item item)) = refl
-copy-failure copy (Ok rows.Whole) = refl
-copy-failure copy (Ok (rows.Fault found)) = refl
-copy-failure copy (Err failure) = refl
 
 -- ---- rows that are held against another
 
@@ -183,15 +115,15 @@ other-next n row base copy (one ∷ more) last e =
 -- ---- the others, one after another
 
 -- the first readers gave these rows, and the others are behind the items given
-abbrev pub HaveFirst : ShelfState → ShelfState → List Item → List ℕ → List RecordReader → List Row → Type 0
-HaveFirst first now given slots readers [] = AreBehind first now given slots readers
+abbrev pub HaveFirst : ShelfState → ShelfState → List Item → List ℕ → List ItemReader → List Row → Type 0
+HaveFirst first now given slots readers [] = ReadersBehind first now given slots readers
 HaveFirst first now given (slot ∷ slots) (reader ∷ readers) (row ∷ more) =
-    HasRow first now given slot reader row × HaveFirst first now given slots readers more
+    ReaderAtRow first now given slot reader row × HaveFirst first now given slots readers more
 HaveFirst first now given slots readers (row ∷ more) = ⊥
 
 -- the next reader's slot is among the slots
-slot-among : (P : ℕ → Type 0) (first now : ShelfState) (given : List Item) (slots : List ℕ) (readers : List RecordReader) (more : List Row)
-    (d : RecordReader) → HaveFirst first now given slots readers more → length more < length readers → AllByRecursion P slots
+slot-among : (P : ℕ → Type 0) (first now : ShelfState) (given : List Item) (slots : List ℕ) (readers : List ItemReader) (more : List Row)
+    (d : ItemReader) → HaveFirst first now given slots readers more → length more < length readers → AllByRecursion P slots
     → P (slot_of (get_or readers (length more) d))
 slot-among P first now given slots [] [] d h less all = absurd (omega (arith, less))
 slot-among P first now given [] (r ∷ readers) [] d h less all = absurd h
@@ -202,26 +134,27 @@ slot-among P first now given [] readers (row ∷ more) d h less all = absurd h
 slot-among P first now given (s ∷ slots) [] (row ∷ more) d h less all = absurd h
 
 -- the next reader gave a row too
-pub first-next : (copy : ℕ) (first mid now : ShelfState) (given : List Item) (slots : List ℕ) (readers : List RecordReader)
-    (more : List Row) (d next : RecordReader) (item : Option Item) → HaveFirst first mid given slots readers more
+pub first-next : (first mid now : ShelfState) (given : List Item) (slots : List ℕ) (readers : List ItemReader)
+    (more : List Row) (d next : ItemReader) (item : Option Item) → HaveFirst first mid given slots readers more
     → length more < length readers → AreDifferent slots
-    → ((slot : ℕ) → IsBehind first mid given slot (get_or readers (length more) d) → CopyRow (Ok item) copy first now given slot next)
+    → ((slot : ℕ) → ReaderBehind first mid given slot (get_or readers (length more) d)
+    → ReaderAtRow first now given slot next (row_of item))
     → ReadsAmong mid now (slot_of (get_or readers (length more) d) ∷ [])
     → HaveFirst first now given slots (set readers (length more) next) (more ++ row_of item ∷ [])
-first-next copy first mid now given slots [] [] d next item h less ne read among = absurd (omega (arith, less))
-first-next copy first mid now given [] (r ∷ readers) [] d next item h less ne read among = absurd h
-first-next copy first mid now given (s ∷ slots) (r ∷ readers) [] d next item h less ne read among =
+first-next first mid now given slots [] [] d next item h less ne read among = absurd (omega (arith, less))
+first-next first mid now given [] (r ∷ readers) [] d next item h less ne read among = absurd h
+first-next first mid now given (s ∷ slots) (r ∷ readers) [] d next item h less ne read among =
     (read s h.0, all-later first given s slots readers ne.0 (subst (λ (k : ℕ). ReadsAmong mid now (k ∷ [])) h.0.at among) h.1)
-first-next copy first mid now given (s ∷ slots) (r ∷ readers) (row ∷ more) d next item h less ne read among = (
-  row-later h.0 (among.others s (slot-among (λ k. s ≢ k) first mid given slots readers more d h.1 (omega (arith, less)) ne.0, tt)),
-  first-next copy first mid now given slots readers more d next item h.1 (omega (arith, less)) ne.1 read among,
+first-next first mid now given (s ∷ slots) (r ∷ readers) (row ∷ more) d next item h less ne read among = (
+  row-on h.0 (among.others s (slot-among (λ k. s ≢ k) first mid given slots readers more d h.1 (omega (arith, less)) ne.0, tt)),
+  first-next first mid now given slots readers more d next item h.1 (omega (arith, less)) ne.1 read among,
 )
-first-next copy first mid now given [] readers (row ∷ more) d next item h less ne read among = absurd h
-first-next copy first mid now given (s ∷ slots) [] (row ∷ more) d next item h less ne read among = absurd h
+first-next first mid now given [] readers (row ∷ more) d next item h less ne read among = absurd h
+first-next first mid now given (s ∷ slots) [] (row ∷ more) d next item h less ne read among = absurd h
 
 -- all of them gave rows
-pub first-all : (first now : ShelfState) (given : List Item) (slots : List ℕ) (readers : List RecordReader) (more : List Row)
-    → HaveFirst first now given slots readers more → length more ≡ length readers → HaveRows first now given slots readers more
+pub first-all : (first now : ShelfState) (given : List Item) (slots : List ℕ) (readers : List ItemReader) (more : List Row)
+    → HaveFirst first now given slots readers more → length more ≡ length readers → ReadersAtRows first now given slots readers more
 first-all first now given [] [] [] h e = tt
 first-all first now given (s ∷ slots) [] [] h e = absurd h
 first-all first now given slots (r ∷ readers) [] h e = absurd (omega (arith, e))
@@ -231,11 +164,11 @@ first-all first now given [] readers (row ∷ more) h e = absurd h
 first-all first now given (s ∷ slots) [] (row ∷ more) h e = absurd h
 
 -- the next reader found a fault
-pub first-bad : (base copy : ℕ) (first mid now : ShelfState) (given : List Item) (slots : List ℕ) (readers : List RecordReader)
-    (more : List Row) (d next : RecordReader) (bad : BadCopy) → HaveFirst first mid given slots readers more
+pub first-bad : (base copy : ℕ) (first mid now : ShelfState) (given : List Item) (slots : List ℕ) (readers : List ItemReader)
+    (more : List Row) (d next : ItemReader) (bad : BadCopy) → HaveFirst first mid given slots readers more
     → length more < length readers → first_bad base more ≡ None → copy ≡ base + length more
-    → ((slot : ℕ) → IsBehind first mid given slot (get_or readers (length more) d)
-    → CopyRow (Err (Refused bad)) copy first now given slot next)
+    → ((slot : ℕ) → ReaderBehind first mid given slot (get_or readers (length more) d)
+    → CopyStopped (Refused bad) copy first now given slot next)
     → FindsBad first now given base slots bad
 first-bad base copy first mid now given slots [] [] d next bad h less none at read = absurd (omega (arith, less))
 first-bad base copy first mid now given [] (r ∷ readers) [] d next bad h less none at read = absurd h
@@ -244,11 +177,11 @@ first-bad base copy first mid now given (s ∷ slots) (r ∷ readers) [] d next 
     let here : bad.copy ≡ base = omega (arith, p.0, at) in
     record { is = is here p.1; truncated = λ t. inl (sym here, p.1.shown.on t) }
   where
-    is : bad.copy ≡ base → HasRow first now given s next (rows.Fault bad.fault)
+    is : bad.copy ≡ base → ReaderAtRow first now given s next (rows.Fault bad.fault)
         → (copies : List (List ℕ)) → AreLeft first (s ∷ slots) copies
         → first_bad base (map (row_at (length given)) copies) ≡ Some bad
     is here p [] l = absurd l
-    is here p (c ∷ copies) l = ap (λ x. first_bad base (x ∷ map (row_at (length given)) copies)) (row-told c p l.0).is
+    is here p (c ∷ copies) l = ap (λ x. first_bad base (x ∷ map (row_at (length given)) copies)) (row-shows c p l.0).is
         ∙ ap (λ (n : ℕ). Some (record { copy = n; fault = bad.fault })) (sym here)
 first-bad base copy first mid now given (s ∷ slots) (r ∷ readers) (row ∷ more) d next bad h less none at read =
     let p = passed-over base row more none in
@@ -260,7 +193,7 @@ first-bad base copy first mid now given (s ∷ slots) (r ∷ readers) (row ∷ m
         → (copies : List (List ℕ)) → AreLeft first (s ∷ slots) copies
         → first_bad base (map (row_at (length given)) copies) ≡ Some bad
     is over q [] l = absurd l
-    is over q (c ∷ copies) l = ap (λ x. first_bad base (x ∷ map (row_at (length given)) copies)) (row-told c h.0 l.0).is
+    is over q (c ∷ copies) l = ap (λ x. first_bad base (x ∷ map (row_at (length given)) copies)) (row-shows c h.0 l.0).is
         ∙ over (map (row_at (length given)) copies) ∙ q.is copies l.1
 first-bad base copy first mid now given [] readers (row ∷ more) d next bad h less none at read = absurd h
 first-bad base copy first mid now given (s ∷ slots) [] (row ∷ more) d next bad h less none at read = absurd h
@@ -268,19 +201,19 @@ first-bad base copy first mid now given (s ∷ slots) [] (row ∷ more) d next b
 -- ---- new readers
 
 -- a reader more, of the next slot
-pub readers-next : (state : ShelfState) (slots : List ℕ) (slot : ℕ) (left : List ℕ) (readers : List RecordReader) (reader : RecordReader)
-    → ((tail : List RecordReader) → AreBehind state state [] (slot ∷ left) tail → AreBehind state state [] slots (readers ++ tail))
-    → StandsFor reader [] [] → slot_of reader ≡ slot → (tail : List RecordReader) → AreBehind state state [] left tail
-    → AreBehind state state [] slots ((readers ++ reader ∷ []) ++ tail)
+pub readers-next : (state : ShelfState) (slots : List ℕ) (slot : ℕ) (left : List ℕ) (readers : List ItemReader) (reader : ItemReader)
+    → ((tail : List ItemReader) → ReadersBehind state state [] (slot ∷ left) tail → ReadersBehind state state [] slots (readers ++ tail))
+    → StandsFor reader [] [] → slot_of reader ≡ slot → (tail : List ItemReader) → ReadersBehind state state [] left tail
+    → ReadersBehind state state [] slots ((readers ++ reader ∷ []) ++ tail)
 readers-next state slots slot left readers reader before stands at tail h =
-    subst (λ rs. AreBehind state state [] slots rs) (sym (append_assoc readers (reader ∷ []) tail))
-    (before (reader ∷ tail) (record { read = []; at = at; gave = gave-none state slot; stands = stands }, h))
+    subst (λ rs. ReadersBehind state state [] slots rs) (sym (append_assoc readers (reader ∷ []) tail))
+    (before (reader ∷ tail) (record { read = []; at = at; gave = gave-none state slot; stands = stands; needed = inl refl }, h))
 
 -- ---- the loop over the others
 
 -- so many of the others gave rows
 pub record HaveOthers (index : ℕ) (found : Option Verdict) (ours : Row) (first now : ShelfState) (given : List Item) (slots : List ℕ)
-    (readers : List RecordReader) : Type 0 where
+    (readers : List ItemReader) : Type 0 where
   pub more : List Row
   pub count : length more ≡ index
   pub have : HaveFirst first now given slots readers more
@@ -288,19 +221,19 @@ pub record HaveOthers (index : ℕ) (found : Option Verdict) (ours : Row) (first
   pub is : found ≡ first_other (length given) ours 1 more
 
 -- what holds of all slots holds of the slot of one reader
-pub given-at : (P : ℕ → Type 0) (readers : List RecordReader) (index : ℕ) (d : RecordReader) → index < length readers
+pub given-at : (P : ℕ → Type 0) (readers : List ItemReader) (index : ℕ) (d : ItemReader) → index < length readers
     → AllByRecursion P (map slot_of readers) → P (slot_of (get_or readers index d))
 given-at P [] index d less all = absurd (omega (arith, less))
 given-at P (r ∷ readers) zero d less all = all.0
 given-at P (r ∷ readers) (suc index) d less all = given-at P readers index d (omega (arith, less)) all.1
 
-pub slots-set : (readers : List RecordReader) (index : ℕ) (d next : RecordReader) → index < length readers
+pub slots-set : (readers : List ItemReader) (index : ℕ) (d next : ItemReader) → index < length readers
     → slot_of next ≡ slot_of (get_or readers index d) → map slot_of (set readers index next) ≡ map slot_of readers
 slots-set [] index d next less e = absurd (omega (arith, less))
 slots-set (r ∷ readers) zero d next less e = ap (λ k. k ∷ map slot_of readers) e
 slots-set (r ∷ readers) (suc index) d next less e = ap (λ ks. slot_of r ∷ ks) (slots-set readers index d next (omega (arith, less)) e)
 
-pub among-more : {first mid now : ShelfState} (slots : List ℕ) (readers : List RecordReader) (index : ℕ) (d : RecordReader)
+pub among-more : {first mid now : ShelfState} (slots : List ℕ) (readers : List ItemReader) (index : ℕ) (d : ItemReader)
     → index < length readers → map slot_of readers ≡ slots → ReadsAmong first mid slots
     → ReadsAmong mid now (slot_of (get_or readers index d) ∷ []) → ReadsAmong first now slots
 among-more slots readers index d less same p q = record {
@@ -310,9 +243,9 @@ among-more slots readers index d less same p q = record {
 }
 
 -- the next reader is behind the items given
-one-behind : (first now : ShelfState) (given : List Item) (slots : List ℕ) (readers : List RecordReader) (more : List Row)
-    (d : RecordReader) → HaveFirst first now given slots readers more → length more < length readers
-    → (slot : ℕ) × IsBehind first now given slot (get_or readers (length more) d)
+one-behind : (first now : ShelfState) (given : List Item) (slots : List ℕ) (readers : List ItemReader) (more : List Row)
+    (d : ItemReader) → HaveFirst first now given slots readers more → length more < length readers
+    → (slot : ℕ) × ReaderBehind first now given slot (get_or readers (length more) d)
 one-behind first now given slots [] [] d h less = absurd (omega (arith, less))
 one-behind first now given [] (r ∷ readers) [] d h less = absurd h
 one-behind first now given (s ∷ slots) (r ∷ readers) [] d h less = (s, h.0)
@@ -322,46 +255,84 @@ one-behind first now given [] readers (row ∷ more) d h less = absurd h
 one-behind first now given (s ∷ slots) [] (row ∷ more) d h less = absurd h
 
 module _ (copy index : ℕ) (found : Option Verdict) (row : Row) (first mid now : ShelfState) (given : List Item) (slots : List ℕ)
-    (readers : List RecordReader) (d next : RecordReader) (h : HaveOthers index found row first mid given slots readers)
+    (readers : List ItemReader) (d next : ItemReader) (h : HaveOthers index found row first mid given slots readers)
     (less : index < length readers) (at : copy ≡ 1 + index) where
   less-more : length h.more < length readers
   less-more = subst (λ (n : ℕ). n < length readers) (sym h.count) less
 
-  pub others-stop : (stop : Stopped BadCopy) (after : List RecordReader)
-      → ((slot : ℕ) → IsBehind first mid given slot (get_or readers index d) → CopyRow (Err stop) copy first now given slot next)
+  -- the next reader is behind the items given
+  pub next-behind : (slot : ℕ) × ReaderBehind first mid given slot (get_or readers index d)
+  next-behind =
+      let one = one-behind first mid given slots readers h.more d h.have less-more in
+      (one.0, subst (λ n. ReaderBehind first mid given one.0 (get_or readers n d)) h.count one.1)
+
+  pub others-stop : (stop : Stopped BadCopy) (after : List ItemReader)
+      → ((slot : ℕ) → ReaderBehind first mid given slot (get_or readers index d) → CopyStopped stop copy first now given slot next)
       → OthersRead (Err stop) row first now given slots after
   others-stop (Refused bad) after read =
       first-bad 1 copy first mid now given slots readers h.more d next bad h.have less-more h.sound (at ∙ ap (λ n. 1 + n) (sym h.count))
-      (subst (λ n. (slot : ℕ) → IsBehind first mid given slot (get_or readers n d)
-      → CopyRow (Err (Refused bad)) copy first now given slot next) (sym h.count) read)
-  others-stop (Failed failure) after read =
-      let one = one-behind first mid given slots readers h.more d h.have less-more in
-      read one.0 (subst (λ n. IsBehind first mid given one.0 (get_or readers n d)) h.count one.1)
+      (subst (λ n. (slot : ℕ) → ReaderBehind first mid given slot (get_or readers n d)
+      → CopyStopped (Refused bad) copy first now given slot next) (sym h.count) read)
+  others-stop (Failed failure) after read = read next-behind.0 next-behind.1
 
-  pub others-next : (item : Option Item) (after : Option Verdict)
-      → ((slot : ℕ) → IsBehind first mid given slot (get_or readers index d) → CopyRow (Ok item) copy first now given slot next)
+  pub others-next : (difference : Option Difference) (after : Option Verdict)
+      → ((slot : ℕ) → ReaderBehind first mid given slot (get_or readers index d)
+      → CopyHeld (Ok difference) copy row first now given slot next)
       → ReadsAmong mid now (slot_of (get_or readers index d) ∷ []) → AreDifferent slots
-      → after ≡ option_or found (option_map (Differ copy) (row_difference (length given) row (row_of item)))
+      → after ≡ option_or found (option_map (Differ copy) difference)
       → HaveOthers (index + 1) after row first now given slots (set readers index next)
-  others-next item after read among ne is = record {
+  others-next difference after read among ne is = record {
     more = h.more ++ row_of item ∷ [];
     count = let all = length-append h.more (row_of item ∷ []) in let count = h.count in omega (arith, all, count);
     have = subst (λ n. HaveFirst first now given slots (set readers n next) (h.more ++ row_of item ∷ [])) h.count
-        (first-next copy first mid now given slots readers h.more d next item h.have less-more ne
-        (subst (λ n. (slot : ℕ) → IsBehind first mid given slot (get_or readers n d) → CopyRow (Ok item) copy first now given slot next)
-        (sym h.count) read)
+        (first-next first mid now given slots readers h.more d next item h.have less-more ne
+        (subst (λ n. (slot : ℕ) → ReaderBehind first mid given slot (get_or readers n d)
+        → ReaderAtRow first now given slot next (row_of item)) (sym h.count)
+        (λ slot b. subst (λ (k : ℕ). ReaderAtRow first now given k next (row_of item)) (same-slot next-behind.1 b) held.1))
         (subst (λ n. ReadsAmong mid now (slot_of (get_or readers n d) ∷ [])) (sym h.count) among));
     sound = bad-next 1 h.more item h.sound;
-    is = is ∙ ap (λ o. option_or o (option_map (Differ copy) (row_difference (length given) row (row_of item)))) h.is
-        ∙ other-next (length given) (row) 1 copy h.more (row_of item) (at ∙ ap (λ n. 1 + n) (sym h.count));
+    is = is ∙ ap (λ o. option_or found (option_map (Differ copy) o)) held.2
+        ∙ ap (λ o. option_or o (option_map (Differ copy) (row_difference (length given) row (row_of item)))) h.is
+        ∙ other-next (length given) row 1 copy h.more (row_of item) (at ∙ ap (λ n. 1 + n) (sym h.count));
   }
+    where
+      held : (item : Option Item) × ReaderAtRow first now given next-behind.0 next (row_of item)
+          × (difference ≡ row_difference (length given) row (row_of item))
+      held = read next-behind.0 next-behind.1
+
+      item : Option Item
+      item = held.0
 
 pub others-done : (index : ℕ) (found : Option Verdict) (row : Row) (first now : ShelfState) (given : List Item) (slots : List ℕ)
-    (readers : List RecordReader) → HaveOthers index found row first now given slots readers → index ≡ length readers
+    (readers : List ItemReader) → HaveOthers index found row first now given slots readers → index ≡ length readers
     → OthersRead (Ok found) row first now given slots readers
 others-done index found row first now given slots readers h e =
     (h.more, first-all first now given slots readers h.more h.have (h.count ∙ e), h.sound, h.is)
 
-pub others-new : (row : Row) (first now : ShelfState) (given : List Item) (slots : List ℕ) (readers : List RecordReader)
-    → AreBehind first now given slots readers → HaveOthers 0 None row first now given slots readers
+pub others-new : (row : Row) (first now : ShelfState) (given : List Item) (slots : List ℕ) (readers : List ItemReader)
+    → ReadersBehind first now given slots readers → HaveOthers 0 None row first now given slots readers
 others-new row first now given slots readers h = record { more = []; count = refl; have = h; sound = refl; is = refl }
+
+-- ---- readers of records
+
+pub row-later : {first mid now : ShelfState} {given : List Item} {slot : ℕ} {reader : RecordReader} {row : Row}
+    → HasRow first mid given slot reader row → now.left slot ≡ mid.left slot → HasRow first now given slot reader row
+row-later {given = given} {reader = reader} {row = row} h same = record {
+  read = h.read;
+  at = h.at;
+  gave = gave-on h.gave same;
+  shown = subst (λ (left : Option (List ℕ)). RowShown row reader (IfSome left (λ rest. rest ≡ [])) h.read given) (sym same) h.shown;
+}
+
+pub behind-told : {first now : ShelfState} {given : List Item} {slot : ℕ} {reader : RecordReader} (copy : List ℕ)
+    → IsBehind first now given slot reader → first.left slot ≡ Some copy → IsPrefix given (items copy)
+behind-told {given = given} {reader = reader} copy h told =
+    let all = gave-told copy h.gave told in
+    let more = more_items reader h.read given h.stands all.0 in (more.0, sym more.1 ∙ ap items all.2)
+
+pub row-told : {first now : ShelfState} {given : List Item} {slot : ℕ} {reader : RecordReader} {row : Row} (copy : List ℕ)
+    → HasRow first now given slot reader row → first.left slot ≡ Some copy → ShowsRow given row copy
+row-told {now = now} {given = given} {slot = slot} {row = row} copy h told =
+    let all = gave-told copy h.gave told in
+    subst (ShowsRow given row) all.2
+    (h.shown.shows all.0 (λ end. subst (λ (left : Option (List ℕ)). IfSome left (λ rest. rest ≡ [])) all.1 end))

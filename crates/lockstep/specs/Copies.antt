@@ -1,16 +1,25 @@
 -- Readers of copies that are read side by side.
-use Rattle.std.specs.Prelude.{◌≡◌, ◌≢◌, ℕ, ◌<◌, ◌+◌, List, [], ◌∷◌, ◌++◌, length, map, Option}
+use Rattle.std.specs.Prelude.{◌≡◌, ◌≢◌, ℕ, ◌<◌, ◌+◌, ◌-◌, List, [], ◌∷◌, ◌++◌, length, map, Option}
 use Rattle.std.specs.Prelude.{Some, None, Result, Ok, Err}
 use Rattle.det_edges.specs.Shelf.{ShelfState, Gave, IsAtEnd}
-use Rattle.det_edges.specs.declared.failure.Failure.{Failure}
 use Rattle.det_edges.specs.declared.failure.Failure.TheVariants.{Write}
 use Rattle.det_edges.specs.declared.failure.Stopped.{Stopped}
 use Rattle.det_edges.specs.declared.failure.Stopped.TheVariants.{Refused, Failed}
 use Rattle.record_grammar.specs.declared.fault.Reason.TheVariants.{Truncated}
+use Rattle.record_grammar.specs.declared.fault.RecordFault.{RecordFault}
 use Rattle.record_grammar.specs.declared.item.Item.{Item}
 use Rattle.record_reader.specs.declared.reader.RecordReader.{RecordReader}
-use Rattle.record_reader.specs.StandsFor.{StandsFor, slot_of, room}
-use Rattle.record_reader.specs.Salvaged.{runs_in, cycles_of}
+use Rattle.record_reader.specs.StandsFor.{StandsFor, slot_of as record_slot}
+use Rattle.record_reader.specs.Salvaged.{cycles_of}
+use Rattle.record_view.specs.declared.view.ItemView.{ItemView}
+use Rattle.record_view.specs.declared.view.ItemKind.{ItemKind}
+use Rattle.record_view.specs.declared.view.ItemKind.TheVariants as kinds
+use Rattle.item_reader.specs.declared.reader.ItemReader.{ItemReader}
+use Rattle.item_reader.specs.declared.like.Like.{Like}
+use Rattle.item_reader.specs.declared.like.Like.TheVariants as likes
+use Rattle.item_reader.specs.StandsFor.{Holds, slot_of, room}
+use Rattle.lockstep.specs.declared.difference.Difference.{Difference}
+use Rattle.lockstep.specs.declared.difference.Difference.TheVariants as differences
 use Rattle.lockstep.specs.declared.row.Row.{Row}
 use Rattle.lockstep.specs.declared.row.Row.TheVariants as rows
 use Rattle.lockstep.specs.declared.verdict.BadCopy.{BadCopy}
@@ -18,7 +27,8 @@ use Rattle.lockstep.specs.declared.verdict.Verdict.{Verdict}
 use Rattle.lockstep.specs.declared.verdict.Verdict.TheVariants.{Agree}
 use Rattle.lockstep.specs.declared.copies.Copies.{Copies}
 use Rattle.lockstep.specs.Rows.{row_at, RowShown}
-use Rattle.lockstep.specs.Verdict.{first_bad, first_other}
+use Rattle.lockstep.specs.ItemRows.{ReadersBehind, ReaderAtRow, ReadersAtRows, IsHeldAs}
+use Rattle.lockstep.specs.Verdict.{row_difference, first_bad, first_other}
 use Rattle.lockstep.specs.Compared.{AreLeft, CopyEnds, Compared}
 
 -- ---- readers
@@ -27,32 +37,17 @@ use Rattle.lockstep.specs.Compared.{AreLeft, CopyEnds, Compared}
 pub record IsBehind (first now : ShelfState) (given : List Item) (slot : ℕ) (reader : RecordReader)
     : Type 0 where
   pub read : List ℕ
-  pub at : slot_of reader ≡ slot
+  pub at : record_slot reader ≡ slot
   pub gave : Gave first now slot read
   pub stands : StandsFor reader read given
-
--- the same of readers, one a slot
-abbrev pub AreBehind : ShelfState → ShelfState → List Item → List ℕ → List RecordReader → Type 0
-AreBehind first now given [] [] = Unit {0}
-AreBehind first now given (slot ∷ slots) (reader ∷ readers) =
-    IsBehind first now given slot reader × AreBehind first now given slots readers
-AreBehind first now given slots readers = ⊥
 
 -- a reader gave these items, and then this row
 pub record HasRow (first now : ShelfState) (given : List Item) (slot : ℕ) (reader : RecordReader)
     (row : Row) : Type 0 where
   pub read : List ℕ
-  pub at : slot_of reader ≡ slot
+  pub at : record_slot reader ≡ slot
   pub gave : Gave first now slot read
   pub shown : RowShown row reader (IsAtEnd now slot) read given
-
--- the same of readers, one a slot
-abbrev pub HaveRows : ShelfState → ShelfState → List Item → List ℕ → List RecordReader → List Row
-    → Type 0
-HaveRows first now given [] [] [] = Unit {0}
-HaveRows first now given (slot ∷ slots) (reader ∷ readers) (row ∷ more) =
-    HasRow first now given slot reader row × HaveRows first now given slots readers more
-HaveRows first now given slots readers more = ⊥
 
 -- ---- one row
 
@@ -62,25 +57,71 @@ row_of (Some item) = rows.Item item
 row_of None = rows.Whole
 
 -- an item leaves fewer that may come
-abbrev pub FellIf : Result (Option Item) (Stopped BadCopy) → ℕ → ℕ → Type 0
-FellIf (Ok (Some item)) old new = new < old
-FellIf result old new = Unit {0}
+abbrev pub RoomFellIf : Result (Option ItemView) (Stopped BadCopy) → ℕ → ℕ → Type 0
+RoomFellIf (Ok (Some view)) old new = new < old
+RoomFellIf result old new = Unit {0}
 
--- a row of a copy, as its item; a fault is refused
-abbrev pub copy_answer : ℕ → Result Row Failure → Result (Option Item) (Stopped BadCopy)
-copy_answer copy (Ok (rows.Item item)) = Ok (Some item)
-copy_answer copy (Ok rows.Whole) = Ok None
-copy_answer copy (Ok (rows.Fault found)) = Err (Refused (record { copy = copy; fault = found }))
-copy_answer copy (Err failure) = Err (Failed failure)
+-- an answer of a copy's reader; a fault is refused
+abbrev pub copy_answer : {T : Type 0} → ℕ → Result T (Stopped RecordFault)
+    → Result T (Stopped BadCopy)
+copy_answer copy (Ok row) = Ok row
+copy_answer copy (Err (Refused found)) = Err (Refused (record { copy = copy; fault = found }))
+copy_answer copy (Err (Failed failure)) = Err (Failed failure)
 
--- what the reader of a copy gives: its row, or its fault
-abbrev pub CopyRow : Result (Option Item) (Stopped BadCopy) → ℕ → ShelfState → ShelfState
-    → List Item → ℕ → RecordReader → Type 0
-CopyRow (Ok item) copy first now given slot reader =
-    HasRow first now given slot reader (row_of item)
-CopyRow (Err (Refused bad)) copy first now given slot reader =
-    (bad.copy ≡ copy) × HasRow first now given slot reader (rows.Fault bad.fault)
-CopyRow (Err (Failed failure)) copy first now given slot reader = failure ≢ Write
+-- why a copy gave no row
+abbrev pub CopyStopped : Stopped BadCopy → ℕ → ShelfState → ShelfState → List Item → ℕ
+    → ItemReader → Type 0
+CopyStopped (Refused bad) copy first now given slot reader =
+    (bad.copy ≡ copy) × ReaderAtRow first now given slot reader (rows.Fault bad.fault)
+CopyStopped (Failed failure) copy first now given slot reader = failure ≢ Write
+
+-- what the reader of a copy gives: its item, which it holds, or the end
+abbrev pub CopyNext : Result (Option ItemView) (Stopped BadCopy) → ℕ → ShelfState → ShelfState
+    → List Item → ℕ → ItemReader → Type 0
+CopyNext (Ok view) copy first now given slot reader = (item : Option Item)
+    × IsHeldAs view reader item × ReaderAtRow first now given slot reader (row_of item)
+CopyNext (Err stop) copy first now given slot reader =
+    CopyStopped stop copy first now given slot reader
+
+-- ---- a row of a copy, held against the row of copy 0
+
+-- the same item, or another row
+abbrev pub LikeHeld : Like → Item → ItemReader → Option Item → Type 0
+LikeHeld likes.Same ours reader item = item ≡ Some ours
+LikeHeld (likes.Other view) ours reader item = IsHeldAs view reader item
+
+abbrev pub CopyLike : Result Like (Stopped BadCopy) → ℕ → Item → ShelfState → ShelfState
+    → List Item → ℕ → ItemReader → Type 0
+CopyLike (Ok like) copy ours first now given slot reader = (item : Option Item)
+    × LikeHeld like ours reader item × ReaderAtRow first now given slot reader (row_of item)
+CopyLike (Err stop) copy ours first now given slot reader =
+    CopyStopped stop copy first now given slot reader
+
+-- an item that isn't the same is held
+abbrev pub OtherIsHeld : Like → ItemReader → Type 0
+OtherIsHeld (likes.Other (Some view)) reader = (item : Item) × Holds reader view item
+OtherIsHeld like reader = Unit {0}
+
+-- the first difference of an item of copy 0 and what is told of it
+abbrev pub DifferenceIs : Option Difference → ℕ → Item → Like → ItemReader → Type 0
+DifferenceIs result row ours likes.Same reader = result ≡ None
+DifferenceIs result row ours (likes.Other None) reader = result ≡ Some (differences.Kind (row - 1))
+DifferenceIs result row ours (likes.Other (Some view)) reader = (item : Item)
+    → Holds reader view item → result ≡ row_difference row (rows.Item ours) (rows.Item item)
+
+-- the difference of the end of copy 0 and the next row of another copy
+abbrev pub end_difference : ℕ → Option ItemView → Option Difference
+end_difference row (Some view) = Some (differences.Kind (row - 1))
+end_difference row None = None
+
+-- a row of a copy was read, and its first difference from the row of copy 0 is told
+abbrev pub CopyHeld : Result (Option Difference) (Stopped BadCopy) → ℕ → Row → ShelfState
+    → ShelfState → List Item → ℕ → ItemReader → Type 0
+CopyHeld (Ok found) copy ours first now given slot reader = (item : Option Item)
+    × ReaderAtRow first now given slot reader (row_of item)
+    × (found ≡ row_difference (length given) ours (row_of item))
+CopyHeld (Err stop) copy ours first now given slot reader =
+    CopyStopped stop copy first now given slot reader
 
 -- among the copies from `copy` on this is the least with a fault in the row behind these items
 pub record FindsBad (first now : ShelfState) (given : List Item) (copy : ℕ) (slots : List ℕ)
@@ -91,9 +132,9 @@ pub record FindsBad (first now : ShelfState) (given : List Item) (copy : ℕ) (s
 
 -- a row of the copies behind copy 0 was read, and held against the row of that
 abbrev pub OthersRead : Result (Option Verdict) (Stopped BadCopy) → Row → ShelfState → ShelfState
-    → List Item → List ℕ → List RecordReader → Type 0
+    → List Item → List ℕ → List ItemReader → Type 0
 OthersRead (Ok found) ours first now given slots readers = (more : List Row)
-    × HaveRows first now given slots readers more × (first_bad 1 more ≡ None)
+    × ReadersAtRows first now given slots readers more × (first_bad 1 more ≡ None)
     × (found ≡ first_other (length given) ours 1 more)
 OthersRead (Err (Refused bad)) row first now given slots readers =
     FindsBad first now given 1 slots bad
@@ -105,17 +146,22 @@ OthersRead (Err (Failed failure)) row first now given slots readers = failure �
 abbrev pub slots_of : Copies → List ℕ
 slots_of copies = slot_of copies.first ∷ map slot_of copies.others.items
 
+-- how many cycles an item of this kind is
+abbrev pub runs_of : ItemKind → ℕ
+runs_of (kinds.Run input outcome) = 1
+runs_of kind = 0
+
 -- a copy that differs decides, and else the end; an item that all hold is counted
-abbrev pub IsCounted : Option Item → Option Verdict → Option Verdict → Copies → Copies → Type 0
+abbrev pub IsCounted : Option ItemView → Option Verdict → Option Verdict → Copies → Copies → Type 0
 IsCounted item (Some found) result old new = result ≡ Some found
 IsCounted None None result old new = result ≡ Some (Agree old.cycles)
-IsCounted (Some item) None result old new = (result ≡ None)
-    × (new ≡ record old { rows = old.rows + 1; cycles = old.cycles + runs_in item })
+IsCounted (Some view) None result old new = (result ≡ None)
+    × (new ≡ record old { rows = old.rows + 1; cycles = old.cycles + runs_of view.span.kind })
 
 -- all copies gave these items, which are counted
 pub record Stand (first now : ShelfState) (given : List Item) (slots : List ℕ) (copies : Copies)
     : Type 0 where
-  pub readers : AreBehind first now given slots (copies.first ∷ copies.others.items)
+  pub readers : ReadersBehind first now given slots (copies.first ∷ copies.others.items)
   pub rows : copies.rows ≡ length given
   pub cycles : copies.cycles ≡ cycles_of given
 

@@ -3,25 +3,26 @@ ghost use Rattle.std.specs.Prelude.{◌≡◌, ℕ, ◌<◌, ◌≤◌, List, []
 ghost use Rattle.det_edges.specs.Shelf.{ShelfState};
 ghost use Rattle.det_edges.specs.Traffic.{ShelfTraffic, shelf_run, failure_in};
 ghost use Rattle.record_grammar.specs.declared.item.Item.{Item};
-ghost use Rattle.record_reader.specs.StandsFor.{slot_of, room};
+ghost use Rattle.item_reader.specs.StandsFor.{room};
 ghost use Rattle.lockstep.specs.Compared.{AreDifferent, AreGiven, ReadsAmong};
+ghost use Rattle.lockstep.specs.Needed.{AllNeeded};
 ghost use Rattle.lockstep.specs.Copies.{slots_of, Stand};
-ghost use Rattle.lockstep.specs.Copies.{RowRead, IsCounted};
+ghost use Rattle.lockstep.specs.Copies.{RowRead, IsCounted, runs_of};
 
-use crate::reading::{read_copy, read_others, readers_at};
+use crate::reading::{item_bytes, next_of_copy, read_others, readers_at};
 use crate::{BadCopy, Verdict};
 use det_edges::{Slots, Stopped};
 use det_values::OutOfMemory;
-use record_codec::Item;
-use record_reader::{RecordReader, runs_in};
+use item_reader::ItemReader;
+use record_view::{ItemKind, ItemView};
 use std::alloc::Global;
 
 /// Copies behind equal items, one reader each.
 #[derive(Drop)]
 pub struct Copies {
     /// The reader of copy 0, which the others are held against.
-    pub first: RecordReader,
-    pub others: Vec<RecordReader>,
+    pub first: ItemReader,
+    pub others: Vec<ItemReader>,
     /// How many rows were read.
     pub rows: u32,
     /// How many of them were Run frames.
@@ -36,33 +37,40 @@ impl Copies {
             → Stand state state [] slots.now copies) }
     {
         Ok(Copies {
-            first: RecordReader::at(alloc, slots[0]),
+            first: ItemReader::new(alloc, slots[0]),
             others: readers_at(alloc, &slots[1..])?,
             rows: 0,
             cycles: 0,
         })
     }
 
-    /// Reads a row of every copy. None where all hold an equal item.
+    /// Reads a row of every copy. None where all hold an equal item. The item of copy 0 alone is
+    /// held, and of another copy an item that isn't the same.
     pub fn read_row<S: Slots>(&mut self, shelf: &mut S) -> Result<Option<Verdict>, Stopped<BadCopy>>
         requires given { AreGiven (S.sees shelf.old) (slots_of self.old) }
         requires few { length self.old.others.items ≤ 7 }
         requires rows { self.old.rows < 4294967295 }
         requires cycles { self.old.cycles ≤ self.old.rows }
+        requires stand { (first : ShelfState) × (given : List Item) × (slots : List ℕ)
+            × AreDifferent slots × Stand first (S.sees shelf.old) given slots self.old }
         ensures row { (first : ShelfState) (given : List Item) (slots : List ℕ)
             → AreDifferent slots → Stand first (S.sees shelf.old) given slots self.old
             → RowRead result first (S.sees shelf.new) given slots (room self.old.first) self.new }
+        ensures needed { (first : ShelfState) (given : List Item) (slots : List ℕ)
+            → AreDifferent slots → Stand first (S.sees shelf.old) given slots self.old
+            → AllNeeded first (S.sees shelf.new) (length given) slots }
         ensures reads { ReadsAmong (S.sees shelf.old) (S.sees shelf.new) (slots_of self.old) }
         ensures traffic { ShelfTraffic (shelf_run S.sees S.stays shelf.old shelf.new)
             (failure_in result) }
     {
-        let item = read_copy(&mut self.first, shelf, 0)?;
-        let found = read_others(&mut self.others, shelf, self.rows, &item)?;
+        let item = next_of_copy(&mut self.first, shelf, 0)?;
+        let bytes = item_bytes(&self.first, item);
+        let found = read_others(&mut self.others, shelf, self.rows, item, bytes)?;
         Ok(self.go_on(item, found))
     }
 
     /// Counts an item that all copies hold.
-    fn go_on(&mut self, item: Option<Item>, found: Option<Verdict>) -> Option<Verdict>
+    fn go_on(&mut self, item: Option<ItemView>, found: Option<Verdict>) -> Option<Verdict>
         requires rows { self.old.rows < 4294967295 }
         requires cycles { self.old.cycles ≤ self.old.rows }
         ensures { IsCounted item found result self.old self.new }
@@ -76,7 +84,18 @@ impl Copies {
             });
         };
         self.rows += 1;
-        self.cycles += runs_in(&item);
+        self.cycles += runs_of(item.span.kind);
         None
+    }
+}
+
+/// How many cycles an item of this kind is.
+fn runs_of(kind: ItemKind) -> u32
+    ensures value { result ≡ runs_of kind }
+    ensures most { result ≤ 1 }
+{
+    match kind {
+        ItemKind::Run { .. } => 1,
+        _ => 0,
     }
 }

@@ -1,15 +1,15 @@
 //! How the rows of two copies differ.
-ghost use Rattle.std.specs.Prelude.{◌≡◌, ℕ};
+ghost use Rattle.std.specs.Prelude.{◌≡◌};
 ghost use Rattle.std.specs.Option.{option_map};
-ghost use Rattle.record_grammar.specs.declared.item.Item.TheVariants as items;
-ghost use Rattle.lockstep.specs.declared.row.Row.TheVariants as rows;
+ghost use Rattle.record_grammar.specs.declared.item.Item.{Item};
+ghost use Rattle.record_view.specs.Shows.{IsSpelling};
 ghost use Rattle.lockstep.specs.declared.verdict.Verdict.TheVariants.{Differ};
-ghost use Rattle.lockstep.specs.Copies.{row_of};
-ghost use Rattle.lockstep.specs.Verdict.{row_difference};
+ghost use Rattle.lockstep.specs.Copies.{DifferenceIs, OtherIsHeld, end_difference};
 
-use crate::{Difference, Verdict, first_difference};
-use det_values::Profile;
-use record_codec::Item;
+use crate::views::item_difference;
+use crate::{Difference, Verdict};
+use item_reader::{ItemReader, Like};
+use record_view::ItemView;
 
 /// The copy whose row is held against that of copy 0, and the number of the row.
 #[derive(Clone, Copy, Drop)]
@@ -18,58 +18,45 @@ pub struct Place {
     pub row: u32,
 }
 
-/// The verdict where the row of this copy isn't that of copy 0.
-pub fn parted(place: Place, first: &Option<Item>, row: &Option<Item>) -> Option<Verdict>
-    ensures { result ≡ option_map (Differ place.copy)
-        (row_difference place.row (row_of first.now) (row_of row.now)) }
+/// The verdict where the row of this copy differs from that of copy 0.
+pub fn differing(copy: u32, difference: Option<Difference>) -> Option<Verdict>
+    ensures { result ≡ option_map (Differ copy) difference }
 {
-    match rows_apart(place.row, first, row) {
-        Some(at) => Some(Verdict::Differ {
-            copy: place.copy,
-            at,
-        }),
+    match difference {
+        Some(at) => Some(Verdict::Differ { copy, at }),
         None => None,
     }
 }
 
-fn rows_apart(number: u32, left: &Option<Item>, right: &Option<Item>) -> Option<Difference>
-    ensures { result ≡ row_difference number (row_of left.now) (row_of right.now) }
+/// How the row that a reader gave last differs from the item of these bytes in copy 0. The parts
+/// of two items are looked at only where their bytes aren't the same.
+pub fn difference_at(
+    row: u32,
+    view: ItemView,
+    bytes: &[u8],
+    like: Like,
+    reader: &ItemReader,
+) -> Option<Difference>
+    requires item { (item : Item) × IsSpelling view item bytes.now }
+    requires other { OtherIsHeld like reader.now }
+    ensures { (item : Item) → IsSpelling view item bytes.now
+        → DifferenceIs result row item like reader.now }
 {
-    match left {
-        Some(left) => match right {
-            Some(right) => items_apart(number, left, right),
-            None => Some(Difference::Kind(number.saturating_sub(1))),
-        },
-        None => match right {
-            Some(_) => Some(Difference::Kind(number.saturating_sub(1))),
-            None => None,
-        },
+    match like {
+        Like::Same => None,
+        Like::Other(None) => Some(Difference::Kind(row.saturating_sub(1))),
+        Like::Other(Some(other)) => {
+            item_difference(row, view, bytes, other, reader.bytes(other))
+        }
     }
 }
 
-/// Row 0 holds headers, and row f + 1 frames f.
-fn items_apart(number: u32, left: &Item, right: &Item) -> Option<Difference>
-    ensures { result ≡ row_difference number (rows.Item left.now) (rows.Item right.now) }
+/// How a row differs from the end of the record of copy 0.
+pub fn end_difference(row: u32, next: Option<ItemView>) -> Option<Difference>
+    ensures { result ≡ end_difference row next }
 {
-    let frame = number.saturating_sub(1);
-    match left {
-        Item::Header(left) => match right {
-            Item::Header(right) => headers_apart(left, right),
-            Item::Frame(_) => Some(Difference::Kind(frame)),
-        },
-        Item::Frame(left) => match right {
-            Item::Header(_) => Some(Difference::Kind(frame)),
-            Item::Frame(right) => first_difference(frame, left, right),
-        },
+    match next {
+        Some(_) => Some(Difference::Kind(row.saturating_sub(1))),
+        None => None,
     }
-}
-
-fn headers_apart(left: &Profile, right: &Profile) -> Option<Difference>
-    ensures { (number : ℕ) → result ≡ row_difference number (rows.Item (items.Header left.now))
-        (rows.Item (items.Header right.now)) }
-{
-    if left == right {
-        return None;
-    }
-    Some(Difference::Header)
 }

@@ -79,7 +79,7 @@ fn of_outcomes(cycle: u32, left: &Outcome, right: &Outcome) -> Option<Difference
     }
 }
 
-fn at_element(cycle: u32, element: Option<u32>) -> Option<Difference>
+pub(crate) fn at_element(cycle: u32, element: Option<u32>) -> Option<Difference>
     ensures { result ≡ element_difference cycle element }
 {
     match element {

@@ -10,6 +10,7 @@ pub mod laws;
 mod reading;
 mod row;
 mod verdict;
+mod views;
 
 pub use comparing::compare;
 pub use difference::Difference;

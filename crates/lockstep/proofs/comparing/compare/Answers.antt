@@ -1,9 +1,10 @@
 use Rattle.std.proofs.Common.{rules, subst, [], ◌∷◌, ◌++◌, Ok}
 use Rattle.std.specs.Prelude.{Option}
-use Rattle.record_reader.specs.StandsFor.{room}
+use Rattle.item_reader.specs.StandsFor.{room}
 use Rattle.lockstep.specs.declared.verdict.Verdict.{Verdict}
 use Rattle.lockstep.specs.Copies.{RowRead}
 use Rattle.lockstep.proofs.Standing.{stand-given, stand-few, stand-reads, stand-rows, stand-cycles, reads-same, none-found}
+use Rattle.lockstep.proofs.Needed.{shared-wider}
 use Rattle.lockstep.proofs.comparing.compare.Goals as goal
 
 pub rows-init : goal.rows-init
@@ -42,3 +43,26 @@ rows-preserved g c =
       reads = stand-reads h.stand.1 h.reads c.read_row.ensures.reads;
       traffic = search rules;
     }
+
+pub read_row-requires-clause-stand : goal.read_row-requires-clause-stand
+read_row-requires-clause-stand g c = (
+  g.S.Slots.sees c.args.shelf.now,
+  c.rows.invariant.stand.0,
+  c.args.slots.now,
+  c.requires.different,
+  c.rows.invariant.stand.1,
+)
+
+pub returns-in_err-verdict-clause-needed : goal.returns-in_err-verdict-clause-needed
+returns-in_err-verdict-clause-needed g c copies left =
+    let stand = c.rows.invariant.stand.1 in
+    shared-wider (g.S.Slots.sees c.args.shelf.now) (g.S.Slots.sees c.rows.shelf) (g.S.Slots.sees c.read_row.new.shelf)
+    c.rows.invariant.stand.0 c.args.slots.now (c.rows.copies.first ∷ c.rows.copies.others.items) copies stand.readers left
+    (c.read_row.ensures.needed (g.S.Slots.sees c.args.shelf.now) c.rows.invariant.stand.0 c.args.slots.now c.requires.different stand)
+
+pub returns-in-Some-clause-needed : goal.returns-in-Some-clause-needed
+returns-in-Some-clause-needed g c copies left =
+    let stand = c.rows.invariant.stand.1 in
+    shared-wider (g.S.Slots.sees c.args.shelf.now) (g.S.Slots.sees c.rows.shelf) (g.S.Slots.sees c.read_row.new.shelf)
+    c.rows.invariant.stand.0 c.args.slots.now (c.rows.copies.first ∷ c.rows.copies.others.items) copies stand.readers left
+    (c.read_row.ensures.needed (g.S.Slots.sees c.args.shelf.now) c.rows.invariant.stand.0 c.args.slots.now c.requires.different stand)

@@ -1,7 +1,7 @@
 use Rattle.std.proofs.Common.{List, None}
 use Rattle.det_edges.specs.Traffic.{ShelfTraffic, shelf_run}
 use Rattle.record_grammar.specs.declared.item.Item.{Item}
-use Rattle.record_reader.specs.StandsFor.{room}
+use Rattle.item_reader.specs.StandsFor.{room}
 use Rattle.lockstep.specs.Compared.{ReadsAmong}
 use Rattle.lockstep.specs.Copies.{Stand}
 use Rattle.lockstep.proofs.comparing.compare.Given as goal

@@ -1,18 +1,24 @@
-use Rattle.std.proofs.Common.{◌≡◌, ℕ, List, length, map, None}
+use Rattle.std.proofs.Common.{◌≡◌, ℕ, List, length, map, Option, None}
 use Rattle.det_edges.specs.Shelf.{ShelfState}
 use Rattle.det_edges.specs.Traffic.{ShelfTraffic, shelf_run}
 use Rattle.record_grammar.specs.declared.item.Item.{Item}
-use Rattle.record_reader.specs.StandsFor.{slot_of}
+use Rattle.item_reader.specs.StandsFor.{slot_of}
 use Rattle.lockstep.specs.Compared.{AreDifferent, ReadsAmong}
-use Rattle.lockstep.specs.Copies.{AreBehind, row_of}
+use Rattle.lockstep.specs.Needed.{AllNeeded}
+use Rattle.lockstep.specs.ItemRows.{ReadersBehind, IsSpelledBy}
+use Rattle.lockstep.specs.Copies.{row_of}
 use Rattle.lockstep.proofs.SideBySide.{HaveOthers}
 use Rattle.lockstep.proofs.reading.read_others.Given as goal
 
 abbrev pub invariant-others : goal.invariant-others
 invariant-others g l = record {
-  others : (first : ShelfState) (given : List Item) (slots : List ℕ) → AreDifferent slots
-      → AreBehind first (g.S.Slots.sees l.fn.shelf) given slots l.fn.readers → l.row ≡ length given
-      → HaveOthers l.index l.found (row_of l.item) first (g.S.Slots.sees l.shelf) given slots l.readers;
+  others : (first : ShelfState) (given : List Item) (slots : List ℕ) (ours : Option Item)
+      → IsSpelledBy l.item l.bytes ours → AreDifferent slots
+      → ReadersBehind first (g.S.Slots.sees l.fn.shelf) given slots l.fn.readers → l.row ≡ length given
+      → HaveOthers l.index l.found (row_of ours) first (g.S.Slots.sees l.shelf) given slots l.readers;
+  needed : (first : ShelfState) (given : List Item) (slots : List ℕ) (ours : Option Item)
+      → IsSpelledBy l.item l.bytes ours → AreDifferent slots → ReadersBehind first (g.S.Slots.sees l.fn.shelf) given slots l.fn.readers
+      → l.row ≡ length given → AllNeeded first (g.S.Slots.sees l.shelf) (length given) slots;
   reads : ReadsAmong (g.S.Slots.sees l.fn.shelf) (g.S.Slots.sees l.shelf) (map slot_of l.fn.readers);
   slots : map slot_of l.readers ≡ map slot_of l.fn.readers;
   traffic : ShelfTraffic (shelf_run g.S.Slots.sees g.S.Slots.stays l.fn.shelf l.shelf) None;

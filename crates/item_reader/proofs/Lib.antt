@@ -1,0 +1,7 @@
+pub mod Lists
+pub mod Passing
+pub mod Unshort
+pub mod Reading
+pub mod Stepping
+pub mod Matching
+pub mod Liking

@@ -1,0 +1,5 @@
+pub mod Held
+pub mod StandsFor
+pub mod Steps
+pub mod Fronts
+pub mod Like

@@ -1,0 +1,15 @@
+pub mod Numbers
+pub mod Wide
+pub mod Many
+pub mod Begins
+pub mod Over
+pub mod Suffix
+pub mod Reading
+pub mod Viewing
+pub mod Growing
+pub mod Spelled
+pub mod Local
+pub mod Cutting
+pub mod Walked
+pub mod Undrawn
+pub mod EqualItems

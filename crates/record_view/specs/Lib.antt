@@ -1,0 +1,8 @@
+pub mod Gives
+pub mod Opening
+pub mod Skips
+pub mod Shows
+pub mod Scans
+pub mod Walked
+pub mod Parts
+pub mod Laws

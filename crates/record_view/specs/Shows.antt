@@ -1,0 +1,98 @@
+-- The meaning of a view: at each offset is exactly the part that the grammar reads there.
+use Rattle.std.specs.Prelude.{◌≡◌, ℕ, ◌+◌, ◌≤◌, List, length, drop}
+use Rattle.det_values.specs.declared.format.Format.{Format}
+use Rattle.det_values.specs.declared.frames.CycleInput.{CycleInput}
+use Rattle.det_values.specs.declared.frames.Outcome.{Outcome}
+use Rattle.det_values.specs.declared.frames.Outcome.TheVariants as outcomes
+use Rattle.det_values.specs.declared.frames.Frame.TheVariants as frames
+use Rattle.det_values.specs.Values.{RefusedAtValue}
+use Rattle.record_grammar.specs.declared.place.Place.{Place}
+use Rattle.record_grammar.specs.declared.place.Place.TheVariants as places
+use Rattle.record_grammar.specs.declared.item.Item.{Item}
+use Rattle.record_grammar.specs.declared.item.Item.TheVariants as items
+use Rattle.record_grammar.specs.Read.{Got, many}
+use Rattle.record_grammar.specs.Grammar.{refusal_at, sample_at, element_at}
+use Rattle.record_grammar.specs.Grammar.{drawn_at, string_at, item_at}
+use Rattle.record_grammar.specs.Places.{layout_of, format_of}
+use Rattle.record_view.specs.declared.view.InputView.{InputView}
+use Rattle.record_view.specs.declared.view.OutcomeView.{OutcomeView}
+use Rattle.record_view.specs.declared.view.OutcomeView.TheVariants as ends
+use Rattle.record_view.specs.declared.view.ItemKind.{ItemKind}
+use Rattle.record_view.specs.declared.view.ItemKind.TheVariants as kinds
+use Rattle.record_view.specs.declared.view.ItemSpan.{ItemSpan}
+use Rattle.record_view.specs.declared.view.ItemView.{ItemView}
+
+-- how many events the frames from a place on have
+abbrev pub events_of : Place → ℕ
+events_of (places.Register layout) = layout.events
+events_of (places.Discover layout) = layout.events
+events_of (places.Init layout) = layout.events
+events_of (places.Runs layout before) = layout.events
+events_of places.Header = 0
+events_of places.End = 0
+
+-- a cycle's input is at these offsets of a frame's bytes
+pub record ShowsInput (events : ℕ) (p : InputView) (bytes : List ℕ) (input : CycleInput)
+    : Type 0 where
+  pub time : input.time ≡ p.time
+  pub samples : many (sample_at events) p.samples (drop p.samples_at bytes)
+      ≡ Got (input.samples, drop p.outcome_at bytes)
+  pub few : p.samples ≤ 4096
+  pub order : p.samples_at ≤ p.outcome_at
+  pub within : p.outcome_at ≤ length bytes
+
+-- elements and output are at these offsets
+pub record ShowsFinished (format : Format) (count at output_at len : ℕ) (bytes : List ℕ)
+    (outcome : Outcome) : Type 0 where
+  pub elements : List _
+  pub output : List ℕ
+  pub is : outcome ≡ outcomes.Finished elements output
+  pub elements_read : many (drawn_at format) count (drop at bytes)
+      ≡ Got (elements, drop output_at bytes)
+  pub output_read : string_at 4 1048576 (drop output_at bytes) ≡ Got (output, drop len bytes)
+  pub order : at ≤ output_at
+  pub counted : output_at + 4 + length output ≡ len
+  pub within : len ≤ length bytes
+
+-- the refusal is at this offset
+pub record ShowsRefused (at len : ℕ) (bytes : List ℕ) (outcome : Outcome) : Type 0 where
+  pub place : RefusedAtValue
+  pub is : outcome ≡ outcomes.Refused place
+  pub place_read : refusal_at (drop at bytes) ≡ Got (place, drop len bytes)
+  pub order : at ≤ len
+  pub within : len ≤ length bytes
+
+abbrev pub ShowsOutcome : Format → OutcomeView → ℕ → List ℕ → Outcome → Type 0
+ShowsOutcome format (ends.Finished count at output_at) len bytes outcome =
+    ShowsFinished format count at output_at len bytes outcome
+ShowsOutcome format (ends.Refused at) len bytes outcome = ShowsRefused at len bytes outcome
+
+-- where the outcome's elements or refusal begin
+abbrev pub first_of : OutcomeView → ℕ
+first_of (ends.Finished count at output_at) = at
+first_of (ends.Refused at) = at
+
+abbrev pub ShowsParts : Place → ItemKind → ℕ → List ℕ → Item → Type 0
+ShowsParts place (kinds.Header layout) len bytes (items.Header p) = layout_of p ≡ layout
+ShowsParts place kinds.Register len bytes (items.Frame frames.Register) = Unit {0}
+ShowsParts place kinds.Discover len bytes (items.Frame frames.Discover) = Unit {0}
+ShowsParts place (kinds.Init count) len bytes (items.Frame (frames.Init elements)) =
+    (many element_at count (drop 5 bytes) ≡ Got (elements, drop len bytes)) × (5 ≤ len)
+ShowsParts place (kinds.Run input outcome) len bytes (items.Frame (frames.Run r)) =
+    ShowsInput (events_of place) input bytes r.input
+    × ShowsOutcome (format_of place) outcome len bytes r.outcome
+    × (input.outcome_at ≤ first_of outcome)
+ShowsParts place kinds.Terminate len bytes (items.Frame frames.Terminate) = Unit {0}
+ShowsParts place kind len bytes item = ⊥
+
+-- the item comes first in these bytes, in this place of a record, and its parts are where the view
+-- says
+pub record Shows (place : Place) (span : ItemSpan) (bytes : List ℕ) (item : Item) : Type 0 where
+  pub read : item_at place bytes ≡ Got (item, drop span.len bytes)
+  pub within : span.len ≤ length bytes
+  pub parts : ShowsParts place span.kind span.len bytes item
+
+-- these are an item's bytes and no others, and the view is of it
+pub record IsSpelling (view : ItemView) (item : Item) (bytes : List ℕ) : Type 0 where
+  pub shows : Shows view.place view.span bytes item
+  pub exact : length bytes ≡ view.span.len

@@ -1,0 +1,26 @@
+//! Views of a record's items: a struct of offsets over the bytes that hold an item. An item is
+//! checked once against the grammar, and nothing of it is copied. No function takes memory.
+#![tactic(auto)]
+
+mod field;
+mod header;
+mod input;
+pub mod laws;
+mod next_place;
+mod number;
+mod opening;
+mod partial;
+mod parts;
+mod resume;
+mod skip;
+mod stop;
+mod view;
+mod walk;
+
+pub use next_place::{events_at, format_at, place_after};
+pub use partial::{Partial, PartialRun, Scan, Step};
+pub use parts::{elements_in, init_elements_in, output_in, refusal_in, samples_in};
+pub use resume::view_item;
+pub use stop::Stop;
+pub use view::{InputView, ItemKind, ItemSpan, ItemView, OutcomeView};
+pub use walk::{ElementWalk, SampleWalk};

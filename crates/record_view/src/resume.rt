@@ -1,0 +1,133 @@
+//! Checks an item against the grammar, from where the last step left it.
+ghost use Rattle.std.specs.Prelude.{◌≡◌, ◌≤◌, length, drop};
+ghost use Rattle.record_grammar.specs.Places.{format_of};
+ghost use Rattle.record_grammar.specs.declared.place.Place.TheVariants as places;
+ghost use Rattle.record_view.specs.Scans.{IsScan, InitScan, RunScan, IsStep, Fits};
+
+use crate::field::{output, rest_of};
+use crate::next_place::format_at;
+use crate::opening::{Opening, read_opening};
+use crate::partial::{Partial, PartialRun, Scan, Step};
+use crate::skip::{skip_drawn, skip_elements};
+use crate::stop::Stop;
+use crate::view::{ItemKind, ItemSpan, OutcomeView};
+use det_values::Format;
+use record_grammar::Place;
+
+/// A step that ends with a whole item.
+fn whole(kind: ItemKind, len: usize) -> Step
+    ensures { result.answer ≡ Ok (record { kind = kind; len = len }) }
+{
+    Step {
+        scan: Scan {
+            partial: Partial::Nothing,
+            read: 0,
+        },
+        answer: Ok(ItemSpan { kind, len }),
+    }
+}
+
+/// A step that ends before the item does, or with a fault.
+fn stopped(partial: Partial, read: usize, stop: Stop) -> Step
+    ensures { result ≡ record {
+      scan = record { partial = partial; read = read };
+      answer = Err stop;
+    } }
+{
+    Step {
+        scan: Scan { partial, read },
+        answer: Err(stop),
+    }
+}
+
+/// Checks the elements of an Init frame that are left.
+fn go_on_init(place: Place, elements: u32, left: u32, read: usize, bytes: &[u8]) -> Step
+    requires { read ≤ length bytes.now }
+    ensures viewed { InitScan place elements left read bytes.now
+        → IsStep place result bytes.now }
+    ensures fits { Fits result (length bytes.now) }
+{
+    let skip = skip_elements(left, rest_of(bytes, read));
+    let read = read + skip.read;
+    match skip.stop {
+        None => whole(ItemKind::Init { elements }, read),
+        Some(stop) => {
+            let left = skip.left;
+            stopped(Partial::Init { elements, left }, read, stop)
+        }
+    }
+}
+
+/// Checks the elements of a finished cycle that are left, and the output.
+fn go_on_run(place: Place, format: Format, run: PartialRun, read: usize, bytes: &[u8]) -> Step
+    requires format { format ≡ format_of place }
+    requires read { read ≤ length bytes.now }
+    ensures viewed { RunScan place run read bytes.now → IsStep place result bytes.now }
+    ensures fits { Fits result (length bytes.now) }
+{
+    let skip = skip_drawn(format, run.left, rest_of(bytes, read));
+    let read = read + skip.read;
+    let ended = match skip.stop {
+        Some(stop) => Err(stop),
+        None => output(rest_of(bytes, read)),
+    };
+    match ended {
+        Err(stop) => {
+            let left = skip.left;
+            stopped(Partial::Run(PartialRun { left, ..run }), read, stop)
+        }
+        Ok((_, rest)) => {
+            let outcome = OutcomeView::Finished {
+                elements: run.elements,
+                elements_at: run.elements_at,
+                output_at: read,
+            };
+            let input = run.input;
+            whole(ItemKind::Run { input, outcome }, bytes.len() - rest.len())
+        }
+    }
+}
+
+/// Checks an item from its first byte.
+fn start(place: Place, bytes: &[u8]) -> Step
+    ensures viewed { IsStep place result bytes.now }
+    ensures fits { Fits result (length bytes.now) }
+{
+    match read_opening(place, bytes) {
+        Err(stop) => stopped(Partial::Nothing, 0, stop),
+        Ok((opening, rest)) => {
+            let read = bytes.len() - rest.len();
+            match opening {
+                Opening::Ready(kind) => whole(kind, read),
+                Opening::Init(elements) => go_on_init(place, elements, elements, read, bytes),
+                Opening::Run {
+                    input,
+                    elements,
+                    elements_at,
+                } => {
+                    let run = PartialRun {
+                        input,
+                        elements,
+                        elements_at,
+                        left: elements,
+                    };
+                    go_on_run(place, format_at(place), run, read, bytes)
+                }
+            }
+        }
+    }
+}
+
+/// Checks the item that may come in a place. `bytes` are all of its bytes so far, and perhaps more;
+/// `scan` is what the last step kept of it, or `Partial::Nothing` and 0 at its first step.
+pub fn view_item(place: Place, scan: Scan, bytes: &[u8]) -> Step
+    requires { scan.read ≤ length bytes.now }
+    ensures viewed { IsScan place scan bytes.now → IsStep place result bytes.now }
+    ensures fits { Fits result (length bytes.now) }
+{
+    match scan.partial {
+        Partial::Nothing => start(place, bytes),
+        Partial::Init { elements, left } => go_on_init(place, elements, left, scan.read, bytes),
+        Partial::Run(run) => go_on_run(place, format_at(place), run, scan.read, bytes),
+    }
+}

@@ -1,0 +1,79 @@
+//! Lists of elements, skipped.
+ghost use Rattle.std.specs.Prelude.{◌≡◌};
+ghost use Rattle.record_grammar.specs.Grammar.{element_at, drawn_at};
+ghost use Rattle.record_view.specs.Skips.{IsSkip};
+
+use crate::field::{drawn, element};
+use crate::stop::Stop;
+use det_values::Format;
+
+/// How far elements were skipped.
+#[derive(Clone, Copy, Drop)]
+pub struct Skip {
+    /// How many are left.
+    pub left: u32,
+    /// How many bytes were skipped.
+    pub read: usize,
+    /// Why it stopped, where some are left.
+    pub stop: Option<Stop>,
+}
+
+/// Skips elements of an Init frame.
+pub fn skip_elements(most: u32, bytes: &[u8]) -> Skip
+    ensures { IsSkip element_at most result bytes.now }
+{
+    let mut left = most;
+    let mut rest = bytes;
+    while left > 0 {
+        match element(rest) {
+            Ok((_, others)) => {
+                rest = others;
+                left -= 1;
+            }
+            Err(stop) => {
+                let read = bytes.len() - rest.len();
+                return Skip {
+                    left,
+                    read,
+                    stop: Some(stop),
+                };
+            }
+        }
+    }
+    let read = bytes.len() - rest.len();
+    Skip {
+        left,
+        read,
+        stop: None,
+    }
+}
+
+/// Skips elements of a finished cycle.
+pub fn skip_drawn(format: Format, most: u32, bytes: &[u8]) -> Skip
+    ensures { IsSkip (drawn_at format) most result bytes.now }
+{
+    let mut left = most;
+    let mut rest = bytes;
+    while left > 0 {
+        match drawn(format, rest) {
+            Ok((_, _, others)) => {
+                rest = others;
+                left -= 1;
+            }
+            Err(stop) => {
+                let read = bytes.len() - rest.len();
+                return Skip {
+                    left,
+                    read,
+                    stop: Some(stop),
+                };
+            }
+        }
+    }
+    let read = bytes.len() - rest.len();
+    Skip {
+        left,
+        read,
+        stop: None,
+    }
+}
