@@ -23,12 +23,12 @@ library:
 test:
 	$(PYTHON) tests/run.py
 
-# The gate: the list of the theorem's definitions, all proofs, edits that must fail, tests in Rattle.
-# Where it passed, out/proved says when it began.
+# The gate: the list of the theorem's definitions, all proofs, edits that must fail, tests in Rattle,
+# and how many minutes of a processor each crate took. Where it passed, out/proved says when it began.
 prove:
 	$(PYTHON) tools/definitions.py --check
 	mkdir -p out && touch out/proving
-	rt ci
+	$(PYTHON) tools/gate_times.py rt ci
 	mv out/proving out/proved
 
 # Both: the gate, the library over what it proved, and the tests over the proved programs.
