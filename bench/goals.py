@@ -84,7 +84,8 @@ def record_goals(name: str) -> list[Goal]:
 
 def copies_goals() -> list[Goal]:
     return [
-        Goal("compare 2: time, of cmp", ("compare 2", None), ("cmp", None), 1.5),
+        Goal("compare 2: time, of cmp", ("compare 2", None), ("cmp", None), 1.2),
+        Goal("compare 8: time, of cmp of two of them", ("compare 8", None), ("cmp", None), 7.0),
         Goal("vote 3: time, of cmp of two of them", ("vote 3", None), ("cmp", None), 2.0),
         *(
             Goal(f"{what}: time, of plain Rust", (what, None), (what + IN_PLAIN, None), 1.5)
