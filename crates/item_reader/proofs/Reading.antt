@@ -24,8 +24,8 @@ use Rattle.record_view.specs.Scans.{IsScan, IsStep, IsAnswer}
 use Rattle.record_view.proofs.Growing.{scanned_grows}
 use Rattle.item_reader.specs.declared.reader.ItemReader.{ItemReader}
 use Rattle.item_reader.specs.Held.{held}
-use Rattle.item_reader.specs.StandsFor.{StandsFor, unread, FoundFault, GaveItem}
-use Rattle.item_reader.specs.Steps.{Stays, GaveAll, ReadsOn, count_of}
+use Rattle.item_reader.specs.StandsFor.{StandsFor, unread, FoundFault, GaveItem, Holds}
+use Rattle.item_reader.specs.Steps.{Stays, GaveAll, ReadsOn, count_of, Scanned}
 use Rattle.item_reader.proofs.Unshort.{unshort}
 
 abbrev some_fault : ℕ → Reason → Option RecordFault
@@ -51,11 +51,15 @@ pub unread_held : (r : ItemReader) → r.last ≡ 0 → unread r ≡ held r.wind
 unread_held r e = ap (λ (n : ℕ). drop n (held r.window)) e
 
 -- what the step over the bytes that are held says
+pub view_of : (r : ItemReader) (slice : List ℕ) (step : Step) → r.last ≡ 0 → slice ≡ held r.window
+    → (IsScan r.place r.scan slice → IsStep r.place step slice) → Scanned r → IsStep r.place step (unread r)
+view_of r slice step none same viewed scan =
+    let e : unread r ≡ slice = unread_held r none ∙ sym same in
+    subst (λ (xs : List ℕ). IsStep r.place step xs) (sym e) (viewed (subst (λ (xs : List ℕ). IsScan r.place r.scan xs) e scan))
+
 pub view_now : (r : ItemReader) (read : List ℕ) (given : List Item) (slice : List ℕ) (step : Step) → r.last ≡ 0 → slice ≡ held r.window
     → (IsScan r.place r.scan slice → IsStep r.place step slice) → StandsFor r read given → IsStep r.place step (unread r)
-view_now r read given slice step none same viewed h =
-    let e : unread r ≡ slice = unread_held r none ∙ sym same in
-    subst (λ (xs : List ℕ). IsStep r.place step xs) (sym e) (viewed (subst (λ (xs : List ℕ). IsScan r.place r.scan xs) e h.scan))
+view_now r read given slice step none same viewed h = view_of r slice step none same viewed h.scan
 
 -- nothing of an item was read
 pub scan_none : (place : Place) (scan : Scan) (bytes : List ℕ) → scan ≡ record { partial = partials.Nothing; read = 0 }
@@ -68,10 +72,7 @@ stays_stands old new read given s h = record {
   leads =
       subst (λ (xs : List ℕ). Leads places.Header read given new.place xs) (sym s.unread)
       (subst (λ (p : Place). Leads places.Header read given p (unread old)) (sym s.place) h.leads);
-  scan =
-      subst (λ (xs : List ℕ). IsScan new.place new.scan xs) (sym s.unread)
-      (subst (λ (scan : Scan). IsScan new.place scan (unread old)) (sym s.scan)
-      (subst (λ (p : Place). IsScan p old.scan (unread old)) (sym s.place) h.scan));
+  scan = scan_none new.place new.scan (unread new) s.scan;
   counted = s.count ∙ h.counted;
   going = s.fault ∙ h.going;
 }
@@ -82,6 +83,14 @@ unread_grows old new more none on is =
     unread_held new (on.last ∙ none) ∙ is ∙ ap (λ (xs : List ℕ). xs ++ more) (sym (unread_held old none))
 
 -- more bytes were read
+pub reads_scan : (old new : ItemReader) (more : List ℕ) → old.last ≡ 0 → ReadsOn old new → held new.window ≡ held old.window ++ more
+    → Scanned old → Scanned new
+reads_scan old new more none on is scan =
+    subst (λ (xs : List ℕ). IsScan new.place new.scan xs) (sym (unread_grows old new more none on is))
+    (subst (λ (s : Scan). IsScan new.place s (unread old ++ more)) (sym on.scan)
+    (subst (λ (p : Place). IsScan p old.scan (unread old ++ more)) (sym on.place)
+    (scanned_grows old.place old.scan (unread old) more scan)))
+
 pub reads_stand : (old new : ItemReader) (read more : List ℕ) (given : List Item) → old.last ≡ 0 → ReadsOn old new
     → held new.window ≡ held old.window ++ more → StandsFor old read given → StandsFor new (read ++ more) given
 reads_stand old new read more given none on is h =
@@ -91,11 +100,7 @@ reads_stand old new read more given none on is h =
           subst (λ (xs : List ℕ). Leads places.Header (read ++ more) given new.place xs) grown
           (subst (λ (p : Place). Leads places.Header (read ++ more) given p (unread old ++ more)) (sym on.place)
           (leads_grow given places.Header old.place read (unread old) more h.leads));
-      scan =
-          subst (λ (xs : List ℕ). IsScan new.place new.scan xs) grown
-          (subst (λ (scan : Scan). IsScan new.place scan (unread old ++ more)) (sym on.scan)
-          (subst (λ (p : Place). IsScan p old.scan (unread old ++ more)) (sym on.place)
-          (scanned_grows old.place old.scan (unread old) more h.scan)));
+      scan = reads_scan old new more none on is h.scan;
       counted = omega (arith, on.before, ap length is, length-append (held old.window) more, length-append read more, h.counted);
       going = on.fault ∙ h.going;
     }
@@ -115,6 +120,13 @@ stands_next old new read given item h got leads_to scan count going =
       going = going;
     }
 
+-- the item of a view is held
+pub next_holds : (old new : ItemReader) (span : ItemSpan) → old.last ≡ 0 → new.window ≡ old.window → new.last ≡ span.len
+    → (v : (item : Item) × Shows old.place span (unread old) item) → Holds new (record { place = old.place; span = span }) v.0
+next_holds old new span none same last v =
+    let all : held new.window ≡ unread old = ap held same ∙ sym (unread_held old none) in
+    record { last = sym last; shows = subst (λ (xs : List ℕ). Shows old.place span xs v.0) (sym all) v.1 }
+
 pub next_ok : (old new : ItemReader) (read : List ℕ) (given : List Item) (span : ItemSpan) → old.last ≡ 0 → new.window ≡ old.window
     → new.before ≡ old.before → new.last ≡ span.len → new.fault ≡ None → StandsFor old read given
     → (v : (item : Item) × Shows old.place span (unread old) item)
@@ -133,7 +145,7 @@ next_ok old new read given span none same_window same_before last going h v lead
     let others = all_at_got given old.place read (unread old) item (unread new) h.leads got in
     record {
       item = item;
-      holds = record { last = sym last; shows = subst (λ (xs : List ℕ). Shows old.place span xs item) (sym all) shows };
+      holds = next_holds old new span none same_window last v;
       stands = stands_next old new read given item h got (λ kind. leads_to item span.len (unread old) kind shows.parts) scan count going;
       others = others.0;
       is = others.1;

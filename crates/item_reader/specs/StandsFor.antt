@@ -93,6 +93,12 @@ pub record GaveItem (view : ItemView) (r : ItemReader) (read : List ℕ) (given 
   pub others : List Item
   pub is : items_in read ≡ given ++ item ∷ others
 
+-- a view that is given is of an item whose bytes are held
+abbrev pub GaveView : Result (Option ItemView) (Stopped RecordFault) → ItemReader → Type 0
+GaveView (Ok (Some view)) r = (item : Item) × Holds r view item
+GaveView (Ok None) r = Unit {0}
+GaveView (Err stop) r = Unit {0}
+
 -- what an answer says of the bytes read and the items given
 abbrev pub ItemIs : Result (Option ItemView) (Stopped RecordFault) → ItemReader → Type 0
     → List ℕ → List Item → Type 0

@@ -8,12 +8,14 @@ use Rattle.record_grammar.specs.Read.{More}
 use Rattle.record_grammar.specs.Grammar.{item_at}
 use Rattle.record_grammar.specs.Record.{fault as fault_in}
 use Rattle.record_view.specs.declared.view.ItemView.{ItemView}
+use Rattle.record_view.specs.declared.partial.Partial.TheVariants.{Nothing}
+use Rattle.record_view.specs.Scans.{IsScan}
 use Rattle.item_reader.specs.declared.reader.ItemReader.{ItemReader}
 use Rattle.item_reader.specs.declared.reader.Progress.{Progress}
 use Rattle.item_reader.specs.declared.reader.Progress.TheVariants as progress
 use Rattle.item_reader.specs.Held.{held}
 use Rattle.item_reader.specs.StandsFor.{StandsFor, unread, fault_of, GaveItem, ItemIs}
-use Rattle.item_reader.specs.StandsFor.{FoundFault}
+use Rattle.item_reader.specs.StandsFor.{FoundFault, Holds}
 
 -- how many bytes were read
 abbrev pub count_of : ItemReader → ℕ
@@ -23,11 +25,11 @@ count_of r = r.before + length (held r.window)
 abbrev pub countable : ItemReader → ℕ
 countable r = 2 ^ 64 - count_of r
 
--- no byte was read, and no item given
+-- no byte was read, no item given, and nothing is known of the next one
 pub record Stays (old new : ItemReader) : Type 0 where
   pub slot : new.slot ≡ old.slot
   pub place : new.place ≡ old.place
-  pub scan : new.scan ≡ old.scan
+  pub scan : new.scan ≡ record { partial = Nothing; read = 0 }
   pub fault : new.fault ≡ old.fault
   pub unread : unread new ≡ unread old
   pub count : count_of new ≡ count_of old
@@ -36,6 +38,22 @@ pub record Stays (old new : ItemReader) : Type 0 where
 pub record Forgot (old new : ItemReader) : Type 0 where
   pub stays : Stays old new
   pub last : new.last ≡ 0
+
+-- so much is known of the item whose first bytes are held
+abbrev pub Scanned : ItemReader → Type 0
+Scanned r = IsScan r.place r.scan (unread r)
+
+-- an item is given whose bytes are held, or more of it is known
+abbrev pub ScannedOf : Result (Option ItemView) RecordFault → ItemReader → Type 0
+ScannedOf (Ok (Some view)) r = (item : Item) × Holds r view item
+ScannedOf (Ok None) r = Scanned r
+ScannedOf (Err f) r = Unit {0}
+
+abbrev pub ScannedBy : Result Progress (Stopped RecordFault) → ItemReader → Type 0
+ScannedBy (Ok (progress.Item view)) r = (item : Item) × Holds r view item
+ScannedBy (Ok progress.Piece) r = Scanned r
+ScannedBy (Ok progress.End) r = Unit {0}
+ScannedBy (Err stop) r = Unit {0}
 
 -- all items of what was read are given, and more bytes are needed
 pub record GaveAll (r : ItemReader) (read : List ℕ) (given : List Item) : Type 0 where

@@ -2,7 +2,6 @@
 ghost use Rattle.std.specs.Prelude.{◌≡◌, ◌≤◌, ◌<◌, ◌+◌, ◌++◌, length, take};
 
 use crate::ItemReader;
-use crate::reader::no_scan;
 use det_edges::{Failure, Slots, Stopped};
 use det_values::OutOfMemory;
 use record_grammar::{Place, RecordFault};
@@ -123,7 +122,6 @@ impl ItemReader {
             (failure_of result) }
     {
         self.forget_last();
-        self.scan = no_scan();
         let (matched, front) = self.pass_front(bytes, shelf);
         if matched == bytes.len() {
             return front;

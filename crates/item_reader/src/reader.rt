@@ -57,9 +57,10 @@ impl ItemReader {
     ghost use Rattle.record_view.specs.Shows.{IsSpelling};
     ghost use Rattle.item_reader.specs.Held.{Took};
     ghost use Rattle.item_reader.specs.StandsFor.{StandsFor, HasRead, ItemIs, RoomFell, Holds};
-    ghost use Rattle.item_reader.specs.StandsFor.{fault_of, slot_of, room};
+    ghost use Rattle.item_reader.specs.StandsFor.{fault_of, slot_of, place_of, room, GaveView};
     ghost use Rattle.item_reader.specs.Steps.{Forgot, GaveAll, HeldIs, RoomOf, KeepsOn, StepIs};
-    ghost use Rattle.item_reader.specs.Steps.{Shrinks, GoesOn, ReadsOn, FinishIs};
+    ghost use Rattle.item_reader.specs.Steps.{Shrinks, GoesOn, ReadsOn, FinishIs, Scanned};
+    ghost use Rattle.item_reader.specs.Steps.{ScannedOf, ScannedBy};
 
     /// A reader of what a slot has left. It takes no memory, and reads nothing yet.
     pub fn new(alloc: Global, slot: u32) -> ItemReader
@@ -90,6 +91,8 @@ impl ItemReader {
         requires { slot_of self.old < (S.sees shelf.old).slots }
         ensures item { HasRead (S.sees shelf.old) (S.sees shelf.new) self.old
             (ItemIs result self.new (IsAtEnd (S.sees shelf.new) (slot_of self.old))) }
+        // A view is of the bytes that are held, whatever was read before.
+        ensures held { GaveView result self.new }
         // Each item leaves fewer that may come.
         ensures room { (read : List ℕ) (given : List Item) → StandsFor self.old read given
             → RoomFell result (room self.old) (room self.new) }
@@ -123,13 +126,21 @@ impl ItemReader {
         &self.window.as_slice()[..view.span.len]
     }
 
-    /// Lets go of the item that was given last.
+    /// Where the next item may stand.
+    pub fn place(&self) -> Place
+        ensures { result ≡ place_of self.now }
+    {
+        self.place
+    }
+
+    /// Lets go of the item that was given last, and of what was seen of the next one.
     pub(crate) fn forget_last(&mut self)
         ensures { Forgot self.old self.new }
     {
         self.before += self.last as u64;
         self.window.skip(self.last);
         self.last = 0;
+        self.scan = no_scan();
     }
 
     /// Gives an item of what is held, or reads on.
@@ -139,6 +150,7 @@ impl ItemReader {
         requires going { fault_of self.old ≡ None }
         ensures step { HasRead (S.sees shelf.old) (S.sees shelf.new) self.old
             (StepIs result self.new (IsAtEnd (S.sees shelf.new) (slot_of self.old))) }
+        ensures scanned { Scanned self.old → ScannedBy result self.new }
         ensures shrinks { (read : List ℕ) (given : List Item) → StandsFor self.old read given
             → Shrinks result (room self.old) (room self.new) }
         ensures going { GoesOn result self.old self.new }
@@ -162,6 +174,7 @@ impl ItemReader {
         requires going { fault_of self.old ≡ None }
         ensures item { (read : List ℕ) (given : List Item) → StandsFor self.old read given
             → HeldIs result self.new read given }
+        ensures scanned { Scanned self.old → ScannedOf result self.new }
         ensures room { (read : List ℕ) (given : List Item) → StandsFor self.old read given
             → RoomOf result (room self.old) (room self.new) }
         ensures keeps { KeepsOn result self.old self.new }
@@ -201,6 +214,7 @@ impl ItemReader {
             × ((read : List ℕ) (given : List Item) → GaveAll self.old read given
             → StepIs result self.new (IsAtEnd (S.sees shelf.new) (slot_of self.old))
             (read ++ more) given) × AreBytes more }
+        ensures scanned { Scanned self.old → ScannedBy result self.new }
         ensures shrinks { Shrinks result (room self.old) (room self.new) }
         ensures going { GoesOn result self.old self.new }
         ensures slot { slot_of self.new ≡ slot_of self.old }

@@ -40,8 +40,9 @@ fn exactly(reason: Reason, expected: u8, bytes: &[u8]) -> Result<(u8, &[u8]), St
     }
 }
 
+/// The text DETREC, of which the last byte is given, and the rest.
 #[tactic(auto, unfolding(record_grammar::specs::Grammar::magic_at))]
-fn magic(bytes: &[u8]) -> Result<(u8, &[u8]), Stop>
+pub fn magic(bytes: &[u8]) -> Result<(u8, &[u8]), Stop>
     ensures { Gives (λ x. (x.0, x.1.now)) result (magic_at bytes.now) }
 {
     let (_, rest) = exactly(Reason::Magic, b'D', bytes)?;
@@ -67,8 +68,9 @@ fn format_of(bytes: &[u8]) -> Result<(Format, &[u8]), Stop>
     }
 }
 
+/// The format, and the rest.
 #[tactic(auto, unfolding(record_grammar::specs::Grammar::version_at))]
-fn version(bytes: &[u8]) -> Result<(Format, &[u8]), Stop>
+pub fn version(bytes: &[u8]) -> Result<(Format, &[u8]), Stop>
     ensures { Gives (λ x. (x.0, x.1.now)) result (version_at bytes.now) }
 {
     let (_, rest) = exactly(Reason::Version, 0, bytes)?;
@@ -96,8 +98,9 @@ fn skip_params(bytes: &[u8]) -> Result<&[u8], Stop>
     skip_all_params(count, rest)
 }
 
+/// A byte of an event's name, and the rest.
 #[tactic(auto, unfolding(record_grammar::specs::Grammar::name_byte_at))]
-fn name_byte(bytes: &[u8]) -> Result<(u8, &[u8]), Stop>
+pub fn name_byte(bytes: &[u8]) -> Result<(u8, &[u8]), Stop>
     ensures { Gives (λ x. (x.0, x.1.now)) result (name_byte_at bytes.now) }
 {
     match bytes {

@@ -17,7 +17,9 @@ mod stop;
 mod view;
 mod walk;
 
+pub use header::{magic, name_byte, version};
 pub use next_place::{events_at, format_at, place_after};
+pub use number::{signed, u8_at, u16_at, u64_at};
 pub use partial::{Partial, PartialRun, Scan, Step};
 pub use parts::{elements_in, init_elements_in, output_in, refusal_in, samples_in};
 pub use resume::view_item;

@@ -5,8 +5,8 @@ use Rattle.det_edges.specs.Traffic.{ShelfTraffic, shelf_run, failure_in}
 use Rattle.record_grammar.specs.declared.fault.RecordFault.{RecordFault}
 use Rattle.record_view.specs.declared.view.ItemView.{ItemView}
 use Rattle.item_reader.specs.declared.reader.Progress.{Progress}
-use Rattle.item_reader.specs.StandsFor.{StandsFor, HasRead, ItemIs, RoomFell, slot_of, room}
-use Rattle.item_reader.specs.Steps.{StepIs, Shrinks, GoesOn}
+use Rattle.item_reader.specs.StandsFor.{StandsFor, HasRead, ItemIs, RoomFell, GaveView, slot_of, room}
+use Rattle.item_reader.specs.Steps.{StepIs, Shrinks, GoesOn, ScannedBy}
 use Rattle.item_reader.proofs.Passing.{passed-on}
 use Rattle.item_reader.proofs.Stepping.{read_then}
 use Rattle.item_reader.proofs.reader.ItemReader.next.Goals as goal
@@ -70,6 +70,7 @@ steps-preserved g c =
     (StepIs (Ok p) c.step.new.self (IsAtEnd (g.S.Slots.sees c.step.new.shelf) (slot_of c.steps.self)))) c.in-Piece.is s.step in
     record {
       read = read_then c.args.self.now c.steps.self (λ slot. StandsFor c.step.new.self) h.slot h.read step;
+      scanned = subst (λ (p : Progress). ScannedBy (Ok p) c.step.new.self) c.in-Piece.is (s.scanned h.scanned);
       last = on.0;
       going = on.1;
       slot = s.slot ∙ h.slot;
@@ -97,3 +98,12 @@ returns-in-End-clause-traffic g c =
     let h = c.steps.invariant.traffic in
     let s = c.in_ok-step.ensures.traffic in
     search rules
+
+pub returns-in_err-step-clause-held : goal.returns-in_err-step-clause-held
+returns-in_err-step-clause-held g c =
+    passed-on (λ (r : Result (Option ItemView) (Stopped RecordFault)). GaveView r c.step.new.self) c.from_residual.result
+    c.from_residual.ensures.1 tt
+
+pub returns-in-Item-clause-held : goal.returns-in-Item-clause-held
+returns-in-Item-clause-held g c =
+    subst (λ (p : Progress). ScannedBy (Ok p) c.step.new.self) c.in-Item.is (c.in_ok-step.ensures.scanned c.steps.invariant.scanned)

@@ -2,12 +2,13 @@ use Rattle.std.proofs.Common.{◌≡◌, ℕ, List, None}
 use Rattle.record_grammar.specs.declared.item.Item.{Item}
 use Rattle.det_edges.specs.Traffic.{ShelfTraffic, shelf_run}
 use Rattle.item_reader.specs.StandsFor.{StandsFor, HasRead, fault_of, slot_of, room}
-use Rattle.item_reader.specs.Steps.{countable}
+use Rattle.item_reader.specs.Steps.{countable, Scanned}
 use Rattle.item_reader.proofs.reader.ItemReader.next.Given as goal
 
 abbrev pub invariant-steps : goal.invariant-steps
 invariant-steps g l = record {
   read : HasRead (g.S.Slots.sees l.fn.shelf) (g.S.Slots.sees l.shelf) l.fn.self (StandsFor l.self);
+  scanned : Scanned l.self;
   last : l.self.last ≡ 0;
   going : fault_of l.self ≡ None;
   slot : slot_of l.self ≡ slot_of l.fn.self;

@@ -1,6 +1,7 @@
 use Rattle.std.proofs.Common.{rules, refl, arith}
 use Rattle.item_reader.specs.StandsFor.{unread}
-use Rattle.item_reader.proofs.Reading.{viewed_ok, viewed_more, viewed_bad, view_now, next_ok, next_falls, next_bad, scan_none}
+use Rattle.item_reader.proofs.Reading.{viewed_ok, viewed_more, viewed_bad, view_now, view_of, next_ok, next_holds, next_falls, next_bad}
+use Rattle.item_reader.proofs.Reading.{scan_none}
 use Rattle.item_reader.proofs.reader.ItemReader.next_held.Goals as goal
 
 pub returns-in-Ok-clause-item : goal.returns-in-Ok-clause-item
@@ -38,3 +39,17 @@ returns-in-Err-Bad-clause-item c read given h =
           b.1 (omega (arith, c.len.ensures)),
       refl,
     )
+
+pub returns-in-Ok-clause-scanned : goal.returns-in-Ok-clause-scanned
+returns-in-Ok-clause-scanned c scan =
+    let r = c.args.self.now in
+    let step = c.view_item-answer.result in
+    let v = view_of r c.as_slice.result.now step c.requires.last c.as_slice.ensures.value c.view_item-answer.ensures.viewed scan in
+    let w = viewed_ok r.place step (unread r) c.in-Ok.span v c.in-Ok.is in (w.0, next_holds r _ c.in-Ok.span c.requires.last refl refl w)
+
+pub returns-in-Err-More-clause-scanned : goal.returns-in-Err-More-clause-scanned
+returns-in-Err-More-clause-scanned c scan =
+    let r = c.args.self.now in
+    let step = c.view_item-answer.result in
+    let v = view_of r c.as_slice.result.now step c.requires.last c.as_slice.ensures.value c.view_item-answer.ensures.viewed scan in
+    (viewed_more r.place step (unread r) v (search rules)).1

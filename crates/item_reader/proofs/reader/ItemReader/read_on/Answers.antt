@@ -6,7 +6,7 @@ use Rattle.item_reader.specs.declared.reader.ItemReader.{ItemReader}
 use Rattle.item_reader.specs.declared.reader.Progress.{Progress}
 use Rattle.item_reader.specs.StandsFor.{StandsFor, slot_of}
 use Rattle.item_reader.specs.Steps.{StepIs}
-use Rattle.item_reader.proofs.Reading.{reads_stand}
+use Rattle.item_reader.proofs.Reading.{reads_stand, reads_scan}
 use Rattle.item_reader.proofs.Passing.{passed-on}
 use Rattle.item_reader.proofs.Stepping.{failed, gave_still, ended, gave, no_bytes}
 use Rattle.item_reader.proofs.reader.ItemReader.read_on.Goals as goal
@@ -66,3 +66,8 @@ returns-in-Err-clause-step g c =
       ),
       t.are,
     )
+
+pub returns-then-n-gt0-clause-scanned : goal.returns-then-n-gt0-clause-scanned
+returns-then-n-gt0-clause-scanned g c scan =
+    let t = c.in_ok-n.ensures.took in
+    reads_scan c.args.self.now c.read_piece.new.self t.more c.requires.last c.in_ok-n.ensures.on t.is scan

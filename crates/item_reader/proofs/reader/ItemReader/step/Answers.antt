@@ -3,7 +3,7 @@ use Rattle.det_edges.specs.Shelf.{Reads, IsAtEnd}
 use Rattle.det_edges.proofs.SlotReads.{reads-none}
 use Rattle.record_view.specs.declared.view.ItemView.{ItemView}
 use Rattle.item_reader.specs.StandsFor.{FoundFault, GaveItem, slot_of}
-use Rattle.item_reader.specs.Steps.{HeldIs, StepIs}
+use Rattle.item_reader.specs.Steps.{HeldIs, StepIs, ScannedOf}
 use Rattle.item_reader.proofs.Passing.{are_none}
 use Rattle.item_reader.proofs.Stepping.{read_none, faulty, gave, needed}
 use Rattle.item_reader.proofs.reader.ItemReader.step.Goals as goal
@@ -52,3 +52,12 @@ returns-in-None-clause-step g c =
           ),
       s.3,
     )
+
+pub returns-in-Some-clause-scanned : goal.returns-in-Some-clause-scanned
+returns-in-Some-clause-scanned g c scan =
+    subst (λ (o : Option ItemView). ScannedOf (Ok o) c.next_held.new.self) c.in-Some.is (c.in-Ok.ensures.scanned scan)
+
+pub returns-in-None-clause-scanned : goal.returns-in-None-clause-scanned
+returns-in-None-clause-scanned g c scan =
+    c.read_on.ensures.scanned
+    (subst (λ (o : Option ItemView). ScannedOf (Ok o) c.next_held.new.self) c.in-None.is (c.in-Ok.ensures.scanned scan))
