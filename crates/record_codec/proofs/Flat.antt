@@ -1,21 +1,20 @@
 -- Flat elements, spelled in a format.
-use Rattle.std.proofs.Common.{◌≡◌, ℕ, suc, ◌+◌, ◌-◌, ◌<◌, ◌≤◌, List, [], ◌∷◌, ◌++◌, length, take, drop, refl, sym, ap, ◌∙◌, append_assoc}
-use Rattle.std.proofs.Common.{arith, length-append}
-use Rattle.std.proofs.Math.Seq.{take-append_seam, drop-append_seam}
+use Rattle.std.proofs.Common.{◌≡◌, ℕ, zero, suc, ◌+◌, ◌-◌, ◌≤◌, List, [], ◌∷◌, ◌++◌, length, take, drop, refl, sym, ap, subst, ◌∙◌}
+use Rattle.std.proofs.Common.{append_assoc, arith, length-append, length-drop}
+use Rattle.std.proofs.Math.Seq.{take-append_seam}
 use Rattle.std.specs.List.{flat_map, All}
 use Rattle.std.proofs.lemmas.List.{append-nil, take-append-drop}
 use Rattle.std.proofs.lemmas.List.Concat.{flat_map-append}
-use Rattle.std.proofs.lemmas.List.Elements.{All-nil, All-cons, All-head, All-tail, All-append}
+use Rattle.std.proofs.lemmas.List.Elements.{All-nil, All-cons, All-head, All-tail}
 use Rattle.det_values.specs.declared.format.Format.{Format}
 use Rattle.det_values.specs.declared.format.Format.TheVariants.{One, Two}
 use Rattle.det_values.specs.declared.frames.DrawnElement.{DrawnElement}
 use Rattle.det_values.specs.Spelling as flat
-use Rattle.record_grammar.specs.Read.{Got, many, with_front}
+use Rattle.record_grammar.specs.Read.{Read, Got, ◌>>=◌, many}
 use Rattle.record_grammar.specs.Grammar.{drawn_at}
+use Rattle.record_grammar.proofs.Steady.{bind_got, got_is}
 use Rattle.record_laws.proofs.Lawful.{AreBytes-rest}
 use Rattle.record_laws.proofs.LawfulParts.{drawn_lawful}
-use Rattle.record_codec.specs.Taking.{StandSpelled, Continues}
-use Rattle.record_codec.proofs.Many.{many_next}
 use Rattle.record_grammar.specs.Spelling.{spelled_u16, spelled_element, spelled_drawn, IsDrawn, MayDraw}
 
 pub in_ranges : (format : Format) (es : List DrawnElement) → All flat.IsDrawn es → All (λ e. MayDraw format e.draws) es
@@ -74,93 +73,72 @@ put_stops es i left old new h e =
 
 -- ---- elements of format Two, as they stand in the bytes
 
--- what a loop over them keeps
-pub record Stretched (most left : ℕ) (rest bytes : List ℕ) : Type 0 where
-  pub elements : List DrawnElement
-  pub counted : length elements + left ≡ most
-  pub fields : All flat.IsDrawn elements
-  pub front : bytes ≡ flat.spelled_all elements ++ rest
+many_one : {A : Type 0} (item : List ℕ → Read A) (n : ℕ) (bytes : List ℕ) → many item (suc n) bytes
+    ≡ (item bytes >>= λ first. many item n first.1 >>= λ others. Got (first.0 ∷ others.0, others.1))
+unfolding many
+many_one item n bytes = refl
 
-pub stretch_begins : (most : ℕ) (bytes : List ℕ) → Stretched most most bytes bytes
-stretch_begins most bytes = record { elements = []; counted = omega arith; fields = All-nil flat.IsDrawn; front = refl }
+many_none : {A : Type 0} (item : List ℕ → Read A) (bytes : List ℕ) → many item zero bytes ≡ Got ([], bytes)
+unfolding many
+many_none item bytes = refl
 
-pub stretch_goes_on : (most left : ℕ) (rest bytes behind : List ℕ) (e : DrawnElement) → flat.AreBytes bytes → 0 < left → drawn_at Two rest
-    ≡ Got (e, behind) → Stretched most left rest bytes → Stretched most (left - 1) behind bytes
-stretch_goes_on most left rest bytes behind e are some got h =
-    let s = (drawn_lawful Two).sound rest (e, behind) (AreBytes-rest bytes (flat.spelled_all h.elements) rest h.front are) got in
-    let i : flat.IsDrawn e = record { short = s.0.0.0; bytes = s.0.0.1; draws = s.0.1 } in
-    let es : List DrawnElement = h.elements in
-    let p : flat.spelled_all (es ++ e ∷ []) ≡ flat.spelled_all es ++ flat.spelled_drawn e = flat_map-append flat.spelled_drawn es (e ∷ [])
-    ∙ ap (λ (xs : List ℕ). flat.spelled_all es ++ xs) (append-nil (flat.spelled_drawn e)) in
+same_length : {A : Type 0} (xs : List A) (rest : List ℕ) (x : List A × List ℕ) → (xs, rest) ≡ x → length x.0 ≡ length xs
+same_length {A} xs rest x e = sym (ap (λ (y : List A × List ℕ). length y.0) e)
+
+-- as many values are read as are asked for
+pub many_counted : {A : Type 0} (item : List ℕ → Read A) (n : ℕ) (bytes : List ℕ) (x : List A × List ℕ) → many item n bytes ≡ Got x
+    → length x.0 ≡ n
+many_counted {A} item zero bytes x e =
+    same_length [] bytes x (got_is {A = List A} ([], bytes) x (sym (many_none item bytes) ∙ e))
+many_counted {A} item (suc n) bytes x e =
+    let b = bind_got (item bytes) (λ first. many item n first.1 >>= λ others. Got (first.0 ∷ others.0, others.1)) x
+    (sym (many_one item n bytes) ∙ e) in
+    let c = bind_got (many item n b.0.1) (λ others. Got (b.0.0 ∷ others.0, others.1)) x b.2 in
+    same_length (b.0.0 ∷ c.0.0) c.0.1 x (got_is {A = List A} (b.0.0 ∷ c.0.0, c.0.1) x c.2) ∙ ap suc (many_counted item n b.0.1 c.0 c.1)
+
+-- elements that were read, spelled one behind another, and the bytes behind them
+pub record AreSpelled (bytes : List ℕ) (x : List DrawnElement × List ℕ) : Type 0 where
+  pub fields : All flat.IsDrawn x.0
+  pub spelling : bytes ≡ flat.spelled_all x.0 ++ x.1
+
+pub all_spelled : (n : ℕ) (bytes : List ℕ) (x : List DrawnElement × List ℕ) → flat.AreBytes bytes → many (drawn_at Two) n bytes ≡ Got x
+    → AreSpelled bytes x
+all_spelled zero bytes x are e =
+    let p : ([], bytes) ≡ x = got_is {A = List DrawnElement} ([], bytes) x (sym (many_none (drawn_at Two) bytes) ∙ e) in
+    subst (λ (y : List DrawnElement × List ℕ). AreSpelled bytes y) p (record { fields = All-nil flat.IsDrawn; spelling = refl })
+all_spelled (suc n) bytes x are e =
+    let b = bind_got (drawn_at Two bytes) (λ first. many (drawn_at Two) n first.1 >>= λ others. Got (first.0 ∷ others.0, others.1)) x
+    (sym (many_one (drawn_at Two) n bytes) ∙ e) in
+    let c = bind_got (many (drawn_at Two) n b.0.1) (λ others. Got (b.0.0 ∷ others.0, others.1)) x b.2 in
+    let s = (drawn_lawful Two).sound bytes b.0 are b.1 in
+    let i : flat.IsDrawn b.0.0 = record { short = s.0.0.0; bytes = s.0.0.1; draws = s.0.1 } in
+    let spelled : List ℕ = flat.spelled_drawn b.0.0 in
+    let h = all_spelled n b.0.1 c.0 (AreBytes-rest bytes spelled b.0.1 s.1 are) c.1 in
+    let p : (b.0.0 ∷ c.0.0, c.0.1) ≡ x = got_is {A = List DrawnElement} (b.0.0 ∷ c.0.0, c.0.1) x c.2 in
+    subst (λ (y : List DrawnElement × List ℕ). AreSpelled bytes y) p (record {
+      fields = All-cons flat.IsDrawn b.0.0 c.0.0 i h.fields;
+      spelling =
+          s.1 ∙ ap (λ (xs : List ℕ). spelled ++ xs) h.spelling ∙ sym (append_assoc spelled (flat.spelled_all c.0.0) c.0.1);
+    })
+
+-- the elements that stand from one place up to another
+pub record StandsSpelled (count at to : ℕ) (bytes : List ℕ) (es : List DrawnElement) : Type 0 where
+  pub counted : length es ≡ count
+  pub fields : All flat.IsDrawn es
+  pub spelling : take (to - at) (drop at bytes) ≡ flat.spelled_all es
+
+pub stand_spelled : (count at to : ℕ) (bytes : List ℕ) (es : List DrawnElement) → flat.AreBytes bytes → at ≤ to → to ≤ length bytes
+    → many (drawn_at Two) count (drop at bytes) ≡ Got (es, drop to bytes) → StandsSpelled count at to bytes es
+stand_spelled count at to bytes es are order within read =
+    let rest : List ℕ = drop at bytes in
+    let spelled : List ℕ = flat.spelled_all es in
+    let h = all_spelled count rest (es, drop to bytes) (AreBytes-rest bytes (take at bytes) rest (sym (take-append-drop at bytes)) are)
+    read in
+    let l : length rest ≡ length spelled + length (drop to bytes) = ap length h.spelling ∙ length-append spelled (drop to bytes) in
+    let n : to - at ≡ length spelled = omega (arith, l, length-drop at bytes, length-drop to bytes) in
     record {
-      elements = es ++ e ∷ [];
-      counted = omega (arith, h.counted, length-append es (e ∷ []));
-      fields = All-append flat.IsDrawn es (e ∷ []) h.fields (All-cons flat.IsDrawn e [] i (All-nil flat.IsDrawn));
-      front =
-          h.front ∙ ap (λ (xs : List ℕ). flat.spelled_all es ++ xs) s.1
-          ∙ sym (append_assoc (flat.spelled_all es) (flat.spelled_drawn e) behind) ∙ ap (λ (xs : List ℕ). xs ++ behind) (sym p);
-    }
-
--- what a loop over them comes to
-pub record Stands (most left : ℕ) (rest bytes : List ℕ) : Type 0 where
-  pub room : length rest ≤ length bytes
-  pub few : left ≤ most
-  pub spelled : StandSpelled (most - left) (length bytes - length rest) bytes
-  pub behind : drop (length bytes - length rest) bytes ≡ rest
-
-pub stretch_stands : (most left : ℕ) (rest bytes : List ℕ) → Stretched most left rest bytes → Stands most left rest bytes
-stretch_stands most left rest bytes h =
-    let spelled : List ℕ = flat.spelled_all h.elements in
-    let l : length bytes ≡ length spelled + length rest = ap length h.front ∙ length-append spelled rest in
-    let n : length bytes - length rest ≡ length spelled = omega (arith, l) in
-    let f : bytes ≡ spelled ++ rest = h.front in
-    record {
-      room = omega (arith, l);
-      few = omega (arith, h.counted);
-      spelled =
-          record {
-            elements = h.elements;
-            counted = omega (arith, h.counted);
-            fields = h.fields;
-            spelling = ap (λ (k : ℕ). take k bytes) n ∙ ap (take (length spelled)) f ∙ take-append_seam spelled rest;
-            within = omega (arith, l);
-          };
-      behind = ap (λ (k : ℕ). drop k bytes) n ∙ ap (drop (length spelled)) f ∙ drop-append_seam spelled rest;
-    }
-
--- elements that stand spelled are read
-pub spelled_read : (front es : List DrawnElement) (left : ℕ) (rest : List ℕ) → All flat.IsDrawn es
-    → with_front front (many (drawn_at Two) (length es + left) (flat.spelled_all es ++ rest))
-    ≡ with_front (front ++ es) (many (drawn_at Two) left rest)
-spelled_read front [] left rest h =
-    let none : 0 + left ≡ left = omega arith in
-    ap (λ (n : ℕ). with_front front (many (drawn_at Two) n rest)) none
-    ∙ ap (λ (xs : List DrawnElement). with_front xs (many (drawn_at Two) left rest)) (sym (append-nil front))
-spelled_read front (e ∷ es) left rest h =
-    let i : flat.IsDrawn e = All-head flat.IsDrawn e es h in
-    let a : flat.spelled_all (e ∷ es) ++ rest ≡ flat.spelled_drawn e ++ (flat.spelled_all es ++ rest) =
-    append_assoc (flat.spelled_drawn e) (flat.spelled_all es) rest in
-    let got : drawn_at Two (flat.spelled_all (e ∷ es) ++ rest) ≡ Got (e, flat.spelled_all es ++ rest) = ap (drawn_at Two) a
-    ∙ (drawn_lawful Two).again e (flat.spelled_all es ++ rest) ((i.short, i.bytes), i.draws, tt) in
-    let k : length (e ∷ es) + left ≡ suc (length es + left) = omega arith in
-    ap (λ (n : ℕ). with_front front (many (drawn_at Two) n (flat.spelled_all (e ∷ es) ++ rest))) k
-    ∙ many_next (drawn_at Two) front (length es + left) (flat.spelled_all (e ∷ es) ++ rest) e (flat.spelled_all es ++ rest) got
-    ∙ spelled_read (front ++ e ∷ []) es left rest (All-tail flat.IsDrawn e es h)
-    ∙ ap (λ (xs : List DrawnElement). with_front xs (many (drawn_at Two) left rest)) (append_assoc front (e ∷ []) es)
-
--- so reading goes on behind them
-pub spelled_continues : (front : List DrawnElement) (most left len : ℕ) (bytes : List ℕ) (h : StandSpelled (most - left) len bytes) → left
-    ≤ most → Continues (drawn_at Two) (front ++ h.elements) left len front most bytes
-spelled_continues front most left len bytes h few =
-    let spelled : List ℕ = flat.spelled_all h.elements in
-    let k : length h.elements + left ≡ most = omega (arith, h.counted) in
-    let parts : (tail : List ℕ) → bytes ++ tail ≡ spelled ++ (drop len bytes ++ tail) = λ tail.
-    ap (λ (xs : List ℕ). xs ++ tail) (sym (take-append-drop len bytes) ∙ ap (λ (xs : List ℕ). xs ++ drop len bytes) h.spelling)
-    ∙ append_assoc spelled (drop len bytes) tail in
-    record {
-      in_range = h.within;
-      same = λ tail.
-          sym (spelled_read front h.elements left (drop len bytes ++ tail) h.fields)
-          ∙ ap (λ (n : ℕ). with_front front (many (drawn_at Two) n (spelled ++ (drop len bytes ++ tail)))) k
-          ∙ ap (λ (xs : List ℕ). with_front front (many (drawn_at Two) most xs)) (sym (parts tail));
+      counted = many_counted (drawn_at Two) count rest (es, drop to bytes) read;
+      fields = h.fields;
+      spelling =
+          ap (λ (k : ℕ). take k rest) n ∙ ap (take (length spelled)) h.spelling ∙ take-append_seam spelled (drop to bytes);
     }

@@ -1,10 +1,4 @@
 pub mod Flat
 pub mod Appending
-pub mod Numbers
-pub mod Wide
-pub mod Many
 pub mod Names
-pub mod Resumed
-pub mod Begins
-pub mod Started
-pub mod Next
+pub mod Made

@@ -16,7 +16,16 @@ use Rattle.record_grammar.specs.Read.{Read, Got, Bad, many}
 use Rattle.record_grammar.specs.Grammar.{name_byte_at}
 use Rattle.record_grammar.proofs.Steady.{got_is}
 use Rattle.record_codec.specs.Policies.{KnowsPolicy}
-use Rattle.record_codec.proofs.Many.{HasMany, HasMany-begin, HasMany-next, HasMany-done}
+use Rattle.record_codec.specs.declared.header_stop.HeaderStop.{HeaderStop}
+use Rattle.record_codec.specs.declared.header_stop.HeaderStop.TheVariants as stops
+use Rattle.record_codec.specs.Gives.{Stops}
+use Rattle.record_view.proofs.Many.{HasMany, HasMany-begin, HasMany-next, HasMany-stops, HasMany-done}
+
+-- one of many values can't be read
+pub HasMany-ends : {A : Type 0} (item : List ℕ → Read A) (count counter : ℕ) (front : List A) (rest bytes : List ℕ) (stop : HeaderStop)
+    → counter < count → Stops stop (item rest) → HasMany item count counter front rest bytes → Stops stop (many item count bytes)
+HasMany-ends item count counter front rest bytes stops.Memory lt s h = tt
+HasMany-ends item count counter front rest bytes (stops.Bytes stop) lt s h = HasMany-stops item count counter front rest bytes stop lt s h
 
 pub knows_none : (format : Format) → KnowsPolicies format []
 knows_none One = All-nil (λ (e : EventSpecValue). e.policy ≡ Last)

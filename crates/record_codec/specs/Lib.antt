@@ -1,5 +1,3 @@
 pub mod Gives
+pub mod Parts
 pub mod Policies
-pub mod Resuming
-pub mod StandsFor
-pub mod Taking

@@ -1,18 +1,16 @@
 //! Headers, read from their beginning.
 ghost use Rattle.std.specs.Prelude.{◌≡◌, ◌≤◌, length, IfOk};
 ghost use Rattle.record_grammar.specs.Read.{many};
-ghost use Rattle.record_grammar.specs.Grammar.{signed_at, exactly_at, magic_at, format_at};
-ghost use Rattle.record_grammar.specs.Grammar.{version_at, name_byte_at, name_at, policy_of};
+ghost use Rattle.record_grammar.specs.Grammar.{signed_at, name_byte_at, name_at, policy_of};
 ghost use Rattle.record_grammar.specs.Grammar.{policy_at, event_at, params_at, events_at};
 ghost use Rattle.record_grammar.specs.Grammar.{profile_at};
 ghost use Rattle.record_codec.specs.Gives.{Gives};
 ghost use Rattle.record_codec.specs.Policies.{KnowsPolicy};
 ghost use Rattle.det_values.specs.Limits.{KnowsPolicies};
 
-use crate::number::{signed, u8_at, u16_at, u64_at};
-use crate::stop::Stop;
+use crate::header_stop::HeaderStop;
 use det_values::{EventName, EventSpec, Events, Format, Limited, Params, Policy, Profile};
-use record_grammar::Reason;
+use record_view::{magic, name_byte, signed, u8_at, u16_at, u64_at, version};
 use std::alloc::Global;
 
 const MAX_PARAMS: u16 = 16;
@@ -23,60 +21,7 @@ const MAX_CAPACITY: u16 = 1_024;
 
 const MAX_NAME: u8 = 32;
 
-fn exactly(reason: Reason, expected: u8, bytes: &[u8]) -> Result<(u8, &[u8]), Stop>
-    ensures { Gives (λ x. (x.0, x.1.now)) result (exactly_at reason expected bytes.now) }
-{
-    match bytes {
-        [] => Err(Stop::More),
-        [byte, rest @ ..] => {
-            if *byte == expected {
-                Ok((expected, rest))
-            } else {
-                Err(Stop::Bad {
-                    reason,
-                    left: bytes.len(),
-                })
-            }
-        }
-    }
-}
-
-#[tactic(auto, unfolding(record_grammar::specs::Grammar::magic_at))]
-fn magic(bytes: &[u8]) -> Result<(u8, &[u8]), Stop>
-    ensures { Gives (λ x. (x.0, x.1.now)) result (magic_at bytes.now) }
-{
-    let (_, rest) = exactly(Reason::Magic, b'D', bytes)?;
-    let (_, rest) = exactly(Reason::Magic, b'E', rest)?;
-    let (_, rest) = exactly(Reason::Magic, b'T', rest)?;
-    let (_, rest) = exactly(Reason::Magic, b'R', rest)?;
-    let (_, rest) = exactly(Reason::Magic, b'E', rest)?;
-    exactly(Reason::Magic, b'C', rest)
-}
-
-#[tactic(auto, unfolding(record_grammar::specs::Grammar::format_at))]
-fn format_of(bytes: &[u8]) -> Result<(Format, &[u8]), Stop>
-    ensures { Gives (λ x. (x.0, x.1.now)) result (format_at bytes.now) }
-{
-    match bytes {
-        [] => Err(Stop::More),
-        [1, rest @ ..] => Ok((Format::One, rest)),
-        [2, rest @ ..] => Ok((Format::Two, rest)),
-        [_, ..] => Err(Stop::Bad {
-            reason: Reason::Version,
-            left: bytes.len(),
-        }),
-    }
-}
-
-#[tactic(auto, unfolding(record_grammar::specs::Grammar::version_at))]
-fn version(bytes: &[u8]) -> Result<(Format, &[u8]), Stop>
-    ensures { Gives (λ x. (x.0, x.1.now)) result (version_at bytes.now) }
-{
-    let (_, rest) = exactly(Reason::Version, 0, bytes)?;
-    format_of(rest)
-}
-
-fn all_params(alloc: Global, count: u16, bytes: &[u8]) -> Result<(Params, &[u8]), Stop>
+fn all_params(alloc: Global, count: u16, bytes: &[u8]) -> Result<(Params, &[u8]), HeaderStop>
     requires { count ≤ 16 }
     ensures { Gives (λ x. (x.0, x.1.now)) result (many signed_at count bytes.now) }
 {
@@ -85,7 +30,7 @@ fn all_params(alloc: Global, count: u16, bytes: &[u8]) -> Result<(Params, &[u8])
     for _ in 0..count {
         let (param, after) = signed(rest)?;
         match params.push(param) {
-            Err(_) => return Err(Stop::Memory),
+            Err(_) => return Err(HeaderStop::Memory),
             Ok(()) => rest = after,
         }
     }
@@ -93,34 +38,15 @@ fn all_params(alloc: Global, count: u16, bytes: &[u8]) -> Result<(Params, &[u8])
 }
 
 #[tactic(auto, unfolding(record_grammar::specs::Grammar::params_at))]
-fn params(alloc: Global, bytes: &[u8]) -> Result<(Params, &[u8]), Stop>
+fn params(alloc: Global, bytes: &[u8]) -> Result<(Params, &[u8]), HeaderStop>
     ensures { Gives (λ x. (x.0, x.1.now)) result (params_at bytes.now) }
 {
     let (count, rest) = u16_at(0, MAX_PARAMS, bytes)?;
     all_params(alloc, count, rest)
 }
 
-#[tactic(auto, unfolding(record_grammar::specs::Grammar::name_byte_at))]
-fn name_byte(bytes: &[u8]) -> Result<(u8, &[u8]), Stop>
-    ensures { Gives (λ x. (x.0, x.1.now)) result (name_byte_at bytes.now) }
-{
-    match bytes {
-        [] => Err(Stop::More),
-        [byte, rest @ ..] => {
-            if matches!(*byte, b'a'..=b'z' | b'0'..=b'9' | b'_') {
-                Ok((*byte, rest))
-            } else {
-                Err(Stop::Bad {
-                    reason: Reason::Range,
-                    left: bytes.len(),
-                })
-            }
-        }
-    }
-}
-
 /// A name of so many bytes, each of which is judged before the next.
-fn name_of(len: u8, bytes: &[u8]) -> Result<(EventName, &[u8]), Stop>
+fn name_of(len: u8, bytes: &[u8]) -> Result<(EventName, &[u8]), HeaderStop>
     requires some { 1 ≤ len }
     requires most { len ≤ 32 }
     ensures { Gives (λ x. (x.0, x.1.now)) result (many name_byte_at len bytes.now) }
@@ -138,7 +64,7 @@ fn name_of(len: u8, bytes: &[u8]) -> Result<(EventName, &[u8]), Stop>
 }
 
 #[tactic(auto, unfolding(record_grammar::specs::Grammar::name_at))]
-fn name(bytes: &[u8]) -> Result<(EventName, &[u8]), Stop>
+fn name(bytes: &[u8]) -> Result<(EventName, &[u8]), HeaderStop>
     ensures { Gives (λ x. (x.0, x.1.now)) result (name_at bytes.now) }
 {
     let (len, rest) = u8_at(1, MAX_NAME, bytes)?;
@@ -155,7 +81,7 @@ fn as_policy(n: u8) -> Policy
 }
 
 #[tactic(auto, unfolding(record_grammar::specs::Grammar::policy_at))]
-fn policy(format: Format, bytes: &[u8]) -> Result<(Policy, &[u8]), Stop>
+fn policy(format: Format, bytes: &[u8]) -> Result<(Policy, &[u8]), HeaderStop>
     ensures gives { Gives (λ x. (x.0, x.1.now)) result (policy_at format bytes.now) }
     ensures known { IfOk result (λ x. KnowsPolicy format x.0) }
 {
@@ -169,7 +95,7 @@ fn policy(format: Format, bytes: &[u8]) -> Result<(Policy, &[u8]), Stop>
 }
 
 #[tactic(auto, unfolding(record_grammar::specs::Grammar::event_at))]
-fn event(format: Format, bytes: &[u8]) -> Result<(EventSpec, &[u8]), Stop>
+fn event(format: Format, bytes: &[u8]) -> Result<(EventSpec, &[u8]), HeaderStop>
     ensures gives { Gives (λ x. (x.0, x.1.now)) result (event_at format bytes.now) }
     ensures known { IfOk result (λ x. KnowsPolicy format x.0.policy) }
 {
@@ -189,7 +115,7 @@ fn all_events(
     format: Format,
     count: u16,
     bytes: &[u8],
-) -> Result<(Events, &[u8]), Stop>
+) -> Result<(Events, &[u8]), HeaderStop>
     requires { count ≤ 256 }
     ensures gives { Gives (λ x. (x.0, x.1.now)) result (many (event_at format) count bytes.now) }
     ensures known { IfOk result (λ x. KnowsPolicies format x.0) }
@@ -199,7 +125,7 @@ fn all_events(
     for _ in 0..count {
         let (event, after) = event(format, rest)?;
         match events.push(event) {
-            Err(_) => return Err(Stop::Memory),
+            Err(_) => return Err(HeaderStop::Memory),
             Ok(()) => rest = after,
         }
     }
@@ -207,7 +133,7 @@ fn all_events(
 }
 
 #[tactic(auto, unfolding(record_grammar::specs::Grammar::events_at))]
-fn events(alloc: Global, format: Format, bytes: &[u8]) -> Result<(Events, &[u8]), Stop>
+fn events(alloc: Global, format: Format, bytes: &[u8]) -> Result<(Events, &[u8]), HeaderStop>
     ensures gives { Gives (λ x. (x.0, x.1.now)) result (events_at format bytes.now) }
     ensures known { IfOk result (λ x. KnowsPolicies format x.0) }
 {
@@ -216,7 +142,7 @@ fn events(alloc: Global, format: Format, bytes: &[u8]) -> Result<(Events, &[u8])
 }
 
 #[tactic(auto, unfolding(record_grammar::specs::Grammar::profile_at))]
-pub fn profile(alloc: Global, bytes: &[u8]) -> Result<(Profile, &[u8]), Stop>
+pub fn profile(alloc: Global, bytes: &[u8]) -> Result<(Profile, &[u8]), HeaderStop>
     ensures { Gives (λ x. (x.0, x.1.now)) result (profile_at bytes.now) }
 {
     let (_, rest) = magic(bytes)?;

@@ -1,24 +1,16 @@
-//! Records as bytes: written frame by frame, read in any pieces, digested and salvaged.
+//! Records as bytes: written frame by frame, and the items of views as values of their own.
 #![tactic(auto)]
 
-mod begin;
-mod decode_error;
-mod decoder;
+mod elements;
 mod encode;
-mod field;
 mod header;
-mod input;
-mod next_place;
-mod number;
-mod partial;
+mod header_stop;
+mod item;
 mod put;
 mod put_frame;
 mod put_header;
-mod resume;
-mod stop;
-mod taking;
+mod run;
 
-pub use decode_error::DecodeError;
-pub use decoder::Decoder;
 pub use encode::{encode_frame, encode_header};
+pub use item::item_of;
 pub use record_grammar::{Item, Layout, Limits, Place, Reason, RecordFault};

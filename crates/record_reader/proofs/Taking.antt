@@ -20,7 +20,7 @@ use Rattle.record_grammar.specs.Record.{items as items_in}
 use Rattle.record_reader.specs.declared.reader.RecordReader.{RecordReader}
 use Rattle.record_reader.specs.StandsFor.{StandsFor, HasRead, ItemIs, RoomFell, IsFaulty, FoundFault, slot_of}
 use Rattle.record_reader.specs.Taking.{AreFirst, Taking, Takes, Took, AreAll, RefusedBy, Finds, RecordRead, OfSlot, ItemsRead}
-use Rattle.record_reader.proofs.Items.{more_items}
+use Rattle.record_reader.proofs.Items.{are_first, more_items}
 
 -- ---- what a slot can have had
 
@@ -134,13 +134,7 @@ module _ {E : Type 0} {taking : Taking E} {first mid : ShelfState} {slot : ℕ} 
     (h : Running taking first mid slot reader before after) {now : ShelfState} (next : RecordReader) where
   -- the items given and the next one come first of a record
   pub next-first : (item : Item) → Answered h now next (Ok (Some item)) → AreFirst (h.given ++ item ∷ [])
-  next-first item answer = record {
-    bytes = h.read ++ answer.0;
-    place = next.decoder.place;
-    rest = answer.2.0.decodes.rest;
-    leads =
-        answer.2.0.decodes.leads;
-  }
+  next-first item answer = are_first next (h.read ++ answer.0) (h.given ++ item ∷ []) answer.2.0
 
   next-all : (item : Item) → (answer : Answered h now next (Ok (Some item))) → (rest : List ℕ)
       → IsPrefix (h.given ++ item ∷ []) (items_in ((h.read ++ answer.0) ++ rest))

@@ -1,6 +1,5 @@
 pub mod Digested
 pub mod StandsFor
-pub mod Steps
 pub mod Taking
 pub mod Salvaged
 pub mod Keeping

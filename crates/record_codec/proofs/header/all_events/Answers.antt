@@ -1,13 +1,13 @@
 use Rattle.std.proofs.lemmas.Result.{err_from_is_err_and}
 use Rattle.record_grammar.specs.Grammar.{event_at}
-use Rattle.record_codec.proofs.Many.{HasMany-next, HasMany-stops, HasMany-done}
-use Rattle.record_codec.proofs.Names.{knows_push}
+use Rattle.record_view.proofs.Many.{HasMany-next, HasMany-done}
+use Rattle.record_codec.proofs.Names.{HasMany-ends, knows_push}
 use Rattle.record_codec.proofs.header.all_events.Goals as goal
 
 pub returns-in_err-event-clause-gives : goal.returns-in_err-event-clause-gives
 returns-in_err-event-clause-gives c =
     let p = err_from_is_err_and c.from_residual.result c.from_residual.ensures.1 in
-    rw (p.1, p.2) (HasMany-stops (event_at c.args.format) c.args.count c.loop.counter c.loop.events.items c.loop.rest.now c.args.bytes.now
+    rw (p.1, p.2) (HasMany-ends (event_at c.args.format) c.args.count c.loop.counter c.loop.events.items c.loop.rest.now c.args.bytes.now
     c.in_err-event.field-0.0 c.loop-test.true c.in_err-event.ensures.gives c.loop.invariant.read)
 
 pub loop-preserved : goal.loop-preserved

@@ -1,6 +1,6 @@
 use Rattle.det_values.specs.Limits.{KnowsPolicies}
 use Rattle.record_grammar.specs.Grammar.{event_at}
-use Rattle.record_codec.proofs.Many.{HasMany}
+use Rattle.record_view.proofs.Many.{HasMany}
 use Rattle.record_codec.proofs.header.all_events.Given as goal
 
 abbrev pub invariant-loop : goal.invariant-loop

@@ -2,7 +2,7 @@ use Rattle.std.proofs.Common.{◌≡◌, ◌++◌, ◌∷◌, [], arith}
 use Rattle.std.proofs.lemmas.Int.{to_z-of_z}
 use Rattle.std.proofs.lemmas.Result.{err_from_is_err_and}
 use Rattle.record_grammar.specs.Grammar.{signed_at}
-use Rattle.record_codec.proofs.Many.{HasMany-next, HasMany-stops, HasMany-done}
+use Rattle.record_view.proofs.Many.{HasMany-next, HasMany-stops, HasMany-done}
 use Rattle.record_codec.proofs.header.all_params.Goals as goal
 
 pub returns-in_err-param : goal.returns-in_err-param

@@ -1,5 +1,5 @@
 use Rattle.record_grammar.specs.Grammar.{signed_at}
-use Rattle.record_codec.proofs.Many.{HasMany}
+use Rattle.record_view.proofs.Many.{HasMany}
 use Rattle.record_codec.proofs.header.all_params.Given as goal
 
 abbrev pub invariant-loop : goal.invariant-loop

@@ -1,7 +1,7 @@
 use Rattle.std.proofs.Common.{take}
 use Rattle.std.proofs.lemmas.Result.{err_from_is_err_and}
 use Rattle.record_grammar.specs.Grammar.{name_byte_at}
-use Rattle.record_codec.proofs.Many.{HasMany-stops}
+use Rattle.record_view.proofs.Many.{HasMany-stops}
 use Rattle.record_codec.proofs.Names.{HasName-next, HasName-done}
 use Rattle.record_codec.proofs.header.name_of.Goals as goal
 

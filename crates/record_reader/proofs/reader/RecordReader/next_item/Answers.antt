@@ -1,76 +1,23 @@
-use Rattle.std.proofs.Common.{◌<◌, ℕ, ◌++◌, Option, Some, None, Result, Ok, Err, subst, ◌∙◌, rules}
-use Rattle.det_edges.specs.declared.failure.Stopped.{Stopped}
+use Rattle.std.proofs.Common.{Option, Some, Ok, sym, ap, subst, ◌∙◌}
 use Rattle.det_edges.specs.Shelf.{IsAtEnd}
-use Rattle.record_grammar.specs.declared.fault.RecordFault.{RecordFault}
-use Rattle.record_grammar.specs.declared.item.Item.{Item}
-use Rattle.record_reader.specs.declared.reader.Progress.{Progress}
-use Rattle.record_reader.specs.StandsFor.{StandsFor, HasRead, ItemIs, RoomFell, slot_of, room}
-use Rattle.record_reader.specs.Steps.{StepIs, Shrinks, GoesOn}
-use Rattle.record_reader.proofs.Reading.{read_then, passed-on}
+use Rattle.record_grammar.specs.Places.{may_come}
+use Rattle.record_view.specs.declared.view.ItemView.{ItemView}
+use Rattle.item_reader.specs.StandsFor as inner
+use Rattle.record_reader.specs.StandsFor.{ItemIs, slot_of}
+use Rattle.record_reader.proofs.Reading.{has_read, gave}
 use Rattle.record_reader.proofs.reader.RecordReader.next_item.Goals as goal
 
-pub returns-in_err-step-clause-item : goal.returns-in_err-step-clause-item
-returns-in_err-step-clause-item g c =
-    let h = c.steps.invariant in
-    passed-on (λ (r : Result (Option Item) (Stopped RecordFault)). HasRead (g.S.Slots.sees c.args.shelf.now)
-    (g.S.Slots.sees c.step.new.shelf) c.args.self.now
-    (ItemIs r c.step.new.self (IsAtEnd (g.S.Slots.sees c.step.new.shelf) (slot_of c.args.self.now)))) c.from_residual.result
-    c.from_residual.ensures.1
-    (read_then c.args.self.now c.steps.self (λ slot. ItemIs (Err c.in_err-step.field-0.0) c.step.new.self
-    (IsAtEnd (g.S.Slots.sees c.step.new.shelf) slot)) h.slot h.read c.in_err-step.ensures.step)
-
-pub returns-in_err-step-clause-room : goal.returns-in_err-step-clause-room
-returns-in_err-step-clause-room g c read given stands =
-    let h = c.steps.invariant in
-    passed-on (λ (r : Result (Option Item) (Stopped RecordFault)). RoomFell r (room c.args.self.now) (room c.step.new.self))
-    c.from_residual.result c.from_residual.ensures.1
-    (c.in_err-step.ensures.shrinks (read ++ h.read.0) given (h.read.2 read given stands) ∙ h.room read given stands)
-
-pub returns-in-Item-clause-item : goal.returns-in-Item-clause-item
-returns-in-Item-clause-item g c =
-    let h = c.steps.invariant in
-    read_then c.args.self.now c.steps.self (λ slot. ItemIs (Ok (Some c.in-Item.item)) c.step.new.self
-    (IsAtEnd (g.S.Slots.sees c.step.new.shelf) slot)) h.slot h.read
-    (subst (λ (p : Progress). HasRead (g.S.Slots.sees c.steps.shelf) (g.S.Slots.sees c.step.new.shelf) c.steps.self
-    (StepIs (Ok p) c.step.new.self (IsAtEnd (g.S.Slots.sees c.step.new.shelf) (slot_of c.steps.self)))) c.in-Item.is
-    c.in_ok-step.ensures.step)
-
-pub returns-in-Item-clause-room : goal.returns-in-Item-clause-room
-returns-in-Item-clause-room g c read given stands =
-    let h = c.steps.invariant in
-    let less : room c.step.new.self < room c.steps.self =
-    subst (λ (p : Progress). Shrinks (Ok p) (room c.steps.self) (room c.step.new.self)) c.in-Item.is
-    (c.in_ok-step.ensures.shrinks (read ++ h.read.0) given (h.read.2 read given stands)) in
-    subst (λ (n : ℕ). room c.step.new.self < n) (h.room read given stands) less
-
-pub returns-in-End-clause-item : goal.returns-in-End-clause-item
-returns-in-End-clause-item g c =
-    let h = c.steps.invariant in
-    read_then c.args.self.now c.steps.self (λ slot. ItemIs (Ok None) c.step.new.self (IsAtEnd (g.S.Slots.sees c.step.new.shelf) slot))
-    h.slot h.read
-    (subst (λ (p : Progress). HasRead (g.S.Slots.sees c.steps.shelf) (g.S.Slots.sees c.step.new.shelf) c.steps.self
-    (StepIs (Ok p) c.step.new.self (IsAtEnd (g.S.Slots.sees c.step.new.shelf) (slot_of c.steps.self)))) c.in-End.is
-    c.in_ok-step.ensures.step)
-
-pub returns-in-End-clause-room : goal.returns-in-End-clause-room
-returns-in-End-clause-room g c read given stands =
-    let h = c.steps.invariant in
-    subst (λ (p : Progress). Shrinks (Ok p) (room c.steps.self) (room c.step.new.self)) c.in-End.is
-    (c.in_ok-step.ensures.shrinks (read ++ h.read.0) given (h.read.2 read given stands)) ∙ h.room read given stands
-
-pub steps-preserved : goal.steps-preserved
-steps-preserved g c =
-    let h = c.steps.invariant in
-    let s = c.in_ok-step.ensures in
-    let on = subst (λ (p : Progress). GoesOn (Ok p) c.steps.self c.step.new.self) c.in-Piece.is s.going in
-    let step : HasRead (g.S.Slots.sees c.steps.shelf) (g.S.Slots.sees c.step.new.shelf) c.steps.self (StandsFor c.step.new.self) =
-    subst (λ (p : Progress). HasRead (g.S.Slots.sees c.steps.shelf) (g.S.Slots.sees c.step.new.shelf) c.steps.self
-    (StepIs (Ok p) c.step.new.self (IsAtEnd (g.S.Slots.sees c.step.new.shelf) (slot_of c.steps.self)))) c.in-Piece.is s.step in
-    record {
-      read = read_then c.args.self.now c.steps.self (λ slot. StandsFor c.step.new.self) h.slot h.read step;
-      going = on.0;
-      slot = s.slot ∙ h.slot;
-      room = λ read given stands. subst (λ (p : Progress). Shrinks (Ok p) (room c.steps.self) (room c.step.new.self)) c.in-Piece.is
-          (s.shrinks (read ++ h.read.0) given (h.read.2 read given stands)) ∙ h.room read given stands;
-      traffic = search rules;
-    }
+pub returns-in_ok-hand_out-in-Some-clause-item : goal.returns-in_ok-hand_out-in-Some-clause-item
+returns-in_ok-hand_out-in-Some-clause-item g c =
+    let old = c.args.self.now in
+    let mid = c.next.new.self in
+    let new = c.hand_out.new.self in
+    let view = c.in-Some.view in
+    let made = c.in_ok-hand_out-in-Some.field-0 in
+    let out = c.in_ok-hand_out-in-Some.ensures in
+    let at_end = IsAtEnd (g.S.Slots.sees c.next.new.shelf) (slot_of old) in
+    has_read old (inner.ItemIs (Ok (Some view)) mid at_end) (ItemIs (Ok (Some made)) new at_end)
+    (λ read given stands all h. gave view made mid new at_end all given out.items
+    (ap may_come out.place ∙ ap inner.room (sym out.items)) out.item h)
+    (subst (λ (x : Option ItemView). inner.HasRead (g.S.Slots.sees c.args.shelf.now) (g.S.Slots.sees c.next.new.shelf) old.items
+    (inner.ItemIs (Ok x) mid at_end)) c.in-Some.is c.in_ok-view.ensures.item)

@@ -1,0 +1,237 @@
+-- Which item a view is of, by its kind.
+use Rattle.std.proofs.Common.{◌≡◌, ℕ, suc, ◌<◌, ◌≤◌, List, [], ◌∷◌, ◌++◌, length, take, drop, map, Option, inl, inr, refl, sym, ap, subst, ◌∙◌, arith}
+use Rattle.std.proofs.Common.{Result, Ok, Err, length-take}
+use Rattle.std.specs.Prelude.{IfOk}
+use Rattle.std.proofs.lemmas.Bool.{cases_lt}
+use Rattle.det_values.specs.declared.format.Format.{Format}
+use Rattle.det_values.specs.declared.format.Format.TheVariants.{Two}
+use Rattle.det_values.specs.declared.frames.CycleInput.{CycleInput}
+use Rattle.det_values.specs.declared.frames.DrawnElement.{DrawnElement}
+use Rattle.det_values.specs.declared.frames.Frame.TheVariants as frames
+use Rattle.det_values.specs.declared.frames.Outcome.{Outcome}
+use Rattle.det_values.specs.declared.frames.Outcome.TheVariants as outcomes
+use Rattle.det_values.specs.declared.frames.RunFrame.{RunFrame}
+use Rattle.det_values.specs.Values.{SampleValue, ProfileValue}
+use Rattle.record_grammar.specs.declared.limits.Limits.TheVariants.{Between}
+use Rattle.record_grammar.specs.declared.place.Layout.{Layout}
+use Rattle.record_grammar.specs.declared.place.Place.{Place}
+use Rattle.record_grammar.specs.declared.place.Place.TheVariants as places
+use Rattle.record_grammar.specs.declared.item.Item.{Item}
+use Rattle.record_grammar.specs.declared.item.Item.TheVariants as items
+use Rattle.record_grammar.specs.Read.{Read, Got, ◌>>=◌, raw_at, many}
+use Rattle.record_grammar.specs.Numbers.{number, IsWithin}
+use Rattle.record_grammar.specs.Grammar.{profile_at, element_at, drawn_at, string_at, item_at}
+use Rattle.record_grammar.specs.Places.{CanFollow}
+use Rattle.record_grammar.specs.Spelling.{AreBytes, IsFrame, IsOutcome}
+use Rattle.record_grammar.specs.Laws.{MayStand}
+use Rattle.record_grammar.proofs.Leads.{can_follow}
+use Rattle.record_grammar.proofs.Steady.{bind_got, got_is, raw_short, raw_long}
+use Rattle.record_view.specs.declared.view.InputView.{InputView}
+use Rattle.record_view.specs.declared.view.OutcomeView.{OutcomeView}
+use Rattle.record_view.specs.declared.view.OutcomeView.TheVariants as ends
+use Rattle.record_view.specs.declared.view.ItemKind.{ItemKind}
+use Rattle.record_view.specs.declared.view.ItemKind.TheVariants as kinds
+use Rattle.record_view.specs.declared.view.ItemView.{ItemView}
+use Rattle.record_view.specs.Shows.{ShowsParts, ShowsOutcome, ShowsFinished, IsSpelling, events_of}
+use Rattle.record_view.specs.Parts.{undrawn, ElementsOf, OutputOf}
+use Rattle.record_view.proofs.Numbers.{number_within}
+use Rattle.record_view.proofs.EqualItems.{span_is_spelling}
+use Rattle.record_codec.specs.Parts.{bytes_of, ShowsRun, FewElements}
+use Rattle.record_codec.proofs.Flat.{many_counted, StandsSpelled, stand_spelled}
+
+pub parts_of : (view : ItemView) (item : Item) (bytes : List ℕ) (kind : ItemKind) → view.span.kind ≡ kind → IsSpelling view item bytes
+    → ShowsParts view.place kind view.span.len bytes item
+parts_of view item bytes kind is h =
+    subst (λ (k : ItemKind). ShowsParts view.place k view.span.len bytes item) is h.shows.parts
+
+-- each field of an item is in its range
+pub may_stand : (view : ItemView) (item : Item) (bytes : List ℕ) → events_of view.place ≤ 65536 → AreBytes bytes
+    → IsSpelling view item bytes → MayStand view.place item
+may_stand view item bytes few are h = (span_is_spelling view.place view.span bytes item few are h.shows).0
+
+-- ---- a header
+
+abbrev got_profile : ProfileValue → List ℕ → Read ProfileValue
+got_profile p rest = Got (p, rest)
+
+abbrev profile_in : ProfileValue → Item → ProfileValue
+profile_in p (items.Header q) = q
+profile_in p (items.Frame f) = p
+
+at_header : (bytes rest : List ℕ) (p : ProfileValue) → item_at places.Header bytes ≡ Got (items.Header p, rest)
+    → profile_at bytes ≡ Got (p, rest)
+unfolding item_at
+at_header bytes rest p e =
+    let b = bind_got (profile_at bytes) (λ x. Got (items.Header x.0, x.1)) (items.Header p, rest) e in
+    let same : (items.Header b.0.0, b.0.1) ≡ (items.Header p, rest) = got_is (items.Header b.0.0, b.0.1) (items.Header p, rest) b.2 in
+    b.1 ∙ ap (λ (y : Item × List ℕ). got_profile (profile_in p y.0) y.1) same
+
+read_header : (place : Place) (bytes rest : List ℕ) (p : ProfileValue) → CanFollow place (items.Header p)
+    → item_at place bytes ≡ Got (items.Header p, rest) → profile_at bytes ≡ Got (p, rest)
+read_header places.Header bytes rest p k e = at_header bytes rest p e
+read_header (places.Register layout) bytes rest p k e = absurd k
+read_header (places.Discover layout) bytes rest p k e = absurd k
+read_header (places.Init layout) bytes rest p k e = absurd k
+read_header (places.Runs layout before) bytes rest p k e = absurd k
+read_header places.End bytes rest p k e = absurd k
+
+pub record IsHeaderOf (bytes rest : List ℕ) (item : Item) : Type 0 where
+  pub profile : ProfileValue
+  pub is : item ≡ items.Header profile
+  pub read : profile_at bytes ≡ Got (profile, rest)
+
+header_by : (place : Place) (layout : Layout) (len : ℕ) (bytes rest : List ℕ) (item : Item)
+    → ShowsParts place (kinds.Header layout) len bytes item → item_at place bytes ≡ Got (item, rest) → IsHeaderOf bytes rest item
+header_by place layout len bytes rest (items.Header p) h e = record {
+  profile = p;
+  is = refl;
+  read = read_header place bytes rest p (can_follow place bytes (items.Header p) rest e) e;
+}
+header_by place layout len bytes rest (items.Frame f) h e = absurd h
+
+pub of_header : (view : ItemView) (layout : Layout) (item : Item) (bytes : List ℕ) → view.span.kind ≡ kinds.Header layout
+    → IsSpelling view item bytes → IsHeaderOf bytes (drop view.span.len bytes) item
+of_header view layout item bytes is h =
+    header_by view.place layout view.span.len bytes (drop view.span.len bytes) item (parts_of view item bytes (kinds.Header layout) is h)
+    h.shows.read
+
+-- ---- Init
+
+pub record IsInitOf (count len : ℕ) (bytes : List ℕ) (item : Item) : Type 0 where
+  pub elements : List (List ℕ)
+  pub is : item ≡ items.Frame (frames.Init elements)
+  pub read : many element_at count (drop 5 bytes) ≡ Got (elements, drop len bytes)
+  pub long : 5 ≤ len
+
+init_by : (place : Place) (count len : ℕ) (bytes : List ℕ) (item : Item) → ShowsParts place (kinds.Init count) len bytes item
+    → IsInitOf count len bytes item
+init_by place count len bytes (items.Frame (frames.Init es)) h = record { elements = es; is = refl; read = h.0; long = h.1 }
+init_by place count len bytes (items.Frame frames.Register) h = absurd h
+init_by place count len bytes (items.Frame frames.Discover) h = absurd h
+init_by place count len bytes (items.Frame (frames.Run r)) h = absurd h
+init_by place count len bytes (items.Frame frames.Terminate) h = absurd h
+init_by place count len bytes (items.Header p) h = absurd h
+
+pub of_init : (view : ItemView) (count : ℕ) (item : Item) (bytes : List ℕ) → view.span.kind ≡ kinds.Init count
+    → IsSpelling view item bytes → IsInitOf count view.span.len bytes item
+of_init view count item bytes is h =
+    init_by view.place count view.span.len bytes item (parts_of view item bytes (kinds.Init count) is h)
+
+few_in_init : (place : Place) (es : List (List ℕ)) → MayStand place (items.Frame (frames.Init es)) → length es ≤ 65536
+unfolding IsFrame
+few_in_init (places.Init layout) es h = h.0
+few_in_init places.Header es h = absurd h
+few_in_init (places.Register layout) es h = absurd h
+few_in_init (places.Discover layout) es h = absurd h
+few_in_init (places.Runs layout before) es h = absurd h
+few_in_init places.End es h = absurd h
+
+pub few_of_init : (view : ItemView) (count : ℕ) (item : Item) (bytes : List ℕ) → events_of view.place ≤ 65536 → AreBytes bytes
+    → IsSpelling view item bytes → IsInitOf count view.span.len bytes item → count ≤ 65536
+few_of_init view count item bytes few are h i =
+    let m : MayStand view.place (items.Frame (frames.Init i.elements)) = subst (MayStand view.place) i.is
+    (may_stand view item bytes few are h) in
+    omega (arith, few_in_init view.place i.elements m,
+    many_counted element_at count (drop 5 bytes) (i.elements, drop view.span.len bytes) i.read)
+
+-- elements are the bytes of those without draws
+pub bytes_undrawn : (es : List (List ℕ)) → map bytes_of (map undrawn es) ≡ es
+bytes_undrawn [] = refl
+bytes_undrawn (e ∷ es) = ap (λ (xs : List (List ℕ)). e ∷ xs) (bytes_undrawn es)
+
+-- ---- Run
+
+pub record IsRunOf (place : Place) (input : InputView) (outcome : OutcomeView) (len : ℕ) (bytes : List ℕ) (item : Item) : Type 0 where
+  pub run : RunFrame
+  pub is : item ≡ items.Frame (frames.Run run)
+  pub shows : ShowsRun place input outcome len bytes run
+
+run_by : (place : Place) (input : InputView) (outcome : OutcomeView) (len : ℕ) (bytes : List ℕ) (item : Item)
+    → ShowsParts place (kinds.Run input outcome) len bytes item → IsRunOf place input outcome len bytes item
+run_by place input outcome len bytes (items.Frame (frames.Run r)) h =
+    record { run = r; is = refl; shows = record { input_is = h.0; outcome_is = h.1 } }
+run_by place input outcome len bytes (items.Frame frames.Register) h = absurd h
+run_by place input outcome len bytes (items.Frame frames.Discover) h = absurd h
+run_by place input outcome len bytes (items.Frame (frames.Init es)) h = absurd h
+run_by place input outcome len bytes (items.Frame frames.Terminate) h = absurd h
+run_by place input outcome len bytes (items.Header p) h = absurd h
+
+pub of_run : (view : ItemView) (input : InputView) (outcome : OutcomeView) (item : Item) (bytes : List ℕ)
+    → view.span.kind ≡ kinds.Run input outcome → IsSpelling view item bytes
+    → IsRunOf view.place input outcome view.span.len bytes item
+of_run view input outcome item bytes is h =
+    run_by view.place input outcome view.span.len bytes item (parts_of view item bytes (kinds.Run input outcome) is h)
+
+outcome_fits : (place : Place) (run : RunFrame) → MayStand place (items.Frame (frames.Run run))
+    → (format : Format) × IsOutcome format run.outcome
+unfolding IsFrame
+outcome_fits (places.Runs layout before) run h = (layout.format, h.1.1)
+outcome_fits places.Header run h = absurd h
+outcome_fits (places.Register layout) run h = absurd h
+outcome_fits (places.Discover layout) run h = absurd h
+outcome_fits (places.Init layout) run h = absurd h
+outcome_fits places.End run h = absurd h
+
+few_by : (view : OutcomeView) (format fits : Format) (len : ℕ) (bytes : List ℕ) (outcome : Outcome) → IsOutcome fits outcome
+    → ShowsOutcome format view len bytes outcome → FewElements view
+few_by (ends.Finished count at output_at) format fits len bytes outcome k h =
+    let i : IsOutcome fits (outcomes.Finished h.elements h.output) = subst (IsOutcome fits) h.is k in
+    omega (arith, i.0, many_counted _ count (drop at bytes) (h.elements, drop output_at bytes) h.elements_read)
+few_by (ends.Refused at) format fits len bytes outcome k h = tt
+
+pub few_of_run : (view : ItemView) (input : InputView) (outcome : OutcomeView) (item : Item) (bytes : List ℕ)
+    → events_of view.place ≤ 65536 → AreBytes bytes → IsSpelling view item bytes
+    → IsRunOf view.place input outcome view.span.len bytes item → FewElements outcome
+few_of_run view input outcome item bytes few are h i =
+    let m : MayStand view.place (items.Frame (frames.Run i.run)) = subst (MayStand view.place) i.is (may_stand view item bytes few are h) in
+    let f = outcome_fits view.place i.run m in
+    few_by outcome _ f.0 view.span.len bytes i.run.outcome f.1 i.shows.outcome_is
+
+abbrev an_input : Option ℕ → List SampleValue → CycleInput
+an_input time samples = record { time = time; samples = samples }
+
+pub input_is : (input made : CycleInput) → made.time ≡ input.time → made.samples ≡ input.samples → made ≡ input
+input_is input made t s =
+    ap (λ (time : Option ℕ). an_input time made.samples) t ∙ ap (λ (samples : List SampleValue). an_input input.time samples) s
+
+-- elements of format Two that stand in the bytes stand there spelled
+pub stand_in : (format : Format) (count at to len : ℕ) (bytes : List ℕ) (outcome : Outcome) → format ≡ Two → AreBytes bytes
+    → (h : ShowsFinished format count at to len bytes outcome) → StandsSpelled count at to bytes h.elements
+stand_in format count at to len bytes outcome is are h =
+    stand_spelled count at to bytes h.elements are h.order (omega (arith, h.counted, h.within))
+    (subst (λ (f : Format). many (drawn_at f) count (drop at bytes) ≡ Got (h.elements, drop to bytes)) is h.elements_read)
+
+-- a fact of a value that was made, by another one
+pub if_made : {A E : Type 0} {P Q : A → Type 0} (result : Result A E) → ((made : A) → P made → Q made) → IfOk result P → IfOk result Q
+if_made (Ok made) then h = then made h
+if_made (Err e) then h = tt
+
+pub outcome_is : (outcome : Outcome) (es : List DrawnElement) (output : List ℕ) → ElementsOf es outcome → OutputOf output outcome
+    → outcomes.Finished es output ≡ outcome
+outcome_is (outcomes.Finished elements bytes) es output p q =
+    ap (λ (xs : List DrawnElement). outcomes.Finished xs output) p ∙ ap (λ (ys : List ℕ). outcomes.Finished elements ys) q
+outcome_is (outcomes.Refused at) es output p q = absurd p
+
+-- ---- a field of variable length
+
+raw_counted : (n : ℕ) (bytes : List ℕ) (x : List ℕ × List ℕ) → raw_at n bytes ≡ Got x → length x.0 ≤ n
+raw_counted n bytes x e = elim (cases_lt (length bytes) n) [
+  | inl lt ↦ absurd (cc (raw_short n bytes lt))
+  | inr le ↦
+      let p : (take n bytes, drop n bytes) ≡ x = got_is (take n bytes, drop n bytes) x (sym (raw_long n bytes le) ∙ e) in
+      omega (arith, ap (λ (y : List ℕ × List ℕ). length y.0) p, length-take n bytes)
+]
+
+pub string_short : (width most : ℕ) (bytes : List ℕ) (x : List ℕ × List ℕ) → 0 < width → string_at width most bytes ≡ Got x
+    → length x.0 ≤ most
+unfolding string_at
+string_short width most bytes x some e =
+    let b = bind_got (number width 0 most bytes) (λ n. raw_at n.0 n.1) x e in
+    let w : IsWithin (Between 0 most) b.0.0 = number_within (Between 0 most) width 0 bytes b.0 some b.1 in
+    omega (arith, w.1, raw_counted b.0.0 b.0.1 x b.2)
+
+pub output_short : (format : Format) (count at output_at len : ℕ) (bytes : List ℕ) (outcome : Outcome) (output : List ℕ)
+    → ShowsFinished format count at output_at len bytes outcome → OutputOf output outcome → length output ≤ 1048576
+output_short format count at output_at len bytes outcome output h o =
+    let e : output ≡ h.output = subst (OutputOf output) h.is o in
+    omega (arith, ap length e, string_short 4 1048576 (drop output_at bytes) (h.output, drop len bytes) (omega arith) h.output_read)

@@ -1,0 +1,52 @@
+use Rattle.std.proofs.Common.{◌<◌, ◌≤◌, ℕ, List, map, sym, ap, ◌∙◌, arith}
+use Rattle.std.proofs.lemmas.List.Elements.{All-from_get_or}
+use Rattle.det_values.specs.declared.frames.Frame.TheVariants as frames
+use Rattle.record_grammar.specs.declared.item.Item.{Item}
+use Rattle.record_grammar.specs.declared.item.Item.TheVariants as items
+use Rattle.record_view.specs.Shows.{events_of}
+use Rattle.record_codec.specs.Parts.{bytes_of}
+use Rattle.record_codec.proofs.Made.{of_header, of_init, few_of_init, bytes_undrawn, of_run, few_of_run}
+use Rattle.record_codec.proofs.item.item_of.Goals as goal
+
+pub header_of-requires : goal.header_of-requires
+header_of-requires c =
+    let k = of_header c.args.view c.in-Header.field-0 c.requires.0 c.args.bytes.now c.in-Header.is c.requires.1 in (k.profile, _, k.read)
+
+pub returns-in_ok-header_of-in-Header : goal.returns-in_ok-header_of-in-Header
+returns-in_ok-header_of-in-Header c item h =
+    let k = of_header c.args.view c.in-Header.field-0 item c.args.bytes.now c.in-Header.is h in
+    ap items.Header (c.in_ok-header_of-in-Header.ensures k.profile _ k.read) ∙ sym k.is
+
+pub init_elements_in-requires : goal.init_elements_in-requires
+init_elements_in-requires c =
+    let h = c.requires.1 in
+    let k = of_init c.args.view c.in-Init.elements c.requires.0 c.args.bytes.now c.in-Init.is h in
+    (k.elements, _, k.read, omega (arith, k.long, h.exact))
+
+pub elements_of-requires : goal.elements_of-requires
+elements_of-requires c =
+    let h = c.requires.1 in
+    let k = of_init c.args.view c.in-Init.elements c.requires.0 c.args.bytes.now c.in-Init.is h in
+    let most : c.events_at-events.result ≤ 65536 = omega (arith, c.events_at-events.type_inv) in
+    let few : events_of c.args.view.place ≤ 65536 = rw c.events_at-events.ensures at most in
+    omega (
+      arith,
+      c.init_elements_in.ensures.count,
+      few_of_init c.args.view c.in-Init.elements c.requires.0 c.args.bytes.now few
+          (All-from_get_or (λ b. b < 256) c.args.bytes.now 0 (λ i l. omega (arith, c.type_inv.bytes i))) h k,
+    )
+
+pub returns-in_ok-elements-in-Init : goal.returns-in_ok-elements-in-Init
+returns-in_ok-elements-in-Init c item h =
+    let k = of_init c.args.view c.in-Init.elements item c.args.bytes.now c.in-Init.is h in
+    ap (λ (es : List (List ℕ)). items.Frame (frames.Init es)) (c.in_ok-elements-in-Init.ensures
+    ∙ ap (map bytes_of) (c.init_elements_in.ensures.is k.elements _ k.read) ∙ bytes_undrawn k.elements) ∙ sym k.is
+
+pub run_of-requires-clause-few : goal.run_of-requires-clause-few
+run_of-requires-clause-few c =
+    let h = c.requires.1 in
+    let most : c.events_at-events.result ≤ 65536 = omega (arith, c.events_at-events.type_inv) in
+    let few : events_of c.args.view.place ≤ 65536 = rw c.events_at-events.ensures at most in
+    few_of_run c.args.view c.in-Run.input c.in-Run.outcome c.requires.0 c.args.bytes.now few
+    (All-from_get_or (λ b. b < 256) c.args.bytes.now 0 (λ i l. omega (arith, c.type_inv.bytes i))) h
+    (of_run c.args.view c.in-Run.input c.in-Run.outcome c.requires.0 c.args.bytes.now c.in-Run.is h)

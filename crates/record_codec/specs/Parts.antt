@@ -1,0 +1,25 @@
+-- The parts of an item that a view is of, as its owned value is made of them.
+use Rattle.std.specs.Prelude.{ℕ, ◌≤◌, List}
+use Rattle.det_values.specs.declared.frames.DrawnElement.{DrawnElement}
+use Rattle.det_values.specs.declared.frames.RunFrame.{RunFrame}
+use Rattle.record_grammar.specs.declared.place.Place.{Place}
+use Rattle.record_grammar.specs.Places.{format_of}
+use Rattle.record_view.specs.declared.view.InputView.{InputView}
+use Rattle.record_view.specs.declared.view.OutcomeView.{OutcomeView}
+use Rattle.record_view.specs.declared.view.OutcomeView.TheVariants.{Finished, Refused}
+use Rattle.record_view.specs.Shows.{ShowsInput, ShowsOutcome, events_of}
+
+-- an element's bytes
+abbrev pub bytes_of : DrawnElement → List ℕ
+bytes_of e = e.bytes
+
+-- input and outcome of a run are at these offsets
+pub record ShowsRun (place : Place) (input : InputView) (outcome : OutcomeView) (len : ℕ)
+    (bytes : List ℕ) (run : RunFrame) : Type 0 where
+  pub input_is : ShowsInput (events_of place) input bytes run.input
+  pub outcome_is : ShowsOutcome (format_of place) outcome len bytes run.outcome
+
+-- there are no more elements than a cycle may have
+abbrev pub FewElements : OutcomeView → Type 0
+FewElements (Finished count at output_at) = count ≤ 65536
+FewElements (Refused at) = Unit {0}
