@@ -145,6 +145,7 @@ next_ok old new read given span none same_window same_before last going h v lead
     let others = all_at_got given old.place read (unread old) item (unread new) h.leads got in
     record {
       item = item;
+      behind = (unread old, h.leads);
       holds = next_holds old new span none same_window last v;
       stands = stands_next old new read given item h got (λ kind. leads_to item span.len (unread old) kind shows.parts) scan count going;
       others = others.0;
