@@ -19,7 +19,7 @@ use Rattle.record_grammar.specs.declared.item.Item.TheVariants as items
 use Rattle.record_reader.specs.declared.reader.RecordReader.{RecordReader}
 use Rattle.record_reader.specs.StandsFor.{StandsFor, HasRead, ItemIs, slot_of}
 use Rattle.record_reader.specs.Taking.{AreFirst}
-use Rattle.record_reader.proofs.Items.{NextIs, next_is, few_first}
+use Rattle.record_reader.proofs.Items.{are_first, NextIs, next_is, few_first}
 use Rattle.probes.specs.Reports.{AudienceState}
 use Rattle.probes.specs.Shows.{Shows}
 use Rattle.probes.proofs.Shown.{shows-none, shows-then}
@@ -105,12 +105,7 @@ module _ {S G E L P : Type 0} (m : Meaning S G E L P) (profile : ProfileValue) w
     pub compared-few : (read : List ℕ) → StandsFor old read (items.Header profile ∷ []) → checker.compared < 4294967295
     compared-few read stands =
         let gave = comparing.gave read stands in
-        let few = few_first (items_with profile front) (record {
-          bytes = read ++ more;
-          place = reader.decoder.place;
-          rest = gave.decodes.rest;
-          leads = gave.decodes.leads;
-        }) in
+        let few = few_first (items_with profile front) (are_first reader (read ++ more) (items_with profile front) gave) in
         let count : length (map items.Frame front) ≡ length front = length-map front items.Frame in
         let compared = comparing.compared in
         omega (arith, few, count, compared)
@@ -118,7 +113,8 @@ module _ {S G E L P : Type 0} (m : Meaning S G E L P) (profile : ProfileValue) w
     inputs-few : (read : List ℕ) → StandsFor old read (items.Header profile ∷ []) → length (inputs_of front) ≤ 1000000
     inputs-few read stands =
         let gave = comparing.gave read stands in
-        let few = few-inputs (items_with profile front) reader.decoder.place (read ++ more) gave.decodes.rest gave.decodes.leads in
+        let first = are_first reader (read ++ more) (items_with profile front) gave in
+        let few = few-inputs (items_with profile front) first.place first.bytes first.rest first.leads in
         let same = inputs-are (map items.Frame front) ∙ ap (λ (l : List Frame). inputs_of l) (frames-are front) in
         subst (λ (l : List CycleInput). length l ≤ 1000000) same few
 
@@ -130,9 +126,7 @@ module _ {S G E L P : Type 0} (m : Meaning S G E L P) (profile : ProfileValue) w
       (n : Next first now slot old next front (Ok (Some item))) (read : List ℕ) (stands : StandsFor old read (items.Header profile ∷ []))
     where
       first-items : AreFirst (items_with profile front ++ item ∷ [])
-      first-items =
-          let is = (n.is read stands).0 in
-          record { bytes = read ++ n.all; place = next.decoder.place; rest = is.decodes.rest; leads = is.decodes.leads }
+      first-items = are_first next (read ++ n.all) (items_with profile front ++ item ∷ []) (n.is read stands).0
 
       -- it is a frame
       pub next-frame : (frame : Frame) × (item ≡ items.Frame frame)

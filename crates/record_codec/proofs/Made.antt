@@ -1,5 +1,5 @@
 -- Which item a view is of, by its kind.
-use Rattle.std.proofs.Common.{◌≡◌, ℕ, suc, ◌<◌, ◌≤◌, List, [], ◌∷◌, ◌++◌, length, take, drop, map, Option, inl, inr, refl, sym, ap, subst, ◌∙◌, arith}
+use Rattle.std.proofs.Common.{◌≡◌, ℕ, ◌<◌, ◌≤◌, List, [], ◌∷◌, length, take, drop, map, Option, inl, inr, refl, sym, ap, subst, ◌∙◌, arith}
 use Rattle.std.proofs.Common.{Result, Ok, Err, length-take}
 use Rattle.std.specs.Prelude.{IfOk}
 use Rattle.std.proofs.lemmas.Bool.{cases_lt}
@@ -18,7 +18,7 @@ use Rattle.record_grammar.specs.declared.place.Place.{Place}
 use Rattle.record_grammar.specs.declared.place.Place.TheVariants as places
 use Rattle.record_grammar.specs.declared.item.Item.{Item}
 use Rattle.record_grammar.specs.declared.item.Item.TheVariants as items
-use Rattle.record_grammar.specs.Read.{Read, Got, ◌>>=◌, raw_at, many}
+use Rattle.record_grammar.specs.Read.{Read, Got, raw_at, many}
 use Rattle.record_grammar.specs.Numbers.{number, IsWithin}
 use Rattle.record_grammar.specs.Grammar.{profile_at, element_at, drawn_at, string_at, item_at}
 use Rattle.record_grammar.specs.Places.{CanFollow}
@@ -131,8 +131,11 @@ pub few_of_init : (view : ItemView) (count : ℕ) (item : Item) (bytes : List �
 few_of_init view count item bytes few are h i =
     let m : MayStand view.place (items.Frame (frames.Init i.elements)) = subst (MayStand view.place) i.is
     (may_stand view item bytes few are h) in
-    omega (arith, few_in_init view.place i.elements m,
-    many_counted element_at count (drop 5 bytes) (i.elements, drop view.span.len bytes) i.read)
+    omega (
+      arith,
+      few_in_init view.place i.elements m,
+      many_counted element_at count (drop 5 bytes) (i.elements, drop view.span.len bytes) i.read,
+    )
 
 -- elements are the bytes of those without draws
 pub bytes_undrawn : (es : List (List ℕ)) → map bytes_of (map undrawn es) ≡ es

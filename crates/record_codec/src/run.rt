@@ -9,9 +9,7 @@ ghost use Rattle.record_view.specs.Parts.{OutputOf};
 ghost use Rattle.record_codec.specs.Parts.{ShowsRun, FewElements};
 
 use crate::elements::drawn_of;
-use det_values::{
-    Bytes, CycleInput, Format, Limited, OutOfMemory, Outcome, RunFrame, Samples,
-};
+use det_values::{Bytes, CycleInput, Format, Limited, OutOfMemory, Outcome, RunFrame, Samples};
 use record_grammar::Place;
 use record_view::{
     InputView, OutcomeView, SampleWalk, events_at, format_at, output_in, refusal_in, samples_in,

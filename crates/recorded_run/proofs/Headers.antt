@@ -14,7 +14,7 @@ use Rattle.record_grammar.specs.declared.item.Item.TheVariants as items
 use Rattle.record_reader.specs.declared.reader.RecordReader.{RecordReader}
 use Rattle.record_reader.specs.Salvaged.{is_init}
 use Rattle.record_reader.specs.StandsFor.{StandsFor, HasRead, ItemIs, slot_of}
-use Rattle.record_reader.proofs.Items.{next_is, whole_has_init}
+use Rattle.record_reader.proofs.Items.{are_first, next_is, whole_has_init}
 use Rattle.recorded_run.specs.Run.{without_header}
 use Rattle.recorded_run.specs.Header.{IsHeader, HeaderIs, GaveHeader}
 
@@ -24,12 +24,7 @@ no-init e = cc
 header-first : (first : Option Item) (r : RecordReader) (at_end : Type 0) (read : List ℕ) → ItemIs (Ok first) r at_end read []
     → IsHeader first
 header-first (Some (items.Header p)) r at_end read h = tt
-header-first (Some (items.Frame f)) r at_end read h = next_is [] (items.Frame f) (record {
-  bytes = read;
-  place = r.decoder.place;
-  rest = h.0.decodes.rest;
-  leads = h.0.decodes.leads;
-})
+header-first (Some (items.Frame f)) r at_end read h = next_is [] (items.Frame f) (are_first r read (items.Frame f ∷ []) h.0)
 header-first None r at_end read h =
     no-init (subst (λ (xs : List Item). list_any is_init xs ≡ true) h.2 (whole_has_init read h.3))
 

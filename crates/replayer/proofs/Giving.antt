@@ -17,7 +17,7 @@ use Rattle.record_grammar.specs.declared.item.Item.TheVariants as items
 use Rattle.record_grammar.specs.Record.{items as items_in}
 use Rattle.record_reader.specs.declared.reader.RecordReader.{RecordReader}
 use Rattle.record_reader.specs.StandsFor.{HasRead, ItemIs, FoundFault, slot_of}
-use Rattle.record_reader.proofs.Items.{next_is, more_items}
+use Rattle.record_reader.proofs.Items.{are_first, next_is, more_items}
 use Rattle.replayer.specs.Again.{input_in, inputs}
 use Rattle.replayer.specs.Giving.{HasGiven, ReadsOn, InputIs}
 use Rattle.replayer.proofs.Items.{inputs-next, few-inputs, known-input}
@@ -56,19 +56,15 @@ gave-input : {profile : ProfileValue} {r : RecordReader} {read : List ℕ} {give
     → ItemIs (Ok (Some item)) next at_end all (items.Header profile ∷ h.behind) → InputIs (Ok (Some input)) profile next at_end all given
 gave-input {profile} {given = given} h next item input at_end all one is =
     let behind = h.behind ++ item ∷ [] in
+    let first = are_first next all (items.Header profile ∷ behind) is.0 in
     let grew : flat_map input_in behind ≡ given ++ input ∷ [] = inputs-next h.behind item
     ∙ ap (λ (is : List CycleInput). flat_map input_in h.behind ++ is) one
     ∙ ap (λ (is : List CycleInput). is ++ input ∷ []) h.inputs in (
       record { behind = behind; stands = is.0; inputs = grew },
       record {
-        known = known-input profile h.behind item input one (next_is (items.Header profile ∷ h.behind) item (record {
-          bytes = all;
-          place = next.decoder.place;
-          rest = is.0.decodes.rest;
-          leads = is.0.decodes.leads;
-        }));
+        known = known-input profile h.behind item input one (next_is (items.Header profile ∷ h.behind) item first);
         few = subst (λ (is : List CycleInput). length is ≤ 1000000) grew
-            (few-inputs (items.Header profile ∷ behind) next.decoder.place all is.0.decodes.rest is.0.decodes.leads);
+            (few-inputs (items.Header profile ∷ behind) first.place first.bytes first.rest first.leads);
       },
     )
 

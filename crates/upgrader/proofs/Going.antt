@@ -29,7 +29,7 @@ use Rattle.record_grammar.specs.Spelling.{spelled, spelled_frame}
 use Rattle.record_reader.specs.declared.reader.RecordReader.{RecordReader}
 use Rattle.record_reader.specs.StandsFor.{StandsFor, HasRead, ItemIs, slot_of}
 use Rattle.record_reader.specs.Taking.{AreFirst}
-use Rattle.record_reader.proofs.Items.{NextIs, next_is, more_items, few_first}
+use Rattle.record_reader.proofs.Items.{are_first, NextIs, next_is, more_items, few_first}
 use Rattle.lockstep.specs.declared.difference.Difference.{Difference}
 use Rattle.lockstep.specs.FirstDifference.{frame_difference}
 use Rattle.run_writer.specs.declared.recording.Recording.{Recording}
@@ -108,12 +108,8 @@ gone-first {profile} {r} {read} {done} h rest =
 -- the items that were given and the next one come first of a record
 item-first : {profile : ProfileValue} {next : RecordReader} {all : List ℕ} (at_end : Type 0) (behind : List Item) (item : Item)
     → ItemIs (Ok (Some item)) next at_end all (items.Header profile ∷ behind) → AreFirst (items.Header profile ∷ (behind ++ item ∷ []))
-item-first {next = next} {all = all} at_end behind item is = record {
-  bytes = all;
-  place = next.decoder.place;
-  rest = is.0.decodes.rest;
-  leads = is.0.decodes.leads;
-}
+item-first {profile} {next = next} {all = all} at_end behind item is =
+    are_first next all (items.Header profile ∷ (behind ++ item ∷ [])) is.0
 
 no-header : (profile : ProfileValue) (behind : List Item) (item : Item) → NextIs (items.Header profile ∷ behind) item → IsNoHeader item
 no-header profile behind (items.Header other) next = next

@@ -11,7 +11,7 @@ use Rattle.det_edges.specs.Sink.{Grew}
 use Rattle.det_edges.specs.Traffic.{ShelfRun, SinkRun, ShelfTraffic, SinkTraffic, failure_in}
 use Rattle.record_grammar.specs.declared.item.Item.{Item}
 use Rattle.record_reader.specs.Taking.{AreFirst}
-use Rattle.record_reader.proofs.Items.{NextIs, next_is, few_first}
+use Rattle.record_reader.proofs.Items.{are_first, NextIs, next_is, few_first}
 use Rattle.record_reader.proofs.Pieces.{cycles-few}
 use Rattle.lockstep.specs.Compared.{AreGiven, ReadsAmong}
 use Rattle.lockstep.proofs.SideBySide.{among-again}
@@ -39,8 +39,7 @@ one-first first now given (s ∷ slots) (v ∷ voters) h some = by v.left refl h
   where
     by : (left : Option ℕ) → v.left ≡ left → VoterIs left first now given s v.reader → (0 < count_by is_in_step voters → AreFirst given)
         → AreFirst given
-    by None e b on =
-        record { bytes = b.read; place = v.reader.decoder.place; rest = b.stands.decodes.rest; leads = b.stands.decodes.leads }
+    by None e b on = are_first v.reader b.read given b.stands
     by (Some row) e b on = let n = count-cons is_in_step v voters false (ap (λ o. is_none o) e) in on (omega (arith, some, n))
 
 pub stand-first : {first now : ShelfState} {given : List Item} {slots : List ℕ} {voters : Voters} → Stand first now given slots voters

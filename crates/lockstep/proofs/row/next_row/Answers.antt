@@ -18,6 +18,7 @@ returns-clause-row g c =
       h.1,
       λ read given stands. row-is c.next_item.result c.next_item.new.self
           (IsAtEnd (g.S.Slots.sees c.next_item.new.shelf) (slot_of c.args.reader.now)) _ _ (h.2 read given stands),
+      h.3,
     )
 
 pub returns-clause-room : goal.returns-clause-room
