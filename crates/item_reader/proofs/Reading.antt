@@ -133,6 +133,7 @@ next_ok old new read given span none same_window same_before last going h v lead
     let others = all_at_got given old.place read (unread old) item (unread new) h.leads got in
     record {
       item = item;
+      behind = (unread old, h.leads);
       holds = record { last = sym last; shows = subst (λ (xs : List ℕ). Shows old.place span xs item) (sym all) shows };
       stands = stands_next old new read given item h got (λ kind. leads_to item span.len (unread old) kind shows.parts) scan count going;
       others = others.0;

@@ -84,10 +84,11 @@ pub record Holds (r : ItemReader) (view : ItemView) (item : Item) : Type 0 where
   pub last : view.span.len ≡ r.last
   pub shows : Shows view.place view.span (held r.window) item
 
--- an item is given that comes next
+-- an item is given that comes next, in the place to which those before it lead
 pub record GaveItem (view : ItemView) (r : ItemReader) (read : List ℕ) (given : List Item)
     : Type 0 where
   pub item : Item
+  pub behind : (rest : List ℕ) × Leads places.Header read given view.place rest
   pub holds : Holds r view item
   pub stands : StandsFor r read (given ++ item ∷ [])
   pub others : List Item
