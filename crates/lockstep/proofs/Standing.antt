@@ -256,7 +256,7 @@ differs n row copy (r ∷ more) found state slots e = by (row_difference n row r
     by None later e = later e
 
 -- an item of one kind is so many cycles
-runs-are : (place : Place) (kind : ItemKind) (len : ℕ) (bytes : List ℕ) (item : Item) → ShowsParts place kind len bytes item
+pub runs-are : (place : Place) (kind : ItemKind) (len : ℕ) (bytes : List ℕ) (item : Item) → ShowsParts place kind len bytes item
     → runs_in item ≡ runs_of kind
 runs-are place (kinds.Header layout) len bytes (items.Header p) h = refl
 runs-are place kinds.Register len bytes (items.Frame frames.Register) h = refl

@@ -90,7 +90,7 @@ impl Copies {
 }
 
 /// How many cycles an item of this kind is.
-fn runs_of(kind: ItemKind) -> u32
+pub fn runs_of(kind: ItemKind) -> u32
     ensures value { result ≡ runs_of kind }
     ensures most { result ≤ 1 }
 {

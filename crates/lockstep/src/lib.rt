@@ -13,6 +13,7 @@ mod verdict;
 mod views;
 
 pub use comparing::compare;
+pub use copies::runs_of;
 pub use difference::Difference;
 pub use frames::first_difference;
 pub use row::{Row, next_row};
