@@ -104,7 +104,7 @@ module _ {first mid : ShelfState} {slots here : List ℕ} (recorded : List (Bor 
     meets-voted (Err (Refused why)) h reads writes =
         meets-given (λ e. cc) (λ e. cc) (λ t. split why.row copies out (answered (Err (Refused why)) h t))
     meets-voted (Err (Failed Read)) h reads writes = meets-read-fault-part _ _ _ _ _ _
-        (λ t. part-of _ (answered (Err (Failed Read)) h t) refl) (read-failed (reads.cause refl))
+        (λ t. part-of _ (answered (Err (Failed Read)) h t).part refl) (read-failed (reads.cause refl))
     meets-voted (Err (Failed Write)) h reads writes = meets-write-fault _ _ _ _ _ _
         (λ t. part-of _ (short-part _ _ _ (answered (Err (Failed Write)) h t)) refl) (writes.cause refl)
     meets-voted (Err (Failed OutOfMemory)) h reads writes = meets-no-memory-part _ _ _ _ _ _

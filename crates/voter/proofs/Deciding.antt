@@ -1,6 +1,6 @@
 -- How a vote ends.
-use Rattle.std.proofs.Common.{◌≡◌, ◌≢◌, ◌<◌, ◌≤◌, ◌+◌, ℕ, true, false, cond, List, [], ◌∷◌, ◌++◌, length, Option, Some, None, Ok, Err}
-use Rattle.std.proofs.Common.{refl, sym, ap, subst, ◌∙◌, append_assoc, append-nil, arith}
+use Rattle.std.proofs.Common.{◌≡◌, ◌≢◌, ◌≤◌, ◌+◌, ℕ, true, false, cond, List, [], ◌∷◌, ◌++◌, length, Option, Some, None, Ok, Err}
+use Rattle.std.proofs.Common.{refl, sym, ap, subst, ◌∙◌, append_assoc, arith}
 use Rattle.std.specs.Prelude.{is_none, unwrap_or, ◌==◌}
 use Rattle.std.specs.List.{count_by, list_any}
 use Rattle.std.proofs.lemmas.Bool.{cond-true, cond-false, eq-eqb, false_from_ne_true, or_right, or_left}
@@ -13,11 +13,10 @@ use Rattle.det_edges.specs.Prefix.{IsProperPrefix}
 use Rattle.det_edges.specs.Shelf.{ShelfState, IsAtEnd}
 use Rattle.det_edges.specs.Sink.{Grew}
 use Rattle.det_edges.specs.Traffic.{SinkRun, SinkTraffic, failure_in}
-use Rattle.det_edges.proofs.Prefixes.{prefix-then, proper-then, proper-behind}
+use Rattle.det_edges.proofs.Prefixes.{proper-then, proper-behind}
 use Rattle.det_edges.proofs.Growth.{grew-then}
 use Rattle.record_grammar.specs.declared.item.Item.{Item}
 use Rattle.record_grammar.specs.Record.{items as items_in}
-use Rattle.record_reader.specs.Salvaged.{cycles_of}
 use Rattle.lockstep.specs.Verdict.{shared}
 use Rattle.lockstep.specs.Compared.{AreLeft}
 use Rattle.voter.specs.declared.outcome.Dissenter.{Dissenter}
@@ -28,8 +27,7 @@ use Rattle.voter.specs.declared.voters.Voters.{Voters}
 use Rattle.voter.specs.Majority.{is_record, is_most, dissent, common, voted, spelled_items}
 use Rattle.voter.specs.Voted.{Elects, dissents, OthersEnd, HasVoted}
 use Rattle.voter.specs.Rows.{is_in_step, AreVoters}
-use Rattle.voter.specs.Spelled.{Writes}
-use Rattle.voter.specs.Standing.{AreMost, Stand, IsRecord, EndIs, AreEnded, Decided, RowTaken, dissenter, dissenters}
+use Rattle.voter.specs.Standing.{Writes, AreMost, Stand, EndIs, AreEnded, Decided, RowTaken, dissenter, dissenters}
 use Rattle.voter.proofs.Counting.{most-true, most-is, count-cons}
 use Rattle.voter.proofs.Held.{record-tells, record-yes, majority-is, voted-from}
 use Rattle.voter.proofs.Told.{held-told}
@@ -63,8 +61,12 @@ pub failed : (first old last : ShelfState) (given : List Item) (slots : List ℕ
     → HasVoted (Err (Failed failure)) first last slots out
 failed first old last given slots voters out Write h most grew ne = absurd (ne refl)
 failed first old last given slots voters out Read h most grew ne = record {
-  answers = λ copies l.
-      (spelled_items given, voted-from copies given (held-told first old given slots voters copies h most l), grew);
+  answers = λ copies l. let held = held-told first old given slots voters copies h most l in record {
+    rows = given;
+    held = held;
+    grew = grew;
+    part = (spelled_items given, voted-from copies given held, grew);
+  };
   ends = tt;
 }
 failed first old last given slots voters out OutOfMemory h most grew ne = record {
@@ -107,17 +109,7 @@ pub write-stopped : (first last : ShelfState) (given : List Item) (x : Item) (sl
     → HasVoted (Err stop) first last slots out
 write-stopped first last given x slots voters piece step out (Refused split) h grew same more w = absurd w
 write-stopped first last given x slots voters piece step out (Failed Read) h grew same more w = absurd w
-write-stopped first last given x slots voters piece step out (Failed OutOfMemory) h grew same more w = record {
-  answers = λ copies l. (
-    spelled_items given,
-    prefix-then (spelled_items given) (spelled_items (given ++ x ∷ [])) (voted copies) (piece, sym more)
-        (voted-from copies (given ++ x ∷ [])
-        (held-told first last (given ++ x ∷ []) slots voters.voters.items copies h.readers h.most l)),
-    subst (λ b. Grew out.before out.after b) (append-nil (spelled_items given))
-        (subst (λ p. Grew out.before p (spelled_items given ++ [])) same (grew-then grew w)),
-  );
-  ends = tt;
-}
+write-stopped first last given x slots voters piece step out (Failed OutOfMemory) h grew same more w = absurd w
 write-stopped first last given x slots voters piece step out (Failed Write) h grew same more w = record {
   answers = λ copies l. (
     spelled_items given ++ w.0,

@@ -18,7 +18,7 @@ use Rattle.lockstep.specs.declared.row.Row.TheVariants as rows
 use Rattle.lockstep.specs.Rows.{first_row, row_at}
 use Rattle.lockstep.proofs.Equality.{item_decides}
 use Rattle.voter.specs.Majority.{is_record, is_most, is_majority, majority, begins_with, are_held, held, longest, common}
-use Rattle.voter.specs.Majority.{spelled_items, voted}
+use Rattle.voter.specs.Majority.{spelled_items, voted_items, voted}
 use Rattle.voter.specs.Rows.{same_row, is_held}
 use Rattle.voter.specs.Standing.{IsRecord}
 use Rattle.voter.proofs.Counting.{most-true, most-is, count-cons, both, count-le, count-same, count-map, passes-at}
@@ -263,11 +263,15 @@ found {A} p w (x ∷ xs) e = by (p x) refl e (found p w xs)
 pub majority-passes : (copies : List (List ℕ)) (whole : List Item) → majority copies ≡ Some whole → is_majority copies whole ≡ true
 majority-passes copies whole e = found (is_majority copies) whole (map items_in copies) e
 
--- what is spelled of items that are held comes first of what is voted
+-- items that are held come first of what is voted
+pub items-from : (copies : List (List ℕ)) (given : List Item) → are_held copies given ≡ true → IsPrefix given (voted_items copies)
+items-from copies given h = by (majority copies) refl
+  where
+    by : (o : Option (List Item)) → majority copies ≡ o → IsPrefix given (unwrap_or o (common copies))
+    by (Some whole) e = majority-begins copies whole given (majority-passes copies whole e) h
+    by None e = common-from copies given h
+
+-- and so does what is spelled of them
 pub voted-from : (copies : List (List ℕ)) (given : List Item) → are_held copies given ≡ true
     → IsPrefix (spelled_items given) (voted copies)
-voted-from copies given h = by (majority copies) refl
-  where
-    by : (o : Option (List Item)) → majority copies ≡ o → IsPrefix (spelled_items given) (spelled_items (unwrap_or o (common copies)))
-    by (Some whole) e = spelled-prefix given whole (majority-begins copies whole given (majority-passes copies whole e) h)
-    by None e = spelled-prefix given (common copies) (common-from copies given h)
+voted-from copies given h = spelled-prefix given (voted_items copies) (items-from copies given h)

@@ -1,7 +1,8 @@
 pub mod Counting
 pub mod Prefixes
-pub mod Held
 pub mod Spelled
+pub mod Held
+pub mod Holding
 pub mod Parting
 pub mod InTurn
 pub mod Told

@@ -1,6 +1,7 @@
 -- The loop over the rows.
 use Rattle.std.proofs.Common.{◌≡◌, ◌<◌, ◌≤◌, ◌-◌, ℕ, false, List, [], ◌∷◌, ◌++◌, map, length, Option, Some, None, Result, Ok, Err}
-use Rattle.std.proofs.Common.{refl, sym, ap, subst, length-append, arith}
+use Rattle.std.proofs.Common.{refl, sym, ap, subst, ◌∙◌, length-append, arith}
+use Rattle.std.proofs.lemmas.List.{length-map}
 use Rattle.std.specs.Prelude.{is_none}
 use Rattle.std.specs.List.{count_by, AllByRecursion}
 use Rattle.det_edges.specs.declared.failure.Failure.TheVariants.{Read, Write, OutOfMemory}
@@ -9,22 +10,32 @@ use Rattle.det_edges.specs.declared.failure.Stopped.TheVariants.{Refused, Failed
 use Rattle.det_edges.specs.Shelf.{ShelfState}
 use Rattle.det_edges.specs.Sink.{Grew}
 use Rattle.det_edges.specs.Traffic.{ShelfRun, SinkRun, ShelfTraffic, SinkTraffic, failure_in}
+use Rattle.det_edges.proofs.Prefixes.{prefix-length}
 use Rattle.record_grammar.specs.declared.item.Item.{Item}
+use Rattle.item_reader.specs.StandsFor.{unread}
 use Rattle.record_reader.specs.Taking.{AreFirst}
+<<<<<<< HEAD
 use Rattle.record_reader.proofs.Items.{are_first, NextIs, next_is, few_first}
+=======
+use Rattle.record_reader.proofs.Items.{few_first}
+>>>>>>> 50860fb30cea6109f2fc32139728f3238367e02b
 use Rattle.record_reader.proofs.Pieces.{cycles-few}
-use Rattle.lockstep.specs.Compared.{AreGiven, ReadsAmong}
+use Rattle.lockstep.specs.Compared.{AreGiven, AreLeft, ReadsAmong}
+use Rattle.lockstep.specs.Needed.{AllNeeded}
+use Rattle.lockstep.proofs.Needed.{needed-wider}
 use Rattle.lockstep.proofs.SideBySide.{among-again}
 use Rattle.voter.specs.declared.outcome.NoMajority.{NoMajority}
 use Rattle.voter.specs.declared.outcome.Vote.{Vote}
 use Rattle.voter.specs.declared.reading.Voter.{Voter}
+use Rattle.voter.specs.declared.voters.HeldItem.{HeldItem}
 use Rattle.voter.specs.declared.voters.Voters.{Voters}
-use Rattle.voter.specs.Majority.{spelled_items}
+use Rattle.voter.specs.Majority.{voted_items, spelled_items}
 use Rattle.voter.specs.Voted.{HasVoted}
 use Rattle.voter.specs.Rows.{is_in_step, voter_slot, VoterIs, AreVoters}
-use Rattle.voter.specs.Spelled.{Writes}
-use Rattle.voter.specs.Standing.{Stand, AreEnded, Decided, TellsVote}
+use Rattle.voter.specs.Standing.{Writes, Stand, AreEnded, Decided, TellsVote}
 use Rattle.voter.proofs.Counting.{most-true, count-cons}
+use Rattle.voter.proofs.Held.{items-from}
+use Rattle.voter.proofs.Told.{held-told}
 use Rattle.voter.proofs.InTurn.{voters-slots}
 use Rattle.voter.proofs.Deciding.{failed, elected}
 
@@ -39,7 +50,11 @@ one-first first now given (s ∷ slots) (v ∷ voters) h some = by v.left refl h
   where
     by : (left : Option ℕ) → v.left ≡ left → VoterIs left first now given s v.reader → (0 < count_by is_in_step voters → AreFirst given)
         → AreFirst given
+<<<<<<< HEAD
     by None e b on = are_first v.reader b.read given b.stands
+=======
+    by None e b on = record { bytes = b.read; place = v.reader.place; rest = unread v.reader; leads = b.stands.leads }
+>>>>>>> 50860fb30cea6109f2fc32139728f3238367e02b
     by (Some row) e b on = let n = count-cons is_in_step v voters false (ap (λ o. is_none o) e) in on (omega (arith, some, n))
 
 pub stand-first : {first now : ShelfState} {given : List Item} {slots : List ℕ} {voters : Voters} → Stand first now given slots voters
@@ -76,9 +91,9 @@ stand-reads {mid = mid} {now = now} h p q = among-again p (subst (λ ks. ReadsAm
 
 -- ---- an item that is written
 
-pub stand-next : {first now : ShelfState} (given : List Item) (x : Item) {slots : List ℕ} {voters : Voters}
-    → Stand first now (given ++ x ∷ []) slots voters → NextIs given x
-stand-next given x h = next_is given x (stand-first h)
+pub none-item : (o : Option HeldItem) → ((item : HeldItem) → o ≡ Some item → ⊥) → o ≡ None
+none-item (Some item) none = absurd (none item refl)
+none-item None none = refl
 
 -- it goes on behind the item
 pub smaller : {first now later : ShelfState} (given : List Item) (x : Item) {slots : List ℕ} {old new : Voters}
@@ -93,7 +108,7 @@ pub no-read : (piece : List ℕ) (step : SinkRun) (run : ShelfRun) (stop : Stopp
 no-read piece step run (Refused split) w t = absurd w
 no-read piece step run (Failed Read) w t = absurd w
 no-read piece step run (Failed Write) w t = record { cause = λ e. absurd cc; counted = t.counted; stays = t.stays }
-no-read piece step run (Failed OutOfMemory) w t = record { cause = λ e. absurd cc; counted = t.counted; stays = t.stays }
+no-read piece step run (Failed OutOfMemory) w t = absurd w
 
 -- ---- the end
 
@@ -103,6 +118,16 @@ ended-many first now given [] [] h = refl
 ended-many first now given [] (v ∷ voters) h = absurd h
 ended-many first now given (s ∷ slots) [] h = absurd h
 ended-many first now given (s ∷ slots) (v ∷ voters) h = let n = ended-many first now given slots voters h.1 in omega (arith, n)
+
+pub voters-many : (first now : ShelfState) (given : List Item) (slots : List ℕ) (voters : List Voter) → AreVoters first now given slots voters
+    → length voters ≡ length slots
+voters-many first now given slots voters h =
+    sym (length-map voters voter_slot) ∙ ap length (voters-slots first now given slots voters h)
+
+pub stand-seven : {first now : ShelfState} {given : List Item} {slots : List ℕ} {voters : Voters} → Stand first now given slots voters
+    → length slots ≤ 7 → length voters.voters.items ≤ 7
+stand-seven {first} {now} {given} {slots} {voters} h few =
+    let n = voters-many first now given slots voters.voters.items h.readers in omega (arith, n, few)
 
 pub decided-few : {first now : ShelfState} {given : List Item} {slots : List ℕ} {voters : Voters} → Decided first now given slots voters
     → length slots ≤ 7 → length voters.voters.items ≤ 7
@@ -134,3 +159,14 @@ tells-sink out new (Err (Failed OutOfMemory)) t s = record { cause = λ e. absur
 tells-sink out new (Err (Failed Read)) t s = absurd t
 tells-sink out new (Err (Failed Write)) t s = absurd t
 tells-sink out new (Err (Refused split)) t s = absurd t
+
+-- ---- what was read
+
+-- what the row behind the items given needs is needed behind all that are voted
+pub needed-by : (first old now : ShelfState) (given : List Item) (slots : List ℕ) (voters : Voters) (copies : List (List ℕ))
+    → Stand first old given slots voters → AllNeeded first now (length given) slots → AreLeft first slots copies
+    → AllNeeded first now (length (voted_items copies)) slots
+needed-by first old now given slots voters copies h all l =
+    needed-wider first now (length given) (length (voted_items copies)) slots
+    (prefix-length given (voted_items copies)
+    (items-from copies given (held-told first old given slots voters.voters.items copies h.readers h.most l))) all

@@ -13,19 +13,19 @@ use Rattle.record_grammar.specs.declared.place.Place.{Place}
 use Rattle.record_grammar.specs.declared.place.Place.TheVariants as places
 use Rattle.record_grammar.specs.declared.item.Item.{Item}
 use Rattle.record_grammar.specs.declared.item.Item.TheVariants as items
-use Rattle.record_grammar.specs.Places.{after, layout_of}
+use Rattle.record_grammar.specs.Leads.{Leads}
+use Rattle.record_grammar.specs.Places.{after, layout_of, CanFollow}
 use Rattle.record_grammar.specs.Laws.{IsWhole, MayStand, AreItems, item_spelling, items_spelling}
 use Rattle.record_grammar.specs.Read.{Read}
 use Rattle.record_grammar.specs.Record.{Decoded, decoded, with_next, items as items_in, fault as fault_in}
 use Rattle.record_grammar.specs.Spelling.{AreBytes, spelled, spelled_header, spelled_frame}
-use Rattle.record_grammar.proofs.Leads.{all_leads}
+use Rattle.record_grammar.proofs.Leads.{all_leads, can_follow}
 use Rattle.record_laws.proofs.Whole.{nil_more, all_leads_on, decoded_is}
-use Rattle.record_reader.specs.Keeping.{layout_behind}
-use Rattle.record_reader.proofs.Items.{NextIs}
+use Rattle.record_reader.specs.Taking.{AreFirst}
 use Rattle.voter.specs.Majority.{frame_of, spelled_items}
-use Rattle.voter.specs.Spelled.{piece_of}
+use Rattle.voter.specs.Rows.{place_after, place_behind}
 
--- ---- one item more
+-- ---- lists of items
 
 spelled-append : (p : ProfileValue) (xs ys : List Item) → spelled p (flat_map frame_of (xs ++ ys)) ≡ spelled p (flat_map frame_of xs)
     ++ flat_map (spelled_frame p.format) (flat_map frame_of ys)
@@ -39,16 +39,6 @@ spelled-append p xs ys =
     ∙ sym (append_assoc (spelled_header p) (flat_map (spelled_frame p.format) (flat_map frame_of xs))
     (flat_map (spelled_frame p.format) (flat_map frame_of ys)))
 
-pub spelled-next : (given : List Item) (x : Item) → NextIs given x → spelled_items (given ++ x ∷ []) ≡ spelled_items given
-    ++ piece_of (layout_behind given) x
-spelled-next [] (items.Header p) h = append-nil (spelled_header p)
-spelled-next [] (items.Frame f) h = absurd h
-spelled-next (items.Header p ∷ xs) (items.Header q) h = absurd h
-spelled-next (items.Header p ∷ xs) (items.Frame f) h =
-    spelled-append p xs (items.Frame f ∷ [])
-    ∙ ap (λ (bytes : List ℕ). spelled p (flat_map frame_of xs) ++ bytes) (append-nil (spelled_frame p.format f))
-spelled-next (items.Frame f ∷ xs) x h = absurd h
-
 pub spelled-prefix : (a b : List Item) → IsPrefix a b → IsPrefix (spelled_items a) (spelled_items b)
 spelled-prefix [] b p = prefix-none (spelled_items b)
 spelled-prefix (items.Frame f ∷ a) b p = prefix-none (spelled_items b)
@@ -56,7 +46,7 @@ spelled-prefix (items.Header h ∷ a) b p =
     subst (λ xs. IsPrefix (spelled_items (items.Header h ∷ a)) (spelled_items xs)) p.1
     (flat_map (spelled_frame h.format) (flat_map frame_of p.0), sym (spelled-append h a p.0))
 
--- ---- a whole record
+-- ---- the layout of a header stays
 
 -- a place behind a header
 abbrev HasLayout : Layout → Place → Type 0
@@ -93,6 +83,59 @@ no-header layout (places.Init l) p h b = h
 no-header layout (places.Runs l before) p h b = h
 no-header layout places.End p h b = h
 
+not-first : (f : Frame) → MayStand places.Header (items.Frame f) → ⊥
+not-first frames.Register h = h
+not-first frames.Discover h = h
+not-first (frames.Init elements) h = h
+not-first (frames.Run r) h = h
+not-first frames.Terminate h = h
+
+-- ---- one item more
+
+pub leads-place : (given : List Item) (place to : Place) (bytes rest : List ℕ) → Leads place bytes given to rest
+    → place_after place given ≡ to
+leads-place [] place to bytes rest h = h.0
+leads-place (x ∷ given) place to bytes rest h = leads-place given (after place x) to h.0 rest h.2
+
+stays-behind : (layout : Layout) (place : Place) (x : Item) → CanFollow place x → HasLayout layout place → HasLayout layout (after place x)
+stays-behind layout (places.Register other) (items.Frame frames.Register) k b = b
+stays-behind layout (places.Discover other) (items.Frame frames.Discover) k b = b
+stays-behind layout (places.Init other) (items.Frame (frames.Init elements)) k b = b
+stays-behind layout (places.Runs other before) (items.Frame (frames.Run r)) k b = b
+stays-behind layout (places.Runs other before) (items.Frame frames.Terminate) k b = tt
+stays-behind layout places.Header x k b = absurd b
+stays-behind layout place x k b = elim k [ ]
+
+all-behind : (layout : Layout) (xs : List Item) (place to : Place) (bytes rest : List ℕ) → Leads place bytes xs to rest
+    → HasLayout layout place → HasLayout layout (place_after place xs)
+all-behind layout [] place to bytes rest h b = b
+all-behind layout (x ∷ xs) place to bytes rest h b =
+    all-behind layout xs (after place x) to h.0 rest h.2 (stays-behind layout place x (can_follow place bytes x h.0 h.1) b)
+
+no-frame-first : (f : Frame) → CanFollow places.Header (items.Frame f) → ⊥
+no-frame-first frames.Register k = k
+no-frame-first frames.Discover k = k
+no-frame-first (frames.Init elements) k = k
+no-frame-first (frames.Run r) k = k
+no-frame-first frames.Terminate k = k
+
+-- an item is spelled behind those that were given
+pub spelled-next : (given : List Item) (x : Item) → AreFirst given → MayStand (place_behind given) x
+    → spelled_items (given ++ x ∷ []) ≡ spelled_items given ++ item_spelling (place_behind given) x
+spelled-next [] (items.Header p) h may = append-nil (spelled_header p)
+spelled-next [] (items.Frame f) h may = absurd (not-first f may)
+spelled-next (items.Frame f ∷ xs) x h may = absurd (no-frame-first f (can_follow places.Header h.bytes (items.Frame f) h.leads.0 h.leads.1))
+spelled-next (items.Header p ∷ xs) (items.Header q) h may =
+    absurd (no-header (layout_of p) (place_after (places.Register (layout_of p)) xs) q may
+    (all-behind (layout_of p) xs (places.Register (layout_of p)) h.place h.leads.0 h.rest h.leads.2 refl))
+spelled-next (items.Header p ∷ xs) (items.Frame f) h may =
+    spelled-append p xs (items.Frame f ∷ [])
+    ∙ ap (λ (bytes : List ℕ). spelled p (flat_map frame_of xs) ++ bytes) (append-nil (spelled_frame p.format f)
+    ∙ sym (one-spelled (layout_of p) (place_after (places.Register (layout_of p)) xs) f may
+    (all-behind (layout_of p) xs (places.Register (layout_of p)) h.place h.leads.0 h.rest h.leads.2 refl)))
+
+-- ---- a whole record
+
 frames-spelled : (layout : Layout) (xs : List Item) (place to : Place) → AreItems place xs to → HasLayout layout place
     → items_spelling place xs ≡ flat_map (spelled_frame layout.format) (flat_map frame_of xs)
 frames-spelled layout [] place to h b = refl
@@ -104,13 +147,6 @@ frames-spelled layout (items.Frame f ∷ xs) place to h b =
     (keeps-layout layout place f h.0 b))
     ∙ sym (flat_map-cons (spelled_frame layout.format) f (flat_map frame_of xs))
     ∙ ap (flat_map (spelled_frame layout.format)) (sym (flat_map-cons frame_of (items.Frame f) xs))
-
-not-first : (f : Frame) → MayStand places.Header (items.Frame f) → ⊥
-not-first frames.Register h = h
-not-first frames.Discover h = h
-not-first (frames.Init elements) h = h
-not-first (frames.Run r) h = h
-not-first frames.Terminate h = h
 
 spelling-is : (xs : List Item) (to : Place) → AreItems places.Header xs to → items_spelling places.Header xs ≡ spelled_items xs
 spelling-is [] to h = refl

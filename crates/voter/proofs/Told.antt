@@ -1,16 +1,19 @@
 -- What is told of the copies, and how they go on behind a row that is held.
-use Rattle.std.proofs.Common.{◌≡◌, ◌+◌, ℕ, Bool, true, false, cond, List, [], ◌∷◌, ◌++◌, map, length, get_or, Option, Some, None, Ok}
+use Rattle.std.proofs.Common.{◌≡◌, ◌+◌, ◌<◌, ℕ, Bool, true, false, cond, List, [], ◌∷◌, ◌++◌, map, length, get_or, Option, Some, None, Ok}
 use Rattle.std.proofs.Common.{refl, sym, ap, subst, ◌∙◌, append-nil, length-append, arith}
 use Rattle.std.specs.Prelude.{is_none}
 use Rattle.std.specs.List.{count_by}
 use Rattle.std.specs.Option.{option_or}
 use Rattle.std.proofs.lemmas.Bool.{cond-true, cond-false}
+use Rattle.std.proofs.lemmas.List.{length-map}
 use Rattle.det_edges.specs.Prefix.{IsPrefix}
 use Rattle.det_edges.specs.Shelf.{ShelfState}
 use Rattle.record_grammar.specs.declared.fault.RecordFault.{RecordFault}
 use Rattle.record_grammar.specs.declared.item.Item.{Item}
+use Rattle.record_grammar.specs.declared.place.Place.{Place}
 use Rattle.record_grammar.specs.Record.{items as items_in, fault as fault_in}
-use Rattle.record_reader.specs.declared.reader.RecordReader.{RecordReader}
+use Rattle.record_view.specs.declared.view.ItemView.{ItemView}
+use Rattle.item_reader.specs.declared.reader.ItemReader.{ItemReader}
 use Rattle.record_reader.specs.Salvaged.{runs_in, cycles_of}
 use Rattle.record_reader.proofs.Pieces.{sum-next}
 use Rattle.lockstep.specs.declared.row.Row.{Row}
@@ -18,24 +21,33 @@ use Rattle.lockstep.specs.declared.row.Row.TheVariants as rows
 use Rattle.lockstep.specs.Rows.{first_row, row_at}
 use Rattle.lockstep.specs.Verdict.{shared}
 use Rattle.lockstep.specs.Compared.{AreLeft}
-use Rattle.lockstep.specs.Copies.{HasRow}
-use Rattle.lockstep.proofs.SideBySide.{behind-told, row-told}
+use Rattle.lockstep.specs.Copies.{runs_of}
+use Rattle.lockstep.specs.ItemRows.{ReaderAtRow}
+use Rattle.lockstep.specs.Needed.{IsNeeded}
+use Rattle.lockstep.proofs.ItemRows.{behind-begins, row-shows}
+use Rattle.lockstep.proofs.Standing.{wider, runs-are}
+use Rattle.voter.specs.declared.reading.RowView.{RowView}
+use Rattle.voter.specs.declared.reading.RowView.TheVariants as views
 use Rattle.voter.specs.declared.reading.Voter.{Voter}
+use Rattle.voter.specs.declared.voters.HeldItem.{HeldItem}
 use Rattle.voter.specs.declared.voters.Voters.{Voters}
 use Rattle.voter.specs.Majority.{is_most, begins_with, are_held}
-use Rattle.voter.specs.Rows.{same_row, is_held, MostHeld, item_of, is_in_step, VoterIs, AreVoters, VoteIs, HaveVotes, stayed, parted}
-use Rattle.voter.specs.Standing.{AreMost, IsRecord, EndIs, AreEnded, AreSplit, RowTaken, Counts}
+use Rattle.voter.specs.Rows.{same_row, is_held, MostHeld, is_in_step, VoterIs, AreVoters, VoteIs, HaveVotes, stayed, parted}
+use Rattle.voter.specs.Rows.{HoldsAt, HoldsAs, AreHeld, place_behind}
+use Rattle.voter.specs.Standing.{AreMost, IsRecord, EndIs, AreEnded, AreSplit, RowTaken, Counts, held_in, IsHeldIn}
 use Rattle.voter.proofs.Counting.{most-true, count-cons, passes-at}
 use Rattle.voter.proofs.Prefixes.{begins-yes, begins-parts, parts-longer, parts-shared, parts-next, shared-front}
 use Rattle.voter.proofs.Prefixes.{follows, row_behind, same-is}
+use Rattle.voter.proofs.Holding.{held-item, held-whole, held-fault, held-none, held-many, held-at}
+use Rattle.voter.proofs.Parting.{parted-many, parted-reader, parted-row}
 use Rattle.voter.proofs.Held.{beginning, common-is, held-row, none-held, split-majority}
 
 -- ---- what is told
 
-vote-told : (first now : ShelfState) (given : List Item) (slot : ℕ) (reader : RecordReader) (left : Option ℕ) (row : Option Row)
+vote-told : (first now : ShelfState) (given : List Item) (slot : ℕ) (reader : ItemReader) (left : Option ℕ) (row : Option Row)
     (copy : List ℕ) → VoteIs left row first now given slot reader → first.left slot ≡ Some copy → row_behind given copy ≡ row
 vote-told first now given slot reader None (Some row) copy h told =
-    let s = row-told copy h told in
+    let s = row-shows copy h told in
     cond-true (begins_with given (items_in copy)) (Some (row_at (length given) copy)) None (begins-yes given (items_in copy) s.begins)
     ∙ ap Some s.is
 vote-told first now given slot reader (Some n) None copy h told =
@@ -55,9 +67,9 @@ votes-told first now given [] [] [] (c ∷ copies) h l = absurd l
 votes-told first now given (s ∷ slots) (v ∷ voters) (row ∷ more) [] h l = absurd l
 votes-told first now given slots voters more copies h l = absurd h
 
-step-told : (first now : ShelfState) (given : List Item) (slot : ℕ) (reader : RecordReader) (left : Option ℕ) (copy : List ℕ)
+step-told : (first now : ShelfState) (given : List Item) (slot : ℕ) (reader : ItemReader) (left : Option ℕ) (copy : List ℕ)
     → VoterIs left first now given slot reader → first.left slot ≡ Some copy → is_none left ≡ begins_with given (items_in copy)
-step-told first now given slot reader None copy h told = sym (begins-yes given (items_in copy) (behind-told copy h told))
+step-told first now given slot reader None copy h told = sym (begins-yes given (items_in copy) (behind-begins copy h told))
 step-told first now given slot reader (Some n) copy h told =
     sym (begins-parts 0 given (items_in copy) ∙ ap (λ o. is_none o) (h.told copy told))
 
@@ -105,7 +117,12 @@ split-told first old now given slots voters after more h most votes none copies 
 
 -- ---- an item is held
 
-item-part : (first now : ShelfState) (given : List Item) (x : Item) (slot : ℕ) (reader : RecordReader) (left : Option ℕ)
+-- what was needed behind some items is needed behind one more
+needed-on : (given : List Item) (x : Item) (read : List ℕ) → IsNeeded (length given) read → IsNeeded (length (given ++ x ∷ [])) read
+needed-on given x read h =
+    wider (length given) (length (given ++ x ∷ [])) read (let all = length-append given (x ∷ []) in omega (arith, all)) h
+
+item-part : (first now : ShelfState) (given : List Item) (x : Item) (slot : ℕ) (reader : ItemReader) (left : Option ℕ)
     (row : Option Row) → VoteIs left row first now given slot reader
     → VoterIs (cond (same_row (Some (rows.Item x)) row) left (option_or left (Some (length given)))) first now (given ++ x ∷ []) slot
     reader
@@ -116,23 +133,28 @@ item-part first now given x slot reader None (Some row) h = by (same_row (Some (
     by true e =
         let is : Some (rows.Item x) ≡ Some row = same-is (Some (rows.Item x)) (Some row) e in
         let row-is : row ≡ rows.Item x = cc in
-        let r : HasRow first now given slot reader (rows.Item x) = subst (λ z. HasRow first now given slot reader z) row-is h in
-        record { read = r.read; at = r.at; gave = r.gave; stands = r.shown.on }
+        let r : ReaderAtRow first now given slot reader (rows.Item x) =
+        subst (λ z. ReaderAtRow first now given slot reader z) row-is h in
+        record { read = r.read; at = r.at; gave = r.gave; stands = r.shown.on; needed = needed-on given x r.read r.needed }
     by false e = record {
       at = h.at;
-      told = λ copy l. let s = row-told copy h l in
+      told = λ copy l. let s = row-shows copy h l in
           parts-next given x copy s.begins
           ∙ ap (λ z. cond (same_row (Some (rows.Item x)) (Some z)) None (Some (length given))) s.is
           ∙ ap (λ b. cond b None (Some (length given))) e;
+      needed = (h.read, h.gave, needed-on given x h.read h.needed);
     }
-item-part first now given x slot reader (Some n) None h =
-    record { at = h.at; told = λ copy l. parts-longer 0 given (x ∷ []) (items_in copy) n (h.told copy l) }
+item-part first now given x slot reader (Some n) None h = record {
+  at = h.at;
+  told = λ copy l. parts-longer 0 given (x ∷ []) (items_in copy) n (h.told copy l);
+  needed = (h.needed.0, h.needed.1, needed-on given x h.needed.0 h.needed.2);
+}
 item-part first now given x slot reader None None h = absurd h
 item-part first now given x slot reader (Some n) (Some row) h = absurd h
 
 items-part : (first now : ShelfState) (given : List Item) (x : Item) (slots : List ℕ) (voters : List Voter) (more : List (Option Row))
     → HaveVotes first now given slots voters more
-    → AreVoters first now (given ++ x ∷ []) slots (parted (length given) (Some (rows.Item x)) voters more)
+    → AreVoters first now (given ++ x ∷ []) slots (parted (length given) (map (same_row (Some (rows.Item x))) more) voters)
 items-part first now given x [] [] [] h = tt
 items-part first now given x (s ∷ slots) (v ∷ voters) (row ∷ more) h =
     (item-part first now given x s v.reader v.left row h.0, items-part first now given x slots voters more h.1)
@@ -155,7 +177,7 @@ whole-there given copy p e =
 whole-row : (given : List Item) (copy : List ℕ) → IsRecord given copy → row_at (length given) copy ≡ rows.Whole
 whole-row given copy w = follows given [] copy (append-nil given ∙ sym w.items) ∙ ap (first_row []) w.whole
 
-whole-part : (first now : ShelfState) (given : List Item) (slot : ℕ) (reader : RecordReader) (left : Option ℕ) (row : Option Row)
+whole-part : (first now : ShelfState) (given : List Item) (slot : ℕ) (reader : ItemReader) (left : Option ℕ) (row : Option Row)
     → VoteIs left row first now given slot reader
     → EndIs (cond (same_row (Some rows.Whole) row) left (option_or left (Some (length given)))) first now given slot
 whole-part first now given slot reader None (Some row) h = by (same_row (Some rows.Whole) (Some row)) refl
@@ -164,9 +186,9 @@ whole-part first now given slot reader None (Some row) h = by (same_row (Some ro
     by true e =
         let is : Some rows.Whole ≡ Some row = same-is (Some rows.Whole) (Some row) e in
         let row-is : row ≡ rows.Whole = cc in
-        let r : HasRow first now given slot reader rows.Whole = subst (λ z. HasRow first now given slot reader z) row-is h in
-        (r.shown.on, λ copy l. let s = row-told copy r l in whole-there given copy s.begins s.is)
-    by false e = λ copy l. let s = row-told copy h l in record {
+        let r : ReaderAtRow first now given slot reader rows.Whole = subst (λ z. ReaderAtRow first now given slot reader z) row-is h in
+        (r.shown.on, λ copy l. let s = row-shows copy r l in whole-there given copy s.begins s.is)
+    by false e = λ copy l. let s = row-shows copy h l in record {
       row = ap (λ all. length (shared given all)) (sym s.begins.1) ∙ ap length (shared-front given s.begins.0);
       other = λ w.
           let is : row ≡ rows.Whole = sym s.is ∙ whole-row given copy w in
@@ -183,7 +205,7 @@ whole-part first now given slot reader (Some n) (Some row) h = absurd h
 
 wholes-part : (first now : ShelfState) (given : List Item) (slots : List ℕ) (voters : List Voter) (more : List (Option Row))
     → HaveVotes first now given slots voters more
-    → AreEnded first now given slots (parted (length given) (Some rows.Whole) voters more)
+    → AreEnded first now given slots (parted (length given) (map (same_row (Some rows.Whole)) more) voters)
 wholes-part first now given [] [] [] h = tt
 wholes-part first now given (s ∷ slots) (v ∷ voters) (row ∷ more) h =
     (whole-part first now given s v.reader v.left row h.0, wholes-part first now given slots voters more h.1)
@@ -197,7 +219,7 @@ same-none (Some rows.Whole) = refl
 same-none (Some (rows.Fault f)) = refl
 same-none None = refl
 
-one-stays : (n : ℕ) (row : Option Row) (first now : ShelfState) (given : List Item) (slot : ℕ) (reader : RecordReader) (left : Option ℕ)
+one-stays : (n : ℕ) (row : Option Row) (first now : ShelfState) (given : List Item) (slot : ℕ) (reader : ItemReader) (left : Option ℕ)
     (other : Option Row) → VoteIs left other first now given slot reader
     → is_none (cond (same_row row other) left (option_or left (Some n))) ≡ same_row row other
 one-stays n row first now given slot reader None (Some other) h = by (same_row row (Some other))
@@ -212,12 +234,13 @@ one-stays n row first now given slot reader (Some m) (Some other) h = absurd h
 
 stay-many : (n : ℕ) (row : Option Row) (first now : ShelfState) (given : List Item) (slots : List ℕ) (voters : List Voter)
     (more : List (Option Row)) → HaveVotes first now given slots voters more
-    → (count_by is_in_step (parted n row voters more) ≡ count_by (same_row row) more) × (length (parted n row voters more) ≡ length more)
+    → (count_by is_in_step (parted n (map (same_row row) more) voters) ≡ count_by (same_row row) more)
+    × (length (parted n (map (same_row row) more) voters) ≡ length more)
 stay-many n row first now given [] [] [] h = (refl, refl)
 stay-many n row first now given (s ∷ slots) (v ∷ voters) (other ∷ more) h =
     let rest = stay-many n row first now given slots voters more h.1 in
     let same = rest.1 in (
-      count-cons is_in_step (stayed (same_row row other) n v) (parted n row voters more) (same_row row other)
+      count-cons is_in_step (stayed (same_row row other) n v) (parted n (map (same_row row) more) voters) (same_row row other)
           (one-stays n row first now given s v.reader v.left other h.0)
           ∙ ap (λ k. cond (same_row row other) 1 0 + k) rest.0 ∙ sym (count-cons (same_row row) other more (same_row row other) refl),
       omega (arith, same),
@@ -226,10 +249,10 @@ stay-many n row first now given slots voters more h = absurd h
 
 most-stay : (n : ℕ) (row : Option Row) (first now : ShelfState) (given : List Item) (slots : List ℕ) (voters : List Voter)
     (more : List (Option Row)) → HaveVotes first now given slots voters more → is_held more row ≡ true
-    → AreMost (parted n row voters more)
+    → AreMost (parted n (map (same_row row) more) voters)
 most-stay n row first now given slots voters more h held =
     let same = stay-many n row first now given slots voters more h in
-    subst (λ k. is_most k (length (parted n row voters more)) ≡ true) (sym same.0)
+    subst (λ k. is_most k (length (parted n (map (same_row row) more) voters)) ≡ true) (sym same.0)
     (subst (λ k. is_most (count_by (same_row row) more) k ≡ true) (sym same.1) held)
 
 -- ---- a row is taken
@@ -247,37 +270,89 @@ no-fault f other e = cc
 no-none : (other : Option Row) → same_row None other ≡ true → ⊥
 no-none other e = cc
 
-pub row-taken : (first now : ShelfState) (given : List Item) (slots : List ℕ) (after : List Voter) (more : List (Option Row))
-    (row : Option Row) (item : Option Item) (mid new : Voters) → HaveVotes first now given slots after more → is_held more row ≡ true
-    → mid.voters.items ≡ parted mid.rows row after more → mid.rows ≡ length given → mid.cycles ≡ cycles_of given → item ≡ item_of row
-    → Counts item mid new → RowTaken (Ok item) first now given slots new
-row-taken first now given slots after more (Some (rows.Item x)) item mid new votes held parts n cycles is counts =
-    subst (λ (o : Option Item). RowTaken (Ok o) first now given slots new) (sym is) (record {
-      readers = subst (λ vs. AreVoters first now (given ++ x ∷ []) slots vs) (sym voters)
+-- the item that is held, in the copies that have left or stayed
+held-still : (place : Place) (n : ℕ) (same : List Bool) (voters : List Voter) (held : HeldItem) (x : Item) (d : Voter)
+    → length voters ≡ length same → held.copy < length voters → HoldsAt place (get_or voters held.copy d).reader held.view x
+    → IsHeldIn (parted n same voters) held place x
+held-still place n same voters held x d all less holds = record {
+  there = let kept = parted-many n same voters all in omega (arith, less, kept);
+  holds = λ e. subst (λ (r : ItemReader). HoldsAt place r held.view x) (sym (parted-reader n same voters held.copy e d all less)) holds;
+}
+
+-- an item of one kind is so many cycles
+held-runs : (place : Place) (reader : ItemReader) (view : ItemView) (x : Item) → HoldsAt place reader view x
+    → runs_in x ≡ runs_of view.span.kind
+held-runs place reader view x h = runs-are view.place view.span.kind _ _ x h.holds.shows.parts
+
+module _ (first now : ShelfState) (given : List Item) (slots : List ℕ) (after : List Voter) (more : List (Option Row))
+    (votes : HaveVotes first now given slots after more) (all : AreHeld (place_behind given) after more) (copy : ℕ) (d : Voter)
+    (less : copy < length after) (mid new : Voters) (row : Option Row) (held : is_held more row ≡ true)
+    (parts : mid.voters.items ≡ parted (length given) (map (same_row row) more) after) (n : mid.rows ≡ length given)
+    (cycles : mid.cycles ≡ cycles_of given) where
+  many : length after ≡ length (map (same_row row) more)
+  many = held-many (place_behind given) after more all ∙ sym (length-map more (same_row row))
+
+  parted-by : (r : Option Row) → row ≡ r → parted (length given) (map (same_row row) more) after
+      ≡ parted (length given) (map (same_row r) more) after
+  parted-by r e = ap (λ o. parted (length given) (map (same_row o) more) after) e
+
+  item-taken : (view : ItemView) (x : Item) → row ≡ Some (rows.Item x) → HoldsAt (place_behind given) (get_or after copy d).reader view x
+      → Counts (Some (record { copy = copy; view = view })) mid new
+      → RowTaken (Ok (Some (record { copy = copy; view = view }))) first now given slots new
+  item-taken view x e holds counts = (
+    x,
+    record {
+      readers = subst (λ vs. AreVoters first now (given ++ x ∷ []) slots vs) (sym (voters ∙ parted-by (Some (rows.Item x)) e))
           (items-part first now given x slots after more votes);
-      most = subst AreMost (sym voters) (most-stay (length given) (Some (rows.Item x)) first now given slots after more votes held);
-      rows = let all = length-append given (x ∷ []) in ap (λ (s : Voters). s.rows) counted ∙ ap (λ k. k + 1) n ∙ omega (arith, all);
-      cycles = ap (λ (s : Voters). s.cycles) counted ∙ ap (λ k. k + runs_in x) cycles ∙ sym (sum-next runs_in given x);
-    })
-  where
-    counted : new ≡ record mid { rows = mid.rows + 1; cycles = mid.cycles + runs_in x }
-    counted = subst (λ (o : Option Item). Counts o mid new) is counts
+      most = subst AreMost (sym voters) (most-stay (length given) row first now given slots after more votes held);
+      rows = let longer = length-append given (x ∷ []) in
+          ap (λ (s : Voters). s.rows) counts ∙ ap (λ k. k + 1) n ∙ omega (arith, longer);
+      cycles = ap (λ (s : Voters). s.cycles) counts ∙ ap (λ k. k + runs_of view.span.kind) cycles
+          ∙ ap (λ k. cycles_of given + k) (sym (held-runs (place_behind given) (get_or after copy d).reader view x holds))
+          ∙ sym (sum-next runs_in given x);
+    },
+    subst (λ vs. IsHeldIn vs (record { copy = copy; view = view }) (place_behind given) x) (sym voters)
+        (held-still (place_behind given) (length given) (map (same_row row) more) after (record { copy = copy; view = view }) x d many less
+        holds),
+  )
+    where
+      voters : new.voters.items ≡ parted (length given) (map (same_row row) more) after
+      voters = ap (λ (s : Voters). s.voters.items) counts ∙ parts
 
-    voters : new.voters.items ≡ parted (length given) (Some (rows.Item x)) after more
-    voters = ap (λ (s : Voters). s.voters.items) counted ∙ parts ∙ ap (λ k. parted k (Some (rows.Item x)) after more) n
-row-taken first now given slots after more (Some rows.Whole) item mid new votes held parts n cycles is counts =
-    subst (λ (o : Option Item). RowTaken (Ok o) first now given slots new) (sym is) (record {
-      ended = subst (λ vs. AreEnded first now given slots vs) (sym voters) (wholes-part first now given slots after more votes);
-      most = subst AreMost (sym voters) (most-stay (length given) (Some rows.Whole) first now given slots after more votes held);
-      cycles = ap (λ (s : Voters). s.cycles) counted ∙ cycles;
-    })
-  where
-    counted : new ≡ mid
-    counted = subst (λ (o : Option Item). Counts o mid new) is counts
+  end-taken : row ≡ Some rows.Whole → Counts None mid new → RowTaken (Ok None) first now given slots new
+  end-taken e counts = record {
+    ended = subst (λ vs. AreEnded first now given slots vs) (sym (voters ∙ parted-by (Some rows.Whole) e))
+        (wholes-part first now given slots after more votes);
+    most = subst AreMost (sym voters) (most-stay (length given) row first now given slots after more votes held);
+    cycles = ap (λ (s : Voters). s.cycles) counts ∙ cycles;
+  }
+    where
+      voters : new.voters.items ≡ parted (length given) (map (same_row row) more) after
+      voters = ap (λ (s : Voters). s.voters.items) counts ∙ parts
 
-    voters : new.voters.items ≡ parted (length given) (Some rows.Whole) after more
-    voters = ap (λ (s : Voters). s.voters.items) counted ∙ parts ∙ ap (λ k. parted k (Some rows.Whole) after more) n
-row-taken first now given slots after more (Some (rows.Fault f)) item mid new votes held parts n cycles is counts =
-    let one = held-one more (Some (rows.Fault f)) held in absurd (no-fault f (get_or more one.0 None) one.1)
-row-taken first now given slots after more None item mid new votes held parts n cycles is counts =
-    let one = held-one more None held in absurd (no-none (get_or more one.0 None) one.1)
+  taken-as : (view : Option RowView) → HoldsAs view (place_behind given) (get_or after copy d).reader row
+      → Counts (held_in copy view) mid new → RowTaken (Ok (held_in copy view)) first now given slots new
+  taken-as (Some (views.Item view)) h counts =
+      let x = held-item view (place_behind given) (get_or after copy d).reader row h in item-taken view x.0 x.1 x.2 counts
+  taken-as (Some views.Whole) h counts = end-taken (held-whole (place_behind given) (get_or after copy d).reader row h) counts
+  taken-as (Some views.Fault) h counts =
+      let f = held-fault (place_behind given) (get_or after copy d).reader row h in
+      let one = held-one more row held in
+      absurd (no-fault f.0 (get_or more one.0 None) (subst (λ r. same_row r (get_or more one.0 None) ≡ true) f.1 one.1))
+  taken-as None h counts =
+      let one = held-one more row held in
+      absurd (no-none (get_or more one.0 None)
+      (subst (λ r. same_row r (get_or more one.0 None) ≡ true) (held-none (place_behind given) (get_or after copy d).reader row h) one.1))
+
+  -- the row of a copy of those that were parted
+  pub row-taken : (v : Voter) → get_or mid.voters.items copy v ≡ v → row ≡ get_or more copy None → Counts (held_in copy v.row) mid new
+      → RowTaken (Ok (held_in copy v.row)) first now given slots new
+  row-taken v is at counts =
+      taken-as v.row
+      (subst (λ (o : Option RowView). HoldsAs o (place_behind given) (get_or after copy d).reader row) (sym same)
+      (subst (λ (r : Option Row). HoldsAs (get_or after copy d).row (place_behind given) (get_or after copy d).reader r) (sym at)
+      (held-at (place_behind given) after more copy d all less))) counts
+    where
+      same : v.row ≡ (get_or after copy d).row
+      same = ap (λ (w : Voter). w.row) (sym is) ∙ ap (λ vs. (get_or vs copy v).row) parts
+          ∙ parted-row (length given) (map (same_row row) more) after copy v d many less

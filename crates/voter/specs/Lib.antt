@@ -1,5 +1,4 @@
 pub mod Majority
-pub mod Voted
 pub mod Rows
-pub mod Spelled
 pub mod Standing
+pub mod Voted

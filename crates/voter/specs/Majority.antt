@@ -81,5 +81,8 @@ spelled_items (items.Header profile ∷ behind) = spelled profile (flat_map fram
 spelled_items other = []
 
 -- the majority's record, or else the rows that more than half of the copies have in common
+abbrev pub voted_items : List (List ℕ) → List Item
+voted_items copies = unwrap_or (majority copies) (common copies)
+
 abbrev pub voted : List (List ℕ) → List ℕ
-voted copies = spelled_items (unwrap_or (majority copies) (common copies))
+voted copies = spelled_items (voted_items copies)

@@ -1,23 +1,30 @@
 -- All copies behind the items that more than half of them hold.
-use Rattle.std.specs.Prelude.{◌≡◌, ℕ, ◌+◌, List, [], ◌∷◌, ◌++◌, length, true, Option, Some, None}
-use Rattle.std.specs.Prelude.{Result, Ok, Err}
+use Rattle.std.specs.Prelude.{◌≡◌, ℕ, ◌+◌, ◌<◌, List, [], ◌∷◌, ◌++◌, length, get_or, true, Option}
+use Rattle.std.specs.Prelude.{Some, None, Result, Ok, Err}
 use Rattle.std.specs.List.{count_by}
 use Rattle.det_edges.specs.Shelf.{ShelfState, IsAtEnd}
+use Rattle.det_edges.specs.Sink.{Grew, GrewShort}
+use Rattle.det_edges.specs.Traffic.{SinkRun}
 use Rattle.det_edges.specs.declared.failure.Failure.TheVariants.{Write, OutOfMemory}
 use Rattle.det_edges.specs.declared.failure.Stopped.{Stopped}
 use Rattle.det_edges.specs.declared.failure.Stopped.TheVariants.{Refused, Failed}
 use Rattle.record_grammar.specs.declared.item.Item.{Item}
+use Rattle.record_grammar.specs.declared.place.Place.{Place}
 use Rattle.record_grammar.specs.Record.{items as items_in, fault as fault_in}
-use Rattle.record_reader.specs.Salvaged.{runs_in, cycles_of}
+use Rattle.record_reader.specs.Salvaged.{cycles_of}
 use Rattle.lockstep.specs.Verdict.{shared}
 use Rattle.lockstep.specs.Compared.{AreLeft}
+use Rattle.lockstep.specs.Copies.{runs_of}
 use Rattle.voter.specs.declared.outcome.Dissenter.{Dissenter}
 use Rattle.voter.specs.declared.outcome.NoMajority.{NoMajority}
 use Rattle.voter.specs.declared.outcome.Vote.{Vote}
+use Rattle.voter.specs.declared.reading.RowView.{RowView}
+use Rattle.voter.specs.declared.reading.RowView.TheVariants as views
 use Rattle.voter.specs.declared.reading.Voter.{Voter}
+use Rattle.voter.specs.declared.voters.HeldItem.{HeldItem}
 use Rattle.voter.specs.declared.voters.Voters.{Voters}
 use Rattle.voter.specs.Majority.{is_most, majority, common}
-use Rattle.voter.specs.Rows.{is_in_step, AreVoters}
+use Rattle.voter.specs.Rows.{is_in_step, AreVoters, HoldsAt, place_behind}
 
 -- more than half of the copies are in step
 abbrev pub AreMost : List Voter → Type 0
@@ -69,13 +76,33 @@ pub record AreSplit (given : List Item) (copies : List (List ℕ)) : Type 0 wher
   pub common : common copies ≡ given
   pub none : majority copies ≡ None
 
+-- ---- an item that is held
+
+-- the item of the row that a copy holds
+abbrev pub held_in : ℕ → Option RowView → Option HeldItem
+held_in copy (Some (views.Item view)) = Some (record { copy = copy; view = view })
+held_in copy row = None
+
+-- a copy holds this item, which stands in this place
+pub record IsHeldIn (voters : List Voter) (held : HeldItem) (place : Place) (item : Item)
+    : Type 0 where
+  pub there : held.copy < length voters
+  pub holds : (d : Voter) → HoldsAt place (get_or voters held.copy d).reader held.view item
+
+-- bytes were written, or not all of them
+abbrev pub Writes : Result (Unit {0}) (Stopped NoMajority) → List ℕ → SinkRun → Type 0
+Writes (Ok u) bytes out = Grew out.before out.after bytes
+Writes (Err (Failed Write)) bytes out = GrewShort out.before out.after bytes
+Writes (Err stop) bytes out = ⊥
+
 -- ---- answers
 
 -- the copies go on behind an item, or the vote is decided
-abbrev pub RowTaken : Result (Option Item) (Stopped NoMajority) → ShelfState → ShelfState
+abbrev pub RowTaken : Result (Option HeldItem) (Stopped NoMajority) → ShelfState → ShelfState
     → List Item → List ℕ → Voters → Type 0
-RowTaken (Ok (Some item)) first now given slots voters =
-    Stand first now (given ++ item ∷ []) slots voters
+RowTaken (Ok (Some held)) first now given slots voters = (item : Item)
+    × Stand first now (given ++ item ∷ []) slots voters
+    × IsHeldIn voters.voters.items held (place_behind given) item
 RowTaken (Ok None) first now given slots voters = Decided first now given slots voters
 RowTaken (Err (Refused split)) first now given slots voters = (split.row ≡ length given)
     × ((copies : List (List ℕ)) → AreLeft first slots copies → AreSplit given copies)
@@ -83,10 +110,10 @@ RowTaken (Err (Failed Write)) first now given slots voters = ⊥
 RowTaken (Err (Failed failure)) first now given slots voters = Unit {0}
 
 -- an item more is counted
-abbrev pub Counts : Option Item → Voters → Voters → Type 0
+abbrev pub Counts : Option HeldItem → Voters → Voters → Type 0
 Counts None old new = new ≡ old
-Counts (Some item) old new =
-    new ≡ record old { rows = old.rows + 1; cycles = old.cycles + runs_in item }
+Counts (Some held) old new =
+    new ≡ record old { rows = old.rows + 1; cycles = old.cycles + runs_of held.view.span.kind }
 
 abbrev pub dissenter : Option ℕ → ℕ → List Dissenter
 dissenter None copy = []

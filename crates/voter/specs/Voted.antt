@@ -1,6 +1,6 @@
 -- What a vote over the copies in slots comes to.
-use Rattle.std.specs.Prelude.{◌≡◌, ℕ, ◌+◌, List, [], ◌∷◌, length, Bool, false, ◌==◌, Some, None}
-use Rattle.std.specs.Prelude.{Result, Ok, Err}
+use Rattle.std.specs.Prelude.{◌≡◌, ℕ, ◌+◌, List, [], ◌∷◌, length, Bool, true, false, ◌==◌, Some}
+use Rattle.std.specs.Prelude.{None, Result, Ok, Err}
 use Rattle.std.specs.List.{list_any}
 use Rattle.det_edges.specs.declared.failure.Failure.TheVariants.{Read, Write, OutOfMemory}
 use Rattle.det_edges.specs.declared.failure.Stopped.{Stopped}
@@ -14,7 +14,7 @@ use Rattle.lockstep.specs.Compared.{AreLeft}
 use Rattle.voter.specs.declared.outcome.Dissenter.{Dissenter}
 use Rattle.voter.specs.declared.outcome.NoMajority.{NoMajority}
 use Rattle.voter.specs.declared.outcome.Vote.{Vote}
-use Rattle.voter.specs.Majority.{majority, dissent, common, spelled_items, voted}
+use Rattle.voter.specs.Majority.{majority, dissent, common, are_held, spelled_items, voted}
 
 -- more than half of the copies are one whole record, which the sink took
 pub record Elects (vote : Vote) (copies : List (List ℕ)) (out : SinkRun) : Type 0 where
@@ -31,11 +31,19 @@ pub record Splits (number : ℕ) (copies : List (List ℕ)) (out : SinkRun) : Ty
   pub row : number ≡ length (common copies)
   pub grew : Grew out.before out.after (voted copies)
 
+-- The sink took rows that more than half of the copies hold, all of each; of what is voted they
+-- come first.
+pub record Breaks (copies : List (List ℕ)) (out : SinkRun) : Type 0 where
+  pub rows : List Item
+  pub held : are_held copies rows ≡ true
+  pub grew : Grew out.before out.after (spelled_items rows)
+  pub part : GrewByPrefix out.before out.after (voted copies)
+
 -- what an answer says of the copies, and of what the sink took
 abbrev pub Answers : Result Vote (Stopped NoMajority) → List (List ℕ) → SinkRun → Type 0
 Answers (Ok vote) copies out = Elects vote copies out
 Answers (Err (Refused split)) copies out = Splits split.row copies out
-Answers (Err (Failed Read)) copies out = GrewByPrefix out.before out.after (voted copies)
+Answers (Err (Failed Read)) copies out = Breaks copies out
 Answers (Err (Failed Write)) copies out = GrewShort out.before out.after (voted copies)
 Answers (Err (Failed OutOfMemory)) copies out = GrewByPrefix out.before out.after (voted copies)
 

@@ -4,7 +4,6 @@
 mod majority;
 mod outcome;
 mod reading;
-mod spelling;
 mod voters;
 mod voting;
 

@@ -1,39 +1,96 @@
 //! Which row more than half of the copies hold.
-ghost use Rattle.std.specs.Prelude.{◌≡◌, ◌<◌, None, cond, length, get_or};
-ghost use Rattle.std.specs.List.{count_by};
-ghost use Rattle.voter.specs.Rows.{same_row, MostHeld, item_of as item_in, parted};
+ghost use Rattle.std.specs.Prelude.{◌≡◌, ◌<◌, ◌≤◌, ◌↔◌, IsTrue, List, Some, None, cond, length};
+ghost use Rattle.std.specs.Prelude.{Option, get_or};
+ghost use Rattle.record_grammar.specs.declared.item.Item.{Item};
+ghost use Rattle.record_grammar.specs.declared.place.Place.{Place};
+ghost use Rattle.record_grammar.specs.contracts.item.ItemPartialEq.TheImpl as item;
+ghost use Rattle.record_grammar.specs.Spelling.{AreBytes};
+ghost use Rattle.lockstep.specs.declared.row.Row.{Row};
+ghost use Rattle.lockstep.specs.declared.row.Row.TheVariants as rows;
+ghost use Rattle.voter.specs.Rows.{same_row, HoldsAt, HoldsRow, AreHeld, AreHolders, MostHeld};
+ghost use Rattle.voter.specs.Rows.{parted};
 
-use crate::reading::Voter;
-use lockstep::Row;
-use record_codec::Item;
+use crate::reading::{RowView, Voter};
+use item_reader::ItemReader;
+use record_view::{ItemView, events_at};
+
+/// The copies that hold a row.
+#[derive(Clone, Copy, Drop)]
+pub struct Holders {
+    /// The first of them.
+    pub first: usize,
+    /// Of each copy, whether it does; no vote has more than seven.
+    pub same: [bool; 7],
+    /// How many they are.
+    pub count: usize,
+}
 
 /// Whether two copies hold equal rows. A fault equals nothing, and one that left holds none.
-fn are_same(row: &Option<Row>, other: &Option<Row>) -> bool
-    ensures { result ≡ same_row row.now other.now }
+fn are_same(voter: &Voter, other: &Voter) -> bool
+    requires { (place : Place) × (row more : Option Row) × HoldsRow place voter.now row
+        × HoldsRow place other.now more }
+    ensures { (place : Place) (row more : Option Row) → HoldsRow place voter.now row
+        → HoldsRow place other.now more → result ≡ same_row row more }
 {
-    match row {
-        Some(Row::Item(item)) => is_item(item, other),
-        Some(Row::Whole) => is_whole(other),
-        Some(Row::Fault(_)) | None => false,
+    match voter.row {
+        Some(RowView::Item(view)) => is_item(&voter.reader, view, other),
+        Some(RowView::Whole) => is_whole(other),
+        Some(RowView::Fault) => false,
+        None => false,
     }
 }
 
-fn is_item(item: &Item, other: &Option<Row>) -> bool
-    ensures { result ≡ same_row (Some (Row.Item item.now)) other.now }
+/// Whether a copy holds the item that this reader gave last.
+fn is_item(reader: &ItemReader, view: ItemView, other: &Voter) -> bool
+    requires { (place : Place) × (x : Item) × (more : Option Row) × HoldsAt place reader.now view x
+        × HoldsRow place other.now more }
+    ensures { (place : Place) (x : Item) (more : Option Row) → HoldsAt place reader.now view x
+        → HoldsRow place other.now more → result ≡ same_row (Some (rows.Item x)) more }
 {
-    match other {
-        Some(Row::Item(other)) => item == other,
-        Some(Row::Whole) | Some(Row::Fault(_)) | None => false,
+    match other.row {
+        Some(RowView::Item(other_view)) => {
+            are_same_items(reader, view, &other.reader, other_view)
+        }
+        Some(RowView::Whole) => false,
+        Some(RowView::Fault) => false,
+        None => false,
     }
 }
 
-fn is_whole(other: &Option<Row>) -> bool
-    ensures { result ≡ same_row (Some Row.Whole) other.now }
+fn is_whole(other: &Voter) -> bool
+    ensures { (place : Place) (more : Option Row) → HoldsRow place other.now more
+        → result ≡ same_row (Some rows.Whole) more }
 {
-    match other {
-        Some(Row::Whole) => true,
-        Some(Row::Item(_)) | Some(Row::Fault(_)) | None => false,
+    match other.row {
+        Some(RowView::Whole) => true,
+        Some(RowView::Item(_)) => false,
+        Some(RowView::Fault) => false,
+        None => false,
     }
+}
+
+/// Whether two readers gave equal items last, in one place: their bytes are equal.
+fn are_same_items(
+    reader: &ItemReader,
+    view: ItemView,
+    other: &ItemReader,
+    other_view: ItemView,
+) -> bool
+    requires { (place : Place) × (x y : Item) × HoldsAt place reader.now view x
+        × HoldsAt place other.now other_view y }
+    ensures { (place : Place) (x y : Item) → HoldsAt place reader.now view x
+        → HoldsAt place other.now other_view y → result ≡ item.eq-value.it x y }
+{
+    let _events = events_at(view.place);
+    are_equal(reader.bytes(view), other.bytes(other_view))
+}
+
+/// Whether two slices have the same bytes. Its second clause says what each slice is known for.
+fn are_equal(left: &[u8], right: &[u8]) -> bool
+    ensures equal { IsTrue result ↔ (left.now ≡ right.now) }
+    ensures bytes { AreBytes left.now × AreBytes right.now }
+{
+    left == right
 }
 
 fn one_if(holds: bool) -> usize
@@ -42,48 +99,48 @@ fn one_if(holds: bool) -> usize
     if holds { 1 } else { 0 }
 }
 
-/// How many copies hold this row.
-fn holders(rows: &[Option<Row>], row: &Option<Row>) -> usize
-    ensures { result ≡ count_by (same_row row.now) rows.now }
+/// The copies that hold the row of this one.
+fn holders_of(voters: &[Voter], first: usize) -> Holders
+    requires first { first < length voters.now }
+    requires few { length voters.now ≤ 7 }
+    requires rows { (place : Place) × (more : List (Option Row)) × AreHeld place voters.now more }
+    ensures first { result.first ≡ first }
+    ensures holders { (place : Place) (more : List (Option Row)) → AreHeld place voters.now more
+        → AreHolders result (get_or more first None) more }
 {
+    let mut same = [false; 7];
     let mut count = 0;
-    'rows: for other in rows {
-        count += one_if(are_same(row, other));
+    'voters: for at in 0..voters.len() {
+        let holds = are_same(&voters[first], &voters[at]);
+        same[at] = holds;
+        count += one_if(holds);
     }
-    count
+    Holders { first, same, count }
 }
 
-/// The first copy whose row more than half of all copies hold.
-pub fn most_held(rows: &[Option<Row>]) -> Option<usize>
-    ensures { MostHeld result rows.now }
+/// The copies that hold the first row that more than half of all hold.
+pub fn most_held(voters: &[Voter]) -> Option<Holders>
+    requires few { length voters.now ≤ 7 }
+    requires rows { (place : Place) × (more : List (Option Row)) × AreHeld place voters.now more }
+    ensures { (place : Place) (more : List (Option Row)) → AreHeld place voters.now more
+        → MostHeld result more }
 {
-    'rows: for index in 0..rows.len() {
-        if rows.len() / 2 < holders(rows, &rows[index]) {
-            return Some(index);
+    'voters: for first in 0..voters.len() {
+        let holders = holders_of(voters, first);
+        if voters.len() / 2 < holders.count {
+            return Some(holders);
         }
     }
     None
 }
 
-/// The copies that don't hold the row of this one leave, in the row of this number.
-pub fn part(voters: &mut Vec<Voter>, rows: &[Option<Row>], index: usize, number: u32)
-    requires index { index < length rows.now }
-    requires all { length rows.now ≡ length voters.old.items }
-    ensures { voters.new.items ≡ parted number (get_or rows.now index None) voters.old.items
-        rows.now }
+/// The copies that don't hold a row leave, in the row of this number.
+pub fn part(voters: &mut Vec<Voter>, same: &[bool], number: u32)
+    requires { length voters.old.items ≤ length same.now }
+    ensures parted { voters.new.items ≡ parted number same.now voters.old.items }
+    ensures all { length voters.new.items ≡ length voters.old.items }
 {
-    'rows: for at in 0..rows.len() {
-        let holds = are_same(&rows[index], &rows[at]);
-        voters[at].stay(holds, number);
-    }
-}
-
-/// The item of a row, and None at the end of a whole record.
-pub fn item_of(row: Option<Row>) -> Option<Item>
-    ensures { result ≡ item_in row }
-{
-    match row {
-        Some(Row::Item(item)) => Some(item),
-        Some(Row::Whole) | Some(Row::Fault(_)) | None => None,
+    'voters: for at in 0..voters.len() {
+        voters[at].stay(same[at], number);
     }
 }

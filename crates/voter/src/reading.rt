@@ -5,31 +5,51 @@ ghost use Rattle.std.specs.Option.{option_or};
 ghost use Rattle.det_edges.specs.Shelf.{ShelfState};
 ghost use Rattle.det_edges.specs.Traffic.{ShelfTraffic, shelf_run, failure_of};
 ghost use Rattle.record_grammar.specs.declared.item.Item.{Item};
-ghost use Rattle.record_reader.specs.StandsFor.{slot_of};
+ghost use Rattle.item_reader.specs.StandsFor.{slot_of};
 ghost use Rattle.lockstep.specs.Compared.{AreDifferent, AreGiven, ReadsAmong};
-ghost use Rattle.voter.specs.Rows.{is_in_step, voter_slot, VoterIs, AreVoters, ReadIs, RowsRead};
+ghost use Rattle.lockstep.specs.ItemRows.{ReaderBehind};
+ghost use Rattle.lockstep.specs.Needed.{GaveNeeded, AllNeeded};
+ghost use Rattle.voter.specs.Rows.{is_in_step, voter_slot, VoterIs, AreVoters, view_answer};
+ghost use Rattle.voter.specs.Rows.{RowGiven, ReadIs, RowsRead};
 
-use det_edges::{Failure, Slots};
+use det_edges::{Failure, Slots, Stopped};
 use det_values::OutOfMemory;
-use lockstep::{Row, next_row};
-use record_reader::RecordReader;
+use item_reader::ItemReader;
+use record_grammar::RecordFault;
+use record_view::ItemView;
 use std::alloc::Global;
+
+/// A row of a copy, as its reader gave it.
+#[derive(Clone, Copy, Drop)]
+pub enum RowView {
+    /// An item, whose bytes the reader holds.
+    Item(ItemView),
+    /// The record is whole.
+    Whole,
+    /// The record has a fault.
+    Fault,
+}
 
 /// A copy that is voted on.
 #[derive(Drop)]
 pub struct Voter {
-    pub reader: RecordReader,
+    pub reader: ItemReader,
+    /// The row that was read last; a copy that left has none.
+    pub row: Option<RowView>,
     /// The first row in which it differs from the majority; it isn't read any further.
     pub left: Option<u32>,
 }
 
 impl Voter {
-    /// The next row of a copy that is in step.
-    fn read<S: Slots>(&mut self, shelf: &mut S) -> Result<Option<Row>, Failure>
+    /// Reads the next row of a copy that is in step.
+    fn read<S: Slots>(&mut self, shelf: &mut S) -> Result<(), Failure>
         requires { slot_of self.old.reader < (S.sees shelf.old).slots }
         ensures row { (first : ShelfState) (given : List Item) (slot : ℕ)
             → VoterIs self.old.left first (S.sees shelf.old) given slot self.old.reader
-            → ReadIs result self.old.left first (S.sees shelf.new) given slot self.new.reader }
+            → ReadIs result first (S.sees shelf.new) given slot self.new }
+        ensures needed { (first : ShelfState) (given : List Item) (slot : ℕ)
+            → VoterIs self.old.left first (S.sees shelf.old) given slot self.old.reader
+            → GaveNeeded first (S.sees shelf.new) (length given) slot }
         ensures reads { ReadsAmong (S.sees shelf.old) (S.sees shelf.new)
             (slot_of self.old.reader ∷ []) }
         ensures slot { slot_of self.new.reader ≡ slot_of self.old.reader }
@@ -38,12 +58,12 @@ impl Voter {
             (failure_of result) }
     {
         if self.left.is_some() {
-            return Ok(None);
+            self.row = None;
+            return Ok(());
         }
-        match next_row(&mut self.reader, shelf) {
-            Ok(row) => Ok(Some(row)),
-            Err(failure) => Err(failure),
-        }
+        let row = next_row(&mut self.reader, shelf)?;
+        self.row = Some(row);
+        Ok(())
     }
 
     /// A copy that doesn't hold the majority's row leaves, if it hasn't before.
@@ -58,6 +78,35 @@ impl Voter {
     }
 }
 
+/// The next row of the record that a reader reads.
+fn next_row<S: Slots>(reader: &mut ItemReader, shelf: &mut S) -> Result<RowView, Failure>
+    requires { slot_of reader.old < (S.sees shelf.old).slots }
+    ensures row { (first : ShelfState) (given : List Item) (slot : ℕ)
+        → ReaderBehind first (S.sees shelf.old) given slot reader.old
+        → RowGiven result first (S.sees shelf.new) given slot reader.new }
+    ensures needed { (first : ShelfState) (given : List Item) (slot : ℕ)
+        → ReaderBehind first (S.sees shelf.old) given slot reader.old
+        → GaveNeeded first (S.sees shelf.new) (length given) slot }
+    ensures reads { ReadsAmong (S.sees shelf.old) (S.sees shelf.new) (slot_of reader.old ∷ []) }
+    ensures slot { slot_of reader.new ≡ slot_of reader.old }
+    ensures traffic { ShelfTraffic (shelf_run S.sees S.stays shelf.old shelf.new)
+        (failure_of result) }
+{
+    row_in(reader.next(shelf))
+}
+
+/// A fault is a row and no refusal.
+fn row_in(answer: Result<Option<ItemView>, Stopped<RecordFault>>) -> Result<RowView, Failure>
+    ensures { result ≡ view_answer answer }
+{
+    match answer {
+        Ok(Some(view)) => Ok(RowView::Item(view)),
+        Ok(None) => Ok(RowView::Whole),
+        Err(Stopped::Refused(_)) => Ok(RowView::Fault),
+        Err(Stopped::Failed(failure)) => Err(failure),
+    }
+}
+
 /// A voter for each slot, all in step.
 pub fn voters_at(alloc: Global, slots: &[u32]) -> Result<Vec<Voter>, OutOfMemory>
     ensures voters { IfOk result (λ voters. (state : ShelfState)
@@ -67,8 +116,12 @@ pub fn voters_at(alloc: Global, slots: &[u32]) -> Result<Vec<Voter>, OutOfMemory
 {
     let mut voters = Vec::new(alloc);
     'slots: for slot in slots {
-        let reader = RecordReader::at(alloc, *slot);
-        if voters.push(Voter { reader, left: None }).is_err() {
+        let voter = Voter {
+            reader: ItemReader::new(alloc, *slot),
+            row: None,
+            left: None,
+        };
+        if voters.push(voter).is_err() {
             return Err(OutOfMemory);
         }
     }
@@ -76,28 +129,22 @@ pub fn voters_at(alloc: Global, slots: &[u32]) -> Result<Vec<Voter>, OutOfMemory
 }
 
 /// Reads a row of each copy that is in step.
-pub fn read_rows<S: Slots>(
-    alloc: Global,
-    voters: &mut Vec<Voter>,
-    shelf: &mut S,
-) -> Result<Vec<Option<Row>>, Failure>
+pub fn read_rows<S: Slots>(voters: &mut Vec<Voter>, shelf: &mut S) -> Result<(), Failure>
     requires given { AreGiven (S.sees shelf.old) (map voter_slot voters.old.items) }
     ensures rows { (first : ShelfState) (given : List Item) (slots : List ℕ)
         → AreDifferent slots → AreVoters first (S.sees shelf.old) given slots voters.old.items
         → RowsRead result first (S.sees shelf.new) given slots voters.new.items }
-    ensures all { IfOk result (λ rows. length rows.items ≡ length voters.new.items) }
+    ensures needed { (first : ShelfState) (given : List Item) (slots : List ℕ)
+        → AreDifferent slots → AreVoters first (S.sees shelf.old) given slots voters.old.items
+        → AllNeeded first (S.sees shelf.new) (length given) slots }
     ensures slots { map voter_slot voters.new.items ≡ map voter_slot voters.old.items }
     ensures reads { ReadsAmong (S.sees shelf.old) (S.sees shelf.new)
         (map voter_slot voters.old.items) }
     ensures traffic { ShelfTraffic (shelf_run S.sees S.stays shelf.old shelf.new)
         (failure_of result) }
 {
-    let mut rows = Vec::new(alloc);
     'voters: for index in 0..voters.len() {
-        let row = voters[index].read(shelf)?;
-        if rows.push(row).is_err() {
-            return Err(Failure::OutOfMemory);
-        }
+        voters[index].read(shelf)?;
     }
-    Ok(rows)
+    Ok(())
 }

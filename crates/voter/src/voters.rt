@@ -3,21 +3,26 @@ ghost use Rattle.std.specs.Prelude.{◌≡◌, ℕ, ◌+◌, ◌<◌, ◌≤◌,
 ghost use Rattle.std.specs.Prelude.{length, true};
 ghost use Rattle.std.specs.List.{count_by};
 ghost use Rattle.det_edges.specs.Shelf.{ShelfState};
-ghost use Rattle.det_edges.specs.Traffic.{ShelfTraffic, shelf_run, failure_in};
+ghost use Rattle.det_edges.specs.Traffic.{ShelfTraffic, SinkTraffic, shelf_run, sink_run};
+ghost use Rattle.det_edges.specs.Traffic.{failure_in};
 ghost use Rattle.record_grammar.specs.declared.item.Item.{Item};
+ghost use Rattle.record_grammar.specs.declared.place.Place.{Place};
+ghost use Rattle.record_grammar.specs.Laws.{MayStand, item_spelling};
+ghost use Rattle.record_grammar.specs.Spelling.{AreBytes};
 ghost use Rattle.lockstep.specs.Compared.{AreDifferent, AreGiven, ReadsAmong};
+ghost use Rattle.lockstep.specs.Needed.{AllNeeded};
 ghost use Rattle.voter.specs.Majority.{is_most};
 ghost use Rattle.voter.specs.Rows.{is_in_step, voter_slot};
-ghost use Rattle.voter.specs.Standing.{Stand, RowTaken, Counts, TellsVote};
-ghost use Rattle.voter.specs.Standing.{dissenter, dissenters};
+ghost use Rattle.voter.specs.Standing.{Stand, RowTaken, IsHeldIn, held_in, Counts, Writes};
+ghost use Rattle.voter.specs.Standing.{TellsVote, dissenter, dissenters};
 
-use crate::majority::{item_of, most_held, part};
-use crate::reading::{Voter, read_rows, voters_at};
+use crate::majority::{most_held, part};
+use crate::reading::{RowView, Voter, read_rows, voters_at};
 use crate::{Dissent, Dissenter, NoMajority, Vote};
-use det_edges::{Slots, Stopped};
+use det_edges::{Sink, Slots, Stopped, write_all};
 use det_values::OutOfMemory;
-use record_codec::Item;
-use record_reader::runs_in;
+use lockstep::runs_of;
+use record_view::{ItemView, events_at};
 use std::alloc::Global;
 
 /// The copies, and the rows that more than half of them hold together.
@@ -28,6 +33,15 @@ pub struct Voters {
     pub rows: u32,
     /// How many of them were Run frames.
     pub cycles: u32,
+}
+
+/// An item that more than half of the copies hold.
+#[derive(Clone, Copy, Drop)]
+pub struct HeldItem {
+    /// The first copy that holds it.
+    pub copy: usize,
+    /// Where its parts are in the bytes that the reader of that copy holds.
+    pub view: ItemView,
 }
 
 impl Voters {
@@ -48,40 +62,58 @@ impl Voters {
     /// The copies that don't hold it leave.
     pub fn next_row<S: Slots>(
         &mut self,
-        alloc: Global,
         shelf: &mut S,
-    ) -> Result<Option<Item>, Stopped<NoMajority>>
+    ) -> Result<Option<HeldItem>, Stopped<NoMajority>>
         requires given { AreGiven (S.sees shelf.old) (map voter_slot self.old.voters.items) }
         requires rows { self.old.rows < 4294967295 }
         requires cycles { self.old.cycles ≤ self.old.rows }
+        requires few { length self.old.voters.items ≤ 7 }
+        requires stand { (first : ShelfState) × (given : List Item) × (slots : List ℕ)
+            × AreDifferent slots × Stand first (S.sees shelf.old) given slots self.old }
         ensures row { (first : ShelfState) (given : List Item) (slots : List ℕ)
             → AreDifferent slots → Stand first (S.sees shelf.old) given slots self.old
             → RowTaken result first (S.sees shelf.new) given slots self.new }
+        ensures needed { (first : ShelfState) (given : List Item) (slots : List ℕ)
+            → AreDifferent slots → Stand first (S.sees shelf.old) given slots self.old
+            → AllNeeded first (S.sees shelf.new) (length given) slots }
         ensures reads { ReadsAmong (S.sees shelf.old) (S.sees shelf.new)
             (map voter_slot self.old.voters.items) }
         ensures traffic { ShelfTraffic (shelf_run S.sees S.stays shelf.old shelf.new)
             (failure_in result) }
     {
-        let mut rows = read_rows(alloc, &mut self.voters, shelf)?;
-        let Some(index) = most_held(&rows) else {
+        read_rows(&mut self.voters, shelf)?;
+        let Some(holders) = most_held(&self.voters) else {
             return Err(Stopped::Refused(NoMajority { row: self.rows }));
         };
-        part(&mut self.voters, &rows, index, self.rows);
-        let item = item_of(rows.swap_remove(index));
-        self.count(&item);
+        part(&mut self.voters, &holders.same, self.rows);
+        let item = held_in(holders.first, self.voters[holders.first].row);
+        self.count(item);
         Ok(item)
     }
 
     /// Counts an item that is held.
-    fn count(&mut self, item: &Option<Item>)
+    fn count(&mut self, item: Option<HeldItem>)
         requires rows { self.old.rows < 4294967295 }
         requires cycles { self.old.cycles ≤ self.old.rows }
-        ensures { Counts item.now self.old self.new }
+        ensures { Counts item self.old self.new }
     {
         if let Some(item) = item {
             self.rows += 1;
-            self.cycles += runs_in(item);
+            self.cycles += runs_of(item.view.span.kind);
         }
+    }
+
+    /// Writes the bytes of an item that is held, as they were read.
+    pub fn write<K: Sink>(&self, item: HeldItem, sink: &mut K) -> Result<(), Stopped<NoMajority>>
+        requires { (place : Place) × (x : Item) × IsHeldIn self.now.voters.items item place x }
+        ensures writes { (place : Place) (x : Item) → IsHeldIn self.now.voters.items item place x
+            → Writes result (item_spelling place x)
+            (sink_run K.took K.faults sink.old sink.new) × MayStand place x }
+        ensures traffic { SinkTraffic (sink_run K.took K.faults sink.old sink.new)
+            (failure_in result) }
+    {
+        let _events = events_at(item.view.place);
+        write_bytes(self.voters[item.copy].reader.bytes(item.view), sink)
     }
 
     /// The vote behind the end of the majority's record.
@@ -97,6 +129,27 @@ impl Voters {
             dissent,
         })
     }
+}
+
+/// The item of the row that this copy holds; None at the end of a whole record.
+fn held_in(copy: usize, row: Option<RowView>) -> Option<HeldItem>
+    ensures { result ≡ held_in copy row }
+{
+    match row {
+        Some(RowView::Item(view)) => Some(HeldItem { copy, view }),
+        Some(RowView::Whole) | Some(RowView::Fault) | None => None,
+    }
+}
+
+/// Its second clause says what a slice is known for.
+fn write_bytes<K: Sink>(bytes: &[u8], sink: &mut K) -> Result<(), Stopped<NoMajority>>
+    ensures writes { Writes result bytes.now (sink_run K.took K.faults sink.old sink.new) }
+    ensures bytes { AreBytes bytes.now }
+    ensures traffic { SinkTraffic (sink_run K.took K.faults sink.old sink.new)
+        (failure_in result) }
+{
+    write_all(sink, bytes)?;
+    Ok(())
 }
 
 /// The copies that left, in their order.

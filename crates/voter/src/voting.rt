@@ -1,11 +1,12 @@
 //! Copies of a record, voted into one.
-ghost use Rattle.std.specs.Prelude.{◌≤◌, length};
+ghost use Rattle.std.specs.Prelude.{◌≡◌, ℕ, ◌≤◌, List, length};
 ghost use Rattle.det_edges.specs.Traffic.{ShelfTraffic, SinkTraffic};
 ghost use Rattle.det_edges.specs.Traffic.{shelf_run, sink_run, failure_in};
-ghost use Rattle.lockstep.specs.Compared.{AreDifferent, AreGiven, ReadsAmong};
+ghost use Rattle.lockstep.specs.Compared.{AreDifferent, AreGiven, AreLeft, ReadsAmong};
+ghost use Rattle.lockstep.specs.Needed.{AllNeeded};
+ghost use Rattle.voter.specs.Majority.{voted_items};
 ghost use Rattle.voter.specs.Voted.{HasVoted};
 
-use crate::spelling::Speller;
 use crate::voters::Voters;
 use crate::{NoMajority, Vote};
 use det_edges::{Sink, Slots, Stopped};
@@ -14,7 +15,7 @@ use std::alloc::Global;
 /// Votes the copies of a record in these slots into one, row by row: a row is the header or a
 /// frame, or how the record ends, and a fault equals nothing. Each row that more than half of all
 /// copies hold behind equal rows is written as it is read. A copy that differs from it isn't read
-/// further. At most one row of each copy is held at a time.
+/// further. At most one row of each copy is held at a time, in the bytes in which it was read.
 ///
 /// `Refused` tells the first row that not more than half of the copies hold; what was written
 /// before it stands.
@@ -30,6 +31,10 @@ pub fn vote<S: Slots, K: Sink>(
     requires different { AreDifferent slots.now }
     ensures voted { HasVoted result (S.sees shelf.old) (S.sees shelf.new) slots.now
         (sink_run K.took K.faults sink.old sink.new) }
+    // No byte of a copy is read behind the row that decides: before the last piece of it was read,
+    // no row behind the items that are voted was shown.
+    ensures needed { (copies : List (List ℕ)) → AreLeft (S.sees shelf.old) slots.now copies
+        → AllNeeded (S.sees shelf.old) (S.sees shelf.new) (length (voted_items copies)) slots.now }
     ensures reads { ReadsAmong (S.sees shelf.old) (S.sees shelf.new) slots.now }
     ensures shelf_traffic { ShelfTraffic (shelf_run S.sees S.stays shelf.old shelf.new)
         (failure_in result) }
@@ -37,11 +42,10 @@ pub fn vote<S: Slots, K: Sink>(
         (failure_in result) }
 {
     let mut voters = Voters::at(alloc, slots)?;
-    let mut speller = Speller::new(alloc);
     'rows: loop {
-        let Some(item) = voters.next_row(alloc, shelf)? else {
+        let Some(item) = voters.next_row(shelf)? else {
             return voters.outcome(alloc);
         };
-        speller.write(item, sink)?;
+        voters.write(item, sink)?;
     }
 }

@@ -1,6 +1,10 @@
-use Rattle.std.proofs.Common.{◌≡◌, ◌<◌, ℕ, None, false, get_or}
-use Rattle.voter.specs.Rows.{is_held}
+use Rattle.std.proofs.Common.{◌≡◌, ◌<◌, ℕ, List, None, false, get_or}
+use Rattle.std.specs.Prelude.{Option}
+use Rattle.record_grammar.specs.declared.place.Place.{Place}
+use Rattle.lockstep.specs.declared.row.Row.{Row}
+use Rattle.voter.specs.Rows.{is_held, AreHeld}
 use Rattle.voter.proofs.majority.most_held.Given as goal
 
-abbrev pub invariant-rows : goal.invariant-rows
-invariant-rows l = (k : ℕ) → k < l.index → is_held l.rows (get_or l.rows k None) ≡ false
+abbrev pub invariant-voters : goal.invariant-voters
+invariant-voters l = (place : Place) (more : List (Option Row)) → AreHeld place l.voters more → (k : ℕ) → k < l.first
+    → is_held more (get_or more k None) ≡ false

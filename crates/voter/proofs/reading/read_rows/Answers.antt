@@ -1,14 +1,23 @@
-use Rattle.std.proofs.Common.{◌≡◌, ◌<◌, ℕ, [], ◌∷◌, ◌++◌, rules, sym, subst, ◌∙◌, map}
-use Rattle.std.specs.Prelude.{Option, Result, Vec, slice_set}
-use Rattle.record_reader.specs.StandsFor.{slot_of}
-use Rattle.std.specs.declared.alloc.Global.{Global}
+use Rattle.std.proofs.Common.{◌<◌, ℕ, rules, sym, refl, subst, ◌∙◌, map}
+use Rattle.std.specs.Prelude.{Result, slice_set}
 use Rattle.std.specs.List.{AllByRecursion}
+use Rattle.item_reader.specs.StandsFor.{slot_of}
 use Rattle.det_edges.specs.declared.failure.Failure.{Failure}
 use Rattle.record_reader.proofs.Reading.{passed-on}
-use Rattle.lockstep.specs.declared.row.Row.{Row}
 use Rattle.voter.specs.Rows.{voter_slot, RowsRead}
-use Rattle.voter.proofs.InTurn.{HaveFirst, given-here, slots-here, among-here, next-here, first-here, first-all}
+use Rattle.voter.proofs.InTurn.{given-here, slots-here, among-here, was-here, rows-here, needed-here, rows-none, rows-all, voters-needed}
+use Rattle.voter.proofs.InTurn.{reads-same}
 use Rattle.voter.proofs.reading.read_rows.Goals as goal
+
+pub voters-init : goal.voters-init
+voters-init g c = record {
+  have = λ first given slots ne h. rows-none h;
+  needed = λ first given slots ne h. voters-needed first (g.S.Slots.sees c.args.shelf.now) given slots c.args.voters.now.items h;
+  all = refl;
+  slots = refl;
+  reads = reads-same (g.S.Slots.sees c.args.shelf.now) (map voter_slot c.args.voters.now.items);
+  traffic = search rules;
+}
 
 pub read-requires : goal.read-requires
 read-requires g c =
@@ -19,34 +28,28 @@ read-requires g c =
     (given-here c.voters.voters.items c.voters.index old (search rules) (search rules)
     (λ k. k < (g.S.Slots.sees c.args.shelf.now).slots) all)
 
-pub returns-in_err-row-clause-rows : goal.returns-in_err-row-clause-rows
-returns-in_err-row-clause-rows g c first given slots ne voters =
-    let h = c.voters.invariant in
+pub returns-in_err-read-clause-rows : goal.returns-in_err-read-clause-rows
+returns-in_err-read-clause-rows g c first given slots ne voters =
     let old = c.index_mut.result.now in
-    let next = next-here c.voters.voters.items c.voters.index old (search rules) (search rules) first (g.S.Slots.sees c.voters.shelf) given
-    slots c.voters.rows.items h.count (h.have first given slots ne voters) in
-    passed-on (λ (r : Result (Vec (Option Row) Global) Failure). RowsRead r first (g.S.Slots.sees c.read.new.shelf) given slots
+    let was = was-here c.voters.voters.items c.voters.index old (search rules) (search rules)
+    (c.voters.invariant.have first given slots ne voters) in
+    passed-on (λ (r : Result (Unit {0}) Failure). RowsRead r first (g.S.Slots.sees c.read.new.shelf) given slots
     (slice_set c.voters.voters.items c.voters.index c.read.new.self)) c.from_residual.result c.from_residual.ensures.1
-    (c.in_err-row.ensures.row first given next.0 next.1)
+    (c.in_err-read.ensures.row first given was.0 was.1)
 
-pub returns-in_err-row-clause-slots : goal.returns-in_err-row-clause-slots
-returns-in_err-row-clause-slots g c =
+pub returns-in_err-read-clause-needed : goal.returns-in_err-read-clause-needed
+returns-in_err-read-clause-needed g c first given slots ne voters =
+    needed-here c.voters.voters.items c.voters.index c.index_mut.result.now (search rules) (search rules)
+    (c.voters.invariant.have first given slots ne voters) (λ slot b. c.read.ensures.needed first given slot b) c.read.ensures.reads
+    (c.voters.invariant.needed first given slots ne voters)
+
+pub returns-in_err-read-clause-slots : goal.returns-in_err-read-clause-slots
+returns-in_err-read-clause-slots g c =
     slots-here c.voters.voters.items c.voters.index c.index_mut.result.now (search rules) (search rules) c.read.new.self c.read.ensures.slot
     ∙ c.voters.invariant.slots
 
-pub returns-in_err-row-clause-reads : goal.returns-in_err-row-clause-reads
-returns-in_err-row-clause-reads g c =
-    among-here c.voters.voters.items c.voters.index c.index_mut.result.now (search rules) (search rules) (g.S.Slots.sees c.args.shelf.now)
-    (g.S.Slots.sees c.voters.shelf) (g.S.Slots.sees c.read.new.shelf) (map voter_slot c.args.voters.now.items) c.voters.invariant.slots
-    c.voters.invariant.reads c.read.ensures.reads
-
-pub returns-then-is_err-clause-slots : goal.returns-then-is_err-clause-slots
-returns-then-is_err-clause-slots g c =
-    slots-here c.voters.voters.items c.voters.index c.index_mut.result.now (search rules) (search rules) c.read.new.self c.read.ensures.slot
-    ∙ c.voters.invariant.slots
-
-pub returns-then-is_err-clause-reads : goal.returns-then-is_err-clause-reads
-returns-then-is_err-clause-reads g c =
+pub returns-in_err-read-clause-reads : goal.returns-in_err-read-clause-reads
+returns-in_err-read-clause-reads g c =
     among-here c.voters.voters.items c.voters.index c.index_mut.result.now (search rules) (search rules) (g.S.Slots.sees c.args.shelf.now)
     (g.S.Slots.sees c.voters.shelf) (g.S.Slots.sees c.read.new.shelf) (map voter_slot c.args.voters.now.items) c.voters.invariant.slots
     c.voters.invariant.reads c.read.ensures.reads
@@ -55,16 +58,13 @@ pub voters-preserved : goal.voters-preserved
 voters-preserved g c =
     let h = c.voters.invariant in
     let old = c.index_mut.result.now in
-    let pushed : c.voters.rows.items ++ c.in_ok-row.row ∷ [] ≡ c.push.new.self.items = search rules in
     record {
       have = λ first given slots ne voters.
-          subst (λ more. HaveFirst first (g.S.Slots.sees c.read.new.shelf) given slots
-          (slice_set c.voters.voters.items c.voters.index c.read.new.self) more) pushed
-          (first-here c.voters.voters.items c.voters.index old (search rules) (search rules) first (g.S.Slots.sees c.voters.shelf)
-          (g.S.Slots.sees c.read.new.shelf) given slots c.voters.rows.items c.read.new.self c.in_ok-row.row h.count
-          (h.have first given slots ne voters) ne c.read.ensures.left (λ slot b. c.in_ok-row.ensures.row first given slot b)
-          c.read.ensures.reads);
-      count = search rules;
+          rows-here c.voters.voters.items c.voters.index old (search rules) (search rules) c.read.new.self
+          (h.have first given slots ne voters) ne (λ slot b. c.in_ok-read.ensures.row first given slot b) c.read.ensures.reads;
+      needed = λ first given slots ne voters.
+          needed-here c.voters.voters.items c.voters.index old (search rules) (search rules) (h.have first given slots ne voters)
+          (λ slot b. c.read.ensures.needed first given slot b) c.read.ensures.reads (h.needed first given slots ne voters);
       all = search rules;
       slots = slots-here c.voters.voters.items c.voters.index old (search rules) (search rules) c.read.new.self c.read.ensures.slot
           ∙ h.slots;
@@ -76,6 +76,8 @@ voters-preserved g c =
 
 pub returns-clause-rows : goal.returns-clause-rows
 returns-clause-rows g c first given slots ne voters =
-    let h = c.voters.invariant in
-    first-all first (g.S.Slots.sees c.voters.shelf) given slots c.voters.voters.items c.voters.rows.items
-    (h.have first given slots ne voters) (search rules)
+    rows-all c.voters.index first (g.S.Slots.sees c.voters.shelf) given slots c.voters.voters.items
+    (c.voters.invariant.have first given slots ne voters) (search rules)
+
+pub returns-clause-needed : goal.returns-clause-needed
+returns-clause-needed g c first given slots ne voters = c.voters.invariant.needed first given slots ne voters

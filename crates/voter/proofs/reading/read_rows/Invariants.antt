@@ -3,16 +3,19 @@ use Rattle.det_edges.specs.Shelf.{ShelfState}
 use Rattle.det_edges.specs.Traffic.{ShelfTraffic, shelf_run}
 use Rattle.record_grammar.specs.declared.item.Item.{Item}
 use Rattle.lockstep.specs.Compared.{AreDifferent, ReadsAmong}
+use Rattle.lockstep.specs.Needed.{AllNeeded}
 use Rattle.voter.specs.Rows.{AreVoters, voter_slot}
-use Rattle.voter.proofs.InTurn.{HaveFirst}
+use Rattle.voter.proofs.InTurn.{HaveRows}
 use Rattle.voter.proofs.reading.read_rows.Given as goal
 
 abbrev pub invariant-voters : goal.invariant-voters
 invariant-voters g l = record {
   have : (first : ShelfState) (given : List Item) (slots : List ℕ) → AreDifferent slots
       → AreVoters first (g.S.Slots.sees l.fn.shelf) given slots l.fn.voters.items
-      → HaveFirst first (g.S.Slots.sees l.shelf) given slots l.voters.items l.rows.items;
-  count : length l.rows.items ≡ l.index;
+      → HaveRows l.index first (g.S.Slots.sees l.shelf) given slots l.voters.items;
+  needed : (first : ShelfState) (given : List Item) (slots : List ℕ) → AreDifferent slots
+      → AreVoters first (g.S.Slots.sees l.fn.shelf) given slots l.fn.voters.items
+      → AllNeeded first (g.S.Slots.sees l.shelf) (length given) slots;
   all : length l.voters.items ≡ length l.fn.voters.items;
   slots : map voter_slot l.voters.items ≡ map voter_slot l.fn.voters.items;
   reads : ReadsAmong (g.S.Slots.sees l.fn.shelf) (g.S.Slots.sees l.shelf) (map voter_slot l.fn.voters.items);

@@ -15,7 +15,7 @@ returns-clause-voters c state =
 
 pub slots-preserved : goal.slots-preserved
 slots-preserved c =
-    let voter : Voter = record { reader = c.at-reader.result; left = None } in
+    let voter : Voter = record { reader = c.new.result; row = None; left = None } in
     let pushed : c.slots.voters.items ++ voter ∷ [] ≡ c.push.new.self.items = search rules in
     record {
       voters = λ state tail h. subst (λ vs. AreVoters state state [] c.args.slots.now (vs ++ tail)) pushed
@@ -23,7 +23,7 @@ slots-preserved c =
           (drop (c.slots.slot-index + 1) c.args.slots.now) c.slots.voters.items voter
           (λ more b. c.slots.invariant.voters state more (subst (λ ks. AreVoters state state [] ks more)
           (sym (drop_more c.args.slots.now c.slots.slot-index 0 (search rules))) b))
-          refl c.at-reader.ensures.stands (search rules) tail h);
+          refl c.new.ensures.stands (search rules) tail h);
       all = subst (λ vs. count_by is_in_step vs ≡ c.slots.slot-index + 1) pushed
           (sum_by_push (λ v. cond (is_in_step v) 1 0) c.slots.voters.items voter ∙ ap (λ n. n + 1) c.slots.invariant.all);
       count = search rules;

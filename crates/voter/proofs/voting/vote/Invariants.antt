@@ -1,8 +1,7 @@
-use Rattle.std.proofs.Common.{◌≡◌, ◌-◌, List, None}
+use Rattle.std.proofs.Common.{◌-◌, List, None}
 use Rattle.det_edges.specs.Sink.{Grew}
 use Rattle.det_edges.specs.Traffic.{ShelfTraffic, SinkTraffic, shelf_run, sink_run}
 use Rattle.record_grammar.specs.declared.item.Item.{Item}
-use Rattle.record_reader.specs.Keeping.{layout_behind}
 use Rattle.lockstep.specs.Compared.{ReadsAmong}
 use Rattle.voter.specs.Majority.{spelled_items}
 use Rattle.voter.specs.Standing.{Stand}
@@ -11,7 +10,7 @@ use Rattle.voter.proofs.voting.vote.Given as goal
 abbrev pub invariant-rows : goal.invariant-rows
 invariant-rows g l = record {
   stand : (given : List Item) × Stand (g.S.Slots.sees l.fn.shelf) (g.S.Slots.sees l.shelf) given l.slots l.voters
-      × (l.speller.layout ≡ layout_behind given) × Grew (g.K.Sink.took l.fn.sink) (g.K.Sink.took l.sink) (spelled_items given);
+      × Grew (g.K.Sink.took l.fn.sink) (g.K.Sink.took l.sink) (spelled_items given);
   reads : ReadsAmong (g.S.Slots.sees l.fn.shelf) (g.S.Slots.sees l.shelf) l.slots;
   shelf_traffic : ShelfTraffic (shelf_run g.S.Slots.sees g.S.Slots.stays l.fn.shelf l.shelf) None;
   sink_traffic : SinkTraffic (sink_run g.K.Sink.took g.K.Sink.faults l.fn.sink l.sink) None;
