@@ -14,11 +14,7 @@ use Rattle.det_edges.proofs.Prefixes.{prefix-length}
 use Rattle.record_grammar.specs.declared.item.Item.{Item}
 use Rattle.item_reader.specs.StandsFor.{unread}
 use Rattle.record_reader.specs.Taking.{AreFirst}
-<<<<<<< HEAD
-use Rattle.record_reader.proofs.Items.{are_first, NextIs, next_is, few_first}
-=======
 use Rattle.record_reader.proofs.Items.{few_first}
->>>>>>> 50860fb30cea6109f2fc32139728f3238367e02b
 use Rattle.record_reader.proofs.Pieces.{cycles-few}
 use Rattle.lockstep.specs.Compared.{AreGiven, AreLeft, ReadsAmong}
 use Rattle.lockstep.specs.Needed.{AllNeeded}
@@ -50,11 +46,7 @@ one-first first now given (s ∷ slots) (v ∷ voters) h some = by v.left refl h
   where
     by : (left : Option ℕ) → v.left ≡ left → VoterIs left first now given s v.reader → (0 < count_by is_in_step voters → AreFirst given)
         → AreFirst given
-<<<<<<< HEAD
-    by None e b on = are_first v.reader b.read given b.stands
-=======
     by None e b on = record { bytes = b.read; place = v.reader.place; rest = unread v.reader; leads = b.stands.leads }
->>>>>>> 50860fb30cea6109f2fc32139728f3238367e02b
     by (Some row) e b on = let n = count-cons is_in_step v voters false (ap (λ o. is_none o) e) in on (omega (arith, some, n))
 
 pub stand-first : {first now : ShelfState} {given : List Item} {slots : List ℕ} {voters : Voters} → Stand first now given slots voters
