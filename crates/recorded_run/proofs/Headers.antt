@@ -1,5 +1,5 @@
 -- What the first answer of a reader is.
-use Rattle.std.proofs.Common.{◌≡◌, ℕ, true, List, [], subst, refl}
+use Rattle.std.proofs.Common.{◌≡◌, ℕ, true, List, [], ◌∷◌, subst, refl}
 use Rattle.std.specs.Prelude.{Option, Some, None, Ok, Err}
 use Rattle.std.specs.List.{list_any}
 use Rattle.det_values.specs.Values.{ProfileValue}
