@@ -14,6 +14,7 @@ use Rattle.det_edges.specs.declared.failure.Failure.{Failure}
 use Rattle.det_edges.specs.declared.failure.Failure.TheVariants.{Read, Write, OutOfMemory}
 use Rattle.det_edges.specs.declared.failure.Stopped.{Stopped}
 use Rattle.det_edges.specs.declared.failure.Stopped.TheVariants.{Refused, Failed}
+use Rattle.det_edges.proofs.Counts.{rose-before}
 use Rattle.det_edges.proofs.Growth.{grew-then}
 use Rattle.det_edges.proofs.SlotReads.{reads-none, reads-then}
 use Rattle.job_trait.specs.Meaning.{Meaning}
@@ -134,3 +135,19 @@ no-read OutOfMemory before after bytes shelf h t = record { cause = λ e. cc; co
 pub none-of : {X : Type 0} (o : Option X) → ((x : X) → o ≡ Some x → ⊥) → o ≡ None
 none-of (Some x) other = absurd (other x refl)
 none-of None other = refl
+
+-- nothing failed before
+pub shelf-then : (failure : Option Failure) (first mid last : ShelfState) (earlier later stays : Type 0)
+    → ShelfTraffic (record { first = first; last = mid; stays = earlier }) None
+    → ShelfTraffic (record { first = mid; last = last; stays = later }) failure → stays
+    → ShelfTraffic (record { first = first; last = last; stays = stays }) failure
+shelf-then failure first mid last earlier later stays a b same = record {
+  cause = λ e. rose-before first.faults mid.faults last.faults a.counted (b.cause e);
+  counted = let one = a.counted in let two = b.counted in omega arith;
+  stays = same;
+}
+
+-- an answer without an input tells the failure that the reader told
+pub same-failure : (why : Stopped RecordFault) → failure_in {A = Option CycleInput} (Err why) ≡ failure_in {A = Counts} (Err why)
+same-failure (Refused fault) = refl
+same-failure (Failed failure) = refl

@@ -1,7 +1,8 @@
-use Rattle.std.proofs.Common.{Option, Some, None, Result, Ok, subst, ◌∙◌, ◌∷◌, ◌++◌, rules}
+use Rattle.std.proofs.Common.{ℕ, List, [], Option, Some, None, Result, Ok, refl, sym, subst, ◌∙◌, ◌∷◌, ◌++◌, append-nil, rules, arith}
 use Rattle.det_values.specs.declared.frames.CycleInput.{CycleInput as Input}
 use Rattle.det_edges.specs.declared.failure.Stopped.{Stopped}
 use Rattle.det_edges.specs.Shelf.{IsAtEnd}
+use Rattle.det_edges.proofs.SlotReads.{reads-none}
 use Rattle.record_grammar.specs.declared.fault.RecordFault.{RecordFault}
 use Rattle.record_grammar.specs.declared.item.Item.{Item}
 use Rattle.record_grammar.specs.declared.item.Item.TheVariants as items
@@ -47,4 +48,15 @@ items-preserved g c = record {
       (given-item c.in_ok-item.field-0 (Some c.in-Some.item) c.next_item.new.self c.in-Some.is c.in_ok-item.ensures.item);
   slot = c.in_ok-item.ensures.slot ∙ c.items.invariant.slot;
   traffic = search rules;
+}
+
+pub items-init : goal.items-init
+items-init g c = record {
+  on = (
+    [],
+    reads-none (g.S.Slots.sees c.args.shelf.now) (slot_of c.args.reader.now),
+    λ profile read given h. subst (λ (xs : List ℕ). HasGiven profile c.args.reader.now xs given) (sym (append-nil read)) h,
+  );
+  slot = refl;
+  traffic = record { cause = λ e. cc; counted = omega arith; stays = g.met.S.Slots.stays_same _ };
 }

@@ -1,17 +1,19 @@
 use Rattle.std.proofs.Common.{◌≡◌, ◌<◌, ◌+◌, ℕ, [], ◌∷◌, ◌++◌, refl, sym, ap, subst, ◌∙◌, arith, length}
-use Rattle.std.specs.Prelude.{true, Some, None, Ok, Err}
+use Rattle.std.specs.Prelude.{true, Option, Some, None, Ok, Err}
 use Rattle.std.specs.List.{All}
 use Rattle.std.proofs.lemmas.Result.{err_from_is_err_and}
 use Rattle.det_values.specs.Values.{ProfileValue, SampleValue}
 use Rattle.det_values.specs.declared.frames.Frame.TheVariants.{Run, Terminate}
 use Rattle.det_edges.specs.Sink.{Grew}
-use Rattle.det_edges.specs.Traffic.{shelf_run, sink_run}
+use Rattle.det_edges.specs.declared.failure.Failure.{Failure}
+use Rattle.det_edges.specs.Traffic.{ShelfTraffic, shelf_run, sink_run}
 use Rattle.cycle_engine.specs.Frames.{runs}
 use Rattle.record_grammar.specs.Spelling.{spelled_frame}
 use Rattle.record_reader.specs.StandsFor.{slot_of}
 use Rattle.run_writer.specs.Record.{Counted, record_with}
 use Rattle.run_writer.specs.Recording.{Cuts, Ran}
 use Rattle.replayer.proofs.Running.{next_run, running-opened, next-read, next-as, running-next, few-cycles, no-write, no-read, none-of}
+use Rattle.replayer.proofs.Running.{shelf-then, same-failure}
 use Rattle.replayer.proofs.Ending.{open-failed, reading-stopped, cycle-failed, close-failed, closed}
 use Rattle.replayer.proofs.Told.{replayed}
 use Rattle.replayer.proofs.replaying.replay_run.Goals as goal
@@ -238,3 +240,26 @@ returns-clause-replayed g c read stands =
     (spelled_frame p.format Terminate)) c.cycles.invariant.profile c.in_ok-counts.ensures.took in
     replayed m profile n.all
     (closed m profile (slot_of c.args.reader.now) shelf sink running.2 c.next_input.new.reader read stands counts n counted grew)
+
+pub returns-in_err-input-clause-shelf_traffic : goal.returns-in_err-input-clause-shelf_traffic
+returns-in_err-input-clause-shelf_traffic g c =
+    let p = err_from_is_err_and c.from_residual-in_err-input.result c.from_residual-in_err-input.ensures.1 in
+    let before = c.cycles.invariant.shelf_traffic in
+    let t = subst (λ (failure : Option Failure). ShelfTraffic (shelf_run g.S.Slots.sees g.S.Slots.stays c.cycles.shelf c.next_input.new.shelf)
+    failure) (same-failure c.in_err-input.field-0.0) c.in_err-input.ensures.traffic in
+    rw (p.1, p.2) (shelf-then _ _ _ _ _ _ _ before t (g.met.S.Slots.stays_on _ _ _ before.stays t.stays))
+
+pub returns-in_err-counts-clause-shelf_traffic : goal.returns-in_err-counts-clause-shelf_traffic
+returns-in_err-counts-clause-shelf_traffic g c =
+    let p = err_from_is_err_and c.from_residual-in_err-counts.result c.from_residual-in_err-counts.ensures.1 in
+    let before = c.cycles.invariant.shelf_traffic in
+    let t = c.in_ok-input.ensures.traffic in
+    let shelf = shelf_run g.S.Slots.sees g.S.Slots.stays c.args.shelf.now c.next_input.new.shelf in
+    rw (p.1, p.2) (no-read c.in_err-counts.field-0.0 _ _ _ shelf c.in_err-counts.ensures.cut
+    (shelf-then _ _ _ _ _ _ _ before t (g.met.S.Slots.stays_on _ _ _ before.stays t.stays)))
+
+pub returns-clause-shelf_traffic : goal.returns-clause-shelf_traffic
+returns-clause-shelf_traffic g c =
+    let before = c.cycles.invariant.shelf_traffic in
+    let t = c.in_ok-input.ensures.traffic in
+    shelf-then _ _ _ _ _ _ _ before t (g.met.S.Slots.stays_on _ _ _ before.stays t.stays)
