@@ -16,7 +16,7 @@ use Rattle.open_names.specs.Opened.{Opened}
 use Rattle.open_names.proofs.Copies.{texts, are-left}
 use Rattle.voter.specs.declared.outcome.NoMajority as voting
 use Rattle.voter.specs.declared.outcome.Vote.{Vote}
-use Rattle.voter.specs.Majority.{majority, dissent, common, spelled_items, voted}
+use Rattle.voter.specs.Majority.{majority, common, spelled_items, voted}
 use Rattle.voter.specs.Voted.{Answers, Elects, Splits, HasVoted}
 use Rattle.cli_answers.specs.declared.answer.Answer.{Answer}
 use Rattle.cli_answers.specs.declared.answer.Answer.TheVariants.{Done, NoMajority, ReadFault, WriteFault}

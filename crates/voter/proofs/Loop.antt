@@ -111,8 +111,8 @@ ended-many first now given [] (v ∷ voters) h = absurd h
 ended-many first now given (s ∷ slots) [] h = absurd h
 ended-many first now given (s ∷ slots) (v ∷ voters) h = let n = ended-many first now given slots voters h.1 in omega (arith, n)
 
-pub voters-many : (first now : ShelfState) (given : List Item) (slots : List ℕ) (voters : List Voter) → AreVoters first now given slots voters
-    → length voters ≡ length slots
+voters-many : (first now : ShelfState) (given : List Item) (slots : List ℕ) (voters : List Voter)
+    → AreVoters first now given slots voters → length voters ≡ length slots
 voters-many first now given slots voters h =
     sym (length-map voters voter_slot) ∙ ap length (voters-slots first now given slots voters h)
 

@@ -1,7 +1,6 @@
 -- Copies that are in step or left, and the rows that they hold.
 use Rattle.std.specs.Prelude.{◌≡◌, ◌≢◌, ℕ, ◌+◌, ◌<◌, List, [], ◌∷◌, length, get_or, Bool, true}
-use Rattle.std.specs.Prelude.{false, map, take}
-use Rattle.std.specs.Prelude.{cond, Option, Some, None, Result, Ok, Err, is_none}
+use Rattle.std.specs.Prelude.{false, cond, map, take, Option, Some, None, Result, Ok, Err, is_none}
 use Rattle.std.specs.List.{count_by}
 use Rattle.std.specs.Option.{option_or}
 use Rattle.det_edges.specs.Shelf.{ShelfState}
@@ -42,7 +41,8 @@ abbrev pub is_held : List (Option Row) → Option Row → Bool
 is_held all row = is_most (count_by (same_row row) all) (length all)
 
 -- the copies whose rows are equal to one
-pub record AreHolders (holders : Holders) (row : Option Row) (all : List (Option Row)) : Type 0 where
+pub record AreHolders (holders : Holders) (row : Option Row) (all : List (Option Row))
+    : Type 0 where
   pub same : take (length all) holders.same ≡ map (same_row row) all
   pub count : holders.count ≡ count_by (same_row row) all
 
