@@ -3,10 +3,14 @@ use Rattle.det_edges.specs.Count.{Rose}
 use Rattle.det_edges.specs.Traffic.{shelf_run, sink_run}
 use Rattle.probes.specs.Shows.{seen}
 use Rattle.cli_answers.specs.Outcome.{Meets}
+use Rattle.cli_answers.proofs.Meeting.{meets-no-memory}
 use Rattle.cmd_check.specs.Check.{outcome_by}
 use Rattle.cmd_check.proofs.Meeting.{met-verdict, met-stop, met-unprinted, kept-by-kind}
 use Rattle.cmd_check.proofs.Seeing.{saw-verdict, saw-stop}
 use Rattle.cmd_check.proofs.checking.check_by_crew.Goals as goal
+
+pub returns-in-Err-clause-meets : goal.returns-in-Err-clause-meets
+returns-in-Err-clause-meets g c read rest stands = rw c.in-Err.ensures.sink (meets-no-memory _ _ _ _ _)
 
 pub returns-in-Err-checked-clause-meets : goal.returns-in-Err-checked-clause-meets
 returns-in-Err-checked-clause-meets g c read rest stands =
