@@ -2,18 +2,13 @@
 use Rattle.std.proofs.Common.{◌≡◌, ◌≢◌, inl, inr, ◌<◌, ◌+◌, ℕ, List, [], ◌∷◌}
 use Rattle.std.proofs.Common.{◌++◌, map, length, get_or, set, Option, Some, None, Ok, Err}
 use Rattle.std.proofs.Common.{refl, sym, ap, subst, ◌∙◌, append_assoc, length-append, zero, suc, arith}
-use Rattle.std.specs.Prelude.{IfSome}
 use Rattle.std.specs.Option.{option_map, option_or}
 use Rattle.std.specs.List.{AllByRecursion}
 use Rattle.det_edges.specs.declared.failure.Stopped.{Stopped}
 use Rattle.det_edges.specs.declared.failure.Stopped.TheVariants.{Refused, Failed}
-use Rattle.det_edges.specs.Prefix.{IsPrefix}
 use Rattle.det_edges.specs.Shelf.{ShelfState, Reads}
-use Rattle.det_edges.proofs.SlotReads.{gave-none, gave-told, reads-kept, kept-same, kept-then}
+use Rattle.det_edges.proofs.SlotReads.{gave-none, reads-kept, kept-same, kept-then}
 use Rattle.record_grammar.specs.declared.item.Item.{Item}
-use Rattle.record_grammar.specs.Record.{items}
-use Rattle.record_reader.specs.declared.reader.RecordReader.{RecordReader}
-use Rattle.record_reader.proofs.Items.{more_items}
 use Rattle.item_reader.specs.declared.reader.ItemReader.{ItemReader}
 use Rattle.item_reader.specs.StandsFor.{StandsFor, slot_of}
 use Rattle.lockstep.specs.declared.row.Row.{Row}
@@ -22,12 +17,12 @@ use Rattle.lockstep.specs.declared.verdict.BadCopy.{BadCopy}
 use Rattle.lockstep.specs.declared.difference.Difference.{Difference}
 use Rattle.lockstep.specs.declared.verdict.Verdict.{Verdict}
 use Rattle.lockstep.specs.declared.verdict.Verdict.TheVariants.{Differ}
-use Rattle.lockstep.specs.Rows.{row_at, RowShown, ShowsRow}
+use Rattle.lockstep.specs.Rows.{row_at}
 use Rattle.lockstep.specs.Verdict.{row_difference, first_bad, first_other}
 use Rattle.lockstep.specs.Compared.{AreDifferent, AreLeft, ReadsAmong}
 use Rattle.lockstep.specs.ItemRows.{ReaderBehind, ReadersBehind, ReaderAtRow, ReadersAtRows}
-use Rattle.lockstep.specs.Copies.{IsBehind, HasRow, row_of, CopyStopped, CopyHeld, FindsBad, OthersRead}
-use Rattle.lockstep.proofs.ItemRows.{gave-on, behind-on, row-on, row-shows, same-slot}
+use Rattle.lockstep.specs.Copies.{row_of, CopyStopped, CopyHeld, FindsBad, OthersRead}
+use Rattle.lockstep.proofs.ItemRows.{behind-on, row-on, row-shows, same-slot}
 
 -- ---- slots that are read
 
@@ -312,27 +307,3 @@ others-done index found row first now given slots readers h e =
 pub others-new : (row : Row) (first now : ShelfState) (given : List Item) (slots : List ℕ) (readers : List ItemReader)
     → ReadersBehind first now given slots readers → HaveOthers 0 None row first now given slots readers
 others-new row first now given slots readers h = record { more = []; count = refl; have = h; sound = refl; is = refl }
-
--- ---- readers of records
-
-pub row-later : {first mid now : ShelfState} {given : List Item} {slot : ℕ} {reader : RecordReader} {row : Row}
-    → HasRow first mid given slot reader row → now.left slot ≡ mid.left slot → HasRow first now given slot reader row
-row-later {given = given} {reader = reader} {row = row} h same = record {
-  read = h.read;
-  at = h.at;
-  gave = gave-on h.gave same;
-  shown = subst (λ (left : Option (List ℕ)). RowShown row reader (IfSome left (λ rest. rest ≡ [])) h.read given) (sym same) h.shown;
-}
-
-pub behind-told : {first now : ShelfState} {given : List Item} {slot : ℕ} {reader : RecordReader} (copy : List ℕ)
-    → IsBehind first now given slot reader → first.left slot ≡ Some copy → IsPrefix given (items copy)
-behind-told {given = given} {reader = reader} copy h told =
-    let all = gave-told copy h.gave told in
-    let more = more_items reader h.read given h.stands all.0 in (more.0, sym more.1 ∙ ap items all.2)
-
-pub row-told : {first now : ShelfState} {given : List Item} {slot : ℕ} {reader : RecordReader} {row : Row} (copy : List ℕ)
-    → HasRow first now given slot reader row → first.left slot ≡ Some copy → ShowsRow given row copy
-row-told {now = now} {given = given} {slot = slot} {row = row} copy h told =
-    let all = gave-told copy h.gave told in
-    subst (ShowsRow given row) all.2
-    (h.shown.shows all.0 (λ end. subst (λ (left : Option (List ℕ)). IfSome left (λ rest. rest ≡ [])) all.1 end))

@@ -1,15 +1,13 @@
 -- Readers of copies that are read side by side.
 use Rattle.std.specs.Prelude.{◌≡◌, ◌≢◌, ℕ, ◌<◌, ◌+◌, ◌-◌, List, [], ◌∷◌, ◌++◌, length, map, Option}
 use Rattle.std.specs.Prelude.{Some, None, Result, Ok, Err}
-use Rattle.det_edges.specs.Shelf.{ShelfState, Gave, IsAtEnd}
+use Rattle.det_edges.specs.Shelf.{ShelfState}
 use Rattle.det_edges.specs.declared.failure.Failure.TheVariants.{Write}
 use Rattle.det_edges.specs.declared.failure.Stopped.{Stopped}
 use Rattle.det_edges.specs.declared.failure.Stopped.TheVariants.{Refused, Failed}
 use Rattle.record_grammar.specs.declared.fault.Reason.TheVariants.{Truncated}
 use Rattle.record_grammar.specs.declared.fault.RecordFault.{RecordFault}
 use Rattle.record_grammar.specs.declared.item.Item.{Item}
-use Rattle.record_reader.specs.declared.reader.RecordReader.{RecordReader}
-use Rattle.record_reader.specs.StandsFor.{StandsFor, slot_of as record_slot}
 use Rattle.record_reader.specs.Salvaged.{cycles_of}
 use Rattle.record_view.specs.declared.view.ItemView.{ItemView}
 use Rattle.record_view.specs.declared.view.ItemKind.{ItemKind}
@@ -26,28 +24,10 @@ use Rattle.lockstep.specs.declared.verdict.BadCopy.{BadCopy}
 use Rattle.lockstep.specs.declared.verdict.Verdict.{Verdict}
 use Rattle.lockstep.specs.declared.verdict.Verdict.TheVariants.{Agree}
 use Rattle.lockstep.specs.declared.copies.Copies.{Copies}
-use Rattle.lockstep.specs.Rows.{row_at, RowShown}
+use Rattle.lockstep.specs.Rows.{row_at}
 use Rattle.lockstep.specs.ItemRows.{ReadersBehind, ReaderAtRow, ReadersAtRows, IsHeldAs}
 use Rattle.lockstep.specs.Verdict.{row_difference, first_bad, first_other}
 use Rattle.lockstep.specs.Compared.{AreLeft, CopyEnds, Compared}
-
--- ---- readers
-
--- a reader gave these items of what its slot had at first
-pub record IsBehind (first now : ShelfState) (given : List Item) (slot : ℕ) (reader : RecordReader)
-    : Type 0 where
-  pub read : List ℕ
-  pub at : record_slot reader ≡ slot
-  pub gave : Gave first now slot read
-  pub stands : StandsFor reader read given
-
--- a reader gave these items, and then this row
-pub record HasRow (first now : ShelfState) (given : List Item) (slot : ℕ) (reader : RecordReader)
-    (row : Row) : Type 0 where
-  pub read : List ℕ
-  pub at : record_slot reader ≡ slot
-  pub gave : Gave first now slot read
-  pub shown : RowShown row reader (IsAtEnd now slot) read given
 
 -- ---- one row
 

@@ -16,5 +16,5 @@ pub use comparing::compare;
 pub use copies::runs_of;
 pub use difference::Difference;
 pub use frames::first_difference;
-pub use row::{Row, next_row};
+pub use row::Row;
 pub use verdict::{BadCopy, Verdict};

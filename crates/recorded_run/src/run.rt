@@ -26,7 +26,7 @@ pub struct RecordedRun {
     pub reader: RecordReader,
 }
 
-/// Opens the name of a record and reads its header, with at most one piece of 4,096 bytes behind
+/// Opens the name of a record and reads its header, with at most one piece of 65,536 bytes behind
 /// it. `Failed` tells `Read` where the shelf fails to open or to read.
 pub fn read_run<S: Shelf>(
     alloc: Global,
