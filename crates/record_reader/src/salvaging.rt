@@ -15,8 +15,8 @@ use record_codec::RecordFault;
 use std::alloc::Global;
 
 /// Writes the record that a reader reads, made whole up to its last whole frame. Nothing is written
-/// before Init was read, and at most one frame is held. `Refused` tells the fault of a record that
-/// has no Init before it.
+/// before Init was read, and at most one frame is held, beside its bytes in the reader. `Refused`
+/// tells the fault of a record that has no Init before it.
 pub fn salvage_run<S: Slots, K: Sink>(
     alloc: Global,
     reader: &mut RecordReader,
