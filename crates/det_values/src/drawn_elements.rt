@@ -79,6 +79,14 @@ impl DrawnElements {
         }
     }
 
+    /// Removes all elements, and keeps the memory that they took.
+    pub fn clear(&mut self)
+        ensures { self.new ≡ [] }
+    {
+        self.bytes.clear();
+        self.count = 0;
+    }
+
     /// Adds so many elements that are spelled already, one behind another, by one copy. A refused
     /// call changes nothing.
     pub fn extend_spelled(&mut self, spelled: &[u8], count: u32) -> Result<(), OutOfMemory>

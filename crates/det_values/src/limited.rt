@@ -91,6 +91,15 @@ impl<T, const MOST: usize> Limited<T, MOST> {
         }
     }
 
+    /// Removes all items, and keeps the memory that they took.
+    pub fn clear(&mut self)
+    where
+        T: Drop,
+        ensures { self.new ≡ [] }
+    {
+        self.items.clear();
+    }
+
     /// The number of items.
     pub fn len(&self) -> usize
         ensures len { result ≡ length self.now }
