@@ -17,13 +17,17 @@ sys.path.append(str(Path(__file__).resolve().parent.parent / "tools"))
 
 from edge_trial import Setting, Trial  # noqa: E402
 from item_lines import item_lines  # noqa: E402
+from mutations import in_first_format  # noqa: E402
 from record_bytes import counted, of_words  # noqa: E402
 
 from det_record import BadRecord, Item, RecordReader, Run, Terminate  # noqa: E402
 
-# Records of several pieces of 65,536 bytes, of rows that are shorter than a piece, and longer.
+# Records of several pieces of 65,536 bytes, of rows that are shorter than a piece, in both formats,
+# and longer.
+SHORT = counted(2_500)
 RECORDS = {
-    "short": counted(4_000),
+    "short": SHORT,
+    "old": in_first_format(SHORT),
     "long": of_words([[1_000_000 * cycle + word for word in range(6_000)] for cycle in range(6)]),
 }
 # Commands over a record X, over Y, which differs from it in a byte near its middle, and over Z, which
