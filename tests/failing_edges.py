@@ -11,10 +11,10 @@ there on; of `det_lane` also one of posix_spawn, pipe2 or of those that wait, an
 copy. A failed open or read has to end the run with status 6 and `read fault`, a failed write with 7
 and `write fault`; in `det_lane` the first, and what children need, with 10 and `spawn fault`, and a
 failed copy with 9 and its status. What was written has to be the first bytes of what is written
-otherwise; and where a read of a record or a stimulus failed, all that stood whole before it. Of
-`vote`, `salvage` and `show` that is also tried with each read of long records, where
-tools/det_record.py says what is whole. A call that was interrupted has to be tried again, and reads
-and writes of few bytes may change nothing.
+otherwise; and where a read of a record or a stimulus failed, all that stood whole before it. That
+is also tried with each read of long records, of which tools/det_record.py says what is whole; and
+after a row that decides no more may be read. A call that was interrupted has to be tried again, and
+reads and writes of few bytes may change nothing.
 Without the library the same is tried with files that aren't there or have no end, with folders,
 and with outputs that are full, closed, limited, or read by nobody, and with few files. Prints a
 line for each command, and each run that ended in another way; ends with 1 where there is one. The

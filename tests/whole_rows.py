@@ -15,6 +15,7 @@ from typing import Iterator
 
 sys.path.append(str(Path(__file__).resolve().parent.parent / "tools"))
 
+from chained import Client, stimulus  # noqa: E402
 from edge_trial import Setting, Trial  # noqa: E402
 from item_lines import item_lines  # noqa: E402
 from mutations import in_first_format  # noqa: E402
@@ -22,23 +23,26 @@ from record_bytes import counted, of_words  # noqa: E402
 
 from det_record import BadRecord, Item, RecordReader, Run, Terminate  # noqa: E402
 
-# Records of several pieces of 65,536 bytes, of rows that are shorter than a piece, in both formats,
-# and longer.
-SHORT = counted(2_500)
-RECORDS = {
+# Records of several pieces of 65,536 bytes: of rows that are shorter than a piece, in both formats,
+# of longer ones, and of a run of a shipped job.
+SHORT, GENUINE = counted(2_500), "genuine"
+SPELLED = {
     "short": SHORT,
     "old": in_first_format(SHORT),
     "long": of_words([[1_000_000 * cycle + word for word in range(6_000)] for cycle in range(6)]),
 }
-# Commands over a record X, over Y, which differs from it in a byte near its middle, and over Z, which
-# breaks off there.
-COMMANDS = (
+BANK, BANK_CYCLES = Client("bank", [1_000, 2], 1), 40
+# Commands over a record X, over Y, which differs from it in a byte near its middle, and over Z,
+# which breaks off there: those that ask for no job, and those that run it again.
+READING = (
     "det vote X X X",
     "det vote Y X X",
     "det vote X Y X",
     "det vote X X Z",
     "det vote X Y X --dissent",
     "det compare X X X",
+    "det compare X Y X",
+    "det compare Z X",
     "det salvage X",
     "det salvage Z",
     "det salvage X --reports",
@@ -47,7 +51,13 @@ COMMANDS = (
     "det show X --cycle 3",
     "det show X --reports",
 )
-# Register, Discover and Init, before which `salvage` writes nothing, and the header.
+RUNNING = ("det replay X", "det upgrade X", "det upgrade Y", "det check X", "det check Y")
+COMMANDS = (*READING, *RUNNING)
+# Commands that stop where the first of their files differs or breaks off.
+STOPPING = ("compare", "check", "upgrade")
+# Commands and options that have nothing written before the end.
+LAST = ("compare", "check", "--reports", "--dissent")
+# The header, Register, Discover and Init, without which `salvage` writes nothing.
 FIRST_ROWS = 4
 
 
@@ -73,11 +83,11 @@ def rows_of(data: bytes) -> list[Row]:
 
 def in_common(one: bytes, other: bytes) -> int:
     """How many rows two records begin with that are the same bytes."""
-    count = 0
+    count, begin = 0, 0
     for row, beside in zip(rows_of(one), rows_of(other)):
-        if one[: row.end] != other[: beside.end]:
+        if one[begin : row.end] != other[begin : beside.end]:
             break
-        count += 1
+        count, begin = count + 1, row.end
     return count
 
 
@@ -91,30 +101,34 @@ def lines_of(rows: list[Row], cycle: int) -> bytes:
     return "".join(f"{line}\n" for line in lines).encode()
 
 
-def salvaged(read: bytes) -> bytes:
-    """What `salvage` has written of some bytes: Terminate waits for the file's end."""
+def whole(read: bytes, least: int, has_end: bool) -> bytes:
+    """The rows that are whole, where there are so many of them; Terminate may wait for the end."""
     rows = rows_of(read)
-    frames = [row for row in rows if not isinstance(row.item, Terminate)]
-    return read[: frames[-1].end] if len(rows) >= FIRST_ROWS else b""
+    kept = [row for row in rows if has_end or not isinstance(row.item, Terminate)]
+    return read[: kept[-1].end] if len(rows) >= least else b""
 
 
 def written(words: list[str], read: bytes) -> bytes:
     """What a command has written of the bytes that were read."""
-    if words[1] == "compare" or words[-1] in ("--reports", "--dissent"):
+    if any(word in LAST for word in words):
         return b""
-    if words[1] == "salvage":
-        return salvaged(read)
     if words[1] == "show":
         return lines_of(rows_of(read), int(words[-1]) if "--cycle" in words else 0)
-    rows = rows_of(read)
-    return read[: rows[-1].end] if rows else b""
+    return whole(read, FIRST_ROWS if words[1] == "salvage" else 1, words[1] == "vote")
+
+
+def genuine_record(trial: Trial) -> bytes:
+    """A record of a run of a shipped job."""
+    manifest, text = trial.folder / "genuine.toml", trial.folder / "genuine.stim"
+    manifest.write_text(BANK.manifest())
+    text.write_text(stimulus(BANK.events, BANK_CYCLES, [0, 900, -40, 17]))
+    return trial.plain(trial.command(f"det record {manifest} {text}"), {}).out
 
 
 class Copies:
     """A command over a record and what was made of it."""
 
-    def __init__(self, trial: Trial, name: str, words: str) -> None:
-        record = RECORDS[name]
+    def __init__(self, trial: Trial, name: str, record: bytes, words: str) -> None:
         # A byte of an output, or of the number of words drawn where there is none: with any value
         # the record is whole.
         middle = rows_of(record)[len(rows_of(record)) // 2].end - 5
@@ -131,14 +145,18 @@ class Copies:
     def reads_of(self, file: int) -> int:
         return self.trial.run(self.command, Setting(file=file))[1]["read"]
 
+    def rows_before_last_read(self, file: int) -> int:
+        """The most rows that may have been read whole of a file of which more is read."""
+        common = [in_common(self.made[letter], self.record) for letter in self.letters]
+        return min(common) if self.words[1] in STOPPING else common[file - 1]
+
     def ends_well(self, setting: Setting) -> bool:
-        """Whether the rows that were read whole are written where a read fails, and where that is
-        of a copy that differs, whether none was read behind the row in which it does."""
-        data = self.made[self.letters[setting.file - 1]]
+        """Whether a run in which a read fails had written the rows that were read whole, and needed
+        that read: behind a row that decides there is none."""
         ended, counts = self.trial.run(self.command, setting)
-        read = data[: counts["bytes"]]
+        read = self.made[self.letters[setting.file - 1]][: counts["bytes"]]
+        is_needed = len(rows_of(read)) <= self.rows_before_last_read(setting.file)
         out = written(self.words, read)
-        is_needed = len(rows_of(read)) <= in_common(data, self.record)
         return is_needed and (ended.status, ended.line(), ended.out) == (6, b"read fault", out)
 
     def trials(self) -> Iterator[tuple[str, bool]]:
@@ -151,6 +169,7 @@ class Copies:
 
 def whole_rows(trial: Trial, words: str) -> Iterator[tuple[str, bool]]:
     """Each read of a command failing in turn, and whether it ended as it has to."""
-    for name in RECORDS:
-        for told, good in Copies(trial, name, words).trials():
-            yield f"{name} rows, {told}", good
+    records = SPELLED if words in READING else {GENUINE: genuine_record(trial)}
+    for name, record in records.items():
+        for told, good in Copies(trial, name, record, words).trials():
+            yield f"{name} record, {told}", good
