@@ -1,20 +1,28 @@
 -- How the printing of a record meets the outcome, by its end.
-use Rattle.std.proofs.Common.{◌≡◌, ◌≢◌, ℕ, List, refl, sym, ap, ◌∙◌, inl, inr}
+use Rattle.std.proofs.Common.{◌≡◌, ◌≢◌, ℕ, List, [], ◌++◌, refl, sym, ap, subst, ◌∙◌, inl, inr}
 use Rattle.std.specs.Prelude.{Option, Some, Result, Ok, Err, IfSome, OnOk}
 use Rattle.det_edges.specs.declared.failure.Failure.TheVariants as failures
 use Rattle.det_edges.specs.declared.failure.Stopped.{Stopped}
 use Rattle.det_edges.specs.declared.failure.Stopped.TheVariants.{Refused, Failed}
 use Rattle.det_edges.specs.Count.{Rose}
+use Rattle.det_edges.specs.Shelf.{ShelfState, Opens, SlotsStay}
+use Rattle.det_edges.specs.Sink.{Grew}
+use Rattle.det_edges.proofs.Growth.{grew-none}
+use Rattle.det_edges.proofs.SlotReads.{reads-told}
 use Rattle.det_edges.specs.Traffic.{ShelfRun, SinkRun, ShelfTraffic, SinkTraffic, failure_in}
 use Rattle.record_grammar.specs.declared.fault.RecordFault.{RecordFault}
+use Rattle.record_grammar.specs.Record.{items as items_in}
+use Rattle.record_reader.proofs.Items.{no-items}
 use Rattle.probes.specs.Reports.{AudienceState}
 use Rattle.record_text.specs.declared.part.ShowPart.{ShowPart}
 use Rattle.record_show.specs.declared.shown.Shown.{Shown}
 use Rattle.record_show.specs.Ended.{Answers, Sees, SawFirst, Ended}
-use Rattle.record_show.proofs.Answering.{answers-part, told-answers, told-sees}
+use Rattle.record_show.specs.Text.{lines_of}
+use Rattle.record_show.proofs.Answering.{answers-part, told-answers, told-sees, no-lines}
 use Rattle.cli_answers.specs.declared.answer.Answer.{Answer}
-use Rattle.cli_answers.specs.declared.answer.Answer.TheVariants.{Done, OutOfMemory}
-use Rattle.cli_answers.specs.Outcome.{Meets}
+use Rattle.cli_answers.specs.declared.answer.Answer.TheVariants.{Done, ReadFault, OutOfMemory}
+use Rattle.cli_answers.specs.BreaksOff.{BreaksOff}
+use Rattle.cli_answers.specs.Outcome.{Meets, told}
 use Rattle.cli_answers.specs.Answers.{by_fault}
 use Rattle.cmd_show.specs.Show.{show_outcome, answer_of}
 
@@ -83,6 +91,48 @@ module _ (result : Result Shown (Stopped RecordFault)) (answer : Answer) (is : a
   saw-left bytes ne t =
       sees-by result part old now bytes out (λ e. ne (is ∙ e))
       (told-at (shelf.first.left slot) bytes (λ b. Sees result part old now b out) (ap shelf.first.left same ∙ t) (told-sees ended))
+
+-- ---- a read failed
+
+-- a slot had these bytes, and `out` took the lines of the items of those of them that were read
+abbrev pub ShownPart : ShowPart → List ℕ → Option (List ℕ) → (before after : List ℕ → Type 0) → Type 0
+ShownPart part bytes left before after = (read : List ℕ) × (rest : List ℕ) × (bytes ≡ read ++ rest) × (left ≡ Some rest)
+    × Grew before after (lines_of part (items_in read))
+
+pub shown-part : (result : Result Shown (Stopped RecordFault)) (answer : Answer) (part : ShowPart) (old now : AudienceState) {read : List ℕ}
+    {shelf : ShelfRun} {slot : ℕ} (here : ℕ) {out : SinkRun} → answer ≡ answer_of result → slot ≡ here
+    → Ended result part old now read shelf slot out → (bytes : List ℕ) → answer ≡ ReadFault → shelf.first.left here ≡ Some bytes
+    → ShownPart part bytes (shelf.last.left here) out.before out.after
+shown-part (Ok shown) answer part old now here is same h bytes e t = absurd cc
+shown-part (Err (Refused f)) answer part old now here is same h bytes e t = absurd cc
+shown-part (Err (Failed failures.Read)) answer part old now {read} {shelf} {slot} here is same h bytes e t =
+    let r = reads-told bytes h.answers.reads (ap shelf.first.left same ∙ t) in
+    (read, r.0, sym r.2, ap shelf.last.left (sym same) ∙ r.1, h.wrote)
+shown-part (Err (Failed failures.Write)) answer part old now here is same h bytes e t = absurd cc
+shown-part (Err (Failed failures.OutOfMemory)) answer part old now here is same h bytes e t = absurd cc
+
+-- the slot is that of a name that was opened
+pub broken-off : (part : ShowPart) {first opened last : ShelfState} {name : List ℕ} {slot : ℕ} {before after : List ℕ → Type 0}
+    → Opens first opened name slot → ShownPart part (told first name) (last.left slot) before after
+    → BreaksOff first last name (λ read. lines_of part (items_in read)) before after
+broken-off part {last = last} opens (read, rest, all, left, grew) = record {
+  read = read;
+  rest = rest;
+  all = all;
+  left = inl (subst (λ (k : ℕ). last.left k ≡ Some rest) opens.number left);
+  grew = grew;
+}
+
+-- the name couldn't be opened
+pub unopened : (part : ShowPart) {first last : ShelfState} (name : List ℕ) (took : List ℕ → Type 0) → SlotsStay first last
+    → BreaksOff first last name (λ read. lines_of part (items_in read)) took took
+unopened part {first} name took stay = record {
+  read = [];
+  rest = told first name;
+  all = refl;
+  left = inr (stay.slots, refl);
+  grew = subst (Grew took took) (sym (ap (lines_of part) no-items ∙ no-lines part)) (grew-none took);
+}
 
 -- where the command is done the printing was
 pub at-done : (result : Result Shown (Stopped RecordFault)) (answer : Answer) {P : Type 0} → answer ≡ answer_of result → OnOk result P

@@ -1,19 +1,23 @@
 //! The command `show`.
-ghost use Rattle.std.specs.Prelude.{◌≡◌, ◌≢◌, ℕ, ◌<◌, List, ◌∷◌, [], true, Some};
+ghost use Rattle.std.specs.Prelude.{◌≡◌, ◌≢◌, ℕ, ◌<◌, List, ◌∷◌, ◌++◌, [], true, Some};
 ghost use Rattle.det_edges.specs.Count.{Rose};
 ghost use Rattle.det_edges.specs.Shelf.{AsksPrefix};
+ghost use Rattle.det_edges.specs.Sink.{Grew};
+ghost use Rattle.record_grammar.specs.Record.{items as items_in};
+ghost use Rattle.cli_answers.specs.BreaksOff.{BreaksOff};
 ghost use Rattle.cli_answers.specs.Ends.{can_end};
 ghost use Rattle.cli_answers.specs.Outcome.{Meets, Tells, told};
 ghost use Rattle.probes.specs.Shows.{seen};
+ghost use Rattle.record_show.specs.Text.{lines_of};
 ghost use Rattle.record_show.specs.Showing.{Kept};
 ghost use Rattle.record_show.specs.Ended.{IsGone, SawFirst};
 ghost use Rattle.cmd_show.specs.Show.{show_outcome, show_work, answer_of};
 
 use cli_answers::Answer;
 use det_edges::{Shelf, Sink, Slots, Stopped};
+use item_reader::ItemReader;
 use probes::{Audience, Probe};
 use record_grammar::RecordFault;
-use record_reader::RecordReader;
 use record_show::{Shown, show_run};
 use record_text::ShowPart;
 use std::alloc::Global;
@@ -45,6 +49,10 @@ fn show_slot<S: Slots, K: Sink>(
         ((S.sees shelf.old).left slot ≡ Some bytes)
         (Rose (S.sees shelf.old).faults (S.sees shelf.new).faults)
         (Rose (K.faults out.old) (K.faults out.new)) (K.took out.old) (K.took out.new) result }
+    ensures broken { (bytes : List ℕ) → result ≡ Answer.ReadFault
+        → (S.sees shelf.old).left slot ≡ Some bytes → (read : List ℕ) × (rest : List ℕ)
+        × (bytes ≡ read ++ rest) × ((S.sees shelf.new).left slot ≡ Some rest)
+        × Grew (K.took out.old) (K.took out.new) (lines_of part (items_in read)) }
     ensures ends { can_end show_work result ≡ true }
     ensures asked { (S.sees shelf.new).asked ≡ (S.sees shelf.old).asked }
     ensures saw { (bytes : List ℕ) → result ≢ Answer.OutOfMemory
@@ -57,7 +65,7 @@ fn show_slot<S: Slots, K: Sink>(
     ensures kept { Kept part (seen (λ b. life (b.vtable, b.value)) audience.old)
         (seen (λ b. life (b.vtable, b.value)) audience.new) }
 {
-    let mut reader = RecordReader::at(alloc, slot);
+    let mut reader = ItemReader::new(alloc, slot);
     let shown = show_run(alloc, part, &mut reader, shelf, out, audience);
     answer_of(shown)
 }
@@ -77,6 +85,10 @@ pub fn show<S: Shelf, K: Sink>(
         (told (S.sees shelf.old) recorded.now)) (Tells (S.sees shelf.old) (recorded.now ∷ []))
         (Rose (S.sees shelf.old).faults (S.sees shelf.new).faults)
         (Rose (K.faults out.old) (K.faults out.new)) (K.took out.old) (K.took out.new) result }
+    // Where a read fails, the lines of all items that were read are written.
+    ensures broken { result ≡ Answer.ReadFault → Tells (S.sees shelf.old) (recorded.now ∷ [])
+        → BreaksOff (S.sees shelf.old) (S.sees shelf.new) recorded.now
+        (λ read. lines_of part (items_in read)) (K.took out.old) (K.took out.new) }
     ensures ends { can_end show_work result ≡ true }
     ensures asked { AsksPrefix (S.sees shelf.old) (S.sees shelf.new) (recorded.now ∷ []) }
     // At every answer but want of memory the audience has seen first runs whose lines `out` took.

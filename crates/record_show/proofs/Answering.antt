@@ -350,5 +350,9 @@ pub saw-unread : (part : ShowPart) (audience : AudienceState) (bytes : List ℕ)
     → SawFirst part audience audience bytes out.before out.after
 saw-unread part audience bytes out grew = saw-none part audience audience bytes out [] refl grew
 
+-- nothing has no lines
+pub no-lines : (part : ShowPart) → lines_of part [] ≡ []
+no-lines part = none-yet part
+
 pub kept-unread : (part : ShowPart) (audience : AudienceState) → Kept part audience audience
 kept-unread part audience = kept-same part audience

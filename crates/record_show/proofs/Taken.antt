@@ -177,8 +177,3 @@ module _ (part : ShowPart) (first mid : AudienceState) (given : List Item) (item
     wrote = (more, prefix-same more, subst (λ (bytes : List ℕ). Wrote {E = RecordFault} (Ok u) [] bytes out) more_is wrote);
     after = tt;
   }
-
--- an item whose lines are printed
-pub printed-all : (part : ShowPart) (format : Format) (number : ℕ) (item : Item) (b : Bool) → b ≡ is_printed part number item → b ≡ true
-    → lines_at format number item ≡ printed_of part format number item
-printed-all part format number item b is printed = sym (ap (λ (x : Bool). cond x (lines_at format number item) []) (sym is ∙ printed))

@@ -10,8 +10,8 @@ use std::marker::Model;
 /// How many bytes a line may have: an element's has at most 159.
 const ROOM: usize = 160;
 
-/// A line that grows at its front. So a number is written where it stays, before its length is
-/// known, and the text that follows a line has no part in it.
+/// A line that grows at its front. Digits are written from the last one on, so a number is written
+/// where it stays, and its length needs no count.
 #[derive(Drop)]
 pub struct Line {
     bytes: [u8; ROOM],

@@ -7,11 +7,15 @@ use Rattle.cli_answers.specs.Outcome.{told}
 use Rattle.cli_answers.proofs.Meeting.{meets-unopened, meets-under}
 use Rattle.cli_answers.proofs.Telling.{held}
 use Rattle.record_show.proofs.Answering.{saw-unread, kept-unread}
+use Rattle.cmd_show.proofs.Meeting.{broken-off, unopened}
 use Rattle.cmd_show.proofs.showing.show.Goals as goal
 
 pub returns-in-Err-clause-meets : goal.returns-in-Err-clause-meets
 returns-in-Err-clause-meets g c =
     rw c.from.ensures (meets-unopened _ _ _ _ _ _ c.in-Err.ensures.cause c.in-Err.ensures.writes_nothing)
+
+pub returns-in-Err-clause-broken : goal.returns-in-Err-clause-broken
+returns-in-Err-clause-broken g c e t = unopened c.args.part c.args.recorded.now (g.K.Sink.took c.args.out.now) c.in-Err.ensures.slots
 
 pub returns-in-Err-clause-asked : goal.returns-in-Err-clause-asked
 returns-in-Err-clause-asked g c = asks-all _ _ _ c.in-Err.ensures.asked
@@ -31,6 +35,14 @@ returns-clause-meets g c =
     let text = told first name in
     meets-under _ _ _ _ _ _ _ _ _ _ (λ t. opens-left text c.in-Ok.ensures.opens (held (first.holds name) (t 0 name (omega arith))))
     (λ r. rose-before _ _ _ c.in-Ok.ensures.counted r) (λ o. o) (c.show_slot.ensures.meets text)
+
+pub returns-clause-broken : goal.returns-clause-broken
+returns-clause-broken g c e t =
+    let first = g.S.Slots.sees c.args.shelf.now in
+    let name = c.args.recorded.now in
+    let text = told first name in
+    broken-off c.args.part c.in-Ok.ensures.opens (c.show_slot.ensures.broken text e
+    (opens-left text c.in-Ok.ensures.opens (held (first.holds name) (t 0 name (omega arith)))))
 
 pub returns-clause-saw : goal.returns-clause-saw
 returns-clause-saw g c ne t =

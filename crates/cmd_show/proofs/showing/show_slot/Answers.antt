@@ -1,7 +1,7 @@
 use Rattle.det_edges.specs.Traffic.{shelf_run, sink_run}
 use Rattle.probes.specs.Shows.{seen}
-use Rattle.record_reader.specs.StandsFor.{slot_of}
-use Rattle.cmd_show.proofs.Meeting.{meets-left, saw-left, at-done}
+use Rattle.item_reader.specs.StandsFor.{slot_of}
+use Rattle.cmd_show.proofs.Meeting.{meets-left, saw-left, shown-part, at-done}
 use Rattle.cmd_show.proofs.showing.show_slot.Goals as goal
 
 pub returns-clause-meets : goal.returns-clause-meets
@@ -10,8 +10,8 @@ returns-clause-meets g c bytes =
     let old = seen (λ b. (goal.Probe-dyn g (b.vtable, b.value)).life b.value) c.args.audience.now in
     let now = seen (λ b. (goal.Probe-dyn g (b.vtable, b.value)).life b.value) s.new.audience in
     meets-left s.result c.answer_of.result c.answer_of.ensures.is c.args.part old now s.ensures.run.0
-    (shelf_run g.S.Slots.sees g.S.Slots.stays c.args.shelf.now s.new.shelf) (slot_of c.at-reader.result) c.args.slot
-    (sink_run g.K.Sink.took g.K.Sink.faults c.args.out.now s.new.sink) c.at-reader.ensures.slot s.ensures.run.1 bytes
+    (shelf_run g.S.Slots.sees g.S.Slots.stays c.args.shelf.now s.new.shelf) (slot_of c.new-reader.result) c.args.slot
+    (sink_run g.K.Sink.took g.K.Sink.faults c.args.out.now s.new.sink) c.new-reader.ensures.slot s.ensures.run.1 bytes
     s.ensures.shelf_traffic s.ensures.sink_traffic
 
 pub returns-clause-saw : goal.returns-clause-saw
@@ -20,8 +20,14 @@ returns-clause-saw g c bytes ne t =
     let old = seen (λ b. (goal.Probe-dyn g (b.vtable, b.value)).life b.value) c.args.audience.now in
     let now = seen (λ b. (goal.Probe-dyn g (b.vtable, b.value)).life b.value) s.new.audience in
     saw-left s.result c.answer_of.result c.answer_of.ensures.is c.args.part old now s.ensures.run.0
-    (shelf_run g.S.Slots.sees g.S.Slots.stays c.args.shelf.now s.new.shelf) (slot_of c.at-reader.result) c.args.slot
-    (sink_run g.K.Sink.took g.K.Sink.faults c.args.out.now s.new.sink) c.at-reader.ensures.slot s.ensures.run.1 bytes ne t
+    (shelf_run g.S.Slots.sees g.S.Slots.stays c.args.shelf.now s.new.shelf) (slot_of c.new-reader.result) c.args.slot
+    (sink_run g.K.Sink.took g.K.Sink.faults c.args.out.now s.new.sink) c.new-reader.ensures.slot s.ensures.run.1 bytes ne t
+
+pub returns-clause-broken : goal.returns-clause-broken
+returns-clause-broken g c bytes e t =
+    let s = c.show_run-shown in
+    shown-part s.result c.answer_of.result c.args.part _ _ c.args.slot c.answer_of.ensures.is c.new-reader.ensures.slot s.ensures.run.1 bytes
+    e t
 
 pub returns-clause-asked : goal.returns-clause-asked
 returns-clause-asked g c = c.show_run-shown.ensures.run.1.answers.reads.asked

@@ -1,6 +1,6 @@
 use Rattle.std.proofs.Common.{arith}
 use Rattle.record_text.specs.Records.{drawn_line}
-use Rattle.record_text.proofs.Numbering.{HasNumbered-begin, HasNumbered-next, HasNumbered-ends, HasNumbered-done}
+use Rattle.record_text.proofs.Numbering.{HasNumbered-next, HasNumbered-ends, HasNumbered-done}
 use Rattle.record_text.proofs.frame_lines.put_drawn_lines.Goals as goal
 
 pub elements-preserved : goal.elements-preserved

@@ -1,4 +1,4 @@
-use Rattle.std.proofs.Common.{◌≤◌, ◌≡◌, ℕ, length, decimal, ◌++◌, ap, ◌∙◌, arith, length-append, length-drop}
+use Rattle.std.proofs.Common.{◌≤◌, ℕ, length, decimal, ap, arith, length-append, length-drop}
 use Rattle.std.proofs.lemmas.Fmt.{length-decimal-le}
 use Rattle.record_text.proofs.line.Line.prepend_number.Goals as goal
 
