@@ -2,6 +2,7 @@ pub mod Reading
 pub mod Spellable
 pub mod Items
 pub mod Taking
+pub mod Views
 pub mod Pieces
 pub mod Kept
 pub mod Ending

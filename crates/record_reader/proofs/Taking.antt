@@ -24,7 +24,7 @@ use Rattle.record_reader.proofs.Items.{are_first, more_items}
 
 -- ---- what a slot can have had
 
-at_none : (P : List ℕ → Type 0) (read rest : List ℕ) → rest ≡ [] → P read → P (read ++ rest)
+pub at_none : (P : List ℕ → Type 0) (read rest : List ℕ) → rest ≡ [] → P read → P (read ++ rest)
 at_none P read rest none h = subst P (sym (ap (λ (xs : List ℕ). read ++ xs) none ∙ append-nil read)) h
 
 -- a fact that follows from another of each list of bytes
@@ -114,7 +114,7 @@ behind one last faults = record { before = one.after; after = last; faults_befor
 abbrev pub over : SinkRun → (List ℕ → Type 0) → ℕ → SinkRun
 over one last faults = record { before = one.before; after = last; faults_before = one.faults_before; faults_after = faults }
 
-all-before : {f : RecordFault} {at_end : Type 0} {read : List ℕ} {given : List Item} → FoundFault f at_end read given → (rest : List ℕ)
+pub all-before : {f : RecordFault} {at_end : Type 0} {read : List ℕ} {given : List Item} → FoundFault f at_end read given → (rest : List ℕ)
     → (at_end → rest ≡ []) → AreAll given (Some f) (read ++ rest)
 all-before {f} {at_end} {read} {given} found rest end = by found.found
   where
@@ -287,7 +287,7 @@ taker-stopped {E} {first = first} {now = now} {slot = slot} {before = before} {a
 
 -- ---- traffic
 
-quiet-sink : {out : SinkRun} {failure : Option Failure} → (failure ≡ Some Write → ⊥) → SinkTraffic out None → SinkTraffic out failure
+pub quiet-sink : {out : SinkRun} {failure : Option Failure} → (failure ≡ Some Write → ⊥) → SinkTraffic out None → SinkTraffic out failure
 quiet-sink other h = record { cause = λ e. absurd (other e); counted = h.counted }
 
 quiet-shelf : {shelf : ShelfRun} {failure : Option Failure} → (failure ≡ Some Read → ⊥) → ShelfTraffic shelf None

@@ -2,5 +2,6 @@ pub mod Digested
 pub mod StandsFor
 pub mod Taking
 pub mod Salvaged
+pub mod Kinds
 pub mod Keeping
 pub mod Salvages

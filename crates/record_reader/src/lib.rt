@@ -8,7 +8,7 @@ mod reader;
 mod salvage;
 mod salvaging;
 
-pub use counting::runs_in;
+pub use counting::{begins_runs, runs_of};
 pub use digest_sink::DigestSink;
 pub use reader::RecordReader;
 pub use salvage::Salvaged;
