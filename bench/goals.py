@@ -6,7 +6,7 @@ from typing import Optional
 
 from inputs import RECORDED, SIM_NUMBER
 from running import Result
-from suites import BY_CLIENT, CYCLES_DIVISOR, IN_PLAIN, WORKERS
+from suites import BY_CLIENT, CYCLES_DIVISOR, GREATEST, IN_PLAIN, KEPT, MOST_COPIES, WORKERS
 
 ABSENT = "not in this program"
 
@@ -16,12 +16,13 @@ Key = tuple[str, Optional[int]]
 
 @dataclass(frozen=True)
 class Goal:
-    """A bound on what one line found by what another one found."""
+    """A bound on what one line found by what another one found, which is taken so many times."""
 
     what: str
     of: Key
     beside: Key
     bound: float
+    times: int = 1
     is_memory: bool = False
     is_least: bool = False
     processors: int = 1
@@ -30,12 +31,14 @@ class Goal:
         """The ratio of both, or None where the program hasn't got one of them."""
         if of.trial is None or beside.trial is None or of.seconds is None or beside.seconds is None:
             return None
-        return of.trial.memory / beside.trial.memory if self.is_memory else of.seconds / beside.seconds
+        if self.is_memory:
+            return of.trial.memory / beside.trial.memory
+        return of.seconds / beside.seconds / self.times
 
     def by_medians(self, of: Result, beside: Result) -> str:
         """The ratio of the medians of both, which a goal doesn't go by."""
         has_both = of.median is not None and beside.median is not None
-        return f"{of.median / beside.median:.3f}" if has_both and not self.is_memory else ""
+        return f"{of.median / beside.median / self.times:.3f}" if has_both and not self.is_memory else ""
 
     def verdict(self, figure: Optional[float], processors: int) -> str:
         if figure is None:
@@ -50,6 +53,22 @@ class Goal:
         told = "" if figure is None else f"{figure:.3f}"
         bound = f"at {'least' if self.is_least else 'most'} {self.bound}"
         return [self.what, told, bound, self.verdict(figure, processors), self.by_medians(of, beside)]
+
+
+@dataclass(frozen=True)
+class MemoryGoal:
+    """The most memory that a line may take, in MB, whatever any other one takes."""
+
+    what: str
+    of: Key
+    bound: float
+
+    def cells(self, of: Result) -> list[str]:
+        if of.trial is None:
+            return [self.what, "", f"at most {self.bound}", ABSENT, ""]
+        megabytes = of.trial.memory / 1e6
+        verdict = "holds" if megabytes <= self.bound else "missed"
+        return [self.what, f"{megabytes:.1f}", f"at most {self.bound}", verdict, ""]
 
 
 def workers_goals(what: str) -> list[Goal]:
@@ -78,20 +97,27 @@ def record_goals(name: str) -> list[Goal]:
         Goal(f"{what}: time, of the same interfaces in plain Rust", one, (what + BY_CLIENT, 1), 1.0),
         *workers_goals(what),
         *again,
-        Goal(f"{show}: time, of plain Rust", (show, None), (show + IN_PLAIN, None), 1.0),
+        Goal(f"{show}: time, of plain Rust", (show, None), (show + IN_PLAIN, None), 0.8),
     ]
 
 
 def copies_goals() -> list[Goal]:
+    cmp = ("cmp", None)
     return [
-        Goal("compare 2: time, of cmp", ("compare 2", None), ("cmp", None), 1.2),
-        Goal("compare 8: time, of cmp of two of them", ("compare 8", None), ("cmp", None), 7.0),
-        Goal("vote 3: time, of cmp of two of them", ("vote 3", None), ("cmp", None), 2.0),
+        Goal("compare 2: time, of cmp", ("compare 2", None), cmp, 1.2),
+        Goal("compare 8: time, of seven cmp", ("compare 8", None), cmp, 1.0, times=MOST_COPIES - 1),
+        Goal("vote 3: time, of two cmp and a cp", (f"vote 3{KEPT}", None), ("two cmp and a cp", None), 1.5),
+        Goal("salvage: time, of cp", (f"salvage{KEPT}", None), ("cp", None), 1.2),
         *(
             Goal(f"{what}: time, of plain Rust", (what, None), (what + IN_PLAIN, None), 1.5)
             for what in ("salvage", "upgrade")
         ),
     ]
+
+
+def memory_goals() -> list[MemoryGoal]:
+    what = f"compare {MOST_COPIES}{GREATEST}"
+    return [MemoryGoal(f"{what}: memory in MB", (what, None), 12.0)]
 
 
 def all_goals() -> list[Goal]:
@@ -113,11 +139,12 @@ def all_goals() -> list[Goal]:
 
 
 def judged(results: list[Result]) -> list[list[str]]:
-    """The cells of each goal of which both lines were asked for."""
+    """The cells of each goal whose lines were asked for."""
     found = {(result.command.what, result.command.workers): result for result in results}
     processors = len(os.sched_getaffinity(0))
-    return [
+    ratios = [
         goal.cells(found[goal.of], found[goal.beside], processors)
         for goal in all_goals()
         if goal.of in found and goal.beside in found
     ]
+    return ratios + [goal.cells(found[goal.of]) for goal in memory_goals() if goal.of in found]

@@ -1,5 +1,6 @@
 """The inputs: manifests and stimuli, as values."""
 
+import struct
 from dataclasses import dataclass
 from pathlib import Path
 from typing import Callable, Iterator
@@ -7,6 +8,11 @@ from typing import Callable, Iterator
 SIM_NUMBER = 7
 CYCLE_TIME = 10_000_000
 WORD = (1 << 64) - 1
+# The most that a frame may have of each.
+MOST_SAMPLES = 4_096
+MOST_ELEMENTS = 65_536
+MOST_ELEMENT_BYTES = 64
+MOST_OUTPUT = 1_048_576
 
 
 @dataclass(frozen=True)
@@ -111,5 +117,27 @@ def behind(is_quick: bool) -> Recording:
     return Recording("behind", "bank", [1_000 if is_quick else 10_000, 2], ["a", "b", "c", "d"], ["stim 1"], seed=SIM_NUMBER)
 
 
+def greatest_frame(time: int) -> bytes:
+    """A Run frame in format 2 with as much as one may hold: 4,096 samples, 65,536 elements of 64 bytes, and 1,048,576
+    bytes of output. It has 5,677,079 bytes."""
+    samples = struct.pack(">Hq", 0, time) * MOST_SAMPLES
+    element = struct.pack(">H", MOST_ELEMENT_BYTES) + bytes([time % 256]) * MOST_ELEMENT_BYTES + bytes(4)
+    start = struct.pack(">BBQI", 4, 1, time, MOST_SAMPLES) + samples + struct.pack(">BI", 0, MOST_ELEMENTS)
+    return start + element * MOST_ELEMENTS + struct.pack(">I", MOST_OUTPUT) + bytes(MOST_OUTPUT)
+
+
+def write_greatest(record: Path, runs: int) -> None:
+    """Writes a record of an unknown job with so many of the greatest frames. No shipped job has elements of 64 bytes,
+    and commands that only read records ask for no job."""
+    event = struct.pack(">HB", 1, 1) + b"x" + bytes(1)
+    header = b"DETREC" + struct.pack(">HHQQHH", 2, 999, 0, CYCLE_TIME, 0, 1) + event
+    element = struct.pack(">H", MOST_ELEMENT_BYTES) + bytes(MOST_ELEMENT_BYTES)
+    with record.open("wb") as file:
+        file.write(header + b"\1\2\3" + struct.pack(">I", MOST_ELEMENTS) + element * MOST_ELEMENTS)
+        for run in range(runs):
+            file.write(greatest_frame(run * CYCLE_TIME))
+        file.write(b"\5")
+
+
 RECORDED = {"bank": bank, "cloud": cloud, "large": large, "guard": guard, "cycles": cycles}
-NAMES = (*RECORDED, "copies", "chain", "running", "sim", "heavy")
+NAMES = (*RECORDED, "copies", "greatest", "chain", "running", "sim", "heavy")

@@ -24,7 +24,8 @@ class Command:
     """A command, and the line of the table that it fills.
 
     `gives` names what it writes: commands that give the same have to write the same bytes. `records` says how many
-    records it reads or writes, of those that a group of commands is about.
+    records it reads or writes, of those that a group of commands is about. `makes` is a file that it writes itself,
+    which is removed before each run, so that each writes a new file.
     """
 
     what: str
@@ -33,6 +34,12 @@ class Command:
     gives: Optional[str] = None
     records: float = 1
     keep: Optional[Path] = None
+    makes: Optional[Path] = None
+
+    def clear(self) -> None:
+        """Removes what an earlier run made."""
+        if self.makes:
+            self.makes.unlink(missing_ok=True)
 
 
 @dataclass(frozen=True)
@@ -124,13 +131,14 @@ def memory_of(words: list[str], output: Path, errors: Path) -> Optional[int]:
     return usage.ru_maxrss * 1024
 
 
-def wall_time(words: list[str]) -> float:
-    """The wall time of a run whose output goes nowhere."""
+def wall_time(command: Command) -> float:
+    """The wall time of a run whose standard output goes nowhere."""
+    command.clear()
     begun = time.perf_counter()
-    status = subprocess.run(words, stdout=subprocess.DEVNULL).returncode
+    status = subprocess.run(command.words, stdout=subprocess.DEVNULL).returncode
     seconds = time.perf_counter() - begun
     if status != 0:
-        raise failure(words, status)
+        raise failure(command.words, status)
     return seconds
 
 
@@ -140,7 +148,9 @@ def wall_times(commands: list[Command], rounds: int) -> list[list[float]]:
     turns = list(zip(commands, walls))
     for number in range(rounds):
         for command, found in turns if number % 2 == 0 else reversed(turns):
-            found.append(wall_time(command.words))
+            found.append(wall_time(command))
+    for command in commands:
+        command.clear()
     return walls
 
 

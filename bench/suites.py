@@ -9,7 +9,7 @@ from dataclasses import dataclass
 from pathlib import Path
 from typing import Optional
 
-from inputs import RECORDED, SIM_NUMBER, Recording, behind, cloud, cycles
+from inputs import RECORDED, SIM_NUMBER, Recording, behind, cloud, cycles, write_greatest
 from passes import heavy_passes
 from running import Command, Result, Runner, digest_of, digest_of_text, run_into, size, text_of
 
@@ -23,6 +23,9 @@ CYCLES_DIVISOR = 10
 # Endings of the names of lines, for those of the plain programs.
 IN_PLAIN = ", plain Rust"
 BY_CLIENT = ", same interfaces"
+# Of one whose output goes into a new file, and of one that reads the greatest frames.
+KEPT = ", into a file"
+GREATEST = ", greatest frames"
 
 
 @dataclass(frozen=True)
@@ -154,16 +157,41 @@ class Bench:
             return Command(f"compare {count}", words, gives="verdict on copies", records=count)
 
         cmp = [Command("cmp", ["cmp", *map(str, copies[:2])], records=2)] if shutil.which("cmp") else []
-        vote = Command("vote 3", self.det("vote", *copies[:3]), gives="voted record", records=3)
-        return [compare(2), *cmp, vote, compare(MOST_COPIES)]
+        return [compare(2), *cmp, compare(MOST_COPIES), *self.voted(copies[:3])]
+
+    def kept(self, what: str, words: list[str], *before: list[str], records: float = 1) -> Command:
+        """A command whose output goes into a new file, behind others that a shell runs first.
+
+        A shell starts it whatever stands before it, so that what is compared with it has one too.
+        """
+        made = self.room("made")
+        last = shlex.join(words) + (f" {made}" if words[0] == "cp" else f" > {made}")
+        script = " && ".join([*map(shlex.join, before), f"exec {last}"])
+        return Command(what, ["sh", "-c", script], records=records, makes=made)
+
+    def voted(self, copies: list[Path]) -> list[Command]:
+        """Three copies voted into one, and the least that does as much with copies that are equal."""
+        first, second, third = map(str, copies)
+        vote = self.det("vote", *copies)
+        plain = self.kept("two cmp and a cp", ["cp", first], ["cmp", first, second], ["cmp", first, third], records=3)
+        return [
+            Command("vote 3", vote, gives="voted record", records=3),
+            self.kept(f"vote 3{KEPT}", vote, records=3),
+            *([plain] if shutil.which("cmp") else []),
+        ]
 
     def salvaged(self, record: Path, cycles: int) -> list[Command]:
-        """A record that breaks off in the middle of its last cycle, made whole."""
+        """A record that breaks off in the middle of its last cycle, made whole, and copied as it is."""
         cut = self.room("cut")
         shutil.copyfile(record, cut)
         os.truncate(cut, size(record) - size(record) // cycles // 2)
-        salvage = Command("salvage", self.det("salvage", cut), gives="salvaged record")
-        return [salvage, *self.in_plain("salvage", "salvaged record", "salvage", cut)]
+        salvage = self.det("salvage", cut)
+        return [
+            Command("salvage", salvage, gives="salvaged record"),
+            *self.in_plain("salvage", "salvaged record", "salvage", cut),
+            self.kept(f"salvage{KEPT}", salvage),
+            self.kept("cp", ["cp", str(cut)]),
+        ]
 
     def upgraded(self, record: Path) -> list[Command]:
         """A record in format 1, which only a plain program makes, run again in format 2."""
@@ -186,6 +214,25 @@ class Bench:
         agree = digest_of_text(f"agree {recording.cycles()}\n")
         digest = digest_of(paths[0])
         self.judge(results, {"verdict on copies": agree, "voted record": digest, "upgraded record": digest})
+
+    # ---- the greatest frames ----
+
+    def greatest(self) -> None:
+        """Copies of a record of the greatest frames, for the memory. One file is named for each of them."""
+        record = self.room("greatest")
+        runs = 2 if self.is_quick else 4
+        write_greatest(record, runs)
+        verdict = "verdict on the greatest frames"
+        commands = [
+            Command(
+                f"compare {count}{GREATEST}", self.det("compare", *[record] * count), gives=verdict, records=count
+            )
+            for count in (2, MOST_COPIES)
+        ]
+        results = self.runner.measure(commands)
+        self.add_rows(results, size(record))
+        self.judge(results, {verdict: digest_of_text(f"agree {runs}\n")})
+        record.unlink()
 
     # ---- two clients ----
 
@@ -267,6 +314,8 @@ class Bench:
                 self.record(recording(self.is_quick))
         if only in (None, "copies"):
             self.copies()
+        if only in (None, "greatest"):
+            self.greatest()
         if only in (None, "chain"):
             self.chain()
         if only in (None, "running"):

@@ -15,7 +15,8 @@ TOP = Path(__file__).resolve().parent.parent
 # The most seconds that a run may take.
 LIMIT = 60
 LANE = "det_lane"
-CALLS = ("open", "read", "write", "spawn", "pipe", "wait")
+# What the library counts, in its order: calls, and the bytes that were read.
+COUNTED = ("open", "read", "write", "spawn", "pipe", "wait", "bytes")
 
 
 @dataclass(frozen=True)
@@ -26,6 +27,7 @@ class Setting:
     number: int = 0
     error: int = 0
     lasting: bool = False
+    file: int = 0
     read: int = 0
     write: int = 0
     only: str = ""
@@ -36,6 +38,7 @@ class Setting:
             "NUMBER": self.number,
             "ERROR": self.error,
             "LASTING": int(self.lasting),
+            "FILE": self.file,
             "READ": self.read,
             "WRITE": self.write,
             "ONLY": self.only,
@@ -47,6 +50,7 @@ class Setting:
         if self.call:
             parts = [f"{self.call} {self.number} fails with {errno.errorcode[self.error]}"]
         parts += ["and all behind it"] if self.lasting else []
+        parts += [f"of file {self.file}"] if self.file else []
         parts += [f"reads of {self.read}"] if self.read else []
         parts += [f"writes of {self.write}"] if self.write else []
         parts += ["in a copy"] if self.only else []
@@ -121,7 +125,8 @@ class Trial:
         return Ended(done.returncode, done.stdout or b"", done.stderr or b"")
 
     def run(self, words: str, setting: Setting) -> Tuple[Ended, Dict[str, int]]:
-        """How a command ends beneath the library, and how often it made each call."""
+        """How a command ends beneath the library, how often it made each call, and how many bytes
+        it read."""
         counts, counted = os.pipe()
         mark = f"{self.folder.name}-{counted}-{id(setting)}"
         env = dict(setting.names(), LD_PRELOAD=str(self.library), COUNTED=str(counted), MARK=mark)
@@ -133,7 +138,7 @@ class Trial:
             numbers = [] if is_left else [int(count) for count in told.read().split()]
         if is_left:
             ended = replace(ended, err=b"a child is left\n")
-        return ended, dict(zip(CALLS, numbers))
+        return ended, dict(zip(COUNTED, numbers))
 
 
 def begins(ended: Ended, status: int, line: bytes, whole: Ended) -> bool:

@@ -5,11 +5,14 @@
 // NUMBER   which one of these, counted from 1; none where it is 0
 // ERROR    the number of the error
 // LASTING  1 where all such calls behind that one fail too, 0 where they don't
+// FILE     which of the files that were opened the reads are of that count and fail, counted from 1;
+//          those of all files where it is 0
 // READ     the most bytes that a read gives, 0 for no limit
 // WRITE    the most bytes that a write takes, 0 for no limit
 // ONLY     the last word of the process that is meant, which another one starts; empty where it is
 //          the first one
-// COUNTED  a file descriptor, to which the process that is meant writes how often it made each call
+// COUNTED  a file descriptor, to which the process that is meant writes how often it made each call,
+//          and how many bytes the reads gave
 #define _GNU_SOURCE
 #include <dlfcn.h>
 #include <errno.h>
@@ -29,19 +32,22 @@ enum call { OPEN, READ, WRITE, SPAWN, PIPE, WAIT, CALLS };
 
 static const char *const call_names[CALLS] = {"open", "read", "write", "spawn", "pipe", "wait"};
 static atomic_long counts[CALLS];
+static atomic_long bytes_read;
 static atomic_flag is_told = ATOMIC_FLAG_INIT;
 static int is_meant;
 static int failing;
 static long number;
 static int error;
 static int is_lasting;
+static long meant_file;
 static size_t most_read;
 static size_t most_written;
 static int counted;
 
-// The files that are left alone.
+// The files that are left alone, and which of those that were opened each of the others is.
 enum { MOST_FILES = 1024 };
 static atomic_bool is_left[MOST_FILES];
+static atomic_long opened_as[MOST_FILES];
 
 static long value_of(const char *name) {
     const char *text = getenv(name);
@@ -60,6 +66,7 @@ __attribute__((constructor)) static void begin(int count, char **words) {
     number = value_of("NUMBER");
     error = (int)value_of("ERROR");
     is_lasting = (int)value_of("LASTING");
+    meant_file = value_of("FILE");
     most_read = (size_t)value_of("READ");
     most_written = (size_t)value_of("WRITE");
     counted = (int)value_of("COUNTED");
@@ -80,6 +87,7 @@ static void tell(void) {
     for (int at = 0; at < CALLS; at++) {
         length += snprintf(text + length, sizeof text - length, "%ld ", atomic_load(&counts[at]));
     }
+    length += snprintf(text + length, sizeof text - length, "%ld", atomic_load(&bytes_read));
     syscall(SYS_write, counted, text, length);
 }
 
@@ -119,15 +127,32 @@ int open(const char *path, int flags, ...) {
     int file = (int)syscall(SYS_openat, AT_FDCWD, path, flags, mode);
     if (file >= 0 && file < MOST_FILES) {
         atomic_store(&is_left[file], is_of_system(path));
+        atomic_store(&opened_as[file], atomic_load(&counts[OPEN]));
     }
     return file;
 }
 
+// Whether the reads of a file neither count nor fail.
+static bool is_passed_over(int file) {
+    if (file < 0 || file >= MOST_FILES) {
+        return meant_file != 0;
+    }
+    bool is_named = meant_file == 0 || atomic_load(&opened_as[file]) == meant_file;
+    return atomic_load(&is_left[file]) || !is_named;
+}
+
 ssize_t read(int file, void *bytes, size_t length) {
-    if (file >= 0 && file < MOST_FILES && atomic_load(&is_left[file])) {
+    if (is_passed_over(file)) {
         return syscall(SYS_read, file, bytes, length);
     }
-    return is_failing(READ) ? -1 : syscall(SYS_read, file, bytes, limited(length, most_read));
+    if (is_failing(READ)) {
+        return -1;
+    }
+    ssize_t given = syscall(SYS_read, file, bytes, limited(length, most_read));
+    if (given > 0) {
+        atomic_fetch_add(&bytes_read, given);
+    }
+    return given;
 }
 
 ssize_t write(int file, const void *bytes, size_t length) {
@@ -150,6 +175,7 @@ int pipe2(int ends[2], int flags) {
     int done = (int)syscall(SYS_pipe2, ends, flags);
     if (done == 0 && ends[0] < MOST_FILES) {
         atomic_store(&is_left[ends[0]], 0);
+        atomic_store(&opened_as[ends[0]], 0);
     }
     return done;
 }

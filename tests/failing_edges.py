@@ -11,8 +11,10 @@ there on; of `det_lane` also one of posix_spawn, pipe2 or of those that wait, an
 copy. A failed open or read has to end the run with status 6 and `read fault`, a failed write with 7
 and `write fault`; in `det_lane` the first, and what children need, with 10 and `spawn fault`, and a
 failed copy with 9 and its status. What was written has to be the first bytes of what is written
-otherwise; and where a read of a record or a stimulus failed, all that stood whole before it. A call
-that was interrupted has to be tried again, and reads and writes of few bytes may change nothing.
+otherwise; and where a read of a record or a stimulus failed, all that stood whole before it. That
+is also tried with each read of long records, of which tools/det_record.py says what is whole; and
+after a row that decides no more may be read. A call that was interrupted has to be tried again, and
+reads and writes of few bytes may change nothing.
 Without the library the same is tried with files that aren't there or have no end, with folders,
 and with outputs that are full, closed, limited, or read by nobody, and with few files. Prints a
 line for each command, and each run that ended in another way; ends with 1 where there is one. The
@@ -34,6 +36,8 @@ from edge_trial import LANE, Ended, Setting, Trial, begins
 from kept_reads import kept_reads
 from real_edges import real_edges
 from refused_memory import built
+from whole_rows import COMMANDS as ROW_COMMANDS
+from whole_rows import whole_rows
 
 # The most numbers of a call that are tried where --all isn't given.
 MOST_NUMBERS = 40
@@ -140,9 +144,9 @@ def failing(words: str, base: Setting, counts: Dict[str, int], most: int) -> Ite
     """Each call failing in turn with each error, once and from there on; each interrupted once."""
     # What det_lane opens itself is /dev/null, which is never interrupted.
     interrupted = INTERRUPTED[1:] if words.startswith(LANE) and not base.only else INTERRUPTED
-    for call, count in counts.items():
-        for number in numbers_of(count, most):
-            for error in ERRORS[call]:
+    for call, errors in ERRORS.items():
+        for number in numbers_of(counts.get(call, 0), most):
+            for error in errors:
                 for lasting in (False, True):
                     yield replace(base, call=call, number=number, error=error, lasting=lasting)
             if call in interrupted:
@@ -193,11 +197,22 @@ def tried(trial: Trial, words: str, most: int, jobs: int) -> bool:
                 wrong.append(f"{setting.told()}: {how}")
     edges = [*real_edges(trial, words, whole), *kept_reads(trial, words, whole)]
     wrong += [told for told, good in edges if not good]
-    runs = len(all_settings) + len(edges)
-    print(f"{words}: status {whole.status}, {runs} runs, {len(wrong)} ended otherwise", flush=True)
+    tell(f"{words}: status {whole.status}", len(all_settings) + len(edges), wrong)
+    return not wrong
+
+
+def tell(what: str, runs: int, wrong: List[str]) -> None:
+    print(f"{what}, {runs} runs, {len(wrong)} ended otherwise", flush=True)
     for told in wrong[:MOST_TOLD]:
         print(f"  {told}")
-    return not wrong
+
+
+def keeps_rows(trial: Trial, words: str) -> bool:
+    """Whether the rows that a command read whole are written wherever a read of it fails."""
+    edges = list(whole_rows(trial, words))
+    wrong = [told for told, good in edges if not good]
+    tell(f"{words}, over long records", len(edges), wrong)
+    return bool(edges) and not wrong
 
 
 def main() -> int:
@@ -214,6 +229,8 @@ def main() -> int:
         trial = Trial(programs, folder)
         most = sys.maxsize if given.all else MOST_NUMBERS
         good = [tried(trial, words, most, given.jobs) for words in commands]
+        rows = [words for words in ROW_COMMANDS if words.startswith(given.only)]
+        good += [keeps_rows(trial, words) for words in rows]
     return 0 if good and all(good) else 1
 
 

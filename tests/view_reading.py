@@ -6,53 +6,14 @@ import io
 import re
 from typing import Callable, Iterator, Optional
 
+from item_lines import item_lines
 from record_bytes import many_runs, mixed_record
 from view_room import Room
 
-from det_record import BadRecord, Init, Item, RecordReader, Run, Summary, header_lines
-from record_values import Elements, Finished, Header
+from det_record import BadRecord, RecordReader, Summary
 
 # What a byte is changed to, beside its neighbours.
 OTHER_BYTES = (0, 4, 128, 255)
-
-
-def element_lines(elements: Elements) -> Iterator[str]:
-    for index in range(len(elements)):
-        draws = f" {elements.draws(index)}" if elements.has_draws else ""
-        yield f"element {index} {elements.content(index).hex() or '-'}{draws}"
-
-
-def run_lines(cycle: int, run: Run) -> Iterator[str]:
-    yield f"run {cycle} time {'-' if run.time is None else run.time}"
-    yield from (f"sample {event} {value}" for event, value in run.samples)
-    outcome = run.outcome
-    if isinstance(outcome, Finished):
-        yield f"finished {len(outcome.elements)}"
-        yield from element_lines(outcome.elements)
-        yield f"output {outcome.output.hex() or '-'}"
-    else:
-        place = f"{outcome.pass_number} {outcome.element} {outcome.code}"
-        yield f"refused {outcome.phase.word} {place}"
-
-
-def item_lines(item: Item, cycle: int) -> Iterator[str]:
-    """The lines of `det show` for an item."""
-    if isinstance(item, Header):
-        lines = list(header_lines(item))
-        yield from lines if item.format == 2 else untold(lines)
-    elif isinstance(item, Init):
-        yield f"init {len(item.elements)}"
-        yield from element_lines(item.elements)
-    elif isinstance(item, Run):
-        yield from run_lines(cycle, item)
-    else:
-        yield type(item).__name__.lower()
-
-
-def untold(lines: list[str]) -> Iterator[str]:
-    """The lines of a header of format 1, which tells neither its format nor policies."""
-    for line in lines[1:]:
-        yield line.removesuffix(" last") if line.startswith("event ") else line
 
 
 def shown(stream: io.BufferedIOBase) -> tuple[list[str], str]:

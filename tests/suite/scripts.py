@@ -27,6 +27,7 @@ SCRIPTS = {
     "view.py": [],
     "hints.py": [],
     "chained.py": [],
+    "memory_requests.py": [],
 }
 # The most seconds that one of them may take.
 LIMIT = 1800

@@ -1,12 +1,13 @@
 -- Which item a view is of, by its kind.
 use Rattle.std.proofs.Common.{◌≡◌, ℕ, ◌<◌, ◌≤◌, List, [], ◌∷◌, length, take, drop, map, Option, inl, inr, refl, sym, ap, subst, ◌∙◌, arith}
 use Rattle.std.proofs.Common.{Result, Ok, Err, length-take}
-use Rattle.std.specs.Prelude.{IfOk}
+use Rattle.std.specs.Prelude.{IfOk, OnOk}
 use Rattle.std.proofs.lemmas.Bool.{cases_lt}
 use Rattle.det_values.specs.declared.format.Format.{Format}
 use Rattle.det_values.specs.declared.format.Format.TheVariants.{Two}
 use Rattle.det_values.specs.declared.frames.CycleInput.{CycleInput}
 use Rattle.det_values.specs.declared.frames.DrawnElement.{DrawnElement}
+use Rattle.det_values.specs.declared.frames.Frame.{Frame}
 use Rattle.det_values.specs.declared.frames.Frame.TheVariants as frames
 use Rattle.det_values.specs.declared.frames.Outcome.{Outcome}
 use Rattle.det_values.specs.declared.frames.Outcome.TheVariants as outcomes
@@ -29,20 +30,21 @@ use Rattle.record_grammar.proofs.Steady.{bind_got, got_is, raw_short, raw_long}
 use Rattle.record_view.specs.declared.view.InputView.{InputView}
 use Rattle.record_view.specs.declared.view.OutcomeView.{OutcomeView}
 use Rattle.record_view.specs.declared.view.OutcomeView.TheVariants as ends
-use Rattle.record_view.specs.declared.view.ItemKind.{ItemKind}
-use Rattle.record_view.specs.declared.view.ItemKind.TheVariants as kinds
+use Rattle.record_view.specs.declared.view.FrameKind.{FrameKind}
+use Rattle.record_view.specs.declared.view.FrameKind.TheVariants as kinds
+use Rattle.record_view.specs.declared.view.FrameView.{FrameView}
 use Rattle.record_view.specs.declared.view.ItemView.{ItemView}
-use Rattle.record_view.specs.Shows.{ShowsParts, ShowsOutcome, ShowsFinished, IsSpelling, events_of}
+use Rattle.record_view.specs.Shows.{ShowsFrame, ShowsOutcome, ShowsFinished, IsSpelling, IsFrameSpelling, item_view, events_of}
 use Rattle.record_view.specs.Parts.{undrawn, ElementsOf, OutputOf}
 use Rattle.record_view.proofs.Numbers.{number_within}
 use Rattle.record_view.proofs.EqualItems.{span_is_spelling}
 use Rattle.record_codec.specs.Parts.{bytes_of, ShowsRun, FewElements}
 use Rattle.record_codec.proofs.Flat.{many_counted, StandsSpelled, stand_spelled}
 
-pub parts_of : (view : ItemView) (item : Item) (bytes : List ℕ) (kind : ItemKind) → view.span.kind ≡ kind → IsSpelling view item bytes
-    → ShowsParts view.place kind view.span.len bytes item
-parts_of view item bytes kind is h =
-    subst (λ (k : ItemKind). ShowsParts view.place k view.span.len bytes item) is h.shows.parts
+pub frame_parts : (view : FrameView) (frame : Frame) (bytes : List ℕ) (kind : FrameKind) → view.kind ≡ kind
+    → IsFrameSpelling view frame bytes → ShowsFrame view.place kind view.len bytes frame
+frame_parts view frame bytes kind is h =
+    subst (λ (k : FrameKind). ShowsFrame view.place k view.len bytes frame) is h.shows.parts
 
 -- each field of an item is in its range
 pub may_stand : (view : ItemView) (item : Item) (bytes : List ℕ) → events_of view.place ≤ 65536 → AreBytes bytes
@@ -75,47 +77,33 @@ read_header (places.Init layout) bytes rest p k e = absurd k
 read_header (places.Runs layout before) bytes rest p k e = absurd k
 read_header places.End bytes rest p k e = absurd k
 
-pub record IsHeaderOf (bytes rest : List ℕ) (item : Item) : Type 0 where
-  pub profile : ProfileValue
-  pub is : item ≡ items.Header profile
-  pub read : profile_at bytes ≡ Got (profile, rest)
-
-header_by : (place : Place) (layout : Layout) (len : ℕ) (bytes rest : List ℕ) (item : Item)
-    → ShowsParts place (kinds.Header layout) len bytes item → item_at place bytes ≡ Got (item, rest) → IsHeaderOf bytes rest item
-header_by place layout len bytes rest (items.Header p) h e = record {
-  profile = p;
-  is = refl;
-  read = read_header place bytes rest p (can_follow place bytes (items.Header p) rest e) e;
-}
-header_by place layout len bytes rest (items.Frame f) h e = absurd h
-
-pub of_header : (view : ItemView) (layout : Layout) (item : Item) (bytes : List ℕ) → view.span.kind ≡ kinds.Header layout
-    → IsSpelling view item bytes → IsHeaderOf bytes (drop view.span.len bytes) item
-of_header view layout item bytes is h =
-    header_by view.place layout view.span.len bytes (drop view.span.len bytes) item (parts_of view item bytes (kinds.Header layout) is h)
-    h.shows.read
+-- the bytes of a header are read as its profile
+pub header_read : (view : ItemView) (p : ProfileValue) (bytes : List ℕ) → IsSpelling view (items.Header p) bytes
+    → profile_at bytes ≡ Got (p, drop view.span.len bytes)
+header_read view p bytes h =
+    read_header view.place bytes (drop view.span.len bytes) p
+    (can_follow view.place bytes (items.Header p) (drop view.span.len bytes) h.shows.read) h.shows.read
 
 -- ---- Init
 
-pub record IsInitOf (count len : ℕ) (bytes : List ℕ) (item : Item) : Type 0 where
+pub record IsInitOf (count len : ℕ) (bytes : List ℕ) (frame : Frame) : Type 0 where
   pub elements : List (List ℕ)
-  pub is : item ≡ items.Frame (frames.Init elements)
+  pub is : frame ≡ frames.Init elements
   pub read : many element_at count (drop 5 bytes) ≡ Got (elements, drop len bytes)
   pub long : 5 ≤ len
 
-init_by : (place : Place) (count len : ℕ) (bytes : List ℕ) (item : Item) → ShowsParts place (kinds.Init count) len bytes item
-    → IsInitOf count len bytes item
-init_by place count len bytes (items.Frame (frames.Init es)) h = record { elements = es; is = refl; read = h.0; long = h.1 }
-init_by place count len bytes (items.Frame frames.Register) h = absurd h
-init_by place count len bytes (items.Frame frames.Discover) h = absurd h
-init_by place count len bytes (items.Frame (frames.Run r)) h = absurd h
-init_by place count len bytes (items.Frame frames.Terminate) h = absurd h
-init_by place count len bytes (items.Header p) h = absurd h
+init_by : (place : Place) (count len : ℕ) (bytes : List ℕ) (frame : Frame) → ShowsFrame place (kinds.Init count) len bytes frame
+    → IsInitOf count len bytes frame
+init_by place count len bytes (frames.Init es) h = record { elements = es; is = refl; read = h.0; long = h.1 }
+init_by place count len bytes frames.Register h = absurd h
+init_by place count len bytes frames.Discover h = absurd h
+init_by place count len bytes (frames.Run r) h = absurd h
+init_by place count len bytes frames.Terminate h = absurd h
 
-pub of_init : (view : ItemView) (count : ℕ) (item : Item) (bytes : List ℕ) → view.span.kind ≡ kinds.Init count
-    → IsSpelling view item bytes → IsInitOf count view.span.len bytes item
-of_init view count item bytes is h =
-    init_by view.place count view.span.len bytes item (parts_of view item bytes (kinds.Init count) is h)
+pub of_init : (view : FrameView) (count : ℕ) (frame : Frame) (bytes : List ℕ) → view.kind ≡ kinds.Init count
+    → IsFrameSpelling view frame bytes → IsInitOf count view.len bytes frame
+of_init view count frame bytes is h =
+    init_by view.place count view.len bytes frame (frame_parts view frame bytes (kinds.Init count) is h)
 
 few_in_init : (place : Place) (es : List (List ℕ)) → MayStand place (items.Frame (frames.Init es)) → length es ≤ 65536
 unfolding IsFrame
@@ -126,15 +114,15 @@ few_in_init (places.Discover layout) es h = absurd h
 few_in_init (places.Runs layout before) es h = absurd h
 few_in_init places.End es h = absurd h
 
-pub few_of_init : (view : ItemView) (count : ℕ) (item : Item) (bytes : List ℕ) → events_of view.place ≤ 65536 → AreBytes bytes
-    → IsSpelling view item bytes → IsInitOf count view.span.len bytes item → count ≤ 65536
-few_of_init view count item bytes few are h i =
-    let m : MayStand view.place (items.Frame (frames.Init i.elements)) = subst (MayStand view.place) i.is
-    (may_stand view item bytes few are h) in
+pub few_of_init : (view : FrameView) (count : ℕ) (frame : Frame) (bytes : List ℕ) → events_of view.place ≤ 65536 → AreBytes bytes
+    → IsFrameSpelling view frame bytes → IsInitOf count view.len bytes frame → count ≤ 65536
+few_of_init view count frame bytes few are h i =
+    let m : MayStand view.place (items.Frame (frames.Init i.elements)) = subst (λ (f : Frame). MayStand view.place (items.Frame f)) i.is
+    (may_stand (item_view view) (items.Frame frame) bytes few are h) in
     omega (
       arith,
       few_in_init view.place i.elements m,
-      many_counted element_at count (drop 5 bytes) (i.elements, drop view.span.len bytes) i.read,
+      many_counted element_at count (drop 5 bytes) (i.elements, drop view.len bytes) i.read,
     )
 
 -- elements are the bytes of those without draws
@@ -144,26 +132,26 @@ bytes_undrawn (e ∷ es) = ap (λ (xs : List (List ℕ)). e ∷ xs) (bytes_undra
 
 -- ---- Run
 
-pub record IsRunOf (place : Place) (input : InputView) (outcome : OutcomeView) (len : ℕ) (bytes : List ℕ) (item : Item) : Type 0 where
+pub record IsRunOf (place : Place) (input : InputView) (outcome : OutcomeView) (len : ℕ) (bytes : List ℕ) (frame : Frame)
+    : Type 0 where
   pub run : RunFrame
-  pub is : item ≡ items.Frame (frames.Run run)
+  pub is : frame ≡ frames.Run run
   pub shows : ShowsRun place input outcome len bytes run
 
-run_by : (place : Place) (input : InputView) (outcome : OutcomeView) (len : ℕ) (bytes : List ℕ) (item : Item)
-    → ShowsParts place (kinds.Run input outcome) len bytes item → IsRunOf place input outcome len bytes item
-run_by place input outcome len bytes (items.Frame (frames.Run r)) h =
+run_by : (place : Place) (input : InputView) (outcome : OutcomeView) (len : ℕ) (bytes : List ℕ) (frame : Frame)
+    → ShowsFrame place (kinds.Run input outcome) len bytes frame → IsRunOf place input outcome len bytes frame
+run_by place input outcome len bytes (frames.Run r) h =
     record { run = r; is = refl; shows = record { input_is = h.0; outcome_is = h.1 } }
-run_by place input outcome len bytes (items.Frame frames.Register) h = absurd h
-run_by place input outcome len bytes (items.Frame frames.Discover) h = absurd h
-run_by place input outcome len bytes (items.Frame (frames.Init es)) h = absurd h
-run_by place input outcome len bytes (items.Frame frames.Terminate) h = absurd h
-run_by place input outcome len bytes (items.Header p) h = absurd h
+run_by place input outcome len bytes frames.Register h = absurd h
+run_by place input outcome len bytes frames.Discover h = absurd h
+run_by place input outcome len bytes (frames.Init es) h = absurd h
+run_by place input outcome len bytes frames.Terminate h = absurd h
 
-pub of_run : (view : ItemView) (input : InputView) (outcome : OutcomeView) (item : Item) (bytes : List ℕ)
-    → view.span.kind ≡ kinds.Run input outcome → IsSpelling view item bytes
-    → IsRunOf view.place input outcome view.span.len bytes item
-of_run view input outcome item bytes is h =
-    run_by view.place input outcome view.span.len bytes item (parts_of view item bytes (kinds.Run input outcome) is h)
+pub of_run : (view : FrameView) (input : InputView) (outcome : OutcomeView) (frame : Frame) (bytes : List ℕ)
+    → view.kind ≡ kinds.Run input outcome → IsFrameSpelling view frame bytes
+    → IsRunOf view.place input outcome view.len bytes frame
+of_run view input outcome frame bytes is h =
+    run_by view.place input outcome view.len bytes frame (frame_parts view frame bytes (kinds.Run input outcome) is h)
 
 outcome_fits : (place : Place) (run : RunFrame) → MayStand place (items.Frame (frames.Run run))
     → (format : Format) × IsOutcome format run.outcome
@@ -182,13 +170,14 @@ few_by (ends.Finished count at output_at) format fits len bytes outcome k h =
     omega (arith, i.0, many_counted _ count (drop at bytes) (h.elements, drop output_at bytes) h.elements_read)
 few_by (ends.Refused at) format fits len bytes outcome k h = tt
 
-pub few_of_run : (view : ItemView) (input : InputView) (outcome : OutcomeView) (item : Item) (bytes : List ℕ)
-    → events_of view.place ≤ 65536 → AreBytes bytes → IsSpelling view item bytes
-    → IsRunOf view.place input outcome view.span.len bytes item → FewElements outcome
-few_of_run view input outcome item bytes few are h i =
-    let m : MayStand view.place (items.Frame (frames.Run i.run)) = subst (MayStand view.place) i.is (may_stand view item bytes few are h) in
+pub few_of_run : (view : FrameView) (input : InputView) (outcome : OutcomeView) (frame : Frame) (bytes : List ℕ)
+    → events_of view.place ≤ 65536 → AreBytes bytes → IsFrameSpelling view frame bytes
+    → IsRunOf view.place input outcome view.len bytes frame → FewElements outcome
+few_of_run view input outcome frame bytes few are h i =
+    let m : MayStand view.place (items.Frame (frames.Run i.run)) = subst (λ (f : Frame). MayStand view.place (items.Frame f)) i.is
+    (may_stand (item_view view) (items.Frame frame) bytes few are h) in
     let f = outcome_fits view.place i.run m in
-    few_by outcome _ f.0 view.span.len bytes i.run.outcome f.1 i.shows.outcome_is
+    few_by outcome _ f.0 view.len bytes i.run.outcome f.1 i.shows.outcome_is
 
 abbrev an_input : Option ℕ → List SampleValue → CycleInput
 an_input time samples = record { time = time; samples = samples }
@@ -203,6 +192,11 @@ pub stand_in : (format : Format) (count at to len : ℕ) (bytes : List ℕ) (out
 stand_in format count at to len bytes outcome is are h =
     stand_spelled count at to bytes h.elements are h.order (omega (arith, h.counted, h.within))
     (subst (λ (f : Format). many (drawn_at f) count (drop at bytes) ≡ Got (h.elements, drop to bytes)) is h.elements_read)
+
+-- a fact that holds where a call is done, by another one
+pub on_done : {A E : Type 0} {P Q : Type 0} (result : Result A E) → (P → Q) → OnOk result P → OnOk result Q
+on_done (Ok done) then h = then h
+on_done (Err e) then h = tt
 
 -- a fact of a value that was made, by another one
 pub if_made : {A E : Type 0} {P Q : A → Type 0} (result : Result A E) → ((made : A) → P made → Q made) → IfOk result P → IfOk result Q

@@ -1,3 +1,4 @@
 pub mod Gives
+pub mod Filled
 pub mod Parts
 pub mod Policies

@@ -1,9 +1,7 @@
 //! The elements of frames, made of their views.
-ghost use Rattle.std.specs.Prelude.{◌≡◌, ℕ, ◌+◌, ◌-◌, ◌≤◌, List, length, take, drop, map, IfOk};
-ghost use Rattle.std.specs.List.{All};
-ghost use Rattle.det_values.specs.declared.frames.DrawnElement.{DrawnElement};
+ghost use Rattle.std.specs.Prelude.{◌≡◌, ℕ, ◌+◌, ◌-◌, ◌≤◌, ◌++◌, length, take, drop, map};
+ghost use Rattle.std.specs.Prelude.{IfOk, OnOk};
 ghost use Rattle.det_values.specs.declared.frames.Outcome.{Outcome};
-ghost use Rattle.det_values.specs.Spelling.{spelled_all, IsDrawn};
 ghost use Rattle.record_view.specs.Shows.{ShowsFinished};
 ghost use Rattle.record_view.specs.Parts.{ElementsOf};
 ghost use Rattle.record_codec.specs.Parts.{bytes_of};
@@ -27,25 +25,27 @@ pub fn elements_of(alloc: Global, walk: ElementWalk<'_>) -> Result<Elements, Out
     }
 }
 
-/// The elements of a finished cycle. Where they stand spelled they are copied at once.
-pub fn drawn_of(
-    alloc: Global,
+/// Makes elements those of a finished cycle, in the memory that they have. Where they stand spelled
+/// they are copied at once.
+pub fn fill_elements(
+    elements: &mut DrawnElements,
     format: Format,
     count: u32,
     at: usize,
     output_at: usize,
     bytes: &[u8],
-) -> Result<DrawnElements, OutOfMemory>
+) -> Result<(), OutOfMemory>
     requires shows { (len : ℕ) × (outcome : Outcome)
         × ShowsFinished format count at output_at len bytes.now outcome }
     requires few { count ≤ 65536 }
-    ensures { IfOk result (λ made. (len : ℕ) (outcome : Outcome)
+    ensures { OnOk result ((len : ℕ) (outcome : Outcome)
         → ShowsFinished format count at output_at len bytes.now outcome
-        → ElementsOf made outcome) }
+        → ElementsOf elements.new outcome) }
 {
+    elements.clear();
     match format {
-        Format::One => drawn_one_by_one(alloc, elements_in(format, count, at, bytes)),
-        Format::Two => drawn_at_once(alloc, count, span_of(bytes, at, output_at)),
+        Format::One => push_all(elements, elements_in(format, count, at, bytes)),
+        Format::Two => elements.extend_spelled(span_of(bytes, at, output_at), count),
     }
 }
 
@@ -59,29 +59,16 @@ fn span_of(bytes: &[u8], from: usize, to: usize) -> &[u8]
     &rest[..to - from]
 }
 
-/// Elements that stand spelled one behind another.
-fn drawn_at_once(alloc: Global, count: u32, spelled: &[u8]) -> Result<DrawnElements, OutOfMemory>
-    requires few { count ≤ 65536 }
-    requires spelled { (es : List DrawnElement) × (spelled.now ≡ spelled_all es)
-        × (length es ≡ count) × All IsDrawn es }
-    ensures { IfOk result (λ made. (es : List DrawnElement) → spelled.now ≡ spelled_all es
-        → length es ≡ count → All IsDrawn es → made ≡ es) }
-{
-    let bytes = Vec::from_slice(alloc, spelled)?;
-    Ok(DrawnElements::from_spelled(bytes, count))
-}
-
-/// Elements, one by one.
-fn drawn_one_by_one(alloc: Global, walk: ElementWalk<'_>) -> Result<DrawnElements, OutOfMemory>
-    requires { length walk ≤ 65536 }
-    ensures { IfOk result (λ made. made ≡ walk.entry) }
+/// Adds elements, one by one.
+fn push_all(elements: &mut DrawnElements, walk: ElementWalk<'_>) -> Result<(), OutOfMemory>
+    requires { length elements.old + length walk ≤ 65536 }
+    ensures { OnOk result (elements.new ≡ elements.old ++ walk.entry) }
 {
     let mut walk = walk;
-    let mut elements = DrawnElements::new(alloc);
     'elements: loop {
         match walk.next() {
             Some((bytes, draws)) => elements.push(bytes, draws)?,
-            None => return Ok(elements),
+            None => return Ok(()),
         }
     }
 }

@@ -9,8 +9,10 @@ mod item;
 mod put;
 mod put_frame;
 mod put_header;
+mod room;
 mod run;
 
 pub use encode::{encode_frame, encode_header};
-pub use item::item_of;
+pub use item::{frame_of, profile_of};
 pub use record_grammar::{Item, Layout, Limits, Place, Reason, RecordFault};
+pub use room::{RunRoom, fill_input};

@@ -1,20 +1,41 @@
 //! Run frames, made of their views.
-ghost use Rattle.std.specs.Prelude.{◌≡◌, ℕ, ◌≤◌, length, IfOk};
-ghost use Rattle.det_values.specs.declared.frames.CycleInput.{CycleInput};
-ghost use Rattle.det_values.specs.declared.frames.Outcome.{Outcome};
-ghost use Rattle.det_values.specs.declared.frames.RunFrame.{RunFrame};
-ghost use Rattle.det_values.specs.declared.format.Format.{Format};
-ghost use Rattle.record_view.specs.Shows.{ShowsInput, ShowsOutcome, ShowsFinished};
+ghost use Rattle.std.specs.Prelude.{◌≡◌, ℕ, ◌≤◌, length, IfOk, OnOk};
+ghost use Rattle.det_values.specs.declared.frames.CycleInput.{CycleInput as Input};
+ghost use Rattle.det_values.specs.declared.frames.Outcome.{Outcome as OutcomeValue};
+ghost use Rattle.det_values.specs.declared.frames.Outcome.TheVariants as outcomes;
+ghost use Rattle.det_values.specs.declared.frames.RunFrame.{RunFrame as RunValue};
+ghost use Rattle.record_grammar.specs.Places.{format_of};
+ghost use Rattle.record_view.specs.Shows.{ShowsInput, ShowsOutcome, ShowsFinished, events_of};
 ghost use Rattle.record_view.specs.Parts.{OutputOf};
 ghost use Rattle.record_codec.specs.Parts.{ShowsRun, FewElements};
 
-use crate::elements::drawn_of;
-use det_values::{Bytes, CycleInput, Format, Limited, OutOfMemory, Outcome, RunFrame, Samples};
+use crate::elements::fill_elements;
+use det_values::{
+    Bytes, CycleInput, DrawnElements, Format, Limited, OutOfMemory, Outcome, RunFrame, Samples,
+};
 use record_grammar::Place;
 use record_view::{
     InputView, OutcomeView, SampleWalk, events_at, format_at, output_in, refusal_in, samples_in,
 };
 use std::alloc::Global;
+
+/// A run without samples, elements and output. It takes no memory.
+pub fn empty_run(alloc: Global) -> RunFrame {
+    RunFrame {
+        input: CycleInput {
+            time: None,
+            samples: Limited::new(alloc),
+        },
+        outcome: empty_outcome(alloc),
+    }
+}
+
+pub fn empty_outcome(alloc: Global) -> Outcome {
+    Outcome::Finished {
+        elements: DrawnElements::new(alloc),
+        output: Limited::new(alloc),
+    }
+}
 
 /// A cycle's run.
 pub fn run_of(
@@ -24,98 +45,168 @@ pub fn run_of(
     outcome: OutcomeView,
     bytes: &[u8],
 ) -> Result<RunFrame, OutOfMemory>
-    requires shows { (len : ℕ) × (run : RunFrame)
+    requires shows { (len : ℕ) × (run : RunValue)
         × ShowsRun place input outcome len bytes.now run }
     requires few { FewElements outcome }
-    ensures { IfOk result (λ made. (len : ℕ) (run : RunFrame)
+    ensures { IfOk result (λ made. (len : ℕ) (run : RunValue)
         → ShowsRun place input outcome len bytes.now run → made ≡ run) }
 {
-    let input = input_of(alloc, events_at(place), input, bytes)?;
-    let outcome = outcome_of(alloc, format_at(place), outcome, bytes)?;
-    Ok(RunFrame { input, outcome })
+    let mut run = empty_run(alloc);
+    fill_input(&mut run.input, place, input, bytes)?;
+    fill_outcome(alloc, &mut run.outcome, place, outcome, bytes)?;
+    Ok(run)
 }
 
-fn input_of(
-    alloc: Global,
-    events: u16,
+/// Makes an input that of a view, in the memory that it has.
+pub fn fill_input(
+    input: &mut CycleInput,
+    place: Place,
     view: InputView,
     bytes: &[u8],
-) -> Result<CycleInput, OutOfMemory>
-    requires { (input : CycleInput) × ShowsInput events view bytes.now input }
-    ensures { IfOk result (λ made. (input : CycleInput) → ShowsInput events view bytes.now input
-        → made ≡ input) }
+) -> Result<(), OutOfMemory>
+    requires { (shown : Input) × ShowsInput (events_of place) view bytes.now shown }
+    ensures { OnOk result ((shown : Input) → ShowsInput (events_of place) view bytes.now shown
+        → input.new ≡ shown) }
 {
-    let samples = samples_of(alloc, samples_in(events, view, bytes))?;
-    Ok(CycleInput {
-        time: view.time,
-        samples,
-    })
+    input.time = view.time;
+    fill_samples(
+        &mut input.samples,
+        samples_in(events_at(place), view, bytes),
+    )
 }
 
-/// Samples, one by one.
-fn samples_of(alloc: Global, walk: SampleWalk<'_>) -> Result<Samples, OutOfMemory>
+/// Makes samples those of a walk, one by one.
+fn fill_samples(samples: &mut Samples, walk: SampleWalk<'_>) -> Result<(), OutOfMemory>
     requires { length walk ≤ 4096 }
-    ensures { IfOk result (λ made. made ≡ walk.entry) }
+    ensures { OnOk result (samples.new ≡ walk.entry) }
 {
     let mut walk = walk;
-    let mut samples = Limited::new(alloc);
+    samples.clear();
     'samples: loop {
         match walk.next() {
             Some(sample) => samples.push(sample)?,
-            None => return Ok(samples),
+            None => return Ok(()),
         }
     }
 }
 
-fn outcome_of(
+/// Makes an outcome that of a view. A finished one takes the memory of a finished one.
+pub fn fill_outcome(
     alloc: Global,
-    format: Format,
+    outcome: &mut Outcome,
+    place: Place,
     view: OutcomeView,
     bytes: &[u8],
-) -> Result<Outcome, OutOfMemory>
-    requires shows { (len : ℕ) × (outcome : Outcome)
-        × ShowsOutcome format view len bytes.now outcome }
+) -> Result<(), OutOfMemory>
+    requires shows { (len : ℕ) × (shown : OutcomeValue)
+        × ShowsOutcome (format_of place) view len bytes.now shown }
     requires few { FewElements view }
-    ensures { IfOk result (λ made. (len : ℕ) (outcome : Outcome)
-        → ShowsOutcome format view len bytes.now outcome → made ≡ outcome) }
+    ensures { OnOk result ((len : ℕ) (shown : OutcomeValue)
+        → ShowsOutcome (format_of place) view len bytes.now shown → outcome.new ≡ shown) }
 {
     match view {
         OutcomeView::Finished {
             elements,
             elements_at,
             output_at,
-        } => finished_of(alloc, format, elements, elements_at, output_at, bytes),
-        OutcomeView::Refused { at } => Ok(Outcome::Refused(refusal_in(at, bytes))),
+        } => {
+            let view = FinishedView {
+                format: format_at(place),
+                elements,
+                elements_at,
+                output_at,
+            };
+            fill_finished(alloc, outcome, view, bytes)
+        }
+        OutcomeView::Refused { at } => {
+            *outcome = Outcome::Refused(refusal_in(at, bytes));
+            Ok(())
+        }
+    }
+}
+
+/// A finished cycle's parts, and the format in which its elements are spelled.
+#[derive(Clone, Copy, Drop)]
+struct FinishedView {
+    format: Format,
+    elements: u32,
+    elements_at: usize,
+    output_at: usize,
+}
+
+/// Makes an outcome that of a finished cycle.
+fn fill_finished(
+    alloc: Global,
+    outcome: &mut Outcome,
+    view: FinishedView,
+    bytes: &[u8],
+) -> Result<(), OutOfMemory>
+    requires shows { (len : ℕ) × (shown : OutcomeValue)
+        × ShowsFinished view.format view.elements view.elements_at view.output_at len bytes.now
+        shown }
+    requires few { view.elements ≤ 65536 }
+    ensures { OnOk result ((len : ℕ) (shown : OutcomeValue)
+        → ShowsFinished view.format view.elements view.elements_at view.output_at len bytes.now
+        shown → outcome.new ≡ shown) }
+{
+    match outcome {
+        Outcome::Finished { elements, output } => fill_both(elements, output, view, bytes),
+        Outcome::Refused(_) => {
+            *outcome = finished_of(alloc, view, bytes)?;
+            Ok(())
+        }
     }
 }
 
 /// The outcome of a finished cycle.
-fn finished_of(
-    alloc: Global,
-    format: Format,
-    count: u32,
-    at: usize,
-    output_at: usize,
-    bytes: &[u8],
-) -> Result<Outcome, OutOfMemory>
-    requires shows { (len : ℕ) × (outcome : Outcome)
-        × ShowsFinished format count at output_at len bytes.now outcome }
-    requires few { count ≤ 65536 }
-    ensures { IfOk result (λ made. (len : ℕ) (outcome : Outcome)
-        → ShowsFinished format count at output_at len bytes.now outcome → made ≡ outcome) }
+fn finished_of(alloc: Global, view: FinishedView, bytes: &[u8]) -> Result<Outcome, OutOfMemory>
+    requires shows { (len : ℕ) × (shown : OutcomeValue)
+        × ShowsFinished view.format view.elements view.elements_at view.output_at len bytes.now
+        shown }
+    requires few { view.elements ≤ 65536 }
+    ensures { IfOk result (λ made. (len : ℕ) (shown : OutcomeValue)
+        → ShowsFinished view.format view.elements view.elements_at view.output_at len bytes.now
+        shown → made ≡ shown) }
 {
-    let elements = drawn_of(alloc, format, count, at, output_at, bytes)?;
-    let output = output_of(alloc, output_at, bytes)?;
+    let mut elements = DrawnElements::new(alloc);
+    let mut output = Limited::new(alloc);
+    fill_both(&mut elements, &mut output, view, bytes)?;
     Ok(Outcome::Finished { elements, output })
 }
 
-fn output_of(alloc: Global, output_at: usize, bytes: &[u8]) -> Result<Bytes, OutOfMemory>
-    requires { (format : Format) × (count at len : ℕ) × (outcome : Outcome)
-        × ShowsFinished format count at output_at len bytes.now outcome }
-    ensures { IfOk result (λ made. (format : Format) (count at len : ℕ) (outcome : Outcome)
-        → ShowsFinished format count at output_at len bytes.now outcome
-        → OutputOf made outcome) }
+/// Makes elements and output those of a finished cycle.
+fn fill_both(
+    elements: &mut DrawnElements,
+    output: &mut Bytes,
+    view: FinishedView,
+    bytes: &[u8],
+) -> Result<(), OutOfMemory>
+    requires shows { (len : ℕ) × (shown : OutcomeValue)
+        × ShowsFinished view.format view.elements view.elements_at view.output_at len bytes.now
+        shown }
+    requires few { view.elements ≤ 65536 }
+    ensures { OnOk result ((len : ℕ) (shown : OutcomeValue)
+        → ShowsFinished view.format view.elements view.elements_at view.output_at len bytes.now
+        shown → outcomes.Finished elements.new output.new ≡ shown) }
 {
-    let items = Vec::from_slice(alloc, output_in(output_at, bytes))?;
-    Ok(Limited::from_vec(items))
+    let FinishedView {
+        format,
+        elements: count,
+        elements_at,
+        output_at,
+    } = view;
+    fill_elements(elements, format, count, elements_at, output_at, bytes)?;
+    fill_output(output, output_at, bytes)
+}
+
+/// Makes an output that of a view.
+fn fill_output(output: &mut Bytes, output_at: usize, bytes: &[u8]) -> Result<(), OutOfMemory>
+    requires { (format : Format) × (count at len : ℕ) × (outcome : OutcomeValue)
+        × ShowsFinished format count at output_at len bytes.now outcome }
+    ensures { OnOk result ((format : Format) (count at len : ℕ) (outcome : OutcomeValue)
+        → ShowsFinished format count at output_at len bytes.now outcome
+        → OutputOf output.new outcome) }
+{
+    output.clear();
+    output.extend_from_slice(output_in(output_at, bytes))
 }

@@ -5,6 +5,7 @@ use Rattle.std.proofs.lemmas.List.{drop-append-le, take-append-drop, append-nil,
 use Rattle.det_values.specs.declared.format.Format.{Format}
 use Rattle.det_values.specs.declared.frames.CycleInput.{CycleInput}
 use Rattle.det_values.specs.declared.frames.Outcome.{Outcome}
+use Rattle.det_values.specs.declared.frames.Frame.{Frame}
 use Rattle.det_values.specs.declared.frames.Frame.TheVariants as frames
 use Rattle.record_grammar.specs.declared.place.Place.{Place}
 use Rattle.record_grammar.specs.declared.item.Item.{Item}
@@ -16,10 +17,12 @@ use Rattle.record_grammar.specs.Laws.{item_spelling}
 use Rattle.record_view.specs.declared.view.InputView.{InputView}
 use Rattle.record_view.specs.declared.view.OutcomeView.{OutcomeView}
 use Rattle.record_view.specs.declared.view.OutcomeView.TheVariants as ends
+use Rattle.record_view.specs.declared.view.FrameKind.{FrameKind}
+use Rattle.record_view.specs.declared.view.FrameKind.TheVariants as kinds
 use Rattle.record_view.specs.declared.view.ItemKind.{ItemKind}
-use Rattle.record_view.specs.declared.view.ItemKind.TheVariants as kinds
+use Rattle.record_view.specs.declared.view.ItemKind.TheVariants as item_kinds
 use Rattle.record_view.specs.declared.view.ItemSpan.{ItemSpan}
-use Rattle.record_view.specs.Shows.{ShowsInput, ShowsOutcome, ShowsParts, Shows, events_of, first_of}
+use Rattle.record_view.specs.Shows.{ShowsInput, ShowsOutcome, ShowsFrame, ShowsParts, Shows, events_of, first_of}
 use Rattle.record_view.specs.Laws.{CutShows}
 use Rattle.record_view.proofs.Local.{IsLocal, local_many, sample_local, drawn_local, string_local, refusal_local}
 use Rattle.record_view.proofs.Spelled.{front_spells, spelling_read}
@@ -80,53 +83,49 @@ begins : (format : Format) (view : OutcomeView) (len : ℕ) (bytes : List ℕ) (
 begins format (ends.Finished count at output_at) len bytes outcome h = omega (arith, h.order, h.counted)
 begins format (ends.Refused at) len bytes outcome h = h.order
 
-cut_parts : (place : Place) (kind : ItemKind) (len : ℕ) (front tail : List ℕ) (item : Item) → len ≤ length front
-    → ShowsParts place kind len (front ++ tail) item → ShowsParts place kind len front item
-cut_parts place (kinds.Header layout) len front tail (items.Header p) fits h = h
-cut_parts place kinds.Register len front tail (items.Frame frames.Register) fits h = h
-cut_parts place kinds.Discover len front tail (items.Frame frames.Discover) fits h = h
-cut_parts place (kinds.Init count) len front tail (items.Frame (frames.Init elements)) fits h = (
+cut_frame : (place : Place) (kind : FrameKind) (len : ℕ) (front tail : List ℕ) (frame : Frame) → len ≤ length front
+    → ShowsFrame place kind len (front ++ tail) frame → ShowsFrame place kind len front frame
+cut_frame place kinds.Register len front tail frames.Register fits h = h
+cut_frame place kinds.Discover len front tail frames.Discover fits h = h
+cut_frame place (kinds.Init count) len front tail (frames.Init elements) fits h = (
   read_alone (many element_at count) (local_many element_at (string_local 2 64) count) front tail elements 5 len
       (omega (arith, h.1, fits)) fits h.0,
   h.1,
 )
-cut_parts place (kinds.Run input outcome) len front tail (items.Frame (frames.Run r)) fits h = (
+cut_frame place (kinds.Run input outcome) len front tail (frames.Run r) fits h = (
   cut_input (events_of place) input front tail r.input
       (omega (arith, h.2, begins (format_of place) outcome len (front ++ tail) r.outcome h.1, fits)) h.0,
   cut_outcome (format_of place) outcome len front tail r.outcome fits h.1,
   h.2,
 )
-cut_parts place kinds.Terminate len front tail (items.Frame frames.Terminate) fits h = h
-cut_parts place (kinds.Header layout) len front tail (items.Frame frames.Register) fits h = absurd h
-cut_parts place (kinds.Header layout) len front tail (items.Frame frames.Discover) fits h = absurd h
-cut_parts place (kinds.Header layout) len front tail (items.Frame (frames.Init elements)) fits h = absurd h
-cut_parts place (kinds.Header layout) len front tail (items.Frame (frames.Run r)) fits h = absurd h
-cut_parts place (kinds.Header layout) len front tail (items.Frame frames.Terminate) fits h = absurd h
-cut_parts place kinds.Register len front tail (items.Header p) fits h = absurd h
-cut_parts place kinds.Register len front tail (items.Frame frames.Discover) fits h = absurd h
-cut_parts place kinds.Register len front tail (items.Frame (frames.Init elements)) fits h = absurd h
-cut_parts place kinds.Register len front tail (items.Frame (frames.Run r)) fits h = absurd h
-cut_parts place kinds.Register len front tail (items.Frame frames.Terminate) fits h = absurd h
-cut_parts place kinds.Discover len front tail (items.Header p) fits h = absurd h
-cut_parts place kinds.Discover len front tail (items.Frame frames.Register) fits h = absurd h
-cut_parts place kinds.Discover len front tail (items.Frame (frames.Init elements)) fits h = absurd h
-cut_parts place kinds.Discover len front tail (items.Frame (frames.Run r)) fits h = absurd h
-cut_parts place kinds.Discover len front tail (items.Frame frames.Terminate) fits h = absurd h
-cut_parts place (kinds.Init count) len front tail (items.Header p) fits h = absurd h
-cut_parts place (kinds.Init count) len front tail (items.Frame frames.Register) fits h = absurd h
-cut_parts place (kinds.Init count) len front tail (items.Frame frames.Discover) fits h = absurd h
-cut_parts place (kinds.Init count) len front tail (items.Frame (frames.Run r)) fits h = absurd h
-cut_parts place (kinds.Init count) len front tail (items.Frame frames.Terminate) fits h = absurd h
-cut_parts place (kinds.Run input outcome) len front tail (items.Header p) fits h = absurd h
-cut_parts place (kinds.Run input outcome) len front tail (items.Frame frames.Register) fits h = absurd h
-cut_parts place (kinds.Run input outcome) len front tail (items.Frame frames.Discover) fits h = absurd h
-cut_parts place (kinds.Run input outcome) len front tail (items.Frame (frames.Init elements)) fits h = absurd h
-cut_parts place (kinds.Run input outcome) len front tail (items.Frame frames.Terminate) fits h = absurd h
-cut_parts place kinds.Terminate len front tail (items.Header p) fits h = absurd h
-cut_parts place kinds.Terminate len front tail (items.Frame frames.Register) fits h = absurd h
-cut_parts place kinds.Terminate len front tail (items.Frame frames.Discover) fits h = absurd h
-cut_parts place kinds.Terminate len front tail (items.Frame (frames.Init elements)) fits h = absurd h
-cut_parts place kinds.Terminate len front tail (items.Frame (frames.Run r)) fits h = absurd h
+cut_frame place kinds.Terminate len front tail frames.Terminate fits h = h
+cut_frame place kinds.Register len front tail frames.Discover fits h = absurd h
+cut_frame place kinds.Register len front tail (frames.Init elements) fits h = absurd h
+cut_frame place kinds.Register len front tail (frames.Run r) fits h = absurd h
+cut_frame place kinds.Register len front tail frames.Terminate fits h = absurd h
+cut_frame place kinds.Discover len front tail frames.Register fits h = absurd h
+cut_frame place kinds.Discover len front tail (frames.Init elements) fits h = absurd h
+cut_frame place kinds.Discover len front tail (frames.Run r) fits h = absurd h
+cut_frame place kinds.Discover len front tail frames.Terminate fits h = absurd h
+cut_frame place (kinds.Init count) len front tail frames.Register fits h = absurd h
+cut_frame place (kinds.Init count) len front tail frames.Discover fits h = absurd h
+cut_frame place (kinds.Init count) len front tail (frames.Run r) fits h = absurd h
+cut_frame place (kinds.Init count) len front tail frames.Terminate fits h = absurd h
+cut_frame place (kinds.Run input outcome) len front tail frames.Register fits h = absurd h
+cut_frame place (kinds.Run input outcome) len front tail frames.Discover fits h = absurd h
+cut_frame place (kinds.Run input outcome) len front tail (frames.Init elements) fits h = absurd h
+cut_frame place (kinds.Run input outcome) len front tail frames.Terminate fits h = absurd h
+cut_frame place kinds.Terminate len front tail frames.Register fits h = absurd h
+cut_frame place kinds.Terminate len front tail frames.Discover fits h = absurd h
+cut_frame place kinds.Terminate len front tail (frames.Init elements) fits h = absurd h
+cut_frame place kinds.Terminate len front tail (frames.Run r) fits h = absurd h
+
+cut_parts : (place : Place) (kind : ItemKind) (len : ℕ) (front tail : List ℕ) (item : Item) → len ≤ length front
+    → ShowsParts place kind len (front ++ tail) item → ShowsParts place kind len front item
+cut_parts place (item_kinds.Header layout) len front tail (items.Header p) fits h = h
+cut_parts place (item_kinds.Frame kind) len front tail (items.Frame frame) fits h = cut_frame place kind len front tail frame fits h
+cut_parts place (item_kinds.Header layout) len front tail (items.Frame frame) fits h = absurd h
+cut_parts place (item_kinds.Frame kind) len front tail (items.Header p) fits h = absurd h
 
 cut : (place : Place) (span : ItemSpan) (front tail : List ℕ) (item : Item) → span.len ≡ length front
     → item_at place front ≡ Got (item, []) → Shows place span (front ++ tail) item → Shows place span front item

@@ -13,3 +13,4 @@ pub mod Cutting
 pub mod Walked
 pub mod Undrawn
 pub mod EqualItems
+pub mod Headers

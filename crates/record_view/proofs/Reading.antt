@@ -20,7 +20,8 @@ use Rattle.record_grammar.proofs.SteadyFields.{time_steady, number_steady, sampl
 use Rattle.record_grammar.proofs.Steady.{steady_many}
 use Rattle.record_view.specs.declared.view.InputView.{InputView}
 use Rattle.record_view.specs.declared.view.OutcomeView.TheVariants as ends
-use Rattle.record_view.specs.declared.view.ItemKind.TheVariants as kinds
+use Rattle.record_view.specs.declared.view.ItemKind.TheVariants as item_kinds
+use Rattle.record_view.specs.declared.view.FrameKind.TheVariants as kinds
 use Rattle.record_view.specs.declared.opening.Opening.TheVariants as opening
 use Rattle.record_view.specs.Opening.{OpeningValue, ready, run_of, run_opening}
 use Rattle.record_view.specs.Shows.{ShowsInput}
@@ -144,7 +145,7 @@ pub refused_begins : (layout : Layout) (before : ℕ) (bytes r s u : List ℕ) (
     (at : RefusedAtValue) → input_at layout.events (drop 1 bytes) ≡ Got (input, r) → ShowsInput layout.events p bytes input → r
     ≡ drop p.outcome_at bytes → number 1 0 1 r ≡ Got (flag, s) → eqb flag 0 ≡ false → refusal_at s ≡ Got (at, u)
     → (value : OpeningValue) × (run_opening layout (drop 1 bytes) ≡ Got (value, u))
-    × ShowsOpening (places.Runs layout before) (opening.Ready (kinds.Run p (ends.Refused (length bytes - length s)))) bytes value u
+    × ShowsOpening (places.Runs layout before) (opening.Ready (item_kinds.Frame (kinds.Run p (ends.Refused (length bytes - length s))))) bytes value u
 unfolding run_opening refused_at
 refused_begins layout before bytes r s u p input flag at i shows e f other k =
     let a = flag_behind layout.events bytes r s p input flag shows e f in

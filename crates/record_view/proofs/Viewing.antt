@@ -23,7 +23,8 @@ use Rattle.record_view.specs.declared.stop.Stop.{Stop}
 use Rattle.record_view.specs.declared.stop.Stop.TheVariants as stops
 use Rattle.record_view.specs.declared.skip.Skip.{Skip}
 use Rattle.record_view.specs.declared.view.ItemKind.{ItemKind}
-use Rattle.record_view.specs.declared.view.ItemKind.TheVariants as kinds
+use Rattle.record_view.specs.declared.view.ItemKind.TheVariants as item_kinds
+use Rattle.record_view.specs.declared.view.FrameKind.TheVariants as kinds
 use Rattle.record_view.specs.declared.view.OutcomeView.TheVariants as ends
 use Rattle.record_view.specs.declared.view.InputView.{InputView}
 use Rattle.record_view.specs.declared.partial.PartialRun.{PartialRun}
@@ -136,7 +137,7 @@ init_goes place count left read bytes skip h p =
     record { reading = h.reading; goes = goes_on element_at count 5 left read bytes skip h.goes p }
 
 pub init_whole : (place : Place) (count left read : ℕ) (bytes : List ℕ) → left ≤ 0 → InitScan place count left read bytes
-    → (item : Item) × Shows place (record { kind = kinds.Init count; len = read }) bytes item
+    → (item : Item) × Shows place (record { kind = item_kinds.Frame (kinds.Init count); len = read }) bytes item
 init_whole place count left read bytes none h =
     let d = goes_done element_at count 5 left read bytes none h.goes in (
       items.Frame (frames.Init h.goes.done),
@@ -237,7 +238,7 @@ output_length bytes output rest e =
 pub run_whole : (place : Place) (run : PartialRun) (read : ℕ) (bytes output rest : List ℕ) → run.left ≤ 0 → RunScan place run read bytes
     → string_at 4 1048576 (drop read bytes) ≡ Got (output, rest)
     → (length rest ≤ length bytes) × (item : Item) × Shows place (record {
-      kind = kinds.Run run.input (ends.Finished run.elements run.elements_at read);
+      kind = item_kinds.Frame (kinds.Run run.input (ends.Finished run.elements run.elements_at read));
       len = length bytes - length rest;
     }) bytes item
 run_whole place run read bytes output rest none h o =

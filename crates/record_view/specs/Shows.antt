@@ -4,6 +4,7 @@ use Rattle.det_values.specs.declared.format.Format.{Format}
 use Rattle.det_values.specs.declared.frames.CycleInput.{CycleInput}
 use Rattle.det_values.specs.declared.frames.Outcome.{Outcome}
 use Rattle.det_values.specs.declared.frames.Outcome.TheVariants as outcomes
+use Rattle.det_values.specs.declared.frames.Frame.{Frame}
 use Rattle.det_values.specs.declared.frames.Frame.TheVariants as frames
 use Rattle.det_values.specs.Values.{RefusedAtValue}
 use Rattle.record_grammar.specs.declared.place.Place.{Place}
@@ -17,6 +18,9 @@ use Rattle.record_grammar.specs.Places.{layout_of, format_of}
 use Rattle.record_view.specs.declared.view.InputView.{InputView}
 use Rattle.record_view.specs.declared.view.OutcomeView.{OutcomeView}
 use Rattle.record_view.specs.declared.view.OutcomeView.TheVariants as ends
+use Rattle.record_view.specs.declared.view.FrameKind.{FrameKind}
+use Rattle.record_view.specs.declared.view.FrameKind.TheVariants as frame_kinds
+use Rattle.record_view.specs.declared.view.FrameView.{FrameView}
 use Rattle.record_view.specs.declared.view.ItemKind.{ItemKind}
 use Rattle.record_view.specs.declared.view.ItemKind.TheVariants as kinds
 use Rattle.record_view.specs.declared.view.ItemSpan.{ItemSpan}
@@ -72,17 +76,23 @@ abbrev pub first_of : OutcomeView → ℕ
 first_of (ends.Finished count at output_at) = at
 first_of (ends.Refused at) = at
 
-abbrev pub ShowsParts : Place → ItemKind → ℕ → List ℕ → Item → Type 0
-ShowsParts place (kinds.Header layout) len bytes (items.Header p) = layout_of p ≡ layout
-ShowsParts place kinds.Register len bytes (items.Frame frames.Register) = Unit {0}
-ShowsParts place kinds.Discover len bytes (items.Frame frames.Discover) = Unit {0}
-ShowsParts place (kinds.Init count) len bytes (items.Frame (frames.Init elements)) =
+-- the parts of a frame are at these offsets
+abbrev pub ShowsFrame : Place → FrameKind → ℕ → List ℕ → Frame → Type 0
+ShowsFrame place frame_kinds.Register len bytes frames.Register = Unit {0}
+ShowsFrame place frame_kinds.Discover len bytes frames.Discover = Unit {0}
+ShowsFrame place (frame_kinds.Init count) len bytes (frames.Init elements) =
     (many element_at count (drop 5 bytes) ≡ Got (elements, drop len bytes)) × (5 ≤ len)
-ShowsParts place (kinds.Run input outcome) len bytes (items.Frame (frames.Run r)) =
+ShowsFrame place (frame_kinds.Run input outcome) len bytes (frames.Run r) =
     ShowsInput (events_of place) input bytes r.input
     × ShowsOutcome (format_of place) outcome len bytes r.outcome
     × (input.outcome_at ≤ first_of outcome)
-ShowsParts place kinds.Terminate len bytes (items.Frame frames.Terminate) = Unit {0}
+ShowsFrame place frame_kinds.Terminate len bytes frames.Terminate = Unit {0}
+ShowsFrame place kind len bytes frame = ⊥
+
+abbrev pub ShowsParts : Place → ItemKind → ℕ → List ℕ → Item → Type 0
+ShowsParts place (kinds.Header layout) len bytes (items.Header p) = layout_of p ≡ layout
+ShowsParts place (kinds.Frame kind) len bytes (items.Frame frame) =
+    ShowsFrame place kind len bytes frame
 ShowsParts place kind len bytes item = ⊥
 
 -- the item comes first in these bytes, in this place of a record, and its parts are where the view
@@ -96,3 +106,16 @@ pub record Shows (place : Place) (span : ItemSpan) (bytes : List ℕ) (item : It
 pub record IsSpelling (view : ItemView) (item : Item) (bytes : List ℕ) : Type 0 where
   pub shows : Shows view.place view.span bytes item
   pub exact : length bytes ≡ view.span.len
+
+-- ---- frames
+
+-- the view of a frame as one of an item
+abbrev pub item_view : FrameView → ItemView
+item_view view = record {
+  place = view.place;
+  span = record { kind = kinds.Frame view.kind; len = view.len };
+}
+
+-- these are a frame's bytes and no others, and the view is of it
+abbrev pub IsFrameSpelling : FrameView → Frame → List ℕ → Type 0
+IsFrameSpelling view frame bytes = IsSpelling (item_view view) (items.Frame frame) bytes

@@ -2,6 +2,7 @@
 //! checked once against the grammar, and nothing of it is copied. No function takes memory.
 #![tactic(auto)]
 
+mod equal;
 mod field;
 mod header;
 mod input;
@@ -17,6 +18,7 @@ mod stop;
 mod view;
 mod walk;
 
+pub use equal::are_equal;
 pub use header::{magic, name_byte, version};
 pub use next_place::{events_at, format_at, place_after};
 pub use number::{signed, u8_at, u16_at, u64_at};
@@ -24,5 +26,5 @@ pub use partial::{Partial, PartialRun, Scan, Step};
 pub use parts::{elements_in, init_elements_in, output_in, refusal_in, samples_in};
 pub use resume::view_item;
 pub use stop::Stop;
-pub use view::{InputView, ItemKind, ItemSpan, ItemView, OutcomeView};
+pub use view::{FrameKind, FrameView, InputView, ItemKind, ItemSpan, ItemView, OutcomeView};
 pub use walk::{ElementWalk, SampleWalk};

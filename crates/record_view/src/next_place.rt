@@ -4,7 +4,7 @@ ghost use Rattle.record_grammar.specs.declared.item.Item.{Item};
 ghost use Rattle.record_grammar.specs.Places.{after, format_of, CanFollow};
 ghost use Rattle.record_view.specs.Shows.{ShowsParts, events_of};
 
-use crate::view::ItemKind;
+use crate::view::{FrameKind, ItemKind};
 use det_values::Format;
 use record_grammar::Place;
 
@@ -22,7 +22,9 @@ pub fn place_after(place: Place, kind: ItemKind) -> Place
         Place::Discover(layout) => Place::Init(layout),
         Place::Init(layout) => Place::Runs(layout, 0),
         Place::Runs(layout, before) => match kind {
-            ItemKind::Run { .. } => Place::Runs(layout, before.saturating_add(1)),
+            ItemKind::Frame(FrameKind::Run { .. }) => {
+                Place::Runs(layout, before.saturating_add(1))
+            }
             _ => Place::End,
         },
         Place::End => place,

@@ -11,7 +11,7 @@ use crate::header::layout;
 use crate::input::{max_samples, skip_refusal, skip_samples, time};
 use crate::number::{u8_at, u32_at};
 use crate::stop::Stop;
-use crate::view::{InputView, ItemKind, OutcomeView};
+use crate::view::{FrameKind, InputView, ItemKind, OutcomeView};
 use record_grammar::{Layout, Place, Reason};
 
 const MAX_ELEMENTS: u32 = 65_536;
@@ -72,7 +72,8 @@ fn run_opening(layout: Layout, before: u32, bytes: &[u8]) -> Result<(Opening, &[
         at: bytes.len() - rest.len(),
     };
     let rest = skip_refusal(rest)?;
-    Ok((Opening::Ready(ItemKind::Run { input, outcome }), rest))
+    let kind = ItemKind::Frame(FrameKind::Run { input, outcome });
+    Ok((Opening::Ready(kind), rest))
 }
 
 /// Why a tag is refused in a place.
@@ -100,14 +101,20 @@ fn tagged_opening<'a>(
         (tagged_opening place tag rest.now (length bytes.now)) }
 {
     match (place, tag) {
-        (Place::Register(_), 1) => Ok((Opening::Ready(ItemKind::Register), rest)),
-        (Place::Discover(_), 2) => Ok((Opening::Ready(ItemKind::Discover), rest)),
+        (Place::Register(_), 1) => {
+            Ok((Opening::Ready(ItemKind::Frame(FrameKind::Register)), rest))
+        }
+        (Place::Discover(_), 2) => {
+            Ok((Opening::Ready(ItemKind::Frame(FrameKind::Discover)), rest))
+        }
         (Place::Init(_), 3) => match u32_at(0, MAX_ELEMENTS, rest) {
             Err(stop) => Err(stop),
             Ok((elements, others)) => Ok((Opening::Init(elements), others)),
         },
         (Place::Runs(layout, before), 4) if before < MAX_RUNS => run_opening(layout, before, bytes),
-        (Place::Runs(..), 5) => Ok((Opening::Ready(ItemKind::Terminate), rest)),
+        (Place::Runs(..), 5) => {
+            Ok((Opening::Ready(ItemKind::Frame(FrameKind::Terminate)), rest))
+        }
         _ => Err(Stop::Bad {
             reason: reason_of(place, tag),
             left: bytes.len(),

@@ -10,7 +10,7 @@ use crate::opening::{Opening, read_opening};
 use crate::partial::{Partial, PartialRun, Scan, Step};
 use crate::skip::{skip_drawn, skip_elements};
 use crate::stop::Stop;
-use crate::view::{ItemKind, ItemSpan, OutcomeView};
+use crate::view::{FrameKind, ItemKind, ItemSpan, OutcomeView};
 use det_values::Format;
 use record_grammar::Place;
 
@@ -50,7 +50,7 @@ fn go_on_init(place: Place, elements: u32, left: u32, read: usize, bytes: &[u8])
     let skip = skip_elements(left, rest_of(bytes, read));
     let read = read + skip.read;
     match skip.stop {
-        None => whole(ItemKind::Init { elements }, read),
+        None => whole(ItemKind::Frame(FrameKind::Init { elements }), read),
         Some(stop) => {
             let left = skip.left;
             stopped(Partial::Init { elements, left }, read, stop)
@@ -83,7 +83,8 @@ fn go_on_run(place: Place, format: Format, run: PartialRun, read: usize, bytes: 
                 output_at: read,
             };
             let input = run.input;
-            whole(ItemKind::Run { input, outcome }, bytes.len() - rest.len())
+            let kind = FrameKind::Run { input, outcome };
+            whole(ItemKind::Frame(kind), bytes.len() - rest.len())
         }
     }
 }

@@ -1,4 +1,7 @@
 //! Views: where the parts of an item are. Offsets count from the item's first byte.
+ghost use Rattle.std.specs.Prelude.{◌≡◌, IfSome, IfNone};
+ghost use Rattle.record_grammar.specs.declared.place.Layout.{Layout};
+
 use record_grammar::{Layout, Place};
 
 /// A cycle's input. Its samples are at `samples_at..outcome_at`, ten bytes each.
@@ -26,13 +29,12 @@ pub enum OutcomeView {
     },
 }
 
-/// An item's kind, and where its parts are.
+/// A frame's kind, and where its parts are.
 #[derive(Clone, Copy, Drop)]
-pub enum ItemKind {
-    Header(Layout),
+pub enum FrameKind {
     Register,
     Discover,
-    /// The elements are from byte 5 up to the item's end.
+    /// The elements are from byte 5 up to the frame's end.
     Init {
         elements: u32,
     },
@@ -41,6 +43,13 @@ pub enum ItemKind {
         outcome: OutcomeView,
     },
     Terminate,
+}
+
+/// An item's kind, and where its parts are.
+#[derive(Clone, Copy, Drop)]
+pub enum ItemKind {
+    Header(Layout),
+    Frame(FrameKind),
 }
 
 /// An item that is whole.
@@ -56,4 +65,50 @@ pub struct ItemSpan {
 pub struct ItemView {
     pub place: Place,
     pub span: ItemSpan,
+}
+
+/// A frame, with its place in the record.
+#[derive(Clone, Copy, Drop)]
+pub struct FrameView {
+    pub place: Place,
+    pub kind: FrameKind,
+    /// How many bytes it has.
+    pub len: usize,
+}
+
+impl ItemView {
+    ghost use Rattle.record_view.specs.Shows.{item_view};
+    ghost use Rattle.record_view.specs.declared.view.ItemKind.TheVariants as kinds;
+
+    /// The item as a frame. None where it is a header.
+    pub fn as_frame(self) -> Option<FrameView>
+        ensures some { IfSome result (λ view. item_view view ≡ self) }
+        ensures none { IfNone result ((layout : Layout) × (self.span.kind ≡ kinds.Header layout)) }
+    {
+        match self.span.kind {
+            ItemKind::Header(_) => None,
+            ItemKind::Frame(kind) => Some(FrameView {
+                place: self.place,
+                kind,
+                len: self.span.len,
+            }),
+        }
+    }
+}
+
+impl FrameView {
+    ghost use Rattle.record_view.specs.Shows.{item_view};
+
+    /// The frame as an item of its record.
+    pub fn as_item(self) -> ItemView
+        ensures { result ≡ item_view self }
+    {
+        ItemView {
+            place: self.place,
+            span: ItemSpan {
+                kind: ItemKind::Frame(self.kind),
+                len: self.len,
+            },
+        }
+    }
 }

@@ -1,5 +1,5 @@
 use Rattle.std.proofs.Common.{◌≡◌, ◌+◌, length, ◌++◌}
-use Rattle.record_codec.proofs.run.samples_of.Given as goal
+use Rattle.record_codec.proofs.run.fill_samples.Given as goal
 
 abbrev pub invariant-samples : goal.invariant-samples
 invariant-samples l = record {

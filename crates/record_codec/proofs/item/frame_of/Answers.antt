@@ -1,20 +1,11 @@
-use Rattle.std.proofs.Common.{◌<◌, ◌≤◌, ℕ, List, map, sym, ap, ◌∙◌, arith}
+use Rattle.std.proofs.Common.{◌≡◌, ◌<◌, ◌≤◌, ℕ, List, map, sym, ap, ◌∙◌, arith}
 use Rattle.std.proofs.lemmas.List.Elements.{All-from_get_or}
 use Rattle.det_values.specs.declared.frames.Frame.TheVariants as frames
-use Rattle.record_grammar.specs.declared.item.Item.TheVariants as items
+use Rattle.det_values.specs.declared.frames.RunFrame.{RunFrame}
 use Rattle.record_view.specs.Shows.{events_of}
 use Rattle.record_codec.specs.Parts.{bytes_of}
-use Rattle.record_codec.proofs.Made.{of_header, of_init, few_of_init, bytes_undrawn, of_run, few_of_run}
-use Rattle.record_codec.proofs.item.item_of.Goals as goal
-
-pub header_of-requires : goal.header_of-requires
-header_of-requires c =
-    let k = of_header c.args.view c.in-Header.field-0 c.requires.0 c.args.bytes.now c.in-Header.is c.requires.1 in (k.profile, _, k.read)
-
-pub returns-in_ok-header_of-in-Header : goal.returns-in_ok-header_of-in-Header
-returns-in_ok-header_of-in-Header c item h =
-    let k = of_header c.args.view c.in-Header.field-0 item c.args.bytes.now c.in-Header.is h in
-    ap items.Header (c.in_ok-header_of-in-Header.ensures k.profile _ k.read) ∙ sym k.is
+use Rattle.record_codec.proofs.Made.{of_init, few_of_init, bytes_undrawn, of_run, few_of_run}
+use Rattle.record_codec.proofs.item.frame_of.Goals as goal
 
 pub init_elements_in-requires : goal.init_elements_in-requires
 init_elements_in-requires c =
@@ -36,10 +27,15 @@ elements_of-requires c =
     )
 
 pub returns-in_ok-elements-in-Init : goal.returns-in_ok-elements-in-Init
-returns-in_ok-elements-in-Init c item h =
-    let k = of_init c.args.view c.in-Init.elements item c.args.bytes.now c.in-Init.is h in
-    ap (λ (es : List (List ℕ)). items.Frame (frames.Init es)) (c.in_ok-elements-in-Init.ensures
+returns-in_ok-elements-in-Init c frame h =
+    let k = of_init c.args.view c.in-Init.elements frame c.args.bytes.now c.in-Init.is h in
+    ap frames.Init (c.in_ok-elements-in-Init.ensures
     ∙ ap (map bytes_of) (c.init_elements_in.ensures.is k.elements _ k.read) ∙ bytes_undrawn k.elements) ∙ sym k.is
+
+pub run_of-requires-clause-shows : goal.run_of-requires-clause-shows
+run_of-requires-clause-shows c =
+    let k = of_run c.args.view c.in-Run.input c.in-Run.outcome c.requires.0 c.args.bytes.now c.in-Run.is c.requires.1 in
+    (_, k.run, k.shows)
 
 pub run_of-requires-clause-few : goal.run_of-requires-clause-few
 run_of-requires-clause-few c =
@@ -49,3 +45,8 @@ run_of-requires-clause-few c =
     few_of_run c.args.view c.in-Run.input c.in-Run.outcome c.requires.0 c.args.bytes.now few
     (All-from_get_or (λ b. b < 256) c.args.bytes.now 0 (λ i l. omega (arith, c.type_inv.bytes i))) h
     (of_run c.args.view c.in-Run.input c.in-Run.outcome c.requires.0 c.args.bytes.now c.in-Run.is h)
+
+pub returns-in_ok-run-in-Run : goal.returns-in_ok-run-in-Run
+returns-in_ok-run-in-Run c frame h =
+    let k = of_run c.args.view c.in-Run.input c.in-Run.outcome frame c.args.bytes.now c.in-Run.is h in
+    ap frames.Run (c.in_ok-run-in-Run.ensures _ k.run k.shows) ∙ sym k.is
