@@ -1,4 +1,5 @@
 pub mod Answers
 pub mod Ends
+pub mod BreaksOff
 pub mod Outcome
 pub mod Statuses

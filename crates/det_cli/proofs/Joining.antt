@@ -180,6 +180,7 @@ module _ (shelf : ShelfState) (other : Type 0) (before : List ℕ → Type 0) (a
       → Runs command shelf shelf other before before audience audience BadWords
   runs-no-command command none = runs-command shelf shelf other before before audience audience BadWords command None none (record {
     meets = meets-no-command (Rose shelf.faults shelf.faults) None refl;
+    broken = λ t e. tt;
     ends = refl;
     asked = asks-prefix-none shelf shelf [] refl;
     needed = λ t. asks-prefix-none shelf shelf [] refl;

@@ -6,18 +6,24 @@ use Rattle.det_edges.specs.Shelf.{ShelfState, AsksPrefix}
 use Rattle.probes.specs.Reports.{AudienceState}
 use Rattle.cli_words.specs.declared.table.CommandWord.{CommandWord}
 use Rattle.cli_words.specs.declared.table.CommandWord.TheVariants.{Show, Sim, Check}
-use Rattle.cli_words.specs.declared.table.CommandWord.TheVariants.{Salvage}
-use Rattle.cli_words.specs.Command.{CommandValue, name_at, number_in, part_of}
+use Rattle.cli_words.specs.declared.table.CommandWord.TheVariants.{Salvage, Vote}
+use Rattle.cli_words.specs.Command.{CommandValue, name_at, files_of, number_in, part_of}
+use Rattle.record_grammar.specs.Record.{items as items_in}
+use Rattle.record_reader.specs.Salvaged.{saved_of}
+use Rattle.record_show.specs.Text.{lines_of}
 use Rattle.record_show.specs.Ended as showing
 use Rattle.probes.specs.Shows.{SawRuns}
 use Rattle.cmd_salvage.specs.Ended as salvaging
+use Rattle.cmd_vote.specs.Vote.{VoteBreaksOff}
 use Rattle.cmd_check.specs.Check as checking
 use Rattle.cmd_sim.specs.Sim.{sim_runs}
 use Rattle.cli_answers.specs.declared.answer.Answer.{Answer}
-use Rattle.cli_answers.specs.declared.answer.Answer.TheVariants.{Done, BadWords, OutOfMemory}
+use Rattle.cli_answers.specs.declared.answer.Answer.TheVariants.{Done, BadWords, ReadFault}
+use Rattle.cli_answers.specs.declared.answer.Answer.TheVariants.{OutOfMemory}
 use Rattle.cli_answers.specs.declared.status.Status.{Status}
 use Rattle.cli_answers.specs.Answers.{status_of, err_line}
 use Rattle.cli_answers.specs.Ends.{can_end}
+use Rattle.cli_answers.specs.BreaksOff.{BreaksOff}
 use Rattle.cli_answers.specs.Outcome.{Meets, Tells, told}
 use Rattle.det_cli.specs.Outcome.{command_in, names_in, opened, shows_runs, work_of, outcome_of}
 
@@ -48,6 +54,37 @@ abbrev pub HasSeen : Option CommandValue → (List ℕ → List ℕ) → Audienc
 HasSeen (Some c) holds old now before after = SeenBy c.word c holds old now before after
 HasSeen None holds old now before after = Unit {0}
 
+-- what `salvage` has written: all that it saves of the bytes read, and no report
+abbrev pub SalvageBroken : (reports : Bool) → ShelfState → ShelfState → List ℕ
+    → (before after : List ℕ → Type 0) → Type 0
+SalvageBroken true first last name before after = Grew before after []
+SalvageBroken false first last name before after =
+    BreaksOff first last name saved_of before after
+
+-- what `vote` has written: all rows that one copy shows so far, and of dissenters nothing
+abbrev pub VoteBroken : (dissent : Bool) → ShelfState → ShelfState → List (List ℕ)
+    → (before after : List ℕ → Type 0) → Type 0
+VoteBroken true first last names before after = Grew before after []
+VoteBroken false first last names before after = VoteBreaksOff first last names before after
+
+-- What a command on records has written where a read failed: all that the bytes give that were
+-- read.
+abbrev pub BrokenBy : CommandWord → CommandValue → ShelfState → ShelfState
+    → (before after : List ℕ → Type 0) → Type 0
+BrokenBy Show c first last before after =
+    BreaksOff first last (name_at 0 c) (λ read. lines_of (part_of c.options) (items_in read))
+    before after
+BrokenBy Salvage c first last before after =
+    SalvageBroken c.options.reports first last (name_at 0 c) before after
+BrokenBy Vote c first last before after =
+    VoteBroken c.options.dissent first last (files_of c) before after
+BrokenBy other c first last before after = Unit {0}
+
+abbrev pub HasWritten : Option CommandValue → ShelfState → ShelfState
+    → (before after : List ℕ → Type 0) → Type 0
+HasWritten (Some c) first last before after = BrokenBy c.word c first last before after
+HasWritten None first last before after = Unit {0}
+
 -- A run of a command. `out` took what `before` and `after` say; the audience `seeing` was handed
 -- in, and is `stayed` afterwards.
 pub record Runs (command : Option CommandValue) (first last : ShelfState) (out_failed : Type 0)
@@ -58,6 +95,9 @@ pub record Runs (command : Option CommandValue) (first last : ShelfState) (out_f
   pub meets : Meets (outcome_of command (told first) seeing)
       (Tells first (opened command (told first))) (Rose first.faults last.faults) out_failed
       before after answer
+  -- where a read failed, and the names are told, it has written what was read
+  pub broken : Tells first (opened command (told first)) → answer ≡ ReadFault
+      → HasWritten command first last before after
   -- each answer belongs to its command, told or untold
   pub ends : Ends command answer
   -- no other name is opened, and none before its turn; where they are told, none beyond those that

@@ -51,7 +51,7 @@ last_item (y ∷ given) place to bytes rest x h = let l = last_item given (after
 
 -- ---- the layout of a header stays
 
-abbrev HasLayout : Layout → Place → Type 0
+abbrev pub HasLayout : Layout → Place → Type 0
 HasLayout layout places.Header = ⊥
 HasLayout layout (places.Register l) = l ≡ layout
 HasLayout layout (places.Discover l) = l ≡ layout
@@ -84,7 +84,7 @@ spells_at layout (places.Runs l before) bytes rest (Run r) h k e =
 spells_at layout (places.Runs l before) bytes rest Terminate h k e = tt
 spells_at layout place bytes rest f h k e = elim k [ ]
 
-header_first : (p : ProfileValue) (xs : List Item) (to : Place) (bytes rest : List ℕ)
+pub header_first : (p : ProfileValue) (xs : List Item) (to : Place) (bytes rest : List ℕ)
     → Leads places.Header bytes (items.Header p ∷ xs) to rest → HasLayout (layout_of p) to
 header_first p xs to bytes rest h = all_layout (layout_of p) xs (places.Register (layout_of p)) to h.0 rest h.2 refl
 

@@ -1,6 +1,7 @@
 pub mod Reading
 pub mod Spellable
 pub mod Items
+pub mod FrameReading
 pub mod Taking
 pub mod Views
 pub mod Pieces

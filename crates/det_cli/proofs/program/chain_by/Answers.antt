@@ -20,6 +20,7 @@ returns g c audience =
     runs-command (g.S.Slots.sees c.args.shelf.now) _ _ _ _ _ _ _ (known seen) _
     (same-known seen words.Chain (first ∷ second ∷ stimulus ∷ []) c.requires.word is) (record {
       meets = c.chain.ensures.meets;
+      broken = λ t e. tt;
       ends = c.chain.ensures.ends;
       asked = c.chain.ensures.asked;
       needed = c.chain.ensures.judged;

@@ -20,6 +20,7 @@ returns-in-Demo g c =
     let is = sole-name seen words.Demo c.requires.range c.in-Demo.is refl refl c.name-first.result.now c.name-first.ensures in
     runs-command (g.S.Slots.sees c.args.shelf.now) _ _ _ _ _ _ _ (known seen) _ (same-known seen words.Demo names c.in-Demo.is is) (record {
       meets = c.demo.ensures.meets;
+      broken = λ t e. tt;
       ends = c.demo.ensures.ends;
       asked = c.demo.ensures.asked;
       needed = λ t. c.demo.ensures.asked;
@@ -37,6 +38,7 @@ returns-in-Record g c =
     runs-command (g.S.Slots.sees c.args.shelf.now) _ _ _ _ _ _ _ (known seen) _ (same-known seen words.Record names c.in-Record.is is)
     (record {
       meets = c.record_stimulus.ensures.meets;
+      broken = λ t e. tt;
       ends = c.record_stimulus.ensures.ends;
       asked = c.record_stimulus.ensures.asked;
       needed = c.record_stimulus.ensures.judged;
@@ -54,6 +56,7 @@ returns-in-Needs g c =
     runs-command (g.S.Slots.sees c.args.shelf.now) _ _ _ _ _ _ _ (known seen) _ (same-known seen words.Needs names c.in-Needs.is is)
     (record {
       meets = meets-under _ _ _ _ _ _ _ _ _ _ (λ t. t 0 c.name-first.result.now (omega arith)) (λ r. r) (λ o. o) c.needs.ensures.meets;
+      broken = λ t e. tt;
       ends = c.needs.ensures.ends;
       asked = asked;
       needed = λ t. asked;
@@ -71,6 +74,7 @@ returns-in-Show g c =
     runs-command (g.S.Slots.sees c.args.shelf.now) _ _ _ _ _ _ _ (known seen) _ (same-known seen words.Show names c.in-Show.is is)
     (record {
       meets = rw (← part) c.show.ensures.meets;
+      broken = rw (← part) (λ t e. c.show.ensures.broken e t);
       ends = c.show.ensures.ends;
       asked = c.show.ensures.asked;
       needed = λ t. c.show.ensures.asked;
@@ -86,6 +90,7 @@ returns-in-Sim g c =
     let number = c.number.ensures in
     runs-command first _ _ _ _ _ _ _ (known seen) _ (same-known seen words.Sim seen.names c.in-Sim.is refl) (record {
       meets = rw (sym number) (meets-under _ _ _ _ _ _ _ _ _ _ (λ t. tt) (λ r. absurd r) (λ o. o) c.sim.ensures.meets);
+      broken = λ t e. tt;
       ends = c.sim.ensures.ends;
       asked = asks-prefix-none first first [] refl;
       needed = λ t. asks-prefix-none first first [] refl;
@@ -104,6 +109,7 @@ returns-in-Some g c =
     ∙ ap (λ (t : Option (List ℕ)). cond (is_some t) (Some same) None) text in
     runs-command first _ _ _ _ _ _ _ (known seen) (Some same) is (record {
       meets = rw text (meets-under _ _ _ _ _ _ _ _ _ _ (λ t. tt) (λ r. absurd r) (λ o. o) c.print.ensures.meets);
+      broken = λ t e. tt;
       ends = c.print.ensures.ends;
       asked = asks-prefix-none first first [] refl;
       needed = λ t. asks-prefix-none first first [] refl;
@@ -127,6 +133,7 @@ returns-in-Version g c =
     runs-command first _ _ _ _ _ _ _ (known seen) _
     (same-known seen words.Version [] c.in-Version.is (no-name seen words.Version c.requires.range c.in-Version.is refl)) (record {
       meets = meets-under _ _ _ _ _ _ _ _ _ _ (λ t. tt) (λ r. absurd r) (λ o. o) c.print-in-Version.ensures.meets;
+      broken = λ t e. tt;
       ends = c.print-in-Version.ensures.ends;
       asked = asks-prefix-none first first [] refl;
       needed = λ t. asks-prefix-none first first [] refl;
@@ -143,6 +150,7 @@ returns-in-Check g c =
     runs-command (g.S.Slots.sees c.args.shelf.now) _ _ _ _ _ _ _ (known seen) _ (same-known seen words.Check names c.in-Check.is is)
     (record {
       meets = c.check.ensures.meets;
+      broken = λ t e. tt;
       ends = c.check.ensures.ends;
       asked = c.check.ensures.asked;
       needed = λ t. c.check.ensures.asked;
@@ -159,6 +167,7 @@ returns-in-Upgrade g c =
     runs-command (g.S.Slots.sees c.args.shelf.now) _ _ _ _ _ _ _ (known seen) _ (same-known seen words.Upgrade names c.in-Upgrade.is is)
     (record {
       meets = c.upgrade.ensures.meets;
+      broken = λ t e. tt;
       ends = c.upgrade.ensures.ends;
       asked = c.upgrade.ensures.asked;
       needed = λ t. c.upgrade.ensures.asked;
@@ -193,6 +202,7 @@ returns-in-Replay g c =
     runs-command (g.S.Slots.sees c.args.shelf.now) _ _ _ _ _ _ _ (known seen) _ (same-known seen words.Replay names c.in-Replay.is is)
     (record {
       meets = c.replay.ensures.meets;
+      broken = λ t e. tt;
       ends = c.replay.ensures.ends;
       asked = c.replay.ensures.asked;
       needed = λ t. c.replay.ensures.asked;
@@ -216,6 +226,7 @@ returns-in-Compare g c =
     runs-command (g.S.Slots.sees c.args.shelf.now) _ _ _ _ _ _ _ (known seen) _
     (same-known seen words.Compare _ c.in-Compare.is (sym names)) (record {
       meets = c.compare.ensures.meets;
+      broken = λ t e. tt;
       ends = c.compare.ensures.ends;
       asked = c.compare.ensures.asked;
       needed = λ t. c.compare.ensures.asked;
@@ -232,6 +243,7 @@ returns-then-command g c =
     runs-command (g.S.Slots.sees c.args.shelf.now) _ _ _ _ _ _ _ (known seen) _
     (same-reports seen words.Salvage names true c.in-Salvage.is is c.if-command.true) (record {
       meets = c.salvage_reports.ensures.meets;
+      broken = λ t e. c.salvage_reports.ensures.broken e;
       ends = c.salvage_reports.ensures.ends;
       asked = c.salvage_reports.ensures.asked;
       needed = λ t. c.salvage_reports.ensures.asked;
@@ -248,6 +260,7 @@ returns-else-command g c =
     runs-command (g.S.Slots.sees c.args.shelf.now) _ _ _ _ _ _ _ (known seen) _
     (same-reports seen words.Salvage names false c.in-Salvage.is is c.if-command.false) (record {
       meets = c.salvage.ensures.meets;
+      broken = λ t e. c.salvage.ensures.broken e t;
       ends = c.salvage.ensures.ends;
       asked = c.salvage.ensures.asked;
       needed = λ t. c.salvage.ensures.asked;

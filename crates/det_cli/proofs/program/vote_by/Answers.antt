@@ -33,6 +33,7 @@ returns-then-command g c audience =
     runs-command (g.S.Slots.sees c.args.shelf.now) _ _ _ _ _ _ _ (known seen) _
     (same-dissent seen words.Vote _ true c.requires.word (sym names) c.if-command.true) (record {
       meets = c.vote_dissent.ensures.meets;
+      broken = λ t e. c.vote_dissent.ensures.broken e;
       ends = c.vote_dissent.ensures.ends;
       asked = c.vote_dissent.ensures.asked;
       needed = λ t. c.vote_dissent.ensures.asked;
@@ -48,6 +49,7 @@ returns g c audience =
     runs-command (g.S.Slots.sees c.args.shelf.now) _ _ _ _ _ _ _ (known seen) _
     (same-dissent seen words.Vote _ false c.requires.word (sym names) c.if-command.false) (record {
       meets = c.vote.ensures.meets;
+      broken = λ t e. c.vote.ensures.broken e t;
       ends = c.vote.ensures.ends;
       asked = c.vote.ensures.asked;
       needed = λ t. c.vote.ensures.asked;

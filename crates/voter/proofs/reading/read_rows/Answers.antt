@@ -35,7 +35,7 @@ returns-in_err-read-clause-rows g c first given slots ne voters =
     (c.voters.invariant.have first given slots ne voters) in
     passed-on (λ (r : Result (Unit {0}) Failure). RowsRead r first (g.S.Slots.sees c.read.new.shelf) given slots
     (slice_set c.voters.voters.items c.voters.index c.read.new.self)) c.from_residual.result c.from_residual.ensures.1
-    (c.in_err-read.ensures.row first given was.0 was.1)
+    (was.0, was.1, c.in_err-read.ensures.row first given was.0 was.2)
 
 pub returns-in_err-read-clause-needed : goal.returns-in_err-read-clause-needed
 returns-in_err-read-clause-needed g c first given slots ne voters =

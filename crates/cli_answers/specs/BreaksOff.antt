@@ -1,0 +1,16 @@
+-- Where a read of a record failed: what was written is what the bytes give that were read.
+use Rattle.std.specs.Prelude.{◌≡◌, ℕ, ◌⊎◌, List, [], ◌++◌, Some}
+use Rattle.det_edges.specs.Shelf.{ShelfState}
+use Rattle.det_edges.specs.Sink.{Grew}
+use Rattle.cli_answers.specs.Outcome.{told}
+
+-- of the bytes under a name, the first that was opened, these were read, and `out` took what is
+-- written of them
+pub record BreaksOff (first last : ShelfState) (name : List ℕ) (written : List ℕ → List ℕ)
+    (before after : List ℕ → Type 0) : Type 0 where
+  pub read : List ℕ
+  pub rest : List ℕ
+  pub all : told first name ≡ read ++ rest
+  -- the name's slot has the rest left, or the name couldn't be opened
+  pub left : (last.left first.slots ≡ Some rest) ⊎ ((last.slots ≡ first.slots) × (read ≡ []))
+  pub grew : Grew before after (written read)

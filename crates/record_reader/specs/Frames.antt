@@ -1,0 +1,104 @@
+-- What a reader of frames keeps of the bytes that it read of its slot, and of the items that it
+-- gave, of which the header is the first.
+use Rattle.std.specs.Prelude.{◌≡◌, ℕ, ◌<◌, List, [], ◌∷◌, ◌++◌, Option, Some, None}
+use Rattle.std.specs.Prelude.{Result, Ok, Err}
+use Rattle.det_values.specs.Values.{ProfileValue}
+use Rattle.det_values.specs.declared.frames.Frame.{Frame}
+use Rattle.det_edges.specs.Shelf.{ShelfState, Reads, IsAtEnd}
+use Rattle.det_edges.specs.declared.failure.Failure.TheVariants.{Read, Write, OutOfMemory}
+use Rattle.det_edges.specs.declared.failure.Stopped.{Stopped}
+use Rattle.det_edges.specs.declared.failure.Stopped.TheVariants.{Refused, Failed}
+use Rattle.record_grammar.specs.declared.fault.RecordFault.{RecordFault}
+use Rattle.record_grammar.specs.declared.item.Item.{Item}
+use Rattle.record_grammar.specs.declared.item.Item.TheVariants as items
+use Rattle.record_grammar.specs.Record.{items as items_in, fault as fault_in, fault_so_far}
+use Rattle.record_view.specs.declared.view.FrameView.{FrameView}
+use Rattle.record_view.specs.declared.view.ItemView.{ItemView}
+use Rattle.record_view.specs.Shows.{item_view}
+use Rattle.item_reader.specs.StandsFor as inner
+use Rattle.item_reader.specs.StandsFor.{FoundFault, ReadsIfNeeded}
+use Rattle.record_reader.specs.declared.frames.FrameReader.{FrameReader}
+use Rattle.record_reader.specs.declared.frames.OpenRecord.{OpenRecord}
+
+-- these bytes were read, these items given, and no fault was answered
+abbrev pub StandsFor : FrameReader → List ℕ → List Item → Type 0
+StandsFor r read given = inner.StandsFor r.items read given
+
+-- the fault that was answered
+abbrev pub fault_of : FrameReader → Option RecordFault
+fault_of r = inner.fault_of r.items
+
+-- the slot that it reads
+abbrev pub slot_of : FrameReader → ℕ
+slot_of r = inner.slot_of r.items
+
+-- how many frames may still come
+abbrev pub room : FrameReader → ℕ
+room r = inner.room r.items
+
+-- this frame was given last, and its bytes are held
+abbrev pub Holds : FrameReader → FrameView → Frame → Type 0
+Holds r view frame = inner.Holds r.items (item_view view) (items.Frame frame)
+
+-- after the header, bytes were read that were needed, and what the reader stood for before is known
+-- of it afterwards
+abbrev pub HasRead : ShelfState → ShelfState → FrameReader → (List ℕ → List Item → Type 0) → Type 0
+HasRead before after r Then = (more : List ℕ) × Reads before after (slot_of r) more
+    × ((profile : ProfileValue) (read : List ℕ) (behind : List Item)
+    → StandsFor r read (items.Header profile ∷ behind)
+    → ReadsIfNeeded read (items.Header profile ∷ behind) more
+    × Then (read ++ more) (items.Header profile ∷ behind))
+
+-- a frame is given that comes next
+pub record GaveFrame (view : FrameView) (r : FrameReader) (read : List ℕ) (given : List Item)
+    : Type 0 where
+  pub frame : Frame
+  pub holds : Holds r view frame
+  pub stands : StandsFor r read (given ++ items.Frame frame ∷ [])
+  pub others : List Item
+  pub is : items_in read ≡ given ++ items.Frame frame ∷ others
+
+-- a view that is given is of a frame whose bytes are held
+abbrev pub GaveView : Result (Option FrameView) (Stopped RecordFault) → FrameReader → Type 0
+GaveView (Ok (Some view)) r = (frame : Frame) × Holds r view frame
+GaveView (Ok None) r = Unit {0}
+GaveView (Err stop) r = Unit {0}
+
+-- what an answer says of the bytes read and the items given
+abbrev pub FrameIs : Result (Option FrameView) (Stopped RecordFault) → FrameReader → Type 0
+    → List ℕ → List Item → Type 0
+FrameIs (Ok (Some view)) r at_end read given = GaveFrame view r read given
+FrameIs (Ok None) r at_end read given = inner.ItemIs (Ok None) r.items at_end read given
+FrameIs (Err stop) r at_end read given = inner.ItemIs (Err stop) r.items at_end read given
+
+-- a frame leaves fewer that may come, and any other answer leaves as many
+abbrev pub RoomFell : Result (Option FrameView) (Stopped RecordFault) → ℕ → ℕ → Type 0
+RoomFell (Ok (Some view)) old new = new < old
+RoomFell (Ok None) old new = new ≡ old
+RoomFell (Err stop) old new = new ≡ old
+
+-- ---- the header
+
+-- there is an item
+abbrev pub IsHeader : Option ItemView → Type 0
+IsHeader (Some view) = Unit {0}
+IsHeader None = ⊥
+
+-- what an answer says of the bytes read: the header alone was given, or they have a fault and no
+-- whole header
+abbrev pub HeaderIs : Result OpenRecord (Stopped RecordFault) → ℕ → Type 0 → List ℕ → Type 0
+HeaderIs (Ok opened) slot at_end read =
+    StandsFor opened.frames read (items.Header opened.profile ∷ [])
+    × (slot_of opened.frames ≡ slot)
+HeaderIs (Err (Refused fault)) slot at_end read = FoundFault fault at_end read []
+HeaderIs (Err (Failed Read)) slot at_end read = (items_in read ≡ []) × (fault_so_far read ≡ None)
+HeaderIs (Err (Failed Write)) slot at_end read = ⊥
+HeaderIs (Err (Failed OutOfMemory)) slot at_end read = Unit {0}
+
+-- bytes of a slot were read that the header needs, and this is known of them
+pub record HasOpened (before after : ShelfState) (slot : ℕ)
+    (result : Result OpenRecord (Stopped RecordFault)) : Type 0 where
+  pub read : List ℕ
+  pub reads : Reads before after slot read
+  pub needed : ReadsIfNeeded [] [] read
+  pub is : HeaderIs result slot (IsAtEnd after slot) read

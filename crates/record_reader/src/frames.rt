@@ -1,0 +1,124 @@
+//! Records in slots, whose header was read.
+ghost use Rattle.std.specs.Prelude.{◌≡◌, ◌<◌, ◌∷◌, [], ℕ, List, Option, Some};
+ghost use Rattle.det_values.specs.Values.{ProfileValue};
+ghost use Rattle.det_edges.specs.Traffic.{ShelfTraffic, shelf_run, failure_in};
+ghost use Rattle.record_grammar.specs.declared.item.Item.TheVariants as items;
+ghost use Rattle.record_view.specs.Shows.{item_view};
+ghost use Rattle.record_view.specs.declared.view.FrameKind.{FrameKind};
+ghost use Rattle.record_view.specs.declared.view.ItemKind.TheVariants as kinds;
+ghost use Rattle.record_reader.specs.Frames.{IsHeader, HasOpened};
+
+use det_edges::{Failure, Slots, Stopped};
+use det_values::Profile;
+use item_reader::ItemReader;
+use record_codec::profile_of;
+use record_grammar::RecordFault;
+use record_view::{FrameView, ItemView};
+use std::alloc::Global;
+
+/// A record whose header was read.
+#[derive(Drop)]
+pub struct OpenRecord {
+    pub profile: Profile,
+    /// What comes after the header.
+    pub frames: FrameReader,
+}
+
+/// Reads the header of the record in a slot, and at most one piece of 65,536 bytes more than it
+/// has. `Refused` has the fault of a record that breaks off in its header.
+pub fn open<S: Slots>(
+    alloc: Global,
+    slot: u32,
+    shelf: &mut S,
+) -> Result<OpenRecord, Stopped<RecordFault>>
+    requires { slot < (S.sees shelf.old).slots }
+    ensures opened { HasOpened (S.sees shelf.old) (S.sees shelf.new) slot result }
+    ensures traffic { ShelfTraffic (shelf_run S.sees S.stays shelf.old shelf.new)
+        (failure_in result) }
+    ensures writes_nothing { failure_in result ≡ Some Failure.Write → ⊥ }
+{
+    let mut items = ItemReader::new(alloc, slot);
+    let header = header_in(items.next(shelf)?);
+    let profile = profile_of(alloc, header, items.bytes(header))?;
+    let frames = FrameReader { items };
+    Ok(OpenRecord { profile, frames })
+}
+
+/// The first item of a record, which is its header.
+fn header_in(first: Option<ItemView>) -> ItemView
+    requires { IsHeader first }
+    ensures { first ≡ Some result }
+{
+    match first {
+        Some(header) => header,
+        None => unreachable!(),
+    }
+}
+
+/// An item that isn't the header.
+fn frame_in(item: ItemView) -> FrameView
+    requires { (kind : FrameKind) × (item.span.kind ≡ kinds.Frame kind) }
+    ensures { item_view result ≡ item }
+{
+    match item.as_frame() {
+        Some(frame) => frame,
+        None => unreachable!(),
+    }
+}
+
+/// Gives the frames of the record in a slot, one after another, as views of the bytes that it
+/// holds. It holds the frame that it gave last, and one piece of 65,536 bytes.
+#[derive(Drop)]
+pub struct FrameReader {
+    items: ItemReader,
+}
+
+impl FrameReader {
+    ghost use Rattle.det_edges.specs.Shelf.{IsAtEnd};
+    ghost use Rattle.det_values.specs.declared.frames.Frame.{Frame};
+    ghost use Rattle.record_grammar.specs.declared.fault.RecordFault.{RecordFault};
+    ghost use Rattle.record_grammar.specs.declared.item.Item.{Item};
+    ghost use Rattle.record_view.specs.Shows.{IsFrameSpelling};
+    ghost use Rattle.record_reader.specs.Frames.{StandsFor, HasRead, FrameIs, RoomFell, Holds};
+    ghost use Rattle.record_reader.specs.Frames.{GaveView, fault_of, slot_of, room};
+
+    /// The next frame. None where the slot was read to its end and its record is whole. `Refused`
+    /// has the record's fault, which is answered again from then on. After a failed read the
+    /// reader goes on; after want of memory it isn't to be used.
+    pub fn next<S: Slots>(
+        &mut self,
+        shelf: &mut S,
+    ) -> Result<Option<FrameView>, Stopped<RecordFault>>
+        requires slot { slot_of self.old < (S.sees shelf.old).slots }
+        // The header was given, and perhaps frames.
+        requires headed { (profile : ProfileValue) × (read : List ℕ) × (after : List Item)
+            × StandsFor self.old read (items.Header profile ∷ after) }
+        ensures frame { HasRead (S.sees shelf.old) (S.sees shelf.new) self.old
+            (FrameIs result self.new (IsAtEnd (S.sees shelf.new) (slot_of self.old))) }
+        ensures held { GaveView result self.new }
+        // Each frame leaves fewer that may come.
+        ensures room { (read : List ℕ) (given : List Item) → StandsFor self.old read given
+            → RoomFell result (room self.old) (room self.new) }
+        ensures slot { slot_of self.new ≡ slot_of self.old }
+        // Nothing is read where a fault is answered again.
+        ensures again { (fault : RecordFault) → fault_of self.old ≡ Some fault
+            → (result ≡ Err (Stopped.Refused fault)) × (fault_of self.new ≡ Some fault)
+            × (S.sees shelf.new ≡ S.sees shelf.old) }
+        ensures traffic { ShelfTraffic (shelf_run S.sees S.stays shelf.old shelf.new)
+            (failure_in result) }
+    {
+        match self.items.next(shelf)? {
+            Some(item) => Ok(Some(frame_in(item))),
+            None => Ok(None),
+        }
+    }
+
+    /// The bytes of the frame that was given last: its one spelling.
+    pub fn bytes(&self, view: FrameView) -> &[u8]
+        requires { (frame : Frame) × Holds self.now view frame }
+        ensures { (frame : Frame) → Holds self.now view frame
+            → IsFrameSpelling view frame result.now }
+    {
+        self.items.bytes(view.as_item())
+    }
+}
