@@ -1,6 +1,6 @@
 -- What `vote` gives of copies of a record.
-use Rattle.std.specs.Prelude.{◌≡◌, ℕ, ◌+◌, ◌<◌, ◌⊎◌, true, List, [], ◌++◌, length, get_or, map, codes}
-use Rattle.std.specs.Prelude.{decimal, Option, Some, None, Result, Ok, Err}
+use Rattle.std.specs.Prelude.{◌≡◌, ℕ, ◌+◌, ◌<◌, ◌⊎◌, true, List, [], ◌++◌, length, get_or, map}
+use Rattle.std.specs.Prelude.{codes, decimal, Option, Some, None, Result, Ok, Err}
 use Rattle.std.specs.List.{flat_map}
 use Rattle.det_edges.specs.Shelf.{ShelfState}
 use Rattle.det_edges.specs.Sink.{Grew}
