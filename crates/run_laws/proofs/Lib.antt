@@ -17,8 +17,10 @@ mod Replayed
 mod GivenAgain
 mod Compared
 mod Voted
+mod Dissenters
 mod Departing
 mod WholeRecords
+mod Split
 mod OfInputs
 mod InFormatTwo
 mod Checked

@@ -1,13 +1,15 @@
 //! Laws of whole runs: what the record of a run is read as, what is printed of it, what its replay
-//! gives, when copies of it agree or have a majority, when it is genuine, what it is upgraded to,
-//! and what a chain makes of its first client. Each function is empty and its contract is the law.
+//! gives, when copies of it agree or have a majority, which copies dissent, when it is genuine,
+//! what it is upgraded to, and what a chain makes of its first client. Each function is empty and
+//! its contract is the law.
 #![tactic(auto)]
 
 ghost use Rattle.run_laws.specs.Statements.{RecordIsRead, DemoIsRead, RecordIsShown, DemoIsShown};
 ghost use Rattle.run_laws.specs.Statements.{RecordIsReplayed, DemoIsReplayed};
 ghost use Rattle.run_laws.specs.Chains.{FirstIsRecorded};
 ghost use Rattle.run_laws.specs.Copies.{CopiesAreCompared};
-ghost use Rattle.run_laws.specs.Votes.{MajorityIsWritten, DoneIsMajority};
+ghost use Rattle.run_laws.specs.Votes.{MajorityIsWritten, DoneIsMajority, SplitIsCommon};
+ghost use Rattle.run_laws.specs.Votes.{AnsweredAlike, OthersAreNamed, NoneIsNamed};
 ghost use Rattle.run_laws.specs.Checks.{RecordIsChecked, DemoIsChecked, GenuineIsReplayed};
 ghost use Rattle.run_laws.specs.Checks.{GenuineIsUpgraded, FormatTwoStays};
 
@@ -45,6 +47,22 @@ pub fn comparing()
 pub fn voting()
     ensures written { MajorityIsWritten }
     ensures done { DoneIsMajority }
+{}
+
+/// Where `vote` finds no majority, no whole record is that of more than half of the copies. More
+/// than half of them begin with the bytes that it has written then; these are the most such rows,
+/// and the number that it answers is how many they are.
+pub fn splitting()
+    ensures { SplitIsCommon }
+{}
+
+/// `vote --dissent` is answered as `vote` is. Where it is done, the copies that it names are those
+/// that aren't, byte for byte, the record that `vote` writes. Where all copies are one whole record
+/// it names none.
+pub fn dissenting()
+    ensures answer { AnsweredAlike }
+    ensures named { OthersAreNamed }
+    ensures none { NoneIsNamed }
 {}
 
 /// The record of the first client of a chain, which the command drops, is the one that `record`
