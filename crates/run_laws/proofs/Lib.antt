@@ -21,6 +21,8 @@ mod Dissenters
 mod Departing
 mod WholeRecords
 mod Split
+mod Salvaged
+mod RecordsSalvaged
 mod OfInputs
 mod InFormatTwo
 mod Checked

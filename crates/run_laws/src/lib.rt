@@ -1,7 +1,7 @@
 //! Laws of whole runs: what the record of a run is read as, what is printed of it, what its replay
 //! gives, when copies of it agree or have a majority, which copies dissent, when it is genuine,
-//! what it is upgraded to, and what a chain makes of its first client. Each function is empty and
-//! its contract is the law.
+//! what it is upgraded to, what is salvaged of it, and what a chain makes of its first client.
+//! Each function is empty and its contract is the law.
 #![tactic(auto)]
 
 ghost use Rattle.run_laws.specs.Statements.{RecordIsRead, DemoIsRead, RecordIsShown, DemoIsShown};
@@ -12,6 +12,8 @@ ghost use Rattle.run_laws.specs.Votes.{MajorityIsWritten, DoneIsMajority, SplitI
 ghost use Rattle.run_laws.specs.Votes.{AnsweredAlike, OthersAreNamed, NoneIsNamed};
 ghost use Rattle.run_laws.specs.Checks.{RecordIsChecked, DemoIsChecked, GenuineIsReplayed};
 ghost use Rattle.run_laws.specs.Checks.{GenuineIsUpgraded, FormatTwoStays};
+ghost use Rattle.run_laws.specs.Salvages.{InitIsEnough, SalvagedIsWhole, WholeIsKept};
+ghost use Rattle.run_laws.specs.Salvages.{RecordIsSalvaged, DemoIsSalvaged};
 
 /// The record of a manifest and a stimulus is read as its profile and the frames of its run, and as
 /// nothing else. A manifest is meant that is taken, and a stimulus of any bytes: where a bad line
@@ -90,4 +92,16 @@ pub fn genuine()
 pub fn upgrading()
     ensures genuine { GenuineIsUpgraded }
     ensures format_two { FormatTwoStays }
+{}
+
+/// `salvage` is done exactly where Init was read. Then it gives a whole record: the header and the
+/// frames that were read, ended by Terminate, and so the same cycles. A whole record is given back,
+/// byte for byte. So is the record of a run; where a bad line ended the stimulus, it gives the
+/// record of the complete blocks, ended.
+pub fn salvaging()
+    ensures done { InitIsEnough }
+    ensures whole { SalvagedIsWhole }
+    ensures kept { WholeIsKept }
+    ensures record { RecordIsSalvaged }
+    ensures demo { DemoIsSalvaged }
 {}
