@@ -28,3 +28,5 @@ mod InFormatTwo
 mod Checked
 mod GenuineRuns
 mod GenuineLaws
+mod PassedOn
+mod Chained

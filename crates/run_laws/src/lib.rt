@@ -1,12 +1,12 @@
 //! Laws of whole runs: what the record of a run is read as, what is printed of it, what its replay
 //! gives, when copies of it agree or have a majority, which copies dissent, when it is genuine,
-//! what it is upgraded to, what is salvaged of it, and what a chain makes of its first client.
-//! Each function is empty and its contract is the law.
+//! what it is upgraded to, what is salvaged of it, and what a chain makes of its two clients. Each
+//! function is empty and its contract is the law.
 #![tactic(auto)]
 
 ghost use Rattle.run_laws.specs.Statements.{RecordIsRead, DemoIsRead, RecordIsShown, DemoIsShown};
 ghost use Rattle.run_laws.specs.Statements.{RecordIsReplayed, DemoIsReplayed};
-ghost use Rattle.run_laws.specs.Chains.{FirstIsRecorded};
+ghost use Rattle.run_laws.specs.Chains.{FirstIsRecorded, ChainIsRead};
 ghost use Rattle.run_laws.specs.Copies.{CopiesAreCompared};
 ghost use Rattle.run_laws.specs.Votes.{MajorityIsWritten, DoneIsMajority, SplitIsCommon};
 ghost use Rattle.run_laws.specs.Votes.{AnsweredAlike, OthersAreNamed, NoneIsNamed};
@@ -68,9 +68,12 @@ pub fn dissenting()
 {}
 
 /// The record of the first client of a chain, which the command drops, is the one that `record`
-/// writes of the first manifest.
+/// writes of the first manifest. What `chain` writes is read as the second manifest's profile and
+/// the frames of its run over the inputs that the first client passes on, and `check` finds it
+/// genuine; where a bad line ended the stimulus, it ends too early.
 pub fn chaining()
-    ensures { FirstIsRecorded }
+    ensures first { FirstIsRecorded }
+    ensures second { ChainIsRead }
 {}
 
 /// Of that record `check` says that it is genuine, with the number of its cycles and what its
