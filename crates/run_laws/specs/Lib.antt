@@ -3,3 +3,4 @@ pub mod Copies
 pub mod Checks
 pub mod Votes
 pub mod Chains
+pub mod Salvages
