@@ -19,12 +19,11 @@ use Rattle.record_grammar.specs.Leads.{Leads}
 use Rattle.record_grammar.specs.Spelling.{CanSpell}
 use Rattle.record_grammar.proofs.Leads.{can_follow, leads_grow, all_leads, room_falls}
 use Rattle.record_laws.proofs.Whole.{nil_more}
-use Rattle.item_reader.specs.StandsFor.{place_of, unread}
-use Rattle.record_reader.specs.StandsFor.{StandsFor}
+use Rattle.item_reader.specs.declared.reader.ItemReader.{ItemReader}
+use Rattle.item_reader.specs.StandsFor.{StandsFor, place_of, unread}
 use Rattle.record_reader.specs.Taking.{AreFirst}
 use Rattle.record_reader.specs.Keeping.{format_after}
 use Rattle.record_reader.specs.Salvaged.{is_init}
-use Rattle.record_reader.specs.declared.reader.RecordReader.{RecordReader}
 use Rattle.record_reader.proofs.Spellable.{spells_in_runs}
 
 -- what stands before the last item that was read
@@ -244,16 +243,15 @@ whole_has_init bytes e =
 -- ---- what may still come
 
 -- the items given come first of a record
-pub are_first : (r : RecordReader) (read : List ℕ) (given : List Item) → StandsFor r read given → AreFirst given
-are_first r read given h =
-    record { bytes = read; place = place_of r.items; rest = unread r.items; leads = h.items_stand.leads }
+pub are_first : (r : ItemReader) (read : List ℕ) (given : List Item) → StandsFor r read given → AreFirst given
+are_first r read given h = record { bytes = read; place = place_of r; rest = unread r; leads = h.leads }
 
 -- the items given are the first of all, whatever follows
-pub more_items : (r : RecordReader) (read : List ℕ) (given : List Item) → StandsFor r read given → (tail : List ℕ) → (others : List Item)
+pub more_items : (r : ItemReader) (read : List ℕ) (given : List Item) → StandsFor r read given → (tail : List ℕ) → (others : List Item)
     × (items_in (read ++ tail) ≡ given ++ others)
 more_items r read given h tail =
-    let l = leads_grow given places.Header (place_of r.items) read (unread r.items) tail h.items_stand.leads in
-    let d = all_leads given (place_of r.items) (read ++ tail) (unread r.items ++ tail) l in
+    let l = leads_grow given places.Header (place_of r) read (unread r) tail h.leads in
+    let d = all_leads given (place_of r) (read ++ tail) (unread r ++ tail) l in
     (_, ap (λ (x : Decoded). x.items) d)
 
 -- nothing has no items

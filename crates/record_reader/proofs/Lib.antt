@@ -1,4 +1,3 @@
-pub mod Reading
 pub mod Spellable
 pub mod Items
 pub mod FrameReading

@@ -16,28 +16,14 @@ use Rattle.det_edges.proofs.SlotReads.{reads-none, reads-then}
 use Rattle.record_grammar.specs.declared.fault.RecordFault.{RecordFault}
 use Rattle.record_grammar.specs.declared.item.Item.{Item}
 use Rattle.record_grammar.specs.declared.place.Place.TheVariants as places
-use Rattle.record_grammar.specs.Record.{items as items_in, Decoded}
-use Rattle.record_grammar.proofs.Leads.{leads_grow, all_leads}
+use Rattle.record_grammar.specs.Record.{items as items_in}
 use Rattle.record_view.specs.declared.view.ItemView.{ItemView}
 use Rattle.record_view.specs.Shows.{IsSpelling}
 use Rattle.item_reader.specs.declared.reader.ItemReader.{ItemReader}
-use Rattle.item_reader.specs.StandsFor.{StandsFor, HasRead, ItemIs, Holds, slot_of, place_of, unread}
+use Rattle.item_reader.specs.StandsFor.{StandsFor, HasRead, ItemIs, Holds, slot_of}
 use Rattle.record_reader.specs.Taking.{AreFirst, IsNext, Taking, Takes, Took, RefusedBy, Finds, RecordRead, ItemsRead}
+use Rattle.record_reader.proofs.Items.{are_first, more_items}
 use Rattle.record_reader.proofs.Taking.{at_none, all-before, step, Lifts, quiet-sink}
-
--- ---- what may still come
-
--- the items given come first of a record
-are-first : (r : ItemReader) (read : List ℕ) (given : List Item) → StandsFor r read given → AreFirst given
-are-first r read given h = record { bytes = read; place = place_of r; rest = unread r; leads = h.leads }
-
--- the items given are the first of all, whatever follows
-more-items : (r : ItemReader) (read : List ℕ) (given : List Item) → StandsFor r read given → (tail : List ℕ) → (others : List Item)
-    × (items_in (read ++ tail) ≡ given ++ others)
-more-items r read given h tail =
-    let l = leads_grow given places.Header (place_of r) read (unread r) tail h.leads in
-    let d = all_leads given (place_of r) (read ++ tail) (unread r ++ tail) l in
-    (_, ap (λ (x : Decoded). x.items) d)
 
 -- ---- the loop
 
@@ -86,7 +72,7 @@ come-first : {E : Type 0} {taking : Taking E} {first mid : ShelfState} {slot : �
     (h : Running taking first mid slot reader before after) (more rest : List ℕ)
     → IsPrefix h.given (items_in ((h.read ++ more) ++ rest))
 come-first {reader = reader} h more rest =
-    let all = more-items reader h.read h.given h.gave (more ++ rest) in
+    let all = more_items reader h.read h.given h.gave (more ++ rest) in
     (all.0, sym all.1 ∙ ap items_in (sym (append_assoc h.read more rest)))
 
 module _ {E : Type 0} {taking : Taking E} {first mid : ShelfState} {slot : ℕ} {reader : ItemReader} {before after : List ℕ → Type 0}
@@ -101,7 +87,7 @@ module _ {E : Type 0} {taking : Taking E} {first mid : ShelfState} {slot : ℕ} 
     (h : Running taking first mid slot reader before after) {now : ShelfState} (next : ItemReader) where
   -- the items given and the next one come first of a record
   pub next-first : (view : ItemView) (answer : Answered h now next (Ok (Some view))) → AreFirst (h.given ++ answer.2.item ∷ [])
-  next-first view answer = are-first next (h.read ++ answer.0) (h.given ++ answer.2.item ∷ []) answer.2.stands
+  next-first view answer = are_first next (h.read ++ answer.0) (h.given ++ answer.2.item ∷ []) answer.2.stands
 
   -- the next item by its bytes
   pub next-given : (view : ItemView) (answer : Answered h now next (Ok (Some view))) (bytes : List ℕ)
@@ -115,7 +101,7 @@ module _ {E : Type 0} {taking : Taking E} {first mid : ShelfState} {slot : ℕ} 
   next-all : (view : ItemView) (answer : Answered h now next (Ok (Some view))) (rest : List ℕ)
       → IsPrefix (h.given ++ answer.2.item ∷ []) (items_in ((h.read ++ answer.0) ++ rest))
   next-all view answer rest =
-      let all = more-items next (h.read ++ answer.0) (h.given ++ answer.2.item ∷ []) answer.2.stands rest in (all.0, sym all.1)
+      let all = more_items next (h.read ++ answer.0) (h.given ++ answer.2.item ∷ []) answer.2.stands rest in (all.0, sym all.1)
 
   -- an item was taken
   pub running-next : (view : ItemView) {u : Unit {0}} {last : List ℕ → Type 0} {a b : ℕ} (taken : Taking E) → taken.written ≡ taking.written

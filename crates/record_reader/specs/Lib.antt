@@ -1,5 +1,4 @@
 pub mod Digested
-pub mod StandsFor
 pub mod Frames
 pub mod Taking
 pub mod Salvaged

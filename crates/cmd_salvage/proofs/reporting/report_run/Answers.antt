@@ -7,7 +7,7 @@ use Rattle.probes.specs.Shows.{seen}
 use Rattle.record_grammar.specs.declared.fault.RecordFault.{RecordFault}
 use Rattle.record_text.specs.Summaries.{salvaged_line}
 use Rattle.item_reader.specs.StandsFor.{slot_of}
-use Rattle.record_reader.proofs.Reading.{passed-on}
+use Rattle.item_reader.proofs.Passing.{passed-on}
 use Rattle.cmd_salvage.specs.Ended.{Ended}
 use Rattle.cmd_salvage.proofs.Ending.{ended-stopped, ended-unprinted, ended-written, no-write}
 use Rattle.cmd_salvage.proofs.reporting.report_run.Goals as goal

@@ -6,7 +6,7 @@ use Rattle.record_reader.specs.declared.salvage.Salvaged.{Salvaged}
 use Rattle.item_reader.specs.StandsFor.{slot_of}
 use Rattle.record_reader.specs.Salvages.{Ended}
 use Rattle.record_reader.proofs.Ending.{ended-finished, ended-stopped, told-ok, told-nothing, told-part}
-use Rattle.record_reader.proofs.Reading.{passed-on}
+use Rattle.item_reader.proofs.Passing.{passed-on}
 use Rattle.record_reader.proofs.salvaging.salvage_run.Given as given
 use Rattle.record_reader.proofs.salvaging.salvage_run.Goals as goal
 

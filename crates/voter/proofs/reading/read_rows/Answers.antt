@@ -3,7 +3,7 @@ use Rattle.std.specs.Prelude.{Result, slice_set}
 use Rattle.std.specs.List.{AllByRecursion}
 use Rattle.item_reader.specs.StandsFor.{slot_of}
 use Rattle.det_edges.specs.declared.failure.Failure.{Failure}
-use Rattle.record_reader.proofs.Reading.{passed-on}
+use Rattle.item_reader.proofs.Passing.{passed-on}
 use Rattle.voter.specs.Rows.{voter_slot, RowsRead}
 use Rattle.voter.proofs.InTurn.{given-here, slots-here, among-here, was-here, rows-here, needed-here, rows-none, rows-all, voters-needed}
 use Rattle.voter.proofs.InTurn.{reads-same}

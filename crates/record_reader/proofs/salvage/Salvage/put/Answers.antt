@@ -6,7 +6,7 @@ use Rattle.det_edges.proofs.Growth.{short-wider, grew-then-short}
 use Rattle.det_edges.proofs.Prefixes.{prefix-append}
 use Rattle.record_grammar.specs.declared.fault.RecordFault.{RecordFault}
 use Rattle.record_reader.specs.Keeping.{Puts}
-use Rattle.record_reader.proofs.Reading.{passed-on}
+use Rattle.item_reader.proofs.Passing.{passed-on}
 use Rattle.record_reader.proofs.salvage.Salvage.put.Goals as goal
 
 pub returns-in_err-write_all-clause-puts : goal.returns-in_err-write_all-clause-puts
