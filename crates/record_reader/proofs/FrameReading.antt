@@ -145,6 +145,7 @@ gave_frame item view r p read behind same g =
     let given : List Item = items.Header p ∷ behind in
     record {
       frame = f.frame;
+      before = subst (λ (v : ItemView). (rest : List ℕ) × Leads places.Header read given v.place rest) (sym same) g.behind;
       holds = subst (λ (v : ItemView). inner.Holds r.items v (items.Frame f.frame)) (sym same)
           (subst (λ (x : Item). inner.Holds r.items item x) f.is g.holds);
       stands = subst (λ (x : Item). inner.StandsFor r.items read (given ++ x ∷ [])) f.is g.stands;
