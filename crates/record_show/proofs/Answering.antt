@@ -17,7 +17,7 @@ use Rattle.record_grammar.specs.declared.item.Item.{Item}
 use Rattle.record_grammar.specs.Record.{items as items_in, fault as fault_in}
 use Rattle.record_text.specs.declared.part.ShowPart.{ShowPart}
 use Rattle.record_text.specs.declared.part.ShowPart.TheVariants.{All, Reports, Cycle}
-use Rattle.record_reader.specs.StandsFor.{FoundFault, IsFaulty}
+use Rattle.item_reader.specs.StandsFor.{FoundFault, IsFaulty}
 use Rattle.record_reader.specs.Taking.{AreAll, RecordRead, ItemsRead}
 use Rattle.record_reader.proofs.Taking.{behind, over, told, of-slot}
 use Rattle.probes.specs.Reports.{ProbeLife, AudienceState, reported, reports, in_turn, staying}
@@ -27,7 +27,7 @@ use Rattle.record_show.specs.declared.shown.Shown.{Shown}
 use Rattle.record_show.specs.declared.printing.Printer.{Printer}
 use Rattle.record_show.specs.Text.{runs_in, lines_of, reports_of, text_from, text_of}
 use Rattle.record_show.specs.Showing.{Watched, Kept, showing}
-use Rattle.record_show.specs.Ended.{Answers, SawFirst, Sees, Finished, IsGone, FinishIs, ReadsTo, Ended}
+use Rattle.record_show.specs.Ended.{Answers, SawFirst, Sees, Finished, IsGone, FinishIs, ReadsTo, WroteRead, Ended}
 use Rattle.record_show.proofs.Parts.{part-first, none-yet}
 use Rattle.record_show.proofs.Taken.{kept-same}
 
@@ -200,12 +200,23 @@ stopped_to part first now printer (Failed Read) h = h.reads_to.1
 stopped_to part first now printer (Failed Write) h = tt
 stopped_to part first now printer (Failed OutOfMemory) h = tt
 
+stopped_wrote : (part : ShowPart) (first now : AudienceState) (printer : Printer) {shelf : ShelfRun} {slot : ℕ} {out : SinkRun}
+    (stop : Stopped RecordFault) → (h : ItemsRead (Err stop) (showing part first now printer) shelf slot out)
+    → WroteRead (Err stop) part h.read out
+stopped_wrote part first now printer (Refused f) h = tt
+stopped_wrote part first now printer {out = out} (Failed Read) h =
+    subst (λ (xs : List Item). Grew out.before out.after (lines_of part xs)) (sym h.reads_to.0)
+    (h.record_read.each [] (λ at. refl)).1.grew
+stopped_wrote part first now printer (Failed Write) h = tt
+stopped_wrote part first now printer (Failed OutOfMemory) h = tt
+
 -- the reading stopped
 pub ended-stopped : (part : ShowPart) (first now : AudienceState) (printer : Printer) {shelf : ShelfRun} {slot : ℕ} {out : SinkRun}
     (stop : Stopped RecordFault) → Kept part first now → (h : ItemsRead (Err stop) (showing part first now printer) shelf slot out)
     → Ended (Err stop) part first now h.read shelf slot out
 ended-stopped part first now printer {out = out} stop kept h = record {
   reads_to = stopped_to part first now printer stop h;
+  wrote = stopped_wrote part first now printer stop h;
   answers = of-slot _ (λ bytes. Answers (Err stop) part first bytes out)
       (λ bytes r. (stopped part first now printer bytes out h.given stop r).0) h.record_read;
   sees = of-slot _ (λ bytes. Sees (Err stop) part first now bytes out)
@@ -221,6 +232,14 @@ finished_to (Err (Refused f)) part cycles mid now read at_end out at end = absur
 finished_to (Err (Failed Read)) part cycles mid now read at_end out at end = absurd end
 finished_to (Err (Failed Write)) part cycles mid now read at_end out at end = tt
 finished_to (Err (Failed OutOfMemory)) part cycles mid now read at_end out at end = tt
+
+finished_wrote : (result : Result Shown (Stopped RecordFault)) (part : ShowPart) (cycles : ℕ) (mid now : AudienceState) (read : List ℕ)
+    (one both : SinkRun) → FinishIs result part cycles mid now one → WroteRead result part read both
+finished_wrote (Ok shown) part cycles mid now read one both end = tt
+finished_wrote (Err (Refused f)) part cycles mid now read one both end = absurd end
+finished_wrote (Err (Failed Read)) part cycles mid now read one both end = absurd end
+finished_wrote (Err (Failed Write)) part cycles mid now read one both end = tt
+finished_wrote (Err (Failed OutOfMemory)) part cycles mid now read one both end = tt
 
 none_left : (part : ShowPart) (mid now : AudienceState) → Finished part mid now [] → IsGone part now
 none_left All mid now is = ap (λ (a : AudienceState). a.seeing) is
@@ -239,6 +258,7 @@ pub ended-finished : (part : ShowPart) (first mid now : AudienceState) (printer 
     → FinishIs result part printer.cycles mid now (behind one last b) → Ended result part first now h.read shelf slot (over one last b)
 ended-finished part first mid now printer {shelf = shelf} {slot = slot} {one = one} last b u result kept h end = record {
   reads_to = finished_to result part printer.cycles mid now h.read (IsAtEnd shelf.last slot) (behind one last b) h.reads_to end;
+  wrote = finished_wrote result part printer.cycles mid now h.read (behind one last b) (over one last b) end;
   answers = of-slot _ (λ bytes. Answers result part first bytes (over one last b))
       (λ bytes r. (finished part first mid now printer bytes one last b h.given u result r end).0) h.record_read;
   sees = of-slot _ (λ bytes. Sees result part first now bytes (over one last b))

@@ -1,4 +1,6 @@
 mod Lines
 mod Parts
+mod Formats
+mod Gone
 mod Taken
 pub mod Answering

@@ -14,19 +14,28 @@ use Rattle.record_grammar.specs.declared.fault.RecordFault.{RecordFault}
 use Rattle.record_grammar.specs.declared.item.Item.{Item}
 use Rattle.record_grammar.specs.declared.item.Item.TheVariants as items
 use Rattle.det_values.specs.declared.frames.Frame.TheVariants.{Register, Discover, Init, Run, Terminate}
-use Rattle.record_reader.specs.Taking.{AreFirst, Takes, Wrote}
-use Rattle.record_reader.proofs.Items.{NextIs, few_first}
+use Rattle.record_grammar.specs.declared.place.Place.TheVariants as places
+use Rattle.record_grammar.specs.Places.{format_of}
+use Rattle.record_grammar.proofs.Leads.{can_follow}
+use Rattle.record_view.specs.declared.view.ItemView.{ItemView}
+use Rattle.record_view.specs.Shows.{IsSpelling}
+use Rattle.record_reader.specs.Kinds.{runs_of}
+use Rattle.record_reader.specs.Salvaged.{runs_in as runs_in_item}
+use Rattle.record_reader.specs.Taking.{AreFirst, IsNext, Takes, Wrote}
+use Rattle.record_reader.proofs.Items.{next_is, few_first}
+use Rattle.record_reader.proofs.Kept.{adds}
 use Rattle.record_text.specs.declared.part.ShowPart.{ShowPart}
 use Rattle.record_text.specs.declared.part.ShowPart.TheVariants.{All, Reports, Cycle}
 use Rattle.probes.specs.Reports.{AudienceState}
 use Rattle.probes.specs.Shows.{Shows}
 use Rattle.probes.proofs.Shown.{shows-none, shows-then}
 use Rattle.record_show.specs.declared.printing.Printer.{Printer}
-use Rattle.record_show.specs.Text.{run_in, runs_in}
-use Rattle.record_show.specs.Showing.{format_by, format_behind, is_printed, lines_at, printed_of, watched_of, Watched, Kept, IsFailed}
+use Rattle.record_show.specs.Text.{run_in, runs_in, lines_of}
+use Rattle.record_show.specs.Showing.{format_by, format_behind, is_printed, lines_at, printed_of, Watched, Kept, IsFailed}
 use Rattle.record_show.specs.Showing.{AreShown, showing}
 use Rattle.record_show.proofs.Lines.{runs_next}
-use Rattle.record_show.proofs.Parts.{part-next, behind-next, headed-next}
+use Rattle.record_show.proofs.Parts.{part-next, headed-next}
+use Rattle.record_show.proofs.Formats.{format_there}
 
 pub watched-none : (part : ShowPart) (audience : AudienceState) → Watched part audience audience []
 watched-none All audience = shows-none audience
@@ -70,106 +79,104 @@ shown-room printer first now given item h are_first =
     let few = few_first (given ++ item ∷ []) are_first in let all = length-append given (item ∷ []) in let runs = fewer_runs given in
     let cycles = h.cycles in omega (arith, few, all, runs, cycles)
 
-module _ (part : ShowPart) (first mid : AudienceState) (given : List Item) (item : Item) (old counted printed : Printer)
-    (h : AreShown part first mid old given) (next : NextIs given item)
-    (count : counted ≡ record old { format = format_by old.format item; cycles = old.cycles + length (run_in item) })
-    (print : printed ≡ record counted { lines = printed.lines }) where
+-- ---- an item by its view
+
+-- as many runs as an item of its kind adds
+pub counted : (view : ItemView) (item : Item) (bytes : List ℕ) → IsSpelling view item bytes → runs_of view.span.kind ≡ length (run_in item)
+counted view item bytes h = (adds view.place view.span.kind view.span.len bytes item h.shows.parts).runs ∙ same item
+  where
+    same : (item : Item) → runs_in_item item ≡ length (run_in item)
+    same (items.Header p) = refl
+    same (items.Frame Register) = refl
+    same (items.Frame Discover) = refl
+    same (items.Frame (Init elements)) = refl
+    same (items.Frame (Run run)) = refl
+    same (items.Frame Terminate) = refl
+
+-- the lines of a header hang on no format, and those of a frame on that of its place
+in_format : (part : ShowPart) (number : ℕ) (given : List Item) (item : Item) (view : ItemView) (bytes : List ℕ)
+    → IsNext given item view bytes
+    → printed_of part (format_of view.place) number item ≡ printed_of part (format_by (format_behind One given) item) number item
+in_format part number given (items.Header p) view bytes next = refl
+in_format part number given (items.Frame f) view bytes next =
+    ap (λ (format : Format). printed_of part format number (items.Frame f))
+    (format_there given places.Header view.place next.after.0 next.after.1 (items.Frame f) next.after.2
+    (can_follow view.place bytes (items.Frame f) _ next.spelling.shows.read))
+
+module _ (part : ShowPart) (first mid : AudienceState) (given : List Item) (item : Item) (view : ItemView) (bytes : List ℕ)
+    (old new : Printer) (runs : ℕ)
+    (h : AreShown part first mid old given) (next : IsNext given item view bytes) (part_stays : new.part ≡ old.part)
+    (count : new.cycles ≡ old.cycles + runs) (of_kind : runs ≡ runs_of view.span.kind) where
   -- what the item adds to the lines
   abbrev more : List ℕ
   more = printed_of part (format_by (format_behind One given) item) (length (runs_in given) + length (run_in item)) item
 
-  part_is : counted.part ≡ part
-  part_is = ap (λ p. p.part) count ∙ h.part_is
+  -- what is printed, by the printer before
+  abbrev printed : List ℕ
+  printed = printed_of old.part (format_of view.place) (old.cycles + runs) item
 
-  format_is : counted.format ≡ format_by (format_behind One given) item
-  format_is = ap (λ p. p.format) count ∙ ap (λ (format : Format). format_by format item) h.format
+  cycles_is : old.cycles + runs ≡ length (runs_in given) + length (run_in item)
+  cycles_is = ap (λ (n : ℕ). n + runs) h.cycles
+      ∙ ap (λ (n : ℕ). length (runs_in given) + n) (of_kind ∙ counted view item bytes next.spelling)
 
-  cycles_is : counted.cycles ≡ length (runs_in given) + length (run_in item)
-  cycles_is = ap (λ p. p.cycles) count ∙ ap (λ (n : ℕ). n + length (run_in item)) h.cycles
+  more_is : printed ≡ more
+  more_is = ap (λ (p : ShowPart). printed_of p (format_of view.place) (old.cycles + runs) item) h.part_is
+      ∙ ap (λ (n : ℕ). printed_of part (format_of view.place) n item) cycles_is
+      ∙ in_format part (length (runs_in given) + length (run_in item)) given item view bytes next
 
-  more_is : printed_of counted.part counted.format counted.cycles item ≡ more
-  more_is = ap (λ (p : ShowPart). printed_of p counted.format counted.cycles item) part_is
-      ∙ ap (λ (f : Format). printed_of part f counted.cycles item) format_is
-      ∙ ap (λ (n : ℕ). printed_of part (format_by (format_behind One given) item) n item) cycles_is
-
-  shown : (now : AudienceState) → Watched part mid now (run_in item) → AreShown part first now printed (given ++ item ∷ [])
+  shown : (now : AudienceState) → Watched part mid now (run_in item) → AreShown part first now new (given ++ item ∷ [])
   shown now watched = record {
-    part_is = ap (λ p. p.part) print ∙ part_is;
-    format = ap (λ p. p.format) print ∙ format_is ∙ sym (behind-next given item);
-    headed = headed-next given item next h.headed;
-    cycles = ap (λ p. p.cycles) print ∙ cycles_is ∙ sym (length-append (runs_in given) (run_in item))
-        ∙ ap length (sym (runs_next given item));
+    part_is = part_stays ∙ h.part_is;
+    headed = headed-next given item (next_is given item next.first) h.headed;
+    cycles = count ∙ cycles_is ∙ sym (length-append (runs_in given) (run_in item)) ∙ ap length (sym (runs_next given item));
     watched = subst (Watched part first now) (sym (runs_next given item))
         (watched-then part first mid now (runs_in given) (run_in item) h.watched watched);
   }
 
+  all : lines_of part (given ++ item ∷ []) ≡ lines_of part given ++ more
+  all = part-next part given item (next_is given item next.first) h.headed
+
   -- it was printed and shown
   pub taken : (u v : Unit {0}) (now : AudienceState) (out : SinkRun)
-      → Wrote {E = RecordFault} (Ok u) [] (printed_of counted.part counted.format counted.cycles item) out
+      → Wrote {E = RecordFault} (Ok u) [] printed out
       → Watched part mid now (run_in item)
-      → Takes (Ok v) (showing part first now printed) given item [] out
+      → Takes (Ok v) (showing part first now new) given item [] out
   taken u v now out wrote watched = record {
     more = more;
-    all = part-next part given item next h.headed;
+    all = all;
     wrote = subst (λ (bytes : List ℕ). Wrote {E = RecordFault} (Ok u) [] bytes out) more_is wrote;
     after = shown now watched;
   }
 
   -- it couldn't be printed
   pub unwritten : (stop : Stopped RecordFault) (out : SinkRun)
-      → Wrote (Err stop) [] (printed_of counted.part counted.format counted.cycles item) out → IsFailed (Err stop)
-      → Takes (Err stop) (showing part first mid printed) given item [] out
+      → Wrote (Err stop) [] printed out → IsFailed (Err stop)
+      → Takes (Err stop) (showing part first mid new) given item [] out
   unwritten (Refused f) out wrote fails = absurd fails
   unwritten (Failed Read) out wrote fails = absurd fails
   unwritten (Failed Write) out wrote fails = record {
     more = more;
-    all = part-next part given item next h.headed;
+    all = all;
     wrote = subst (λ (bytes : List ℕ). Wrote {E = RecordFault} (Err (Failed Write)) [] bytes out) more_is wrote;
     after = h.watched;
   }
   unwritten (Failed OutOfMemory) out wrote fails = record {
     more = more;
-    all = part-next part given item next h.headed;
+    all = all;
     wrote = subst (λ (bytes : List ℕ). Wrote {E = RecordFault} (Err (Failed OutOfMemory)) [] bytes out) more_is wrote;
     after = tt;
   }
 
   -- it was printed and couldn't be shown
   pub unshown : (u : Unit {0}) (now : AudienceState) (out : SinkRun)
-      → Wrote {E = RecordFault} (Ok u) [] (printed_of counted.part counted.format counted.cycles item) out
-      → Takes (Err (Failed OutOfMemory)) (showing part first now printed) given item [] out
+      → Wrote {E = RecordFault} (Ok u) [] printed out
+      → Takes (Err (Failed OutOfMemory)) (showing part first now new) given item [] out
   unshown u now out wrote = record {
     more = more;
-    all = part-next part given item next h.headed;
+    all = all;
     wrote = (more, prefix-same more, subst (λ (bytes : List ℕ). Wrote {E = RecordFault} (Ok u) [] bytes out) more_is wrote);
     after = tt;
   }
-
--- ---- which runs are watched
-
--- no run is shown
-pub watched-same : (part : ShowPart) (audience : AudienceState) (item : Item) → watched_of part item ≡ []
-    → Watched part audience audience (run_in item)
-watched-same All audience item none = subst (Shows audience audience) (sym none) (shows-none audience)
-watched-same Reports audience item none = subst (Shows audience audience) (sym none) (shows-none audience)
-watched-same (Cycle number) audience item none = refl
-
--- a run was shown
-pub watched-one : (part : ShowPart) (mid now : AudienceState) (item : Item) (run : RunFrame) → watched_of part item ≡ run ∷ []
-    → Shows mid now (run ∷ []) → Watched part mid now (run_in item)
-watched-one All mid now item run is shows = subst (Shows mid now) (sym is) shows
-watched-one Reports mid now item run is shows = subst (Shows mid now) (sym is) shows
-watched-one (Cycle number) mid now item run is shows = absurd cc
-
-pub kept-one : (part : ShowPart) (mid now : AudienceState) (item : Item) (run : RunFrame) → watched_of part item ≡ run ∷ []
-    → Kept part mid now
-kept-one All mid now item run is = tt
-kept-one Reports mid now item run is = tt
-kept-one (Cycle number) mid now item run is = absurd cc
-
-pub if-none : {X : Type 0} {P : Type 0} (o : Option X) → ((x : X) → o ≡ Some x → ⊥) → IfNone o P → P
-if-none (Some x) none h = absurd (none x refl)
-if-none None none h = h
 
 -- an item whose lines are printed
 pub printed-all : (part : ShowPart) (format : Format) (number : ℕ) (item : Item) (b : Bool) → b ≡ is_printed part number item → b ≡ true

@@ -95,11 +95,18 @@ ReadsTo (Err (Refused fault)) read at_end =
 ReadsTo (Err (Failed Read)) read at_end = fault_so_far read ≡ None
 ReadsTo (Err stop) read at_end = Unit {0}
 
+-- where a read failed, the lines of all items of the bytes read were taken
+abbrev pub WroteRead : Result Shown (Stopped RecordFault) → ShowPart → List ℕ → SinkRun → Type 0
+WroteRead (Err (Failed Read)) part read out =
+    Grew out.before out.after (lines_of part (items_in read))
+WroteRead result part read out = Unit {0}
+
 -- the answer after these bytes were read
 pub record Ended (result : Result Shown (Stopped RecordFault)) (part : ShowPart)
     (old now : AudienceState) (read : List ℕ) (shelf : ShelfRun) (slot : ℕ) (out : SinkRun)
     : Type 0 where
   pub reads_to : ReadsTo result read (IsAtEnd shelf.last slot)
+  pub wrote : WroteRead result part read out
   pub answers : OfSlot shelf slot read (λ bytes. Answers result part old bytes out)
   pub sees : OfSlot shelf slot read (λ bytes. Sees result part old now bytes out)
   pub gone : OnOk result (IsGone part now)

@@ -58,11 +58,6 @@ IsFailed (Err (Failed Write)) = Unit {0}
 IsFailed (Err (Failed OutOfMemory)) = Unit {0}
 IsFailed (Err stop) = ⊥
 
--- the run of an item that an audience is shown: none where one run alone is printed
-abbrev pub watched_of : ShowPart → Item → List RunFrame
-watched_of (Cycle number) item = []
-watched_of part item = run_in item
-
 -- an audience was shown these runs, or is as it was where one run alone is printed
 abbrev pub Watched : ShowPart → AudienceState → AudienceState → List RunFrame → Type 0
 Watched (Cycle number) first now runs = now ≡ first
@@ -72,7 +67,6 @@ Watched part first now runs = Shows first now runs
 pub record AreShown (part : ShowPart) (first now : AudienceState) (printer : Printer)
     (given : List Item) : Type 0 where
   pub part_is : printer.part ≡ part
-  pub format : printer.format ≡ format_behind One given
   -- the header came first
   pub headed : format_behind One given ≡ format_in given
   pub cycles : printer.cycles ≡ length (runs_in given)

@@ -1,9 +1,11 @@
 //! A record printed as text, item by item, and what an audience reports of its runs.
 #![tactic(auto)]
 
+mod presenter;
 mod printing;
 mod showing;
 mod shown;
 
+pub use presenter::Presenter;
 pub use showing::show_run;
 pub use shown::Shown;

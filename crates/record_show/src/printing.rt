@@ -1,19 +1,25 @@
 //! Items, printed one after another and shown to an audience.
-ghost use Rattle.std.specs.Prelude.{◌≡◌, ◌≤◌, ◌<◌, ◌+◌, ◌∷◌, [], ◌++◌, List, length};
-ghost use Rattle.std.specs.Prelude.{OnOk, IfSome, IfNone};
+ghost use Rattle.std.specs.Prelude.{◌≡◌, ◌<◌, ◌+◌, ◌++◌, ◌∷◌, [], ℕ, List, OnOk, length};
+ghost use Rattle.record_grammar.specs.declared.place.Place.{Place};
 ghost use Rattle.record_grammar.specs.declared.item.Item.{Item};
-ghost use Rattle.record_grammar.specs.declared.item.Item.TheVariants as items;
+ghost use Rattle.record_grammar.specs.Places.{format_of};
+ghost use Rattle.record_view.specs.Shows.{ShowsParts, IsSpelling};
+ghost use Rattle.record_reader.specs.Kinds.{runs_of};
 ghost use Rattle.det_edges.specs.Traffic.{SinkTraffic, sink_run, failure_in};
 ghost use Rattle.probes.specs.Reports.{AudienceState};
 ghost use Rattle.probes.specs.Shows.{seen};
 ghost use Rattle.record_show.specs.Text.{run_in};
-ghost use Rattle.record_show.specs.Showing.{Kept, is_printed, watched_of};
+ghost use Rattle.record_show.specs.Showing.{Kept, Watched, is_printed};
 
+use crate::presenter::Presenter;
 use det_edges::{Sink, Stopped, write_all};
-use det_values::{Format, Frame, OutOfMemory, RunFrame};
+use det_values::OutOfMemory;
 use probes::{Audience, Probe};
-use record_grammar::{Item, RecordFault};
+use record_codec::profile_of;
+use record_grammar::RecordFault;
+use record_reader::runs_of;
 use record_text::{ShowPart, put_frame_lines, put_header_lines};
+use record_view::{FrameKind, ItemKind, ItemView};
 use std::alloc::Global;
 
 /// Where the items of a record are printed.
@@ -23,71 +29,36 @@ pub struct Printer {
     pub part: ShowPart,
     /// The lines of the last item that was printed, in room that is used again.
     lines: Vec<u8>,
-    /// The header's, once that was read.
-    pub format: Format,
+    presenter: Presenter,
     /// How many Run frames came.
     pub cycles: u32,
 }
 
-fn cycles_in(item: &Item) -> u32
-    ensures value { result ≡ length (run_in item.now) }
-    ensures most { result ≤ 1 }
-{
-    match item {
-        Item::Header(_) => 0,
-        Item::Frame(frame) => match frame {
-            Frame::Run(_) => 1,
-            Frame::Register | Frame::Discover | Frame::Init(_) | Frame::Terminate => 0,
-        },
-    }
-}
-
-/// Whether the lines of an item are printed.
-fn prints(part: ShowPart, number: u32, item: &Item) -> bool
-    ensures { result ≡ is_printed part number item.now }
+/// Whether the lines of an item of this kind are printed. A Run frame is that of cycle `number`.
+fn prints(part: ShowPart, number: u32, kind: ItemKind) -> bool
+    ensures { (place : Place) (len : ℕ) (bytes : List ℕ) (item : Item)
+        → ShowsParts place kind len bytes item → result ≡ is_printed part number item }
 {
     match part {
         ShowPart::All => true,
         ShowPart::Reports => false,
-        ShowPart::Cycle(wanted) => match item {
-            Item::Header(_) => false,
-            Item::Frame(frame) => match frame {
-                Frame::Run(_) => number == wanted,
-                Frame::Register | Frame::Discover | Frame::Init(_) | Frame::Terminate => false,
+        ShowPart::Cycle(wanted) => match kind {
+            ItemKind::Header(_) => false,
+            ItemKind::Frame(frame) => match frame {
+                FrameKind::Run { .. } => number == wanted,
+                FrameKind::Register
+                | FrameKind::Discover
+                | FrameKind::Init { .. }
+                | FrameKind::Terminate => false,
             },
         },
     }
 }
 
-/// The run of an item that an audience is shown: none where one run alone is printed.
-fn watched_run(part: ShowPart, item: &Item) -> Option<&RunFrame>
-    ensures some { IfSome result (λ run. watched_of part item.now ≡ run.now ∷ []) }
-    ensures none { IfNone result (watched_of part item.now ≡ []) }
-{
-    match part {
-        ShowPart::All | ShowPart::Reports => run_of(item),
-        ShowPart::Cycle(_) => None,
-    }
-}
-
-/// The run of an item.
-fn run_of(item: &Item) -> Option<&RunFrame>
-    ensures some { IfSome result (λ run. run_in item.now ≡ run.now ∷ []) }
-    ensures none { IfNone result (run_in item.now ≡ []) }
-{
-    match item {
-        Item::Header(_) => None,
-        Item::Frame(frame) => match frame {
-            Frame::Run(run) => Some(run),
-            Frame::Register | Frame::Discover | Frame::Init(_) | Frame::Terminate => None,
-        },
-    }
-}
-
 impl Printer {
-    ghost use Rattle.record_reader.specs.Taking.{AreFirst, Wrote, Takes};
-    ghost use Rattle.record_show.specs.Showing.{AreShown, showing, format_by, lines_at};
-    ghost use Rattle.record_show.specs.Showing.{printed_of, IsFailed};
+    ghost use Rattle.record_reader.specs.Taking.{IsNext, Wrote, Takes};
+    ghost use Rattle.record_show.specs.Showing.{AreShown, showing, lines_at, printed_of};
+    ghost use Rattle.record_show.specs.Showing.{IsFailed};
 
     /// A printer that printed nothing. It takes no memory.
     pub fn new(alloc: Global, part: ShowPart) -> Printer
@@ -97,7 +68,7 @@ impl Printer {
             alloc,
             part,
             lines: Vec::new(alloc),
-            format: Format::One,
+            presenter: Presenter::new(alloc),
             cycles: 0,
         }
     }
@@ -106,15 +77,17 @@ impl Printer {
     /// where it is a Run frame.
     pub fn take<K: Sink>(
         &mut self,
-        item: Item,
+        view: ItemView,
+        bytes: &[u8],
         sink: &mut K,
         audience: &mut Audience,
     ) -> Result<(), Stopped<RecordFault>>
-        requires { self.old.cycles < 4294967295 }
-        ensures takes { (first : AudienceState) (given : List Item)
+        requires few { self.old.cycles < 4294967295 }
+        requires spelled { (item : Item) × IsSpelling view item bytes.now }
+        ensures takes { (first : AudienceState) (given : List Item) (item : Item)
             → AreShown self.old.part first
             (seen (λ b. life (b.vtable, b.value)) audience.old) self.old given
-            → AreFirst (given ++ item ∷ [])
+            → IsNext given item view bytes.now
             → Takes result
             (showing self.old.part first
             (seen (λ b. life (b.vtable, b.value)) audience.new) self.new) given item []
@@ -125,58 +98,69 @@ impl Printer {
         ensures kept { Kept self.old.part (seen (λ b. life (b.vtable, b.value)) audience.old)
             (seen (λ b. life (b.vtable, b.value)) audience.new) }
     {
-        self.count(&item);
-        self.print(&item, sink)?;
-        let Some(run) = watched_run(self.part, &item) else {
-            return Ok(());
-        };
-        audience.show(self.alloc, run)?;
+        self.cycles += runs_of(view.span.kind);
+        self.print(view, bytes, sink)?;
+        self.show(view, bytes, audience)?;
         Ok(())
     }
 
-    fn count(&mut self, item: &Item)
-        requires { self.old.cycles < 4294967295 }
-        ensures { self.new ≡ record self.old {
-          format = format_by self.old.format item.now;
-          cycles = self.old.cycles + length (run_in item.now);
-        } }
-    {
-        if let Item::Header(profile) = item {
-            self.format = profile.format;
-        }
-        self.cycles += cycles_in(item);
-    }
-
     /// Prints the lines of an item that was counted, where they are printed.
-    fn print<K: Sink>(&mut self, item: &Item, sink: &mut K) -> Result<(), Stopped<RecordFault>>
-        ensures wrote { Wrote result []
-            (printed_of self.old.part self.old.format self.old.cycles item.now)
+    fn print<K: Sink>(
+        &mut self,
+        view: ItemView,
+        bytes: &[u8],
+        sink: &mut K,
+    ) -> Result<(), Stopped<RecordFault>>
+        requires { (item : Item) × IsSpelling view item bytes.now }
+        ensures wrote { (item : Item) → IsSpelling view item bytes.now → Wrote result []
+            (printed_of self.old.part (format_of view.place) self.old.cycles item)
             (sink_run K.took K.faults sink.old sink.new) }
         ensures fails { IsFailed result }
         ensures traffic { SinkTraffic (sink_run K.took K.faults sink.old sink.new)
             (failure_in result) }
         ensures same { self.new ≡ record self.old { lines = self.new.lines } }
     {
-        if !prints(self.part, self.cycles, item) {
+        if !prints(self.part, self.cycles, view.span.kind) {
             return Ok(());
         }
-        self.put(item)?;
+        self.put(view, bytes)?;
         write_all(sink, &self.lines)?;
         Ok(())
     }
 
     /// Puts the lines of an item in place of those before.
-    fn put(&mut self, item: &Item) -> Result<(), OutOfMemory>
-        ensures lines { OnOk result
-            (self.new.lines.items ≡ lines_at self.old.format self.old.cycles item.now) }
+    fn put(&mut self, view: ItemView, bytes: &[u8]) -> Result<(), OutOfMemory>
+        requires { (item : Item) × IsSpelling view item bytes.now }
+        ensures lines { OnOk result ((item : Item) → IsSpelling view item bytes.now
+            → self.new.lines.items ≡ lines_at (format_of view.place) self.old.cycles item) }
         ensures same { self.new ≡ record self.old { lines = self.new.lines } }
     {
         self.lines.clear();
-        match item {
-            Item::Header(profile) => put_header_lines(&mut self.lines, profile),
-            Item::Frame(frame) => {
-                put_frame_lines(&mut self.lines, self.format, self.cycles, frame)
-            }
+        match view.as_frame() {
+            Some(frame) => put_frame_lines(&mut self.lines, self.cycles, frame, bytes),
+            None => put_header_lines(&mut self.lines, &profile_of(self.alloc, view, bytes)?),
+        }
+    }
+
+    /// Shows an item to the audience, unless one run alone is printed.
+    fn show(
+        &mut self,
+        view: ItemView,
+        bytes: &[u8],
+        audience: &mut Audience,
+    ) -> Result<(), OutOfMemory>
+        requires { (item : Item) × IsSpelling view item bytes.now }
+        ensures shown { (item : Item) → IsSpelling view item bytes.now
+            → OnOk result (Watched self.old.part
+            (seen (λ b. life (b.vtable, b.value)) audience.old)
+            (seen (λ b. life (b.vtable, b.value)) audience.new) (run_in item)) }
+        ensures kept { Kept self.old.part (seen (λ b. life (b.vtable, b.value)) audience.old)
+            (seen (λ b. life (b.vtable, b.value)) audience.new) }
+        ensures same { self.new ≡ record self.old { presenter = self.new.presenter } }
+    {
+        match self.part {
+            ShowPart::All | ShowPart::Reports => self.presenter.show(view, bytes, audience),
+            ShowPart::Cycle(_) => Ok(()),
         }
     }
 }

@@ -4,7 +4,7 @@ ghost use Rattle.det_edges.specs.Traffic.{ShelfTraffic, SinkTraffic, shelf_run, 
 ghost use Rattle.det_edges.specs.Traffic.{failure_in};
 ghost use Rattle.probes.specs.Reports.{AudienceState};
 ghost use Rattle.probes.specs.Shows.{seen};
-ghost use Rattle.record_reader.specs.StandsFor.{StandsFor, slot_of};
+ghost use Rattle.item_reader.specs.StandsFor.{StandsFor, slot_of};
 ghost use Rattle.record_reader.specs.Taking.{ItemsRead};
 ghost use Rattle.record_show.specs.Showing.{AreShown, Kept, showing};
 ghost use Rattle.record_show.specs.Ended.{Ended};
@@ -12,21 +12,21 @@ ghost use Rattle.record_show.specs.Ended.{Ended};
 use crate::printing::Printer;
 use crate::shown::Shown;
 use det_edges::{Sink, Slots, Stopped, write_all};
+use item_reader::ItemReader;
 use probes::{Audience, Probe};
 use record_grammar::RecordFault;
-use record_reader::RecordReader;
 use record_text::ShowPart;
 use std::alloc::Global;
 
 /// Prints a part of the record that a reader reads, item by item. Each Run frame is printed and
 /// then shown to the audience, and behind a whole record all its reports are printed. One run alone
 /// is printed without the audience, which stays as it is. The whole record is read in any case.
-/// `Refused` tells its fault; then the lines of all whole items before it were written, and no
-/// reports.
+/// `Refused` has its fault; then the lines of all whole items before it were written, and no
+/// reports. After a failed read the lines of all items that were read were written.
 pub fn show_run<S: Slots, K: Sink>(
     alloc: Global,
     part: ShowPart,
-    reader: &mut RecordReader,
+    reader: &mut ItemReader,
     shelf: &mut S,
     sink: &mut K,
     audience: &mut Audience,
@@ -60,7 +60,7 @@ pub fn show_run<S: Slots, K: Sink>(
 
 /// Gives all items to a printer and an audience.
 fn show_items<S: Slots, K: Sink>(
-    reader: &mut RecordReader,
+    reader: &mut ItemReader,
     shelf: &mut S,
     printer: &mut Printer,
     sink: &mut K,
@@ -84,9 +84,9 @@ fn show_items<S: Slots, K: Sink>(
         (failure_in result) }
 {
     'items: loop {
-        let Some(item) = reader.next_item(shelf)? else {
+        let Some(view) = reader.next(shelf)? else {
             return Ok(());
         };
-        printer.take(item, sink, audience)?;
+        printer.take(view, reader.bytes(view), sink, audience)?;
     }
 }

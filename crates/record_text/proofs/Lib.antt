@@ -2,3 +2,4 @@ pub mod Appending
 mod Digits
 mod Fronts
 mod Numbering
+mod Viewed

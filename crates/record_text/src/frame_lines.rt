@@ -1,91 +1,79 @@
-//! The lines of a frame.
-ghost use Rattle.std.specs.Prelude.{◌≡◌, ◌++◌, OnOk, length};
+//! The lines of a frame, put where its bytes are.
+ghost use Rattle.std.specs.Prelude.{◌≡◌, ◌≤◌, ◌+◌, ◌++◌, ℕ, List, OnOk, length, drop};
 ghost use Rattle.std.specs.List.{flat_map};
 ghost use Rattle.det_values.specs.Spelling.{an_element};
+ghost use Rattle.det_values.specs.declared.frames.Frame.{Frame};
+ghost use Rattle.det_values.specs.declared.frames.Outcome.{Outcome};
+ghost use Rattle.det_values.specs.declared.frames.RunFrame.{RunFrame};
+ghost use Rattle.record_grammar.specs.Read.{Got, many};
+ghost use Rattle.record_grammar.specs.Grammar.{element_at};
+ghost use Rattle.record_grammar.specs.Places.{format_of};
+ghost use Rattle.record_view.specs.Shows.{ShowsInput, ShowsOutcome, ShowsFinished, events_of};
+ghost use Rattle.record_view.specs.Shows.{IsFrameSpelling};
 ghost use Rattle.record_text.specs.Words.{numbered};
-ghost use Rattle.record_text.specs.Records.{element_line, draws_text, drawn_line, time_text};
-ghost use Rattle.record_text.specs.Records.{run_line, sample_line, refused_line, output_line};
-ghost use Rattle.record_text.specs.Records.{finished_lines, outcome_lines, run_lines, init_lines};
-ghost use Rattle.record_text.specs.Records.{frame_lines};
+ghost use Rattle.record_text.specs.Records.{draws_text, drawn_line, time_text, run_line};
+ghost use Rattle.record_text.specs.Records.{sample_line, refused_line, output_line};
+ghost use Rattle.record_text.specs.Records.{init_lines, outcome_lines, run_lines, frame_lines};
 
+use crate::line::Line;
 use crate::put::{put_hex, put_number, put_number_line, put_signed, put_words};
-use det_values::{
-    Bytes64, DrawnElements, Format, Frame, OutOfMemory, Outcome, RefusedAt, RunFrame, Sample,
+use det_values::{Format, OutOfMemory, RefusedAt, Sample};
+use record_grammar::Place;
+use record_view::{
+    ElementWalk, FrameKind, FrameView, InputView, OutcomeView, SampleWalk, elements_in, events_at,
+    format_at, init_elements_in, output_in, refusal_in, samples_in,
 };
 use std::alloc::AllocError;
 
-fn put_element_line(out: &mut Vec<u8>, number: usize, element: &Bytes64) -> Result<(), AllocError>
-    ensures { OnOk result (out.new.items ≡ out.old.items ++ element_line number element.now) }
-{
-    put_words(out, "element ")?;
-    put_number(out, number as u64)?;
-    put_words(out, " ")?;
-    put_hex(out, element.as_slice())?;
-    put_words(out, "\n")?;
-    Ok(())
-}
-
-fn put_element_lines(out: &mut Vec<u8>, elements: &[Bytes64]) -> Result<(), AllocError>
-    ensures { OnOk result (out.new.items ≡ out.old.items ++ numbered element_line 0 elements.now) }
-{
-    for i in 0..elements.len() {
-        put_element_line(out, i, &elements[i])?;
-    }
-    Ok(())
-}
-
-fn put_init_lines(out: &mut Vec<u8>, elements: &[Bytes64]) -> Result<(), AllocError>
-    ensures { OnOk result (out.new.items ≡ out.old.items ++ init_lines elements.now) }
-{
-    put_number_line(out, "init", elements.len() as u64)?;
-    put_element_lines(out, elements)?;
-    Ok(())
-}
-
-fn put_draws(out: &mut Vec<u8>, format: Format, draws: u32) -> Result<(), AllocError>
-    ensures { OnOk result (out.new.items ≡ out.old.items ++ draws_text format draws) }
+fn prepend_draws(line: &mut Line, format: Format, draws: u32)
+    requires { 11 + length line.old ≤ 160 }
+    ensures text { line.new ≡ draws_text format draws ++ line.old }
+    ensures short { length line.new ≤ 11 + length line.old }
 {
     match format {
         Format::One => {}
         Format::Two => {
-            put_words(out, " ")?;
-            put_number(out, draws as u64)?;
+            line.prepend_number(draws);
+            line.prepend_words(" ");
         }
     }
-    Ok(())
 }
 
 fn put_drawn_line(
     out: &mut Vec<u8>,
     format: Format,
-    number: usize,
+    number: u32,
     bytes: &[u8],
     draws: u32,
 ) -> Result<(), AllocError>
+    requires { length bytes.now ≤ 64 }
     ensures { OnOk result
         (out.new.items ≡ out.old.items ++ drawn_line format number (an_element bytes.now draws)) }
 {
-    put_words(out, "element ")?;
-    put_number(out, number as u64)?;
-    put_words(out, " ")?;
-    put_hex(out, bytes)?;
-    put_draws(out, format, draws)?;
-    put_words(out, "\n")?;
-    Ok(())
+    let mut line = Line::new();
+    line.prepend_words("\n");
+    prepend_draws(&mut line, format, draws);
+    line.prepend_hex(bytes);
+    line.prepend_words(" ");
+    line.prepend_number(number);
+    line.prepend_words("element ");
+    out.extend_from_slice(line.as_slice())
 }
 
 fn put_drawn_lines(
     out: &mut Vec<u8>,
     format: Format,
-    elements: &DrawnElements,
+    count: u32,
+    elements: ElementWalk<'_>,
 ) -> Result<(), AllocError>
+    requires { length elements ≤ count }
     ensures { OnOk result
-        (out.new.items ≡ out.old.items ++ numbered (drawn_line format) 0 elements.now) }
+        (out.new.items ≡ out.old.items ++ numbered (drawn_line format) 0 elements.entry) }
 {
-    let mut walk = elements.walk();
-    for i in 0..elements.len() {
-        match walk.next() {
-            Some((bytes, draws)) => put_drawn_line(out, format, i, bytes, draws)?,
+    let mut elements = elements;
+    'elements: for number in 0..count {
+        match elements.next() {
+            Some((bytes, draws)) => put_drawn_line(out, format, number, bytes, draws)?,
             None => return Ok(()),
         }
     }
@@ -124,13 +112,16 @@ fn put_sample_line(out: &mut Vec<u8>, sample: &Sample) -> Result<(), AllocError>
     Ok(())
 }
 
-fn put_sample_lines(out: &mut Vec<u8>, samples: &[Sample]) -> Result<(), AllocError>
-    ensures { OnOk result (out.new.items ≡ out.old.items ++ flat_map sample_line samples.now) }
+fn put_sample_lines(out: &mut Vec<u8>, samples: SampleWalk<'_>) -> Result<(), AllocError>
+    ensures { OnOk result (out.new.items ≡ out.old.items ++ flat_map sample_line samples.entry) }
 {
-    for sample in samples {
-        put_sample_line(out, sample)?;
+    let mut samples = samples;
+    'samples: loop {
+        match samples.next() {
+            Some(sample) => put_sample_line(out, &sample)?,
+            None => return Ok(()),
+        }
     }
-    Ok(())
 }
 
 fn put_refused_line(out: &mut Vec<u8>, refused: &RefusedAt) -> Result<(), AllocError>
@@ -166,65 +157,104 @@ fn put_output_line(out: &mut Vec<u8>, output: &[u8]) -> Result<(), AllocError>
 fn put_finished_lines(
     out: &mut Vec<u8>,
     format: Format,
-    elements: &DrawnElements,
-    output: &[u8],
+    count: u32,
+    at: usize,
+    output_at: usize,
+    bytes: &[u8],
 ) -> Result<(), AllocError>
-    ensures { OnOk result
-        (out.new.items ≡ out.old.items ++ finished_lines format elements.now output.now) }
+    requires { (len : ℕ) × (outcome : Outcome)
+        × ShowsFinished format count at output_at len bytes.now outcome }
+    ensures { OnOk result ((len : ℕ) (outcome : Outcome)
+        → ShowsFinished format count at output_at len bytes.now outcome
+        → out.new.items ≡ out.old.items ++ outcome_lines format outcome) }
 {
-    put_number_line(out, "finished", elements.len() as u64)?;
-    put_drawn_lines(out, format, elements)?;
-    put_output_line(out, output)?;
-    Ok(())
+    put_number_line(out, "finished", count as u64)?;
+    put_drawn_lines(out, format, count, elements_in(format, count, at, bytes))?;
+    put_output_line(out, output_in(output_at, bytes))
 }
 
-fn put_outcome_lines(out: &mut Vec<u8>, format: Format, outcome: &Outcome) -> Result<(), AllocError>
-    ensures { OnOk result (out.new.items ≡ out.old.items ++ outcome_lines format outcome.now) }
+fn put_outcome_lines(
+    out: &mut Vec<u8>,
+    format: Format,
+    view: OutcomeView,
+    bytes: &[u8],
+) -> Result<(), AllocError>
+    requires { (len : ℕ) × (outcome : Outcome) × ShowsOutcome format view len bytes.now outcome }
+    ensures { OnOk result ((len : ℕ) (outcome : Outcome)
+        → ShowsOutcome format view len bytes.now outcome
+        → out.new.items ≡ out.old.items ++ outcome_lines format outcome) }
 {
-    match outcome {
-        Outcome::Finished { elements, output } => {
-            put_finished_lines(out, format, elements, output.as_slice())
-        }
-        Outcome::Refused(refused) => put_refused_line(out, refused),
+    match view {
+        OutcomeView::Finished {
+            elements,
+            elements_at,
+            output_at,
+        } => put_finished_lines(out, format, elements, elements_at, output_at, bytes),
+        OutcomeView::Refused { at } => put_refused_line(out, &refusal_in(at, bytes)),
     }
 }
 
 fn put_run_lines(
     out: &mut Vec<u8>,
-    format: Format,
     cycle: u32,
-    run: &RunFrame,
+    place: Place,
+    input: InputView,
+    outcome: OutcomeView,
+    bytes: &[u8],
 ) -> Result<(), AllocError>
-    ensures { OnOk result (out.new.items ≡ out.old.items ++ run_lines format cycle run.now) }
+    requires { (len : ℕ) × (run : RunFrame)
+        × ShowsInput (events_of place) input bytes.now run.input
+        × ShowsOutcome (format_of place) outcome len bytes.now run.outcome }
+    ensures { OnOk result ((len : ℕ) (run : RunFrame)
+        → ShowsInput (events_of place) input bytes.now run.input
+        → ShowsOutcome (format_of place) outcome len bytes.now run.outcome
+        → out.new.items ≡ out.old.items ++ run_lines (format_of place) cycle run) }
 {
-    put_run_line(out, cycle, run.input.time)?;
-    put_sample_lines(out, run.input.samples.as_slice())?;
-    put_outcome_lines(out, format, &run.outcome)?;
-    Ok(())
+    put_run_line(out, cycle, input.time)?;
+    put_sample_lines(out, samples_in(events_at(place), input, bytes))?;
+    put_outcome_lines(out, format_at(place), outcome, bytes)
 }
 
-fn put_frame(out: &mut Vec<u8>, format: Format, cycle: u32, frame: &Frame) -> Result<(), AllocError>
-    ensures { OnOk result (out.new.items ≡ out.old.items ++ frame_lines format cycle frame.now) }
+fn put_init_lines(out: &mut Vec<u8>, count: u32, bytes: &[u8]) -> Result<(), AllocError>
+    requires { (elements : List (List ℕ)) × (rest : List ℕ)
+        × (many element_at count (drop 5 bytes.now) ≡ Got (elements, rest))
+        × (5 ≤ length bytes.now) }
+    ensures { OnOk result ((elements : List (List ℕ)) (rest : List ℕ)
+        → many element_at count (drop 5 bytes.now) ≡ Got (elements, rest)
+        → out.new.items ≡ out.old.items ++ init_lines elements) }
 {
-    match frame {
-        Frame::Register => put_words(out, "register\n"),
-        Frame::Discover => put_words(out, "discover\n"),
-        Frame::Init(elements) => put_init_lines(out, elements.as_slice()),
-        Frame::Run(run) => put_run_lines(out, format, cycle, run),
-        Frame::Terminate => put_words(out, "terminate\n"),
+    put_number_line(out, "init", count as u64)?;
+    put_drawn_lines(out, Format::One, count, init_elements_in(count, bytes))
+}
+
+fn put_frame(out: &mut Vec<u8>, cycle: u32, view: FrameView, bytes: &[u8]) -> Result<(), AllocError>
+    requires { (frame : Frame) × IsFrameSpelling view frame bytes.now }
+    ensures { OnOk result ((frame : Frame) → IsFrameSpelling view frame bytes.now
+        → out.new.items ≡ out.old.items ++ frame_lines (format_of view.place) cycle frame) }
+{
+    match view.kind {
+        FrameKind::Register => put_words(out, "register\n"),
+        FrameKind::Discover => put_words(out, "discover\n"),
+        FrameKind::Init { elements } => put_init_lines(out, elements, bytes),
+        FrameKind::Run { input, outcome } => {
+            put_run_lines(out, cycle, view.place, input, outcome, bytes)
+        }
+        FrameKind::Terminate => put_words(out, "terminate\n"),
     }
 }
 
-/// Appends the lines of a frame of a record of this format, where a Run is cycle number `cycle`,
-/// counted from 1. After a refusal some of them may stand there.
+/// Appends the lines of a frame, where a Run is cycle number `cycle`, counted from 1. After a
+/// refusal a part of them may be there.
 pub fn put_frame_lines(
     out: &mut Vec<u8>,
-    format: Format,
     cycle: u32,
-    frame: &Frame,
+    view: FrameView,
+    bytes: &[u8],
 ) -> Result<(), OutOfMemory>
-    ensures { OnOk result (out.new.items ≡ out.old.items ++ frame_lines format cycle frame.now) }
+    requires { (frame : Frame) × IsFrameSpelling view frame bytes.now }
+    ensures { OnOk result ((frame : Frame) → IsFrameSpelling view frame bytes.now
+        → out.new.items ≡ out.old.items ++ frame_lines (format_of view.place) cycle frame) }
 {
-    put_frame(out, format, cycle, frame)?;
+    put_frame(out, cycle, view, bytes)?;
     Ok(())
 }

@@ -4,6 +4,7 @@ ghost use Rattle.std.specs.Fmt.{signed_decimal};
 ghost use Rattle.hex.specs.Hex.{encode_lower};
 ghost use Rattle.record_text.specs.Words.{hex_text, number_line};
 
+use crate::hex_digits::encode_hex;
 use itoa::Buffer;
 use std::alloc::AllocError;
 
@@ -47,7 +48,7 @@ fn put_piece(out: &mut Vec<u8>, piece: &[u8]) -> Result<(), AllocError>
 {
     let mut digits = [0; 128];
     let part = &mut digits[..2 * piece.len()];
-    hex::encode_to_slice(piece, part).unwrap();
+    encode_hex(piece, part);
     out.extend_from_slice(part)
 }
 

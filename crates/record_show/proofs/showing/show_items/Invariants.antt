@@ -1,8 +1,8 @@
 use Rattle.std.proofs.Common.{◌≡◌, None}
 use Rattle.det_edges.specs.Traffic.{ShelfTraffic, SinkTraffic, shelf_run, sink_run}
 use Rattle.probes.specs.Shows.{seen}
-use Rattle.record_reader.specs.StandsFor.{slot_of, room}
-use Rattle.record_reader.proofs.Taking.{Running}
+use Rattle.item_reader.specs.StandsFor.{slot_of, room}
+use Rattle.record_reader.proofs.Views.{Running}
 use Rattle.record_show.specs.Showing.{Kept, showing}
 use Rattle.record_show.proofs.showing.show_items.Given as goal
 

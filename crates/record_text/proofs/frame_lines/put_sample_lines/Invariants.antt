@@ -1,6 +1,10 @@
+use Rattle.std.proofs.Common.{◌≡◌, ◌++◌, length}
+use Rattle.std.specs.List.{flat_map}
 use Rattle.record_text.specs.Records.{sample_line}
-use Rattle.record_text.proofs.Appending.{HasPut}
 use Rattle.record_text.proofs.frame_lines.put_sample_lines.Given as goal
 
-abbrev pub invariant-loop-sample : goal.invariant-loop-sample
-invariant-loop-sample l = HasPut sample_line l.samples l.sample-index l.initial.out.items l.out.items
+abbrev pub invariant-samples : goal.invariant-samples
+invariant-samples l = l.out.items ++ flat_map sample_line l.samples ≡ l.fn.out.items ++ flat_map sample_line l.fn.samples
+
+abbrev pub decreases-samples : goal.decreases-samples
+decreases-samples l = length l.samples

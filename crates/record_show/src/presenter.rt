@@ -1,0 +1,54 @@
+//! Runs, shown to an audience.
+ghost use Rattle.std.specs.Prelude.{OnOk};
+ghost use Rattle.record_grammar.specs.declared.item.Item.{Item};
+ghost use Rattle.record_view.specs.Shows.{IsSpelling};
+ghost use Rattle.probes.specs.Shows.{Shows, seen};
+ghost use Rattle.record_show.specs.Text.{run_in};
+
+use det_values::OutOfMemory;
+use probes::{Audience, Probe};
+use record_codec::RunRoom;
+use record_view::ItemView;
+use std::alloc::Global;
+
+/// Shows the Run frames of a record to an audience. Each is made of its view in memory that is used
+/// again, and none is made where no probe looks any more.
+#[derive(Drop)]
+pub struct Presenter {
+    alloc: Global,
+    room: RunRoom,
+}
+
+impl Presenter {
+    /// It takes no memory yet.
+    pub fn new(alloc: Global) -> Presenter {
+        Presenter {
+            alloc,
+            room: RunRoom::new(alloc),
+        }
+    }
+
+    /// Shows an item where it is a Run frame. After an error a part of the probes may have seen it.
+    pub fn show(
+        &mut self,
+        view: ItemView,
+        bytes: &[u8],
+        audience: &mut Audience,
+    ) -> Result<(), OutOfMemory>
+        requires { (item : Item) × IsSpelling view item bytes.now }
+        ensures { (item : Item) → IsSpelling view item bytes.now
+            → OnOk result (Shows (seen (λ b. life (b.vtable, b.value)) audience.old)
+            (seen (λ b. life (b.vtable, b.value)) audience.new) (run_in item)) }
+    {
+        if audience.staying() == 0 {
+            return Ok(());
+        }
+        let Some(frame) = view.as_frame() else {
+            return Ok(());
+        };
+        if self.room.fill(frame, bytes)? {
+            audience.show(self.alloc, self.room.run())?;
+        }
+        Ok(())
+    }
+}

@@ -1,0 +1,93 @@
+-- What the views of a frame's parts say of its lines.
+use Rattle.std.proofs.Common.{◌≡◌, ℕ, ◌+◌, ◌≤◌, List, [], ◌∷◌, ◌++◌, length, drop, map, Option, Result, Ok, Err, refl, sym, ap, subst, ◌∙◌, append_assoc}
+use Rattle.std.proofs.lemmas.List.{length-map}
+use Rattle.std.specs.Prelude.{OnOk, codes}
+use Rattle.std.specs.List.{flat_map}
+use Rattle.det_values.specs.Values.{SampleValue}
+use Rattle.det_values.specs.declared.format.Format.{Format}
+use Rattle.det_values.specs.declared.format.Format.TheVariants.{One}
+use Rattle.det_values.specs.declared.frames.DrawnElement.{DrawnElement}
+use Rattle.det_values.specs.declared.frames.Frame.{Frame}
+use Rattle.det_values.specs.declared.frames.Frame.TheVariants as frames
+use Rattle.det_values.specs.declared.frames.Outcome.{Outcome}
+use Rattle.det_values.specs.declared.frames.Outcome.TheVariants.{Finished, Refused}
+use Rattle.det_values.specs.declared.frames.RunFrame.{RunFrame}
+use Rattle.record_grammar.specs.Read.{Got, many}
+use Rattle.record_grammar.specs.Grammar.{element_at}
+use Rattle.record_grammar.specs.declared.place.Place.{Place}
+use Rattle.record_view.specs.declared.view.FrameKind.{FrameKind}
+use Rattle.record_view.specs.declared.view.FrameKind.TheVariants as kinds
+use Rattle.record_view.specs.declared.view.FrameView.{FrameView}
+use Rattle.record_view.specs.Parts.{undrawn, ElementsOf, OutputOf}
+use Rattle.record_view.specs.Shows.{ShowsFrame, IsFrameSpelling}
+use Rattle.record_text.specs.Words.{number_line, numbered}
+use Rattle.record_text.specs.Records.{element_line, drawn_line, run_line, sample_line, output_line, init_lines, outcome_lines, run_lines}
+
+pub then-ok : {A E P Q : Type 0} (r : Result A E) → (P → Q) → OnOk r P → OnOk r Q
+then-ok (Ok x) then h = then h
+then-ok (Err e) then h = tt
+
+three : (old x y z a b new : List ℕ) → a ≡ old ++ x → b ≡ a ++ y → new ≡ b ++ z → new ≡ old ++ (x ++ (y ++ z))
+three old x y z a b new ea eb en =
+    en ∙ ap (λ (l : List ℕ). l ++ z) (eb ∙ ap (λ (l : List ℕ). l ++ y) ea) ∙ append_assoc (old ++ x) y z ∙ append_assoc old x (y ++ z)
+
+-- ---- Init
+
+-- elements of Init have the lines of elements of format 1
+undrawn_lines : (i : ℕ) (es : List (List ℕ)) → numbered (drawn_line One) i (map undrawn es) ≡ numbered element_line i es
+unfolding numbered
+undrawn_lines i [] = refl
+undrawn_lines i (e ∷ es) = ap (λ (more : List ℕ). element_line i e ++ more) (undrawn_lines (i + 1) es)
+
+pub init_put : (es : List DrawnElement) (elements : List (List ℕ)) (count : ℕ) (old mid new : List ℕ) → es ≡ map undrawn elements
+    → length es ≡ count → mid ≡ old ++ number_line (codes "init") count → new ≡ mid ++ numbered (drawn_line One) 0 es
+    → new ≡ old ++ init_lines elements
+init_put es elements count old mid new is counted first then =
+    let all : count ≡ length elements = sym counted ∙ ap length is ∙ length-map elements undrawn in
+    then ∙ ap (λ (l : List ℕ). l ++ numbered (drawn_line One) 0 es) (first ∙ ap (λ (n : ℕ). old ++ number_line (codes "init") n) all)
+    ∙ append_assoc old (number_line (codes "init") (length elements)) (numbered (drawn_line One) 0 es)
+    ∙ ap (λ (l : List ℕ). old ++ (number_line (codes "init") (length elements) ++ l))
+    (ap (numbered (drawn_line One) 0) is ∙ undrawn_lines 0 elements)
+
+pub record IsInit (count len : ℕ) (bytes : List ℕ) (frame : Frame) : Type 0 where
+  pub elements : List (List ℕ)
+  pub is : frame ≡ frames.Init elements
+  pub reads : many element_at count (drop 5 bytes) ≡ Got (elements, drop len bytes)
+  pub long : 5 ≤ len
+
+init_by : (place : Place) (count len : ℕ) (bytes : List ℕ) (frame : Frame) → ShowsFrame place (kinds.Init count) len bytes frame
+    → IsInit count len bytes frame
+init_by place count len bytes (frames.Init es) h = record { elements = es; is = refl; reads = h.0; long = h.1 }
+init_by place count len bytes frames.Register h = absurd h
+init_by place count len bytes frames.Discover h = absurd h
+init_by place count len bytes (frames.Run r) h = absurd h
+init_by place count len bytes frames.Terminate h = absurd h
+
+-- the elements that the view of an Init frame shows
+pub is_init : (view : FrameView) (count : ℕ) (frame : Frame) (bytes : List ℕ) → view.kind ≡ kinds.Init count
+    → IsFrameSpelling view frame bytes → IsInit count view.len bytes frame
+is_init view count frame bytes is h =
+    init_by view.place count view.len bytes frame (subst (λ (k : FrameKind). ShowsFrame view.place k view.len bytes frame) is h.shows.parts)
+
+-- ---- Run
+
+pub finished_put : (format : Format) (outcome : Outcome) (count : ℕ) (es : List DrawnElement) (bytes old a b new : List ℕ)
+    → ElementsOf es outcome → OutputOf bytes outcome → length es ≡ count → a ≡ old ++ number_line (codes "finished") count
+    → b ≡ a ++ numbered (drawn_line format) 0 es → new ≡ b ++ output_line bytes → new ≡ old ++ outcome_lines format outcome
+finished_put format (Finished elements output) count es bytes old a b new is out counted ea eb en =
+    three old (number_line (codes "finished") count) (numbered (drawn_line format) 0 es) (output_line bytes) a b new ea eb en
+    ∙ ap (λ (n : ℕ). old ++ (number_line (codes "finished") n ++ (numbered (drawn_line format) 0 es ++ output_line bytes)))
+    (sym counted ∙ ap length is)
+    ∙ ap (λ (xs : List DrawnElement). old ++ (number_line (codes "finished") (length elements)
+    ++ (numbered (drawn_line format) 0 xs ++ output_line bytes))) is
+    ∙ ap (λ (xs : List ℕ). old ++ (number_line (codes "finished") (length elements)
+    ++ (numbered (drawn_line format) 0 elements ++ output_line xs))) out
+finished_put format (Refused at) count es bytes old a b new is out counted ea eb en = absurd is
+
+pub run_put : (format : Format) (cycle : ℕ) (run : RunFrame) (time : Option ℕ) (samples : List SampleValue) (old a b new : List ℕ)
+    → run.input.time ≡ time → samples ≡ run.input.samples → a ≡ old ++ run_line cycle time → b ≡ a ++ flat_map sample_line samples
+    → new ≡ b ++ outcome_lines format run.outcome → new ≡ old ++ run_lines format cycle run
+run_put format cycle run time samples old a b new at is ea eb en =
+    three old (run_line cycle run.input.time) (flat_map sample_line run.input.samples) (outcome_lines format run.outcome) a b new
+    (ea ∙ ap (λ (t : Option ℕ). old ++ run_line cycle t) (sym at))
+    (eb ∙ ap (λ (xs : List SampleValue). a ++ flat_map sample_line xs) is) en

@@ -1,0 +1,85 @@
+//! A short line, put together on the stack and appended at once.
+ghost use Rattle.std.specs.Prelude.{◌≡◌, ◌≤◌, ◌+◌, ◌*◌, ◌++◌, [], length, decimal};
+ghost use Rattle.hex.specs.Hex.{encode_lower};
+ghost use Rattle.record_text.specs.Words.{hex_text};
+
+use crate::hex_digits::encode_hex;
+use itoa::write_digits;
+use std::marker::Model;
+
+/// How many bytes a line may have: an element's has at most 159.
+const ROOM: usize = 160;
+
+/// A line that grows at its front. So a number is written where it stays, before its length is
+/// known, and the text that follows a line has no part in it.
+#[derive(Drop)]
+pub struct Line {
+    bytes: [u8; ROOM],
+    from: usize,
+}
+
+impl Model for Line {
+    ghost use Rattle.std.specs.Prelude.{ℕ, List, drop, ◌≤◌};
+
+    ghost Value = { List ℕ };
+
+    ghost view = { λ l. drop l.from l.bytes };
+
+    ghost invariant = { λ l. l.from ≤ 160 };
+}
+
+impl Line {
+    pub fn new() -> Line
+        ensures { result ≡ [] }
+    {
+        Line {
+            bytes: [0; ROOM],
+            from: ROOM,
+        }
+    }
+
+    pub fn prepend_words(&mut self, words: &str)
+        requires { length words.now + length self.old ≤ 160 }
+        ensures { self.new ≡ words.now ++ self.old }
+    {
+        let to = self.from;
+        self.from -= words.len();
+        self.bytes[self.from..to].copy_from_slice(words.as_bytes());
+    }
+
+    pub fn prepend_number(&mut self, number: u32)
+        requires { 10 + length self.old ≤ 160 }
+        ensures text { self.new ≡ decimal number ++ self.old }
+        ensures short { length self.new ≤ 10 + length self.old }
+    {
+        self.from = write_digits(number as u64, &mut self.bytes, self.from);
+    }
+
+    pub fn prepend_hex(&mut self, bytes: &[u8])
+        requires few { length bytes.now ≤ 64 }
+        requires room { 128 + length self.old ≤ 160 }
+        ensures text { self.new ≡ hex_text bytes.now ++ self.old }
+        ensures short { length self.new ≤ 128 + length self.old }
+    {
+        match bytes {
+            [] => self.prepend_words("-"),
+            _ => self.prepend_digits(bytes),
+        }
+    }
+
+    fn prepend_digits(&mut self, bytes: &[u8])
+        requires { 2 * length bytes.now + length self.old ≤ 160 }
+        ensures text { self.new ≡ encode_lower bytes.now ++ self.old }
+        ensures len { length self.new ≡ 2 * length bytes.now + length self.old }
+    {
+        let to = self.from;
+        self.from -= 2 * bytes.len();
+        encode_hex(bytes, &mut self.bytes[self.from..to]);
+    }
+
+    pub fn as_slice(&self) -> &[u8]
+        ensures { result.now ≡ self.now }
+    {
+        &self.bytes[self.from..]
+    }
+}
