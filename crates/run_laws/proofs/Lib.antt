@@ -30,3 +30,4 @@ mod GenuineRuns
 mod GenuineLaws
 mod PassedOn
 mod Chained
+mod Summed

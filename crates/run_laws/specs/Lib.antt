@@ -4,3 +4,4 @@ pub mod Checks
 pub mod Votes
 pub mod Chains
 pub mod Salvages
+pub mod Sums

@@ -1,7 +1,7 @@
 //! Laws of whole runs: what the record of a run is read as, what is printed of it, what its replay
 //! gives, when copies of it agree or have a majority, which copies dissent, when it is genuine,
-//! what it is upgraded to, what is salvaged of it, and what a chain makes of its two clients. Each
-//! function is empty and its contract is the law.
+//! what it is upgraded to, what is salvaged of it, what a chain makes of its two clients, and what
+//! `sim` sums up. Each function is empty and its contract is the law.
 #![tactic(auto)]
 
 ghost use Rattle.run_laws.specs.Statements.{RecordIsRead, DemoIsRead, RecordIsShown, DemoIsShown};
@@ -14,6 +14,7 @@ ghost use Rattle.run_laws.specs.Checks.{RecordIsChecked, DemoIsChecked, GenuineI
 ghost use Rattle.run_laws.specs.Checks.{GenuineIsUpgraded, FormatTwoStays};
 ghost use Rattle.run_laws.specs.Salvages.{InitIsEnough, SalvagedIsWhole, WholeIsKept};
 ghost use Rattle.run_laws.specs.Salvages.{RecordIsSalvaged, DemoIsSalvaged};
+ghost use Rattle.run_laws.specs.Sums.{SimIsRecorded};
 
 /// The record of a manifest and a stimulus is read as its profile and the frames of its run, and as
 /// nothing else. A manifest is meant that is taken, and a stimulus of any bytes: where a bad line
@@ -107,4 +108,10 @@ pub fn salvaging()
     ensures kept { WholeIsKept }
     ensures record { RecordIsSalvaged }
     ensures demo { DemoIsSalvaged }
+{}
+
+/// What `sim` prints of a number sums up a record: the one that `record` writes of a manifest with
+/// its profile, of the stimulus that is made of the number, and of the number as the seed.
+pub fn summing()
+    ensures { SimIsRecorded }
 {}
