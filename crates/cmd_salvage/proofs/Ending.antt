@@ -172,6 +172,15 @@ sees-written (Err (Failed Read)) first now bytes h = h
 sees-written (Err (Failed Write)) first now bytes h = h
 sees-written (Err (Failed OutOfMemory)) first now bytes h = tt
 
+-- printing reads nothing
+reads-nothing : (result : Result (Unit {0}) (Stopped RecordFault)) (text : List ℕ) (out : SinkRun) → Written result text out
+    → result ≡ Err (Failed Read) → Grew out.before out.after []
+reads-nothing (Ok u) text out written e = absurd cc
+reads-nothing (Err (Refused f)) text out written e = absurd written
+reads-nothing (Err (Failed Read)) text out written e = absurd written
+reads-nothing (Err (Failed Write)) text out written e = absurd cc
+reads-nothing (Err (Failed OutOfMemory)) text out written e = absurd written
+
 gone-written : (result : Result (Unit {0}) (Stopped RecordFault)) (now : AudienceState) → now.seeing ≡ [] → OnOk result (now.seeing ≡ [])
 gone-written (Ok u) now none = none
 gone-written (Err stop) now none = tt
@@ -190,6 +199,7 @@ module _ {first mid : AudienceState} {watch : Watch} {shelf : ShelfRun} {slot : 
         (λ bytes r. (both bytes r).0) h.record_read;
     sees = of-slot _ (λ bytes. Sees (Err stop) first mid bytes) (λ bytes r. (both bytes r).1) h.record_read;
     gone = tt;
+    broken = λ e. grew-none took;
   }
     where
       is : read ≡ Err stop
@@ -212,6 +222,7 @@ module _ {first mid : AudienceState} {watch : Watch} {shelf : ShelfRun} {slot : 
         (λ bytes r. part-none took took _ (same-none took)) h.record_read;
     sees = of-slot _ (λ bytes. Unit {0}) (λ bytes r. tt) h.record_read;
     gone = tt;
+    broken = λ e. grew-none took;
   }
 
   pub ended-written : (read result : Result (Unit {0}) (Stopped RecordFault)) (now : AudienceState) (text : List ℕ) (out : SinkRun)
@@ -226,6 +237,7 @@ module _ {first mid : AudienceState} {watch : Watch} {shelf : ShelfRun} {slot : 
     sees = of-slot _ (λ bytes. Sees result first now bytes)
         (λ bytes r. sees-written result first now bytes (saw-all first mid now watch.cycles bytes (all bytes r) left none)) h.record_read;
     gone = gone-written result now none;
+    broken = reads-nothing result text out written;
   }
     where
       all : (bytes : List ℕ) → RecordRead read (watching first mid watch) h.given bytes no_sink → AllSeen first mid watch.cycles bytes

@@ -1,25 +1,30 @@
 -- How salvaging meets its outcome, by its end.
-use Rattle.std.proofs.Common.{◌≡◌, ◌≢◌, ℕ, List, [], Option, Some, None, Result, Ok, Err, inl, inr, refl, sym, ap, subst, ◌∙◌}
+use Rattle.std.proofs.Common.{◌≡◌, ◌≢◌, ℕ, List, [], ◌++◌, Option, Some, None, Result, Ok, Err, inl, inr, refl, sym, ap, subst, ◌∙◌}
 use Rattle.std.specs.Prelude.{IfSome, OnOk}
 use Rattle.det_edges.specs.declared.failure.Failure.TheVariants.{Read, Write, OutOfMemory}
 use Rattle.det_edges.specs.declared.failure.Stopped.{Stopped}
 use Rattle.det_edges.specs.declared.failure.Stopped.TheVariants.{Refused, Failed}
 use Rattle.det_edges.specs.Count.{Rose}
+use Rattle.det_edges.specs.Shelf.{ShelfState, Opens, SlotsStay}
+use Rattle.det_edges.specs.Sink.{Grew}
 use Rattle.det_edges.specs.Prefix.{IsPrefix}
 use Rattle.det_edges.specs.Traffic.{ShelfRun, SinkRun, ShelfTraffic, SinkTraffic, failure_in}
-use Rattle.det_edges.proofs.Growth.{part-whole}
+use Rattle.det_edges.proofs.Growth.{grew-none, part-whole}
 use Rattle.det_edges.proofs.Prefixes.{prefix-same, proper-prefix}
+use Rattle.det_edges.proofs.SlotReads.{reads-told}
 use Rattle.record_grammar.specs.declared.fault.RecordFault.{RecordFault}
 use Rattle.record_grammar.specs.Record.{fault as fault_in}
 use Rattle.record_reader.specs.declared.salvage.Salvaged.{Salvaged}
-use Rattle.record_reader.specs.Salvaged.{salvaged}
-use Rattle.record_reader.specs.Salvages.{Answers, IsFront, IsCut}
+use Rattle.record_reader.specs.Salvaged.{salvaged, written_items, saved_of}
+use Rattle.record_reader.specs.Salvages.{Answers, IsFront, IsCut, Ended}
 use Rattle.record_reader.specs.Taking.{OfSlot}
-use Rattle.record_reader.proofs.Taking.{told, of-slot}
+use Rattle.record_reader.proofs.Items.{no-items}
+use Rattle.record_reader.proofs.Taking.{told as told_of, of-slot}
 use Rattle.probes.specs.Reports.{AudienceState}
 use Rattle.cli_answers.specs.declared.answer.Answer.{Answer}
 use Rattle.cli_answers.specs.declared.answer.Answer.TheVariants as answers
-use Rattle.cli_answers.specs.Outcome.{Outcome, Meets}
+use Rattle.cli_answers.specs.BreaksOff.{BreaksOff}
+use Rattle.cli_answers.specs.Outcome.{Outcome, Meets, told}
 use Rattle.cmd_salvage.specs.Salvage.{outcome_by, salvage_outcome, answer_of}
 use Rattle.cmd_salvage.specs.Ended.{Gives, SawFirst, Sees}
 
@@ -112,7 +117,47 @@ meets-left result answer wanted read shelf slot here out is same given bytes r w
     rw is
     (gives-meets (wanted bytes) (shelf.first.left here ≡ Some bytes) shelf out result
     (λ t. told-at (shelf.first.left slot) bytes (λ b. Gives result (wanted b) out) (ap shelf.first.left same ∙ t)
-    (told (λ b. Gives result (wanted b) out) given)) r w)
+    (told_of (λ b. Gives result (wanted b) out) given)) r w)
+
+-- ---- a read failed
+
+-- a slot had these bytes, and `out` took what is saved of those of them that were read
+abbrev pub SavedPart : List ℕ → Option (List ℕ) → (before after : List ℕ → Type 0) → Type 0
+SavedPart bytes left before after = (read : List ℕ) × (rest : List ℕ) × (bytes ≡ read ++ rest) × (left ≡ Some rest)
+    × Grew before after (saved_of read)
+
+pub saved-part : (result : Result Salvaged (Stopped RecordFault)) (answer : Answer) {read : List ℕ} {shelf : ShelfRun} {slot : ℕ} (here : ℕ)
+    {out : SinkRun} → answer ≡ answer_of result → slot ≡ here → Ended result read shelf slot out → (bytes : List ℕ)
+    → answer ≡ answers.ReadFault → shelf.first.left here ≡ Some bytes → SavedPart bytes (shelf.last.left here) out.before out.after
+saved-part (Ok counts) answer here is same h bytes e t = absurd cc
+saved-part (Err (Refused f)) answer here is same h bytes e t = absurd cc
+saved-part (Err (Failed Read)) answer {read} {shelf} {slot} here is same h bytes e t =
+    let r = reads-told bytes h.answers.reads (ap shelf.first.left same ∙ t) in
+    (read, r.0, sym r.2, ap shelf.last.left (sym same) ∙ r.1, h.saves)
+saved-part (Err (Failed Write)) answer here is same h bytes e t = absurd cc
+saved-part (Err (Failed OutOfMemory)) answer here is same h bytes e t = absurd cc
+
+-- the slot is that of a name that was opened
+pub broken-off : {first opened last : ShelfState} {name : List ℕ} {slot : ℕ} {before after : List ℕ → Type 0} → Opens first opened name slot
+    → SavedPart (told first name) (last.left slot) before after → BreaksOff first last name saved_of before after
+broken-off {last = last} opens (read, rest, all, left, grew) = record {
+  read = read;
+  rest = rest;
+  all = all;
+  left = inl (subst (λ (k : ℕ). last.left k ≡ Some rest) opens.number left);
+  grew = grew;
+}
+
+-- the name couldn't be opened
+pub unopened : {first last : ShelfState} (name : List ℕ) (took : List ℕ → Type 0) → SlotsStay first last
+    → BreaksOff first last name saved_of took took
+unopened {first} name took stay = record {
+  read = [];
+  rest = told first name;
+  all = refl;
+  left = inr (stay.slots, refl);
+  grew = subst (Grew took took) (sym (ap written_items no-items)) (grew-none took);
+}
 
 sees-by : (result : Result (Unit {0}) (Stopped RecordFault)) (old now : AudienceState) (bytes : List ℕ)
     → answer_of result ≢ answers.OutOfMemory → Sees result old now bytes → SawFirst old now bytes
@@ -129,7 +174,7 @@ pub saw-left : (result : Result (Unit {0}) (Stopped RecordFault)) (answer : Answ
 saw-left result answer old now read shelf slot here is same given bytes ne t =
     sees-by result old now bytes (λ e. ne (is ∙ e))
     (told-at (shelf.first.left slot) bytes (λ b. Sees result old now b) (ap shelf.first.left same ∙ t)
-    (told (λ b. Sees result old now b) given))
+    (told_of (λ b. Sees result old now b) given))
 
 -- where the command is done the salvaging was
 pub at-done : (result : Result (Unit {0}) (Stopped RecordFault)) (answer : Answer) {P : Type 0} → answer ≡ answer_of result → OnOk result P
@@ -139,6 +184,15 @@ at-done (Err (Refused f)) answer is p done = absurd (cc)
 at-done (Err (Failed Read)) answer is p done = absurd (cc)
 at-done (Err (Failed Write)) answer is p done = absurd (cc)
 at-done (Err (Failed OutOfMemory)) answer is p done = absurd (cc)
+
+-- where the command tells a read's fault a read failed
+pub at-fault : (result : Result (Unit {0}) (Stopped RecordFault)) (answer : Answer) {P : Type 0} → answer ≡ answer_of result
+    → (result ≡ Err (Failed Read) → P) → answer ≡ answers.ReadFault → P
+at-fault (Ok u) answer is p e = absurd (cc)
+at-fault (Err (Refused f)) answer is p e = absurd (cc)
+at-fault (Err (Failed Read)) answer is p e = p refl
+at-fault (Err (Failed Write)) answer is p e = absurd (cc)
+at-fault (Err (Failed OutOfMemory)) answer is p e = absurd (cc)
 
 -- where nothing was read the audience has seen nothing
 pub saw-unread : (audience : AudienceState) (bytes : List ℕ) → SawFirst audience audience bytes

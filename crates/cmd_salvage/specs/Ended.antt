@@ -1,6 +1,6 @@
 -- How salvaging ends, by what it ought to give, and what an audience has seen then.
 use Rattle.std.specs.Prelude.{◌≡◌, ℕ, List, [], Result, Ok, Err, OnOk}
-use Rattle.det_edges.specs.declared.failure.Failure.TheVariants.{OutOfMemory}
+use Rattle.det_edges.specs.declared.failure.Failure.TheVariants.{Read, OutOfMemory}
 use Rattle.det_edges.specs.declared.failure.Stopped.{Stopped}
 use Rattle.det_edges.specs.declared.failure.Stopped.TheVariants.{Refused, Failed}
 use Rattle.det_edges.specs.Prefix.{IsPrefix}
@@ -37,10 +37,12 @@ abbrev pub Sees : Result (Unit {0}) (Stopped RecordFault) → AudienceState → 
 Sees (Err (Failed OutOfMemory)) old now record_bytes = Unit {0}
 Sees result old now record_bytes = SawFirst old now record_bytes
 
--- the answer after these bytes were read, and where it is Ok no probe is left
+-- the answer after these bytes were read; where it is Ok no probe is left, and where a read failed
+-- nothing was written
 pub record Ended (result : Result (Unit {0}) (Stopped RecordFault)) (old now : AudienceState)
     (read : List ℕ) (shelf : ShelfRun) (slot : ℕ) (out : SinkRun) : Type 0 where
   pub gives : OfSlot shelf slot read
       (λ bytes. Gives result (salvage_reports_outcome old bytes) out)
   pub sees : OfSlot shelf slot read (λ bytes. Sees result old now bytes)
   pub gone : OnOk result (now.seeing ≡ [])
+  pub broken : result ≡ Err (Failed Read) → Grew out.before out.after []

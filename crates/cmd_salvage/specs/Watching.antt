@@ -1,9 +1,11 @@
 -- A watch and an audience, to which the items of a record are given.
-use Rattle.std.specs.Prelude.{◌≡◌, List, [], Some}
+use Rattle.std.specs.Prelude.{◌≡◌, ◌+◌, ◌||◌, List, [], Some}
 use Rattle.std.specs.List.{list_any}
 use Rattle.det_edges.specs.Traffic.{SinkRun}
 use Rattle.record_grammar.specs.declared.fault.RecordFault.{RecordFault}
 use Rattle.record_grammar.specs.declared.item.Item.{Item}
+use Rattle.record_view.specs.declared.view.ItemKind.{ItemKind}
+use Rattle.record_reader.specs.Kinds.{begins_runs, runs_of}
 use Rattle.record_reader.specs.Salvaged.{is_init, cycles_of}
 use Rattle.record_reader.specs.Keeping.{IsHeaded}
 use Rattle.record_reader.specs.Taking.{Taking}
@@ -18,6 +20,11 @@ pub record Watched (first now : AudienceState) (watch : Watch) (given : List Ite
   pub has_begun : watch.has_begun ≡ list_any is_init given
   pub cycles : watch.cycles ≡ cycles_of given
   pub shows : Shows first now (runs_in given)
+
+-- an item of this kind was noted
+pub record Noted (kind : ItemKind) (old new : Watch) : Type 0 where
+  pub has_begun : new.has_begun ≡ (begins_runs kind || old.has_begun)
+  pub cycles : new.cycles ≡ old.cycles + runs_of kind
 
 -- a watch and an audience as a taker, which writes nothing
 abbrev pub watching : AudienceState → AudienceState → Watch → Taking RecordFault

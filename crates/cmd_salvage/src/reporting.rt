@@ -5,7 +5,7 @@ ghost use Rattle.det_edges.specs.Traffic.{failure_in};
 ghost use Rattle.probes.specs.Reports.{AudienceState};
 ghost use Rattle.probes.specs.Shows.{seen};
 ghost use Rattle.record_text.specs.Summaries.{salvaged_line};
-ghost use Rattle.record_reader.specs.StandsFor.{StandsFor, slot_of};
+ghost use Rattle.item_reader.specs.StandsFor.{StandsFor, slot_of};
 ghost use Rattle.record_reader.specs.Salvages.{settled_by};
 ghost use Rattle.record_reader.specs.Taking.{ItemsRead};
 ghost use Rattle.cmd_salvage.specs.Watching.{Watched, watching, no_sink};
@@ -14,18 +14,18 @@ ghost use Rattle.cmd_salvage.specs.Ended.{Ended};
 use crate::watch::Watch;
 use det_edges::{Sink, Slots, Stopped, write_all};
 use det_values::OutOfMemory;
+use item_reader::ItemReader;
 use probes::{Audience, Probe};
 use record_grammar::RecordFault;
-use record_reader::RecordReader;
 use record_text::put_salvaged_line;
 use std::alloc::Global;
 
-/// Shows the runs of the record that a reader reads to the audience, and behind the last of them
-/// prints how many there are and what is reported of them. `Refused` tells the fault of a record
-/// that has no Init before it; then nothing is printed.
+/// Shows the runs of the record that a reader reads to the audience, and after the last of them
+/// prints how many there are and what is reported of them. `Refused` has the fault of a record that
+/// has no Init before it; then nothing is printed.
 pub(crate) fn report_run<S: Slots, K: Sink>(
     alloc: Global,
-    reader: &mut RecordReader,
+    reader: &mut ItemReader,
     shelf: &mut S,
     sink: &mut K,
     audience: &mut Audience,
@@ -44,7 +44,7 @@ pub(crate) fn report_run<S: Slots, K: Sink>(
     ensures sink_traffic { SinkTraffic (sink_run K.took K.faults sink.old sink.new)
         (failure_in result) }
 {
-    let mut watch = Watch::new();
+    let mut watch = Watch::new(alloc);
     let read = watch_items(alloc, reader, shelf, &mut watch, audience);
     settled(read, watch.has_begun)?;
     audience.finish(alloc)?;
@@ -56,7 +56,7 @@ pub(crate) fn report_run<S: Slots, K: Sink>(
 /// Gives all items to a watch and an audience.
 fn watch_items<S: Slots>(
     alloc: Global,
-    reader: &mut RecordReader,
+    reader: &mut ItemReader,
     shelf: &mut S,
     watch: &mut Watch,
     audience: &mut Audience,
@@ -72,14 +72,14 @@ fn watch_items<S: Slots>(
         (failure_in result) }
 {
     'items: loop {
-        let Some(item) = reader.next_item(shelf)? else {
+        let Some(view) = reader.next(shelf)? else {
             return Ok(());
         };
-        watch.take(alloc, item, audience)?;
+        watch.take(alloc, view, reader.bytes(view), audience)?;
     }
 }
 
-/// A fault is no ground to stop where Init was read before it.
+/// A fault stops nothing where Init was read before it.
 fn settled(
     read: Result<(), Stopped<RecordFault>>,
     has_begun: bool,

@@ -1,10 +1,13 @@
 //! The command `salvage`, and `salvage --reports`.
-ghost use Rattle.std.specs.Prelude.{◌≡◌, ◌≢◌, ℕ, ◌<◌, List, ◌∷◌, [], true, Some};
+ghost use Rattle.std.specs.Prelude.{◌≡◌, ◌≢◌, ℕ, ◌<◌, List, ◌∷◌, ◌++◌, [], true, Some};
 ghost use Rattle.det_edges.specs.Count.{Rose};
 ghost use Rattle.det_edges.specs.Shelf.{AsksPrefix};
+ghost use Rattle.det_edges.specs.Sink.{Grew};
 ghost use Rattle.probes.specs.Shows.{seen};
+ghost use Rattle.cli_answers.specs.BreaksOff.{BreaksOff};
 ghost use Rattle.cli_answers.specs.Ends.{can_end};
 ghost use Rattle.cli_answers.specs.Outcome.{Meets, Tells, told};
+ghost use Rattle.record_reader.specs.Salvaged.{saved_of};
 ghost use Rattle.cmd_salvage.specs.Salvage.{salvage_outcome, salvage_reports_outcome};
 ghost use Rattle.cmd_salvage.specs.Salvage.{salvage_work, answer_of};
 ghost use Rattle.cmd_salvage.specs.Ended.{SawFirst};
@@ -12,9 +15,10 @@ ghost use Rattle.cmd_salvage.specs.Ended.{SawFirst};
 use crate::reporting::report_run;
 use cli_answers::Answer;
 use det_edges::{Shelf, Sink, Slots, Stopped};
+use item_reader::ItemReader;
 use probes::{Audience, Probe};
 use record_grammar::RecordFault;
-use record_reader::{RecordReader, salvage_run};
+use record_reader::salvage_run;
 use std::alloc::Global;
 
 /// What a command answers. The one record that it reads is copy 0.
@@ -36,10 +40,14 @@ fn salvage_slot<S: Slots, K: Sink>(alloc: Global, slot: u32, shelf: &mut S, out:
         ((S.sees shelf.old).left slot ≡ Some bytes)
         (Rose (S.sees shelf.old).faults (S.sees shelf.new).faults)
         (Rose (K.faults out.old) (K.faults out.new)) (K.took out.old) (K.took out.new) result }
+    ensures broken { (bytes : List ℕ) → result ≡ Answer.ReadFault
+        → (S.sees shelf.old).left slot ≡ Some bytes → (read : List ℕ) × (rest : List ℕ)
+        × (bytes ≡ read ++ rest) × ((S.sees shelf.new).left slot ≡ Some rest)
+        × Grew (K.took out.old) (K.took out.new) (saved_of read) }
     ensures ends { can_end salvage_work result ≡ true }
     ensures asked { (S.sees shelf.new).asked ≡ (S.sees shelf.old).asked }
 {
-    let mut reader = RecordReader::at(alloc, slot);
+    let mut reader = ItemReader::new(alloc, slot);
     let saved = salvage_run(alloc, &mut reader, shelf, out);
     answer_of(saved)
 }
@@ -58,6 +66,10 @@ pub fn salvage<S: Shelf, K: Sink>(
         (Rose (K.faults out.old) (K.faults out.new)) (K.took out.old) (K.took out.new) result }
     ensures ends { can_end salvage_work result ≡ true }
     ensures asked { AsksPrefix (S.sees shelf.old) (S.sees shelf.new) (recorded.now ∷ []) }
+    // Where a read fails, all that is saved of what was read is written.
+    ensures broken { result ≡ Answer.ReadFault → Tells (S.sees shelf.old) (recorded.now ∷ [])
+        → BreaksOff (S.sees shelf.old) (S.sees shelf.new) recorded.now saved_of
+        (K.took out.old) (K.took out.new) }
 {
     let slot = match shelf.open_input(recorded) {
         Ok(slot) => slot,
@@ -88,8 +100,9 @@ fn report_slot<S: Slots, K: Sink>(
         (seen (λ b. life (b.vtable, b.value)) audience.new) bytes }
     ensures gone { result ≡ Answer.Done
         → (seen (λ b. life (b.vtable, b.value)) audience.new).seeing ≡ [] }
+    ensures broken { result ≡ Answer.ReadFault → Grew (K.took out.old) (K.took out.new) [] }
 {
-    let mut reader = RecordReader::at(alloc, slot);
+    let mut reader = ItemReader::new(alloc, slot);
     let reported = report_run(alloc, &mut reader, shelf, out, audience);
     answer_of(reported)
 }
@@ -118,6 +131,8 @@ pub fn salvage_reports<S: Shelf, K: Sink>(
         (told (S.sees shelf.old) recorded.now) }
     ensures gone { result ≡ Answer.Done
         → (seen (λ b. life (b.vtable, b.value)) audience.new).seeing ≡ [] }
+    // Nothing is printed before the end, so where a read fails nothing is.
+    ensures broken { result ≡ Answer.ReadFault → Grew (K.took out.old) (K.took out.new) [] }
 {
     let slot = match shelf.open_input(recorded) {
         Ok(slot) => slot,

@@ -85,7 +85,8 @@ module _ {first mid : ShelfState} {slots here : List ℕ} (recorded : List (Bor 
     abbrev shelf : ShelfRun
     shelf = record { first = mid; last = last; stays = stays }
 
-    answered : (result : Result Vote (Stopped voting.NoMajority)) → HasVoted result mid last here out → tells → Answers result copies out
+    answered : (result : Result Vote (Stopped voting.NoMajority)) → HasVoted result mid last here out → tells
+        → Answers result mid last here copies out
     answered result h t = h.answers copies (are-left recorded same opened t)
 
     part-of : (bytes : List ℕ) → GrewByPrefix out.before out.after bytes → bytes ≡ voted copies

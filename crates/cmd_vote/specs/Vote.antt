@@ -1,21 +1,24 @@
 -- What `vote` gives of copies of a record.
-use Rattle.std.specs.Prelude.{ℕ, true, List, ◌++◌, length, codes, decimal, Option, Some, None}
-use Rattle.std.specs.Prelude.{Result, Ok, Err}
+use Rattle.std.specs.Prelude.{◌≡◌, ℕ, ◌+◌, ◌<◌, ◌⊎◌, true, List, [], ◌++◌, length, get_or, map}
+use Rattle.std.specs.Prelude.{codes, decimal, Option, Some, None, Result, Ok, Err}
 use Rattle.std.specs.List.{flat_map}
+use Rattle.det_edges.specs.Shelf.{ShelfState}
+use Rattle.det_edges.specs.Sink.{Grew}
 use Rattle.det_edges.specs.declared.failure.Stopped.{Stopped}
 use Rattle.det_edges.specs.declared.failure.Stopped.TheVariants.{Refused, Failed}
 use Rattle.record_grammar.specs.declared.item.Item.{Item}
+use Rattle.record_grammar.specs.Record.{items as items_in, fault_so_far}
 use Rattle.record_reader.specs.Salvaged.{cycles_of}
 use Rattle.record_text.specs.Words.{number_line}
 use Rattle.voter.specs.declared.outcome.Dissenter.{Dissenter}
 use Rattle.voter.specs.declared.outcome.NoMajority as voting
 use Rattle.voter.specs.declared.outcome.Vote.{Vote}
-use Rattle.voter.specs.Majority.{majority, dissent, common, spelled_items}
+use Rattle.voter.specs.Majority.{majority, dissent, common, are_held, spelled_items}
 use Rattle.cli_answers.specs.declared.answer.Answer.{Answer}
 use Rattle.cli_answers.specs.declared.answer.Answer.TheVariants.{Done, NoMajority}
 use Rattle.cli_answers.specs.Answers.{failed}
 use Rattle.cli_answers.specs.Ends.{Work, writes_alone}
-use Rattle.cli_answers.specs.Outcome.{Outcome, refusal}
+use Rattle.cli_answers.specs.Outcome.{Outcome, refusal, told}
 
 -- it takes the majority of copies
 abbrev pub vote_work : Work
@@ -62,3 +65,28 @@ dissent_by None copies = refusal (NoMajority (length (common copies)))
 -- what is printed in place of the record
 abbrev pub dissent_outcome : List (List ℕ) → Outcome
 dissent_outcome copies = dissent_by (majority copies) copies
+
+-- ---- a read that failed
+
+-- All that was read of the copy under one of these names shows these rows, and neither a row more
+-- nor a fault; the rest is left of its slot.
+pub record CopyShows (first last : ShelfState) (names : List (List ℕ)) (rows : List Item)
+    : Type 0 where
+  pub copy : ℕ
+  pub there : copy < length names
+  pub read : List ℕ
+  pub rest : List ℕ
+  pub all : told first (get_or names copy []) ≡ read ++ rest
+  pub left : last.left (first.slots + copy) ≡ Some rest
+  pub items : items_in read ≡ rows
+  pub sound : fault_so_far read ≡ None
+
+-- Where a read failed, `out` took all rows that one copy shows so far, with which more than half of
+-- the copies begin; or a name couldn't be opened, and there are none.
+pub record VoteBreaksOff (first last : ShelfState) (names : List (List ℕ))
+    (before after : List ℕ → Type 0) : Type 0 where
+  pub rows : List Item
+  pub shown : CopyShows first last names rows
+      ⊎ ((last.slots < first.slots + length names) × (rows ≡ []))
+  pub held : are_held (map (told first) names) rows ≡ true
+  pub grew : Grew before after (spelled_items rows)

@@ -1,11 +1,12 @@
 //! The command `vote`.
-ghost use Rattle.std.specs.Prelude.{◌≡◌, ◌≤◌, map, length, true, Ok};
+ghost use Rattle.std.specs.Prelude.{◌≡◌, ◌≤◌, map, length, true, Ok, []};
 ghost use Rattle.det_edges.specs.Count.{Rose};
 ghost use Rattle.det_edges.specs.Shelf.{AsksPrefix};
+ghost use Rattle.det_edges.specs.Sink.{Grew};
 ghost use Rattle.cli_answers.specs.Ends.{can_end};
 ghost use Rattle.cli_answers.specs.Outcome.{Meets, Tells, told};
 ghost use Rattle.cmd_vote.specs.Vote.{answer_of, dissent_text, vote_work};
-ghost use Rattle.cmd_vote.specs.Vote.{vote_outcome, dissent_outcome};
+ghost use Rattle.cmd_vote.specs.Vote.{vote_outcome, dissent_outcome, VoteBreaksOff};
 
 use crate::text::text_of;
 use cli_answers::Answer;
@@ -29,6 +30,7 @@ fn answer_of(voted: Result<Vote, Stopped<NoMajority>>) -> Answer
 /// Writes the record of the majority of the records under these names, row by row as they are read.
 /// The names are opened in their order, before the first record is read. Where more than half of
 /// the records aren't one whole record, the rows that more than half have in common are written.
+/// Where a read fails, all rows that were voted are written before that is answered.
 pub fn vote<S: Shelf, K: Sink>(
     alloc: Global,
     recorded: &[&str],
@@ -43,6 +45,10 @@ pub fn vote<S: Shelf, K: Sink>(
         (Rose (S.sees shelf.old).faults (S.sees shelf.new).faults)
         (Rose (K.faults out.old) (K.faults out.new)) (K.took out.old) (K.took out.new) result }
     ensures ends { can_end vote_work result ≡ true }
+    ensures broken { result ≡ Answer.ReadFault
+        → Tells (S.sees shelf.old) (map (λ name. name.now) recorded.now)
+        → VoteBreaksOff (S.sees shelf.old) (S.sees shelf.new)
+        (map (λ name. name.now) recorded.now) (K.took out.old) (K.took out.new) }
     ensures asked { AsksPrefix (S.sees shelf.old) (S.sees shelf.new)
         (map (λ name. name.now) recorded.now) }
 {
@@ -72,8 +78,8 @@ fn print<K: Sink>(alloc: Global, vote: &Vote, out: &mut K) -> Answer
 }
 
 /// Prints, in place of the majority's record, how many cycles it has, and of each copy that isn't
-/// that record its number and the first row in which it differs. Where there is no majority,
-/// nothing is printed.
+/// that record its number and the first row in which it differs. Where there is no majority, or a
+/// read fails, nothing is printed.
 pub fn vote_dissent<S: Shelf, K: Sink>(
     alloc: Global,
     recorded: &[&str],
@@ -88,6 +94,7 @@ pub fn vote_dissent<S: Shelf, K: Sink>(
         (Rose (S.sees shelf.old).faults (S.sees shelf.new).faults)
         (Rose (K.faults out.old) (K.faults out.new)) (K.took out.old) (K.took out.new) result }
     ensures ends { can_end vote_work result ≡ true }
+    ensures broken { result ≡ Answer.ReadFault → Grew (K.took out.old) (K.took out.new) [] }
     ensures asked { AsksPrefix (S.sees shelf.old) (S.sees shelf.new)
         (map (λ name. name.now) recorded.now) }
 {

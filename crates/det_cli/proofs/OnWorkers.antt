@@ -10,6 +10,7 @@ use Rattle.manifest.specs.Values.{ManifestValue}
 use Rattle.cli_answers.specs.declared.answer.BadManifest.{BadManifest}
 use Rattle.cli_answers.specs.Outcome.{Outcome}
 use Rattle.cmd_record.specs.Outcomes.{record_outcome, recorded_by}
+use Rattle.cmd_chain.specs.Chain.{chain_outcome, chained_by}
 use Rattle.det_cli.specs.Outcome.{opened_by, outcome_by}
 use Rattle.det_cli.specs.Laws.{on_workers, IsSameOn, DifferInWorkers}
 
@@ -59,3 +60,10 @@ pub same-record : (strict : Bool) (one other stimulus : List ℕ) (seed : Option
 same-record strict one other stimulus seed d =
     let by : Result ManifestValue BadManifest → Outcome = recorded_by (unwrap_or seed 0) stimulus in
     ap by d.second ∙ sym (ap by d.first)
+
+pub same-chain : (strict : Bool) (first other second another stimulus : List ℕ) (seed : Option ℕ) → DifferInWorkers strict first other
+    → DifferInWorkers strict second another
+    → chain_outcome strict other another stimulus seed ≡ chain_outcome strict first second stimulus seed
+same-chain strict first other second another stimulus seed d e =
+    (λ i. chained_by (unwrap_or seed 0) stimulus (d.second i) (e.second i))
+    ∙ sym (λ i. chained_by (unwrap_or seed 0) stimulus (d.first i) (e.first i))

@@ -7,6 +7,7 @@ ghost use Rattle.probes.specs.Reports.{AudienceState};
 ghost use Rattle.cli_answers.specs.declared.status.Status.{Status};
 ghost use Rattle.cli_words.specs.Command.{CommandValue};
 ghost use Rattle.cmd_record.specs.Outcomes.{record_outcome};
+ghost use Rattle.cmd_chain.specs.Chain.{chain_outcome};
 ghost use Rattle.det_cli.specs.Laws.{Concludes, IsSameOn, DifferInWorkers};
 ghost use Rattle.det_cli.specs.Promise.{IsPromised};
 
@@ -26,11 +27,16 @@ pub fn answers<K: Sink, E: Sink>()
 
 /// The number of workers changes no outcome. Two commands that differ only in the number after
 /// `--workers`, or in whether it stands there, open the same names and have the same outcome; and
-/// `record` has the same outcome of two manifests that tell the same but for their workers.
+/// `record` has the same outcome of two manifests that tell the same but for their workers, as
+/// `chain` has of two pairs of such manifests.
 pub fn workers()
     ensures command { (number : Option ℕ) (c : CommandValue) (holds : List ℕ → List ℕ)
         (audience : AudienceState) → IsSameOn number c holds audience }
     ensures manifest { (strict : Bool) (one other stimulus : List ℕ) (seed : Option ℕ)
         → DifferInWorkers strict one other
         → record_outcome strict other stimulus seed ≡ record_outcome strict one stimulus seed }
+    ensures pair { (strict : Bool) (first other second another stimulus : List ℕ) (seed : Option ℕ)
+        → DifferInWorkers strict first other → DifferInWorkers strict second another
+        → chain_outcome strict other another stimulus seed
+        ≡ chain_outcome strict first second stimulus seed }
 {}

@@ -12,13 +12,16 @@ use Rattle.det_edges.specs.Prefix.{IsPrefix}
 use Rattle.det_edges.specs.Shelf.{ShelfState}
 use Rattle.record_grammar.specs.declared.item.Item.{Item}
 use Rattle.record_grammar.specs.declared.item.Item.TheVariants as items
+use Rattle.det_values.specs.declared.frames.Frame.{Frame}
 use Rattle.det_values.specs.declared.frames.Frame.TheVariants as frames
 use Rattle.record_grammar.specs.Record.{items as items_in}
 use Rattle.record_grammar.specs.declared.place.Place.{Place}
 use Rattle.record_view.specs.declared.view.ItemView.{ItemView}
+use Rattle.record_view.specs.declared.view.FrameKind.{FrameKind}
+use Rattle.record_view.specs.declared.view.FrameKind.TheVariants as frame_kinds
 use Rattle.record_view.specs.declared.view.ItemKind.{ItemKind}
 use Rattle.record_view.specs.declared.view.ItemKind.TheVariants as kinds
-use Rattle.record_view.specs.Shows.{ShowsParts}
+use Rattle.record_view.specs.Shows.{ShowsFrame, ShowsParts}
 use Rattle.item_reader.specs.declared.reader.ItemReader.{ItemReader}
 use Rattle.item_reader.specs.StandsFor.{StandsFor, slot_of, room, unread}
 use Rattle.record_reader.specs.Salvaged.{runs_in, cycles_of}
@@ -255,16 +258,22 @@ differs n row copy (r ∷ more) found state slots e = by (row_difference n row r
     by (Some x) later e = let is : found ≡ Differ copy x = cc in subst (λ v. EndsIfAgreed v state slots) (sym is) tt
     by None later e = later e
 
+frame-runs : (place : Place) (kind : FrameKind) (len : ℕ) (bytes : List ℕ) (frame : Frame) → ShowsFrame place kind len bytes frame
+    → runs_in (items.Frame frame) ≡ runs_of (kinds.Frame kind)
+frame-runs place frame_kinds.Register len bytes frames.Register h = refl
+frame-runs place frame_kinds.Discover len bytes frames.Discover h = refl
+frame-runs place (frame_kinds.Init count) len bytes (frames.Init elements) h = refl
+frame-runs place (frame_kinds.Run input outcome) len bytes (frames.Run r) h = refl
+frame-runs place frame_kinds.Terminate len bytes frames.Terminate h = refl
+frame-runs place kind len bytes frame h = elim h [ ]
+
 -- an item of one kind is so many cycles
 pub runs-are : (place : Place) (kind : ItemKind) (len : ℕ) (bytes : List ℕ) (item : Item) → ShowsParts place kind len bytes item
     → runs_in item ≡ runs_of kind
 runs-are place (kinds.Header layout) len bytes (items.Header p) h = refl
-runs-are place kinds.Register len bytes (items.Frame frames.Register) h = refl
-runs-are place kinds.Discover len bytes (items.Frame frames.Discover) h = refl
-runs-are place (kinds.Init count) len bytes (items.Frame (frames.Init elements)) h = refl
-runs-are place (kinds.Run input outcome) len bytes (items.Frame (frames.Run r)) h = refl
-runs-are place kinds.Terminate len bytes (items.Frame frames.Terminate) h = refl
-runs-are place kind len bytes item h = elim h [ ]
+runs-are place (kinds.Frame kind) len bytes (items.Frame frame) h = frame-runs place kind len bytes frame h
+runs-are place (kinds.Header layout) len bytes (items.Frame frame) h = absurd h
+runs-are place (kinds.Frame kind) len bytes (items.Header p) h = absurd h
 
 -- the same by the item of copy 0
 abbrev IsCountedAs : Option Item → Option Verdict → Option Verdict → Copies → Copies → Type 0

@@ -10,6 +10,7 @@ use Rattle.record_grammar.specs.declared.fault.RecordFault.{RecordFault}
 use Rattle.record_grammar.specs.declared.item.Item.{Item}
 use Rattle.record_reader.specs.Salvaged.{cycles_of}
 use Rattle.record_view.specs.declared.view.ItemView.{ItemView}
+use Rattle.record_view.specs.declared.view.FrameKind.TheVariants as frame_kinds
 use Rattle.record_view.specs.declared.view.ItemKind.{ItemKind}
 use Rattle.record_view.specs.declared.view.ItemKind.TheVariants as kinds
 use Rattle.item_reader.specs.declared.reader.ItemReader.{ItemReader}
@@ -128,7 +129,7 @@ slots_of copies = slot_of copies.first ∷ map slot_of copies.others.items
 
 -- how many cycles an item of this kind is
 abbrev pub runs_of : ItemKind → ℕ
-runs_of (kinds.Run input outcome) = 1
+runs_of (kinds.Frame (frame_kinds.Run input outcome)) = 1
 runs_of kind = 0
 
 -- a copy that differs decides, and else the end; an item that all hold is counted

@@ -14,7 +14,7 @@ use crate::{BadCopy, Verdict};
 use det_edges::{Slots, Stopped};
 use det_values::OutOfMemory;
 use item_reader::ItemReader;
-use record_view::{ItemKind, ItemView};
+use record_view::{FrameKind, ItemKind, ItemView};
 use std::alloc::Global;
 
 /// Copies behind equal items, one reader each.
@@ -95,7 +95,7 @@ pub fn runs_of(kind: ItemKind) -> u32
     ensures most { result ≤ 1 }
 {
     match kind {
-        ItemKind::Run { .. } => 1,
+        ItemKind::Frame(FrameKind::Run { .. }) => 1,
         _ => 0,
     }
 }

@@ -1,16 +1,17 @@
 //! The first difference of two items, looked for where their bytes are.
-ghost use Rattle.std.specs.Prelude.{◌≡◌, ◌≤◌, ◌↔◌, ℕ, IsTrue, length};
+ghost use Rattle.std.specs.Prelude.{◌≡◌, ◌≤◌, ℕ, length};
 ghost use Rattle.std.specs.Cmp.Lexicographic.{pointwise};
 ghost use Rattle.det_values.specs.Equal.{drawn_eq};
 ghost use Rattle.det_values.specs.contracts.sample.SamplePartialEq.TheImpl as sample;
+ghost use Rattle.det_values.specs.declared.frames.Frame.{Frame};
 ghost use Rattle.det_values.specs.declared.frames.RunFrame.{RunFrame};
 ghost use Rattle.det_values.specs.Values.{ProfileValue};
 ghost use Rattle.record_grammar.specs.declared.item.Item.{Item};
 ghost use Rattle.record_grammar.specs.declared.item.Item.TheVariants as items;
-ghost use Rattle.record_grammar.specs.Spelling.{AreBytes};
-ghost use Rattle.record_view.specs.Shows.{IsSpelling};
+ghost use Rattle.record_view.specs.Shows.{IsSpelling, IsFrameSpelling};
 ghost use Rattle.lockstep.specs.declared.row.Row.TheVariants as rows;
-ghost use Rattle.lockstep.specs.FirstDifference.{first_apart, run_difference, outcome_difference};
+ghost use Rattle.lockstep.specs.FirstDifference.{first_apart, frame_difference};
+ghost use Rattle.lockstep.specs.FirstDifference.{run_difference, outcome_difference};
 ghost use Rattle.lockstep.specs.Verdict.{row_difference};
 ghost use Rattle.lockstep.specs.Views.{IsRunIn};
 
@@ -18,8 +19,8 @@ use crate::Difference;
 use crate::frames::at_element;
 use record_grammar::Place;
 use record_view::{
-    ElementWalk, InputView, ItemKind, ItemView, OutcomeView, SampleWalk, elements_in, events_at,
-    format_at, init_elements_in, output_in, refusal_in, samples_in,
+    ElementWalk, FrameKind, FrameView, InputView, ItemView, OutcomeView, SampleWalk, are_equal,
+    elements_in, events_at, format_at, init_elements_in, output_in, refusal_in, samples_in,
 };
 
 /// The first difference of two items of one row, in the order of the variants of `Difference`. Row
@@ -37,50 +38,14 @@ pub fn item_difference(
         → result ≡ row_difference row (rows.Item a) (rows.Item b) }
 {
     let frame = row.saturating_sub(1);
-    let cycle = frame.saturating_sub(2);
-    match left.span.kind {
-        ItemKind::Header(_) => match right.span.kind {
-            ItemKind::Header(_) => header_difference(left, left_bytes, right, right_bytes),
-            _ => Some(Difference::Kind(frame)),
+    match left.as_frame() {
+        None => match right.as_frame() {
+            None => header_difference(left, left_bytes, right, right_bytes),
+            Some(_) => Some(Difference::Kind(frame)),
         },
-        ItemKind::Register => match right.span.kind {
-            ItemKind::Register => None,
-            _ => Some(Difference::Kind(frame)),
-        },
-        ItemKind::Discover => match right.span.kind {
-            ItemKind::Discover => None,
-            _ => Some(Difference::Kind(frame)),
-        },
-        ItemKind::Init { elements } => match right.span.kind {
-            ItemKind::Init { elements: others } => {
-                let left = init_elements_in(elements, left_bytes);
-                let right = init_elements_in(others, right_bytes);
-                at_element(cycle, elements_apart(elements.max(others), left, right))
-            }
-            _ => Some(Difference::Kind(frame)),
-        },
-        ItemKind::Run { input, outcome } => match right.span.kind {
-            ItemKind::Run {
-                input: other_input,
-                outcome: other_outcome,
-            } => {
-                let left = RunView {
-                    place: left.place,
-                    input,
-                    outcome,
-                };
-                let right = RunView {
-                    place: right.place,
-                    input: other_input,
-                    outcome: other_outcome,
-                };
-                run_difference(cycle, left, left_bytes, right, right_bytes)
-            }
-            _ => Some(Difference::Kind(frame)),
-        },
-        ItemKind::Terminate => match right.span.kind {
-            ItemKind::Terminate => None,
-            _ => Some(Difference::Kind(frame)),
+        Some(left) => match right.as_frame() {
+            None => Some(Difference::Kind(frame)),
+            Some(right) => frame_difference(frame, left, left_bytes, right, right_bytes),
         },
     }
 }
@@ -98,18 +63,59 @@ fn header_difference(
         → IsSpelling right (items.Header q) right_bytes.now → (number : ℕ)
         → result ≡ row_difference number (rows.Item (items.Header p)) (rows.Item (items.Header q)) }
 {
-    if are_equal(left_bytes, right_bytes) {
+    if are_equal(left, left_bytes, right, right_bytes) {
         return None;
     }
     Some(Difference::Header)
 }
 
-/// Whether two slices have the same bytes. Its second clause says what each slice is known for.
-fn are_equal(left: &[u8], right: &[u8]) -> bool
-    ensures equal { IsTrue result ↔ (left.now ≡ right.now) }
-    ensures bytes { AreBytes left.now × AreBytes right.now }
+/// The first difference of two frames of one number.
+fn frame_difference(
+    frame: u32,
+    left: FrameView,
+    left_bytes: &[u8],
+    right: FrameView,
+    right_bytes: &[u8],
+) -> Option<Difference>
+    requires { (a b : Frame) × IsFrameSpelling left a left_bytes.now
+        × IsFrameSpelling right b right_bytes.now }
+    ensures { (a b : Frame) → IsFrameSpelling left a left_bytes.now
+        → IsFrameSpelling right b right_bytes.now → result ≡ frame_difference frame a b }
 {
-    left == right
+    let cycle = frame.saturating_sub(2);
+    match left.kind {
+        FrameKind::Register => match right.kind {
+            FrameKind::Register => None,
+            _ => Some(Difference::Kind(frame)),
+        },
+        FrameKind::Discover => match right.kind {
+            FrameKind::Discover => None,
+            _ => Some(Difference::Kind(frame)),
+        },
+        FrameKind::Init { elements } => match right.kind {
+            FrameKind::Init { elements: others } => {
+                let left = init_elements_in(elements, left_bytes);
+                let right = init_elements_in(others, right_bytes);
+                at_element(cycle, elements_apart(elements.max(others), left, right))
+            }
+            _ => Some(Difference::Kind(frame)),
+        },
+        FrameKind::Run { input, outcome } => match right.kind {
+            FrameKind::Run {
+                input: other_input,
+                outcome: other_outcome,
+            } => {
+                let left = run_view(left.place, input, outcome);
+                let right = run_view(right.place, other_input, other_outcome);
+                run_difference(cycle, left, left_bytes, right, right_bytes)
+            }
+            _ => Some(Difference::Kind(frame)),
+        },
+        FrameKind::Terminate => match right.kind {
+            FrameKind::Terminate => None,
+            _ => Some(Difference::Kind(frame)),
+        },
+    }
 }
 
 /// A Run frame, by its view.
@@ -118,6 +124,16 @@ struct RunView {
     place: Place,
     input: InputView,
     outcome: OutcomeView,
+}
+
+fn run_view(place: Place, input: InputView, outcome: OutcomeView) -> RunView
+    ensures { result ≡ record { place = place; input = input; outcome = outcome } }
+{
+    RunView {
+        place,
+        input,
+        outcome,
+    }
 }
 
 /// The first difference of two runs of a cycle.

@@ -1,11 +1,11 @@
 -- A name more that is opened.
 use Rattle.std.proofs.Common.{◌≡◌, ◌≢◌, ℕ, zero, suc, ◌+◌, ◌<◌, List, [], ◌∷◌, ◌++◌, length, Option, Some, None}
-use Rattle.std.proofs.Common.{sym, ap, subst, ◌∙◌, arith, map, take, drop, Bor, Bool, true, cond}
+use Rattle.std.proofs.Common.{refl, sym, ap, subst, ◌∙◌, arith, map, take, drop, Bor, Bool, true, cond, add-zero, length-append}
 use Rattle.std.specs.Prelude.{IfSome}
-use Rattle.std.specs.List.{All, AllPairs, AllZip, slice_index_or}
+use Rattle.std.specs.List.{All, AllPairs, AllZip, slice_index_or, range_with_len}
 use Rattle.std.proofs.lemmas.List.Elements.{All-nil, All-cons, All-tail, All-append}
 use Rattle.std.proofs.lemmas.List.Kept.{AllPairs-cons}
-use Rattle.std.proofs.lemmas.List.{take_more, map-append, take-append-drop}
+use Rattle.std.proofs.lemmas.List.{take_more, map-append, take-append-drop, length-map, length-take-le}
 use Rattle.det_edges.specs.Prefix.{IsPrefix}
 use Rattle.det_edges.specs.Shelf.{ShelfState, Opens, Asks, AsksPrefix}
 use Rattle.det_edges.proofs.Opening.{opens-other, opens-apart, asks-then}
@@ -16,12 +16,25 @@ abbrev Left : (before after : ShelfState) → List ℕ → ℕ → Type 0
 Left before after name slot = IfSome (before.holds name) (λ bytes. after.left slot ≡ Some bytes)
 
 pub opened-none : (state : ShelfState) → Opened state state [] []
-opened-none state = record { given = λ k d h. absurd (omega (arith, h)); apart = λ i j d less h. absurd (omega (arith, h)); left = tt }
+opened-none state = record {
+  numbered = refl;
+  count = sym (add-zero state.slots);
+  given = λ k d h. absurd (omega (arith, h));
+  apart = λ i j d less h. absurd (omega (arith, h));
+  left = tt;
+}
 
 if-same : (told : Option (List ℕ)) (one other : Option (List ℕ)) → other ≡ one → IfSome told (λ bytes. one ≡ Some bytes)
     → IfSome told (λ bytes. other ≡ Some bytes)
 if-same (Some bytes) one other same h = same ∙ h
 if-same None one other same h = tt
+
+-- one number more
+range-more : (a n : ℕ) → range_with_len a (suc n) ≡ range_with_len a n ++ (a + n) ∷ []
+range-more a zero = ap (λ k. k ∷ []) (sym (add-zero a))
+range-more a (suc n) =
+    let next : (a + 1) + n ≡ a + suc n = omega arith in
+    ap (λ ks. a ∷ ks) (range-more (a + 1) n ∙ ap (λ k. range_with_len (a + 1) n ++ k ∷ []) next)
 
 module _ (first mid last : ShelfState) (name : List ℕ) (slot : ℕ) (holds : mid.holds ≡ first.holds) (opens : Opens mid last name slot) where
   left-next : (names : List (List ℕ)) (slots : List ℕ) → All (λ s. s < mid.slots) slots → AllZip (Left first mid) names slots
@@ -50,10 +63,23 @@ module _ (first mid last : ShelfState) (name : List ℕ) (slot : ℕ) (holds : m
       (apart-next slots (All-tail (λ other. other < mid.slots) s slots given)
       (λ i j d less h. apart (suc i) (suc j) d (omega (arith, less)) (omega (arith, h))))
 
+  numbered-next : (names : List (List ℕ)) (slots : List ℕ) → slots ≡ range_with_len first.slots (length names)
+      → mid.slots ≡ first.slots + length names
+      → slots ++ slot ∷ [] ≡ range_with_len first.slots (length (names ++ name ∷ []))
+  numbered-next names slots numbered count =
+      let all = length-append names (name ∷ []) in
+      let longer : suc (length names) ≡ length (names ++ name ∷ []) = omega (arith, all) in
+      ap (λ ks. ks ++ slot ∷ []) numbered
+      ∙ ap (λ k. range_with_len first.slots (length names) ++ k ∷ []) (opens.number ∙ count)
+      ∙ sym (range-more first.slots (length names))
+      ∙ ap (range_with_len first.slots) longer
+
   -- a name more was opened
   pub opened-next : (names : List (List ℕ)) (slots : List ℕ) → Opened first mid names slots
       → Opened first last (names ++ name ∷ []) (slots ++ slot ∷ [])
   opened-next names slots h = record {
+    numbered = numbered-next names slots h.numbered h.count;
+    count = let n = opens.slots in let m = h.count in let all = length-append names (name ∷ []) in omega (arith, n, m, all);
     given = given-next slots h.given;
     apart = apart-next slots h.given h.apart;
     left = left-next names slots h.given h.left;
@@ -67,6 +93,13 @@ pushed old new slot b is ok = is ∙ ap (λ (x : Bool). cond x (old ++ slot ∷ 
 
 abbrev texts : List (Bor (List ℕ)) → List (List ℕ)
 texts names = map (λ name. name.now) names
+
+-- there are fewer of the first ones
+pub texts-fewer : (names : List (Bor (List ℕ))) (i : ℕ) → i < length names → length (texts (take i names)) < length names
+texts-fewer names i within =
+    let many = length-map (take i names) (λ name. name.now) in
+    let front = length-take-le i names (omega (arith, within)) in
+    omega (arith, many, front, within)
 
 module _ (names : List (Bor (List ℕ))) (i : ℕ) (d : Bor (List ℕ)) (within : i < length names) where
   pub texts-next : texts (take (i + 1) names) ≡ texts (take i names) ++ (slice_index_or names i d).now ∷ []

@@ -1,5 +1,5 @@
 //! Names that are opened, each in a slot of its own.
-ghost use Rattle.std.specs.Prelude.{◌≡◌, ◌≢◌, map, Some, IfOk, OnOk};
+ghost use Rattle.std.specs.Prelude.{◌≡◌, ◌≢◌, ◌+◌, ◌<◌, length, map, Some, IfOk, OnOk};
 ghost use Rattle.det_edges.specs.declared.failure.Failure.TheVariants as failures;
 ghost use Rattle.det_edges.specs.Shelf.{Asks, AsksPrefix};
 ghost use Rattle.det_edges.specs.Traffic.{ShelfTraffic, shelf_run, failure_of};
@@ -18,6 +18,8 @@ pub fn open_all<S: Shelf>(alloc: Global, names: &[&str], shelf: &mut S) -> Resul
     ensures asked { AsksPrefix (S.sees shelf.old) (S.sees shelf.new)
         (map (λ name. name.now) names.now) }
     ensures holds { (S.sees shelf.new).holds ≡ (S.sees shelf.old).holds }
+    ensures unopened { failure_of result ≡ Some failures.Read
+        → (S.sees shelf.new).slots < (S.sees shelf.old).slots + length names.now }
     ensures no_write { failure_of result ≢ Some failures.Write }
     ensures traffic { ShelfTraffic (shelf_run S.sees S.stays shelf.old shelf.new)
         (failure_of result) }

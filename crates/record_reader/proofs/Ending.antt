@@ -6,6 +6,7 @@ use Rattle.std.specs.List.{flat_map, list_any}
 use Rattle.std.proofs.lemmas.Grind.{flat_map-append}
 use Rattle.std.proofs.lemmas.List.Folds.{list_any-append}
 use Rattle.det_values.specs.declared.format.Format.{Format}
+use Rattle.det_values.specs.declared.format.Format.TheVariants.{One}
 use Rattle.det_values.specs.declared.frames.Frame.TheVariants.{Terminate}
 use Rattle.det_values.specs.Values.{ProfileValue}
 use Rattle.det_edges.specs.declared.failure.Failure.{Failure}
@@ -25,11 +26,12 @@ use Rattle.record_grammar.specs.Record.{items as items_in}
 use Rattle.record_grammar.specs.Spelling.{spelled_header, spelled_frame}
 use Rattle.record_reader.specs.declared.salvage.Salvage.{Salvage}
 use Rattle.record_reader.specs.declared.salvage.Salvaged.{Salvaged}
-use Rattle.record_reader.specs.StandsFor.{FoundFault, IsFaulty}
+use Rattle.item_reader.specs.StandsFor.{FoundFault, IsFaulty}
 use Rattle.record_reader.specs.Taking.{AreAll, Took, RecordRead, ItemsRead}
 use Rattle.record_reader.specs.Salvaged.{kept, is_init, spelled_kept, made_whole, salvaged_from, salvaged, cycles_of, refused_of}
-use Rattle.record_reader.specs.Keeping.{spelled_items, written_items, Keeps, salvaging, FinishIs}
-use Rattle.record_reader.specs.Salvages.{IsFront, IsCut, Salvages, HasNothing, Begins, Answers, ReadsTo, Ended, settled_by}
+use Rattle.record_reader.specs.Salvaged.{spelled_items, written_items}
+use Rattle.record_reader.specs.Keeping.{Keeps, salvaging, FinishIs}
+use Rattle.record_reader.specs.Salvages.{IsFront, IsCut, Salvages, HasNothing, Begins, Answers, ReadsTo, SavesRead, Ended, settled_by}
 use Rattle.record_reader.proofs.Items.{whole_has_init}
 use Rattle.record_reader.proofs.Pieces.{kept_append}
 use Rattle.record_reader.proofs.Taking.{behind, over, told, of-slot}
@@ -118,13 +120,13 @@ within given bytes first = subst (λ (xs : List Item). IsFront (written_items gi
 
 -- all of it: what was written, what is kept, and Terminate
 whole_of : (given : List Item) (s : Salvage) → Keeps s given → list_any is_init given ≡ true
-    → salvaged_from given ≡ Some (written_items given ++ (s.out.items ++ spelled_frame s.layout.format Terminate))
+    → salvaged_from given ≡ Some (written_items given ++ (s.out.items ++ spelled_frame One Terminate))
 whole_of [] s h e = absurd cc
 whole_of (items.Header p ∷ xs) s h e =
     some_from p xs e
     ∙ ap (λ (bytes : List ℕ). Some bytes) (made_is p xs ∙ ap (λ (bytes : List ℕ). bytes ++ spelled_frame p.format Terminate) (sym h.out)
     ∙ append_assoc (written_items (items.Header p ∷ xs)) s.out.items (spelled_frame p.format Terminate)
-    ∙ ap (λ l. written_items (items.Header p ∷ xs) ++ (s.out.items ++ spelled_frame l.format Terminate)) (sym h.layout))
+    ∙ ap (λ (last : List ℕ). written_items (items.Header p ∷ xs) ++ (s.out.items ++ last)) (last_one p.format ∙ sym (last_one One)))
 whole_of (items.Frame f ∷ xs) s h e = absurd h.headed
 
 -- ---- the answers
@@ -161,7 +163,7 @@ module _ (one : SinkRun) (last : List ℕ → Type 0) (b : ℕ) (s : Salvage) (b
       → Took (salvaging s) given one → list_any is_init given ≡ true
       → FinishIs result s (behind one last b) → Answers result bytes (over one last b)
   finished (Ok counts) {given} all took begun finish = record {
-    bytes = written_items given ++ (s.out.items ++ spelled_frame s.layout.format Terminate);
+    bytes = written_items given ++ (s.out.items ++ spelled_frame One Terminate);
     is = ap salvaged_from all.items ∙ whole_of given s took.stands begun;
     grew = grew-then took.grew finish.0;
     cycles = finish.1 ∙ took.stands.cycles ∙ ap cycles_of (sym all.items);
@@ -258,12 +260,46 @@ reads_to (Err (Failed Write)) result {shelf} {slot} s last h end =
 reads_to (Err (Failed OutOfMemory)) result {shelf} {slot} s last h end =
     subst (λ (r : Result Salvaged (Stopped RecordFault)). ReadsTo r h.read (IsAtEnd shelf.last slot)) (sym end.0) tt
 
+-- ---- what was written where a read failed
+
+-- the salvage finished, which reads nothing
+finish_saves : (result : Result Salvaged (Stopped RecordFault)) (s : Salvage) (read : List ℕ) (last out : SinkRun) → FinishIs result s last
+    → SavesRead result read out
+finish_saves (Ok counts) s read last out finish = tt
+finish_saves (Err (Refused f)) s read last out finish = tt
+finish_saves (Err (Failed Read)) s read last out finish = absurd finish
+finish_saves (Err (Failed Write)) s read last out finish = tt
+finish_saves (Err (Failed OutOfMemory)) s read last out finish = tt
+
+fault_saves : (begun : Bool) (fault : RecordFault) (result : Result Salvaged (Stopped RecordFault)) (s : Salvage) (read : List ℕ)
+    (last out : SinkRun) → AtFault fault begun result s last → SavesRead result read out
+fault_saves true fault result s read last out end = finish_saves result s read last out end
+fault_saves false fault result s read last out end =
+    subst (λ (r : Result Salvaged (Stopped RecordFault)). SavesRead r read out) (sym end.0) tt
+
+saves : (read : Result (Unit {0}) (Stopped RecordFault)) (result : Result Salvaged (Stopped RecordFault)) {shelf : ShelfRun} {slot : ℕ}
+    {one : SinkRun} (last : List ℕ → Type 0) (b : ℕ) (s : Salvage)
+    → (h : ItemsRead read (salvaging s) shelf slot one) → EndIs read result s (behind one last b)
+    → SavesRead result h.read (over one last b)
+saves (Ok u) result {one = one} last b s h end = finish_saves result s h.read (behind one last b) (over one last b) end
+saves (Err (Refused f)) result {one = one} last b s h end =
+    fault_saves s.has_begun f result s h.read (behind one last b) (over one last b) end
+saves (Err (Failed Read)) result {one = one} last b s h end =
+    let all : RecordRead (Err (Failed Read)) (salvaging s) h.given (h.read ++ []) one = h.record_read.each [] (λ at. refl) in
+    subst (λ (r : Result Salvaged (Stopped RecordFault)). SavesRead r h.read (over one last b)) (sym end.0)
+    (subst (λ (xs : List Item). Grew one.before last (written_items xs)) (sym h.reads_to.0) (quiet all.1.grew end.1))
+saves (Err (Failed Write)) result {one = one} last b s h end =
+    subst (λ (r : Result Salvaged (Stopped RecordFault)). SavesRead r h.read (over one last b)) (sym end.0) tt
+saves (Err (Failed OutOfMemory)) result {one = one} last b s h end =
+    subst (λ (r : Result Salvaged (Stopped RecordFault)). SavesRead r h.read (over one last b)) (sym end.0) tt
+
 ended : (read : Result (Unit {0}) (Stopped RecordFault)) (result : Result Salvaged (Stopped RecordFault)) {shelf : ShelfRun} {slot : ℕ}
     {one : SinkRun} (last : List ℕ → Type 0) (b : ℕ) (s : Salvage)
     → (h : ItemsRead read (salvaging s) shelf slot one) → EndIs read result s (behind one last b)
     → Ended result h.read shelf slot (over one last b)
 ended read result {one = one} last b s h end = record {
   reads_to = reads_to read result s (behind one last b) h end;
+  saves = saves read result last b s h end;
   answers = record {
     reads = h.record_read.reads;
     each =

@@ -15,8 +15,7 @@ use Rattle.record_grammar.specs.declared.item.Item.{Item}
 use Rattle.record_grammar.specs.declared.item.Item.TheVariants as items
 use Rattle.record_grammar.specs.Leads.{Leads}
 use Rattle.record_grammar.specs.Places.{layout_of}
-use Rattle.record_grammar.specs.Record.{items as items_in, Decoded}
-use Rattle.record_grammar.proofs.Leads.{leads_grow, all_leads}
+use Rattle.record_grammar.specs.Record.{items as items_in}
 use Rattle.record_view.specs.declared.view.FrameView.{FrameView}
 use Rattle.record_view.specs.declared.view.ItemView.{ItemView}
 use Rattle.record_view.specs.Shows.{item_view}
@@ -30,6 +29,7 @@ use Rattle.record_reader.specs.Frames.{StandsFor, HasRead, GaveFrame, IsHeader, 
 use Rattle.record_reader.specs.Salvaged.{is_init}
 use Rattle.record_reader.specs.Taking.{AreFirst}
 use Rattle.record_reader.proofs.Items.{HasLayout, header_first as header_first_of, next_is, whole_has_init}
+use Rattle.record_reader.proofs.Items.{are_first as first_of, more_items as more_of}
 
 -- ---- the header
 
@@ -145,6 +145,7 @@ gave_frame item view r p read behind same g =
     let given : List Item = items.Header p ∷ behind in
     record {
       frame = f.frame;
+      before = subst (λ (v : ItemView). (rest : List ℕ) × Leads places.Header read given v.place rest) (sym same) g.behind;
       holds = subst (λ (v : ItemView). inner.Holds r.items v (items.Frame f.frame)) (sym same)
           (subst (λ (x : Item). inner.Holds r.items item x) f.is g.holds);
       stands = subst (λ (x : Item). inner.StandsFor r.items read (given ++ x ∷ [])) f.is g.stands;
@@ -175,13 +176,9 @@ held_frame old new item at_end p read behind stands h =
 
 -- the items given come first of a record
 pub are_first : (r : FrameReader) (read : List ℕ) (given : List Item) → StandsFor r read given → AreFirst given
-are_first r read given h =
-    record { bytes = read; place = inner.place_of r.items; rest = inner.unread r.items; leads = h.leads }
+are_first r = first_of r.items
 
 -- the items given are the first of all, whatever follows
 pub more_items : (r : FrameReader) (read : List ℕ) (given : List Item) → StandsFor r read given → (tail : List ℕ) → (others : List Item)
     × (items_in (read ++ tail) ≡ given ++ others)
-more_items r read given h tail =
-    let l = leads_grow given places.Header (inner.place_of r.items) read (inner.unread r.items) tail h.leads in
-    let d = all_leads given (inner.place_of r.items) (read ++ tail) (inner.unread r.items ++ tail) l in
-    (_, ap (λ (x : Decoded). x.items) d)
+more_items r = more_of r.items

@@ -1,5 +1,5 @@
 -- The items that a reader gives, one after another.
-use Rattle.std.proofs.Common.{◌≡◌, ◌≤◌, ◌+◌, ℕ, zero, suc, true, List, [], ◌∷◌, ◌++◌, length, None, refl, ap, subst, ◌∙◌, arith}
+use Rattle.std.proofs.Common.{◌≡◌, ◌≤◌, ◌+◌, ℕ, zero, suc, true, List, [], ◌∷◌, ◌++◌, length, None, refl, sym, ap, subst, ◌∙◌, arith}
 use Rattle.std.specs.List.{list_any}
 use Rattle.det_values.specs.declared.frames.Frame.{Frame}
 use Rattle.det_values.specs.declared.frames.Frame.TheVariants.{Register, Discover, Init, Run, Terminate}
@@ -11,17 +11,19 @@ use Rattle.record_grammar.specs.declared.item.Item.{Item}
 use Rattle.record_grammar.specs.declared.item.Item.TheVariants as items
 use Rattle.record_grammar.specs.Read.{Read, Got, More, Bad}
 use Rattle.record_grammar.specs.Grammar.{item_at}
-use Rattle.record_grammar.specs.Places.{after, layout_of, CanFollow, may_come}
+use Rattle.record_grammar.specs.Laws.{MayStand}
+use Rattle.record_grammar.specs.Places.{after, layout_of, format_of, CanFollow, may_come}
 use Rattle.record_grammar.specs.Record.{items as items_in, fault as fault_in, fault_from, ending_at, Decoded, Ending, whole, early, faulty}
 use Rattle.record_grammar.specs.Record.{with_next, decoded, decoded_all}
 use Rattle.record_grammar.specs.Leads.{Leads}
 use Rattle.record_grammar.specs.Spelling.{CanSpell}
 use Rattle.record_grammar.proofs.Leads.{can_follow, leads_grow, all_leads, room_falls}
-use Rattle.item_reader.specs.StandsFor.{place_of, unread}
-use Rattle.record_reader.specs.StandsFor.{StandsFor}
+use Rattle.record_laws.proofs.Whole.{nil_more}
+use Rattle.item_reader.specs.declared.reader.ItemReader.{ItemReader}
+use Rattle.item_reader.specs.StandsFor.{StandsFor, place_of, unread}
 use Rattle.record_reader.specs.Taking.{AreFirst}
+use Rattle.record_reader.specs.Keeping.{format_after}
 use Rattle.record_reader.specs.Salvaged.{is_init}
-use Rattle.record_reader.specs.declared.reader.RecordReader.{RecordReader}
 use Rattle.record_reader.proofs.Spellable.{spells_in_runs}
 
 -- what stands before the last item that was read
@@ -136,6 +138,33 @@ next_is (items.Header p ∷ xs) (items.Header q) h = one_header p q xs h.place h
 next_is (items.Header p ∷ xs) (items.Frame f) h = can_spell p xs f h.place h.bytes h.rest h.leads
 next_is (items.Frame f ∷ xs) x h = absurd (first_is_header f (xs ++ x ∷ []) h.place h.bytes h.rest h.leads)
 
+-- ---- the format of the frames
+
+format_at : (layout : Layout) (place : Place) (f : Frame) → HasLayout layout place → MayStand place (items.Frame f)
+    → format_of place ≡ layout.format
+format_at layout places.Header f h may = absurd h
+format_at layout (places.Register l) f h may = ap (λ (x : Layout). x.format) h
+format_at layout (places.Discover l) f h may = ap (λ (x : Layout). x.format) h
+format_at layout (places.Init l) f h may = ap (λ (x : Layout). x.format) h
+format_at layout (places.Runs l before) f h may = ap (λ (x : Layout). x.format) h
+format_at layout places.End f h may = elim may [ ]
+
+stands_first : (f : Frame) → MayStand places.Header (items.Frame f) → ⊥
+stands_first Register may = may
+stands_first Discover may = may
+stands_first (Init elements) may = may
+stands_first (Run r) may = may
+stands_first Terminate may = may
+
+-- a frame after these items has the format of their header
+pub same_format : (given : List Item) (place : Place) (bytes rest : List ℕ) (f : Frame) → Leads places.Header bytes given place rest
+    → MayStand place (items.Frame f) → format_of place ≡ format_after given
+same_format [] place bytes rest f leads may =
+    absurd (stands_first f (subst (λ (at : Place). MayStand at (items.Frame f)) (sym leads.0) may))
+same_format (items.Header p ∷ xs) place bytes rest f leads may =
+    format_at (layout_of p) place f (header_first p xs place bytes rest leads) may
+same_format (items.Frame g ∷ xs) place bytes rest f leads may = absurd (first_is_header g xs place bytes rest leads)
+
 -- ---- how many items there are
 
 room_leads : (xs : List Item) (place to : Place) (bytes rest : List ℕ) → Leads place bytes xs to rest
@@ -214,14 +243,18 @@ whole_has_init bytes e =
 -- ---- what may still come
 
 -- the items given come first of a record
-pub are_first : (r : RecordReader) (read : List ℕ) (given : List Item) → StandsFor r read given → AreFirst given
-are_first r read given h =
-    record { bytes = read; place = place_of r.items; rest = unread r.items; leads = h.items_stand.leads }
+pub are_first : (r : ItemReader) (read : List ℕ) (given : List Item) → StandsFor r read given → AreFirst given
+are_first r read given h = record { bytes = read; place = place_of r; rest = unread r; leads = h.leads }
 
 -- the items given are the first of all, whatever follows
-pub more_items : (r : RecordReader) (read : List ℕ) (given : List Item) → StandsFor r read given → (tail : List ℕ) → (others : List Item)
+pub more_items : (r : ItemReader) (read : List ℕ) (given : List Item) → StandsFor r read given → (tail : List ℕ) → (others : List Item)
     × (items_in (read ++ tail) ≡ given ++ others)
 more_items r read given h tail =
-    let l = leads_grow given places.Header (place_of r.items) read (unread r.items) tail h.items_stand.leads in
-    let d = all_leads given (place_of r.items) (read ++ tail) (unread r.items ++ tail) l in
+    let l = leads_grow given places.Header (place_of r) read (unread r) tail h.leads in
+    let d = all_leads given (place_of r) (read ++ tail) (unread r ++ tail) l in
     (_, ap (λ (x : Decoded). x.items) d)
+
+-- nothing has no items
+pub no-items : items_in [] ≡ []
+unfolding decoded
+no-items = ap (λ (r : Read Item). (with_next places.Header r (decoded zero)).items) (nil_more places.Header)

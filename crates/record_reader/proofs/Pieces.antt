@@ -16,8 +16,8 @@ use Rattle.record_grammar.specs.declared.item.Item.{Item}
 use Rattle.record_grammar.specs.declared.item.Item.TheVariants as items
 use Rattle.record_grammar.specs.Spelling.{spelled_header, spelled_frame}
 use Rattle.record_reader.specs.Salvaged.{kept, is_init, spelled_kept, refusals_of, runs_in, refusals_in, cycles_of, refused_of}
-use Rattle.record_reader.specs.Keeping.{spelled_unless_last, piece_of, CanKeep, layout_behind, layout_by, spelled_items, written_items}
-use Rattle.record_reader.specs.Keeping.{IsHeaded}
+use Rattle.record_reader.specs.Salvaged.{spelled_items, written_items}
+use Rattle.record_reader.specs.Keeping.{spelled_unless_last, piece_of, format_after, IsHeaded}
 use Rattle.record_reader.specs.Taking.{AreFirst}
 use Rattle.record_reader.proofs.Items.{NextIs, few_first}
 
@@ -43,26 +43,13 @@ kept_append p xs ys =
 
 -- one item more is spelled behind the others
 pub spelled-next : (given : List Item) (x : Item) → NextIs given x → spelled_items (given ++ x ∷ []) ≡ spelled_items given
-    ++ piece_of (layout_behind given) x
+    ++ piece_of (format_after given) x
 spelled-next [] (items.Header p) h = append-nil (spelled_header p)
 spelled-next [] (items.Frame f) h = absurd h
 spelled-next (items.Header p ∷ xs) (items.Header q) h = absurd h
 spelled-next (items.Header p ∷ xs) (items.Frame f) h =
     kept_append p xs (items.Frame f ∷ []) ∙ ap (λ (bytes : List ℕ). spelled_kept p xs ++ bytes) (kept_is p.format f)
 spelled-next (items.Frame f ∷ xs) x h = absurd h
-
-pub layout-next : (given : List Item) (x : Item) → NextIs given x → layout_behind (given ++ x ∷ []) ≡ layout_by (layout_behind given) x
-layout-next [] x h = refl
-layout-next (items.Header p ∷ xs) (items.Header q) h = absurd h
-layout-next (items.Header p ∷ xs) (items.Frame f) h = refl
-layout-next (items.Frame f ∷ xs) x h = absurd h
-
-pub can-keep : (given : List Item) (x : Item) → NextIs given x → CanKeep (layout_behind given) x
-can-keep [] (items.Header p) h = tt
-can-keep [] (items.Frame f) h = absurd h
-can-keep (items.Header p ∷ xs) (items.Header q) h = absurd h
-can-keep (items.Header p ∷ xs) (items.Frame f) h = h
-can-keep (items.Frame f ∷ xs) x h = absurd h
 
 pub headed-next : (given : List Item) (x : Item) → NextIs given x → IsHeaded (given ++ x ∷ [])
 headed-next [] (items.Header p) h = tt
@@ -96,17 +83,17 @@ none_before false given e = e
 -- what is written of one item more is what was, and what it adds
 pub written-next : (given : List Item) (x : Item) (out : List ℕ) → NextIs given x → written_items given ++ out ≡ spelled_items given
     → written_items (given ++ x ∷ []) ≡ written_items given
-    ++ more_of (is_init x || list_any is_init given) (out ++ piece_of (layout_behind given) x)
+    ++ more_of (is_init x || list_any is_init given) (out ++ piece_of (format_after given) x)
 written-next given x out h all = by (is_init x || list_any is_init given) refl
   where
     begun : list_any is_init (given ++ x ∷ []) ≡ (is_init x || list_any is_init given)
     begun = begun-next given x
 
     by : (b : Bool) → (is_init x || list_any is_init given) ≡ b → written_items (given ++ x ∷ []) ≡ written_items given
-        ++ more_of b (out ++ piece_of (layout_behind given) x)
+        ++ more_of b (out ++ piece_of (format_after given) x)
     by true e = ap (λ (b : Bool). cond b (spelled_items (given ++ x ∷ [])) []) (begun ∙ e) ∙ spelled-next given x h
-        ∙ ap (λ (bytes : List ℕ). bytes ++ piece_of (layout_behind given) x) (sym all)
-        ∙ append_assoc (written_items given) out (piece_of (layout_behind given) x)
+        ∙ ap (λ (bytes : List ℕ). bytes ++ piece_of (format_after given) x) (sym all)
+        ∙ append_assoc (written_items given) out (piece_of (format_after given) x)
     by false e = ap (λ (b : Bool). cond b (spelled_items (given ++ x ∷ [])) []) (begun ∙ e)
         ∙ sym (append-nil (written_items given) ∙ ap (λ (b : Bool). cond b (spelled_items given) [])
         (none_before (is_init x) (list_any is_init given) e))
@@ -114,15 +101,15 @@ written-next given x out h all = by (is_init x || list_any is_init given) refl
 -- what is written and what is kept of one item more is all that is spelled
 pub all-next : (given : List Item) (x : Item) (out : List ℕ) (new : List ℕ) → NextIs given x → written_items given ++ out
     ≡ spelled_items given
-    → more_of (is_init x || list_any is_init given) (out ++ piece_of (layout_behind given) x) ++ new ≡ out
-    ++ piece_of (layout_behind given) x
+    → more_of (is_init x || list_any is_init given) (out ++ piece_of (format_after given) x) ++ new ≡ out
+    ++ piece_of (format_after given) x
     → written_items (given ++ x ∷ []) ++ new ≡ spelled_items (given ++ x ∷ [])
 all-next given x out new h all split =
-    let more = more_of (is_init x || list_any is_init given) (out ++ piece_of (layout_behind given) x) in
+    let more = more_of (is_init x || list_any is_init given) (out ++ piece_of (format_after given) x) in
     ap (λ (bytes : List ℕ). bytes ++ new) (written-next given x out h all) ∙ append_assoc (written_items given) more new
     ∙ ap (λ (bytes : List ℕ). written_items given ++ bytes) split
-    ∙ sym (append_assoc (written_items given) out (piece_of (layout_behind given) x))
-    ∙ ap (λ (bytes : List ℕ). bytes ++ piece_of (layout_behind given) x) all ∙ sym (spelled-next given x h)
+    ∙ sym (append_assoc (written_items given) out (piece_of (format_after given) x))
+    ∙ ap (λ (bytes : List ℕ). bytes ++ piece_of (format_after given) x) all ∙ sym (spelled-next given x h)
 
 -- ---- counts
 

@@ -11,6 +11,8 @@ use Rattle.det_edges.specs.declared.failure.Stopped.TheVariants.{Refused, Failed
 use Rattle.record_grammar.specs.declared.fault.RecordFault.{RecordFault}
 use Rattle.record_grammar.specs.declared.item.Item.{Item}
 use Rattle.record_grammar.specs.declared.item.Item.TheVariants as items
+use Rattle.record_grammar.specs.declared.place.Place.TheVariants as places
+use Rattle.record_grammar.specs.Leads.{Leads}
 use Rattle.record_grammar.specs.Record.{items as items_in, fault as fault_in, fault_so_far}
 use Rattle.record_view.specs.declared.view.FrameView.{FrameView}
 use Rattle.record_view.specs.declared.view.ItemView.{ItemView}
@@ -32,6 +34,12 @@ fault_of r = inner.fault_of r.items
 abbrev pub slot_of : FrameReader → ℕ
 slot_of r = inner.slot_of r.items
 
+-- the header of this profile alone was given, and the shelf gave the slot
+pub record IsOpen (frames : FrameReader) (profile : ProfileValue) (shelf : ShelfState)
+    : Type 0 where
+  pub gave : (read : List ℕ) × StandsFor frames read (items.Header profile ∷ [])
+  pub slot : slot_of frames < shelf.slots
+
 -- how many frames may still come
 abbrev pub room : FrameReader → ℕ
 room r = inner.room r.items
@@ -49,10 +57,11 @@ HasRead before after r Then = (more : List ℕ) × Reads before after (slot_of r
     → ReadsIfNeeded read (items.Header profile ∷ behind) more
     × Then (read ++ more) (items.Header profile ∷ behind))
 
--- a frame is given that comes next
+-- a frame is given that comes next, in the place to which the items before it lead
 pub record GaveFrame (view : FrameView) (r : FrameReader) (read : List ℕ) (given : List Item)
     : Type 0 where
   pub frame : Frame
+  pub before : (rest : List ℕ) × Leads places.Header read given view.place rest
   pub holds : Holds r view frame
   pub stands : StandsFor r read (given ++ items.Frame frame ∷ [])
   pub others : List Item

@@ -1,7 +1,7 @@
 pub mod Digested
-pub mod StandsFor
 pub mod Frames
 pub mod Taking
 pub mod Salvaged
+pub mod Kinds
 pub mod Keeping
 pub mod Salvages

@@ -26,6 +26,19 @@ is_init item = false
 abbrev pub spelled_kept : ProfileValue → List Item → List ℕ
 spelled_kept profile rest = spelled profile (flat_map kept rest)
 
+-- what the first items of a record spell without Terminate
+abbrev pub spelled_items : List Item → List ℕ
+spelled_items (items.Header profile ∷ rest) = spelled_kept profile rest
+spelled_items other = []
+
+-- what is written of them: nothing before Init was read, and then all
+abbrev pub written_items : List Item → List ℕ
+written_items given = if list_any is_init given then spelled_items given else []
+
+-- what is written of bytes that were read, while more may come
+abbrev pub saved_of : List ℕ → List ℕ
+saved_of bytes = written_items (items_in bytes)
+
 -- the header and the frames up to the last one, and then Terminate
 abbrev pub made_whole : ProfileValue → List Item → List ℕ
 made_whole profile rest = spelled profile (flat_map kept rest ++ Terminate ∷ [])

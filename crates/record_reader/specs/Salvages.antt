@@ -11,8 +11,8 @@ use Rattle.det_edges.specs.Traffic.{ShelfRun, SinkRun}
 use Rattle.record_grammar.specs.declared.fault.RecordFault.{RecordFault}
 use Rattle.record_grammar.specs.Record.{items as items_in, fault as fault_in, fault_so_far}
 use Rattle.record_reader.specs.declared.salvage.Salvaged.{Salvaged}
-use Rattle.record_reader.specs.StandsFor.{IsFaulty}
-use Rattle.record_reader.specs.Salvaged.{salvaged, cycles_of, refused_of}
+use Rattle.item_reader.specs.StandsFor.{IsFaulty}
+use Rattle.record_reader.specs.Salvaged.{salvaged, saved_of, cycles_of, refused_of}
 use Rattle.record_reader.specs.Taking.{OfSlot}
 
 -- the beginning of a salvaged record: nothing where there is none
@@ -67,10 +67,16 @@ ReadsTo (Err (Refused f)) read at_end = IsFaulty f read (items_in read) ⊎ at_e
 ReadsTo (Err (Failed Read)) read at_end = fault_so_far read ≡ None
 ReadsTo (Err stop) read at_end = Unit {0}
 
+-- where a read failed, all that is saved of the bytes read was written
+abbrev pub SavesRead : Result Salvaged (Stopped RecordFault) → List ℕ → SinkRun → Type 0
+SavesRead (Err (Failed Read)) read out = Grew out.before out.after (saved_of read)
+SavesRead result read out = Unit {0}
+
 -- how salvaging ended that read these bytes
 pub record Ended (result : Result Salvaged (Stopped RecordFault)) (read : List ℕ)
     (shelf : ShelfRun) (slot : ℕ) (out : SinkRun) : Type 0 where
   pub reads_to : ReadsTo result read (IsAtEnd shelf.last slot)
+  pub saves : SavesRead result read out
   pub answers : OfSlot shelf slot read (λ bytes. Answers result bytes out)
 
 -- a fault is no ground to stop where Init was read before it

@@ -14,7 +14,9 @@ use Rattle.record_grammar.specs.declared.place.Place.{Place}
 use Rattle.record_grammar.specs.declared.place.Place.TheVariants as places
 use Rattle.record_grammar.specs.Leads.{Leads}
 use Rattle.record_grammar.specs.Record.{items as items_in, fault as fault_in, fault_so_far}
-use Rattle.record_reader.specs.StandsFor.{FoundFault}
+use Rattle.record_view.specs.declared.view.ItemView.{ItemView}
+use Rattle.record_view.specs.Shows.{IsSpelling}
+use Rattle.item_reader.specs.StandsFor.{FoundFault}
 
 -- these items come first of some record
 pub record AreFirst (given : List Item) : Type 0 where
@@ -22,6 +24,13 @@ pub record AreFirst (given : List Item) : Type 0 where
   pub place : Place
   pub rest : List ℕ
   pub leads : Leads places.Header bytes given place rest
+
+-- this item comes after those in a record, and these are its bytes
+pub record IsNext (given : List Item) (item : Item) (view : ItemView) (bytes : List ℕ)
+    : Type 0 where
+  pub first : AreFirst (given ++ item ∷ [])
+  pub after : (read : List ℕ) × (rest : List ℕ) × Leads places.Header read given view.place rest
+  pub spelling : IsSpelling view item bytes
 
 -- What a taker is about, which may refuse with an E.
 pub record Taking (E : Type 0) : Type 1 where

@@ -1,20 +1,58 @@
-//! What an item adds to a count of cycles.
+//! What an item adds to the counts of a record.
 ghost use Rattle.std.specs.Prelude.{◌≡◌, ◌≤◌};
-ghost use Rattle.record_reader.specs.Salvaged.{runs_in};
+ghost use Rattle.record_reader.specs.Kinds.{begins_runs, runs_of, refusals_of};
 
-use det_values::Frame;
-use record_codec::Item;
+use record_view::{FrameKind, ItemKind, OutcomeView};
 
-/// 1 for the frame of a cycle, and 0 for any other item.
-pub fn runs_in(item: &Item) -> u32
-    ensures value { result ≡ runs_in item.now }
+/// Whether an item of this kind is Init, after which the cycles come.
+pub fn begins_runs(kind: ItemKind) -> bool
+    ensures { result ≡ begins_runs kind }
+{
+    match kind {
+        ItemKind::Header(_) => false,
+        ItemKind::Frame(frame) => match frame {
+            FrameKind::Init { .. } => true,
+            FrameKind::Register
+            | FrameKind::Discover
+            | FrameKind::Run { .. }
+            | FrameKind::Terminate => false,
+        },
+    }
+}
+
+/// 1 for an item that is the frame of a cycle, and 0 for any other.
+pub fn runs_of(kind: ItemKind) -> u32
+    ensures value { result ≡ runs_of kind }
     ensures most { result ≤ 1 }
 {
-    match item {
-        Item::Header(_) => 0,
-        Item::Frame(frame) => match frame {
-            Frame::Run(_) => 1,
-            Frame::Register | Frame::Discover | Frame::Init(_) | Frame::Terminate => 0,
+    match kind {
+        ItemKind::Header(_) => 0,
+        ItemKind::Frame(frame) => match frame {
+            FrameKind::Run { .. } => 1,
+            FrameKind::Register
+            | FrameKind::Discover
+            | FrameKind::Init { .. }
+            | FrameKind::Terminate => 0,
+        },
+    }
+}
+
+/// 1 for an item that is the frame of a refused cycle, and 0 for any other.
+pub fn refusals_of(kind: ItemKind) -> u32
+    ensures value { result ≡ refusals_of kind }
+    ensures most { result ≤ runs_of kind }
+{
+    match kind {
+        ItemKind::Header(_) => 0,
+        ItemKind::Frame(frame) => match frame {
+            FrameKind::Run { outcome, .. } => match outcome {
+                OutcomeView::Finished { .. } => 0,
+                OutcomeView::Refused { .. } => 1,
+            },
+            FrameKind::Register
+            | FrameKind::Discover
+            | FrameKind::Init { .. }
+            | FrameKind::Terminate => 0,
         },
     }
 }

@@ -3,23 +3,23 @@ ghost use Rattle.std.specs.Prelude.{◌≡◌, ℕ, ◌<◌, List, [], IfOk, IfS
 ghost use Rattle.det_edges.specs.Traffic.{ShelfTraffic, SinkTraffic, shelf_run, sink_run};
 ghost use Rattle.det_edges.specs.Traffic.{failure_in};
 ghost use Rattle.record_grammar.specs.declared.fault.RecordFault.{RecordFault};
-ghost use Rattle.record_reader.specs.StandsFor.{StandsFor, slot_of};
+ghost use Rattle.item_reader.specs.StandsFor.{StandsFor, slot_of};
 ghost use Rattle.record_reader.specs.Taking.{ItemsRead};
 ghost use Rattle.record_reader.specs.Keeping.{Keeps, salvaging};
 ghost use Rattle.record_reader.specs.Salvages.{Salvages, HasNothing, Begins, Ended, settled_by};
 
-use crate::reader::RecordReader;
 use crate::salvage::{Salvage, Salvaged};
 use det_edges::{Sink, Slots, Stopped};
-use record_codec::RecordFault;
+use item_reader::ItemReader;
+use record_grammar::RecordFault;
 use std::alloc::Global;
 
-/// Writes the record that a reader reads, made whole up to its last whole frame. Nothing is written
-/// before Init was read, and at most one frame is held, beside its bytes in the reader. `Refused`
-/// tells the fault of a record that has no Init before it.
+/// Writes the record that a reader reads, made whole up to its last whole frame. An item is written
+/// as it was read, once it is whole; nothing is written before Init was read. Only what comes before
+/// Init is held beside the reader. `Refused` has the fault of a record that has no Init before it.
 pub fn salvage_run<S: Slots, K: Sink>(
     alloc: Global,
-    reader: &mut RecordReader,
+    reader: &mut ItemReader,
     shelf: &mut S,
     sink: &mut K,
 ) -> Result<Salvaged, Stopped<RecordFault>>
@@ -35,7 +35,7 @@ pub fn salvage_run<S: Slots, K: Sink>(
     ensures part { IfSome ((S.sees shelf.old).left (slot_of reader.old)) (λ record_bytes.
         Begins record_bytes (sink_run K.took K.faults sink.old sink.new)) }
     // The same by the bytes that were read, also where the shelf doesn't tell what the slot has
-    // left.
+    // left. Where a read failed, all that was read is written.
     ensures run { (read : List ℕ)
         × Ended result read (shelf_run S.sees S.stays shelf.old shelf.new) (slot_of reader.old)
         (sink_run K.took K.faults sink.old sink.new) }
@@ -50,9 +50,9 @@ pub fn salvage_run<S: Slots, K: Sink>(
     salvage.finish(sink)
 }
 
-/// Keeps all items.
+/// Gives all items to a salvage.
 fn keep_all<S: Slots, K: Sink>(
-    reader: &mut RecordReader,
+    reader: &mut ItemReader,
     shelf: &mut S,
     salvage: &mut Salvage,
     sink: &mut K,
@@ -69,14 +69,14 @@ fn keep_all<S: Slots, K: Sink>(
         (failure_in result) }
 {
     'items: loop {
-        let Some(item) = reader.next_item(shelf)? else {
+        let Some(view) = reader.next(shelf)? else {
             return Ok(());
         };
-        salvage.take(item, sink)?;
+        salvage.take(view, reader.bytes(view), sink)?;
     }
 }
 
-/// A fault is no ground to stop where Init was read before it.
+/// A fault stops nothing where Init was read before it.
 fn settled(
     read: Result<(), Stopped<RecordFault>>,
     has_begun: bool,

@@ -22,9 +22,9 @@ use Rattle.checker.specs.Departure.{run_of}
 use Rattle.checker.specs.Verdict.{verdict_by}
 use Rattle.cli_answers.specs.declared.answer.Answer.TheVariants.{Done}
 use Rattle.cli_answers.specs.Outcome.{Outcome}
-use Rattle.cmd_check.specs.Check.{outcome_by, checked_with, checked, checked_by}
-use Rattle.run_laws.specs.Statements.{IsRunRead, IsRecordRead, frames_by_kind, fault_if}
-use Rattle.run_laws.specs.Checks.{checked_of, IsRecordChecked, RecordIsChecked, DemoIsChecked}
+use Rattle.cmd_check.specs.Check.{outcome_by, checked_with, checked, checked_by, check_outcome}
+use Rattle.run_laws.specs.Statements.{IsRunRead, frames_by_kind, fault_if}
+use Rattle.run_laws.specs.Checks.{checked_of, RecordIsChecked, DemoIsChecked}
 use Rattle.run_laws.proofs.Commands.{is_taken, record_read, demo_read}
 use Rattle.run_laws.proofs.Replayed.{IsOfKind, run_is}
 use Rattle.run_laws.proofs.OfInputs.{run_verdict, run_checked, runs_counted}
@@ -54,30 +54,30 @@ module _ {S G E L P : Type 0} (m : Meaning S G E L P) (profile : ProfileValue) (
       let seen = run_checked m profile given ended bytes read in
       (λ i. outcome_by (verdict i) (reported audience (seen i))) ∙ told_of given ended bytes
 
--- the check of a record of a profile, by the kind of its job
-checked_same : (kind : JobKind) (profile : ProfileValue) (stimulus bytes : List ℕ) (audience : AudienceState)
-    → IsRecordRead profile (frames_by_kind kind profile) stimulus bytes
-    → checked kind profile audience bytes
-    ≡ checked_of audience (frames_by_kind kind profile (blocks (length profile.events) stimulus) (is_ended profile stimulus))
-    (fault_if (is_ended profile stimulus) bytes)
-checked_same Bank profile stimulus bytes audience h = run_is_checked bank.meaning profile audience _ (is_ended profile stimulus) bytes h
-checked_same Cloud profile stimulus bytes audience h = run_is_checked cloud.meaning profile audience _ (is_ended profile stimulus) bytes h
-checked_same Guard profile stimulus bytes audience h = run_is_checked guard.meaning profile audience _ (is_ended profile stimulus) bytes h
+-- the check of a record of a run, by the kind of its job
+run_checked_same : (kind : JobKind) (profile : ProfileValue) (audience : AudienceState) (given : List CycleInput) (ended : Bool)
+    (bytes : List ℕ) → IsRunRead profile (frames_by_kind kind profile given ended) ended bytes
+    → checked kind profile audience bytes ≡ checked_of audience (frames_by_kind kind profile given ended) (fault_if ended bytes)
+run_checked_same Bank profile audience given ended bytes h = run_is_checked bank.meaning profile audience given ended bytes h
+run_checked_same Cloud profile audience given ended bytes h = run_is_checked cloud.meaning profile audience given ended bytes h
+run_checked_same Guard profile audience given ended bytes h = run_is_checked guard.meaning profile audience given ended bytes h
 
-kind_is_checked : (kind : JobKind) (profile : ProfileValue) (stimulus bytes : List ℕ) → IsOfKind kind profile
-    → IsRecordRead profile (frames_by_kind kind profile) stimulus bytes
-    → IsRecordChecked profile (frames_by_kind kind profile) stimulus bytes
-kind_is_checked kind profile stimulus bytes of h = λ audience.
-    ap (checked_by audience bytes) (run_is kind profile _ bytes of h.items) ∙ checked_same kind profile stimulus bytes audience h
+pub kind_is_checked : (kind : JobKind) (profile : ProfileValue) → IsOfKind kind profile → (given : List CycleInput) (ended : Bool)
+    (bytes : List ℕ) → IsRunRead profile (frames_by_kind kind profile given ended) ended bytes → (audience : AudienceState)
+    → check_outcome audience bytes ≡ checked_of audience (frames_by_kind kind profile given ended) (fault_if ended bytes)
+kind_is_checked kind profile of given ended bytes h audience =
+    ap (checked_by audience bytes) (run_is kind profile _ bytes of h.items)
+    ∙ run_checked_same kind profile audience given ended bytes h
 
 pub record_is_checked : RecordIsChecked
 record_is_checked strict manifest stimulus seed m small set =
     let taken = is_taken (manifest_by strict manifest) m set in
     let profile : ProfileValue = profile_of m (unwrap_or seed 0) in
     let bytes : List ℕ = (record_outcome strict manifest stimulus seed).bytes in
-    kind_is_checked m.kind profile stimulus bytes (record { number = refl; good = taken.good })
-    (record_read strict manifest stimulus seed m small set)
+    kind_is_checked m.kind profile (record { number = refl; good = taken.good }) (blocks (length profile.events) stimulus)
+    (is_ended profile stimulus) bytes (record_read strict manifest stimulus seed m small set)
 
 pub demo_is_checked : DemoIsChecked
 demo_is_checked stimulus =
-    kind_is_checked Bank demo_profile stimulus (demo_outcome stimulus).bytes (record { number = refl; good = refl }) (demo_read stimulus)
+    kind_is_checked Bank demo_profile (record { number = refl; good = refl }) (blocks (length demo_profile.events) stimulus)
+    (is_ended demo_profile stimulus) (demo_outcome stimulus).bytes (demo_read stimulus)

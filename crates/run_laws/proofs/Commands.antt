@@ -1,6 +1,6 @@
 -- The records of `record` and of `demo` are read.
-use Rattle.std.proofs.Common.{◌≡◌, ℕ, ℤ, pos, List, [], ◌∷◌, length, Option, Some, None, Result, Ok, Err, refl, sym, ap, subst, arith}
-use Rattle.std.proofs.Common.{codes}
+use Rattle.std.proofs.Common.{◌≡◌, ◌<◌, ◌^◌, ℕ, Bool, ℤ, pos, List, [], ◌∷◌, length, Option, Some, None, Result, Ok, Err}
+use Rattle.std.proofs.Common.{refl, sym, ap, subst, arith, codes}
 use Rattle.std.specs.Prelude.{FitsSigned}
 use Rattle.std.specs.Int.{w64}
 use Rattle.std.specs.Option.{unwrap_or}
@@ -27,7 +27,7 @@ use Rattle.manifest.specs.Profiles.{profile_of}
 use Rattle.manifest.specs.declared.fault.ManifestFault.{ManifestFault}
 use Rattle.cli_answers.specs.declared.answer.BadManifest.{BadManifest}
 use Rattle.shipped_jobs.specs.Kinds.{bad_param}
-use Rattle.cmd_setup.specs.Setup.{unless_bad, setup_from, manifest_by}
+use Rattle.cmd_setup.specs.Setup.{unless_bad, setup_from, setup_of, manifest_by}
 use Rattle.run_laws.proofs.Strictly.{taken_too}
 use Rattle.cmd_record.specs.Outcomes.{demo_profile, demo_outcome, recorded_by_kind, recorded_by}
 use Rattle.run_laws.specs.Statements.{frames_by_kind, IsRecordRead, RecordIsRead, DemoIsRead}
@@ -66,12 +66,16 @@ pub is_taken : (read : Result ManifestValue ManifestFault) (m : ManifestValue) �
 is_taken (Err fault) m e = absurd cc
 is_taken (Ok n) m e = unless_taken (bad_param n.kind n.params (length n.events)) n m refl e
 
+-- the profile of a manifest that is taken can be spelled
+pub is_header : (strict : Bool) (manifest : List ℕ) (m : ManifestValue) (seed : ℕ) → seed < 2 ^ 64 → setup_of strict manifest ≡ Ok m
+    → IsHeader (profile_of m seed)
+is_header strict manifest m seed small set =
+    let taken = is_taken (manifest_by strict manifest) m set in
+    header_is manifest m seed small (taken_too strict manifest m taken.said) (params_fit m.kind m.params (length m.events) taken.good)
+
 pub record_read : RecordIsRead
 record_read strict manifest stimulus seed m small set =
-    let taken = is_taken (manifest_by strict manifest) m set in
-    let header =
-    header_is manifest m (unwrap_or seed 0) small (taken_too strict manifest m taken.said)
-    (params_fit m.kind m.params (length m.events) taken.good) in
+    let header = is_header strict manifest m (unwrap_or seed 0) small set in
     let profile : ProfileValue = profile_of m (unwrap_or seed 0) in
     let Reads : Result ManifestValue BadManifest → Type 0 =
     λ r. IsRecordRead profile (frames_by_kind m.kind profile) stimulus (recorded_by (unwrap_or seed 0) stimulus r).bytes in

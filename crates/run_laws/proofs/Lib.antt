@@ -17,10 +17,17 @@ mod Replayed
 mod GivenAgain
 mod Compared
 mod Voted
+mod Dissenters
 mod Departing
 mod WholeRecords
+mod Split
+mod Salvaged
+mod RecordsSalvaged
 mod OfInputs
 mod InFormatTwo
 mod Checked
 mod GenuineRuns
 mod GenuineLaws
+mod PassedOn
+mod Chained
+mod Summed

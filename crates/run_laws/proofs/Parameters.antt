@@ -20,7 +20,7 @@ Fits z = FitsSigned w64 z
 abbrev IsWithin : ℤ → ℤ → ℤ → Type 0
 IsWithin low high z = (low ≤ℤ z) × (z ≤ℤ high)
 
-below : (a b : ℤ) → int_le a b ≡ true → a ≤ℤ b
+pub below : (a b : ℤ) → int_le a b ≡ true → a ≤ℤ b
 below a b e = le_z_yes (subst T (sym e) tt)
 
 -- a parameter that isn't refused is in its range

@@ -1,5 +1,5 @@
 -- A vote is done exactly where more than half of the copies are one whole record.
-use Rattle.std.proofs.Common.{◌≡◌, ◌+◌, ◌<◌, ◌≤◌, ℕ, Bool, true, false, cond, List, [], ◌∷◌, length, Option, Some, None}
+use Rattle.std.proofs.Common.{◌≡◌, ◌<◌, ◌≤◌, ℕ, Bool, true, false, List, [], ◌∷◌, length, Option, Some, None}
 use Rattle.std.proofs.Common.{refl, sym, ap, subst, ◌∙◌, arith}
 use Rattle.std.specs.List.{count_by, AllByRecursion}
 use Rattle.std.specs.Str.{bytes_eq}
@@ -17,7 +17,7 @@ use Rattle.cmd_vote.specs.Vote.{voted_by, vote_outcome}
 use Rattle.run_laws.specs.Votes.{IsMajority, MajorityIsWritten, DoneIsMajority}
 
 -- what passes one test of copies that are bytes passes the other
-fewer : (f g : List ℕ → Bool) (copies : List (List ℕ)) → AllByRecursion AreBytes copies
+pub fewer : (f g : List ℕ → Bool) (copies : List (List ℕ)) → AllByRecursion AreBytes copies
     → ((copy : List ℕ) → AreBytes copy → f copy ≡ true → g copy ≡ true) → count_by f copies ≤ count_by g copies
 fewer f g [] bytes on = omega arith
 fewer f g (c ∷ copies) bytes on = by (f c) refl (g c) refl (fewer f g copies bytes.1 on)
@@ -30,7 +30,7 @@ fewer f g (c ∷ copies) bytes on = by (f c) refl (g c) refl (fewer f g copies b
     by false e false d rest = let n = count-cons f c copies false e in let m = count-cons g c copies false d in omega (arith, rest, n, m)
 
 -- one of them passes
-one-passes : (f : List ℕ → Bool) (copies : List (List ℕ)) → AllByRecursion AreBytes copies → 0 < count_by f copies
+pub one-passes : (f : List ℕ → Bool) (copies : List (List ℕ)) → AllByRecursion AreBytes copies → 0 < count_by f copies
     → (copy : List ℕ) × AreBytes copy × (f copy ≡ true)
 one-passes f [] bytes some = absurd (omega (arith, some))
 one-passes f (c ∷ copies) bytes some = by (f c) refl (one-passes f copies bytes.1)
@@ -40,15 +40,15 @@ one-passes f (c ∷ copies) bytes some = by (f c) refl (one-passes f copies byte
     by true e rest = (c, bytes.0, e)
     by false e rest = let n = count-cons f c copies false e in rest (omega (arith, some, n))
 
-same-bytes : (a b : List ℕ) → bytes_eq a b ≡ true → a ≡ b
+pub same-bytes : (a b : List ℕ) → bytes_eq a b ≡ true → a ≡ b
 same-bytes a b e = (bytes_eq-Decides a b).0 e
 
-equal-bytes : (a b : List ℕ) → a ≡ b → bytes_eq a b ≡ true
+pub equal-bytes : (a b : List ℕ) → a ≡ b → bytes_eq a b ≡ true
 equal-bytes a b e = (bytes_eq-Decides a b).1 e
 
 module _ (copies : List (List ℕ)) (bytes : AllByRecursion AreBytes copies) where
   -- a copy that is a whole record of these items is their spelling
-  spelling : (given : List Item) (copy : List ℕ) → AreBytes copy → is_record given copy ≡ true → spelled_items given ≡ copy
+  pub spelling : (given : List Item) (copy : List ℕ) → AreBytes copy → is_record given copy ≡ true → spelled_items given ≡ copy
   spelling given copy are e =
       let r = record-tells given copy e in
       sym (whole-spelled copy are r.whole ∙ ap spelled_items r.items)

@@ -22,7 +22,7 @@ use Rattle.checker.specs.Departure.{frame_in, frames_in}
 
 -- ---- items behind a header
 
-abbrev IsBehind : Place → Type 0
+abbrev pub IsBehind : Place → Type 0
 IsBehind places.Header = ⊥
 IsBehind place = Unit {0}
 
@@ -43,7 +43,7 @@ no_header (places.Runs layout before) p b h = h
 no_header places.End p b h = h
 
 -- they are frames
-all_frames : (xs : List Item) (place to : Place) → IsBehind place → AreItems place xs to → (fs : List Frame) × (xs ≡ map items.Frame fs)
+pub all_frames : (xs : List Item) (place to : Place) → IsBehind place → AreItems place xs to → (fs : List Frame) × (xs ≡ map items.Frame fs)
 all_frames [] place to b h = ([], refl)
 all_frames (items.Header p ∷ xs) place to b h = absurd (no_header place p b h.0)
 all_frames (items.Frame f ∷ xs) place to b h =

@@ -3,3 +3,5 @@ pub mod Copies
 pub mod Checks
 pub mod Votes
 pub mod Chains
+pub mod Salvages
+pub mod Sums

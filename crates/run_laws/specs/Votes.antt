@@ -1,11 +1,21 @@
--- What a vote over copies of a record comes to.
-use Rattle.std.specs.Prelude.{◌≡◌, ℕ, ◌+◌, ◌<◌, List, length, None}
-use Rattle.std.specs.List.{count_by, AllByRecursion}
+-- What a vote over copies of a record comes to, and what is told of its dissenters.
+use Rattle.std.specs.Prelude.{◌≡◌, ℕ, ◌+◌, ◌<◌, List, [], ◌∷◌, length, map, codes, true, None}
+use Rattle.std.specs.Prelude.{if◌then◌else◌, nat_eq}
+use Rattle.std.specs.List.{count_by, starts_with, AllByRecursion}
 use Rattle.std.specs.Str.{bytes_eq}
-use Rattle.record_grammar.specs.Record.{fault}
+use Rattle.det_edges.specs.Prefix.{IsPrefix}
+use Rattle.record_grammar.specs.declared.item.Item.{Item}
+use Rattle.record_grammar.specs.Record.{items, fault}
 use Rattle.record_grammar.specs.Spelling.{AreBytes}
-use Rattle.cli_answers.specs.declared.answer.Answer.TheVariants.{Done}
-use Rattle.cmd_vote.specs.Vote.{vote_outcome}
+use Rattle.record_reader.specs.Salvaged.{cycles_of}
+use Rattle.record_text.specs.Words.{number_line}
+use Rattle.lockstep.specs.Laws.{AreOneRecord}
+use Rattle.voter.specs.declared.outcome.Dissenter.{Dissenter}
+use Rattle.voter.specs.Majority.{dissent, are_held, spelled_items}
+use Rattle.cli_answers.specs.declared.answer.Answer.TheVariants.{Done, NoMajority}
+use Rattle.cmd_vote.specs.Vote.{vote_outcome, dissent_text, dissent_outcome}
+
+-- ---- the majority
 
 -- a whole record that more than half of the copies are
 pub record IsMajority (whole : List ℕ) (copies : List (List ℕ)) : Type 0 where
@@ -21,3 +31,60 @@ MajorityIsWritten = (whole : List ℕ) (copies : List (List ℕ)) → AllByRecur
 abbrev pub DoneIsMajority : Type 0
 DoneIsMajority = (copies : List (List ℕ)) → AllByRecursion AreBytes copies
     → (vote_outcome copies).answer ≡ Done → IsMajority (vote_outcome copies).bytes copies
+
+-- ---- no majority
+
+-- how many of the copies begin with these bytes
+abbrev pub beginning_with : List ℕ → List (List ℕ) → ℕ
+beginning_with bytes copies = count_by (λ copy. starts_with nat_eq copy bytes) copies
+
+-- More than half of the copies begin with these bytes, which are so many rows. They are the most
+-- such rows: with whatever rows more than half of the copies begin, these begin with them.
+pub record AreCommon (bytes : List ℕ) (rows : ℕ) (copies : List (List ℕ)) : Type 0 where
+  pub begun : length copies < beginning_with bytes copies + beginning_with bytes copies
+  pub whole : bytes ≡ spelled_items (items bytes)
+  pub number : rows ≡ length (items bytes)
+  pub held : are_held copies (items bytes) ≡ true
+  pub most : (given : List Item) → are_held copies given ≡ true → IsPrefix given (items bytes)
+
+-- where `vote` finds no majority there is none, and it has written what is common to most copies
+abbrev pub SplitIsCommon : Type 0
+SplitIsCommon = (first : List ℕ) (others : List (List ℕ)) (row : ℕ)
+    → AllByRecursion AreBytes (first ∷ others)
+    → (vote_outcome (first ∷ others)).answer ≡ NoMajority row
+    → ((whole : List ℕ) → IsMajority whole (first ∷ others) → ⊥)
+    × AreCommon (vote_outcome (first ∷ others)).bytes row (first ∷ others)
+
+-- ---- the dissenters
+
+-- `vote --dissent` is answered as `vote` is
+abbrev pub AnsweredAlike : Type 0
+AnsweredAlike =
+    (copies : List (List ℕ)) → (dissent_outcome copies).answer ≡ (vote_outcome copies).answer
+
+-- the numbers of the copies that aren't these bytes; the first copy has this number
+abbrev pub others_than : List ℕ → ℕ → List (List ℕ) → List ℕ
+others_than whole copy [] = []
+others_than whole copy (bytes ∷ copies) =
+    if bytes_eq whole bytes then others_than whole (copy + 1) copies
+    else copy ∷ others_than whole (copy + 1) copies
+
+-- It tells how many cycles this record has, and the copies that dissent from it; these are the
+-- copies that aren't this record, byte for byte.
+pub record AreNamed (whole : List ℕ) (copies : List (List ℕ)) : Type 0 where
+  pub text : (dissent_outcome copies).bytes
+      ≡ dissent_text (cycles_of (items whole)) (dissent (items whole) 0 copies)
+  pub named : map (λ (d : Dissenter). d.copy) (dissent (items whole) 0 copies)
+      ≡ others_than whole 0 copies
+
+-- where it is done, this is so of the record that `vote` writes
+abbrev pub OthersAreNamed : Type 0
+OthersAreNamed = (copies : List (List ℕ)) → AllByRecursion AreBytes copies
+    → (vote_outcome copies).answer ≡ Done → AreNamed (vote_outcome copies).bytes copies
+
+-- where all copies are one whole record, of so many cycles, none is named
+abbrev pub NoneIsNamed : Type 0
+NoneIsNamed = (first : List ℕ) (others : List (List ℕ)) (cycles : ℕ)
+    → AreOneRecord first others cycles
+    → dissent_outcome (first ∷ others)
+    ≡ record { answer = Done; bytes = number_line (codes "agree") cycles }

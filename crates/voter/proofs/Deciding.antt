@@ -1,11 +1,10 @@
 -- How a vote ends.
-use Rattle.std.proofs.Common.{◌≡◌, ◌≢◌, ◌≤◌, ◌+◌, ℕ, true, false, cond, List, [], ◌∷◌, ◌++◌, length, Option, Some, None, Ok, Err}
+use Rattle.std.proofs.Common.{◌≡◌, ◌≤◌, ◌+◌, ℕ, true, false, cond, List, [], ◌∷◌, ◌++◌, length, Option, Some, None, Ok, Err}
 use Rattle.std.proofs.Common.{refl, sym, ap, subst, ◌∙◌, append_assoc, arith}
 use Rattle.std.specs.Prelude.{is_none, unwrap_or, ◌==◌}
 use Rattle.std.specs.List.{count_by, list_any}
 use Rattle.std.proofs.lemmas.Bool.{cond-true, cond-false, eq-eqb, false_from_ne_true, or_right, or_left}
 use Rattle.std.proofs.lemmas.List.Folds.{list_any-append}
-use Rattle.det_edges.specs.declared.failure.Failure.{Failure}
 use Rattle.det_edges.specs.declared.failure.Failure.TheVariants.{Read, Write, OutOfMemory}
 use Rattle.det_edges.specs.declared.failure.Stopped.{Stopped}
 use Rattle.det_edges.specs.declared.failure.Stopped.TheVariants.{Refused, Failed}
@@ -26,7 +25,7 @@ use Rattle.voter.specs.declared.reading.Voter.{Voter}
 use Rattle.voter.specs.declared.voters.Voters.{Voters}
 use Rattle.voter.specs.Majority.{is_record, is_most, dissent, common, voted, spelled_items}
 use Rattle.voter.specs.Voted.{Elects, dissents, OthersEnd, HasVoted}
-use Rattle.voter.specs.Rows.{is_in_step, AreVoters}
+use Rattle.voter.specs.Rows.{is_in_step, AreVoters, FailedAmong}
 use Rattle.voter.specs.Standing.{Writes, AreMost, Stand, EndIs, AreEnded, Decided, RowTaken, dissenter, dissenters}
 use Rattle.voter.proofs.Counting.{most-true, most-is, count-cons}
 use Rattle.voter.proofs.Held.{record-tells, record-yes, majority-is, voted-from}
@@ -56,20 +55,26 @@ few-left voters most few =
 
 -- ---- a call that failed
 
-pub failed : (first old last : ShelfState) (given : List Item) (slots : List ℕ) (voters : List Voter) (out : SinkRun) (failure : Failure)
-    → AreVoters first old given slots voters → AreMost voters → Grew out.before out.after (spelled_items given) → failure ≢ Write
-    → HasVoted (Err (Failed failure)) first last slots out
-failed first old last given slots voters out Write h most grew ne = absurd (ne refl)
-failed first old last given slots voters out Read h most grew ne = record {
+read-failed : (first old last : ShelfState) (given : List Item) (slots : List ℕ) (voters : List Voter) (out : SinkRun)
+    → AreVoters first old given slots voters → AreMost voters → Grew out.before out.after (spelled_items given)
+    → FailedAmong Read first last given slots → HasVoted (Err (Failed Read)) first last slots out
+read-failed first old last given slots voters out h most grew failed = record {
   answers = λ copies l. let held = held-told first old given slots voters copies h most l in record {
     rows = given;
+    slot = failed.0;
+    among = failed.1;
+    shown = failed.2;
     held = held;
     grew = grew;
     part = (spelled_items given, voted-from copies given held, grew);
   };
   ends = tt;
 }
-failed first old last given slots voters out OutOfMemory h most grew ne = record {
+
+pub memory-failed : (first old last : ShelfState) (given : List Item) (slots : List ℕ) (voters : List Voter) (out : SinkRun)
+    → AreVoters first old given slots voters → AreMost voters → Grew out.before out.after (spelled_items given)
+    → HasVoted (Err (Failed OutOfMemory)) first last slots out
+memory-failed first old last given slots voters out h most grew = record {
   answers = λ copies l.
       (spelled_items given, voted-from copies given (held-told first old given slots voters copies h most l), grew);
   ends = tt;
@@ -79,10 +84,10 @@ pub row-stopped : (first old last : ShelfState) (given : List Item) (slots : Lis
     (stop : Stopped NoMajority) → Stand first old given slots voters → Grew out.before out.after (spelled_items given)
     → RowTaken (Err stop) first last given slots new → HasVoted (Err stop) first last slots out
 row-stopped first old last given slots voters new out (Failed Read) h grew taken =
-    failed first old last given slots voters.voters.items out Read h.readers h.most grew (λ e. cc)
+    read-failed first old last given slots voters.voters.items out h.readers h.most grew taken
 row-stopped first old last given slots voters new out (Failed OutOfMemory) h grew taken =
-    failed first old last given slots voters.voters.items out OutOfMemory h.readers h.most grew (λ e. cc)
-row-stopped first old last given slots voters new out (Failed Write) h grew taken = absurd taken
+    memory-failed first old last given slots voters.voters.items out h.readers h.most grew
+row-stopped first old last given slots voters new out (Failed Write) h grew taken = absurd taken.2
 row-stopped first old last given slots voters new out (Refused split) h grew taken = record {
   answers = λ copies l. let s = taken.1 copies l in record {
     none = s.none;
@@ -100,7 +105,7 @@ pub no-write : (first last : ShelfState) (given : List Item) (slots : List ℕ) 
 no-write first last given slots new out (Refused split) taken t = record { cause = λ e. absurd cc; counted = t.counted }
 no-write first last given slots new out (Failed Read) taken t = record { cause = λ e. absurd cc; counted = t.counted }
 no-write first last given slots new out (Failed OutOfMemory) taken t = record { cause = λ e. absurd cc; counted = t.counted }
-no-write first last given slots new out (Failed Write) taken t = absurd taken
+no-write first last given slots new out (Failed Write) taken t = absurd taken.2
 
 pub write-stopped : (first last : ShelfState) (given : List Item) (x : Item) (slots : List ℕ) (voters : Voters) (piece : List ℕ)
     (step out : SinkRun) (stop : Stopped NoMajority) → Stand first last (given ++ x ∷ []) slots voters

@@ -62,6 +62,18 @@ held-on copies given (x ∷ behind) h = by (held-on copies (given ++ x ∷ []) b
         (r.0, prefix-then given (given ++ x ∷ []) (held copies (given ++ x ∷ []) behind) (x ∷ [], refl) r.1)
     by on false e = (h, prefix-same given)
 
+begin-nothing : (copies : List (List ℕ)) → beginning copies [] ≡ length copies
+begin-nothing [] = refl
+begin-nothing (c ∷ copies) =
+    let n = count-cons (λ copy. begins_with [] (items_in copy)) c copies true refl in
+    let rest = begin-nothing copies in
+    omega (arith, n, rest)
+
+-- all copies begin with no items
+pub held-nothing : (copies : List (List ℕ)) → 1 ≤ length copies → are_held copies [] ≡ true
+held-nothing copies some =
+    let all = begin-nothing copies in most-is (beginning copies []) (length copies) (omega (arith, all, some))
+
 -- what is held is reached
 held-reaches : (copies : List (List ℕ)) (given more rest : List Item) → are_held copies (given ++ more) ≡ true
     → IsPrefix (given ++ more) (held copies given (more ++ rest))

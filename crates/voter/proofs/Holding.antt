@@ -1,8 +1,7 @@
 -- Rows that are held, and the items that stand in the bytes that are held.
-use Rattle.std.proofs.Common.{◌≡◌, ◌<◌, ◌≤◌, ◌+◌, ℕ, zero, suc, Bool, cond, List, [], ◌∷◌, map, length, take, get_or, set, Option}
+use Rattle.std.proofs.Common.{◌≡◌, ◌<◌, ◌≤◌, ◌+◌, ℕ, zero, suc, Bool, true, cond, List, [], ◌∷◌, map, length, take, get_or, set, Option}
 use Rattle.std.proofs.Common.{Some, None, refl, sym, ap, subst, ◌∙◌, arith}
 use Rattle.std.specs.List.{count_by}
-use Rattle.std.specs.Bool.{Decides}
 use Rattle.std.specs.Prelude.{◌↔◌, IsTrue}
 use Rattle.std.proofs.lemmas.List.{take_all, take_more}
 use Rattle.std.proofs.lemmas.List.Sums.{sum_by_push}
@@ -14,8 +13,8 @@ use Rattle.record_grammar.specs.contracts.item.ItemPartialEq.TheImpl as item
 use Rattle.record_grammar.specs.Laws.{MayStand, item_spelling}
 use Rattle.record_grammar.specs.Spelling.{AreBytes}
 use Rattle.record_view.specs.declared.view.ItemView.{ItemView}
-use Rattle.record_view.specs.Shows.{Shows, IsSpelling, events_of}
-use Rattle.record_view.proofs.EqualItems.{equal_items, span_is_spelling}
+use Rattle.record_view.specs.Shows.{IsSpelling, events_of}
+use Rattle.record_view.proofs.EqualItems.{span_is_spelling}
 use Rattle.item_reader.specs.declared.reader.ItemReader.{ItemReader}
 use Rattle.lockstep.specs.declared.row.Row.{Row}
 use Rattle.lockstep.specs.declared.row.Row.TheVariants as rows
@@ -55,30 +54,19 @@ held-none place reader (Some rows.Whole) h = absurd h
 held-none place reader (Some (rows.Fault f)) h = absurd h
 held-none place reader None h = refl
 
+-- an item equals itself
+pub itself-item : (view : ItemView) (place : Place) (reader : ItemReader) (row : Option Row)
+    → HoldsAs (Some (views.Item view)) place reader row → true ≡ same_row row row
+itself-item view place reader row h = let x = held-item view place reader row h in rw x.1 (sym ((item_decides x.0 x.0).1 refl))
+
 -- ---- items by their bytes
 
 pub all-taken : (n : ℕ) (bytes : List ℕ) → length bytes ≡ n → take n bytes ≡ bytes
 all-taken n bytes e = take_all n bytes (omega (arith, e))
 
--- two items in one place are equal where their bytes are
-pub same-items : (place : Place) (one other : ItemReader) (view next : ItemView) (x y : Item) (xs ys : List ℕ) (r : Bool)
-    → HoldsAt place one view x → HoldsAt place other next y → IsSpelling view x xs → IsSpelling next y ys → events_of view.place ≤ 65536
-    → AreBytes xs → AreBytes ys → IsTrue r ↔ (xs ≡ ys) → r ≡ item.eq-value.it x y
-same-items place one other view next x y xs ys r h k p q few are_x are_y same =
-    same_from_decides r (item.eq-value.it x y) decides (item_decides x y)
-  where
-    here : next.place ≡ view.place
-    here = k.at ∙ sym h.at
-
-    both : (x ≡ y) ↔ (take view.span.len xs ≡ take next.span.len ys)
-    both = equal_items view.place view.span next.span xs ys x y few are_x are_y p.shows
-        (subst (λ (at : Place). Shows at next.span ys y) here q.shows)
-
-    decides : Decides r (x ≡ y)
-    decides = (
-      λ e. both.1 (all-taken view.span.len xs p.exact ∙ same.0 e ∙ sym (all-taken next.span.len ys q.exact)),
-      λ e. same.1 (sym (all-taken view.span.len xs p.exact) ∙ both.0 e ∙ all-taken next.span.len ys q.exact),
-    )
+-- what decides whether two items are equal is their comparison
+pub same-items : (x y : Item) (r : Bool) → IsTrue r ↔ (x ≡ y) → r ≡ item.eq-value.it x y
+same-items x y r same = same_from_decides r (item.eq-value.it x y) (same.0, same.1) (item_decides x y)
 
 -- an item's bytes are its one spelling
 pub spelled-at : (place : Place) (reader : ItemReader) (view : ItemView) (x : Item) (bytes : List ℕ) → HoldsAt place reader view x

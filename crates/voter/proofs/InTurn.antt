@@ -2,11 +2,13 @@
 use Rattle.std.proofs.Common.{◌≡◌, ◌≢◌, inl, ◌<◌, ◌+◌, ℕ, zero, suc, true, false, List, [], ◌∷◌, ◌++◌, map, length, get_or, set}
 use Rattle.std.proofs.Common.{Option, Some, None, Result, Ok, Err, refl, sym, ap, subst, ◌∙◌, append_assoc, length-append, arith}
 use Rattle.std.specs.Prelude.{is_some}
-use Rattle.std.specs.List.{AllByRecursion}
+use Rattle.std.specs.List.{AllByRecursion, Contains}
+use Rattle.det_edges.specs.declared.failure.Failure.{Failure}
+use Rattle.det_edges.specs.declared.failure.Failure.TheVariants.{Read, Write, OutOfMemory}
 use Rattle.det_edges.specs.declared.failure.Stopped.{Stopped}
 use Rattle.det_edges.specs.declared.failure.Stopped.TheVariants.{Refused, Failed}
-use Rattle.det_edges.specs.Shelf.{ShelfState, IsAtEnd}
-use Rattle.det_edges.proofs.SlotReads.{gave-none, kept-then, kept-same}
+use Rattle.det_edges.specs.Shelf.{ShelfState, Reads, IsAtEnd}
+use Rattle.det_edges.proofs.SlotReads.{gave-none, gave-reads, kept-then, kept-same}
 use Rattle.record_grammar.specs.declared.fault.RecordFault.{RecordFault}
 use Rattle.record_grammar.specs.declared.item.Item.{Item}
 use Rattle.record_grammar.specs.declared.place.Place.TheVariants as places
@@ -25,7 +27,7 @@ use Rattle.voter.specs.declared.reading.RowView.{RowView}
 use Rattle.voter.specs.declared.reading.RowView.TheVariants as views
 use Rattle.voter.specs.declared.reading.Voter.{Voter}
 use Rattle.voter.specs.Rows.{voter_slot, VoterIs, AreVoters, VoteIs, HaveVotes, HoldsAs, HoldsRow, AreHeld, place_behind, view_answer}
-use Rattle.voter.specs.Rows.{HasLeft, RowGiven, ReadIs, RowsRead}
+use Rattle.voter.specs.Rows.{HasLeft, FailedAt, RowGiven, ReadIs, RowsRead}
 use Rattle.voter.proofs.Spelled.{leads-place}
 
 -- ---- one copy
@@ -47,6 +49,17 @@ module _ {first mid now : ShelfState} {given : List Item} {slot : ℕ} {reader :
   end-given None holds row = (rows.Whole, row, tt)
   end-given (Some x) holds row = absurd holds
 
+  failed-given : (failure : Failure) → HasRead mid now reader (ItemIs (Err (Failed failure)) next (IsAtEnd now (slot_of reader)))
+      → FailedAt failure first now given slot
+  failed-given Read p = let shown = (p.2 h.read given h.stands).1 in record {
+    read = h.read ++ p.0;
+    gave = gave-reads h.gave (subst (λ (k : ℕ). Reads mid now k p.0) h.at p.1);
+    items = shown.1;
+    sound = shown.2;
+  }
+  failed-given Write p = absurd (p.2 h.read given h.stands).1
+  failed-given OutOfMemory p = tt
+
   pub row-given : (answer : Result (Option ItemView) (Stopped RecordFault))
       → HasRead mid now reader (ItemIs answer next (IsAtEnd now (slot_of reader))) → RowGiven (view_answer answer) first now given slot next
   row-given (Ok (Some view)) p =
@@ -54,7 +67,7 @@ module _ {first mid now : ShelfState} {given : List Item} {slot : ℕ} {reader :
       item-given view c.0 (stands-behind view next (h.read ++ p.0) given (p.2 h.read given h.stands).1) c.1 c.2
   row-given (Ok None) p = let c = copy-next next 0 at h (Ok None) p in end-given c.0 c.1 c.2
   row-given (Err (Refused f)) p = let c = copy-next next 0 at h (Err (Refused f)) p in (rows.Fault f, c.1, tt)
-  row-given (Err (Failed failure)) p = copy-next next 0 at h (Err (Failed failure)) p
+  row-given (Err (Failed failure)) p = failed-given failure p
 
 -- a copy in step
 pub step-behind : {first now : ShelfState} {given : List Item} {slot : ℕ} {reader : ItemReader} (left : Option ℕ) → is_some left ≡ false
@@ -172,15 +185,21 @@ slot-among P first now given (s ∷ slots) (v ∷ voters) (row ∷ more) d h les
 slot-among P first now given [] voters (row ∷ more) d h less all = absurd h
 slot-among P first now given (s ∷ slots) [] (row ∷ more) d h less all = absurd h
 
--- what the next copy is
+-- an element stays one when another comes before it
+contains-more : (s : ℕ) (slots : List ℕ) (slot : ℕ) → Contains slots slot → Contains (s ∷ slots) slot
+contains-more s slots slot h = let less = h.1 in (suc h.0, omega (arith, less), h.2)
+
+-- what the next copy is, and its slot
 pub next-is : (first now : ShelfState) (given : List Item) (slots : List ℕ) (voters : List Voter) (more : List (Option Row)) (d : Voter)
     → HaveFirst first now given slots voters more → length more < length voters
-    → (slot : ℕ) × VoterIs (get_or voters (length more) d).left first now given slot (get_or voters (length more) d).reader
+    → (slot : ℕ) × Contains slots slot
+    × VoterIs (get_or voters (length more) d).left first now given slot (get_or voters (length more) d).reader
 next-is first now given slots [] [] d h less = absurd (omega (arith, less))
 next-is first now given [] (v ∷ voters) [] d h less = absurd h
-next-is first now given (s ∷ slots) (v ∷ voters) [] d h less = (s, h.0)
+next-is first now given (s ∷ slots) (v ∷ voters) [] d h less = (s, (0, omega arith, refl), h.0)
 next-is first now given (s ∷ slots) (v ∷ voters) (row ∷ more) d h less =
-    next-is first now given slots voters more d h.2 (omega (arith, less))
+    let rest = next-is first now given slots voters more d h.2 (omega (arith, less)) in
+    (rest.0, contains-more s slots rest.0 rest.1, rest.2)
 next-is first now given [] voters (row ∷ more) d h less = absurd h
 next-is first now given (s ∷ slots) [] (row ∷ more) d h less = absurd h
 
@@ -281,10 +300,10 @@ module _ (voters : List Voter) (index : ℕ) (old : Voter) (less : index < lengt
 
   -- what it was
   pub was-here : {first now : ShelfState} {given : List Item} {slots : List ℕ} → HaveRows index first now given slots voters
-      → (slot : ℕ) × VoterIs old.left first now given slot old.reader
+      → (slot : ℕ) × Contains slots slot × VoterIs old.left first now given slot old.reader
   was-here {first} {now} {given} {slots} h =
       let n = next-is first now given slots voters h.more old h.have (subst (λ k. k < length voters) (sym h.count) less) in
-      (n.0, subst (λ (v : Voter). VoterIs v.left first now given n.0 v.reader) (here h.more h.count) n.1)
+      (n.0, n.1, subst (λ (v : Voter). VoterIs v.left first now given n.0 v.reader) (here h.more h.count) n.2)
 
   -- it was read too
   pub rows-here : {first mid now : ShelfState} {given : List Item} {slots : List ℕ} (next : Voter)
@@ -301,15 +320,15 @@ module _ (voters : List Voter) (index : ℕ) (old : Voter) (less : index < lengt
         r.2 (subst (λ (v : Voter). ReadsAmong mid now (slot_of v.reader ∷ [])) (sym (here h.more h.count)) among));
   }
     where
-      n : (slot : ℕ) × VoterIs old.left first mid given slot old.reader
+      n : (slot : ℕ) × Contains slots slot × VoterIs old.left first mid given slot old.reader
       n = was-here h
 
       r : (row : Option Row) × VoteIs next.left row first now given n.0 next.reader × HoldsRow (place_behind given) next row
-      r = read n.0 n.1
+      r = read n.0 n.2
 
       vote : (slot : ℕ) → VoterIs old.left first mid given slot old.reader → VoteIs next.left r.0 first now given slot next.reader
       vote slot b = subst (λ (k : ℕ). VoteIs next.left r.0 first now given k next.reader)
-          (sym (voter-at first mid given n.0 old.reader old.left n.1) ∙ voter-at first mid given slot old.reader old.left b) r.1
+          (sym (voter-at first mid given n.0 old.reader old.left n.2) ∙ voter-at first mid given slot old.reader old.left b) r.1
 
   -- what was read of all copies is needed
   pub needed-here : {first mid now : ShelfState} {given : List Item} {slots : List ℕ} → HaveRows index first mid given slots voters
@@ -318,7 +337,7 @@ module _ (voters : List Voter) (index : ℕ) (old : Voter) (less : index < lengt
   needed-here {first} {mid} {now} {given} {slots} h one among all =
       let n = was-here h in
       needed-next first mid now (length given) n.0 slots
-      (subst (λ (k : ℕ). ReadsAmong mid now (k ∷ [])) (voter-at first mid given n.0 old.reader old.left n.1) among) (one n.0 n.1) all
+      (subst (λ (k : ℕ). ReadsAmong mid now (k ∷ [])) (voter-at first mid given n.0 old.reader old.left n.2) among) (one n.0 n.2) all
 
 pub rows-none : {first now : ShelfState} {given : List Item} {slots : List ℕ} {voters : List Voter}
     → AreVoters first now given slots voters → HaveRows 0 first now given slots voters

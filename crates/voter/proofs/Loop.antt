@@ -33,7 +33,7 @@ use Rattle.voter.proofs.Counting.{most-true, count-cons}
 use Rattle.voter.proofs.Held.{items-from}
 use Rattle.voter.proofs.Told.{held-told}
 use Rattle.voter.proofs.InTurn.{voters-slots}
-use Rattle.voter.proofs.Deciding.{failed, elected}
+use Rattle.voter.proofs.Deciding.{memory-failed, elected}
 
 -- ---- a copy in step
 
@@ -131,7 +131,7 @@ pub decided : (first old now : ShelfState) (given : List Item) (slots : List ℕ
     → TellsVote result new → Grew out.before out.after (spelled_items given) → HasVoted result first now slots out
 decided first old now given slots voters new out (Ok vote) h d t grew = elected first now given slots new vote out d t.0 t.1 grew
 decided first old now given slots voters new out (Err (Failed OutOfMemory)) h d t grew =
-    failed first old now given slots voters.voters.items out OutOfMemory h.readers h.most grew (λ e. cc)
+    memory-failed first old now given slots voters.voters.items out h.readers h.most grew
 decided first old now given slots voters new out (Err (Failed Read)) h d t grew = absurd t
 decided first old now given slots voters new out (Err (Failed Write)) h d t grew = absurd t
 decided first old now given slots voters new out (Err (Refused split)) h d t grew = absurd t

@@ -1,11 +1,11 @@
 -- Copies that are in step or left, and the rows that they hold.
-use Rattle.std.specs.Prelude.{◌≡◌, ◌≢◌, ℕ, ◌+◌, ◌<◌, List, [], ◌∷◌, length, get_or, Bool, true}
+use Rattle.std.specs.Prelude.{◌≡◌, ℕ, ◌+◌, ◌<◌, List, [], ◌∷◌, length, get_or, Bool, true}
 use Rattle.std.specs.Prelude.{false, cond, map, take, Option, Some, None, Result, Ok, Err, is_none}
-use Rattle.std.specs.List.{count_by}
+use Rattle.std.specs.List.{count_by, Contains}
 use Rattle.std.specs.Option.{option_or}
 use Rattle.det_edges.specs.Shelf.{ShelfState}
 use Rattle.det_edges.specs.declared.failure.Failure.{Failure}
-use Rattle.det_edges.specs.declared.failure.Failure.TheVariants.{Write}
+use Rattle.det_edges.specs.declared.failure.Failure.TheVariants.{Read, Write, OutOfMemory}
 use Rattle.det_edges.specs.declared.failure.Stopped.{Stopped}
 use Rattle.det_edges.specs.declared.failure.Stopped.TheVariants.{Refused, Failed}
 use Rattle.record_grammar.specs.declared.fault.RecordFault.{RecordFault}
@@ -27,6 +27,7 @@ use Rattle.voter.specs.declared.reading.RowView.{RowView}
 use Rattle.voter.specs.declared.reading.RowView.TheVariants as views
 use Rattle.voter.specs.declared.reading.Voter.{Voter}
 use Rattle.voter.specs.Majority.{is_most}
+use Rattle.voter.specs.Voted.{ShowsRows}
 
 -- ---- rows
 
@@ -144,24 +145,38 @@ view_answer (Ok None) = Ok views.Whole
 view_answer (Err (Refused found)) = Ok views.Fault
 view_answer (Err (Failed failure)) = Err failure
 
+-- why a slot gave no row behind the items given: where a read failed, all that was read of it shows
+-- these and no more
+abbrev pub FailedAt : Failure → ShelfState → ShelfState → List Item → ℕ → Type 0
+FailedAt Read first now given slot = ShowsRows first now given slot
+FailedAt Write first now given slot = ⊥
+FailedAt OutOfMemory first now given slot = Unit {0}
+
+-- the same of one of several slots
+abbrev pub FailedAmong : Failure → ShelfState → ShelfState → List Item → List ℕ → Type 0
+FailedAmong failure first now given slots =
+    (slot : ℕ) × Contains slots slot × FailedAt failure first now given slot
+
 abbrev pub RowGiven : Result RowView Failure → ShelfState → ShelfState → List Item → ℕ
     → ItemReader → Type 0
 RowGiven (Ok view) first now given slot reader = (row : Row)
     × ReaderAtRow first now given slot reader row
     × HoldsAs (Some view) (place_behind given) reader (Some row)
-RowGiven (Err failure) first now given slot reader = failure ≢ Write
+RowGiven (Err failure) first now given slot reader =
+    FailedAt failure first now given slot
 
 abbrev pub ReadIs : Result (Unit {0}) Failure → ShelfState → ShelfState → List Item → ℕ → Voter
     → Type 0
 ReadIs (Ok u) first now given slot v = (row : Option Row)
     × VoteIs v.left row first now given slot v.reader × HoldsRow (place_behind given) v row
-ReadIs (Err failure) first now given slot v = failure ≢ Write
+ReadIs (Err failure) first now given slot v = FailedAt failure first now given slot
 
 abbrev pub RowsRead : Result (Unit {0}) Failure → ShelfState → ShelfState → List Item → List ℕ
     → List Voter → Type 0
 RowsRead (Ok u) first now given slots voters = (more : List (Option Row))
     × HaveVotes first now given slots voters more × AreHeld (place_behind given) voters more
-RowsRead (Err failure) first now given slots voters = failure ≢ Write
+RowsRead (Err failure) first now given slots voters =
+    FailedAmong failure first now given slots
 
 -- a copy stays in step, or leaves in the row of this number if it hasn't left before
 abbrev pub stayed : Bool → ℕ → Voter → Voter

@@ -24,7 +24,7 @@ use Rattle.voter.specs.declared.reading.Voter.{Voter}
 use Rattle.voter.specs.declared.voters.HeldItem.{HeldItem}
 use Rattle.voter.specs.declared.voters.Voters.{Voters}
 use Rattle.voter.specs.Majority.{is_most, majority, common}
-use Rattle.voter.specs.Rows.{is_in_step, AreVoters, HoldsAt, place_behind}
+use Rattle.voter.specs.Rows.{is_in_step, AreVoters, HoldsAt, place_behind, FailedAmong}
 
 -- more than half of the copies are in step
 abbrev pub AreMost : List Voter → Type 0
@@ -106,8 +106,8 @@ RowTaken (Ok (Some held)) first now given slots voters = (item : Item)
 RowTaken (Ok None) first now given slots voters = Decided first now given slots voters
 RowTaken (Err (Refused split)) first now given slots voters = (split.row ≡ length given)
     × ((copies : List (List ℕ)) → AreLeft first slots copies → AreSplit given copies)
-RowTaken (Err (Failed Write)) first now given slots voters = ⊥
-RowTaken (Err (Failed failure)) first now given slots voters = Unit {0}
+RowTaken (Err (Failed failure)) first now given slots voters =
+    FailedAmong failure first now given slots
 
 -- an item more is counted
 abbrev pub Counts : Option HeldItem → Voters → Voters → Type 0

@@ -1,10 +1,9 @@
 //! Which row more than half of the copies hold.
-ghost use Rattle.std.specs.Prelude.{◌≡◌, ◌<◌, ◌≤◌, ◌↔◌, IsTrue, List, Some, None, cond, length};
+ghost use Rattle.std.specs.Prelude.{◌≡◌, ◌<◌, ◌≤◌, List, Some, None, cond, length};
 ghost use Rattle.std.specs.Prelude.{Option, get_or};
 ghost use Rattle.record_grammar.specs.declared.item.Item.{Item};
 ghost use Rattle.record_grammar.specs.declared.place.Place.{Place};
 ghost use Rattle.record_grammar.specs.contracts.item.ItemPartialEq.TheImpl as item;
-ghost use Rattle.record_grammar.specs.Spelling.{AreBytes};
 ghost use Rattle.lockstep.specs.declared.row.Row.{Row};
 ghost use Rattle.lockstep.specs.declared.row.Row.TheVariants as rows;
 ghost use Rattle.voter.specs.Rows.{same_row, HoldsAt, HoldsRow, AreHeld, AreHolders, MostHeld};
@@ -12,7 +11,7 @@ ghost use Rattle.voter.specs.Rows.{parted};
 
 use crate::reading::{RowView, Voter};
 use item_reader::ItemReader;
-use record_view::{ItemView, events_at};
+use record_view::{ItemView, are_equal};
 
 /// The copies that hold a row.
 #[derive(Clone, Copy, Drop)]
@@ -69,7 +68,7 @@ fn is_whole(other: &Voter) -> bool
     }
 }
 
-/// Whether two readers gave equal items last, in one place: their bytes are equal.
+/// Whether two readers gave equal items last, in one place.
 fn are_same_items(
     reader: &ItemReader,
     view: ItemView,
@@ -81,16 +80,39 @@ fn are_same_items(
     ensures { (place : Place) (x y : Item) → HoldsAt place reader.now view x
         → HoldsAt place other.now other_view y → result ≡ item.eq-value.it x y }
 {
-    let _events = events_at(view.place);
-    are_equal(reader.bytes(view), other.bytes(other_view))
+    are_equal(
+        view,
+        reader.bytes(view),
+        other_view,
+        other.bytes(other_view),
+    )
 }
 
-/// Whether two slices have the same bytes. Its second clause says what each slice is known for.
-fn are_equal(left: &[u8], right: &[u8]) -> bool
-    ensures equal { IsTrue result ↔ (left.now ≡ right.now) }
-    ensures bytes { AreBytes left.now × AreBytes right.now }
+/// Whether a copy holds a row that equals itself.
+fn may_be_held(voter: &Voter) -> bool
+    ensures { (place : Place) (row : Option Row) → HoldsRow place voter.now row
+        → result ≡ same_row row row }
 {
-    left == right
+    match voter.row {
+        Some(RowView::Item(_)) => true,
+        Some(RowView::Whole) => true,
+        Some(RowView::Fault) => false,
+        None => false,
+    }
+}
+
+/// Whether a copy holds the row of another one. No row is compared with itself.
+fn holds_row_of(voters: &[Voter], first: usize, at: usize) -> bool
+    requires first { first < length voters.now }
+    requires at { at < length voters.now }
+    requires rows { (place : Place) × (more : List (Option Row)) × AreHeld place voters.now more }
+    ensures { (place : Place) (more : List (Option Row)) → AreHeld place voters.now more
+        → result ≡ same_row (get_or more first None) (get_or more at None) }
+{
+    if at == first {
+        return may_be_held(&voters[first]);
+    }
+    are_same(&voters[first], &voters[at])
 }
 
 fn one_if(holds: bool) -> usize
@@ -111,7 +133,7 @@ fn holders_of(voters: &[Voter], first: usize) -> Holders
     let mut same = [false; 7];
     let mut count = 0;
     'voters: for at in 0..voters.len() {
-        let holds = are_same(&voters[first], &voters[at]);
+        let holds = holds_row_of(voters, first, at);
         same[at] = holds;
         count += one_if(holds);
     }

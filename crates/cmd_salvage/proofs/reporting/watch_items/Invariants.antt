@@ -1,8 +1,8 @@
 use Rattle.std.proofs.Common.{None}
 use Rattle.det_edges.specs.Traffic.{ShelfTraffic, shelf_run}
 use Rattle.probes.specs.Shows.{seen}
-use Rattle.record_reader.specs.StandsFor.{slot_of, room}
-use Rattle.record_reader.proofs.Taking.{Running}
+use Rattle.item_reader.specs.StandsFor.{slot_of, room}
+use Rattle.record_reader.proofs.Views.{Running}
 use Rattle.cmd_salvage.specs.Watching.{watching, no_sink}
 use Rattle.cmd_salvage.proofs.reporting.watch_items.Given as goal
 

@@ -1,8 +1,8 @@
 use Rattle.det_edges.specs.Traffic.{shelf_run, sink_run}
 use Rattle.probes.specs.Shows.{seen}
-use Rattle.record_reader.specs.StandsFor.{slot_of}
+use Rattle.item_reader.specs.StandsFor.{slot_of}
 use Rattle.cmd_salvage.specs.Salvage.{salvage_reports_outcome}
-use Rattle.cmd_salvage.proofs.Meeting.{meets-left, saw-left, at-done}
+use Rattle.cmd_salvage.proofs.Meeting.{meets-left, saw-left, at-done, at-fault}
 use Rattle.cmd_salvage.proofs.salvaging.report_slot.Goals as goal
 
 pub returns-clause-meets : goal.returns-clause-meets
@@ -10,8 +10,8 @@ returns-clause-meets g c bytes =
     let s = c.report_run-reported in
     let old = seen (λ b. (goal.Probe-dyn g (b.vtable, b.value)).life b.value) c.args.audience.now in
     meets-left s.result c.answer_of.result (salvage_reports_outcome old) s.ensures.run.0
-    (shelf_run g.S.Slots.sees g.S.Slots.stays c.args.shelf.now s.new.shelf) (slot_of c.at-reader.result) c.args.slot
-    (sink_run g.K.Sink.took g.K.Sink.faults c.args.out.now s.new.sink) c.answer_of.ensures.is c.at-reader.ensures.slot
+    (shelf_run g.S.Slots.sees g.S.Slots.stays c.args.shelf.now s.new.shelf) (slot_of c.new-reader.result) c.args.slot
+    (sink_run g.K.Sink.took g.K.Sink.faults c.args.out.now s.new.sink) c.answer_of.ensures.is c.new-reader.ensures.slot
     s.ensures.run.1.gives bytes s.ensures.shelf_traffic s.ensures.sink_traffic
 
 pub returns-clause-saw : goal.returns-clause-saw
@@ -20,8 +20,8 @@ returns-clause-saw g c bytes ne t =
     let old = seen (λ b. (goal.Probe-dyn g (b.vtable, b.value)).life b.value) c.args.audience.now in
     let now = seen (λ b. (goal.Probe-dyn g (b.vtable, b.value)).life b.value) s.new.audience in
     saw-left s.result c.answer_of.result old now s.ensures.run.0
-    (shelf_run g.S.Slots.sees g.S.Slots.stays c.args.shelf.now s.new.shelf) (slot_of c.at-reader.result) c.args.slot
-    c.answer_of.ensures.is c.at-reader.ensures.slot s.ensures.run.1.sees bytes ne t
+    (shelf_run g.S.Slots.sees g.S.Slots.stays c.args.shelf.now s.new.shelf) (slot_of c.new-reader.result) c.args.slot
+    c.answer_of.ensures.is c.new-reader.ensures.slot s.ensures.run.1.sees bytes ne t
 
 pub returns-clause-asked : goal.returns-clause-asked
 returns-clause-asked g c = c.report_run-reported.ensures.run.1.gives.reads.asked
@@ -30,3 +30,8 @@ pub returns-clause-gone : goal.returns-clause-gone
 returns-clause-gone g c =
     let s = c.report_run-reported in
     at-done s.result c.answer_of.result c.answer_of.ensures.is s.ensures.run.1.gone
+
+pub returns-clause-broken : goal.returns-clause-broken
+returns-clause-broken g c =
+    let s = c.report_run-reported in
+    at-fault s.result c.answer_of.result c.answer_of.ensures.is s.ensures.run.1.broken

@@ -4,6 +4,7 @@ use Rattle.det_edges.proofs.Counts.{rose-before}
 use Rattle.cli_answers.specs.Outcome.{told}
 use Rattle.cli_answers.proofs.Meeting.{meets-unopened, meets-under}
 use Rattle.cli_answers.proofs.Telling.{held}
+use Rattle.cmd_salvage.proofs.Meeting.{broken-off, unopened}
 use Rattle.cmd_salvage.proofs.salvaging.salvage.Goals as goal
 
 pub returns-in-Err-clause-meets : goal.returns-in-Err-clause-meets
@@ -23,3 +24,14 @@ returns-clause-meets g c =
 
 pub returns-clause-asked : goal.returns-clause-asked
 returns-clause-asked g c = asks-all _ _ _ (asks-then-kept c.in-Ok.ensures.asked c.salvage_slot.ensures.asked)
+
+pub returns-in-Err-clause-broken : goal.returns-in-Err-clause-broken
+returns-in-Err-clause-broken g c e t = unopened c.args.recorded.now (g.K.Sink.took c.args.out.now) c.in-Err.ensures.slots
+
+pub returns-clause-broken : goal.returns-clause-broken
+returns-clause-broken g c e t =
+    let first = g.S.Slots.sees c.args.shelf.now in
+    let name = c.args.recorded.now in
+    let text = told first name in
+    broken-off c.in-Ok.ensures.opens (c.salvage_slot.ensures.broken text e
+    (opens-left text c.in-Ok.ensures.opens (held (first.holds name) (t 0 name (omega arith)))))

@@ -1,6 +1,7 @@
 use Rattle.std.proofs.Common.{arith}
 use Rattle.det_edges.proofs.Opening.{asks-all, asks-then-kept, opens-left}
 use Rattle.det_edges.proofs.Counts.{rose-before}
+use Rattle.det_edges.proofs.Growth.{grew-none}
 use Rattle.cli_answers.specs.Outcome.{told}
 use Rattle.cli_answers.proofs.Meeting.{meets-unopened, meets-under}
 use Rattle.cli_answers.proofs.Telling.{held}
@@ -34,3 +35,6 @@ returns-clause-saw g c ne t =
 
 pub returns-clause-asked : goal.returns-clause-asked
 returns-clause-asked g c = asks-all _ _ _ (asks-then-kept c.in-Ok.ensures.asked c.report_slot.ensures.asked)
+
+pub returns-in-Err-clause-broken : goal.returns-in-Err-clause-broken
+returns-in-Err-clause-broken g c e = grew-none (g.K.Sink.took c.args.out.now)

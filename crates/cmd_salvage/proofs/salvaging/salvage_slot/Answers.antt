@@ -1,7 +1,7 @@
 use Rattle.det_edges.specs.Traffic.{shelf_run, sink_run}
-use Rattle.record_reader.specs.StandsFor.{slot_of}
+use Rattle.item_reader.specs.StandsFor.{slot_of}
 use Rattle.cmd_salvage.specs.Salvage.{salvage_outcome}
-use Rattle.cmd_salvage.proofs.Meeting.{slot-gives, meets-left}
+use Rattle.cmd_salvage.proofs.Meeting.{slot-gives, meets-left, saved-part}
 use Rattle.cmd_salvage.proofs.salvaging.salvage_slot.Goals as goal
 
 pub returns-clause-meets : goal.returns-clause-meets
@@ -9,9 +9,14 @@ returns-clause-meets g c bytes =
     let s = c.salvage_run-saved in
     let out = sink_run g.K.Sink.took g.K.Sink.faults c.args.out.now s.new.sink in
     meets-left s.result c.answer_of.result salvage_outcome s.ensures.run.0
-    (shelf_run g.S.Slots.sees g.S.Slots.stays c.args.shelf.now s.new.shelf) (slot_of c.at-reader.result) c.args.slot
-    out c.answer_of.ensures.is c.at-reader.ensures.slot
+    (shelf_run g.S.Slots.sees g.S.Slots.stays c.args.shelf.now s.new.shelf) (slot_of c.new-reader.result) c.args.slot
+    out c.answer_of.ensures.is c.new-reader.ensures.slot
     (slot-gives s.result out s.ensures.run.1.answers) bytes s.ensures.shelf_traffic s.ensures.sink_traffic
 
 pub returns-clause-asked : goal.returns-clause-asked
 returns-clause-asked g c = c.salvage_run-saved.ensures.run.1.answers.reads.asked
+
+pub returns-clause-broken : goal.returns-clause-broken
+returns-clause-broken g c bytes e t =
+    let s = c.salvage_run-saved in
+    saved-part s.result c.answer_of.result c.args.slot c.answer_of.ensures.is c.new-reader.ensures.slot s.ensures.run.1 bytes e t

@@ -1,7 +1,9 @@
-use Rattle.std.proofs.Common.{arith}
+use Rattle.std.proofs.Common.{sym, ◌∙◌, arith}
+use Rattle.std.proofs.lemmas.List.{length-map}
 use Rattle.det_edges.specs.Traffic.{sink_run}
-use Rattle.open_names.proofs.Copies.{as-many, are-given, are-different}
+use Rattle.open_names.proofs.Copies.{texts, as-many, are-given, are-different}
 use Rattle.cmd_vote.proofs.Meeting.{meets-voted}
+use Rattle.cmd_vote.proofs.Breaking.{unopened, vote-broke}
 use Rattle.cmd_vote.proofs.voting.vote.Goals as goal
 
 pub vote-requires-clause-some : goal.vote-requires-clause-some
@@ -29,3 +31,17 @@ returns-clause-meets g c =
     rw c.answer_of.ensures.is
     (meets-voted c.args.recorded.now c.deref.ensures.value c.in-Ok.ensures.opened last _ c.in-Ok.ensures.traffic.counted out c.vote.result
     c.vote.ensures.voted c.vote.ensures.shelf_traffic c.vote.ensures.sink_traffic)
+
+pub returns-in-Err-clause-broken : goal.returns-in-Err-clause-broken
+returns-in-Err-clause-broken g c fault tells =
+    let many = length-map c.args.recorded.now (λ name. name.now) in
+    let some = c.requires.some in
+    unopened (g.S.Slots.sees c.args.shelf.now) (g.S.Slots.sees c.open_all.new.shelf) (texts c.args.recorded.now)
+    (g.K.Sink.took c.args.out.now) c.in-Err.failure (λ e. let fewer = c.in-Err.ensures.unopened e in omega (arith, fewer, many))
+    (omega (arith, some, many)) (sym c.from.ensures ∙ fault)
+
+pub returns-clause-broken : goal.returns-clause-broken
+returns-clause-broken g c fault tells =
+    vote-broke c.args.recorded.now c.deref.ensures.value c.in-Ok.ensures.opened (g.S.Slots.sees c.vote.new.shelf)
+    (sink_run g.K.Sink.took g.K.Sink.faults c.args.out.now c.vote.new.sink) c.vote.result c.vote.ensures.voted
+    (sym c.answer_of.ensures.is ∙ fault) tells

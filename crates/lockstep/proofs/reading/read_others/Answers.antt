@@ -4,7 +4,7 @@ use Rattle.std.specs.Option.{option_or}
 use Rattle.std.specs.List.{AllByRecursion}
 use Rattle.det_edges.specs.declared.failure.Stopped.{Stopped}
 use Rattle.item_reader.specs.StandsFor.{slot_of}
-use Rattle.record_reader.proofs.Reading.{passed-on}
+use Rattle.item_reader.proofs.Passing.{passed-on}
 use Rattle.lockstep.specs.declared.verdict.BadCopy.{BadCopy}
 use Rattle.lockstep.specs.declared.verdict.Verdict.{Verdict}
 use Rattle.lockstep.specs.Copies.{row_of, OthersRead}

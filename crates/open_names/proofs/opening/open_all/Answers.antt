@@ -1,11 +1,18 @@
-use Rattle.std.proofs.Common.{subst, sym, ap, ◌∙◌, is_ok, List, ℕ, rules}
+use Rattle.std.proofs.Common.{subst, sym, ap, ◌∙◌, is_ok, List, ℕ, rules, arith}
 use Rattle.open_names.specs.Opened.{Opened}
-use Rattle.open_names.proofs.Opened.{opened-next, pushed, texts-next, asks-next, asks-first}
+use Rattle.open_names.proofs.Opened.{opened-next, pushed, texts-next, texts-fewer, asks-next, asks-first}
 use Rattle.open_names.proofs.opening.open_all.Goals as goal
 
 pub returns-in_err-slot-clause-asked : goal.returns-in_err-slot-clause-asked
 returns-in_err-slot-clause-asked g c =
     asks-first c.args.names.now c.names.name-index _ c.names-test.true c.names.invariant.asked c.in_err-slot.ensures.asked
+
+pub returns-in_err-slot-clause-unopened : goal.returns-in_err-slot-clause-unopened
+returns-in_err-slot-clause-unopened g c e =
+    let stay = c.in_err-slot.ensures.slots.slots in
+    let count = c.names.invariant.opened.count in
+    let fewer = texts-fewer c.args.names.now c.names.name-index c.names-test.true in
+    omega (arith, stay, count, fewer)
 
 pub returns-in_err-map_err-clause-asked : goal.returns-in_err-map_err-clause-asked
 returns-in_err-map_err-clause-asked g c =

@@ -1,8 +1,8 @@
 use Rattle.std.proofs.Common.{None}
 use Rattle.det_edges.specs.Traffic.{ShelfTraffic, SinkTraffic, shelf_run, sink_run}
-use Rattle.record_reader.specs.StandsFor.{slot_of, room}
+use Rattle.item_reader.specs.StandsFor.{slot_of, room}
 use Rattle.record_reader.specs.Keeping.{salvaging}
-use Rattle.record_reader.proofs.Taking.{Running}
+use Rattle.record_reader.proofs.Views.{Running}
 use Rattle.record_reader.proofs.salvaging.keep_all.Given as goal
 
 abbrev pub invariant-items : goal.invariant-items

@@ -6,7 +6,7 @@ use Rattle.record_grammar.specs.declared.fault.RecordFault.{RecordFault}
 use Rattle.record_view.specs.declared.view.ItemView.{ItemView}
 use Rattle.item_reader.specs.StandsFor.{GaveView, RoomFell, slot_of, room}
 use Rattle.record_reader.specs.Taking.{IsNext, Takes, ItemsRead}
-use Rattle.record_reader.proofs.Reading.{passed-on}
+use Rattle.item_reader.proofs.Passing.{passed-on}
 use Rattle.record_reader.proofs.Taking.{lifts-same, no-read}
 use Rattle.record_reader.proofs.Views.{Answered, answered, running-new, next-first, next-given, running-next, all-taken, reader-stopped}
 use Rattle.record_reader.proofs.Views.{taker-stopped, no-write, none-left}

@@ -8,7 +8,7 @@ use Rattle.det_edges.proofs.Growth.{grew-none}
 use Rattle.probes.specs.Shows.{seen}
 use Rattle.record_grammar.specs.declared.fault.RecordFault.{RecordFault}
 use Rattle.item_reader.specs.StandsFor.{slot_of}
-use Rattle.record_reader.proofs.Reading.{passed-on}
+use Rattle.item_reader.proofs.Passing.{passed-on}
 use Rattle.record_reader.specs.Taking.{ItemsRead}
 use Rattle.record_text.specs.declared.part.ShowPart.{ShowPart}
 use Rattle.record_show.specs.declared.shown.Shown.{Shown}

@@ -7,7 +7,7 @@ use Rattle.record_grammar.specs.declared.fault.RecordFault.{RecordFault}
 use Rattle.record_grammar.specs.declared.item.Item.{Item}
 use Rattle.record_grammar.specs.declared.item.Item.TheVariants as items
 use Rattle.record_reader.specs.StandsFor.{RoomFell, slot_of, room}
-use Rattle.record_reader.proofs.Reading.{passed-on}
+use Rattle.item_reader.proofs.Passing.{passed-on}
 use Rattle.record_reader.proofs.Taking.{none-left}
 use Rattle.replayer.specs.Giving.{HasGiven, ReadsOn, InputIs}
 use Rattle.replayer.proofs.Giving.{given-item, then-skipped, then-input, then-all, then-stopped}

@@ -1,12 +1,14 @@
-use Rattle.std.proofs.Common.{◌≤◌, arith}
-use Rattle.record_view.specs.Shows.{events_of}
+use Rattle.std.proofs.Common.{sym, ◌∙◌}
 use Rattle.voter.proofs.Holding.{same-items}
 use Rattle.voter.proofs.majority.are_same_items.Goals as goal
 
+pub are_equal-requires-clause-place : goal.are_equal-requires-clause-place
+are_equal-requires-clause-place c = c.requires.3.at ∙ sym c.requires.4.at
+
+pub are_equal-requires-clause-items : goal.are_equal-requires-clause-items
+are_equal-requires-clause-items c =
+    let r = c.requires in (r.1, r.2, c.bytes.ensures r.1 r.3.holds, c.bytes-2.ensures r.2 r.4.holds)
+
 pub returns : goal.returns
 returns c place x y h k =
-    let most : c.events_at-events.result ≤ 65536 = omega (arith, c.events_at-events.type_inv) in
-    let few : events_of c.args.view.place ≤ 65536 = rw c.events_at-events.ensures at most in
-    same-items place c.args.reader.now c.args.other.now c.args.view c.args.other_view x y c.bytes.result.now c.bytes-2.result.now
-    c.are_equal.result h k (c.bytes.ensures x h.holds) (c.bytes-2.ensures y k.holds) few c.are_equal.ensures.bytes.0
-    c.are_equal.ensures.bytes.1 c.are_equal.ensures.equal
+    same-items x y c.are_equal.result (c.are_equal.ensures x y (c.bytes.ensures x h.holds) (c.bytes-2.ensures y k.holds))

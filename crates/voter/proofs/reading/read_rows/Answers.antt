@@ -3,7 +3,7 @@ use Rattle.std.specs.Prelude.{Result, slice_set}
 use Rattle.std.specs.List.{AllByRecursion}
 use Rattle.item_reader.specs.StandsFor.{slot_of}
 use Rattle.det_edges.specs.declared.failure.Failure.{Failure}
-use Rattle.record_reader.proofs.Reading.{passed-on}
+use Rattle.item_reader.proofs.Passing.{passed-on}
 use Rattle.voter.specs.Rows.{voter_slot, RowsRead}
 use Rattle.voter.proofs.InTurn.{given-here, slots-here, among-here, was-here, rows-here, needed-here, rows-none, rows-all, voters-needed}
 use Rattle.voter.proofs.InTurn.{reads-same}
@@ -35,7 +35,7 @@ returns-in_err-read-clause-rows g c first given slots ne voters =
     (c.voters.invariant.have first given slots ne voters) in
     passed-on (λ (r : Result (Unit {0}) Failure). RowsRead r first (g.S.Slots.sees c.read.new.shelf) given slots
     (slice_set c.voters.voters.items c.voters.index c.read.new.self)) c.from_residual.result c.from_residual.ensures.1
-    (c.in_err-read.ensures.row first given was.0 was.1)
+    (was.0, was.1, c.in_err-read.ensures.row first given was.0 was.2)
 
 pub returns-in_err-read-clause-needed : goal.returns-in_err-read-clause-needed
 returns-in_err-read-clause-needed g c first given slots ne voters =

@@ -5,7 +5,7 @@ use Rattle.det_edges.specs.Traffic.{ShelfTraffic, SinkTraffic, shelf_run, sink_r
 use Rattle.det_edges.proofs.Growth.{grew-none, grew-then}
 use Rattle.det_edges.specs.Sink.{Grew}
 use Rattle.record_grammar.specs.Laws.{item_spelling}
-use Rattle.record_reader.proofs.Reading.{passed-on}
+use Rattle.item_reader.proofs.Passing.{passed-on}
 use Rattle.voter.specs.declared.outcome.NoMajority.{NoMajority}
 use Rattle.voter.specs.declared.outcome.Vote.{Vote}
 use Rattle.voter.specs.declared.voters.HeldItem.{HeldItem}

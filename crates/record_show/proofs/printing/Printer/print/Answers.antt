@@ -6,7 +6,7 @@ use Rattle.det_edges.proofs.Prefixes.{prefix-none}
 use Rattle.record_grammar.specs.declared.fault.RecordFault.{RecordFault}
 use Rattle.record_grammar.specs.Places.{format_of}
 use Rattle.record_reader.specs.Taking.{Wrote}
-use Rattle.record_reader.proofs.Reading.{passed-on}
+use Rattle.item_reader.proofs.Passing.{passed-on}
 use Rattle.record_show.specs.Showing.{printed_of}
 use Rattle.record_show.proofs.printing.Printer.print.Goals as goal
 

@@ -4,7 +4,7 @@ use Rattle.det_edges.specs.Traffic.{sink_run}
 use Rattle.probes.specs.Shows.{seen}
 use Rattle.record_grammar.specs.declared.fault.RecordFault.{RecordFault}
 use Rattle.record_reader.specs.Taking.{Takes}
-use Rattle.record_reader.proofs.Reading.{passed-on}
+use Rattle.item_reader.proofs.Passing.{passed-on}
 use Rattle.record_text.specs.declared.part.ShowPart.{ShowPart}
 use Rattle.record_show.specs.Text.{run_in}
 use Rattle.record_show.specs.Showing.{showing, Watched}

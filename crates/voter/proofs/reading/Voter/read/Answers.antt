@@ -1,7 +1,7 @@
 use Rattle.std.proofs.Common.{None, Some, rules}
 use Rattle.std.specs.Prelude.{Result}
 use Rattle.det_edges.specs.declared.failure.Failure.{Failure}
-use Rattle.record_reader.proofs.Reading.{passed-on}
+use Rattle.item_reader.proofs.Passing.{passed-on}
 use Rattle.voter.specs.Rows.{ReadIs}
 use Rattle.voter.proofs.InTurn.{left-read, step-behind, step-read, voter-needed}
 use Rattle.voter.proofs.reading.Voter.read.Goals as goal
