@@ -16,10 +16,11 @@ use Rattle.record_grammar.specs.declared.fault.RecordFault.{RecordFault}
 use Rattle.record_grammar.specs.declared.item.Item.{Item}
 use Rattle.record_grammar.specs.declared.item.Item.TheVariants as items
 use Rattle.record_grammar.specs.Record.{items as items_in, fault as fault_in}
-use Rattle.record_reader.specs.declared.reader.RecordReader.{RecordReader}
-use Rattle.record_reader.specs.StandsFor.{StandsFor, IsFaulty, FoundFault}
+use Rattle.record_reader.specs.declared.frames.FrameReader.{FrameReader}
+use Rattle.item_reader.specs.StandsFor.{IsFaulty, FoundFault}
+use Rattle.record_reader.specs.Frames.{StandsFor}
 use Rattle.record_reader.specs.Taking.{OfSlot}
-use Rattle.record_reader.proofs.Items.{more_items}
+use Rattle.record_reader.proofs.FrameReading.{more_items}
 use Rattle.record_reader.proofs.Taking.{told}
 use Rattle.probes.specs.Reports.{AudienceState}
 use Rattle.probes.specs.Shows.{Shows, SawRuns}
@@ -108,10 +109,10 @@ module _ {S G E L P : Type 0} (m : Meaning S G E L P) (profile : ProfileValue) w
           saw (runs_of front) bytes all.1 shown,
         )
 
-  module _ (slot : ℕ) (shelf : ShelfRun) (start : AudienceState) {mid : ShelfState} {seen : AudienceState} {old reader : RecordReader}
+  module _ (slot : ℕ) (shelf : ShelfRun) (start : AudienceState) {mid : ShelfState} {seen : AudienceState} {old reader : FrameReader}
       {recording : Recording S G E L P} {checker : Checker} {more : List ℕ} {front : List Frame}
       (comparing : Comparing m profile shelf.first mid slot start seen old reader recording checker more front)
-      (next : RecordReader) (read : List ℕ) (stands : StandsFor old read (items.Header profile ∷ [])) where
+      (next : FrameReader) (read : List ℕ) (stands : StandsFor old read (items.Header profile ∷ [])) where
     -- the record has a fault, or the reader failed
     pub reading-stopped : (why : Stopped RecordFault) → (n : Next m profile shelf.first shelf.last slot old next front (Err why))
         → IsChecked m profile start seen read slot shelf (Err why)
@@ -160,18 +161,19 @@ module _ {S G E L P : Type 0} (m : Meaning S G E L P) (profile : ProfileValue) w
         (whole front checker.cycles (read ++ n.all) is.2 is.3 comparing.agree comparing.cycles comparing.shown))
 
     -- a frame differs
-    pub one-differs : {shown : AudienceState} (item : Item) (frame : Frame) (at : Difference)
-        → (n : Next m profile shelf.first shelf.last slot old next front (Ok (Some item))) → item ≡ items.Frame frame
+    pub one-differs : {shown : AudienceState} (frame : Frame) (at : Difference)
+        → (n : Next m profile shelf.first shelf.last slot old next front (Ok (Some frame)))
         → frame_difference checker.compared frame (given_frame m profile (inputs_of front) frame) ≡ Some at
         → Shows seen shown (run_of frame) → IsChecked m profile start shown read slot shelf (Ok (Departs at))
-    one-differs {shown} item frame at n item_is differs shows =
+    one-differs {shown} frame at n differs shows =
         let is = n.is read stands in
-        let here = departed front (flat_map frame_in is.1) frame at (read ++ n.all) (frames_are (items_in (read ++ n.all)) is.1 is.2)
-        comparing.agree differs_at in
+        let item : Item = items.Frame frame in
+        let here = departed front (flat_map frame_in is.1) frame at (read ++ n.all)
+        (frames-behind profile front (item ∷ is.1) (items_in (read ++ n.all)) is.2) comparing.agree differs_at in
         ended n.reads here.0 (λ rest end.
         let others = more_items next (read ++ n.all) (items_with profile front ++ item ∷ []) is.0 rest in
         let there = departed front (flat_map frame_in others.0) frame at ((read ++ n.all) ++ rest)
-        (frames_are (items_in ((read ++ n.all) ++ rest)) others.0
+        (frames-behind profile front (item ∷ others.0) (items_in ((read ++ n.all) ++ rest))
         (others.1 ∙ append_assoc (items_with profile front) (item ∷ []) others.0)) comparing.agree differs_at in (
           ap (λ (o : Option Difference). verdict_by o (fault_in ((read ++ n.all) ++ rest)) (length (inputs ((read ++ n.all) ++ rest))))
               there.0,
@@ -182,12 +184,7 @@ module _ {S G E L P : Type 0} (m : Meaning S G E L P) (profile : ProfileValue) w
         differs_at = subst (λ (k : ℕ). frame_difference k frame (given_frame m profile (inputs_of front) frame) ≡ Some at)
             comparing.compared differs
 
-        frames_are : (xs others : List Item) → xs ≡ items_with profile front ++ item ∷ others
-            → flat_map frame_in xs ≡ front ++ frame ∷ flat_map frame_in others
-        frames_are xs others e = frames-behind profile front (item ∷ others) xs e
-            ∙ ap (λ (x : Item). front ++ flat_map frame_in (x ∷ others)) item_is
-
     -- it couldn't be shown or compared
-    pub unchecked : {shown : AudienceState} (item : Item) → Next m profile shelf.first shelf.last slot old next front (Ok (Some item))
+    pub unchecked : {shown : AudienceState} (frame : Frame) → Next m profile shelf.first shelf.last slot old next front (Ok (Some frame))
         → IsChecked m profile start shown read slot shelf (Err (Failed OutOfMemory))
-    unchecked item n = unsaid n.reads
+    unchecked frame n = unsaid n.reads

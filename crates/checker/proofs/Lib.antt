@@ -1,4 +1,5 @@
 pub mod Departing
 pub mod Records
-mod Running
+pub mod Spellings
+pub mod Running
 mod Ending

@@ -1,5 +1,5 @@
 -- A check on its way: the items of a record read, and its frames compared.
-use Rattle.std.proofs.Common.{◌≡◌, ◌≤◌, ◌<◌, ◌+◌, ℕ, List, [], ◌∷◌, ◌++◌, length, map, Option, Some, None, Result, Ok, refl, sym, ap}
+use Rattle.std.proofs.Common.{◌≡◌, ◌≤◌, ◌<◌, ◌+◌, ℕ, List, [], ◌∷◌, ◌++◌, length, map, Option, Some, None, Result, Ok, Err, refl, sym, ap}
 use Rattle.std.proofs.Common.{subst, ◌∙◌, append_assoc, append-nil, length-append, arith}
 use Rattle.std.specs.List.{All, flat_map}
 use Rattle.std.proofs.lemmas.Grind.{flat_map-append}
@@ -16,10 +16,20 @@ use Rattle.job_trait.specs.Meaning.{Meaning}
 use Rattle.record_grammar.specs.declared.fault.RecordFault.{RecordFault}
 use Rattle.record_grammar.specs.declared.item.Item.{Item}
 use Rattle.record_grammar.specs.declared.item.Item.TheVariants as items
-use Rattle.record_reader.specs.declared.reader.RecordReader.{RecordReader}
-use Rattle.record_reader.specs.StandsFor.{StandsFor, HasRead, ItemIs, slot_of}
+use Rattle.record_grammar.specs.declared.place.Place.{Place}
+use Rattle.record_grammar.specs.declared.place.Place.TheVariants as places
+use Rattle.record_grammar.specs.declared.place.Layout.{Layout}
+use Rattle.record_grammar.specs.Places.{layout_of, CanFollow}
+use Rattle.record_grammar.specs.Record.{items as items_in}
+use Rattle.record_grammar.proofs.Leads.{can_follow}
+use Rattle.record_grammar.proofs.Steady.{got_is}
+use Rattle.record_view.specs.declared.view.FrameView.{FrameView}
+use Rattle.record_reader.specs.declared.frames.FrameReader.{FrameReader}
+use Rattle.item_reader.specs.StandsFor as inner
+use Rattle.record_reader.specs.Frames.{StandsFor, HasRead, FrameIs, GaveView, Holds, slot_of}
 use Rattle.record_reader.specs.Taking.{AreFirst}
-use Rattle.record_reader.proofs.Items.{are_first, NextIs, next_is, few_first}
+use Rattle.record_reader.proofs.Items.{NextIs, next_is, few_first, HasLayout, header_first}
+use Rattle.record_reader.proofs.FrameReading.{are_first}
 use Rattle.probes.specs.Reports.{AudienceState}
 use Rattle.probes.specs.Shows.{Shows}
 use Rattle.probes.proofs.Shown.{shows-none, shows-then}
@@ -29,9 +39,9 @@ use Rattle.replayer.proofs.Items.{few-inputs}
 use Rattle.lockstep.specs.FirstDifference.{frame_difference}
 use Rattle.checker.specs.declared.comparing.Checker.{Checker}
 use Rattle.checker.specs.Departure.{run_of}
-use Rattle.checker.specs.Given.{IsBehind, CanCome, input_of, given_frame}
+use Rattle.checker.specs.Given.{IsBehind, CanCome, IsPlaced, input_of, given_frame}
 use Rattle.checker.proofs.Departing.{inputs_of, departs, departs-none, departs-next}
-use Rattle.checker.proofs.Records.{runs_of, inputs-are, frames-are}
+use Rattle.checker.proofs.Records.{runs_of, inputs-are, frames-are, frames-behind}
 
 -- a header and frames as items
 abbrev pub items_with : ProfileValue → List Frame → List Item
@@ -46,9 +56,64 @@ pub none-of : {X : Type 0} (o : Option X) → ((x : X) → o ≡ Some x → ⊥)
 none-of (Some x) other = absurd (other x refl)
 none-of None other = refl
 
+-- ---- the frame that a reader gave
+
+-- a view shows one frame
+same-frame : (x y : Frame) → items.Frame x ≡ items.Frame y → x ≡ y
+same-frame x y e = cc
+
+held-one : (r : FrameReader) (view : FrameView) (x y : Frame) → Holds r view x → Holds r view y → x ≡ y
+held-one r view x y h k =
+    same-frame x y (ap (λ (p : Item × List ℕ). p.0) (got_is (items.Frame x, _) (items.Frame y, _) (sym h.shows.read ∙ k.shows.read)))
+
+-- what an answer says, by the frame that it gives
+abbrev pub Gives : Result (Option Frame) (Stopped RecordFault) → FrameReader → Type 0 → List ℕ → List Item → Type 0
+Gives (Ok (Some frame)) r at_end read given = StandsFor r read (given ++ items.Frame frame ∷ []) × (others : List Item)
+    × (items_in read ≡ given ++ items.Frame frame ∷ others)
+Gives (Ok None) r at_end read given = inner.ItemIs (Ok None) r.items at_end read given
+Gives (Err stop) r at_end read given = inner.ItemIs (Err stop) r.items at_end read given
+
+-- an answer by its view, and by the frame that the view shows
+abbrev pub AnswersAs : FrameReader → Result (Option FrameView) (Stopped RecordFault) → Result (Option Frame) (Stopped RecordFault) → Type 0
+AnswersAs r (Ok (Some view)) (Ok (Some frame)) = Holds r view frame
+AnswersAs r (Ok None) (Ok None) = Unit {0}
+AnswersAs r (Err stop) (Err other) = stop ≡ other
+AnswersAs r answer other = ⊥
+
+pub gives : (r : FrameReader) (answer : Result (Option FrameView) (Stopped RecordFault)) (other : Result (Option Frame) (Stopped RecordFault))
+    (at_end : Type 0) (read : List ℕ) (given : List Item) → AnswersAs r answer other → FrameIs answer r at_end read given
+    → Gives other r at_end read given
+gives r (Ok (Some view)) (Ok (Some frame)) at_end read given fits is =
+    subst (λ (x : Frame). Gives (Ok (Some x)) r at_end read given) (held-one r view is.frame frame is.holds fits)
+    (is.stands, is.others, is.is)
+gives r (Ok None) (Ok None) at_end read given fits is = is
+gives r (Err stop) (Err other) at_end read given fits is = subst (λ (e : Stopped RecordFault). Gives (Err e) r at_end read given) fits is
+gives r (Ok (Some view)) (Ok None) at_end read given fits is = absurd fits
+gives r (Ok (Some view)) (Err other) at_end read given fits is = absurd fits
+gives r (Ok None) (Ok (Some frame)) at_end read given fits is = absurd fits
+gives r (Ok None) (Err other) at_end read given fits is = absurd fits
+gives r (Err stop) (Ok o) at_end read given fits is = absurd fits
+
+-- the reader gave a view, which shows a frame
+pub held-frame : (r : FrameReader) (gave : Option FrameView) (view : FrameView) → gave ≡ Some view → GaveView (Ok gave) r
+    → (frame : Frame) × Holds r view frame
+held-frame r gave view is h = subst (λ (o : Option FrameView). GaveView (Ok o) r) is h
+
+pub placed-at : (place : Place) (profile : ProfileValue) (x : Frame) → HasLayout (layout_of profile) place → CanFollow place (items.Frame x)
+    → IsPlaced place profile
+placed-at (places.Register l) profile x h k = record { format = ap (λ (y : Layout). y.format) h; events = ap (λ (y : Layout). y.events) h }
+placed-at (places.Discover l) profile x h k = record { format = ap (λ (y : Layout). y.format) h; events = ap (λ (y : Layout). y.events) h }
+placed-at (places.Init l) profile x h k = record { format = ap (λ (y : Layout). y.format) h; events = ap (λ (y : Layout). y.events) h }
+placed-at (places.Runs l before) profile x h k = record {
+  format = ap (λ (y : Layout). y.format) h;
+  events = ap (λ (y : Layout). y.events) h;
+}
+placed-at places.Header profile x h k = absurd h
+placed-at places.End profile x h k = absurd k
+
 module _ {S G E L P : Type 0} (m : Meaning S G E L P) (profile : ProfileValue) where
   -- behind what `old` had read these bytes were read, and these frames compared, none of which differs
-  pub record Comparing (first now : ShelfState) (slot : ℕ) (start seen : AudienceState) (old reader : RecordReader)
+  pub record Comparing (first now : ShelfState) (slot : ℕ) (start seen : AudienceState) (old reader : FrameReader)
       (recording : Recording S G E L P) (checker : Checker) (more : List ℕ) (front : List Frame) : Type 0 where
     pub reads : Reads first now slot more
     pub gave : (read : List ℕ) → StandsFor old read (items.Header profile ∷ [])
@@ -59,47 +124,52 @@ module _ {S G E L P : Type 0} (m : Meaning S G E L P) (profile : ProfileValue) w
     pub compared : checker.compared ≡ length front
     pub cycles : checker.cycles ≡ length (inputs_of front)
 
-  pub comparing-new : (shelf : ShelfState) (seen : AudienceState) (reader : RecordReader) (recording : Recording S G E L P)
-      (checker : Checker) → IsBehind m recording [] → checker ≡ record { compared = 0; cycles = 0 }
+  pub comparing-new : (shelf : ShelfState) (seen : AudienceState) (reader : FrameReader) (recording : Recording S G E L P)
+      (checker : Checker) → IsBehind m recording [] → checker.compared ≡ 0 → checker.cycles ≡ 0
       → Comparing shelf shelf (slot_of reader) seen seen reader reader recording checker [] []
-  comparing-new shelf seen reader recording checker behind new = record {
+  comparing-new shelf seen reader recording checker behind compared cycles = record {
     reads = reads-none shelf (slot_of reader);
     gave = λ read stands. subst (λ (bytes : List ℕ). StandsFor reader bytes (items.Header profile ∷ [])) (sym (append-nil read)) stands;
     behind = behind;
     agree = departs-none m profile 0 [];
     shown = shows-none seen;
-    compared = ap (λ (c : Checker). c.compared) new;
-    cycles = ap (λ (c : Checker). c.cycles) new;
+    compared = compared;
+    cycles = cycles;
   }
 
   -- the reader's answer, of all that was read behind what `old` had read
-  pub record Next (first now : ShelfState) (slot : ℕ) (old next : RecordReader) (front : List Frame)
-      (answer : Result (Option Item) (Stopped RecordFault)) : Type 0 where
+  pub record Next (first now : ShelfState) (slot : ℕ) (old next : FrameReader) (front : List Frame)
+      (answer : Result (Option Frame) (Stopped RecordFault)) : Type 0 where
     pub all : List ℕ
     pub reads : Reads first now slot all
     pub is : (read : List ℕ) → StandsFor old read (items.Header profile ∷ [])
-        → ItemIs answer next (IsAtEnd now slot) (read ++ all) (items_with profile front)
+        → Gives answer next (IsAtEnd now slot) (read ++ all) (items_with profile front)
 
-  module _ {first mid : ShelfState} {slot : ℕ} {start seen : AudienceState} {old reader : RecordReader}
+  module _ {first mid : ShelfState} {slot : ℕ} {start seen : AudienceState} {old reader : FrameReader}
       {recording : Recording S G E L P} {checker : Checker} {more : List ℕ} {front : List Frame}
       (comparing : Comparing first mid slot start seen old reader recording checker more front) where
-    pub next-read : {now : ShelfState} (next : RecordReader) (answer : Result (Option Item) (Stopped RecordFault))
-        → HasRead mid now reader (ItemIs answer next (IsAtEnd now (slot_of reader))) → slot_of reader ≡ slot
-        → Next first now slot old next front answer
-    next-read {now} next answer h same = record {
+    pub next-read : {now : ShelfState} (next : FrameReader) (answer : Result (Option FrameView) (Stopped RecordFault))
+        (other : Result (Option Frame) (Stopped RecordFault)) → AnswersAs next answer other
+        → HasRead mid now reader (FrameIs answer next (IsAtEnd now (slot_of reader))) → slot_of reader ≡ slot
+        → Next first now slot old next front other
+    next-read {now} next answer other fits h same = record {
       all = more ++ h.0;
       reads = reads-then comparing.reads (subst (λ s. Reads mid now s h.0) same h.1);
-      is = λ read stands. subst (λ s. ItemIs answer next (IsAtEnd now s) (read ++ (more ++ h.0)) (items_with profile front)) same
-          (subst (λ (bytes : List ℕ). ItemIs answer next (IsAtEnd now (slot_of reader)) bytes (items_with profile front))
-          (append_assoc read more h.0) (h.2 (read ++ more) (items_with profile front) (comparing.gave read stands)));
+      is = λ read stands. gives next answer other (IsAtEnd now slot) (read ++ (more ++ h.0)) (items_with profile front) fits
+          (subst (λ s. FrameIs answer next (IsAtEnd now s) (read ++ (more ++ h.0)) (items_with profile front)) same
+          (subst (λ (bytes : List ℕ). FrameIs answer next (IsAtEnd now (slot_of reader)) bytes (items_with profile front))
+          (append_assoc read more h.0) (h.2 profile (read ++ more) (map items.Frame front) (comparing.gave read stands)).1));
     }
 
-    -- the same of an answer that is known
-    pub next-as : {now : ShelfState} (next : RecordReader) (answer other : Result (Option Item) (Stopped RecordFault)) → answer ≡ other
-        → HasRead mid now reader (ItemIs answer next (IsAtEnd now (slot_of reader))) → slot_of reader ≡ slot
-        → Next first now slot old next front other
-    next-as {now} next answer other is h same =
-        next-read next other (subst (λ a. HasRead mid now reader (ItemIs a next (IsAtEnd now (slot_of reader)))) is h) same
+    -- the place of a frame that was given
+    pub placed : {now : ShelfState} (next : FrameReader) (view : FrameView) (at_end : Type 0)
+        → HasRead mid now reader (FrameIs (Ok (Some view)) next at_end) → (read : List ℕ) → StandsFor old read (items.Header profile ∷ [])
+        → IsPlaced view.place profile
+    placed next view at_end h read stands =
+        let gave = (h.2 profile (read ++ more) (map items.Frame front) (comparing.gave read stands)).1 in
+        placed-at view.place profile gave.frame
+        (header_first profile (map items.Frame front) view.place ((read ++ more) ++ h.0) gave.before.0 gave.before.1)
+        (can_follow view.place _ (items.Frame gave.frame) _ gave.holds.shows.read)
 
     -- there is room to count one more
     pub compared-few : (read : List ℕ) → StandsFor old read (items.Header profile ∷ []) → checker.compared < 4294967295
@@ -121,64 +191,60 @@ module _ {S G E L P : Type 0} (m : Meaning S G E L P) (profile : ProfileValue) w
     pub cycles-few : (read : List ℕ) → StandsFor old read (items.Header profile ∷ []) → checker.cycles < 4294967295
     cycles-few read stands = let few = inputs-few read stands in let cycles = comparing.cycles in omega (arith, few, cycles)
 
-  -- the item that comes next
-  module _ {first now : ShelfState} {slot : ℕ} {old : RecordReader} {front : List Frame} {next : RecordReader} {item : Item}
-      (n : Next first now slot old next front (Ok (Some item))) (read : List ℕ) (stands : StandsFor old read (items.Header profile ∷ []))
+  -- the frame that comes next
+  module _ {first now : ShelfState} {slot : ℕ} {old : FrameReader} {front : List Frame} {next : FrameReader} {frame : Frame}
+      (n : Next first now slot old next front (Ok (Some frame))) (read : List ℕ) (stands : StandsFor old read (items.Header profile ∷ []))
     where
-      first-items : AreFirst (items_with profile front ++ item ∷ [])
-      first-items = are_first next (read ++ n.all) (items_with profile front ++ item ∷ []) (n.is read stands).0
+      first-items : AreFirst (items_with profile front ++ items.Frame frame ∷ [])
+      first-items = are_first next (read ++ n.all) (items_with profile front ++ items.Frame frame ∷ []) (n.is read stands).0
 
-      -- it is a frame
-      pub next-frame : (frame : Frame) × (item ≡ items.Frame frame)
-      next-frame = by item (next_is (items_with profile front) item first-items)
-        where
-          by : (x : Item) → NextIs (items_with profile front) x → (frame : Frame) × (x ≡ items.Frame frame)
-          by (items.Header p) h = absurd h
-          by (items.Frame frame) h = (frame, refl)
+      few-next : length (inputs_of front) + length (input_of frame) ≤ 1000000
+      few-next =
+          let given = items_with profile front in
+          let x : Item = items.Frame frame in
+          let few = few-inputs (given ++ x ∷ []) first-items.place first-items.bytes first-items.rest first-items.leads in
+          let all = inputs-are (given ++ x ∷ []) ∙ ap (λ (l : List Frame). inputs_of l) (frames-behind profile front (x ∷ []) _ refl)
+          ∙ flat_map-append input_of front (frame ∷ []) ∙ ap (λ (l : List CycleInput). inputs_of front ++ l) (append-nil (input_of frame)) in
+          let count = ap length all ∙ length-append (inputs_of front) (input_of frame) in
+          omega (arith, few, count)
 
       -- where it is a Run frame, a cycle is left for it
-      pub can-come : (recording : Recording S G E L P) (frame : Frame) → IsBehind m recording (inputs_of front)
-          → recording.profile ≡ profile → item ≡ items.Frame frame → CanCome recording.engine.cycles (length recording.profile.events) frame
-      can-come recording Register behind its is = tt
-      can-come recording Discover behind its is = tt
-      can-come recording (Init elements) behind its is = tt
-      can-come recording Terminate behind its is = tt
-      can-come recording (Run run) behind its is =
-          let given = items_with profile front in
-          let known : NextIs given (items.Frame (Run run)) = subst (NextIs given) is (next_is given item first-items) in
-          let few = few-inputs (given ++ item ∷ []) first-items.place first-items.bytes first-items.rest first-items.leads in
-          let one : flat_map input_in (item ∷ []) ≡ run.input ∷ [] = ap (λ (x : Item). flat_map input_in (x ∷ [])) is in
-          let all = flat_map-append input_in given (item ∷ []) ∙ ap (λ (l : List CycleInput). flat_map input_in given ++ l) one
-          ∙ ap (λ (l : List CycleInput). l ++ run.input ∷ [])
-          (inputs-are (map items.Frame front) ∙ ap (λ (l : List Frame). inputs_of l) (frames-are front)) in
-          let count = ap length all ∙ length-append (inputs_of front) (run.input ∷ []) in
-          let cycles = behind.engine.cycles in (
-            omega (arith, few, count, cycles),
-            subst (λ (p : ProfileValue). All (λ (s : SampleValue). s.event < length p.events) run.input.samples) (sym its) known.0,
-          )
+      pub can-come : (recording : Recording S G E L P) → IsBehind m recording (inputs_of front) → recording.profile ≡ profile
+          → CanCome recording.engine.cycles (length recording.profile.events) frame
+      can-come recording behind its =
+          subst (λ (p : ProfileValue). CanCome recording.engine.cycles (length p.events) frame) (sym its)
+          (by frame few-next (next_is (items_with profile front) (items.Frame frame) first-items))
+        where
+          by : (x : Frame) → length (inputs_of front) + length (input_of x) ≤ 1000000 → NextIs (items_with profile front) (items.Frame x)
+              → CanCome recording.engine.cycles (length profile.events) x
+          by Register few known = tt
+          by Discover few known = tt
+          by (Init elements) few known = tt
+          by Terminate few known = tt
+          by (Run run) few known = let cycles = behind.engine.cycles in (omega (arith, few, cycles), known.0)
 
       -- it was compared, and agrees
-      pub comparing-next : {mid : ShelfState} {start seen shown : AudienceState} {reader : RecordReader}
-          {recording ran : Recording S G E L P} {checker counted : Checker} {more : List ℕ} (frame : Frame)
-          → Comparing first mid slot start seen old reader recording checker more front → item ≡ items.Frame frame
+      pub comparing-next : {mid : ShelfState} {start seen shown : AudienceState} {reader : FrameReader}
+          {recording ran : Recording S G E L P} {checker counted : Checker} {more : List ℕ}
+          → Comparing first mid slot start seen old reader recording checker more front
           → IsBehind m ran (inputs_of front ++ input_of frame)
           → frame_difference checker.compared frame (given_frame m profile (inputs_of front) frame) ≡ None
           → Shows seen shown (run_of frame)
-          → counted ≡ record { compared = checker.compared + 1; cycles = checker.cycles + length (run_of frame) }
+          → counted.compared ≡ checker.compared + 1 → counted.cycles ≡ checker.cycles + length (run_of frame)
           → Comparing first now slot start shown old next ran counted n.all (front ++ frame ∷ [])
-      comparing-next {start = start} {seen = seen} {shown = shown} {ran = ran} {checker = checker} {counted = counted} frame h is behind
-          none shows count =
+      comparing-next {start = start} {seen = seen} {shown = shown} {ran = ran} {checker = checker} {counted = counted} h behind
+          none shows compared cycles =
           let more_inputs = inputs-next frame in
           let more_runs = runs-next frame in
           record {
             reads = n.reads;
-            gave = λ bytes begins. subst (λ (l : List Item). StandsFor next (bytes ++ n.all) l)
-                (ap (λ (x : Item). items_with profile front ++ x ∷ []) is ∙ items-next profile front frame) (n.is bytes begins).0;
+            gave = λ bytes begins. subst (λ (l : List Item). StandsFor next (bytes ++ n.all) l) (items-next profile front frame)
+                (n.is bytes begins).0;
             behind = subst (IsBehind m ran) (sym more_inputs) behind;
             agree = departs-next m profile front frame 0 checker.compared [] (zero-compared h.compared) h.agree none;
             shown = subst (Shows start shown) (sym more_runs) (shows-then h.shown shows);
-            compared = ap (λ (c : Checker). c.compared) count ∙ ap (λ k. k + 1) h.compared ∙ sym (length-append front (frame ∷ []));
-            cycles = ap (λ (c : Checker). c.cycles) count ∙ ap (λ k. k + length (run_of frame)) h.cycles
+            compared = compared ∙ ap (λ k. k + 1) h.compared ∙ sym (length-append front (frame ∷ []));
+            cycles = cycles ∙ ap (λ k. k + length (run_of frame)) h.cycles
                 ∙ ap (λ k. length (inputs_of front) + k) (one-input frame) ∙ sym (length-append (inputs_of front) (input_of frame))
                 ∙ ap length (sym more_inputs);
           }

@@ -1,27 +1,14 @@
 //! The frames of a record, compared one after another with those that a run gives.
 ghost use Rattle.std.specs.Prelude.{◌≡◌};
-ghost use Rattle.det_values.specs.declared.frames.Frame.{Frame as FrameValue};
-ghost use Rattle.record_grammar.specs.declared.item.Item.TheVariants as items;
 
-use crate::given::given_frame;
+use crate::{Compared, FrameRoom};
 use det_values::{Frame, OutOfMemory};
 use job_trait::{Job, Pool};
-use lockstep::{Difference, first_difference};
+use lockstep::Difference;
 use probes::{Audience, Probe};
-use record_grammar::Item;
+use record_view::FrameView;
 use run_writer::Recording;
 use std::alloc::Global;
-
-/// The frame of an item that is no header.
-pub(crate) fn frame_in(item: Item) -> Frame
-    requires { (frame : FrameValue) × (item ≡ items.Frame frame) }
-    ensures { item ≡ items.Frame result }
-{
-    match item {
-        Item::Frame(frame) => frame,
-        Item::Header(_) => unreachable!(),
-    }
-}
 
 /// How far a record was compared.
 #[derive(Drop)]
@@ -30,60 +17,71 @@ pub(crate) struct Checker {
     pub compared: u32,
     /// The Run frames among them.
     pub cycles: u32,
+    room: FrameRoom,
 }
 
 impl Checker {
     ghost use Rattle.std.specs.Prelude.{◌≡◌, ◌<◌, ◌+◌, List, ◌++◌, length, OnOk, IfOk};
     ghost use Rattle.det_values.specs.declared.frames.CycleInput.{CycleInput as Input};
+    ghost use Rattle.det_values.specs.declared.frames.Frame.{Frame as FrameValue};
     ghost use Rattle.lockstep.specs.FirstDifference.{frame_difference};
     ghost use Rattle.probes.specs.Shows.{Shows, seen};
+    ghost use Rattle.record_view.specs.Shows.{IsFrameSpelling};
     ghost use Rattle.checker.specs.Departure.{run_of};
-    ghost use Rattle.checker.specs.Given.{IsBehind, CanCome, input_of, given_frame};
+    ghost use Rattle.checker.specs.Given.{IsBehind, CanCome, IsPlaced, input_of, given_frame};
 
     /// Nothing was compared.
-    pub fn new() -> Checker
-        ensures { result ≡ record { compared = 0; cycles = 0 } }
+    pub fn new(alloc: Global) -> Checker
+        ensures compared { result.compared ≡ 0 }
+        ensures cycles { result.cycles ≡ 0 }
     {
         Checker {
             compared: 0,
             cycles: 0,
+            room: FrameRoom::new(alloc),
         }
     }
 
-    /// Shows a frame to the audience, where it is a Run frame, and then compares it with the one
-    /// that the run gives: in what they differ, or none. After want of memory the recording isn't
-    /// to be used.
+    /// Compares a frame that was read with the one that the run gives, and shows the first to the
+    /// audience, where it is a Run frame: in what they differ, or none. After want of memory the
+    /// recording isn't to be used.
     pub fn take<J: Job, P: Pool<J>>(
         &mut self,
         recording: &mut Recording<J>,
         pool: &mut P,
-        frame: Frame,
+        view: FrameView,
+        bytes: &[u8],
         audience: &mut Audience,
     ) -> Result<Option<Difference>, OutOfMemory>
         requires behind { (given : List Input) × IsBehind J.meaning recording.old given }
-        requires comes { CanCome recording.old.engine.cycles (length recording.old.profile.events)
-            frame }
+        requires comes { (read : FrameValue) × IsFrameSpelling view read bytes.now
+            × CanCome recording.old.engine.cycles (length recording.old.profile.events) read }
+        requires placed { IsPlaced view.place recording.old.profile }
         requires few { self.old.compared < 4294967295 }
         requires few_cycles { self.old.cycles < 4294967295 }
-        ensures apart { IfOk result (λ apart. (given : List Input)
-            → IsBehind J.meaning recording.old given
-            → apart ≡ frame_difference self.old.compared frame
-            (given_frame J.meaning recording.old.profile given frame)) }
-        ensures behind { OnOk result ((given : List Input) → IsBehind J.meaning recording.old given
-            → IsBehind J.meaning recording.new (given ++ input_of frame)) }
+        ensures apart { IfOk result (λ apart. (given : List Input) (read : FrameValue)
+            → IsBehind J.meaning recording.old given → IsFrameSpelling view read bytes.now
+            → apart ≡ frame_difference self.old.compared read
+            (given_frame J.meaning recording.old.profile given read)) }
+        ensures behind { OnOk result ((given : List Input) (read : FrameValue)
+            → IsBehind J.meaning recording.old given → IsFrameSpelling view read bytes.now
+            → IsBehind J.meaning recording.new (given ++ input_of read)) }
         ensures profile { recording.new.profile ≡ recording.old.profile }
-        ensures shown { OnOk result (Shows (seen (λ b. life (b.vtable, b.value)) audience.old)
-            (seen (λ b. life (b.vtable, b.value)) audience.new) (run_of frame)) }
-        ensures counted { OnOk result (self.new ≡ record {
-          compared = self.old.compared + 1;
-          cycles = self.old.cycles + length (run_of frame);
-        }) }
+        ensures shown { OnOk result ((read : FrameValue) → IsFrameSpelling view read bytes.now
+            → Shows (seen (λ b. life (b.vtable, b.value)) audience.old)
+            (seen (λ b. life (b.vtable, b.value)) audience.new) (run_of read)) }
+        ensures compared { OnOk result (self.new.compared ≡ self.old.compared + 1) }
+        ensures cycles { OnOk result ((read : FrameValue) → IsFrameSpelling view read bytes.now
+            → self.new.cycles ≡ self.old.cycles + length (run_of read)) }
     {
-        self.show(recording.alloc(), &frame, audience)?;
-        let given = given_frame(recording, pool, &frame)?;
-        let number = self.compared;
+        let given = self.room.give(recording, pool, view, bytes)?;
+        let compared = self.room.compare(view, bytes, given)?;
+        self.show(recording.alloc(), &compared.read, audience)?;
+        let difference = compared.difference(self.compared);
         self.compared += 1;
-        Ok(first_difference(number, &frame, &given))
+        let Compared { read, .. } = compared;
+        self.room.reuse(read);
+        Ok(difference)
     }
 
     /// Shows a frame to the audience and counts it, where it is a Run frame.
@@ -96,9 +94,8 @@ impl Checker {
         requires { self.old.cycles < 4294967295 }
         ensures shown { OnOk result (Shows (seen (λ b. life (b.vtable, b.value)) audience.old)
             (seen (λ b. life (b.vtable, b.value)) audience.new) (run_of frame.now)) }
-        ensures counted { self.new ≡ record self.old {
-          cycles = self.old.cycles + length (run_of frame.now);
-        } }
+        ensures cycles { self.new.cycles ≡ self.old.cycles + length (run_of frame.now) }
+        ensures compared { self.new.compared ≡ self.old.compared }
     {
         let Frame::Run(run) = frame else {
             return Ok(());

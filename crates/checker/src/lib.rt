@@ -3,10 +3,13 @@
 #![tactic(auto)]
 
 mod checking;
+mod compared;
 mod comparing;
 mod given;
+mod room;
 mod verdict;
 
 pub use checking::check_run;
-pub use given::given_frame;
+pub use compared::Compared;
+pub use room::FrameRoom;
 pub use verdict::CheckVerdict;

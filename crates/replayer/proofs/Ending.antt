@@ -24,8 +24,8 @@ use Rattle.record_grammar.specs.declared.item.Item.{Item}
 use Rattle.record_grammar.specs.declared.item.Item.TheVariants as items
 use Rattle.record_grammar.specs.Record.{fault as fault_in}
 use Rattle.record_grammar.specs.Spelling.{spelled_frame}
-use Rattle.record_reader.specs.declared.reader.RecordReader.{RecordReader}
-use Rattle.record_reader.specs.StandsFor.{StandsFor}
+use Rattle.record_reader.specs.declared.frames.FrameReader.{FrameReader}
+use Rattle.record_reader.specs.Frames.{StandsFor}
 use Rattle.run_writer.specs.declared.counts.Counts.{Counts}
 use Rattle.run_writer.specs.declared.recording.Recording.{Recording}
 use Rattle.run_writer.specs.Record.{Counted, record_with, opening}
@@ -96,9 +96,9 @@ module _ {S G E L P : Type 0} (m : Meaning S G E L P) (profile : ProfileValue) w
       part-none out.before out.after (again m profile ((read ++ []) ++ rest)) cut)
 
   module _ (slot : ℕ) (shelf : ShelfRun) (out : SinkRun) where
-    module _ {mid : ShelfState} {took : List ℕ → Type 0} {old reader : RecordReader} {recording : Recording S G E L P} {more : List ℕ}
+    module _ {mid : ShelfState} {took : List ℕ → Type 0} {old reader : FrameReader} {recording : Recording S G E L P} {more : List ℕ}
         {given : List CycleInput} (running : Running m profile shelf.first mid slot out.before took old reader recording more given)
-        (next : RecordReader) (read : List ℕ) (stands : StandsFor old read (items.Header profile ∷ [])) where
+        (next : FrameReader) (read : List ℕ) (stands : StandsFor old read (items.Header profile ∷ [])) where
       -- the next run wasn't written
       pub cycle-failed : (input : CycleInput) (failure : Failure)
           → (n : Next m profile shelf.first shelf.last slot old next given (Ok (Some input)))
@@ -143,8 +143,8 @@ module _ {S G E L P : Type 0} (m : Meaning S G E L P) (profile : ProfileValue) w
           at_record (λ bytes. Finishes m profile bytes counts out) (read ++ n.all) rest (end whole.end) finishes)
 
     -- the record has a fault, or the reader failed
-    pub reading-stopped : {mid : ShelfState} {old reader : RecordReader} {recording : Recording S G E L P} {more : List ℕ}
-        {given : List CycleInput} (next : RecordReader) (read : List ℕ) (stands : StandsFor old read (items.Header profile ∷ []))
+    pub reading-stopped : {mid : ShelfState} {old reader : FrameReader} {recording : Recording S G E L P} {more : List ℕ}
+        {given : List CycleInput} (next : FrameReader) (read : List ℕ) (stands : StandsFor old read (items.Header profile ∷ []))
         (why : Stopped RecordFault)
         → Running m profile shelf.first mid slot out.before out.after old reader recording more given
         → (n : Next m profile shelf.first shelf.last slot old next given (Err why))

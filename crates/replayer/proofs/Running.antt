@@ -22,8 +22,8 @@ use Rattle.cycle_engine.specs.Frames.{frame_of, state_of}
 use Rattle.record_grammar.specs.declared.fault.RecordFault.{RecordFault}
 use Rattle.record_grammar.specs.declared.item.Item.TheVariants as items
 use Rattle.record_grammar.specs.Spelling.{spelled_frame}
-use Rattle.record_reader.specs.declared.reader.RecordReader.{RecordReader}
-use Rattle.record_reader.specs.StandsFor.{StandsFor, slot_of}
+use Rattle.record_reader.specs.declared.frames.FrameReader.{FrameReader}
+use Rattle.record_reader.specs.Frames.{StandsFor, slot_of}
 use Rattle.run_writer.specs.declared.counts.Counts.{Counts}
 use Rattle.run_writer.specs.declared.recording.Recording.{Recording}
 use Rattle.run_writer.specs.Record.{record_with, opening}
@@ -34,12 +34,12 @@ use Rattle.replayer.specs.Giving.{HasGiven, ReadsOn, InputIs}
 use Rattle.replayer.proofs.Giving.{inputs-first}
 
 -- what the reader answers, of every record whose header it gave
-abbrev pub Answered : Result (Option CycleInput) (Stopped RecordFault) → ShelfState → ShelfState → RecordReader → RecordReader → Type 0
+abbrev pub Answered : Result (Option CycleInput) (Stopped RecordFault) → ShelfState → ShelfState → FrameReader → FrameReader → Type 0
 Answered answer mid now old new = ReadsOn mid now old (λ profile. InputIs answer profile new (IsAtEnd now (slot_of old)))
 
 module _ {S G E L P : Type 0} (m : Meaning S G E L P) (profile : ProfileValue) where
   -- behind what `old` had read these bytes were read, and these inputs run again
-  pub record Running (first now : ShelfState) (slot : ℕ) (before took : List ℕ → Type 0) (old reader : RecordReader)
+  pub record Running (first now : ShelfState) (slot : ℕ) (before took : List ℕ → Type 0) (old reader : FrameReader)
       (recording : Recording S G E L P) (more : List ℕ) (given : List CycleInput) : Type 0 where
     pub reads : Reads first now slot more
     pub gave : (read : List ℕ) → StandsFor old read (items.Header profile ∷ []) → HasGiven profile reader (read ++ more) given
@@ -50,7 +50,7 @@ module _ {S G E L P : Type 0} (m : Meaning S G E L P) (profile : ProfileValue) w
   abbrev pub next_run : List CycleInput → CycleInput → RunFrame
   next_run given input = frame_of m profile given (state_of m profile given) input
 
-  pub running-opened : (shelf : ShelfState) (before took : List ℕ → Type 0) (reader : RecordReader) (recording : Recording S G E L P)
+  pub running-opened : (shelf : ShelfState) (before took : List ℕ → Type 0) (reader : FrameReader) (recording : Recording S G E L P)
       → Stands m recording [] → Grew before took (opening m profile)
       → Running shelf shelf (slot_of reader) before took reader reader recording [] []
   running-opened shelf before took reader recording opened grew = record {
@@ -62,7 +62,7 @@ module _ {S G E L P : Type 0} (m : Meaning S G E L P) (profile : ProfileValue) w
   }
 
   -- the reader's answer, of all that was read behind what `old` had read
-  pub record Next (first now : ShelfState) (slot : ℕ) (old next : RecordReader) (given : List CycleInput)
+  pub record Next (first now : ShelfState) (slot : ℕ) (old next : FrameReader) (given : List CycleInput)
       (answer : Result (Option CycleInput) (Stopped RecordFault)) : Type 0 where
     pub all : List ℕ
     pub reads : Reads first now slot all
@@ -72,10 +72,10 @@ module _ {S G E L P : Type 0} (m : Meaning S G E L P) (profile : ProfileValue) w
     pub is : (read : List ℕ) → StandsFor old read (items.Header profile ∷ [])
         → InputIs answer profile next (IsAtEnd now slot) (read ++ all) given
 
-  module _ {first mid now : ShelfState} {slot : ℕ} {before took : List ℕ → Type 0} {old reader : RecordReader}
+  module _ {first mid now : ShelfState} {slot : ℕ} {before took : List ℕ → Type 0} {old reader : FrameReader}
       {recording : Recording S G E L P} {more : List ℕ} {given : List CycleInput}
       (running : Running first mid slot before took old reader recording more given) where
-    pub next-read : (next : RecordReader) (answer : Result (Option CycleInput) (Stopped RecordFault))
+    pub next-read : (next : FrameReader) (answer : Result (Option CycleInput) (Stopped RecordFault))
         → Answered answer mid now reader next → slot_of reader ≡ slot → Next first now slot old next given answer
     next-read next answer h same = record {
       all = more ++ h.0;
@@ -90,13 +90,13 @@ module _ {S G E L P : Type 0} (m : Meaning S G E L P) (profile : ProfileValue) w
     }
 
     -- the same of an answer that is known
-    pub next-as : (next : RecordReader) (answer other : Result (Option CycleInput) (Stopped RecordFault)) → answer ≡ other
+    pub next-as : (next : FrameReader) (answer other : Result (Option CycleInput) (Stopped RecordFault)) → answer ≡ other
         → Answered answer mid now reader next → slot_of reader ≡ slot → Next first now slot old next given other
     next-as next answer other is h same =
         next-read next other (subst (λ a. Answered a mid now reader next) is h) same
 
     -- one input more was run
-    pub running-next : (next : RecordReader) (ran : Recording S G E L P) (input : CycleInput) (run : RunFrame) {after : List ℕ → Type 0}
+    pub running-next : (next : FrameReader) (ran : Recording S G E L P) (input : CycleInput) (run : RunFrame) {after : List ℕ → Type 0}
         → (n : Next first now slot old next given (Ok (Some input))) → Ran m profile given input ran run took after
         → Running first now slot before after old next ran n.all (given ++ input ∷ [])
     running-next next ran input run {after} n one = record {
@@ -110,7 +110,7 @@ module _ {S G E L P : Type 0} (m : Meaning S G E L P) (profile : ProfileValue) w
     }
 
   -- no write failed where the reader stopped
-  pub no-write : {first now : ShelfState} {slot : ℕ} {old next : RecordReader} {given : List CycleInput} (why : Stopped RecordFault)
+  pub no-write : {first now : ShelfState} {slot : ℕ} {old next : FrameReader} {given : List CycleInput} (why : Stopped RecordFault)
       (read : List ℕ) → StandsFor old read (items.Header profile ∷ []) → Next first now slot old next given (Err why)
       → (sink : SinkRun) → SinkTraffic sink None → SinkTraffic sink (failure_in {A = Counts} (Err why))
   no-write (Refused fault) read stands n sink t = t

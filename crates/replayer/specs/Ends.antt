@@ -11,7 +11,7 @@ use Rattle.job_trait.specs.Meaning.{Meaning}
 use Rattle.cycle_engine.specs.Frames.{runs}
 use Rattle.record_grammar.specs.declared.fault.RecordFault.{RecordFault}
 use Rattle.record_grammar.specs.Record.{items as items_in, fault as fault_in, fault_so_far}
-use Rattle.record_reader.specs.StandsFor.{FoundFault}
+use Rattle.item_reader.specs.StandsFor.{FoundFault}
 use Rattle.record_reader.specs.Taking.{OfSlot}
 use Rattle.run_writer.specs.declared.counts.Counts.{Counts}
 use Rattle.run_writer.specs.Record.{Counted, record_with}

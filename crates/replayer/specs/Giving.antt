@@ -12,12 +12,13 @@ use Rattle.record_grammar.specs.declared.fault.RecordFault.{RecordFault}
 use Rattle.record_grammar.specs.declared.item.Item.{Item}
 use Rattle.record_grammar.specs.declared.item.Item.TheVariants as items
 use Rattle.record_grammar.specs.Record.{items as items_in, fault as fault_in, fault_so_far}
-use Rattle.record_reader.specs.declared.reader.RecordReader.{RecordReader}
-use Rattle.record_reader.specs.StandsFor.{StandsFor, FoundFault, slot_of}
+use Rattle.item_reader.specs.StandsFor.{FoundFault}
+use Rattle.record_reader.specs.declared.frames.FrameReader.{FrameReader}
+use Rattle.record_reader.specs.Frames.{StandsFor, slot_of}
 use Rattle.replayer.specs.Again.{input_in, inputs}
 
 -- of a record with this header these bytes were read, and these inputs of its runs given
-pub record HasGiven (profile : ProfileValue) (r : RecordReader) (read : List ℕ)
+pub record HasGiven (profile : ProfileValue) (r : FrameReader) (read : List ℕ)
     (given : List CycleInput) : Type 0 where
   -- the items behind the header
   pub behind : List Item
@@ -25,7 +26,7 @@ pub record HasGiven (profile : ProfileValue) (r : RecordReader) (read : List ℕ
   pub inputs : flat_map input_in behind ≡ given
 
 -- bytes were read, and what the reader had given before is known of it afterwards
-abbrev pub ReadsOn : ShelfState → ShelfState → RecordReader
+abbrev pub ReadsOn : ShelfState → ShelfState → FrameReader
     → (ProfileValue → List ℕ → List CycleInput → Type 0) → Type 0
 ReadsOn before after r Then = (more : List ℕ) × Reads before after (slot_of r) more
     × ((profile : ProfileValue) (read : List ℕ) (given : List CycleInput)
@@ -56,7 +57,7 @@ pub record HasFault (fault : RecordFault) (at_end : Type 0) (read : List ℕ)
   pub found : FoundFault fault at_end read (items_in read)
 
 -- what an answer says of the bytes read and the inputs given
-abbrev pub InputIs : Result (Option CycleInput) (Stopped RecordFault) → ProfileValue → RecordReader
+abbrev pub InputIs : Result (Option CycleInput) (Stopped RecordFault) → ProfileValue → FrameReader
     → Type 0 → List ℕ → List CycleInput → Type 0
 InputIs (Ok (Some input)) profile r at_end read given =
     HasGiven profile r read (given ++ input ∷ []) × IsNext input profile given

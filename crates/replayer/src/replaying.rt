@@ -3,36 +3,38 @@ ghost use Rattle.std.specs.Prelude.{ℕ, List, [], ◌∷◌};
 ghost use Rattle.det_edges.specs.Traffic.{ShelfTraffic, SinkTraffic};
 ghost use Rattle.det_edges.specs.Traffic.{shelf_run, sink_run, failure_in};
 ghost use Rattle.record_grammar.specs.declared.item.Item.TheVariants as items;
-ghost use Rattle.record_reader.specs.StandsFor.{StandsFor, slot_of};
+ghost use Rattle.record_reader.specs.Frames.{StandsFor, slot_of};
 ghost use Rattle.replayer.specs.Begun.{IsBegun};
 ghost use Rattle.replayer.specs.Replayed.{IsReplayed};
 
 use crate::inputs::next_input;
 use det_edges::{Sink, Slots, Stopped};
+use det_values::{CycleInput, Limited, RunFrame};
 use job_trait::{Job, Pool};
 use record_grammar::RecordFault;
-use record_reader::RecordReader;
+use record_reader::FrameReader;
 use run_writer::{Counts, Recording};
+use std::alloc::Global;
 
 /// Runs a job on a pool over the inputs of a record's runs, and writes the record that they give,
 /// whatever outcomes the record holds. The reader has given the header alone.
 ///
 /// The header and the frames up to Init are written before the first frame of the record is read,
 /// then a Run frame for each of its Run frames, and Terminate once the record was read to its end
-/// and is whole. `Refused` tells the record's fault, behind the runs of all inputs before it. After
-/// an error neither recording nor reader is to be used.
+/// and is whole. `Refused` has the record's fault, after the runs of all inputs before it. After an
+/// error neither recording nor reader is to be used.
 pub fn replay_run<J: Job, P: Pool<J>, S: Slots, K: Sink>(
     recording: &mut Recording<J>,
     pool: &mut P,
-    reader: &mut RecordReader,
+    frames: &mut FrameReader,
     shelf: &mut S,
     sink: &mut K,
 ) -> Result<Counts, Stopped<RecordFault>>
-    requires { IsBegun J.meaning recording.old reader.old (S.sees shelf.old) }
+    requires { IsBegun J.meaning recording.old frames.old (S.sees shelf.old) }
     // By the bytes that were read before.
     ensures replayed { (read : List ℕ)
-        → StandsFor reader.old read (items.Header recording.old.profile ∷ [])
-        → IsReplayed J.meaning recording.old.profile read (slot_of reader.old)
+        → StandsFor frames.old read (items.Header recording.old.profile ∷ [])
+        → IsReplayed J.meaning recording.old.profile read (slot_of frames.old)
         (shelf_run S.sees S.stays shelf.old shelf.new)
         (sink_run K.took K.faults sink.old sink.new) result }
     ensures shelf_traffic { ShelfTraffic (shelf_run S.sees S.stays shelf.old shelf.new)
@@ -41,9 +43,24 @@ pub fn replay_run<J: Job, P: Pool<J>, S: Slots, K: Sink>(
         (failure_in result) }
 {
     recording.open(sink)?;
-    'cycles: while let Some(input) = next_input(reader, shelf)? {
-        recording.cycle(pool, input, sink)?;
+    let mut spare = empty_input(recording.alloc());
+    'cycles: while let Some(input) = next_input(frames, shelf, spare)? {
+        spare = input_of(recording.cycle(pool, input, sink)?);
     }
     let counts = recording.close(sink)?;
     Ok(counts)
+}
+
+/// An input without samples, which takes no memory.
+fn empty_input(alloc: Global) -> CycleInput {
+    CycleInput {
+        time: None,
+        samples: Limited::new(alloc),
+    }
+}
+
+/// The input of a run, for its memory.
+fn input_of(run: RunFrame) -> CycleInput {
+    let RunFrame { input, .. } = run;
+    input
 }

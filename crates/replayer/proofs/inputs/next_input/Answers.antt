@@ -1,62 +1,88 @@
-use Rattle.std.proofs.Common.{ℕ, List, [], Option, Some, None, Result, Ok, refl, sym, subst, ◌∙◌, ◌∷◌, ◌++◌, append-nil, rules, arith}
+use Rattle.std.proofs.Common.{ℕ, List, [], Bool, Option, Some, None, Result, Ok, refl, sym, subst, ◌∙◌, ◌∷◌, ◌++◌, append-nil, arith}
 use Rattle.det_values.specs.declared.frames.CycleInput.{CycleInput as Input}
 use Rattle.det_edges.specs.declared.failure.Stopped.{Stopped}
 use Rattle.det_edges.specs.Shelf.{IsAtEnd}
 use Rattle.det_edges.proofs.SlotReads.{reads-none}
 use Rattle.record_grammar.specs.declared.fault.RecordFault.{RecordFault}
-use Rattle.record_grammar.specs.declared.item.Item.{Item}
 use Rattle.record_grammar.specs.declared.item.Item.TheVariants as items
-use Rattle.record_reader.specs.StandsFor.{RoomFell, slot_of, room}
+use Rattle.record_view.specs.declared.view.FrameView.{FrameView}
+use Rattle.record_codec.specs.Filled.{InputFilled}
 use Rattle.item_reader.proofs.Passing.{passed-on}
-use Rattle.record_reader.proofs.Taking.{none-left}
+use Rattle.record_reader.specs.Frames.{RoomFell, slot_of, room}
 use Rattle.replayer.specs.Giving.{HasGiven, ReadsOn, InputIs}
-use Rattle.replayer.proofs.Giving.{given-item, then-skipped, then-input, then-all, then-stopped}
+use Rattle.replayer.proofs.Giving.{given-frame, then-skipped, then-input, then-no-memory, then-all, then-stopped}
+use Rattle.replayer.proofs.Running.{none-of}
 use Rattle.replayer.proofs.inputs.next_input.Goals as goal
 
-pub returns-in_err-item-clause-input : goal.returns-in_err-item-clause-input
-returns-in_err-item-clause-input g c =
-    passed-on (λ (r : Result (Option Input) (Stopped RecordFault)). ReadsOn (g.S.Slots.sees c.args.shelf.now)
-    (g.S.Slots.sees c.next_item.new.shelf) c.args.reader.now
-    (λ profile. InputIs r profile c.next_item.new.self (IsAtEnd (g.S.Slots.sees c.next_item.new.shelf) (slot_of c.args.reader.now))))
-    c.from_residual.result c.from_residual.ensures.1
-    (then-stopped c.next_item.new.self c.items.invariant.slot c.items.invariant.on c.in_err-item.field-0.0 c.in_err-item.ensures.item)
-
-pub returns-in_default-clause-input : goal.returns-in_default-clause-input
-returns-in_default-clause-input g c =
-    then-all c.next_item.new.self c.items.invariant.slot c.items.invariant.on
-    (given-item c.in_ok-item.field-0 None c.next_item.new.self (none-left c.in_ok-item.field-0 c.in_default.not-Some)
-    c.in_ok-item.ensures.item)
-
-pub returns-in-Some-input_of-clause-input : goal.returns-in-Some-input_of-clause-input
-returns-in-Some-input_of-clause-input g c =
-    then-input c.next_item.new.self c.items.invariant.slot c.items.invariant.on c.in-Some.item c.in-Some-input_of.input
-    c.in-Some-input_of.ensures.some
-    (given-item c.in_ok-item.field-0 (Some c.in-Some.item) c.next_item.new.self c.in-Some.is c.in_ok-item.ensures.item)
-
-pub items-smaller : goal.items-smaller
-items-smaller g c =
-    let on = c.items.invariant.on in
-    let b = c.requires.begun in
-    let gave : HasGiven b.0 c.items.reader (b.1 ++ on.0) b.2 = on.2 b.0 b.1 b.2 b.3 in
-    subst (λ (o : Option Item). RoomFell (Ok o) (room c.items.reader) (room c.next_item.new.self)) c.in-Some.is
-    (c.in_ok-item.ensures.room (b.1 ++ on.0) (items.Header b.0 ∷ gave.behind) gave.stands)
-
-pub items-preserved : goal.items-preserved
-items-preserved g c = record {
-  on = then-skipped c.next_item.new.self c.items.invariant.slot c.items.invariant.on c.in-Some.item
-      c.in_default-input_of.ensures.none
-      (given-item c.in_ok-item.field-0 (Some c.in-Some.item) c.next_item.new.self c.in-Some.is c.in_ok-item.ensures.item);
-  slot = c.in_ok-item.ensures.slot ∙ c.items.invariant.slot;
-  traffic = search rules;
-}
-
-pub items-init : goal.items-init
-items-init g c = record {
+pub frames-init : goal.frames-init
+frames-init g c = record {
   on = (
     [],
-    reads-none (g.S.Slots.sees c.args.shelf.now) (slot_of c.args.reader.now),
-    λ profile read given h. subst (λ (xs : List ℕ). HasGiven profile c.args.reader.now xs given) (sym (append-nil read)) h,
+    reads-none (g.S.Slots.sees c.args.shelf.now) (slot_of c.args.frames.now),
+    λ profile read given h. subst (λ (xs : List ℕ). HasGiven profile c.args.frames.now xs given) (sym (append-nil read)) h,
   );
   slot = refl;
   traffic = record { cause = λ e. cc; counted = omega arith; stays = g.met.S.Slots.stays_same _ };
 }
+
+pub next-requires-clause-headed : goal.next-requires-clause-headed
+next-requires-clause-headed g c =
+    let b = c.requires.begun in
+    let on = c.frames.invariant.on in
+    let gave : HasGiven b.0 c.frames.frames (b.1 ++ on.0) b.2 = on.2 b.0 b.1 b.2 b.3 in
+    (b.0, b.1 ++ on.0, gave.behind, gave.stands)
+
+pub returns-in_err-view-clause-input : goal.returns-in_err-view-clause-input
+returns-in_err-view-clause-input g c =
+    passed-on (λ (r : Result (Option Input) (Stopped RecordFault)). ReadsOn (g.S.Slots.sees c.args.shelf.now)
+    (g.S.Slots.sees c.next.new.shelf) c.args.frames.now
+    (λ profile. InputIs r profile c.next.new.self (IsAtEnd (g.S.Slots.sees c.next.new.shelf) (slot_of c.args.frames.now))))
+    c.from_residual.result c.from_residual.ensures.1
+    (then-stopped c.next.new.self c.frames.invariant.slot c.frames.invariant.on c.in_err-view.field-0.0 c.in_err-view.ensures.frame)
+
+pub returns-in_default-clause-input : goal.returns-in_default-clause-input
+returns-in_default-clause-input g c =
+    then-all c.next.new.self c.frames.invariant.slot c.frames.invariant.on
+    (given-frame c.in_ok-view.field-0 None c.next.new.self (none-of c.in_ok-view.field-0 c.in_default.not-Some)
+    c.in_ok-view.ensures.frame)
+
+pub returns-in_err-fill_input-clause-input : goal.returns-in_err-fill_input-clause-input
+returns-in_err-fill_input-clause-input g c =
+    passed-on (λ (r : Result (Option Input) (Stopped RecordFault)). ReadsOn (g.S.Slots.sees c.args.shelf.now)
+    (g.S.Slots.sees c.next.new.shelf) c.args.frames.now
+    (λ profile. InputIs r profile c.next.new.self (IsAtEnd (g.S.Slots.sees c.next.new.shelf) (slot_of c.args.frames.now))))
+    c.from_residual-in_err-fill_input.result c.from_residual-in_err-fill_input.ensures.1
+    (then-no-memory c.next.new.self c.frames.invariant.slot c.frames.invariant.on c.in-Some.view
+    (given-frame c.in_ok-view.field-0 (Some c.in-Some.view) c.next.new.self c.in-Some.is c.in_ok-view.ensures.frame))
+
+pub returns-then-branch-clause-input : goal.returns-then-branch-clause-input
+returns-then-branch-clause-input g c =
+    let input = c.fill_input.new.input in
+    then-input c.next.new.self c.frames.invariant.slot c.frames.invariant.on c.in-Some.view input
+    (λ frame holds. subst (λ (is_run : Bool). InputFilled (Ok is_run) frame input) c.if-branch.true
+    (c.in_ok-fill_input.ensures frame (c.bytes.ensures frame holds)))
+    (given-frame c.in_ok-view.field-0 (Some c.in-Some.view) c.next.new.self c.in-Some.is c.in_ok-view.ensures.frame)
+
+pub frames-smaller : goal.frames-smaller
+frames-smaller g c =
+    let on = c.frames.invariant.on in
+    let b = c.requires.begun in
+    let gave : HasGiven b.0 c.frames.frames (b.1 ++ on.0) b.2 = on.2 b.0 b.1 b.2 b.3 in
+    subst (λ (o : Option FrameView). RoomFell (Ok o) (room c.frames.frames) (room c.next.new.self)) c.in-Some.is
+    (c.in_ok-view.ensures.room (b.1 ++ on.0) (items.Header b.0 ∷ gave.behind) gave.stands)
+
+pub frames-preserved : goal.frames-preserved
+frames-preserved g c =
+    let input = c.fill_input.new.input in
+    record {
+      on = then-skipped c.next.new.self c.frames.invariant.slot c.frames.invariant.on c.in-Some.view input
+          (λ frame holds. subst (λ (is_run : Bool). InputFilled (Ok is_run) frame input) c.if-branch.false
+          (c.in_ok-fill_input.ensures frame (c.bytes.ensures frame holds)))
+          (given-frame c.in_ok-view.field-0 (Some c.in-Some.view) c.next.new.self c.in-Some.is c.in_ok-view.ensures.frame);
+      slot = c.in_ok-view.ensures.slot ∙ c.frames.invariant.slot;
+      traffic = record {
+        cause = λ e. cc;
+        counted = omega (arith, c.frames.invariant.traffic.counted, c.in_ok-view.ensures.traffic.counted);
+        stays = g.met.S.Slots.stays_on _ _ _ c.frames.invariant.traffic.stays c.in_ok-view.ensures.traffic.stays;
+      };
+    }

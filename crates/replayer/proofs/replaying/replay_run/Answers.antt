@@ -9,7 +9,7 @@ use Rattle.det_edges.specs.declared.failure.Failure.{Failure}
 use Rattle.det_edges.specs.Traffic.{ShelfTraffic, shelf_run, sink_run}
 use Rattle.cycle_engine.specs.Frames.{runs}
 use Rattle.record_grammar.specs.Spelling.{spelled_frame}
-use Rattle.record_reader.specs.StandsFor.{slot_of}
+use Rattle.record_reader.specs.Frames.{slot_of}
 use Rattle.run_writer.specs.Record.{Counted, record_with}
 use Rattle.run_writer.specs.Recording.{Cuts, Ran}
 use Rattle.replayer.proofs.Running.{next_run, running-opened, next-read, next-as, running-next, few-cycles, no-write, no-read, none-of}
@@ -26,7 +26,7 @@ returns-in_err-open-clause-replayed g c read stands =
     let shelf = shelf_run g.S.Slots.sees g.S.Slots.stays c.args.shelf.now c.args.shelf.now in
     let sink = sink_run g.K.Sink.took g.K.Sink.faults c.args.sink.now c.open.new.sink in
     rw (p.1, p.2) (replayed m profile []
-    (open-failed m profile read (slot_of c.args.reader.now) shelf.first shelf.stays sink c.in_err-open.field-0.0 c.in_err-open.ensures.cut))
+    (open-failed m profile read (slot_of c.args.frames.now) shelf.first shelf.stays sink c.in_err-open.field-0.0 c.in_err-open.ensures.cut))
 
 pub cycles-init : goal.cycles-init
 cycles-init g c = record {
@@ -44,7 +44,7 @@ cycles-init g c = record {
 pub next_input-requires-clause-begun : goal.next_input-requires-clause-begun
 next_input-requires-clause-begun g c =
     let running = c.cycles.invariant.running in
-    let gave = c.requires.gave in
+    let gave = c.requires.opened.gave in
     (c.args.recording.now.profile, gave.0 ++ running.0, running.1, running.2.gave gave.0 gave.1)
 
 pub returns-in_err-input-clause-replayed : goal.returns-in_err-input-clause-replayed
@@ -54,11 +54,11 @@ returns-in_err-input-clause-replayed g c read stands =
     let profile = c.args.recording.now.profile in
     let running = c.cycles.invariant.running in
     let why = c.in_err-input.field-0.0 in
-    let n = next-read m profile running.2 c.next_input.new.reader (Err why) c.in_err-input.ensures.input c.cycles.invariant.slot in
+    let n = next-read m profile running.2 c.next_input.new.frames (Err why) c.in_err-input.ensures.input c.cycles.invariant.slot in
     let shelf = shelf_run g.S.Slots.sees g.S.Slots.stays c.args.shelf.now c.next_input.new.shelf in
     let sink = sink_run g.K.Sink.took g.K.Sink.faults c.args.sink.now c.cycles.sink in
     rw (p.1, p.2) (replayed m profile n.all
-    (reading-stopped m profile (slot_of c.args.reader.now) shelf sink c.next_input.new.reader read stands why running.2 n))
+    (reading-stopped m profile (slot_of c.args.frames.now) shelf sink c.next_input.new.frames read stands why running.2 n))
 
 pub returns-in_err-input-clause-sink_traffic : goal.returns-in_err-input-clause-sink_traffic
 returns-in_err-input-clause-sink_traffic g c =
@@ -66,8 +66,8 @@ returns-in_err-input-clause-sink_traffic g c =
     let m = g.J.Job.meaning in
     let profile = c.args.recording.now.profile in
     let why = c.in_err-input.field-0.0 in
-    let gave = c.requires.gave in
-    let n = next-read m profile c.cycles.invariant.running.2 c.next_input.new.reader (Err why) c.in_err-input.ensures.input
+    let gave = c.requires.opened.gave in
+    let n = next-read m profile c.cycles.invariant.running.2 c.next_input.new.frames (Err why) c.in_err-input.ensures.input
     c.cycles.invariant.slot in
     let sink = sink_run g.K.Sink.took g.K.Sink.faults c.args.sink.now c.cycles.sink in
     rw (p.1, p.2) (no-write m profile why gave.0 gave.1 n sink c.cycles.invariant.sink_traffic)
@@ -77,9 +77,9 @@ cycle-requires-clause-few g c =
     let m = g.J.Job.meaning in
     let profile = c.args.recording.now.profile in
     let running = c.cycles.invariant.running in
-    let n = next-as m profile running.2 c.next_input.new.reader (Ok c.in_ok-input.field-0) (Ok (Some c.in-Some.input)) (ap Ok c.in-Some.is)
+    let n = next-as m profile running.2 c.next_input.new.frames (Ok c.in_ok-input.field-0) (Ok (Some c.in-Some.input)) (ap Ok c.in-Some.is)
     c.in_ok-input.ensures.input c.cycles.invariant.slot in
-    let gave = c.requires.gave in
+    let gave = c.requires.opened.gave in
     few-cycles m profile c.in-Some.input running.2.stands (n.is gave.0 gave.1).1.few
 
 pub cycle-requires-clause-known : goal.cycle-requires-clause-known
@@ -87,9 +87,9 @@ cycle-requires-clause-known g c =
     let m = g.J.Job.meaning in
     let profile = c.args.recording.now.profile in
     let running = c.cycles.invariant.running in
-    let n = next-as m profile running.2 c.next_input.new.reader (Ok c.in_ok-input.field-0) (Ok (Some c.in-Some.input)) (ap Ok c.in-Some.is)
+    let n = next-as m profile running.2 c.next_input.new.frames (Ok c.in_ok-input.field-0) (Ok (Some c.in-Some.input)) (ap Ok c.in-Some.is)
     c.in_ok-input.ensures.input c.cycles.invariant.slot in
-    let gave = c.requires.gave in
+    let gave = c.requires.opened.gave in
     subst (λ (k : ℕ). All (λ (s : SampleValue). s.event < k) c.in-Some.input.samples)
     (ap (λ (p : ProfileValue). length p.events) (sym c.cycles.invariant.profile)) (n.is gave.0 gave.1).1.known
 
@@ -99,7 +99,7 @@ returns-in_err-cycle-clause-replayed g c read stands =
     let m = g.J.Job.meaning in
     let profile = c.args.recording.now.profile in
     let running = c.cycles.invariant.running in
-    let n = next-as m profile running.2 c.next_input.new.reader (Ok c.in_ok-input.field-0) (Ok (Some c.in-Some.input)) (ap Ok c.in-Some.is)
+    let n = next-as m profile running.2 c.next_input.new.frames (Ok c.in_ok-input.field-0) (Ok (Some c.in-Some.input)) (ap Ok c.in-Some.is)
     c.in_ok-input.ensures.input c.cycles.invariant.slot in
     let shelf = shelf_run g.S.Slots.sees g.S.Slots.stays c.args.shelf.now c.next_input.new.shelf in
     let sink = sink_run g.K.Sink.took g.K.Sink.faults c.args.sink.now c.cycle.new.sink in
@@ -108,7 +108,7 @@ returns-in_err-cycle-clause-replayed g c read stands =
     (spelled_frame p.format (Run (next_run m p running.1 c.in-Some.input)))) c.cycles.invariant.profile
     (c.in_err-cycle.ensures.cut running.1 running.2.stands) in
     rw (p.1, p.2) (replayed m profile n.all
-    (cycle-failed m profile (slot_of c.args.reader.now) shelf sink running.2 c.next_input.new.reader read stands c.in-Some.input failure n
+    (cycle-failed m profile (slot_of c.args.frames.now) shelf sink running.2 c.next_input.new.frames read stands c.in-Some.input failure n
     cut))
 
 pub returns-in_err-cycle-clause-shelf_traffic : goal.returns-in_err-cycle-clause-shelf_traffic
@@ -122,56 +122,14 @@ returns-in_err-cycle-clause-shelf_traffic g c =
       stays = g.met.S.Slots.stays_on _ _ _ c.cycles.invariant.shelf_traffic.stays c.in_ok-input.ensures.traffic.stays;
     }))
 
-pub cycles-smaller-in_ok-cycle : goal.cycles-smaller-in_ok-cycle
-cycles-smaller-in_ok-cycle g c =
-    let m = g.J.Job.meaning in
-    let profile = c.args.recording.now.profile in
-    let running = c.cycles.invariant.running in
-    let n = next-as m profile running.2 c.next_input.new.reader (Ok c.in_ok-input.field-0) (Ok (Some c.in-Some.input)) (ap Ok c.in-Some.is)
-    c.in_ok-input.ensures.input c.cycles.invariant.slot in
-    let gave = c.requires.gave in
-    let few : c.cycles.recording.engine.cycles < 1000000 = few-cycles m profile c.in-Some.input running.2.stands
-    (n.is gave.0 gave.1).1.few in
-    let one : c.cycle.new.self.engine.cycles ≡ c.cycles.recording.engine.cycles + 1 = c.in_ok-cycle.ensures.cycles in
-    omega arith
-
-pub cycles-preserved-in_ok-cycle : goal.cycles-preserved-in_ok-cycle
-cycles-preserved-in_ok-cycle g c =
-    let m = g.J.Job.meaning in
-    let profile = c.args.recording.now.profile in
-    let running = c.cycles.invariant.running in
-    let n = next-as m profile running.2 c.next_input.new.reader (Ok c.in_ok-input.field-0) (Ok (Some c.in-Some.input)) (ap Ok c.in-Some.is)
-    c.in_ok-input.ensures.input c.cycles.invariant.slot in
-    let ran = subst (λ (p : ProfileValue). Ran m p running.1 c.in-Some.input c.cycle.new.self c.in_ok-cycle.field-0
-    (g.K.Sink.took c.cycles.sink) (g.K.Sink.took c.cycle.new.sink))
-    c.cycles.invariant.profile (c.in_ok-cycle.ensures.ran running.1 running.2.stands) in
-    record {
-      running = (
-        n.all,
-        running.1 ++ c.in-Some.input ∷ [],
-        running-next m profile running.2 c.next_input.new.reader c.cycle.new.self c.in-Some.input c.in_ok-cycle.field-0 n ran,
-      );
-      profile = c.in_ok-cycle.ensures.profile ∙ c.cycles.invariant.profile;
-      slot = c.in_ok-input.ensures.slot ∙ c.cycles.invariant.slot;
-      shelf_traffic = record {
-        cause = λ e. cc;
-        counted = omega (arith, c.cycles.invariant.shelf_traffic.counted, c.in_ok-input.ensures.traffic.counted);
-        stays = g.met.S.Slots.stays_on _ _ _ c.cycles.invariant.shelf_traffic.stays c.in_ok-input.ensures.traffic.stays;
-      };
-      sink_traffic = record {
-        cause = λ e. cc;
-        counted = omega (arith, c.cycles.invariant.sink_traffic.counted, c.in_ok-cycle.ensures.traffic.counted);
-      };
-    }
-
 pub cycles-smaller : goal.cycles-smaller
 cycles-smaller g c =
     let m = g.J.Job.meaning in
     let profile = c.args.recording.now.profile in
     let running = c.cycles.invariant.running in
-    let n = next-as m profile running.2 c.next_input.new.reader (Ok c.in_ok-input.field-0) (Ok (Some c.in-Some.input)) (ap Ok c.in-Some.is)
+    let n = next-as m profile running.2 c.next_input.new.frames (Ok c.in_ok-input.field-0) (Ok (Some c.in-Some.input)) (ap Ok c.in-Some.is)
     c.in_ok-input.ensures.input c.cycles.invariant.slot in
-    let gave = c.requires.gave in
+    let gave = c.requires.opened.gave in
     let few : c.cycles.recording.engine.cycles < 1000000 = few-cycles m profile c.in-Some.input running.2.stands
     (n.is gave.0 gave.1).1.few in
     let one : c.cycle.new.self.engine.cycles ≡ c.cycles.recording.engine.cycles + 1 = c.in_ok-cycle.ensures.cycles in
@@ -182,7 +140,7 @@ cycles-preserved g c =
     let m = g.J.Job.meaning in
     let profile = c.args.recording.now.profile in
     let running = c.cycles.invariant.running in
-    let n = next-as m profile running.2 c.next_input.new.reader (Ok c.in_ok-input.field-0) (Ok (Some c.in-Some.input)) (ap Ok c.in-Some.is)
+    let n = next-as m profile running.2 c.next_input.new.frames (Ok c.in_ok-input.field-0) (Ok (Some c.in-Some.input)) (ap Ok c.in-Some.is)
     c.in_ok-input.ensures.input c.cycles.invariant.slot in
     let ran = subst (λ (p : ProfileValue). Ran m p running.1 c.in-Some.input c.cycle.new.self c.in_ok-cycle.field-0
     (g.K.Sink.took c.cycles.sink) (g.K.Sink.took c.cycle.new.sink))
@@ -191,7 +149,7 @@ cycles-preserved g c =
       running = (
         n.all,
         running.1 ++ c.in-Some.input ∷ [],
-        running-next m profile running.2 c.next_input.new.reader c.cycle.new.self c.in-Some.input c.in_ok-cycle.field-0 n ran,
+        running-next m profile running.2 c.next_input.new.frames c.cycle.new.self c.in-Some.input c.in_ok-cycle.field-0 n ran,
       );
       profile = c.in_ok-cycle.ensures.profile ∙ c.cycles.invariant.profile;
       slot = c.in_ok-input.ensures.slot ∙ c.cycles.invariant.slot;
@@ -213,7 +171,7 @@ returns-in_err-counts-clause-replayed g c read stands =
     let profile = c.args.recording.now.profile in
     let running = c.cycles.invariant.running in
     let none = ap Ok (none-of c.in_ok-input.field-0 c.in_default.not-Some) in
-    let n = next-as m profile running.2 c.next_input.new.reader (Ok c.in_ok-input.field-0) (Ok None) none c.in_ok-input.ensures.input
+    let n = next-as m profile running.2 c.next_input.new.frames (Ok c.in_ok-input.field-0) (Ok None) none c.in_ok-input.ensures.input
     c.cycles.invariant.slot in
     let shelf = shelf_run g.S.Slots.sees g.S.Slots.stays c.args.shelf.now c.next_input.new.shelf in
     let sink = sink_run g.K.Sink.took g.K.Sink.faults c.args.sink.now c.close.new.sink in
@@ -221,7 +179,7 @@ returns-in_err-counts-clause-replayed g c read stands =
     let cut = subst (λ (p : ProfileValue). Cuts failure (g.K.Sink.took c.cycles.sink) (g.K.Sink.took c.close.new.sink)
     (spelled_frame p.format Terminate)) c.cycles.invariant.profile c.in_err-counts.ensures.cut in
     rw (p.1, p.2) (replayed m profile n.all
-    (close-failed m profile (slot_of c.args.reader.now) shelf sink running.2 c.next_input.new.reader read stands failure n cut))
+    (close-failed m profile (slot_of c.args.frames.now) shelf sink running.2 c.next_input.new.frames read stands failure n cut))
 
 pub returns-clause-replayed : goal.returns-clause-replayed
 returns-clause-replayed g c read stands =
@@ -229,7 +187,7 @@ returns-clause-replayed g c read stands =
     let profile = c.args.recording.now.profile in
     let running = c.cycles.invariant.running in
     let none = ap Ok (none-of c.in_ok-input.field-0 c.in_default.not-Some) in
-    let n = next-as m profile running.2 c.next_input.new.reader (Ok c.in_ok-input.field-0) (Ok None) none c.in_ok-input.ensures.input
+    let n = next-as m profile running.2 c.next_input.new.frames (Ok c.in_ok-input.field-0) (Ok None) none c.in_ok-input.ensures.input
     c.cycles.invariant.slot in
     let shelf = shelf_run g.S.Slots.sees g.S.Slots.stays c.args.shelf.now c.next_input.new.shelf in
     let sink = sink_run g.K.Sink.took g.K.Sink.faults c.args.sink.now c.close.new.sink in
@@ -239,7 +197,7 @@ returns-clause-replayed g c read stands =
     let grew = subst (λ (p : ProfileValue). Grew (g.K.Sink.took c.cycles.sink) (g.K.Sink.took c.close.new.sink)
     (spelled_frame p.format Terminate)) c.cycles.invariant.profile c.in_ok-counts.ensures.took in
     replayed m profile n.all
-    (closed m profile (slot_of c.args.reader.now) shelf sink running.2 c.next_input.new.reader read stands counts n counted grew)
+    (closed m profile (slot_of c.args.frames.now) shelf sink running.2 c.next_input.new.frames read stands counts n counted grew)
 
 pub returns-in_err-input-clause-shelf_traffic : goal.returns-in_err-input-clause-shelf_traffic
 returns-in_err-input-clause-shelf_traffic g c =

@@ -1,0 +1,16 @@
+use Rattle.std.proofs.Common.{sym, subst}
+use Rattle.det_values.specs.declared.frames.Frame.{Frame}
+use Rattle.checker.specs.Given.{AreAlike}
+use Rattle.checker.proofs.Spellings.{given-alike}
+use Rattle.checker.proofs.comparing.Checker.take.Goals as goal
+
+pub compare-requires-clause-read : goal.compare-requires-clause-read
+compare-requires-clause-read g c =
+    let behind = c.requires.behind in
+    let comes = c.requires.comes in (
+      comes.0,
+      comes.1,
+      subst (λ (frame : Frame). AreAlike comes.0 frame)
+          (sym (c.in_ok-given.ensures.frame behind.0 comes.0 behind.1 comes.1))
+          (given-alike g.J.Job.meaning c.args.recording.now.profile behind.0 comes.0),
+    )

@@ -1,0 +1,39 @@
+//! A frame that was read, and the one that is given in its place.
+ghost use Rattle.std.specs.Prelude.{◌≡◌};
+ghost use Rattle.lockstep.specs.FirstDifference.{frame_difference};
+ghost use Rattle.checker.specs.Compared.{given_in};
+
+use det_values::{CycleInput, Frame, RunFrame};
+use lockstep::{Difference, first_difference};
+
+/// A frame that was read, and the one that is given in its place.
+#[derive(Drop)]
+pub struct Compared {
+    /// The frame that was read.
+    pub read: Frame,
+    /// The given frame. None where it is the one that was read.
+    pub other: Option<Frame>,
+}
+
+impl Compared {
+    /// The first difference of the two, which have this number.
+    pub fn difference(&self, number: u32) -> Option<Difference>
+        ensures { result ≡ frame_difference number self.now.read (given_in self.now) }
+    {
+        match &self.other {
+            None => None,
+            Some(given) => first_difference(number, &self.read, given),
+        }
+    }
+}
+
+/// The input of a Run frame.
+pub(crate) fn input_in(frame: Frame) -> Option<CycleInput> {
+    match frame {
+        Frame::Run(run) => {
+            let RunFrame { input, .. } = run;
+            Some(input)
+        }
+        Frame::Register | Frame::Discover | Frame::Init(_) | Frame::Terminate => None,
+    }
+}
