@@ -8,10 +8,11 @@ ghost use Rattle.checker.specs.Given.{AreAlike};
 
 use crate::compared::{Compared, input_in};
 use crate::given::given_frame;
-use det_values::{CycleInput, Frame, Limited, OutOfMemory};
+use det_values::{CycleInput, Frame, OutOfMemory};
 use job_trait::{Job, Pool};
 use record_codec::{encode_frame, frame_of};
 use record_view::{FrameView, events_at, format_at};
+use replayer::empty_input;
 use run_writer::Recording;
 use std::alloc::Global;
 use std::mem;
@@ -102,13 +103,6 @@ impl FrameRoom {
         if let Some(input) = input_in(frame) {
             self.spare = input;
         }
-    }
-}
-
-fn empty_input(alloc: Global) -> CycleInput {
-    CycleInput {
-        time: None,
-        samples: Limited::new(alloc),
     }
 }
 

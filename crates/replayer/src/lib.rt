@@ -5,4 +5,4 @@ mod inputs;
 mod replaying;
 
 pub use inputs::next_input;
-pub use replaying::replay_run;
+pub use replaying::{empty_input, replay_run};

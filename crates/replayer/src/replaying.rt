@@ -52,7 +52,7 @@ pub fn replay_run<J: Job, P: Pool<J>, S: Slots, K: Sink>(
 }
 
 /// An input without samples, which takes no memory.
-fn empty_input(alloc: Global) -> CycleInput {
+pub fn empty_input(alloc: Global) -> CycleInput {
     CycleInput {
         time: None,
         samples: Limited::new(alloc),
