@@ -5,7 +5,7 @@ use Rattle.det_edges.specs.Shelf.{ShelfState}
 use Rattle.det_edges.specs.Traffic.{IfRefused}
 use Rattle.det_edges.specs.declared.failure.Stopped.{Stopped}
 use Rattle.det_edges.specs.declared.failure.Stopped.TheVariants.{Refused, Failed}
-use Rattle.record_reader.specs.StandsFor.{slot_of}
+use Rattle.record_reader.specs.Frames.{slot_of}
 use Rattle.cli_answers.specs.declared.answer.Answer.{Answer}
 use Rattle.cli_answers.specs.Outcome.{Outcome, Meets, Tells, told}
 use Rattle.recorded_run.specs.declared.bad_run.BadRun.{BadRun}
@@ -43,12 +43,12 @@ module _ (wanted : List ℕ → Result RunValue BadRun → Outcome) {first mid :
 
   -- what the rest of the record gives is what the whole record does
   pub meets-told : (rose rose2 failed : Type 0) (before after : List ℕ → Type 0) (answer : Answer) → (rose → rose2)
-      → Meets (wanted (begun.read ++ rest begun) (as_run run)) (mid.left (slot_of run.reader) ≡ Some (rest begun)) rose failed
+      → Meets (wanted (begun.read ++ rest begun) (as_run run)) (mid.left (slot_of run.frames) ≡ Some (rest begun)) rose failed
       before after answer
       → Meets (wanted (told first name) (run_of (told first name))) (Tells first (name ∷ [])) rose2 failed before after answer
   meets-told rose rose2 failed before after answer later met =
       meets-as (wanted (begun.read ++ rest begun) (as_run run)) (wanted (told first name) (run_of (told first name)))
-      (mid.left (slot_of run.reader) ≡ Some (rest begun)) (Tells first (name ∷ [])) rose rose2 failed before after answer
+      (mid.left (slot_of run.frames) ≡ Some (rest begun)) (Tells first (name ∷ [])) rose rose2 failed before after answer
       (λ t. (rest-told begun (tells-name first name t)).0) (λ t. outcome-is (tells-name first name t)) later met
 
 -- why there is no run, where the name is told

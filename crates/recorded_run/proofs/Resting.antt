@@ -5,7 +5,7 @@ use Rattle.std.specs.Option.{unwrap_or}
 use Rattle.det_edges.specs.Shelf.{ShelfState}
 use Rattle.det_edges.proofs.Opening.{opens-left, opens-new}
 use Rattle.det_edges.proofs.SlotReads.{reads-told, reads-given}
-use Rattle.record_reader.specs.StandsFor.{slot_of}
+use Rattle.record_reader.specs.Frames.{slot_of}
 use Rattle.cli_answers.specs.Outcome.{told}
 use Rattle.cli_answers.proofs.Telling.{held}
 use Rattle.recorded_run.specs.declared.run.RecordedRun.{RecordedRun}
@@ -14,10 +14,10 @@ use Rattle.recorded_run.specs.Begun.{HasBegun}
 module _ {first last : ShelfState} {name : List ℕ} {run : RecordedRun} (begun : HasBegun first last name run) where
   -- the bytes behind those that were read, where they are told
   abbrev pub rest : List ℕ
-  rest = unwrap_or (last.left (slot_of run.reader)) []
+  rest = unwrap_or (last.left (slot_of run.frames)) []
 
   -- they and the bytes that were read are the record
-  pub rest-told : IsSome (first.holds name) → (last.left (slot_of run.reader) ≡ Some rest) × (begun.read ++ rest ≡ told first name)
+  pub rest-told : IsSome (first.holds name) → (last.left (slot_of run.frames) ≡ Some rest) × (begun.read ++ rest ≡ told first name)
   rest-told tells =
       let left = opens-left (told first name) begun.opens (held (first.holds name) tells) in
       let t = reads-told (told first name) begun.reads left in
@@ -25,5 +25,5 @@ module _ {first last : ShelfState} {name : List ℕ} {run : RecordedRun} (begun 
       (t.1 ∙ ap Some (sym is), ap (λ (xs : List ℕ). begun.read ++ xs) is ∙ t.2)
 
   -- the reader's slot was given
-  pub slot-given : slot_of run.reader < last.slots
-  slot-given = reads-given (slot_of run.reader) begun.reads (opens-new begun.opens)
+  pub slot-given : slot_of run.frames < last.slots
+  slot-given = reads-given (slot_of run.frames) begun.reads (opens-new begun.opens)

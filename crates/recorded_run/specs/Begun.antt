@@ -2,13 +2,16 @@
 use Rattle.std.specs.Prelude.{ℕ, List, [], ◌∷◌}
 use Rattle.det_edges.specs.Shelf.{ShelfState, Opens, Reads}
 use Rattle.record_grammar.specs.declared.item.Item.TheVariants.{Header}
-use Rattle.record_reader.specs.StandsFor.{StandsFor, slot_of}
+use Rattle.item_reader.specs.StandsFor.{ReadsIfNeeded}
+use Rattle.record_reader.specs.Frames.{StandsFor, slot_of}
 use Rattle.recorded_run.specs.declared.run.RecordedRun.{RecordedRun}
 
--- the name was opened in the reader's slot, these bytes were read of it and the header given
+-- the name was opened in the reader's slot, these bytes were read of it, which the header needs, and
+-- the header given
 pub record HasBegun (first last : ShelfState) (name : List ℕ) (run : RecordedRun) : Type 0 where
   pub opened : ShelfState
   pub read : List ℕ
-  pub opens : Opens first opened name (slot_of run.reader)
-  pub reads : Reads opened last (slot_of run.reader) read
-  pub gave : StandsFor run.reader read (Header run.profile ∷ [])
+  pub opens : Opens first opened name (slot_of run.frames)
+  pub reads : Reads opened last (slot_of run.frames) read
+  pub needed : ReadsIfNeeded [] [] read
+  pub gave : StandsFor run.frames read (Header run.profile ∷ [])

@@ -1,5 +1,6 @@
 //! The shipped job that a header names.
-ghost use Rattle.std.specs.Prelude.{◌≡◌};
+ghost use Rattle.std.specs.Prelude.{◌≡◌, length, None, IfSome};
+ghost use Rattle.shipped_jobs.specs.Kinds.{bad_param};
 ghost use Rattle.recorded_run.specs.Run.{kind_of};
 
 use det_values::{JobKind, Profile};
@@ -8,7 +9,9 @@ use shipped_jobs::bad_param;
 /// The shipped job of a profile's number. None where no job has it, and where the job refuses a
 /// parameter of the profile.
 pub(crate) fn kind_of(profile: &Profile) -> Option<JobKind>
-    ensures { result ≡ kind_of profile.now }
+    ensures kind { result ≡ kind_of profile.now }
+    ensures good { IfSome result (λ kind.
+        bad_param kind profile.now.params (length profile.now.events) ≡ None) }
 {
     let kind = JobKind::of_number(profile.job)?;
     let events = profile.events.len() as u16;

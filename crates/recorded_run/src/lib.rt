@@ -2,7 +2,6 @@
 #![tactic(auto)]
 
 mod bad_run;
-mod header;
 mod job;
 mod run;
 

@@ -1,19 +1,20 @@
 //! The run of a record.
-ghost use Rattle.std.specs.Prelude.{◌≡◌, ◌∷◌, [], length, None, Some, Ok, Err};
+ghost use Rattle.std.specs.Prelude.{◌≡◌, ◌<◌, ◌∷◌, [], ℕ, length, None, Some, Ok, Err};
 ghost use Rattle.std.specs.Prelude.{IfOk, IfErr, IsSome};
 ghost use Rattle.det_edges.specs.Shelf.{Asks};
 ghost use Rattle.det_edges.specs.Traffic.{ShelfTraffic, shelf_run, failure_in, IfRefused};
+ghost use Rattle.det_edges.specs.declared.failure.Stopped.TheVariants as stops;
 ghost use Rattle.shipped_jobs.specs.Kinds.{bad_param};
 ghost use Rattle.cli_answers.specs.Outcome.{told};
-ghost use Rattle.recorded_run.specs.Run.{run_of};
+ghost use Rattle.recorded_run.specs.declared.bad_run.BadRun.TheVariants as bad_runs;
+ghost use Rattle.recorded_run.specs.Run.{run_of, kind_of};
 ghost use Rattle.recorded_run.specs.Begun.{HasBegun};
 
-use crate::bad_run::BadRun;
-use crate::header::read_header;
+use crate::bad_run::{BadRun, without_header};
 use crate::job::kind_of;
 use det_edges::{Failure, Shelf, Stopped};
 use det_values::{JobKind, Profile};
-use record_reader::RecordReader;
+use record_reader::{FrameReader, OpenRecord, open};
 use std::alloc::Global;
 
 /// The run that a record's header names, and the record, of which the header was read.
@@ -22,12 +23,13 @@ pub struct RecordedRun {
     /// The job of the profile's number.
     pub kind: JobKind,
     pub profile: Profile,
-    /// It has given the header alone.
-    pub reader: RecordReader,
+    /// What comes after the header.
+    pub frames: FrameReader,
 }
 
-/// Opens the name of a record and reads its header, with at most one piece of 65,536 bytes behind
-/// it. `Failed` tells `Read` where the shelf fails to open or to read.
+/// Opens the name of a record and reads its header. A piece of up to 65,536 bytes is read only
+/// where those before it have no whole header and no fault. `Failed` has `Read` where the shelf
+/// fails to open or to read.
 pub fn read_run<S: Shelf>(
     alloc: Global,
     recorded: &str,
@@ -47,16 +49,35 @@ pub fn read_run<S: Shelf>(
         (failure_in result) }
     ensures writes_nothing { failure_in result ≡ Some Failure.Write → ⊥ }
     ensures asked { Asks (S.sees shelf.old) (S.sees shelf.new) (recorded.now ∷ []) }
+    // Slots that were given before keep what they have left.
+    ensures others { (k : ℕ) → k < (S.sees shelf.old).slots
+        → (S.sees shelf.new).left k ≡ (S.sees shelf.old).left k }
 {
     let slot = shelf.open_input(recorded)?;
-    let mut reader = RecordReader::at(alloc, slot);
-    let profile = read_header(&mut reader, shelf)?;
-    let Some(kind) = kind_of(&profile) else {
-        return Err(Stopped::Refused(BadRun::Profile));
-    };
-    Ok(RecordedRun {
-        kind,
-        profile,
-        reader,
-    })
+    match open(alloc, slot, shelf) {
+        Ok(opened) => run_in(opened),
+        Err(end) => Err(without_header(end)),
+    }
+}
+
+/// The run of a record, by the job that takes its profile.
+fn run_in(opened: OpenRecord) -> Result<RecordedRun, Stopped<BadRun>>
+    ensures kind { IfOk result (λ run. kind_of opened.profile ≡ Some run.kind) }
+    ensures profile { IfOk result (λ run. run.profile ≡ opened.profile) }
+    ensures frames { IfOk result (λ run. run.frames ≡ opened.frames) }
+    ensures good { IfOk result (λ run.
+        bad_param run.kind run.profile.params (length run.profile.events) ≡ None) }
+    ensures no_kind { IfErr result (λ e. kind_of opened.profile ≡ None) }
+    ensures refused { IfErr result (λ e. e ≡ stops.Refused bad_runs.Profile) }
+    ensures fails_not { failure_in result ≡ None }
+{
+    let OpenRecord { profile, frames } = opened;
+    match kind_of(&profile) {
+        Some(kind) => Ok(RecordedRun {
+            kind,
+            profile,
+            frames,
+        }),
+        None => Err(Stopped::Refused(BadRun::Profile)),
+    }
 }
