@@ -14,8 +14,8 @@ use Rattle.shipped_jobs.specs.Kinds.{of_kind}
 use Rattle.shipped_jobs.proofs.ByKinds.{by_kind-then, of_kind-gives}
 use Rattle.record_grammar.specs.declared.fault.RecordFault.{RecordFault}
 use Rattle.record_grammar.specs.declared.item.Item.TheVariants.{Header}
-use Rattle.record_reader.specs.declared.reader.RecordReader.{RecordReader}
-use Rattle.record_reader.specs.StandsFor.{StandsFor, slot_of}
+use Rattle.record_reader.specs.declared.frames.FrameReader.{FrameReader}
+use Rattle.record_reader.specs.Frames.{StandsFor, slot_of}
 use Rattle.run_writer.specs.declared.counts.Counts.{Counts}
 use Rattle.replayer.specs.Again.{again}
 use Rattle.replayer.specs.Ends.{Finishes, Stops}
@@ -86,23 +86,23 @@ module _ {S G E L P : Type 0} (m : Meaning S G E L P) (profile : ProfileValue) (
       meets-no-memory-part (replayed_with m profile (read ++ rest)) tells rose failed out.before out.after
       (part (Err (Failed OutOfMemory)) r)
 
-module _ (kind : JobKind) (profile : ProfileValue) (reader : RecordReader) (read : List ℕ) (shelf : ShelfRun) (out : SinkRun)
-    (result : Result Counts (Stopped RecordFault)) (stands : StandsFor reader read (Header profile ∷ []))
-    (visited : of_kind (λ S G E L P m. HasReplayed m profile reader shelf out result) kind) where
+module _ (kind : JobKind) (profile : ProfileValue) (frames : FrameReader) (read : List ℕ) (shelf : ShelfRun) (out : SinkRun)
+    (result : Result Counts (Stopped RecordFault)) (stands : StandsFor frames read (Header profile ∷ []))
+    (visited : of_kind (λ S G E L P m. HasReplayed m profile frames shelf out result) kind) where
   -- with the job of a kind it meets the outcome of that kind
   pub met-by-kind : (rest : List ℕ) (answer : Answer) → answer ≡ answer_of result
-      → Meets (replayed kind profile (read ++ rest)) (shelf.first.left (slot_of reader) ≡ Some rest)
+      → Meets (replayed kind profile (read ++ rest)) (shelf.first.left (slot_of frames) ≡ Some rest)
       (Rose shelf.first.faults shelf.last.faults) (Rose out.faults_before out.faults_after) out.before out.after answer
   met-by-kind rest answer is =
       rw is (by_kind-then (λ S G E L P m. replayed_with m profile (read ++ rest))
-      (λ S G E L P m. HasReplayed m profile reader shelf out result)
-      (λ wanted. Meets wanted (shelf.first.left (slot_of reader) ≡ Some rest) (Rose shelf.first.faults shelf.last.faults)
+      (λ S G E L P m. HasReplayed m profile frames shelf out result)
+      (λ wanted. Meets wanted (shelf.first.left (slot_of frames) ≡ Some rest) (Rose shelf.first.faults shelf.last.faults)
       (Rose out.faults_before out.faults_after) out.before out.after (answer_of result))
-      (λ S G E L P m r. met-replayed m profile read rest (slot_of reader) shelf out result (r.replayed read stands) r.shelf_traffic
+      (λ S G E L P m r. met-replayed m profile read rest (slot_of frames) shelf out result (r.replayed read stands) r.shelf_traffic
       r.sink_traffic) kind visited)
 
   -- all that it read was of its slot
   pub kept-by-kind : shelf.last.asked ≡ shelf.first.asked
   kept-by-kind =
-      of_kind-gives (λ S G E L P m. HasReplayed m profile reader shelf out result) (shelf.last.asked ≡ shelf.first.asked)
+      of_kind-gives (λ S G E L P m. HasReplayed m profile frames shelf out result) (shelf.last.asked ≡ shelf.first.asked)
       (λ S G E L P m r. (r.replayed read stands).run.1.answers.reads.asked) kind visited

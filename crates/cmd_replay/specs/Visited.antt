@@ -1,28 +1,21 @@
--- What replaying by a crew asks of a reader and a shelf, and what its answer says.
-use Rattle.std.specs.Prelude.{ℕ, ◌<◌, List, [], ◌∷◌, Result}
+-- What the answer of replaying by a crew says.
+use Rattle.std.specs.Prelude.{ℕ, List, [], ◌∷◌, Result}
 use Rattle.det_values.specs.Values.{ProfileValue}
-use Rattle.det_edges.specs.Shelf.{ShelfState}
 use Rattle.det_edges.specs.Traffic.{ShelfRun, SinkRun, ShelfTraffic, SinkTraffic, failure_in}
 use Rattle.det_edges.specs.declared.failure.Stopped.{Stopped}
 use Rattle.job_trait.specs.Meaning.{Meaning}
 use Rattle.record_grammar.specs.declared.fault.RecordFault.{RecordFault}
 use Rattle.record_grammar.specs.declared.item.Item.TheVariants.{Header}
-use Rattle.record_reader.specs.declared.reader.RecordReader.{RecordReader}
-use Rattle.record_reader.specs.StandsFor.{StandsFor, slot_of}
+use Rattle.record_reader.specs.declared.frames.FrameReader.{FrameReader}
+use Rattle.record_reader.specs.Frames.{StandsFor, slot_of}
 use Rattle.run_writer.specs.declared.counts.Counts.{Counts}
 use Rattle.replayer.specs.Replayed.{IsReplayed}
 
--- the reader has given the header of this profile alone, and the shelf gave its slot
-pub record CanReplay (reader : RecordReader) (profile : ProfileValue) (shelf : ShelfState)
-    : Type 0 where
-  pub gave : (read : List ℕ) × StandsFor reader read (Header profile ∷ [])
-  pub slot : slot_of reader < shelf.slots
-
 -- the rest of the record was run again behind the bytes that the reader had read
 pub record HasReplayed {S G E L P : Type 0} (m : Meaning S G E L P) (profile : ProfileValue)
-    (reader : RecordReader) (shelf : ShelfRun) (sink : SinkRun)
+    (frames : FrameReader) (shelf : ShelfRun) (sink : SinkRun)
     (result : Result Counts (Stopped RecordFault)) : Type 0 where
-  pub replayed : (read : List ℕ) → StandsFor reader read (Header profile ∷ [])
-      → IsReplayed m profile read (slot_of reader) shelf sink result
+  pub replayed : (read : List ℕ) → StandsFor frames read (Header profile ∷ [])
+      → IsReplayed m profile read (slot_of frames) shelf sink result
   pub shelf_traffic : ShelfTraffic shelf (failure_in result)
   pub sink_traffic : SinkTraffic sink (failure_in result)

@@ -3,14 +3,13 @@ ghost use Rattle.std.specs.Prelude.{◌≡◌, ℕ, List, ◌∷◌, [], ◌++�
 ghost use Rattle.det_edges.specs.Count.{Rose};
 ghost use Rattle.det_edges.specs.Shelf.{AsksPrefix};
 ghost use Rattle.record_grammar.specs.declared.item.Item.TheVariants as items;
-ghost use Rattle.record_reader.specs.StandsFor.{StandsFor, slot_of};
+ghost use Rattle.record_reader.specs.Frames.{StandsFor, IsOpen, slot_of};
 ghost use Rattle.shipped_jobs.specs.Kinds.{bad_param};
 ghost use Rattle.cli_answers.specs.Ends.{can_end};
 ghost use Rattle.cli_answers.specs.Outcome.{Meets, Tells, told};
 ghost use Rattle.cmd_replay.specs.Replay.{replay_outcome, replayed, replay_work, answer_of};
-ghost use Rattle.cmd_replay.specs.Visited.{CanReplay};
 
-use crate::visiting::RecordIn;
+use crate::visiting::Replay;
 use cli_answers::Answer;
 use det_edges::{Shelf, Sink, Slots, Stopped};
 use probes::Audience;
@@ -46,10 +45,10 @@ where
     R: Threads,
     G: Gate + Send + Sync + 'static,
     requires good { bad_param run.kind run.profile.params (length run.profile.events) ≡ None }
-    requires can { CanReplay run.reader run.profile (S.sees shelf.old) }
-    ensures meets { (read rest : List ℕ) → StandsFor run.reader read (items.Header run.profile ∷ [])
+    requires opened { IsOpen run.frames run.profile (S.sees shelf.old) }
+    ensures meets { (read rest : List ℕ) → StandsFor run.frames read (items.Header run.profile ∷ [])
         → Meets (replayed run.kind run.profile (read ++ rest))
-        ((S.sees shelf.old).left (slot_of run.reader) ≡ Some rest)
+        ((S.sees shelf.old).left (slot_of run.frames) ≡ Some rest)
         (Rose (S.sees shelf.old).faults (S.sees shelf.new).faults)
         (Rose (K.faults out.old) (K.faults out.new)) (K.took out.old) (K.took out.new) result }
     ensures ends { can_end replay_work result ≡ true }
@@ -58,11 +57,11 @@ where
     let RecordedRun {
         kind,
         profile,
-        reader,
+        frames,
     } = run;
     let mut nobody = Audience::of(workers.alloc, Vec::new(workers.alloc));
     let run = ShippedRun { kind, profile };
-    let visitor = RecordIn { reader };
+    let visitor = Replay { frames };
     match with_crew(workers, run, visitor, shelf, out, &mut nobody) {
         Ok(replayed) => answer_of(replayed),
         Err(_) => Answer::OutOfMemory,

@@ -3,26 +3,27 @@ use det_edges::{Sink, Slots, Stopped};
 use job_trait::{Job, Pool};
 use probes::Audience;
 use record_grammar::RecordFault;
-use record_reader::RecordReader;
+use record_reader::FrameReader;
 use replayer::replay_run;
 use run_writer::{Counts, Recording};
 use shipped_crews::Visit;
 
-/// Runs the inputs of the record again that a reader reads, which has given the header alone.
+/// Runs the inputs of a record again, whose header alone was read.
 #[derive(Drop)]
-pub(crate) struct RecordIn {
-    pub reader: RecordReader,
+pub(crate) struct Replay {
+    pub frames: FrameReader,
 }
 
-impl Visit for RecordIn {
-    ghost use Rattle.cmd_replay.specs.Visited.{CanReplay, HasReplayed};
+impl Visit for Replay {
+    ghost use Rattle.record_reader.specs.Frames.{IsOpen};
+    ghost use Rattle.cmd_replay.specs.Visited.{HasReplayed};
 
     type Answer = Result<Counts, Stopped<RecordFault>>;
 
-    ghost Can = { λ record_in profile shelf. CanReplay record_in.reader profile shelf };
+    ghost Can = { λ replay profile shelf. IsOpen replay.frames profile shelf };
 
-    ghost Gives = { λ s g e l p m profile record_in shelf sink audience last result.
-        HasReplayed m profile record_in.reader shelf sink result };
+    ghost Gives = { λ s g e l p m profile replay shelf sink audience last result.
+        HasReplayed m profile replay.frames shelf sink result };
 
     fn visit<J: Job, P: Pool<J>, S: Slots, K: Sink>(
         self,
@@ -32,7 +33,7 @@ impl Visit for RecordIn {
         sink: &mut K,
         audience: &mut Audience,
     ) -> Result<Counts, Stopped<RecordFault>> {
-        let RecordIn { mut reader } = self;
-        replay_run(recording, pool, &mut reader, shelf, sink)
+        let Replay { mut frames } = self;
+        replay_run(recording, pool, &mut frames, shelf, sink)
     }
 }

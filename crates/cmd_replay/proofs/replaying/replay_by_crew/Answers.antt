@@ -7,7 +7,7 @@ returns-in-Ok-clause-meets g c read rest stands =
     let run = c.args.run in
     let shelf = shelf_run g.S.Slots.sees g.S.Slots.stays c.args.shelf.now c.with_crew.new.shelf in
     let out = sink_run g.K.Sink.took g.K.Sink.faults c.args.out.now c.with_crew.new.sink in
-    met-by-kind run.kind run.profile run.reader read shelf out c.in-Ok.replayed stands c.in-Ok.ensures.given rest c.answer_of.result
+    met-by-kind run.kind run.profile run.frames read shelf out c.in-Ok.replayed stands c.in-Ok.ensures.given rest c.answer_of.result
     c.answer_of.ensures.is
 
 pub returns-in-Ok-clause-asked : goal.returns-in-Ok-clause-asked
@@ -15,5 +15,5 @@ returns-in-Ok-clause-asked g c =
     let run = c.args.run in
     let shelf = shelf_run g.S.Slots.sees g.S.Slots.stays c.args.shelf.now c.with_crew.new.shelf in
     let out = sink_run g.K.Sink.took g.K.Sink.faults c.args.out.now c.with_crew.new.sink in
-    let gave = c.requires.can.gave in
-    kept-by-kind run.kind run.profile run.reader gave.0 shelf out c.in-Ok.replayed gave.1 c.in-Ok.ensures.given
+    let gave = c.requires.opened.gave in
+    kept-by-kind run.kind run.profile run.frames gave.0 shelf out c.in-Ok.replayed gave.1 c.in-Ok.ensures.given
