@@ -120,6 +120,11 @@ fn is_spelled(
         → IsFrameSpelling view read bytes.now → given.now ≡ read) }
 {
     spelling.clear();
-    encode_frame(format_at(view.place), events_at(view.place), given, spelling)?;
+    encode_frame(
+        format_at(view.place),
+        events_at(view.place),
+        given,
+        spelling,
+    )?;
     Ok(spelling.as_slice() == bytes)
 }
