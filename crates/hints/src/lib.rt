@@ -7,7 +7,6 @@
 mod command;
 mod files;
 mod frame;
-mod frame_length;
 mod hint;
 mod keys;
 mod manifests;

@@ -3,13 +3,14 @@ ghost use Rattle.std.specs.Prelude.{◌≡◌, true, IfSome};
 ghost use Rattle.hints.specs.Kinds.{is_of_record};
 
 use crate::frame::FramePlace;
-use crate::frame_length::{frame_length, header_length};
 use crate::hint::Hint;
 use crate::parameter::ParameterHint;
 use det_edges::{Shelf, Stopped};
-use det_values::{Format, Frame, JobKind, Profile};
-use record_grammar::{Item, RecordFault};
-use record_reader::RecordReader;
+use det_values::{JobKind, Profile};
+use item_reader::ItemReader;
+use record_grammar::RecordFault;
+use record_reader::open;
+use record_view::{FrameKind, ItemKind, ItemView};
 use shipped_jobs::bad_param;
 use std::alloc::Global;
 
@@ -19,7 +20,6 @@ const MOST_ITEMS: u32 = 1_000_006;
 /// The items before a fault.
 #[derive(Clone, Copy)]
 struct Front {
-    format: Format,
     items: u32,
     bytes: u64,
     has_ended: bool,
@@ -28,40 +28,21 @@ struct Front {
 impl Front {
     fn new() -> Front {
         Front {
-            format: Format::Two,
             items: 0,
             bytes: 0,
             has_ended: false,
         }
     }
 
-    fn with_header(self, profile: &Profile) -> Front {
+    fn with_item(self, view: ItemView) -> Front {
         Front {
-            format: profile.format,
-            items: 1,
-            bytes: header_length(profile),
-            has_ended: false,
-        }
-    }
-
-    fn with_frame(self, frame: &Frame) -> Front {
-        let length = frame_length(self.format, frame);
-        Front {
-            format: self.format,
             items: self.items.saturating_add(1),
-            bytes: self.bytes.saturating_add(length),
-            has_ended: matches!(frame, Frame::Terminate),
+            bytes: self.bytes.saturating_add(view.span.len as u64),
+            has_ended: matches!(view.span.kind, ItemKind::Frame(FrameKind::Terminate)),
         }
     }
 
-    fn with_item(self, item: &Item) -> Front {
-        match item {
-            Item::Header(profile) => self.with_header(profile),
-            Item::Frame(frame) => self.with_frame(frame),
-        }
-    }
-
-    /// Where the fault behind these items stands.
+    /// Where the fault after these items is.
     fn place(self, fault: RecordFault) -> FramePlace {
         if self.items == 0 {
             return FramePlace::Header;
@@ -82,7 +63,7 @@ impl Front {
     }
 }
 
-/// A fault, and how many items stand before it.
+/// A fault, and how many items are before it.
 #[derive(Clone, Copy)]
 struct Found {
     items: u32,
@@ -92,11 +73,11 @@ struct Found {
 /// The fault of the record under a name. None where it has none, or can't be read.
 fn fault_under<S: Shelf>(alloc: Global, name: &str, shelf: &mut S) -> Option<Found> {
     let slot = shelf.open_input(name).ok()?;
-    let mut reader = RecordReader::at(alloc, slot);
+    let mut items = ItemReader::new(alloc, slot);
     let mut front = Front::new();
     for _ in 0..MOST_ITEMS {
-        match reader.next_item(shelf) {
-            Ok(Some(item)) => front = front.with_item(&item),
+        match items.next(shelf) {
+            Ok(Some(view)) => front = front.with_item(view),
             Ok(None) | Err(Stopped::Failed(_)) => return None,
             Err(Stopped::Refused(fault)) => {
                 return Some(Found {
@@ -150,10 +131,9 @@ fn job_hint<S: Shelf>(alloc: Global, name: &str, shelf: &mut S) -> Option<Hint>
     ensures { IfSome result (λ hint. is_of_record hint ≡ true) }
 {
     let slot = shelf.open_input(name).ok()?;
-    let mut reader = RecordReader::at(alloc, slot);
-    match reader.next_item(shelf) {
-        Ok(Some(Item::Header(profile))) => profile_hint(&profile),
-        _ => None,
+    match open(alloc, slot, shelf) {
+        Ok(opened) => profile_hint(&opened.profile),
+        Err(_) => None,
     }
 }
 
