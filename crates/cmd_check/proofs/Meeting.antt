@@ -15,8 +15,8 @@ use Rattle.shipped_jobs.specs.Kinds.{of_kind}
 use Rattle.shipped_jobs.proofs.ByKinds.{by_kind-then, of_kind-gives}
 use Rattle.record_grammar.specs.declared.fault.RecordFault.{RecordFault}
 use Rattle.record_grammar.specs.declared.item.Item.TheVariants.{Header}
-use Rattle.record_reader.specs.declared.reader.RecordReader.{RecordReader}
-use Rattle.record_reader.specs.StandsFor.{StandsFor, slot_of}
+use Rattle.record_reader.specs.declared.frames.FrameReader.{FrameReader}
+use Rattle.record_reader.specs.Frames.{StandsFor, slot_of}
 use Rattle.probes.specs.Reports.{AudienceState, reported}
 use Rattle.checker.specs.declared.verdict.CheckVerdict.{CheckVerdict}
 use Rattle.checker.specs.Departure.{checked_runs}
@@ -80,62 +80,62 @@ same-last same m = record {
   write_fault = m.write_fault;
 }
 
-module _ {S G E L P : Type 0} (m : Meaning S G E L P) (profile : ProfileValue) (reader : RecordReader) (read : List ℕ)
-    (stands : StandsFor reader read (Header profile ∷ [])) (shelf : ShelfRun) (sink : SinkRun) (old now : AudienceState) where
+module _ {S G E L P : Type 0} (m : Meaning S G E L P) (profile : ProfileValue) (frames : FrameReader) (read : List ℕ)
+    (stands : StandsFor frames read (Header profile ∷ [])) (shelf : ShelfRun) (sink : SinkRun) (old now : AudienceState) where
   -- what an answer says of the record, where the rest of it is told
   pub answers : (result : Result CheckVerdict (Stopped RecordFault)) (rest : List ℕ)
-      → HasChecked m profile reader shelf sink old now result → shelf.first.left (slot_of reader) ≡ Some rest
+      → HasChecked m profile frames shelf sink old now result → shelf.first.left (slot_of frames) ≡ Some rest
       → Answers m profile old now result (read ++ rest)
   answers result rest h told =
-      at-told (shelf.first.left (slot_of reader)) rest (λ more. Answers m profile old now result (read ++ more)) told
+      at-told (shelf.first.left (slot_of frames)) rest (λ more. Answers m profile old now result (read ++ more)) told
       (h.checked read stands).told
 
-  outcome-is : (verdict : CheckVerdict) (rest : List ℕ) → HasChecked m profile reader shelf sink old now (Ok verdict)
-      → shelf.first.left (slot_of reader) ≡ Some rest
+  outcome-is : (verdict : CheckVerdict) (rest : List ℕ) → HasChecked m profile frames shelf sink old now (Ok verdict)
+      → shelf.first.left (slot_of frames) ≡ Some rest
       → checked_with m profile old (read ++ rest) ≡ outcome_by (Ok verdict) (reported now [])
   outcome-is verdict rest h told = let a = answers (Ok verdict) rest h told in λ i. outcome_by (a.0 i) (sym a.1 i)
 
   -- a check writes nothing
-  pub no-write : HasChecked m profile reader shelf sink old now (Err (Failed failures.Write)) → ⊥
+  pub no-write : HasChecked m profile frames shelf sink old now (Err (Failed failures.Write)) → ⊥
   no-write h = (h.checked read stands).run.1.answers.each [] (λ end. refl)
 
   met-stopped : (stop : Stopped RecordFault) (rest : List ℕ) (failed : Type 0)
-      → HasChecked m profile reader shelf sink old now (Err stop)
-      → Meets (checked_with m profile old (read ++ rest)) (shelf.first.left (slot_of reader) ≡ Some rest)
+      → HasChecked m profile frames shelf sink old now (Err stop)
+      → Meets (checked_with m profile old (read ++ rest)) (shelf.first.left (slot_of frames) ≡ Some rest)
       (Rose shelf.first.faults shelf.last.faults) failed sink.before sink.before (stopped stop)
   met-stopped (Refused fault) rest failed h =
-      meets-refusal (checked_with m profile old (read ++ rest)) (shelf.first.left (slot_of reader) ≡ Some rest)
+      meets-refusal (checked_with m profile old (read ++ rest)) (shelf.first.left (slot_of frames) ≡ Some rest)
       (Rose shelf.first.faults shelf.last.faults) failed sink.before (BadRecord 0 fault) (λ e. cc) (λ e. cc)
       (λ told. ap (λ (v : Result CheckVerdict RecordFault). outcome_by v (reported old (checked_runs m profile (read ++ rest))))
       (answers (Err (Refused fault)) rest h told).0)
   met-stopped (Failed failures.Read) rest failed h =
-      meets-read-fault (checked_with m profile old (read ++ rest)) (shelf.first.left (slot_of reader) ≡ Some rest)
+      meets-read-fault (checked_with m profile old (read ++ rest)) (shelf.first.left (slot_of frames) ≡ Some rest)
       (Rose shelf.first.faults shelf.last.faults) failed sink.before (h.traffic.cause refl)
   met-stopped (Failed failures.Write) rest failed h = absurd (no-write h)
   met-stopped (Failed failures.OutOfMemory) rest failed h =
-      meets-no-memory (checked_with m profile old (read ++ rest)) (shelf.first.left (slot_of reader) ≡ Some rest)
+      meets-no-memory (checked_with m profile old (read ++ rest)) (shelf.first.left (slot_of frames) ≡ Some rest)
       (Rose shelf.first.faults shelf.last.faults) failed sink.before
 
 -- with the job of a kind
-module _ (kind : JobKind) (profile : ProfileValue) (reader : RecordReader) (read : List ℕ)
-    (stands : StandsFor reader read (Header profile ∷ [])) (shelf : ShelfRun) (sink : SinkRun) (old now : AudienceState)
+module _ (kind : JobKind) (profile : ProfileValue) (frames : FrameReader) (read : List ℕ)
+    (stands : StandsFor frames read (Header profile ∷ [])) (shelf : ShelfRun) (sink : SinkRun) (old now : AudienceState)
     (result : Result CheckVerdict (Stopped RecordFault))
-    (visited : of_kind (λ S G E L P m. HasChecked m profile reader shelf sink old now result) kind) where
+    (visited : of_kind (λ S G E L P m. HasChecked m profile frames shelf sink old now result) kind) where
   untouched : IsUntouched sink
-  untouched = of_kind-gives (λ S G E L P m. HasChecked m profile reader shelf sink old now result) (IsUntouched sink)
+  untouched = of_kind-gives (λ S G E L P m. HasChecked m profile frames shelf sink old now result) (IsUntouched sink)
       (λ S G E L P m h. h.untouched) kind visited
 
   -- the line of a verdict was printed, and the reports
   pub met-verdict : (verdict : CheckVerdict) (rest : List ℕ) (last : List ℕ → Type 0) (faults : ℕ) (answer : Answer) → result ≡ Ok verdict
       → Meets (outcome_by (Ok verdict) (reported now [])) (Unit {0}) ⊥ (Rose sink.faults_after faults) sink.after last answer
-      → Meets (checked kind profile old (read ++ rest)) (shelf.first.left (slot_of reader) ≡ Some rest)
+      → Meets (checked kind profile old (read ++ rest)) (shelf.first.left (slot_of frames) ≡ Some rest)
       (Rose shelf.first.faults shelf.last.faults) (Rose sink.faults_before faults) sink.before last answer
   met-verdict verdict rest last faults answer is met =
       meets-printed (by_kind-then (λ S G E L P m. checked_with m profile old (read ++ rest))
-      (λ S G E L P m. HasChecked m profile reader shelf sink old now result)
-      (λ wanted. shelf.first.left (slot_of reader) ≡ Some rest → wanted ≡ outcome_by (Ok verdict) (reported now []))
-      (λ S G E L P m h. outcome-is m profile reader read stands shelf sink old now verdict rest
-      (subst (λ (r : Result CheckVerdict (Stopped RecordFault)). HasChecked m profile reader shelf sink old now r) is h)) kind visited)
+      (λ S G E L P m. HasChecked m profile frames shelf sink old now result)
+      (λ wanted. shelf.first.left (slot_of frames) ≡ Some rest → wanted ≡ outcome_by (Ok verdict) (reported now []))
+      (λ S G E L P m h. outcome-is m profile frames read stands shelf sink old now verdict rest
+      (subst (λ (r : Result CheckVerdict (Stopped RecordFault)). HasChecked m profile frames shelf sink old now r) is h)) kind visited)
       (same-first untouched.took
       (subst (λ (k : ℕ). Meets (outcome_by (Ok verdict) (reported now [])) (Unit {0}) ⊥ (Rose k faults) sink.after last answer)
       untouched.faults met))
@@ -143,27 +143,27 @@ module _ (kind : JobKind) (profile : ProfileValue) (reader : RecordReader) (read
   -- the check stopped, and nothing was printed
   pub met-stop : (stop : Stopped RecordFault) (rest : List ℕ) (failed : Type 0) (answer : Answer) → result ≡ Err stop
       → answer ≡ stopped stop
-      → Meets (checked kind profile old (read ++ rest)) (shelf.first.left (slot_of reader) ≡ Some rest)
+      → Meets (checked kind profile old (read ++ rest)) (shelf.first.left (slot_of frames) ≡ Some rest)
       (Rose shelf.first.faults shelf.last.faults) failed sink.before sink.after answer
   met-stop stop rest failed answer is answered =
       rw answered (same-last untouched.took
       (by_kind-then (λ S G E L P m. checked_with m profile old (read ++ rest))
-      (λ S G E L P m. HasChecked m profile reader shelf sink old now result)
-      (λ wanted. Meets wanted (shelf.first.left (slot_of reader) ≡ Some rest) (Rose shelf.first.faults shelf.last.faults) failed sink.before
+      (λ S G E L P m. HasChecked m profile frames shelf sink old now result)
+      (λ wanted. Meets wanted (shelf.first.left (slot_of frames) ≡ Some rest) (Rose shelf.first.faults shelf.last.faults) failed sink.before
       sink.before (stopped stop))
-      (λ S G E L P m h. met-stopped m profile reader read stands shelf sink old now stop rest failed
-      (subst (λ (r : Result CheckVerdict (Stopped RecordFault)). HasChecked m profile reader shelf sink old now r) is h)) kind visited))
+      (λ S G E L P m h. met-stopped m profile frames read stands shelf sink old now stop rest failed
+      (subst (λ (r : Result CheckVerdict (Stopped RecordFault)). HasChecked m profile frames shelf sink old now r) is h)) kind visited))
 
   -- memory couldn't be had, and nothing was printed
   pub met-unprinted : (rest : List ℕ) (failed : Type 0)
-      → Meets (checked kind profile old (read ++ rest)) (shelf.first.left (slot_of reader) ≡ Some rest)
+      → Meets (checked kind profile old (read ++ rest)) (shelf.first.left (slot_of frames) ≡ Some rest)
       (Rose shelf.first.faults shelf.last.faults) failed sink.before sink.after OutOfMemory
   met-unprinted rest failed =
-      same-last untouched.took (meets-no-memory (checked kind profile old (read ++ rest)) (shelf.first.left (slot_of reader) ≡ Some rest)
+      same-last untouched.took (meets-no-memory (checked kind profile old (read ++ rest)) (shelf.first.left (slot_of frames) ≡ Some rest)
       (Rose shelf.first.faults shelf.last.faults) failed sink.before)
 
   -- all that it read was of its slot
   pub kept-by-kind : shelf.last.asked ≡ shelf.first.asked
   kept-by-kind =
-      of_kind-gives (λ S G E L P m. HasChecked m profile reader shelf sink old now result) (shelf.last.asked ≡ shelf.first.asked)
+      of_kind-gives (λ S G E L P m. HasChecked m profile frames shelf sink old now result) (shelf.last.asked ≡ shelf.first.asked)
       (λ S G E L P m h. (h.checked read stands).run.1.answers.reads.asked) kind visited

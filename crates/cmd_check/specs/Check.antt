@@ -1,7 +1,6 @@
 -- What `check` gives by the bytes of a record: whether it is what its inputs give, and what an
 -- audience reports of the runs that were compared.
-use Rattle.std.specs.Prelude.{true, ℕ, List, ◌++◌, codes, Result, Ok, Err}
-use Rattle.std.specs.List.{flat_map}
+use Rattle.std.specs.Prelude.{true, ℕ, List, [], ◌++◌, codes, Result, Ok, Err}
 use Rattle.det_edges.specs.Prefix.{IsPrefix}
 use Rattle.det_values.specs.Values.{ProfileValue}
 use Rattle.det_values.specs.declared.frames.RunFrame.{RunFrame}
@@ -13,8 +12,7 @@ use Rattle.probes.specs.Reports.{AudienceState, reported}
 use Rattle.probes.specs.Shows.{SawRuns}
 use Rattle.checker.specs.declared.verdict.CheckVerdict.{CheckVerdict}
 use Rattle.checker.specs.declared.verdict.CheckVerdict.TheVariants.{Genuine, Departs}
-use Rattle.checker.specs.Departure.{frames_in, checked_runs}
-use Rattle.checker.specs.Departure as frames
+use Rattle.checker.specs.Departure.{checked_runs}
 use Rattle.checker.specs.Verdict.{check_verdict}
 use Rattle.record_text.specs.Words.{number_line}
 use Rattle.verdict_text.specs.Verdicts.{place_text}
@@ -66,12 +64,21 @@ check_outcome audience record_bytes = checked_by audience record_bytes (run_of r
 
 -- ---- the audience
 
--- the runs of a record
-abbrev pub runs_in : List ℕ → List RunFrame
-runs_in record_bytes = flat_map frames.run_of (frames_in record_bytes)
+-- the runs of a record that are checked, with the job of a kind
+abbrev pub runs_by_kind : JobKind → ProfileValue → List ℕ → List RunFrame
+runs_by_kind kind profile record_bytes =
+    by_kind (λ S G E L P m. checked_runs m profile record_bytes) kind
 
--- the audience has seen the first runs of a record
-pub record SawFirst (old now : AudienceState) (record_bytes : List ℕ) : Type 0 where
+-- with the run that the record's header names, or none without that
+abbrev pub runs_by : List ℕ → Result RunValue BadRun → List RunFrame
+runs_by record_bytes (Ok run) = runs_by_kind run.kind run.profile record_bytes
+runs_by record_bytes (Err why) = []
+
+abbrev pub runs_checked : List ℕ → List RunFrame
+runs_checked record_bytes = runs_by record_bytes (run_of record_bytes)
+
+-- the audience has seen the first of these runs
+pub record SawFirst (old now : AudienceState) (runs : List RunFrame) : Type 0 where
   pub seen : List RunFrame
-  pub first : IsPrefix seen (runs_in record_bytes)
+  pub first : IsPrefix seen runs
   pub saw : SawRuns old now seen

@@ -3,16 +3,16 @@ ghost use Rattle.std.specs.Prelude.{◌≡◌, ◌≢◌, ℕ, List, ◌∷◌, 
 ghost use Rattle.det_edges.specs.Count.{Rose};
 ghost use Rattle.det_edges.specs.Shelf.{AsksPrefix};
 ghost use Rattle.record_grammar.specs.declared.item.Item.TheVariants as items;
-ghost use Rattle.record_reader.specs.StandsFor.{StandsFor, slot_of};
+ghost use Rattle.record_reader.specs.Frames.{IsOpen, StandsFor, slot_of};
 ghost use Rattle.probes.specs.Shows.{seen};
 ghost use Rattle.shipped_jobs.specs.Kinds.{bad_param};
 ghost use Rattle.cli_answers.specs.Ends.{can_end};
 ghost use Rattle.cli_answers.specs.Outcome.{Meets, Tells, told};
 ghost use Rattle.cmd_check.specs.Check.{check_outcome, checked, check_work, SawFirst};
-ghost use Rattle.cmd_check.specs.Visited.{CanCheck};
+ghost use Rattle.cmd_check.specs.Check.{runs_by_kind, runs_checked};
 
 use crate::printing::print;
-use crate::visiting::RecordIn;
+use crate::visiting::Check;
 use cli_answers::Answer;
 use det_edges::{Shelf, Sink, Slots};
 use probes::{Audience, Probe};
@@ -35,18 +35,19 @@ where
     R: Threads,
     G: Gate + Send + Sync + 'static,
     requires good { bad_param run.kind run.profile.params (length run.profile.events) ≡ None }
-    requires can { CanCheck run.reader run.profile (S.sees shelf.old) }
-    ensures meets { (read rest : List ℕ) → StandsFor run.reader read (items.Header run.profile ∷ [])
+    requires opened { IsOpen run.frames run.profile (S.sees shelf.old) }
+    ensures meets { (read rest : List ℕ) → StandsFor run.frames read (items.Header run.profile ∷ [])
         → Meets (checked run.kind run.profile (seen (λ b. life (b.vtable, b.value)) audience.old)
-        (read ++ rest)) ((S.sees shelf.old).left (slot_of run.reader) ≡ Some rest)
+        (read ++ rest)) ((S.sees shelf.old).left (slot_of run.frames) ≡ Some rest)
         (Rose (S.sees shelf.old).faults (S.sees shelf.new).faults)
         (Rose (K.faults out.old) (K.faults out.new)) (K.took out.old) (K.took out.new) result }
     ensures ends { can_end check_work result ≡ true }
     ensures asked { (S.sees shelf.new).asked ≡ (S.sees shelf.old).asked }
-    ensures saw { (read rest : List ℕ) → StandsFor run.reader read (items.Header run.profile ∷ [])
-        → result ≢ Answer.OutOfMemory → (S.sees shelf.old).left (slot_of run.reader) ≡ Some rest
+    ensures saw { (read rest : List ℕ) → StandsFor run.frames read (items.Header run.profile ∷ [])
+        → result ≢ Answer.OutOfMemory → (S.sees shelf.old).left (slot_of run.frames) ≡ Some rest
         → SawFirst (seen (λ b. life (b.vtable, b.value)) audience.old)
-        (seen (λ b. life (b.vtable, b.value)) audience.new) (read ++ rest) }
+        (seen (λ b. life (b.vtable, b.value)) audience.new)
+        (runs_by_kind run.kind run.profile (read ++ rest)) }
     ensures gone { result ≡ Answer.Done
         → (seen (λ b. life (b.vtable, b.value)) audience.new).seeing ≡ [] }
     ensures gone_differing { result ≡ Answer.Differs
@@ -55,10 +56,10 @@ where
     let RecordedRun {
         kind,
         profile,
-        reader,
+        frames,
     } = run;
     let run = ShippedRun { kind, profile };
-    let visitor = RecordIn { reader };
+    let visitor = Check { frames };
     let checked = match with_crew(workers, run, visitor, shelf, out, audience) {
         Ok(checked) => checked,
         Err(_) => return Answer::OutOfMemory,
@@ -74,7 +75,7 @@ where
 }
 
 /// Runs the job of the record under this name again over its inputs, and shows its runs to the
-/// audience. Behind the last frame that was compared it prints whether the record is what its
+/// audience. After the last frame that was compared it prints whether the record is what its
 /// inputs give, or the first place at which it isn't, and what the audience reports. Where the
 /// record has a fault and departs nowhere before it, nothing is printed. Where no shipped job takes
 /// what the header says, nobody is shown anything either.
@@ -96,11 +97,11 @@ where
         (Rose (K.faults out.old) (K.faults out.new)) (K.took out.old) (K.took out.new) result }
     ensures ends { can_end check_work result ≡ true }
     ensures asked { AsksPrefix (S.sees shelf.old) (S.sees shelf.new) (recorded.now ∷ []) }
-    // At every answer but want of memory the audience has seen first runs of the record.
+    // At every answer but want of memory the audience has seen the first of the runs checked.
     ensures saw { result ≢ Answer.OutOfMemory → Tells (S.sees shelf.old) (recorded.now ∷ [])
         → SawFirst (seen (λ b. life (b.vtable, b.value)) audience.old)
         (seen (λ b. life (b.vtable, b.value)) audience.new)
-        (told (S.sees shelf.old) recorded.now) }
+        (runs_checked (told (S.sees shelf.old) recorded.now)) }
     ensures gone { result ≡ Answer.Done
         → (seen (λ b. life (b.vtable, b.value)) audience.new).seeing ≡ [] }
     ensures gone_differing { result ≡ Answer.Differs

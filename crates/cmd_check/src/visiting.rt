@@ -4,25 +4,26 @@ use det_edges::{Sink, Slots, Stopped};
 use job_trait::{Job, Pool};
 use probes::{Audience, Probe};
 use record_grammar::RecordFault;
-use record_reader::RecordReader;
+use record_reader::FrameReader;
 use run_writer::Recording;
 use shipped_crews::Visit;
 
-/// Checks the record that a reader reads, which has given the header alone.
+/// Checks a record, whose header alone was read.
 #[derive(Drop)]
-pub(crate) struct RecordIn {
-    pub reader: RecordReader,
+pub(crate) struct Check {
+    pub frames: FrameReader,
 }
 
-impl Visit for RecordIn {
-    ghost use Rattle.cmd_check.specs.Visited.{CanCheck, HasChecked};
+impl Visit for Check {
+    ghost use Rattle.record_reader.specs.Frames.{IsOpen};
+    ghost use Rattle.cmd_check.specs.Visited.{HasChecked};
 
     type Answer = Result<CheckVerdict, Stopped<RecordFault>>;
 
-    ghost Can = { λ record_in profile shelf. CanCheck record_in.reader profile shelf };
+    ghost Can = { λ check profile shelf. IsOpen check.frames profile shelf };
 
-    ghost Gives = { λ s g e l p m profile record_in shelf sink audience last result.
-        HasChecked m profile record_in.reader shelf sink audience last result };
+    ghost Gives = { λ s g e l p m profile check shelf sink audience last result.
+        HasChecked m profile check.frames shelf sink audience last result };
 
     fn visit<J: Job, P: Pool<J>, S: Slots, K: Sink>(
         self,
@@ -32,7 +33,7 @@ impl Visit for RecordIn {
         sink: &mut K,
         audience: &mut Audience,
     ) -> Result<CheckVerdict, Stopped<RecordFault>> {
-        let RecordIn { mut reader } = self;
-        check_run(recording, pool, &mut reader, shelf, audience)
+        let Check { mut frames } = self;
+        check_run(recording, pool, &mut frames, shelf, audience)
     }
 }

@@ -17,7 +17,7 @@ use Rattle.shipped_jobs.proofs.ByKinds.{by_kind-then, of_kind-gives}
 use Rattle.record_grammar.specs.declared.fault.RecordFault.{RecordFault}
 use Rattle.record_grammar.specs.declared.item.Item.TheVariants.{Header}
 use Rattle.record_grammar.specs.Record.{fault as fault_in}
-use Rattle.record_reader.specs.StandsFor.{StandsFor, slot_of}
+use Rattle.record_reader.specs.Frames.{StandsFor, slot_of}
 use Rattle.lockstep.specs.declared.difference.Difference.{Difference}
 use Rattle.checker.specs.declared.verdict.CheckVerdict.{CheckVerdict}
 use Rattle.checker.specs.declared.verdict.CheckVerdict.TheVariants.{Genuine, Departs}
@@ -141,24 +141,24 @@ header-is profile original is = λ i. record profile { format = is i }
 
 module _ (kind : JobKind) (profile : ProfileValue) (original : Original) (shelf : ShelfRun) (out : SinkRun)
     (result : Result CheckVerdict (Stopped RecordFault)) (format : original.format ≡ profile.format) (read : List ℕ)
-    (stands : StandsFor original.reader read (Header profile ∷ []))
+    (stands : StandsFor original.frames read (Header profile ∷ []))
     (visited : of_kind (λ S G E L P m. HasUpgraded m (in_format_two profile) original shelf out result) kind) where
   has-upgraded : {S G E L P : Type 0} (m : Meaning S G E L P) → HasUpgraded m (in_format_two profile) original shelf out result
-      → IsUpgraded m profile read (slot_of original.reader) shelf out result
+      → IsUpgraded m profile read (slot_of original.frames) shelf out result
   has-upgraded m has =
-      subst (λ (p : ProfileValue). StandsFor original.reader read (Header p ∷ [])
-      → IsUpgraded m p read (slot_of original.reader) shelf out result) (header-is profile original format) (has.upgraded read) stands
+      subst (λ (p : ProfileValue). StandsFor original.frames read (Header p ∷ [])
+      → IsUpgraded m p read (slot_of original.frames) shelf out result) (header-is profile original format) (has.upgraded read) stands
 
   -- with the job of a kind it meets the outcome of that kind
   pub met-by-kind : (rest : List ℕ) (answer : Answer) → answer ≡ answer_of result
-      → Meets (upgraded_by_kind kind profile (read ++ rest)) (shelf.first.left (slot_of original.reader) ≡ Some rest)
+      → Meets (upgraded_by_kind kind profile (read ++ rest)) (shelf.first.left (slot_of original.frames) ≡ Some rest)
       (Rose shelf.first.faults shelf.last.faults) (Rose out.faults_before out.faults_after) out.before out.after answer
   met-by-kind rest answer is =
       rw is (by_kind-then (λ S G E L P m. upgraded_with m profile (read ++ rest))
       (λ S G E L P m. HasUpgraded m (in_format_two profile) original shelf out result)
-      (λ wanted. Meets wanted (shelf.first.left (slot_of original.reader) ≡ Some rest) (Rose shelf.first.faults shelf.last.faults)
+      (λ wanted. Meets wanted (shelf.first.left (slot_of original.frames) ≡ Some rest) (Rose shelf.first.faults shelf.last.faults)
       (Rose out.faults_before out.faults_after) out.before out.after (answer_of result))
-      (λ S G E L P m has. met-upgraded m profile read rest (slot_of original.reader) shelf out result (has-upgraded m has)
+      (λ S G E L P m has. met-upgraded m profile read rest (slot_of original.frames) shelf out result (has-upgraded m has)
       has.shelf_traffic has.sink_traffic) kind visited)
 
   -- all that it read was of its slot

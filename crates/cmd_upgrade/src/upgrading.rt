@@ -1,10 +1,10 @@
 //! The command `upgrade`.
-ghost use Rattle.std.specs.Prelude.{◌≡◌, ◌<◌, ℕ, List, ◌∷◌, [], ◌++◌, true, length};
+ghost use Rattle.std.specs.Prelude.{◌≡◌, ℕ, List, ◌∷◌, [], ◌++◌, true, length};
 ghost use Rattle.std.specs.Prelude.{None, Some};
 ghost use Rattle.det_edges.specs.Count.{Rose};
 ghost use Rattle.det_edges.specs.Shelf.{AsksPrefix};
 ghost use Rattle.record_grammar.specs.declared.item.Item.TheVariants as items;
-ghost use Rattle.record_reader.specs.StandsFor.{StandsFor, slot_of};
+ghost use Rattle.record_reader.specs.Frames.{IsOpen, StandsFor, slot_of};
 ghost use Rattle.shipped_jobs.specs.Kinds.{bad_param};
 ghost use Rattle.upgrader.specs.Upgraded.{in_format_two};
 ghost use Rattle.cli_answers.specs.Ends.{can_end};
@@ -13,7 +13,7 @@ ghost use Rattle.cmd_upgrade.specs.Upgrade.{upgrade_outcome, upgraded_by_kind, u
 ghost use Rattle.cmd_upgrade.specs.Upgrade.{answer_of};
 ghost use Rattle.cmd_upgrade.specs.Visited.{CanUpgrade};
 
-use crate::visiting::OriginalIn;
+use crate::visiting::Upgrade;
 use checker::CheckVerdict;
 use cli_answers::Answer;
 use det_edges::{Shelf, Sink, Slots, Stopped};
@@ -61,11 +61,10 @@ where
     R: Threads,
     G: Gate + Send + Sync + 'static,
     requires good { bad_param run.kind run.profile.params (length run.profile.events) ≡ None }
-    requires gave { (read : List ℕ) × StandsFor run.reader read (items.Header run.profile ∷ []) }
-    requires slot { slot_of run.reader < (S.sees shelf.old).slots }
-    ensures meets { (read rest : List ℕ) → StandsFor run.reader read (items.Header run.profile ∷ [])
+    requires opened { IsOpen run.frames run.profile (S.sees shelf.old) }
+    ensures meets { (read rest : List ℕ) → StandsFor run.frames read (items.Header run.profile ∷ [])
         → Meets (upgraded_by_kind run.kind run.profile (read ++ rest))
-        ((S.sees shelf.old).left (slot_of run.reader) ≡ Some rest)
+        ((S.sees shelf.old).left (slot_of run.frames) ≡ Some rest)
         (Rose (S.sees shelf.old).faults (S.sees shelf.new).faults)
         (Rose (K.faults out.old) (K.faults out.new)) (K.took out.old) (K.took out.new) result }
     ensures ends { can_end upgrade_work result ≡ true }
@@ -74,14 +73,14 @@ where
     let RecordedRun {
         kind,
         profile,
-        reader,
+        frames,
     } = run;
     let mut nobody = Audience::of(workers.alloc, Vec::new(workers.alloc));
     let format = profile.format;
     let profile = in_format_two(profile);
     let run = ShippedRun { kind, profile };
-    let original = Original { format, reader };
-    let visitor = OriginalIn { original };
+    let original = Original { format, frames };
+    let visitor = Upgrade { original };
     match with_crew(workers, run, visitor, shelf, out, &mut nobody) {
         Ok(upgraded) => answer_of(upgraded),
         Err(_) => Answer::OutOfMemory,

@@ -8,21 +8,21 @@ use run_writer::Recording;
 use shipped_crews::Visit;
 use upgrader::{Original, upgrade_run};
 
-/// Upgrades a record, whose header alone was given.
+/// Upgrades a record, whose header alone was read.
 #[derive(Drop)]
-pub(crate) struct OriginalIn {
+pub(crate) struct Upgrade {
     pub original: Original,
 }
 
-impl Visit for OriginalIn {
+impl Visit for Upgrade {
     ghost use Rattle.cmd_upgrade.specs.Visited.{CanUpgrade, HasUpgraded};
 
     type Answer = Result<CheckVerdict, Stopped<RecordFault>>;
 
-    ghost Can = { λ original_in profile shelf. CanUpgrade original_in.original profile shelf };
+    ghost Can = { λ upgrade profile shelf. CanUpgrade upgrade.original profile shelf };
 
-    ghost Gives = { λ s g e l p m profile original_in shelf sink audience last result.
-        HasUpgraded m profile original_in.original shelf sink result };
+    ghost Gives = { λ s g e l p m profile upgrade shelf sink audience last result.
+        HasUpgraded m profile upgrade.original shelf sink result };
 
     fn visit<J: Job, P: Pool<J>, S: Slots, K: Sink>(
         self,
@@ -32,7 +32,7 @@ impl Visit for OriginalIn {
         sink: &mut K,
         audience: &mut Audience,
     ) -> Result<CheckVerdict, Stopped<RecordFault>> {
-        let OriginalIn { mut original } = self;
+        let Upgrade { mut original } = self;
         upgrade_run(recording, pool, &mut original, shelf, sink)
     }
 }

@@ -38,14 +38,15 @@ SalvageSeen true old now recorded = salvaging.SawFirst old now recorded
 SalvageSeen false old now recorded = Unit {0}
 
 -- What an audience has seen: first runs of the record under a name, of which `show` has written the
--- lines, or all runs of `sim`. Other commands show none.
+-- lines, and with `check` those that it checks; or all runs of `sim`. Other commands show none.
 abbrev pub SeenBy : CommandWord → CommandValue → (List ℕ → List ℕ) → AudienceState → AudienceState
     → (before after : List ℕ → Type 0) → Type 0
 SeenBy Show c holds old now before after =
     showing.SawFirst (part_of c.options) old now (holds (name_at 0 c)) before after
 SeenBy Salvage c holds old now before after =
     SalvageSeen c.options.reports old now (holds (name_at 0 c))
-SeenBy Check c holds old now before after = checking.SawFirst old now (holds (name_at 0 c))
+SeenBy Check c holds old now before after =
+    checking.SawFirst old now (checking.runs_checked (holds (name_at 0 c)))
 SeenBy Sim c holds old now before after = SawRuns old now (sim_runs (number_in c))
 SeenBy other c holds old now before after = Unit {0}
 

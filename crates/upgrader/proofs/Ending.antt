@@ -21,8 +21,9 @@ use Rattle.record_grammar.specs.declared.item.Item.{Item}
 use Rattle.record_grammar.specs.declared.item.Item.TheVariants as items
 use Rattle.record_grammar.specs.Record.{items as items_in, fault as fault_in}
 use Rattle.record_grammar.specs.Spelling.{spelled, spelled_frame}
-use Rattle.record_reader.specs.declared.reader.RecordReader.{RecordReader}
-use Rattle.record_reader.specs.StandsFor.{StandsFor, IsFaulty}
+use Rattle.record_reader.specs.declared.frames.FrameReader.{FrameReader}
+use Rattle.item_reader.specs.StandsFor.{IsFaulty}
+use Rattle.record_reader.specs.Frames.{StandsFor}
 use Rattle.record_reader.proofs.Taking.{told}
 use Rattle.lockstep.specs.declared.difference.Difference.{Difference}
 use Rattle.run_writer.specs.declared.recording.Recording.{Recording}
@@ -104,17 +105,16 @@ module _ {S G E L P : Type 0} (m : Meaning S G E L P) (profile : ProfileValue) w
   header-failed read slot state stays out OutOfMemory cut = ended (reads-none state slot) tt (λ rest end.
       part-none out.before out.after (upgraded m profile ((read ++ []) ++ rest)) cut)
 
-  module _ (slot : ℕ) (shelf : ShelfRun) (out : SinkRun) {mid : ShelfState} {took : List ℕ → Type 0} {old reader : RecordReader}
+  module _ (slot : ℕ) (shelf : ShelfRun) (out : SinkRun) {mid : ShelfState} {took : List ℕ → Type 0} {old reader : FrameReader}
       {recording : Recording S G E L P} {more : List ℕ} {done : List Frame}
-      (running : Running m profile shelf.first mid slot out.before took old reader recording more done) (next : RecordReader)
+      (running : Running m profile shelf.first mid slot out.before took old reader recording more done) (next : FrameReader)
       (read : List ℕ) (stands : StandsFor old read (items.Header profile ∷ [])) where
     -- the frame that was read isn't what is given
-    pub departs : (item : Item) (n : Next m profile shelf.first shelf.last slot old next done (Ok (Some item))) (frame : Frame)
-        (at : Difference)
-        → item ≡ items.Frame frame → differs m profile done frame ≡ Some at → Same took out.after
+    pub departs : (frame : Frame) (n : Next m profile shelf.first shelf.last slot old next done (Ok (Some frame))) (at : Difference)
+        → differs m profile done frame ≡ Some at → Same took out.after
         → Ended m profile (Ok (Departs at)) read n.all shelf slot out
-    departs item n frame at item_is differ same =
-        let gone = gone-next m profile item n read stands frame item_is in
+    departs frame n at differ same =
+        let gone = gone-next m profile frame n read stands in
         let by : (rest : List ℕ) (is_ended : Bool) → Departed m profile ((read ++ n.all) ++ rest) done at is_ended =
         λ rest is_ended.
         let all = gone-first gone rest in
@@ -129,25 +129,25 @@ module _ {S G E L P : Type 0} (m : Meaning S G E L P) (profile : ProfileValue) w
         ))
 
     -- the frame wasn't taken
-    pub take-failed : (item : Item) (n : Next m profile shelf.first shelf.last slot old next done (Ok (Some item))) (frame : Frame)
+    pub take-failed : (frame : Frame) (n : Next m profile shelf.first shelf.last slot old next done (Ok (Some frame)))
         (failure : Failure) (goes_on : Type 0) (step : SinkRun)
-        → item ≡ items.Frame frame → step.before ≡ took → step.after ≡ out.after
+        → step.before ≡ took → step.after ≡ out.after
         → Takes (Err failure) (differs m profile done frame) (piece m profile done frame) goes_on step
         → Ended m profile (Err (Failed failure)) read n.all shelf slot out
-    take-failed item n frame Read goes_on step item_is before after h = absurd h
-    take-failed item n frame Write goes_on step item_is before after h =
+    take-failed frame n Read goes_on step before after h = absurd h
+    take-failed frame n Write goes_on step before after h =
         let short : GrewShort took out.after (piece m profile done frame) =
         subst (λ (b : List ℕ → Type 0). GrewShort b out.after (piece m profile done frame)) before
         (subst (λ (a : List ℕ → Type 0). GrewShort step.before a (piece m profile done frame)) after h.1) in
         ended n.reads tt (λ rest end.
-        let all = gone-first (gone-next m profile item n read stands frame item_is) rest in
+        let all = gone-first (gone-next m profile frame n read stands) rest in
         let bytes = (read ++ n.all) ++ rest in
         short-wider out.before out.after (spelled two (so_far m profile (done ++ frame ∷ []))) (upgraded m profile bytes)
         (subst (GrewShort out.before out.after) (sym (so_far-grows m profile done frame))
         (grew-then-short out.before took out.after _ _ running.grew short))
         (so_far-first m profile bytes (done ++ frame ∷ []) all.0 (is_none (fault_in bytes)) all.1
         (agree-next m profile done frame running.agree h.0)))
-    take-failed item n frame OutOfMemory goes_on step item_is before after h =
+    take-failed frame n OutOfMemory goes_on step before after h =
         let same : Same took out.after =
         subst (λ (b : List ℕ → Type 0). Same b out.after) before (subst (λ (a : List ℕ → Type 0). Same step.before a) after h) in
         ended n.reads tt (λ rest end.

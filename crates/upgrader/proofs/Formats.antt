@@ -4,8 +4,12 @@ use Rattle.std.proofs.Common.{append_assoc}
 use Rattle.std.specs.List.{flat_map}
 use Rattle.std.proofs.lemmas.Grind.{flat_map-append}
 use Rattle.det_values.specs.Values.{ProfileValue}
-use Rattle.det_values.specs.Frames.{in_format, outcome_in_format}
-use Rattle.det_values.specs.declared.format.Format.TheVariants.{Two}
+use Rattle.std.proofs.lemmas.List.Elements.{All-map}
+use Rattle.det_values.specs.Frames.{in_format, outcome_in_format, undrawn}
+use Rattle.det_values.specs.declared.format.Format.{Format}
+use Rattle.det_values.specs.declared.format.Format.TheVariants.{One, Two}
+use Rattle.det_values.specs.declared.frames.DrawnElement.{DrawnElement}
+use Rattle.det_values.specs.declared.frames.Outcome.TheVariants.{Finished, Refused}
 use Rattle.det_values.specs.declared.frames.CycleInput.{CycleInput}
 use Rattle.det_values.specs.declared.frames.Outcome.{Outcome}
 use Rattle.det_values.specs.declared.frames.RunFrame.{RunFrame}
@@ -14,8 +18,8 @@ use Rattle.det_values.specs.declared.frames.Frame.TheVariants.{Register, Discove
 use Rattle.job_trait.specs.Meaning.{Meaning}
 use Rattle.job_trait.specs.Cycle.{State, state_after, outcome_of}
 use Rattle.cycle_engine.specs.Frames.{first_state, job_of, cycle_of, state_behind, runs, init_of, frames}
-use Rattle.record_grammar.specs.Spelling.{spelled, spelled_header, spelled_frame}
-use Rattle.checker.specs.Given.{given_frame}
+use Rattle.record_grammar.specs.Spelling.{spelled, spelled_header, spelled_frame, CanSpell, MayDrawAll}
+use Rattle.checker.specs.Given.{AreAlike, given_frame}
 use Rattle.upgrader.specs.Frames.{unless_last}
 use Rattle.upgrader.specs.Upgraded.{in_format_two}
 use Rattle.upgrader.proofs.Genuine.{as_run}
@@ -98,3 +102,28 @@ pub spelled-append : (profile : ProfileValue) (xs ys : List Frame)
 spelled-append profile xs ys =
     ap (λ (s : List ℕ). spelled_header profile ++ s) (flat_map-append (spelled_frame profile.format) xs ys)
     ∙ sym (append_assoc (spelled_header profile) (flat_map (spelled_frame profile.format) xs) (flat_map (spelled_frame profile.format) ys))
+
+-- ---- what a format can spell
+
+may-draw : (format : Format) (outcome : Outcome) → MayDrawAll format (outcome_in_format format outcome)
+may-draw One (Finished elements output) = All-map (λ (e : DrawnElement). e.draws ≡ 0) undrawn elements (λ k d lt. refl)
+may-draw Two (Finished elements output) = λ k d lt. tt
+may-draw One (Refused at) = tt
+may-draw Two (Refused at) = tt
+
+-- a format can spell what it keeps of a frame
+pub spells-in : (one format : Format) (events : ℕ) (x : Frame) → CanSpell one events x → CanSpell format events (in_format format x)
+spells-in one format events Register h = tt
+spells-in one format events Discover h = tt
+spells-in one format events (Init elements) h = tt
+spells-in one format events (Run run) h = (h.0, may-draw format run.outcome)
+spells-in one format events Terminate h = tt
+
+-- it keeps the kind
+pub alike-in : (format : Format) (read x : Frame) → AreAlike read x → AreAlike read (in_format format x)
+alike-in format Register Register h = tt
+alike-in format Discover Discover h = tt
+alike-in format (Init elements) (Init others) h = tt
+alike-in format (Run run) (Run other) h = tt
+alike-in format Terminate Terminate h = tt
+alike-in format read x h = elim h [ ]

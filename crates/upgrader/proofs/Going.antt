@@ -26,10 +26,13 @@ use Rattle.record_grammar.specs.declared.fault.RecordFault.{RecordFault}
 use Rattle.record_grammar.specs.declared.item.Item.{Item}
 use Rattle.record_grammar.specs.declared.item.Item.TheVariants as items
 use Rattle.record_grammar.specs.Spelling.{spelled, spelled_frame}
-use Rattle.record_reader.specs.declared.reader.RecordReader.{RecordReader}
-use Rattle.record_reader.specs.StandsFor.{StandsFor, HasRead, ItemIs, slot_of}
+use Rattle.record_grammar.proofs.Leads.{can_follow}
+use Rattle.record_view.specs.declared.view.FrameView.{FrameView}
+use Rattle.record_reader.specs.declared.frames.FrameReader.{FrameReader}
+use Rattle.record_reader.specs.Frames.{StandsFor, HasRead, FrameIs, slot_of}
 use Rattle.record_reader.specs.Taking.{AreFirst}
-use Rattle.record_reader.proofs.Items.{are_first, NextIs, next_is, more_items, few_first}
+use Rattle.record_reader.proofs.Items.{NextIs, next_is, few_first, header_first}
+use Rattle.record_reader.proofs.FrameReading.{are_first, more_items}
 use Rattle.lockstep.specs.declared.difference.Difference.{Difference}
 use Rattle.lockstep.specs.FirstDifference.{frame_difference}
 use Rattle.run_writer.specs.declared.recording.Recording.{Recording}
@@ -37,12 +40,13 @@ use Rattle.run_writer.specs.Recording.{IsNew}
 use Rattle.replayer.specs.Again.{input_in}
 use Rattle.replayer.proofs.Items.{few-inputs}
 use Rattle.checker.specs.Departure.{frame_in}
-use Rattle.checker.specs.Given.{IsBehind, CanCome, input_of, given_frame}
+use Rattle.checker.specs.Given.{IsBehind, CanCome, IsPlaced, input_of, given_frame}
 use Rattle.checker.specs.declared.verdict.CheckVerdict.{CheckVerdict}
 use Rattle.checker.proofs.Departing.{inputs_of, departs-none}
 use Rattle.checker.proofs.Records.{inputs-are}
+use Rattle.checker.proofs.Running.{Gives, AnswersAs, gives, placed-at}
 use Rattle.upgrader.specs.declared.original.Original.{Original}
-use Rattle.upgrader.specs.Frames.{Takes, IsNoHeader, unless_last}
+use Rattle.upgrader.specs.Frames.{Takes, unless_last}
 use Rattle.upgrader.specs.Begun.{header_of}
 use Rattle.upgrader.specs.Upgraded.{in_format_two}
 use Rattle.upgrader.proofs.Order.{few_frames, AreFrames, are_frames}
@@ -58,6 +62,14 @@ two-is original profile two = ap (λ (f : Format). record profile { format = f }
 pub new-behind : {S G E L P : Type 0} (m : Meaning S G E L P) (old new : Recording S G E L P) → IsNew m old → new.engine ≡ old.engine
     → new.profile ≡ old.profile → IsBehind m new []
 new-behind {S} {G} {E} m old new h engine profile = record {
+  engine = rw (engine, profile) h.engine;
+  going = ap (λ (e : EngineState S G E). e.stopped) engine ∙ h.going;
+}
+
+-- writing changes nothing of a run
+pub written-behind : {S G E L P : Type 0} (m : Meaning S G E L P) (old new : Recording S G E L P) (given : List CycleInput)
+    → IsBehind m old given → new.engine ≡ old.engine → new.profile ≡ old.profile → IsBehind m new given
+written-behind {S} {G} {E} m old new given h engine profile = record {
   engine = rw (engine, profile) h.engine;
   going = ap (λ (e : EngineState S G E). e.stopped) engine ∙ h.going;
 }
@@ -86,14 +98,14 @@ none-of None other = refl
 -- ---- the frames that a reader gave
 
 -- a record's header was given, and these frames of it
-pub record HasGone (profile : ProfileValue) (r : RecordReader) (read : List ℕ) (done : List Frame) : Type 0 where
+pub record HasGone (profile : ProfileValue) (r : FrameReader) (read : List ℕ) (done : List Frame) : Type 0 where
   -- the items behind the header
   pub behind : List Item
   pub stands : StandsFor r read (items.Header profile ∷ behind)
   pub frames : flat_map frame_in behind ≡ done
 
 -- they come first in every record that begins with what was read
-pub gone-first : {profile : ProfileValue} {r : RecordReader} {read : List ℕ} {done : List Frame} → HasGone profile r read done
+pub gone-first : {profile : ProfileValue} {r : FrameReader} {read : List ℕ} {done : List Frame} → HasGone profile r read done
     → (rest : List ℕ) → (more : List Frame) × AreFrames profile (read ++ rest) (done ++ more)
 gone-first {profile} {r} {read} {done} h rest =
     let all = more_items r read (items.Header profile ∷ h.behind) h.stands rest in (
@@ -103,17 +115,14 @@ gone-first {profile} {r} {read} {done} h rest =
           (are_frames profile (read ++ rest) (h.behind ++ all.0) all.1),
     )
 
--- ---- the next item
+-- ---- the next frame
 
--- the items that were given and the next one come first of a record
-item-first : {profile : ProfileValue} {next : RecordReader} {all : List ℕ} (at_end : Type 0) (behind : List Item) (item : Item)
-    → ItemIs (Ok (Some item)) next at_end all (items.Header profile ∷ behind) → AreFirst (items.Header profile ∷ (behind ++ item ∷ []))
-item-first {profile} {next = next} {all = all} at_end behind item is =
-    are_first next all (items.Header profile ∷ (behind ++ item ∷ [])) is.0
-
-no-header : (profile : ProfileValue) (behind : List Item) (item : Item) → NextIs (items.Header profile ∷ behind) item → IsNoHeader item
-no-header profile behind (items.Header other) next = next
-no-header profile behind (items.Frame frame) next = tt
+-- the items that were given and the next frame come first of a record
+frame-first : {profile : ProfileValue} {next : FrameReader} {all : List ℕ} (at_end : Type 0) (behind : List Item) (frame : Frame)
+    → Gives (Ok (Some frame)) next at_end all (items.Header profile ∷ behind)
+    → AreFirst (items.Header profile ∷ (behind ++ items.Frame frame ∷ []))
+frame-first {profile} {next = next} {all = all} at_end behind frame is =
+    are_first next all (items.Header profile ∷ (behind ++ items.Frame frame ∷ [])) is.0
 
 -- what the next frame asks of a run
 can-come : (profile : ProfileValue) (behind : List Item) (frame : Frame) (cycles : ℕ)
@@ -125,15 +134,12 @@ can-come profile behind (Init elements) cycles next few = tt
 can-come profile behind (Run run) cycles next few = (omega (arith, few), next.0)
 can-come profile behind Terminate cycles next few = tt
 
-frame-in-item : (item : Item) (frame : Frame) → item ≡ items.Frame frame → frame_in item ≡ frame ∷ []
-frame-in-item item frame is = ap frame_in is
-
 module _ {S G E L P : Type 0} (m : Meaning S G E L P) (profile : ProfileValue) where
   abbrev two : ProfileValue
   two = in_format_two profile
 
   -- behind what `old` had read these bytes were read, and these frames compared and written
-  pub record Running (first now : ShelfState) (slot : ℕ) (before took : List ℕ → Type 0) (old reader : RecordReader)
+  pub record Running (first now : ShelfState) (slot : ℕ) (before took : List ℕ → Type 0) (old reader : FrameReader)
       (recording : Recording S G E L P) (more : List ℕ) (done : List Frame) : Type 0 where
     pub reads : Reads first now slot more
     pub gone : (read : List ℕ) → StandsFor old read (items.Header profile ∷ []) → HasGone profile reader (read ++ more) done
@@ -141,7 +147,7 @@ module _ {S G E L P : Type 0} (m : Meaning S G E L P) (profile : ProfileValue) w
     pub agree : Agree m profile done
     pub grew : Grew before took (spelled two (so_far m profile done))
 
-  pub running-begun : (shelf : ShelfState) (before took : List ℕ → Type 0) (reader : RecordReader) (recording : Recording S G E L P)
+  pub running-begun : (shelf : ShelfState) (before took : List ℕ → Type 0) (reader : FrameReader) (recording : Recording S G E L P)
       → IsBehind m recording [] → Grew before took (spelled two [])
       → Running shelf shelf (slot_of reader) before took reader reader recording [] []
   running-begun shelf before took reader recording behind grew = record {
@@ -154,23 +160,24 @@ module _ {S G E L P : Type 0} (m : Meaning S G E L P) (profile : ProfileValue) w
   }
 
   -- the reader's answer, of all that was read behind what `old` had read
-  pub record Next (first now : ShelfState) (slot : ℕ) (old next : RecordReader) (done : List Frame)
-      (answer : Result (Option Item) (Stopped RecordFault)) : Type 0 where
+  pub record Next (first now : ShelfState) (slot : ℕ) (old next : FrameReader) (done : List Frame)
+      (answer : Result (Option Frame) (Stopped RecordFault)) : Type 0 where
     pub all : List ℕ
     pub reads : Reads first now slot all
     -- the frames done come first, whatever follows
     pub front : (read : List ℕ) → StandsFor old read (items.Header profile ∷ [])
         → (rest : List ℕ) → (more : List Frame) × AreFrames profile ((read ++ all) ++ rest) (done ++ more)
     pub is : (read : List ℕ) → StandsFor old read (items.Header profile ∷ []) → (behind : List Item) × (flat_map frame_in behind ≡ done)
-        × ItemIs answer next (IsAtEnd now slot) (read ++ all) (items.Header profile ∷ behind)
+        × Gives answer next (IsAtEnd now slot) (read ++ all) (items.Header profile ∷ behind)
 
-  module _ {first mid now : ShelfState} {slot : ℕ} {before took : List ℕ → Type 0} {old reader : RecordReader}
+  module _ {first mid now : ShelfState} {slot : ℕ} {before took : List ℕ → Type 0} {old reader : FrameReader}
       {recording : Recording S G E L P} {more : List ℕ} {done : List Frame}
       (running : Running first mid slot before took old reader recording more done) where
-    pub next-read : (next : RecordReader) (answer : Result (Option Item) (Stopped RecordFault))
-        → HasRead mid now reader (ItemIs answer next (IsAtEnd now (slot_of reader))) → slot_of reader ≡ slot
-        → Next first now slot old next done answer
-    next-read next answer h same = record {
+    pub next-read : (next : FrameReader) (answer : Result (Option FrameView) (Stopped RecordFault))
+        (other : Result (Option Frame) (Stopped RecordFault)) → AnswersAs next answer other
+        → HasRead mid now reader (FrameIs answer next (IsAtEnd now (slot_of reader))) → slot_of reader ≡ slot
+        → Next first now slot old next done other
+    next-read next answer other fits h same = record {
       all = more ++ h.0;
       reads = reads-then running.reads (subst (λ s. Reads mid now s h.0) same h.1);
       front = λ read stands rest. subst (λ (bytes : List ℕ). (fs : List Frame) × AreFrames profile bytes (done ++ fs))
@@ -180,65 +187,63 @@ module _ {S G E L P : Type 0} (m : Meaning S G E L P) (profile : ProfileValue) w
           let gone = running.gone read stands in (
             gone.behind,
             gone.frames,
-            subst (λ s. ItemIs answer next (IsAtEnd now s) (read ++ (more ++ h.0)) (items.Header profile ∷ gone.behind)) same
-                (subst (λ (bytes : List ℕ). ItemIs answer next (IsAtEnd now (slot_of reader)) bytes (items.Header profile ∷ gone.behind))
-                (append_assoc read more h.0) (h.2 (read ++ more) (items.Header profile ∷ gone.behind) gone.stands)),
+            gives next answer other (IsAtEnd now slot) (read ++ (more ++ h.0)) (items.Header profile ∷ gone.behind) fits
+                (subst (λ s. FrameIs answer next (IsAtEnd now s) (read ++ (more ++ h.0)) (items.Header profile ∷ gone.behind)) same
+                (subst (λ (bytes : List ℕ). FrameIs answer next (IsAtEnd now (slot_of reader)) bytes (items.Header profile ∷ gone.behind))
+                (append_assoc read more h.0) (h.2 profile (read ++ more) gone.behind gone.stands).1)),
           );
     }
 
-    -- the same of an answer that is known
-    pub next-as : (next : RecordReader) (answer other : Result (Option Item) (Stopped RecordFault)) → answer ≡ other
-        → HasRead mid now reader (ItemIs answer next (IsAtEnd now (slot_of reader))) → slot_of reader ≡ slot
-        → Next first now slot old next done other
-    next-as next answer other is h same =
-        next-read next other (subst (λ a. HasRead mid now reader (ItemIs a next (IsAtEnd now (slot_of reader)))) is h) same
+    -- the place of a frame that was given
+    pub placed : (next : FrameReader) (view : FrameView) (at_end : Type 0) → HasRead mid now reader (FrameIs (Ok (Some view)) next at_end)
+        → (read : List ℕ) → StandsFor old read (items.Header profile ∷ []) → IsPlaced view.place profile
+    placed next view at_end h read stands =
+        let gone = running.gone read stands in
+        let gave = (h.2 profile (read ++ more) gone.behind gone.stands).1 in
+        placed-at view.place profile gave.frame
+        (header_first profile gone.behind view.place ((read ++ more) ++ h.0) gave.before.0 gave.before.1)
+        (can_follow view.place _ (items.Frame gave.frame) _ gave.holds.shows.read)
 
-  -- the next item was given
-  module _ {first now : ShelfState} {slot : ℕ} {old next : RecordReader} {done : List Frame} (item : Item)
-      (n : Next first now slot old next done (Ok (Some item))) (read : List ℕ)
+  -- the next frame was given
+  module _ {first now : ShelfState} {slot : ℕ} {old next : FrameReader} {done : List Frame} (frame : Frame)
+      (n : Next first now slot old next done (Ok (Some frame))) (read : List ℕ)
       (stands : StandsFor old read (items.Header profile ∷ [])) where
-    pub is-frame : IsNoHeader item
-    is-frame =
-        let is = n.is read stands in
-        no-header profile is.0 item (next_is (items.Header profile ∷ is.0) item (item-first (IsAtEnd now slot) is.0 item is.2))
-
     -- it is one of few
     pub few-done : length done < 1000005
     few-done =
         let is = n.is read stands in
-        let few = few_first (items.Header profile ∷ (is.0 ++ item ∷ [])) (item-first (IsAtEnd now slot) is.0 item is.2) in
+        let few = few_first (items.Header profile ∷ (is.0 ++ items.Frame frame ∷ [])) (frame-first (IsAtEnd now slot) is.0 frame is.2) in
         let frames = few_frames is.0 in
         let same = ap length is.1 in
-        let sum = length-append is.0 (item ∷ []) in
+        let sum = length-append is.0 (items.Frame frame ∷ []) in
         omega arith
 
-    pub comes : (frame : Frame) (recording : Recording S G E L P) → item ≡ items.Frame frame → IsBehind m recording (inputs_of done)
+    pub comes : (recording : Recording S G E L P) → IsBehind m recording (inputs_of done)
         → recording.profile ≡ two → CanCome recording.engine.cycles (length recording.profile.events) frame
-    comes frame recording item_is behind same =
+    comes recording behind same =
         let is = n.is read stands in
-        let first = item-first (IsAtEnd now slot) is.0 item is.2 in
+        let item : Item = items.Frame frame in
+        let first = frame-first (IsAtEnd now slot) is.0 frame is.2 in
         let inputs = few-inputs (items.Header profile ∷ (is.0 ++ item ∷ [])) first.place first.bytes first.rest first.leads in
         let all : flat_map input_in (is.0 ++ item ∷ []) ≡ inputs_of done ++ input_of frame =
         inputs-are (is.0 ++ item ∷ [])
-        ∙ ap inputs_of (flat_map-append frame_in is.0 (item ∷ []) ∙ ap (λ (fs : List Frame). fs ++ flat_map frame_in (item ∷ [])) is.1
-        ∙ ap (λ (x : Item). done ++ flat_map frame_in (x ∷ [])) item_is)
+        ∙ ap inputs_of (flat_map-append frame_in is.0 (item ∷ []) ∙ ap (λ (fs : List Frame). fs ++ frame ∷ []) is.1)
         ∙ inputs-next done frame in
         let len = ap length all in
         let sum = length-append (inputs_of done) (input_of frame) in
         let cycles = behind.engine.cycles in
         subst (λ (p : ProfileValue). CanCome recording.engine.cycles (length p.events) frame) (sym same)
-        (can-come profile is.0 frame recording.engine.cycles
-        (subst (NextIs (items.Header profile ∷ is.0)) item_is (next_is (items.Header profile ∷ is.0) item first)) (omega arith))
+        (can-come profile is.0 frame recording.engine.cycles (next_is (items.Header profile ∷ is.0) item first) (omega arith))
 
     -- it was taken
-    pub gone-next : (frame : Frame) → item ≡ items.Frame frame → HasGone profile next (read ++ n.all) (done ++ frame ∷ [])
-    gone-next frame item_is =
+    pub gone-next : HasGone profile next (read ++ n.all) (done ++ frame ∷ [])
+    gone-next =
         let is = n.is read stands in
+        let item : Item = items.Frame frame in
         record {
           behind = is.0 ++ item ∷ [];
           stands = is.2.0;
-          frames = flat_map-append frame_in is.0 (item ∷ []) ∙ ap (λ (fs : List Frame). fs ++ flat_map frame_in (item ∷ [])) is.1
-              ∙ ap (λ (x : Item). done ++ flat_map frame_in (x ∷ [])) item_is;
+          frames = flat_map-append frame_in is.0 (item ∷ []) ∙ ap (λ (fs : List Frame). fs ++ frame ∷ []) is.1;
         }
 
   -- ---- a frame
@@ -278,16 +283,16 @@ module _ {S G E L P : Type 0} (m : Meaning S G E L P) (profile : ProfileValue) w
       (ap (flat_map (spelled_frame two.format)) (append-nil _) ∙ spelled-kept m two two (inputs_of done) frame)
 
   -- one frame more was compared and written
-  pub running-next : {first mid now : ShelfState} {slot : ℕ} {before took : List ℕ → Type 0} {old reader : RecordReader}
+  pub running-next : {first mid now : ShelfState} {slot : ℕ} {before took : List ℕ → Type 0} {old reader : FrameReader}
       {recording : Recording S G E L P} {more : List ℕ} {done : List Frame}
-      → Running first mid slot before took old reader recording more done → (item : Item) (next : RecordReader)
-      → (n : Next first now slot old next done (Ok (Some item))) (frame : Frame) (later : Recording S G E L P) (after : List ℕ → Type 0)
-      → item ≡ items.Frame frame → differs done frame ≡ None → Grew took after (piece done frame)
+      → Running first mid slot before took old reader recording more done → (next : FrameReader) (frame : Frame)
+      → (n : Next first now slot old next done (Ok (Some frame))) (later : Recording S G E L P) (after : List ℕ → Type 0)
+      → differs done frame ≡ None → Grew took after (piece done frame)
       → IsBehind m later (inputs_of done ++ input_of frame)
       → Running first now slot before after old next later n.all (done ++ frame ∷ [])
-  running-next {before = before} {done = done} running item next n frame later after item_is same grew behind = record {
+  running-next {before = before} {done = done} running next frame n later after same grew behind = record {
     reads = n.reads;
-    gone = λ read stands. gone-next item n read stands frame item_is;
+    gone = λ read stands. gone-next frame n read stands;
     behind = subst (IsBehind m later)
         (sym (inputs-next done frame)) behind;
     agree = agree-next m profile done frame running.agree same;
@@ -297,7 +302,7 @@ module _ {S G E L P : Type 0} (m : Meaning S G E L P) (profile : ProfileValue) w
   -- ---- traffic
 
   -- no write failed where the reader stopped
-  pub no-write : {first now : ShelfState} {slot : ℕ} {old next : RecordReader} {done : List Frame} (why : Stopped RecordFault)
+  pub no-write : {first now : ShelfState} {slot : ℕ} {old next : FrameReader} {done : List Frame} (why : Stopped RecordFault)
       (read : List ℕ) → StandsFor old read (items.Header profile ∷ []) → Next first now slot old next done (Err why)
       → (sink : SinkRun) → SinkTraffic sink None → SinkTraffic sink (failure_in {A = CheckVerdict} (Err why))
   no-write (Refused fault) read stands n sink t = t

@@ -1,18 +1,22 @@
 -- Where a record is upgraded from.
-use Rattle.std.specs.Prelude.{◌≡◌, ℕ, ◌<◌, List, [], ◌∷◌}
+use Rattle.std.specs.Prelude.{◌≡◌}
+use Rattle.det_values.specs.declared.format.Format.{Format}
 use Rattle.det_values.specs.declared.format.Format.TheVariants.{Two}
 use Rattle.det_values.specs.Values.{ProfileValue}
 use Rattle.det_edges.specs.Shelf.{ShelfState}
 use Rattle.job_trait.specs.Meaning.{Meaning}
-use Rattle.record_grammar.specs.declared.item.Item.TheVariants as items
-use Rattle.record_reader.specs.StandsFor.{StandsFor, slot_of}
+use Rattle.record_reader.specs.Frames.{IsOpen}
 use Rattle.run_writer.specs.declared.recording.Recording.{Recording}
 use Rattle.run_writer.specs.Recording.{IsNew}
 use Rattle.upgrader.specs.declared.original.Original.{Original}
 
+-- the same profile in another format
+abbrev pub in_format_of : Format → ProfileValue → ProfileValue
+in_format_of format profile = record profile { format = format }
+
 -- the header of a record, by the profile of the run that is written of it
 abbrev pub header_of : Original → ProfileValue → ProfileValue
-header_of original profile = record profile { format = original.format }
+header_of original profile = in_format_of original.format profile
 
 -- nothing of the run was written, which is one of format 2; and of the record its header alone was
 -- given, which is the run's but for the format
@@ -20,6 +24,4 @@ pub record IsBegun {S G E L P : Type 0} (m : Meaning S G E L P) (recording : Rec
     (original : Original) (shelf : ShelfState) : Type 0 where
   pub new : IsNew m recording
   pub two : recording.profile.format ≡ Two
-  pub gave : (read : List ℕ) × StandsFor original.reader read
-      (items.Header (header_of original recording.profile) ∷ [])
-  pub slot : slot_of original.reader < shelf.slots
+  pub opened : IsOpen original.frames (header_of original recording.profile) shelf

@@ -9,17 +9,10 @@ use Rattle.det_edges.specs.Traffic.{SinkRun}
 use Rattle.det_edges.specs.declared.failure.Failure.{Failure}
 use Rattle.det_edges.specs.declared.failure.Failure.TheVariants.{Read, Write, OutOfMemory}
 use Rattle.job_trait.specs.Meaning.{Meaning}
-use Rattle.record_grammar.specs.declared.item.Item.{Item}
-use Rattle.record_grammar.specs.declared.item.Item.TheVariants as items
 use Rattle.lockstep.specs.declared.difference.Difference.{Difference}
 use Rattle.run_writer.specs.declared.recording.Recording.{Recording}
 use Rattle.checker.specs.Given.{IsBehind, input_of}
 use Rattle.upgrader.specs.declared.upgrading.Upgrade.{Upgrade}
-
--- an item behind the header
-abbrev pub IsNoHeader : Item → Type 0
-IsNoHeader (items.Header profile) = ⊥
-IsNoHeader (items.Frame frame) = Unit {0}
 
 -- what is written in the place of a frame: of Terminate nothing yet
 abbrev pub unless_last : Frame → List ℕ → List ℕ

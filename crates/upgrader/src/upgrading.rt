@@ -5,20 +5,21 @@ ghost use Rattle.det_edges.specs.Traffic.{ShelfTraffic, SinkTraffic};
 ghost use Rattle.det_edges.specs.Traffic.{shelf_run, sink_run, failure_in, failure_of};
 ghost use Rattle.record_grammar.specs.declared.item.Item.TheVariants as items;
 ghost use Rattle.record_grammar.specs.Spelling.{spelled};
-ghost use Rattle.record_reader.specs.StandsFor.{StandsFor, slot_of};
+ghost use Rattle.record_reader.specs.Frames.{StandsFor, slot_of};
 ghost use Rattle.run_writer.specs.Recording.{Cuts};
 ghost use Rattle.upgrader.specs.Begun.{IsBegun, header_of};
 ghost use Rattle.upgrader.specs.Ends.{IsUpgraded};
-ghost use Rattle.upgrader.specs.Frames.{IsNoHeader, unless_last};
+ghost use Rattle.upgrader.specs.Frames.{unless_last};
 ghost use Rattle.checker.specs.Given.{input_of};
 
 use crate::Original;
-use checker::{CheckVerdict, given_frame};
+use checker::{CheckVerdict, Compared, FrameRoom};
 use det_edges::{Failure, Sink, Slots, Stopped};
 use det_values::{Format, Frame, OutOfMemory, as_format};
 use job_trait::{Job, Pool};
-use lockstep::{Difference, first_difference};
-use record_grammar::{Item, RecordFault};
+use lockstep::Difference;
+use record_grammar::RecordFault;
+use record_view::FrameView;
 use run_writer::Recording;
 
 /// What of a record was compared.
@@ -30,45 +31,57 @@ struct Upgrade {
     compared: u32,
     /// How many of them are Run frames.
     cycles: u32,
+    room: FrameRoom,
 }
 
 impl Upgrade {
     ghost use Rattle.std.specs.Prelude.{◌<◌, ◌≤◌, ◌++◌, length, IfOk};
     ghost use Rattle.det_values.specs.Frames.{in_format};
     ghost use Rattle.det_values.specs.declared.frames.CycleInput.{CycleInput as Input};
+    ghost use Rattle.det_values.specs.declared.frames.Frame.{Frame as FrameValue};
     ghost use Rattle.record_grammar.specs.Spelling.{spelled_frame};
+    ghost use Rattle.record_view.specs.Shows.{IsFrameSpelling};
     ghost use Rattle.lockstep.specs.FirstDifference.{frame_difference};
-    ghost use Rattle.checker.specs.Given.{IsBehind, CanCome, input_of, given_frame};
+    ghost use Rattle.checker.specs.Compared.{given_in};
+    ghost use Rattle.checker.specs.Given.{IsBehind, CanCome, IsPlaced, input_of, given_frame};
+    ghost use Rattle.upgrader.specs.Begun.{in_format_of};
     ghost use Rattle.upgrader.specs.Frames.{Counted, GoesOn, Takes};
 
     /// Makes what is given in the place of a frame that was read what is written next, and compares
     /// the two in the format of the record.
     fn compare<J: Job, P: Pool<J>>(
-        &self,
+        &mut self,
         recording: &mut Recording<J>,
         pool: &mut P,
-        read: &Frame,
-    ) -> Result<Option<Difference>, OutOfMemory>
+        view: FrameView,
+        bytes: &[u8],
+    ) -> Result<Compared, OutOfMemory>
         requires behind { (given : List Input) × IsBehind J.meaning recording.old given }
-        requires comes { CanCome recording.old.engine.cycles (length recording.old.profile.events)
-            read.now }
-        ensures compared { IfOk result (λ difference. (given : List Input)
-            → IsBehind J.meaning recording.old given
-            → difference ≡ frame_difference self.now.compared read.now (in_format self.now.format
-            (given_frame J.meaning recording.old.profile given read.now))) }
-        ensures spelled { OnOk result ((given : List Input)
-            → IsBehind J.meaning recording.old given
+        requires comes { (read : FrameValue) × IsFrameSpelling view read bytes.now
+            × CanCome recording.old.engine.cycles (length recording.old.profile.events) read }
+        requires placed { IsPlaced view.place (in_format_of self.old.format
+            recording.old.profile) }
+        ensures read { IfOk result (λ compared. (read : FrameValue)
+            → IsFrameSpelling view read bytes.now → compared.read ≡ read) }
+        ensures given { IfOk result (λ compared. (given : List Input) (read : FrameValue)
+            → IsBehind J.meaning recording.old given → IsFrameSpelling view read bytes.now
+            → given_in compared ≡ in_format self.old.format
+            (given_frame J.meaning recording.old.profile given read)) }
+        ensures spelled { OnOk result ((given : List Input) (read : FrameValue)
+            → IsBehind J.meaning recording.old given → IsFrameSpelling view read bytes.now
             → recording.new.buffer.items ≡ spelled_frame recording.old.profile.format
-            (given_frame J.meaning recording.old.profile given read.now)) }
-        ensures behind { OnOk result ((given : List Input)
-            → IsBehind J.meaning recording.old given
-            → IsBehind J.meaning recording.new (given ++ input_of read.now)) }
+            (given_frame J.meaning recording.old.profile given read)) }
+        ensures behind { OnOk result ((given : List Input) (read : FrameValue)
+            → IsBehind J.meaning recording.old given → IsFrameSpelling view read bytes.now
+            → IsBehind J.meaning recording.new (given ++ input_of read)) }
         ensures profile { recording.new.profile ≡ recording.old.profile }
+        ensures counts { (self.new.format ≡ self.old.format)
+            × (self.new.compared ≡ self.old.compared) × (self.new.cycles ≡ self.old.cycles) }
     {
-        let mut given = given_frame(recording, pool, read)?;
+        let mut given = self.room.give(recording, pool, view, bytes)?;
         recording.spell(&given)?;
         as_format(self.format, &mut given);
-        Ok(first_difference(self.compared, read, &given))
+        self.room.compare(view, bytes, given)
     }
 
     /// Counts a frame that agrees.
@@ -83,20 +96,24 @@ impl Upgrade {
     }
 
     /// Compares a frame that was read with the one that is given in its place, and writes that one,
-    /// unless it is Terminate. Where they differ it answers how, and writes nothing.
+    /// unless it is Terminate. Where they differ it returns how, and writes nothing.
     fn take<J: Job, P: Pool<J>, K: Sink>(
         &mut self,
         recording: &mut Recording<J>,
         pool: &mut P,
-        read: Frame,
+        view: FrameView,
+        bytes: &[u8],
         sink: &mut K,
     ) -> Result<Option<Difference>, Failure>
         requires behind { (given : List Input) × IsBehind J.meaning recording.old given }
-        requires comes { CanCome recording.old.engine.cycles (length recording.old.profile.events)
-            read }
+        requires comes { (read : FrameValue) × IsFrameSpelling view read bytes.now
+            × CanCome recording.old.engine.cycles (length recording.old.profile.events) read }
+        requires placed { IsPlaced view.place (in_format_of self.old.format
+            recording.old.profile) }
         requires few { self.old.compared < 4294967295 }
         requires cycles { self.old.cycles ≤ self.old.compared }
-        ensures takes { (given : List Input) → IsBehind J.meaning recording.old given
+        ensures takes { (given : List Input) (read : FrameValue)
+            → IsBehind J.meaning recording.old given → IsFrameSpelling view read bytes.now
             → Takes result (frame_difference self.old.compared read (in_format self.old.format
             (given_frame J.meaning recording.old.profile given read)))
             (unless_last read (spelled_frame recording.old.profile.format
@@ -108,11 +125,14 @@ impl Upgrade {
         ensures traffic { SinkTraffic (sink_run K.took K.faults sink.old sink.new)
             (failure_of result) }
     {
-        if let Some(at) = self.compare(recording, pool, &read)? {
+        let compared = self.compare(recording, pool, view, bytes)?;
+        if let Some(at) = compared.difference(self.compared) {
             return Ok(Some(at));
         }
+        let Compared { read, .. } = compared;
         self.count(&read);
         write_unless_last(recording, &read, sink)?;
+        self.room.reuse(read);
         Ok(None)
     }
 }
@@ -166,25 +186,14 @@ fn write_header<J: Job, K: Sink>(recording: &mut Recording<J>, sink: &mut K) -> 
     recording.write(sink)
 }
 
-/// The frame of an item that isn't a header.
-fn frame_of(item: Item) -> Frame
-    requires { IsNoHeader item }
-    ensures { item ≡ items.Frame result }
-{
-    match item {
-        Item::Frame(frame) => frame,
-        Item::Header(_) => unreachable!(),
-    }
-}
-
 /// Runs a job on a pool over the inputs of a record's runs, and writes the record of that run in
 /// format 2: the header, then each frame of the record that is what the inputs give. The two are
 /// compared as the record's format keeps them, so draws only where that is format 2. At the first
-/// difference the upgrade is over: nothing is written in its place, and no more is read. The reader
-/// has given the header alone.
+/// difference the upgrade is over: nothing is written in its place, and no more is read. Of the
+/// record the header alone was given.
 ///
-/// Terminate is written once the record was read to its end and is whole. `Refused` tells the
-/// record's fault, where no difference stands before it. After an error neither recording nor
+/// Terminate is written once the record was read to its end and is whole. `Refused` has the
+/// record's fault, where it has no difference before that. After an error neither recording nor
 /// original is to be used.
 pub fn upgrade_run<J: Job, P: Pool<J>, S: Slots, K: Sink>(
     recording: &mut Recording<J>,
@@ -196,10 +205,10 @@ pub fn upgrade_run<J: Job, P: Pool<J>, S: Slots, K: Sink>(
     requires { IsBegun J.meaning recording.old original.old (S.sees shelf.old) }
     // By the bytes that were read before.
     ensures upgraded { (read : List ℕ)
-        → StandsFor original.old.reader read
+        → StandsFor original.old.frames read
         (items.Header (header_of original.old recording.old.profile) ∷ [])
         → IsUpgraded J.meaning (header_of original.old recording.old.profile) read
-        (slot_of original.old.reader) (shelf_run S.sees S.stays shelf.old shelf.new)
+        (slot_of original.old.frames) (shelf_run S.sees S.stays shelf.old shelf.new)
         (sink_run K.took K.faults sink.old sink.new) result }
     ensures shelf_traffic { ShelfTraffic (shelf_run S.sees S.stays shelf.old shelf.new)
         (failure_in result) }
@@ -211,16 +220,17 @@ pub fn upgrade_run<J: Job, P: Pool<J>, S: Slots, K: Sink>(
         format: original.format,
         compared: 0,
         cycles: 0,
+        room: FrameRoom::new(recording.alloc()),
     };
-    'items: loop {
-        let Some(item) = original.reader.next_item(shelf)? else {
+    'reading: loop {
+        let Some(view) = original.frames.next(shelf)? else {
             recording.close(sink)?;
             return Ok(CheckVerdict::Genuine {
                 cycles: upgrade.cycles,
             });
         };
-        let read = frame_of(item);
-        if let Some(at) = upgrade.take(recording, pool, read, sink)? {
+        let bytes = original.frames.bytes(view);
+        if let Some(at) = upgrade.take(recording, pool, view, bytes, sink)? {
             return Ok(CheckVerdict::Departs(at));
         }
     }

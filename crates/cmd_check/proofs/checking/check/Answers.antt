@@ -1,4 +1,4 @@
-use Rattle.std.proofs.Common.{List, ℕ, [], ◌∷◌, refl, subst}
+use Rattle.std.proofs.Common.{[], ◌∷◌, refl}
 use Rattle.det_edges.specs.Count.{Rose}
 use Rattle.det_edges.specs.Traffic.{sink_run}
 use Rattle.det_edges.proofs.Opening.{asks-all, asks-then-kept}
@@ -8,7 +8,8 @@ use Rattle.cli_answers.specs.Outcome.{Tells, told}
 use Rattle.recorded_run.proofs.Beginning.{tells-name, meets-told, if-refused}
 use Rattle.recorded_run.proofs.Ending.{meets-end}
 use Rattle.recorded_run.proofs.Resting.{rest, rest-told}
-use Rattle.cmd_check.specs.Check.{checked_by, SawFirst}
+use Rattle.cmd_check.specs.Check.{checked_by}
+use Rattle.cmd_check.proofs.Seeing.{saw-whole}
 use Rattle.cmd_check.proofs.checking.check.Goals as goal
 
 pub returns-in-Ok-clause-meets : goal.returns-in-Ok-clause-meets
@@ -34,8 +35,9 @@ returns-in-Ok-clause-saw g c ne tells =
     let old = seen (λ b. (goal.Probe-dyn g (b.vtable, b.value)).life b.value) c.args.audience.now in
     let now = seen (λ b. (goal.Probe-dyn g (b.vtable, b.value)).life b.value) c.check_by_crew.new.audience in
     let begun = c.in-Ok.ensures.begun in
-    let left = rest-told begun (tells-name first name tells) in
-    subst (λ (bytes : List ℕ). SawFirst old now bytes) left.1
+    let known = tells-name first name tells in
+    let left = rest-told begun known in
+    saw-whole begun old now (told first name) (c.in-Ok.ensures.run known) left.1
     (c.check_by_crew.ensures.saw begun.read (rest begun) begun.gave ne left.0)
 
 pub returns-in-Err-clause-meets : goal.returns-in-Err-clause-meets

@@ -19,7 +19,7 @@ returns-in-Err-checked-clause-meets g c read rest stands =
     let sink = sink_run g.K.Sink.took g.K.Sink.faults c.args.out.now c.with_crew.new.sink in
     let old = seen (λ b. (goal.Probe-dyn g (b.vtable, b.value)).life b.value) c.args.audience.now in
     let now = seen (λ b. (goal.Probe-dyn g (b.vtable, b.value)).life b.value) c.with_crew.new.audience in
-    met-stop run.kind run.profile run.reader read stands shelf sink old now c.in-Ok.checked c.in-Ok.ensures.given c.in-Err-checked.stop rest
+    met-stop run.kind run.profile run.frames read stands shelf sink old now c.in-Ok.checked c.in-Ok.ensures.given c.in-Err-checked.stop rest
     (Rose sink.faults_before sink.faults_after) c.from.result c.in-Err-checked.is c.from.ensures
 
 pub returns-in-Err-checked-clause-asked : goal.returns-in-Err-checked-clause-asked
@@ -29,8 +29,8 @@ returns-in-Err-checked-clause-asked g c =
     let sink = sink_run g.K.Sink.took g.K.Sink.faults c.args.out.now c.with_crew.new.sink in
     let old = seen (λ b. (goal.Probe-dyn g (b.vtable, b.value)).life b.value) c.args.audience.now in
     let now = seen (λ b. (goal.Probe-dyn g (b.vtable, b.value)).life b.value) c.with_crew.new.audience in
-    let gave = c.requires.can.gave in
-    kept-by-kind run.kind run.profile run.reader gave.0 gave.1 shelf sink old now c.in-Ok.checked c.in-Ok.ensures.given
+    let gave = c.requires.opened.gave in
+    kept-by-kind run.kind run.profile run.frames gave.0 gave.1 shelf sink old now c.in-Ok.checked c.in-Ok.ensures.given
 
 pub returns-in-Err-checked-clause-saw : goal.returns-in-Err-checked-clause-saw
 returns-in-Err-checked-clause-saw g c read rest stands ne told =
@@ -39,7 +39,7 @@ returns-in-Err-checked-clause-saw g c read rest stands ne told =
     let sink = sink_run g.K.Sink.took g.K.Sink.faults c.args.out.now c.with_crew.new.sink in
     let old = seen (λ b. (goal.Probe-dyn g (b.vtable, b.value)).life b.value) c.args.audience.now in
     let now = seen (λ b. (goal.Probe-dyn g (b.vtable, b.value)).life b.value) c.with_crew.new.audience in
-    saw-stop run.kind run.profile run.reader read stands shelf sink old now c.in-Ok.checked c.in-Ok.ensures.given c.in-Err-checked.stop rest
+    saw-stop run.kind run.profile run.frames read stands shelf sink old now c.in-Ok.checked c.in-Ok.ensures.given c.in-Err-checked.stop rest
     c.from.result c.in-Err-checked.is c.from.ensures ne told
 
 pub returns-in_default-clause-meets : goal.returns-in_default-clause-meets
@@ -49,7 +49,7 @@ returns-in_default-clause-meets g c read rest stands =
     let sink = sink_run g.K.Sink.took g.K.Sink.faults c.args.out.now c.with_crew.new.sink in
     let old = seen (λ b. (goal.Probe-dyn g (b.vtable, b.value)).life b.value) c.args.audience.now in
     let now = seen (λ b. (goal.Probe-dyn g (b.vtable, b.value)).life b.value) c.with_crew.new.audience in
-    met-unprinted run.kind run.profile run.reader read stands shelf sink old now c.in-Ok.checked c.in-Ok.ensures.given rest
+    met-unprinted run.kind run.profile run.frames read stands shelf sink old now c.in-Ok.checked c.in-Ok.ensures.given rest
     (Rose sink.faults_before sink.faults_after)
 
 pub returns-in_default-clause-asked : goal.returns-in_default-clause-asked
@@ -59,8 +59,8 @@ returns-in_default-clause-asked g c =
     let sink = sink_run g.K.Sink.took g.K.Sink.faults c.args.out.now c.with_crew.new.sink in
     let old = seen (λ b. (goal.Probe-dyn g (b.vtable, b.value)).life b.value) c.args.audience.now in
     let now = seen (λ b. (goal.Probe-dyn g (b.vtable, b.value)).life b.value) c.with_crew.new.audience in
-    let gave = c.requires.can.gave in
-    kept-by-kind run.kind run.profile run.reader gave.0 gave.1 shelf sink old now c.in-Ok.checked c.in-Ok.ensures.given
+    let gave = c.requires.opened.gave in
+    kept-by-kind run.kind run.profile run.frames gave.0 gave.1 shelf sink old now c.in-Ok.checked c.in-Ok.ensures.given
 
 pub returns-clause-meets : goal.returns-clause-meets
 returns-clause-meets g c read rest stands =
@@ -73,7 +73,7 @@ returns-clause-meets g c read rest stands =
     let printed = subst (λ reports. Meets (outcome_by (Ok c.in-Ok-checked.verdict) reports) (Unit {0}) ⊥
     (Rose out.faults_before out.faults_after) out.before out.after c.print.result)
     (c.reports.ensures ∙ c.in-Ok-finish.ensures.left) c.print.ensures.meets in
-    met-verdict run.kind run.profile run.reader read stands shelf sink old now c.in-Ok.checked c.in-Ok.ensures.given
+    met-verdict run.kind run.profile run.frames read stands shelf sink old now c.in-Ok.checked c.in-Ok.ensures.given
     c.in-Ok-checked.verdict rest out.after out.faults_after c.print.result c.in-Ok-checked.is printed
 
 pub returns-clause-asked : goal.returns-clause-asked
@@ -83,8 +83,8 @@ returns-clause-asked g c =
     let sink = sink_run g.K.Sink.took g.K.Sink.faults c.args.out.now c.with_crew.new.sink in
     let old = seen (λ b. (goal.Probe-dyn g (b.vtable, b.value)).life b.value) c.args.audience.now in
     let now = seen (λ b. (goal.Probe-dyn g (b.vtable, b.value)).life b.value) c.with_crew.new.audience in
-    let gave = c.requires.can.gave in
-    kept-by-kind run.kind run.profile run.reader gave.0 gave.1 shelf sink old now c.in-Ok.checked c.in-Ok.ensures.given
+    let gave = c.requires.opened.gave in
+    kept-by-kind run.kind run.profile run.frames gave.0 gave.1 shelf sink old now c.in-Ok.checked c.in-Ok.ensures.given
 
 pub returns-clause-saw : goal.returns-clause-saw
 returns-clause-saw g c read rest stands ne told =
@@ -94,5 +94,5 @@ returns-clause-saw g c read rest stands ne told =
     let old = seen (λ b. (goal.Probe-dyn g (b.vtable, b.value)).life b.value) c.args.audience.now in
     let now = seen (λ b. (goal.Probe-dyn g (b.vtable, b.value)).life b.value) c.with_crew.new.audience in
     let last = seen (λ b. (goal.Probe-dyn g (b.vtable, b.value)).life b.value) c.finish.new.self in
-    saw-verdict run.kind run.profile run.reader read stands shelf sink old now c.in-Ok.checked c.in-Ok.ensures.given
+    saw-verdict run.kind run.profile run.frames read stands shelf sink old now c.in-Ok.checked c.in-Ok.ensures.given
     c.in-Ok-checked.verdict rest last c.in-Ok-checked.is c.in-Ok-finish.ensures.none c.in-Ok-finish.ensures.left told

@@ -10,7 +10,7 @@ use Rattle.cmd_upgrade.proofs.upgrading.upgrade_by_crew.Goals as goal
 pub returns-in-Ok-clause-meets : goal.returns-in-Ok-clause-meets
 returns-in-Ok-clause-meets g c read rest stands =
     let run = c.args.run in
-    let original : Original = record { format = c.profile.inside.format; reader = run.reader } in
+    let original : Original = record { format = c.profile.inside.format; frames = run.frames } in
     let format = ap (λ (p : ProfileValue). p.format) c.profile.view_is in
     let shelf = shelf_run g.S.Slots.sees g.S.Slots.stays c.args.shelf.now c.with_crew.new.shelf in
     let out = sink_run g.K.Sink.took g.K.Sink.faults c.args.out.now c.with_crew.new.sink in
@@ -22,11 +22,11 @@ returns-in-Ok-clause-meets g c read rest stands =
 pub returns-in-Ok-clause-asked : goal.returns-in-Ok-clause-asked
 returns-in-Ok-clause-asked g c =
     let run = c.args.run in
-    let original : Original = record { format = c.profile.inside.format; reader = run.reader } in
+    let original : Original = record { format = c.profile.inside.format; frames = run.frames } in
     let format = ap (λ (p : ProfileValue). p.format) c.profile.view_is in
     let shelf = shelf_run g.S.Slots.sees g.S.Slots.stays c.args.shelf.now c.with_crew.new.shelf in
     let out = sink_run g.K.Sink.took g.K.Sink.faults c.args.out.now c.with_crew.new.sink in
     let visited = subst (λ (p : ProfileValue). of_kind (λ S G E L P m. HasUpgraded m p original shelf out c.in-Ok.upgraded) run.kind)
     c.in_format_two-profile.ensures c.in-Ok.ensures.given in
-    let gave = c.requires.gave in
+    let gave = c.requires.opened.gave in
     kept-by-kind run.kind run.profile original shelf out c.in-Ok.upgraded format gave.0 gave.1 visited
