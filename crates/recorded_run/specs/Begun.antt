@@ -6,8 +6,8 @@ use Rattle.item_reader.specs.StandsFor.{ReadsIfNeeded}
 use Rattle.record_reader.specs.Frames.{StandsFor, slot_of}
 use Rattle.recorded_run.specs.declared.run.RecordedRun.{RecordedRun}
 
--- the name was opened in the reader's slot, these bytes were read of it, which the header needs, and
--- the header given
+-- the name was opened in the reader's slot, these bytes were read of it, which the header needs,
+-- and the header given
 pub record HasBegun (first last : ShelfState) (name : List ℕ) (run : RecordedRun) : Type 0 where
   pub opened : ShelfState
   pub read : List ℕ
