@@ -137,9 +137,12 @@ take-requires-clause-comes g c =
     let n = next-read m profile running c.next.new.self (Ok (Some c.in-Some.view)) (Ok (Some held.0)) held.1
     (subst (λ (o : Option FrameView). HasRead (g.S.Slots.sees c.reading.shelf) (g.S.Slots.sees c.next.new.shelf) c.reading.original.frames
     (FrameIs (Ok o) c.next.new.self (IsAtEnd (g.S.Slots.sees c.next.new.shelf) (slot_of c.reading.original.frames)))) c.in-Some.is
-    c.in_ok-view.ensures.frame) c.reading.invariant.slot in
-    (held.0, c.bytes-bytes.ensures held.0 held.1, comes m profile held.0 n gave.0 gave.1 c.reading.recording running.behind
-    c.reading.invariant.profile)
+    c.in_ok-view.ensures.frame) c.reading.invariant.slot in (
+      held.0,
+      c.bytes-bytes.ensures held.0 held.1,
+      comes m profile held.0 n gave.0 gave.1 c.reading.recording running.behind
+          c.reading.invariant.profile,
+    )
 
 pub take-requires-clause-placed : goal.take-requires-clause-placed
 take-requires-clause-placed g c =
