@@ -1,2 +1,3 @@
 mod Beginning
+pub mod ElementBytes
 pub mod Standing

@@ -1,3 +1,4 @@
+pub mod Elements
 pub mod Frames
 pub mod Engine
 pub mod Answers

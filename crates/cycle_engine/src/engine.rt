@@ -1,7 +1,7 @@
 //! A job with all that it keeps between cycles.
 ghost use Rattle.std.specs.Prelude.{◌≡◌, ℕ, ◌+◌, ◌<◌, ◌≤◌, List, [], ◌∷◌, ◌++◌, length, map};
 ghost use Rattle.std.specs.Prelude.{IfOk, OnOk, OnErr, None, true, false};
-ghost use Rattle.std.specs.List.{All};
+ghost use Rattle.std.specs.List.{All, flat_map};
 ghost use Rattle.std.specs.Arc.{arc_value};
 ghost use Rattle.det_values.specs.Values.{ProfileValue, SampleValue, EventSpecValue};
 ghost use Rattle.det_values.specs.declared.frames.CycleInput.{CycleInput as Input};
@@ -11,10 +11,12 @@ ghost use Rattle.event_cache.specs.Rings.{windows};
 ghost use Rattle.event_cache.specs.Windows.{HasSeen, next_windows};
 ghost use Rattle.job_trait.specs.Cycle.{outcome_of, state_after};
 ghost use Rattle.cycle_engine.specs.Answers.{IsCycle};
+ghost use Rattle.cycle_engine.specs.Elements.{with_length};
 ghost use Rattle.cycle_engine.specs.Frames.{frame_of, state_of};
 ghost use Rattle.cycle_engine.specs.Engine.{StandsFor, EngineState, IsAfter};
 ghost use Rattle.cycle_engine.specs.Engine.{next_cycle, next_frame};
 
+use crate::element_bytes::put_element;
 use crate::fault::{CycleFault, in_prepare};
 use crate::owners::{again, shared};
 use crate::passes::Passes;
@@ -142,6 +144,18 @@ impl<J: Job> Engine<J> {
             shown.push(Bytes64::of(bytes.as_slice()))?;
         }
         Ok(shown)
+    }
+
+    /// Appends the bytes of the present elements, in order, each after their number in two bytes. A
+    /// refused call may leave some of them.
+    pub fn put_elements(&self, out: &mut Vec<u8>) -> Result<(), OutOfMemory>
+        ensures { OnOk result (out.new.items ≡ out.old.items ++ flat_map with_length
+            (map (J.meaning.shown self.now.job) self.now.state.elements)) }
+    {
+        for i in 0..self.elements.len() {
+            put_element(&*self.job, self.elements.item(i), out)?;
+        }
+        Ok(())
     }
 
     /// Runs the phases of the next cycle. The windows, globals and elements stay.

@@ -2,6 +2,7 @@
 #![tactic(auto)]
 
 mod draws;
+mod element_bytes;
 mod engine;
 mod fault;
 mod owners;

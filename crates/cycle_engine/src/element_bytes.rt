@@ -1,0 +1,27 @@
+//! Elements, appended as a record's Init spells them.
+ghost use Rattle.std.specs.Prelude.{◌≡◌, ◌++◌, OnOk};
+ghost use Rattle.cycle_engine.specs.Elements.{with_length};
+
+use det_values::OutOfMemory;
+use det_values::put::fill_u16;
+use job_trait::Job;
+
+/// Appends an element's bytes after their number, which is put into its place once it is known. A
+/// refused call may leave some of it.
+#[inline(always)]
+pub(crate) fn put_element<J: Job>(
+    job: &J,
+    element: &J::Element,
+    out: &mut Vec<u8>,
+) -> Result<(), OutOfMemory>
+    requires { J.Own job.now element.now }
+    ensures { OnOk result (out.new.items ≡ out.old.items
+        ++ with_length (J.meaning.shown job.now element.now)) }
+{
+    let at = out.len();
+    out.extend_from_slice(&[0, 0])?;
+    job.put_element(element, out)?;
+    let length = out.len() - at - 2;
+    fill_u16(out, at, length as u16);
+    Ok(())
+}
