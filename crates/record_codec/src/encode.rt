@@ -1,9 +1,11 @@
 //! Writing a record.
-ghost use Rattle.std.specs.Prelude.{◌≡◌, ◌++◌, OnOk, OnErr};
+ghost use Rattle.std.specs.Prelude.{◌≡◌, ℕ, List, ◌++◌, length, OnOk, OnErr};
+ghost use Rattle.std.specs.List.{flat_map};
+ghost use Rattle.det_values.specs.declared.format.Format.{Format as AnyFormat};
 ghost use Rattle.record_grammar.specs.Spelling.{spelled_header, IsHeader, spelled_frame, CanSpell};
-ghost use Rattle.record_grammar.specs.Spelling.{IsFrame};
+ghost use Rattle.record_grammar.specs.Spelling.{IsFrame, spelled_element};
 
-use crate::put_frame::put_frame;
+use crate::put_frame::{put_frame, put_init_head};
 use crate::put_header::put_header;
 use det_values::{Format, Frame, OutOfMemory, Profile};
 
@@ -45,4 +47,16 @@ pub fn encode_frame(
             Err(OutOfMemory)
         }
     }
+}
+
+/// Appends what comes before the elements of Init, which are so many. A refused call may leave some
+/// of it.
+#[tactic(auto, unfolding(record_grammar::specs::Spelling::spelled_frame))]
+pub fn encode_init_head(count: u32, out: &mut Vec<u8>) -> Result<(), OutOfMemory>
+    ensures { OnOk result ((format : AnyFormat) (elements : List (List ℕ))
+        → length elements ≡ count → out.new.items ++ flat_map spelled_element elements
+        ≡ out.old.items ++ spelled_frame format (Frame.Init elements)) }
+{
+    put_init_head(out, count)?;
+    Ok(())
 }

@@ -1,5 +1,5 @@
 //! Frames, appended.
-ghost use Rattle.std.specs.Prelude.{◌≡◌, ◌<◌, ◌≤◌, ◌++◌, length, OnOk};
+ghost use Rattle.std.specs.Prelude.{◌≡◌, ◌<◌, ◌≤◌, ◌++◌, ◌∷◌, length, OnOk};
 ghost use Rattle.std.specs.List.{flat_map, All};
 ghost use Rattle.record_grammar.specs.Spelling.{spelled_element, IsElement, spelled_drawn, MayDraw};
 ghost use Rattle.record_grammar.specs.Spelling.{IsDrawn, spelled_time, IsTime, spelled_sample};
@@ -7,7 +7,7 @@ ghost use Rattle.record_grammar.specs.Spelling.{IsSample, spelled_input, IsInput
 ghost use Rattle.record_grammar.specs.Spelling.{spelled_refusal, IsRefusal, AreBytes};
 ghost use Rattle.record_grammar.specs.Spelling.{spelled_finished, spelled_outcome, MayDrawAll};
 ghost use Rattle.record_grammar.specs.Spelling.{IsOutcome, spelled_frame, CanSpell, IsFrame};
-ghost use Rattle.det_values.specs.Spelling.{Grows};
+ghost use Rattle.det_values.specs.Spelling.{Grows, spelled_u32};
 ghost use Rattle.det_values.specs.declared.format.Format.TheVariants.{One};
 
 use crate::put::{put_element, put_i64, put_u8, put_u64};
@@ -188,6 +188,15 @@ fn put_outcome(out: &mut Vec<u8>, format: Format, outcome: &Outcome) -> Result<(
     Ok(())
 }
 
+/// What comes before the elements of Init.
+pub fn put_init_head(out: &mut Vec<u8>, count: u32) -> Result<(), AllocError>
+    ensures ok { OnOk result (out.new.items ≡ out.old.items ++ 3 ∷ spelled_u32 count) }
+    ensures grows { Grows out.old.items out.new.items }
+{
+    put_u8(out, 3)?;
+    put_u32(out, count)
+}
+
 #[tactic(auto, unfolding(record_grammar::specs::Spelling::spelled_frame, record_grammar::specs::Spelling::IsFrame))]
 pub fn put_frame(
     out: &mut Vec<u8>,
@@ -204,9 +213,8 @@ pub fn put_frame(
         Frame::Register => put_u8(out, 1)?,
         Frame::Discover => put_u8(out, 2)?,
         Frame::Init(elements) => {
-            put_u8(out, 3)?;
             let elements = elements.as_slice();
-            put_u32(out, elements.len() as u32)?;
+            put_init_head(out, elements.len() as u32)?;
             put_elements(out, elements)?;
         }
         Frame::Run(run) => {

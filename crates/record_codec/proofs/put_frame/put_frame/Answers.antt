@@ -7,15 +7,11 @@ returns-in_err-put_u8-in-Register-clause-grows c = c.put_u8.ensures.grows
 pub returns-in_err-put_u8-in-Discover-clause-grows : goal.returns-in_err-put_u8-in-Discover-clause-grows
 returns-in_err-put_u8-in-Discover-clause-grows c = c.put_u8-in-Discover.ensures.grows
 
-pub returns-in_err-put_u8-in-Init-clause-grows : goal.returns-in_err-put_u8-in-Init-clause-grows
-returns-in_err-put_u8-in-Init-clause-grows c = c.put_u8-in-Init.ensures.grows
-
-pub returns-in_err-put_u32-in-Init-clause-grows : goal.returns-in_err-put_u32-in-Init-clause-grows
-returns-in_err-put_u32-in-Init-clause-grows c = grows_then _ _ _ c.put_u8-in-Init.ensures.grows c.put_u32.ensures.grows
+pub returns-in_err-put_init_head-in-Init-clause-grows : goal.returns-in_err-put_init_head-in-Init-clause-grows
+returns-in_err-put_init_head-in-Init-clause-grows c = c.put_init_head.ensures.grows
 
 pub returns-in_err-put_elements-in-Init-clause-grows : goal.returns-in_err-put_elements-in-Init-clause-grows
-returns-in_err-put_elements-in-Init-clause-grows c =
-    grows_then _ _ _ c.put_u8-in-Init.ensures.grows (grows_then _ _ _ c.put_u32.ensures.grows c.put_elements.ensures.grows)
+returns-in_err-put_elements-in-Init-clause-grows c = grows_then _ _ _ c.put_init_head.ensures.grows c.put_elements.ensures.grows
 
 pub returns-in_err-put_u8-in-Run-clause-grows : goal.returns-in_err-put_u8-in-Run-clause-grows
 returns-in_err-put_u8-in-Run-clause-grows c = c.put_u8-in-Run.ensures.grows
@@ -37,8 +33,7 @@ pub returns-in_ok-put_u8-in-Discover-clause-grows : goal.returns-in_ok-put_u8-in
 returns-in_ok-put_u8-in-Discover-clause-grows c = c.put_u8-in-Discover.ensures.grows
 
 pub returns-in_ok-put_elements-in-Init-clause-grows : goal.returns-in_ok-put_elements-in-Init-clause-grows
-returns-in_ok-put_elements-in-Init-clause-grows c =
-    grows_then _ _ _ c.put_u8-in-Init.ensures.grows (grows_then _ _ _ c.put_u32.ensures.grows c.put_elements.ensures.grows)
+returns-in_ok-put_elements-in-Init-clause-grows c = grows_then _ _ _ c.put_init_head.ensures.grows c.put_elements.ensures.grows
 
 pub returns-in_ok-put_outcome-in-Run-clause-grows : goal.returns-in_ok-put_outcome-in-Run-clause-grows
 returns-in_ok-put_outcome-in-Run-clause-grows c =
