@@ -7,7 +7,7 @@ use cycle_engine::Engine;
 use det_edges::{Failure, Sink, write_all};
 use det_values::{CycleInput, Frame, OutOfMemory, Profile, RunFrame};
 use job_trait::{Job, Pool};
-use record_codec::{encode_frame, encode_header};
+use record_codec::{encode_frame, encode_header, encode_init_head};
 use std::alloc::Global;
 
 /// An engine with the profile of its run, and the counts of the record that was written of it.
@@ -215,11 +215,23 @@ impl<J: Job> Recording<J> {
             ∷ [])) }
         ensures keeps { Keeps self.old self.new }
     {
-        let init = self.init()?;
         self.spell_header()?;
         self.append(&Frame::Register)?;
         self.append(&Frame::Discover)?;
-        self.append(&init)
+        self.append_init()
+    }
+
+    /// Appends the frame Init of a run that stands at its beginning to what is written next. The
+    /// elements are spelled where they stand.
+    fn append_init(&mut self) -> Result<(), OutOfMemory>
+        ensures bytes { OnOk result (self.new.buffer.items ≡ self.old.buffer.items
+            ++ spelled_frame self.old.profile.format (Frame.Init
+            (map (J.meaning.shown self.old.engine.job) self.old.engine.state.elements))) }
+        ensures keeps { Keeps self.old self.new }
+    {
+        encode_init_head(self.engine.elements() as u32, &mut self.buffer)?;
+        self.engine.put_elements(&mut self.buffer)?;
+        Ok(())
     }
 
     /// Appends a frame to what is written next.
