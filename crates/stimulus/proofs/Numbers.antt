@@ -3,6 +3,7 @@ use Rattle.std.proofs.Common.{◌≡◌, ℕ, suc, ◌+◌, ◌-◌, ◌*◌, �
 use Rattle.std.proofs.Common.{nat_le, ◌&&◌, Some, None, refl, sym, ap, ◌∙◌, inl, inr, arith, drop-cons, add-one}
 use Rattle.std.proofs.lemmas.Bool.Decides.{nat_tests}
 use Rattle.std.proofs.lemmas.List.{drop_all}
+use Rattle.std.proofs.Math.Nat.{pow-suc, pow-le-pow_right}
 use Rattle.stimulus.specs.Numbers.{number, number_after, below}
 
 pub number_empty : (bs : List ℕ) → length bs ≡ 0 → number bs ≡ None
@@ -99,3 +100,33 @@ pub HasRead-done : (limit value i : ℕ) (bs : List ℕ) → 0 < length bs → l
 HasRead-done limit value i bs some whole h =
     let small : value < limit = elim h.within [ inl none ↦ absurd (omega arith) | inr small ↦ small ] in
     sym (ap (below limit) (h.same ∙ ap (number_after value) (drop_all i bs whole) ∙ at_last value) ∙ is_below limit value small)
+
+-- the same where the number has at most so many digits
+pub record HasDigits (value i : ℕ) (bs : List ℕ) : Type 0 where
+  pub same : number_after 0 bs ≡ number_after value (drop i bs)
+  pub small : value < 10 ^ i
+
+pub HasDigits-begin : (bs : List ℕ) → HasDigits 0 0 bs
+HasDigits-begin bs = record { same = refl; small = omega arith }
+
+pub HasDigits-next : (value i b : ℕ) (bs : List ℕ) → i < length bs → b ≡ get_or bs i 0 → 48 ≤ b → b ≤ 57 → HasDigits value i bs
+    → HasDigits (value * 10 + (b - 48)) (i + 1) bs
+HasDigits-next value i b bs within is low high h =
+    let more : 10 ^ (i + 1) ≡ 10 ^ i * 10 = rw add-one (pow-suc 10 i) in
+    record {
+      same = h.same ∙ digit_more value bs i b within is low high;
+      small = omega (arith, h.small, more);
+    }
+
+pub HasDigits-fits : (value i : ℕ) (bs : List ℕ) → i < length bs → length bs ≤ 19 → HasDigits value i bs → value * 10 + 9 < 2 ^ 64
+HasDigits-fits value i bs within few h =
+    let last : i ≤ 18 = omega arith in
+    let most : 10 ^ i ≤ 10 ^ 18 = pow-le-pow_right (omega arith) last in
+    omega (arith, h.small, most)
+
+pub HasDigits-other : (value i b : ℕ) (bs : List ℕ) → i < length bs → b ≡ get_or bs i 0 → (b < 48) ⊎ (57 < b) → HasDigits value i bs
+    → None ≡ number_after 0 bs
+HasDigits-other value i b bs within is out h = sym (h.same ∙ no_digit value bs i b within is out)
+
+pub HasDigits-done : (value i : ℕ) (bs : List ℕ) → length bs ≤ i → HasDigits value i bs → Some value ≡ number_after 0 bs
+HasDigits-done value i bs whole h = sym (h.same ∙ ap (number_after value) (drop_all i bs whole) ∙ at_last value)

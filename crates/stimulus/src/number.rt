@@ -20,8 +20,45 @@ pub fn number_below(limit: u128, bytes: &[u8]) -> Option<u64>
     }
 }
 
+/// So many digits write a number of 64 bits.
+const FEW_DIGITS: usize = 19;
+
 /// The number that one or more digits write, where it is below the limit.
 fn digits_below(limit: u128, bytes: &[u8]) -> Option<u64>
+    requires limit { limit ≤ 2 ^ 64 }
+    requires some { 0 < length bytes.now }
+    ensures { result ≡ below limit (number_after 0 bytes.now) }
+{
+    if bytes.len() > FEW_DIGITS {
+        return many_digits_below(limit, bytes);
+    }
+    match few_digits(bytes) {
+        Some(value) if u128::from(value) < limit => Some(value),
+        _ => None,
+    }
+}
+
+/// The number that at most 19 digits write.
+fn few_digits(bytes: &[u8]) -> Option<u64>
+    requires { length bytes.now ≤ 19 }
+    ensures { result ≡ number_after 0 bytes.now }
+{
+    let mut value: u64 = 0;
+    for read in 0..bytes.len() {
+        let digit = bytes[read];
+        if digit < b'0' {
+            return None;
+        }
+        if digit > b'9' {
+            return None;
+        }
+        value = value * 10 + (digit - b'0') as u64;
+    }
+    Some(value)
+}
+
+/// The same as `digits_below`, of however many digits.
+fn many_digits_below(limit: u128, bytes: &[u8]) -> Option<u64>
     requires limit { limit ≤ 2 ^ 64 }
     requires some { 0 < length bytes.now }
     ensures { result ≡ below limit (number_after 0 bytes.now) }
