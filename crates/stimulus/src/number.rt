@@ -20,7 +20,7 @@ pub fn number_below(limit: u128, bytes: &[u8]) -> Option<u64>
     }
 }
 
-/// So many digits write a number of 64 bits.
+/// A number of so many digits always fits 64 bits.
 const FEW_DIGITS: usize = 19;
 
 /// The number that one or more digits write, where it is below the limit.
