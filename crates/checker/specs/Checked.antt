@@ -11,12 +11,14 @@ use Rattle.det_edges.specs.declared.failure.Stopped.TheVariants.{Refused, Failed
 use Rattle.job_trait.specs.Meaning.{Meaning}
 use Rattle.record_grammar.specs.declared.fault.RecordFault.{RecordFault}
 use Rattle.record_grammar.specs.Record.{fault_so_far}
+use Rattle.item_reader.specs.Needed.{ReadsWhile}
 use Rattle.record_reader.specs.Taking.{OfSlot}
 use Rattle.probes.specs.Reports.{AudienceState}
 use Rattle.probes.specs.Shows.{SawRuns}
 use Rattle.checker.specs.declared.verdict.CheckVerdict.{CheckVerdict}
 use Rattle.checker.specs.declared.verdict.CheckVerdict.TheVariants.{Genuine, Departs}
 use Rattle.checker.specs.Departure.{departure, checked_runs}
+use Rattle.checker.specs.Needed.{IsNeeded}
 use Rattle.checker.specs.Verdict.{check_verdict}
 
 module _ {S G E L P : Type 0} (m : Meaning S G E L P) (profile : ProfileValue)
@@ -52,6 +54,7 @@ module _ {S G E L P : Type 0} (m : Meaning S G E L P) (profile : ProfileValue)
   pub record Ended (result : Result CheckVerdict (Stopped RecordFault)) (before more : List ℕ)
       (shelf : ShelfRun) (slot : ℕ) : Type 0 where
     pub reads_to : ReadsTo result (before ++ more) (IsAtEnd shelf.last slot)
+    pub needed : IsNeeded m profile before more
     pub answers : OfSlot shelf slot more (λ bytes. Answers result (before ++ bytes))
 
   -- of a record that begins with bytes read before
