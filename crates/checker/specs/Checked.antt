@@ -11,7 +11,6 @@ use Rattle.det_edges.specs.declared.failure.Stopped.TheVariants.{Refused, Failed
 use Rattle.job_trait.specs.Meaning.{Meaning}
 use Rattle.record_grammar.specs.declared.fault.RecordFault.{RecordFault}
 use Rattle.record_grammar.specs.Record.{fault_so_far}
-use Rattle.item_reader.specs.Needed.{ReadsWhile}
 use Rattle.record_reader.specs.Taking.{OfSlot}
 use Rattle.probes.specs.Reports.{AudienceState}
 use Rattle.probes.specs.Shows.{SawRuns}
