@@ -34,6 +34,7 @@ use Rattle.checker.specs.declared.verdict.CheckVerdict.{CheckVerdict}
 use Rattle.checker.specs.declared.verdict.CheckVerdict.TheVariants.{Genuine, Departs}
 use Rattle.checker.specs.Departure.{frame_in, frames_in, run_of, departure, checked_runs}
 use Rattle.checker.specs.Given.{given_frame}
+use Rattle.checker.specs.Needed.{IsNeeded}
 use Rattle.checker.specs.Verdict.{verdict_by, check_verdict}
 use Rattle.checker.specs.Checked.{Answers, ReadsTo, IsChecked}
 use Rattle.checker.proofs.Departing.{inputs_of, departs, departs-one}
@@ -61,10 +62,11 @@ module _ {S G E L P : Type 0} (m : Meaning S G E L P) (profile : ProfileValue) w
 
   module _ {start now : AudienceState} where
     ended : {result : Result CheckVerdict (Stopped RecordFault)} {read more : List ℕ} {shelf : ShelfRun} {slot : ℕ}
-        → Reads shelf.first shelf.last slot more → ReadsTo m profile start now result (read ++ more) (IsAtEnd shelf.last slot)
+        → Reads shelf.first shelf.last slot more → IsNeeded m profile read more
+        → ReadsTo m profile start now result (read ++ more) (IsAtEnd shelf.last slot)
         → ((rest : List ℕ) → (IsAtEnd shelf.last slot → rest ≡ []) → Answers m profile start now result ((read ++ more) ++ rest))
         → IsChecked m profile start now read slot shelf result
-    ended {result} {read} {more} {shelf} {slot} reads to each =
+    ended {result} {read} {more} {shelf} {slot} reads needed to each =
         let all : OfSlot shelf slot more (λ bytes. Answers m profile start now result (read ++ bytes)) = record {
           reads = reads;
           each = λ rest end. subst (λ (bytes : List ℕ). Answers m profile start now result bytes) (append_assoc read more rest)
@@ -72,13 +74,13 @@ module _ {S G E L P : Type 0} (m : Meaning S G E L P) (profile : ProfileValue) w
         } in
         record {
           told = told (λ rest. Answers m profile start now result (read ++ rest)) all;
-          run = (more, record { reads_to = to; answers = all });
+          run = (more, record { reads_to = to; needed = needed; answers = all });
         }
 
     -- for want of memory nothing is said
     unsaid : {read more : List ℕ} {shelf : ShelfRun} {slot : ℕ} → Reads shelf.first shelf.last slot more
-        → IsChecked m profile start now read slot shelf (Err (Failed OutOfMemory))
-    unsaid reads = ended reads tt (λ rest end. tt)
+        → IsNeeded m profile read more → IsChecked m profile start now read slot shelf (Err (Failed OutOfMemory))
+    unsaid reads needed = ended reads needed tt (λ rest end. tt)
 
     -- the audience has seen all runs that are checked
     saw : (runs : List RunFrame) (bytes : List ℕ) → checked_runs m profile bytes ≡ runs → Shows start now runs
@@ -119,7 +121,8 @@ module _ {S G E L P : Type 0} (m : Meaning S G E L P) (profile : ProfileValue) w
     reading-stopped (Refused fault) n =
         let bytes = read ++ n.all in
         let found = (n.is read stands).0 in
-        ended n.reads (by found.found) (λ rest end. faulty front fault (bytes ++ rest) (behind found rest end).0 (behind found rest end).1
+        ended n.reads (n.needed read stands) (by found.found) (λ rest end.
+        faulty front fault (bytes ++ rest) (behind found rest end).0 (behind found rest end).1
         comparing.agree comparing.shown)
       where
         by : IsFaulty fault (read ++ n.all) (items_with profile front) ⊎ IsAtEnd shelf.last slot
@@ -140,7 +143,7 @@ module _ {S G E L P : Type 0} (m : Meaning S G E L P) (profile : ProfileValue) w
         let bytes = read ++ n.all in
         let is = n.is read stands in
         let all = agree-all m profile bytes front (frames-all profile front bytes is.1) comparing.agree in
-        ended n.reads (is.2, all.0) (λ rest end.
+        ended n.reads (n.needed read stands) (is.2, all.0) (λ rest end.
         let others = more_items next bytes (items_with profile front) is.0 rest in
         record {
           seen = runs_of front;
@@ -149,14 +152,15 @@ module _ {S G E L P : Type 0} (m : Meaning S G E L P) (profile : ProfileValue) w
           saw = all-reports comparing.shown;
         })
     reading-stopped (Failed Write) n = absurd (n.is read stands)
-    reading-stopped (Failed OutOfMemory) n = unsaid n.reads
+    reading-stopped (Failed OutOfMemory) n = unsaid n.reads (n.needed read stands)
 
     -- the record is whole
     pub all-agree : (n : Next m profile shelf.first shelf.last slot old next front (Ok None))
         → IsChecked m profile start seen read slot shelf (Ok (Genuine checker.cycles))
     all-agree n =
         let is = n.is read stands in
-        ended n.reads is.1 (λ rest end. at_record (λ bytes. Answers m profile start seen (Ok (Genuine checker.cycles)) bytes)
+        ended n.reads (n.needed read stands) is.1 (λ rest end.
+        at_record (λ bytes. Answers m profile start seen (Ok (Genuine checker.cycles)) bytes)
         (read ++ n.all) rest (end is.1)
         (whole front checker.cycles (read ++ n.all) is.2 is.3 comparing.agree comparing.cycles comparing.shown))
 
@@ -170,7 +174,7 @@ module _ {S G E L P : Type 0} (m : Meaning S G E L P) (profile : ProfileValue) w
         let item : Item = items.Frame frame in
         let here = departed front (flat_map frame_in is.1) frame at (read ++ n.all)
         (frames-behind profile front (item ∷ is.1) (items_in (read ++ n.all)) is.2) comparing.agree differs_at in
-        ended n.reads here.0 (λ rest end.
+        ended n.reads (n.needed read stands) here.0 (λ rest end.
         let others = more_items next (read ++ n.all) (items_with profile front ++ item ∷ []) is.0 rest in
         let there = departed front (flat_map frame_in others.0) frame at ((read ++ n.all) ++ rest)
         (frames-behind profile front (item ∷ others.0) (items_in ((read ++ n.all) ++ rest))
@@ -187,4 +191,4 @@ module _ {S G E L P : Type 0} (m : Meaning S G E L P) (profile : ProfileValue) w
     -- it couldn't be shown or compared
     pub unchecked : {shown : AudienceState} (frame : Frame) → Next m profile shelf.first shelf.last slot old next front (Ok (Some frame))
         → IsChecked m profile start shown read slot shelf (Err (Failed OutOfMemory))
-    unchecked frame n = unsaid n.reads
+    unchecked frame n = unsaid n.reads (n.needed read stands)

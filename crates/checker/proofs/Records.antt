@@ -1,6 +1,6 @@
 -- Records that are compared with the run that their inputs give, and how they grow.
 use Rattle.std.proofs.Common.{◌≡◌, inl, inr, ◌≤◌, ◌+◌, ℕ, suc, List, [], ◌∷◌, ◌++◌, length, map, take, Some, None, refl, sym, ap}
-use Rattle.std.proofs.Common.{subst, ◌∙◌, append-nil, arith, true}
+use Rattle.std.proofs.Common.{subst, ◌∙◌, append_assoc, append-nil, arith, true}
 use Rattle.std.specs.List.{flat_map}
 use Rattle.std.proofs.lemmas.Grind.{flat_map-append}
 use Rattle.std.proofs.lemmas.List.{take_all}
@@ -21,13 +21,16 @@ use Rattle.record_grammar.specs.declared.item.Item.TheVariants as items
 use Rattle.record_grammar.specs.Grammar.{item_at}
 use Rattle.record_grammar.specs.Leads.{Leads}
 use Rattle.record_grammar.specs.Places.{after, CanFollow}
-use Rattle.record_grammar.specs.Record.{items as items_in}
+use Rattle.record_grammar.specs.Record.{items as items_in, fault_so_far}
 use Rattle.record_grammar.proofs.Leads.{can_follow, all_at_more, all_at_bad}
+use Rattle.item_reader.specs.StandsFor.{ReadsIfNeeded}
+use Rattle.item_reader.proofs.Needed.{while-weaker, while-then}
 use Rattle.record_laws.proofs.Whole.{IsStuck, reads}
 use Rattle.record_laws.proofs.Growing.{items_grow}
 use Rattle.lockstep.specs.declared.difference.Difference.{Difference}
 use Rattle.replayer.specs.Again.{input_in}
 use Rattle.checker.specs.Departure.{frame_in, frames_in, run_of, given_by, genuine_frames, departure, checked_runs}
+use Rattle.checker.specs.Needed.{IsNeeded}
 use Rattle.checker.proofs.Departing.{inputs_of, AreInOrder, departs, agrees, AreSame, all-same, departs-stays, departs-on, agrees-all}
 
 -- the runs of frames
@@ -161,6 +164,20 @@ module _ {S G E L P : Type 0} (m : Meaning S G E L P) (profile : ProfileValue) w
         departure-is bytes fs is ∙ none,
         runs-checked bytes fs (length fs) is count ∙ ap (λ (l : List Frame). runs_of l) (take_all (suc (length fs)) fs long),
       )
+
+  -- a piece was read where all items were given, and no frame among them differs
+  pub needed-then : (read more next : List ℕ) (given : List Item) (fs : List Frame) → flat_map frame_in given ≡ fs
+      → departs m profile 0 [] fs ≡ None → IsNeeded m profile read more → ReadsIfNeeded (read ++ more) given next
+      → IsNeeded m profile read (more ++ next)
+  needed-then read more next given fs is none before needed =
+      while-then (λ first. (departure m profile (read ++ first) ≡ None) × (fault_so_far (read ++ first) ≡ None)) more next before
+      (while-weaker (λ first. (items_in ((read ++ more) ++ first) ≡ given) × (fault_so_far ((read ++ more) ++ first) ≡ None))
+      (λ first. (departure m profile (read ++ (more ++ first)) ≡ None) × (fault_so_far (read ++ (more ++ first)) ≡ None)) next
+      (λ first all. subst (λ (bytes : List ℕ). (departure m profile bytes ≡ None) × (fault_so_far bytes ≡ None))
+      (append_assoc read more first) (
+        (agree-all ((read ++ more) ++ first) fs (ap (λ (xs : List Item). flat_map frame_in xs) all.0 ∙ is) none).0,
+        all.1,
+      )) needed)
 
   -- ---- a record whose frames begin with these
 

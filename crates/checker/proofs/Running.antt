@@ -1,10 +1,9 @@
 -- A check on its way: the items of a record read, and its frames compared.
 use Rattle.std.proofs.Common.{◌≡◌, ◌≤◌, ◌<◌, ◌+◌, ℕ, List, [], ◌∷◌, ◌++◌, length, map, Option, Some, None, Result, Ok, Err, refl, sym, ap}
-use Rattle.std.proofs.Common.{subst, ◌∙◌, append_assoc, append-nil, length-append, arith}
-use Rattle.std.specs.List.{All, flat_map}
+use Rattle.std.proofs.Common.{inl, subst, ◌∙◌, append_assoc, append-nil, length-append, arith}
 use Rattle.std.proofs.lemmas.Grind.{flat_map-append}
 use Rattle.std.proofs.lemmas.List.{map-append, length-map}
-use Rattle.det_values.specs.Values.{ProfileValue, SampleValue}
+use Rattle.det_values.specs.Values.{ProfileValue}
 use Rattle.det_values.specs.declared.frames.CycleInput.{CycleInput}
 use Rattle.det_values.specs.declared.frames.RunFrame.{RunFrame}
 use Rattle.det_values.specs.declared.frames.Frame.{Frame}
@@ -34,14 +33,14 @@ use Rattle.probes.specs.Reports.{AudienceState}
 use Rattle.probes.specs.Shows.{Shows}
 use Rattle.probes.proofs.Shown.{shows-none, shows-then}
 use Rattle.run_writer.specs.declared.recording.Recording.{Recording}
-use Rattle.replayer.specs.Again.{input_in}
 use Rattle.replayer.proofs.Items.{few-inputs}
 use Rattle.lockstep.specs.FirstDifference.{frame_difference}
 use Rattle.checker.specs.declared.comparing.Checker.{Checker}
 use Rattle.checker.specs.Departure.{run_of}
 use Rattle.checker.specs.Given.{IsBehind, CanCome, IsPlaced, input_of, given_frame}
+use Rattle.checker.specs.Needed.{IsNeeded}
 use Rattle.checker.proofs.Departing.{inputs_of, departs, departs-none, departs-next}
-use Rattle.checker.proofs.Records.{runs_of, inputs-are, frames-are, frames-behind}
+use Rattle.checker.proofs.Records.{runs_of, inputs-are, frames-are, frames-behind, needed-then}
 
 -- a header and frames as items
 abbrev pub items_with : ProfileValue → List Frame → List Item
@@ -116,6 +115,7 @@ module _ {S G E L P : Type 0} (m : Meaning S G E L P) (profile : ProfileValue) w
   pub record Comparing (first now : ShelfState) (slot : ℕ) (start seen : AudienceState) (old reader : FrameReader)
       (recording : Recording S G E L P) (checker : Checker) (more : List ℕ) (front : List Frame) : Type 0 where
     pub reads : Reads first now slot more
+    pub needed : (read : List ℕ) → StandsFor old read (items.Header profile ∷ []) → IsNeeded m profile read more
     pub gave : (read : List ℕ) → StandsFor old read (items.Header profile ∷ [])
         → StandsFor reader (read ++ more) (items_with profile front)
     pub behind : IsBehind m recording (inputs_of front)
@@ -129,6 +129,7 @@ module _ {S G E L P : Type 0} (m : Meaning S G E L P) (profile : ProfileValue) w
       → Comparing shelf shelf (slot_of reader) seen seen reader reader recording checker [] []
   comparing-new shelf seen reader recording checker behind compared cycles = record {
     reads = reads-none shelf (slot_of reader);
+    needed = λ read stands. inl refl;
     gave = λ read stands. subst (λ (bytes : List ℕ). StandsFor reader bytes (items.Header profile ∷ [])) (sym (append-nil read)) stands;
     behind = behind;
     agree = departs-none m profile 0 [];
@@ -142,6 +143,7 @@ module _ {S G E L P : Type 0} (m : Meaning S G E L P) (profile : ProfileValue) w
       (answer : Result (Option Frame) (Stopped RecordFault)) : Type 0 where
     pub all : List ℕ
     pub reads : Reads first now slot all
+    pub needed : (read : List ℕ) → StandsFor old read (items.Header profile ∷ []) → IsNeeded m profile read all
     pub is : (read : List ℕ) → StandsFor old read (items.Header profile ∷ [])
         → Gives answer next (IsAtEnd now slot) (read ++ all) (items_with profile front)
 
@@ -155,6 +157,9 @@ module _ {S G E L P : Type 0} (m : Meaning S G E L P) (profile : ProfileValue) w
     next-read {now} next answer other fits h same = record {
       all = more ++ h.0;
       reads = reads-then comparing.reads (subst (λ s. Reads mid now s h.0) same h.1);
+      needed = λ read stands. needed-then m profile read more h.0 (items_with profile front) front (frames-are front)
+          comparing.agree (comparing.needed read stands)
+          (h.2 profile (read ++ more) (map items.Frame front) (comparing.gave read stands)).0;
       is = λ read stands. gives next answer other (IsAtEnd now slot) (read ++ (more ++ h.0)) (items_with profile front) fits
           (subst (λ s. FrameIs answer next (IsAtEnd now s) (read ++ (more ++ h.0)) (items_with profile front)) same
           (subst (λ (bytes : List ℕ). FrameIs answer next (IsAtEnd now (slot_of reader)) bytes (items_with profile front))
@@ -238,6 +243,7 @@ module _ {S G E L P : Type 0} (m : Meaning S G E L P) (profile : ProfileValue) w
           let more_runs = runs-next frame in
           record {
             reads = n.reads;
+            needed = n.needed;
             gave = λ bytes begins. subst (λ (l : List Item). StandsFor next (bytes ++ n.all) l) (items-next profile front frame)
                 (n.is bytes begins).0;
             behind = subst (IsBehind m ran) (sym more_inputs) behind;

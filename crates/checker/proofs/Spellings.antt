@@ -1,7 +1,6 @@
 -- A frame that was read, and one of its kind that has the same bytes.
-use Rattle.std.proofs.Common.{◌≡◌, ◌≤◌, ℕ, List, [], ◌++◌, drop, refl, sym, ap, subst, ◌∙◌, append-nil}
+use Rattle.std.proofs.Common.{◌≡◌, ◌≤◌, ℕ, List, [], ◌++◌, drop, sym, ap, subst, ◌∙◌, append-nil}
 use Rattle.det_values.specs.Values.{ProfileValue}
-use Rattle.det_values.specs.declared.format.Format.{Format}
 use Rattle.det_values.specs.declared.frames.CycleInput.{CycleInput}
 use Rattle.det_values.specs.declared.frames.Frame.{Frame}
 use Rattle.det_values.specs.declared.frames.Frame.TheVariants.{Register, Discover, Init, Run, Terminate}
@@ -13,14 +12,14 @@ use Rattle.record_grammar.specs.declared.item.Item.TheVariants as items
 use Rattle.record_grammar.specs.Grammar.{item_at}
 use Rattle.record_grammar.specs.Laws.{MayStand}
 use Rattle.record_grammar.specs.Places.{format_of}
-use Rattle.record_grammar.specs.Spelling.{AreBytes, CanSpell, IsFrame, spelled_frame}
+use Rattle.record_grammar.specs.Spelling.{AreBytes, IsFrame, spelled_frame}
 use Rattle.record_grammar.specs.Read.{Got}
 use Rattle.record_grammar.proofs.Steady.{got, got_is}
 use Rattle.record_view.specs.declared.view.FrameView.{FrameView}
 use Rattle.record_view.specs.Shows.{IsFrameSpelling, item_view, events_of}
 use Rattle.record_view.proofs.Spelled.{spelling_read}
 use Rattle.record_codec.proofs.Made.{may_stand}
-use Rattle.checker.specs.Given.{AreAlike, IsPlaced, given_frame}
+use Rattle.checker.specs.Given.{AreAlike, given_frame}
 
 same-frame : (x y : Frame) → items.Frame x ≡ items.Frame y → x ≡ y
 same-frame x y e = cc

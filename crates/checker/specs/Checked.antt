@@ -17,6 +17,7 @@ use Rattle.probes.specs.Shows.{SawRuns}
 use Rattle.checker.specs.declared.verdict.CheckVerdict.{CheckVerdict}
 use Rattle.checker.specs.declared.verdict.CheckVerdict.TheVariants.{Genuine, Departs}
 use Rattle.checker.specs.Departure.{departure, checked_runs}
+use Rattle.checker.specs.Needed.{IsNeeded}
 use Rattle.checker.specs.Verdict.{check_verdict}
 
 module _ {S G E L P : Type 0} (m : Meaning S G E L P) (profile : ProfileValue)
@@ -52,6 +53,7 @@ module _ {S G E L P : Type 0} (m : Meaning S G E L P) (profile : ProfileValue)
   pub record Ended (result : Result CheckVerdict (Stopped RecordFault)) (before more : List ℕ)
       (shelf : ShelfRun) (slot : ℕ) : Type 0 where
     pub reads_to : ReadsTo result (before ++ more) (IsAtEnd shelf.last slot)
+    pub needed : IsNeeded m profile before more
     pub answers : OfSlot shelf slot more (λ bytes. Answers result (before ++ bytes))
 
   -- of a record that begins with bytes read before

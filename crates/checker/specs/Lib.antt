@@ -1,4 +1,5 @@
 pub mod Departure
+pub mod Needed
 pub mod Given
 pub mod Compared
 pub mod Verdict

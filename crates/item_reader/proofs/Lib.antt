@@ -1,4 +1,5 @@
 pub mod Lists
+pub mod Needed
 pub mod Passing
 pub mod Unshort
 pub mod Reading

@@ -114,7 +114,7 @@ module _ (old : ItemReader) (read : List ℕ) (given : List Item) (h : StandsFor
       let at : item_at old.place (unread old ++ l.first) ≡ reads.More = ap (λ (p : Place). item_at p (unread old ++ l.first)) place_is
       ∙ ap (item_at view.place) l.front ∙ front_more view.place item bytes l.count (spelled_read view item bytes s) l.short in
       let all = all_at_more given old.place (read ++ l.first) (unread old ++ l.first) (leads_more l.first) at in
-      inr (record { first = l.first; last = l.last; is = l.is; some = l.some; all = all.0; sound = all.1 })
+      inr (record { first = l.first; last = l.last; is = l.is; some = l.some; before = (all.0, all.1) })
 
   pub restored_stands : (mid : ItemReader) (more : List ℕ) → Aside old mid
       → Restored (unread old ++ more) (count_of old + length more) mid → StandsFor mid (read ++ more) given

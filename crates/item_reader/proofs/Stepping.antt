@@ -18,6 +18,7 @@ use Rattle.item_reader.specs.declared.reader.ItemReader.{ItemReader}
 use Rattle.item_reader.specs.Held.{held, Took}
 use Rattle.item_reader.specs.StandsFor.{StandsFor, unread, ReadsIfNeeded, HasRead, slot_of, FoundFault, ItemIs}
 use Rattle.item_reader.specs.Steps.{GaveAll, ReadsOn}
+use Rattle.item_reader.proofs.Needed.{while-weaker, while-then}
 use Rattle.item_reader.proofs.Reading.{reads_stand, unread_grows}
 
 -- nothing was read in this step
@@ -40,21 +41,21 @@ needed read given (b ∷ more) all sound = inr (record {
   last = b ∷ more;
   is = refl;
   some = λ e. cc;
-  all = ap items_in (append-nil read) ∙ all;
-  sound = ap fault_so_far (append-nil read) ∙ sound;
+  before = (ap items_in (append-nil read) ∙ all, ap fault_so_far (append-nil read) ∙ sound);
 })
+
+-- all items were given, and there was no fault, when these bytes were read behind others
+abbrev All : List ℕ → List Item → List ℕ → Type 0
+All read given first = (items_in (read ++ first) ≡ given) × (fault_so_far (read ++ first) ≡ None)
 
 pub needed_then : (read : List ℕ) (given : List Item) (one two : List ℕ) → ReadsIfNeeded read given one
     → ReadsIfNeeded (read ++ one) given two → ReadsIfNeeded read given (one ++ two)
-needed_then read given one two p (inl e) = read_empty (λ (xs : List ℕ). ReadsIfNeeded read given xs) one two e p
-needed_then read given one two p (inr l) = inr (record {
-  first = one ++ l.first;
-  last = l.last;
-  is = ap (λ (xs : List ℕ). one ++ xs) l.is ∙ sym (append_assoc one l.first l.last);
-  some = l.some;
-  all = ap items_in (sym (append_assoc read one l.first)) ∙ l.all;
-  sound = ap fault_so_far (sym (append_assoc read one l.first)) ∙ l.sound;
-})
+needed_then read given one two p q =
+    while-then (All read given) one two p (while-weaker (All (read ++ one) given) (λ first. All read given (one ++ first)) two
+    (λ first all. (
+      ap items_in (sym (append_assoc read one first)) ∙ all.0,
+      ap fault_so_far (sym (append_assoc read one first)) ∙ all.1,
+    )) q)
 
 pub read_then : {before mid after : ShelfState} (old at : ItemReader) (P : ℕ → List ℕ → List Item → Type 0) → slot_of at ≡ slot_of old
     → HasRead before mid old (StandsFor at) → HasRead mid after at (P (slot_of at)) → HasRead before after old (P (slot_of old))

@@ -1,4 +1,5 @@
 pub mod Held
+pub mod Needed
 pub mod StandsFor
 pub mod Steps
 pub mod Fronts

@@ -19,6 +19,7 @@ use Rattle.record_view.specs.Shows.{Shows}
 use Rattle.record_view.specs.Scans.{IsScan}
 use Rattle.item_reader.specs.declared.reader.ItemReader.{ItemReader}
 use Rattle.item_reader.specs.Held.{held}
+use Rattle.item_reader.specs.Needed.{ReadsWhile}
 
 -- the bytes that were read, and are no part of an item that was given
 abbrev pub unread : ItemReader → List ℕ
@@ -60,18 +61,10 @@ pub record FoundFault (f : RecordFault) (at_end : Type 0) (read : List ℕ) (giv
   pub found : IsFaulty f read given ⊎ at_end
   pub truncated : f.reason ≡ Truncated → at_end
 
--- before the last of these bytes were read, all items were given, and there was no fault
-pub record LastNeeded (read : List ℕ) (given : List Item) (more : List ℕ) : Type 0 where
-  pub first : List ℕ
-  pub last : List ℕ
-  pub is : more ≡ first ++ last
-  pub some : last ≢ []
-  pub all : items_in (read ++ first) ≡ given
-  pub sound : fault_so_far (read ++ first) ≡ None
-
 -- a piece is read only where what was read before gives neither an item nor a fault
 abbrev pub ReadsIfNeeded : List ℕ → List Item → List ℕ → Type 0
-ReadsIfNeeded read given more = (more ≡ []) ⊎ LastNeeded read given more
+ReadsIfNeeded read given more = ReadsWhile
+    (λ first. (items_in (read ++ first) ≡ given) × (fault_so_far (read ++ first) ≡ None)) more
 
 -- bytes were read that were needed, and what the reader stood for before is known of it afterwards
 abbrev pub HasRead : ShelfState → ShelfState → ItemReader → (List ℕ → List Item → Type 0) → Type 0

@@ -26,6 +26,7 @@ use Rattle.item_reader.specs.Like.{LikeIs}
 use Rattle.lockstep.specs.declared.row.Row.{Row}
 use Rattle.lockstep.specs.declared.row.Row.TheVariants as rows
 use Rattle.lockstep.specs.Rows.{ShowsRow}
+use Rattle.item_reader.proofs.Needed.{while-weaker, while-then}
 use Rattle.lockstep.specs.Needed.{IsNeeded}
 use Rattle.lockstep.specs.ItemRows.{ReaderBehind, ReaderShows, ReaderAtRow, IsHeldAs}
 use Rattle.lockstep.specs.Copies.{row_of, copy_answer, CopyStopped, CopyNext, CopyLike}
@@ -106,16 +107,9 @@ row-shows {now = now} {given = given} {slot = slot} {row = row} copy h told =
 pub read-needed : {first now : ShelfState} {given : List Item} {slot : ℕ} {reader : ItemReader}
     (h : ReaderBehind first now given slot reader) (more : List ℕ) → ReadsIfNeeded h.read given more
     → IsNeeded (length given) (h.read ++ more)
-read-needed {given = given} h more (inl none) =
-    subst (λ xs. IsNeeded (length given) xs) (sym (ap (λ m. h.read ++ m) none ∙ append-nil h.read)) h.needed
-read-needed {given = given} h more (inr l) = inr (record {
-  first = h.read ++ l.first;
-  last = l.last;
-  is = ap (λ m. h.read ++ m) l.is ∙ sym (append_assoc h.read l.first l.last);
-  some = l.some;
-  few = let all = ap length l.all in omega (arith, all);
-  sound = l.sound;
-})
+read-needed {given = given} h more need =
+    while-then _ h.read more h.needed
+    (while-weaker _ _ more (λ first all. (let same = ap length all.0 in omega (arith, same), all.1)) need)
 
 module _ {first mid now : ShelfState} {given : List Item} {slot : ℕ} {reader : ItemReader} (next : ItemReader) (copy : ℕ)
     (at : slot_of next ≡ slot_of reader) (h : ReaderBehind first mid given slot reader) where

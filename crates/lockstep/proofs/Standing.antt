@@ -39,6 +39,7 @@ use Rattle.lockstep.specs.Rows.{row_at}
 use Rattle.lockstep.specs.Verdict.{row_difference, first_bad, first_other, judged, row_verdict, verdict}
 use Rattle.lockstep.specs.Compared.{AreDifferent, AreGiven, AreLeft, ReadsAmong, AllEnd}
 use Rattle.lockstep.specs.Copies.{slots_of}
+use Rattle.item_reader.proofs.Needed.{while-weaker}
 use Rattle.lockstep.specs.Needed.{IsNeeded}
 use Rattle.lockstep.specs.ItemRows.{ReaderBehind, ReadersBehind, ReaderAtRow, ReadersAtRows, IsHeldAs}
 use Rattle.lockstep.specs.Copies.{row_of, runs_of, RoomFellIf, CopyNext, CopyStopped}
@@ -218,15 +219,7 @@ all-end n first now given slots readers more h all = absurd h
 
 -- what one row needs later ones do
 pub wider : (n m : ℕ) (read : List ℕ) → n ≤ m → IsNeeded n read → IsNeeded m read
-wider n m read less (inl none) = inl none
-wider n m read less (inr p) = inr (record {
-  first = p.first;
-  last = p.last;
-  is = p.is;
-  some = p.some;
-  few = let few = p.few in omega (arith, less, few);
-  sound = p.sound;
-})
+wider n m read less h = while-weaker _ _ read (λ first p. (let few = p.0 in omega (arith, less, few), p.1)) h
 
 -- behind an item that all hold
 on-item : (n : ℕ) (x : Item) (first now : ShelfState) (given : List Item) (slots : List ℕ) (readers : List ItemReader) (more : List Row)

@@ -1,22 +1,15 @@
 -- No byte of a copy is read behind the row that decides.
-use Rattle.std.specs.Prelude.{◌≡◌, ◌≢◌, ℕ, ◌≤◌, ◌⊎◌, List, [], ◌∷◌, ◌++◌, length, None}
+use Rattle.std.specs.Prelude.{◌≡◌, ℕ, ◌≤◌, List, [], ◌∷◌, length, None}
 use Rattle.std.specs.List.{AllByRecursion}
 use Rattle.det_edges.specs.Shelf.{ShelfState, Gave}
 use Rattle.record_grammar.specs.Record.{items, fault_so_far}
+use Rattle.item_reader.specs.Needed.{ReadsWhile}
 use Rattle.lockstep.specs.Verdict.{shared_by}
 
 -- before the last of these bytes were read they showed no row behind so many items
-pub record LastPiece (n : ℕ) (read : List ℕ) : Type 0 where
-  pub first : List ℕ
-  pub last : List ℕ
-  pub is : read ≡ first ++ last
-  pub some : last ≢ []
-  pub few : length (items first) ≤ n
-  pub sound : fault_so_far first ≡ None
-
--- bytes that the row behind so many items needs
 abbrev pub IsNeeded : ℕ → List ℕ → Type 0
-IsNeeded n read = (read ≡ []) ⊎ LastPiece n read
+IsNeeded n read = ReadsWhile
+    (λ first. (length (items first) ≤ n) × (fault_so_far first ≡ None)) read
 
 -- what a slot gave is needed
 abbrev pub GaveNeeded : ShelfState → ShelfState → ℕ → ℕ → Type 0

@@ -27,6 +27,7 @@ use Rattle.record_grammar.specs.Spelling.{spelled_header, spelled_frame}
 use Rattle.record_reader.specs.declared.salvage.Salvage.{Salvage}
 use Rattle.record_reader.specs.declared.salvage.Salvaged.{Salvaged}
 use Rattle.item_reader.specs.StandsFor.{FoundFault, IsFaulty}
+use Rattle.item_reader.proofs.Needed.{while-weaker}
 use Rattle.record_reader.specs.Taking.{AreAll, Took, RecordRead, ItemsRead}
 use Rattle.record_reader.specs.Salvaged.{kept, is_init, spelled_kept, made_whole, salvaged_from, salvaged, cycles_of, refused_of}
 use Rattle.record_reader.specs.Salvaged.{spelled_items, written_items}
@@ -299,6 +300,7 @@ ended : (read : Result (Unit {0}) (Stopped RecordFault)) (result : Result Salvag
     → Ended result h.read shelf slot (over one last b)
 ended read result {one = one} last b s h end = record {
   reads_to = reads_to read result s (behind one last b) h end;
+  needed = while-weaker _ _ h.read (λ first p. p.1) h.needed;
   saves = saves read result last b s h end;
   answers = record {
     reads = h.record_read.reads;

@@ -1,5 +1,5 @@
 -- A loop that gives the items of a record to a taker, as views of the bytes that a reader holds: how it begins, goes on, and ends.
-use Rattle.std.proofs.Common.{◌≡◌, ℕ, List, [], ◌∷◌, ◌++◌, Option, Some, None, Result, Ok, Err, refl, sym, ap, subst}
+use Rattle.std.proofs.Common.{◌≡◌, ℕ, inl, List, [], ◌∷◌, ◌++◌, Option, Some, None, Result, Ok, Err, refl, sym, ap, subst}
 use Rattle.std.proofs.Common.{◌∙◌, append_assoc, arith}
 use Rattle.det_edges.specs.declared.failure.Failure.{Failure}
 use Rattle.det_edges.specs.declared.failure.Failure.TheVariants.{Read, Write, OutOfMemory}
@@ -11,17 +11,18 @@ use Rattle.det_edges.specs.Sink.{Grew}
 use Rattle.det_edges.specs.Traffic.{SinkRun, ShelfTraffic, SinkTraffic, failure_in}
 use Rattle.det_edges.proofs.Counts.{rose-before}
 use Rattle.det_edges.proofs.Growth.{grew-none, grew-then, part-whole}
-use Rattle.det_edges.proofs.Prefixes.{prefix-behind}
+use Rattle.det_edges.proofs.Prefixes.{prefix-append, prefix-behind, prefix-same, prefix-then}
 use Rattle.det_edges.proofs.SlotReads.{reads-none, reads-then}
 use Rattle.record_grammar.specs.declared.fault.RecordFault.{RecordFault}
 use Rattle.record_grammar.specs.declared.item.Item.{Item}
 use Rattle.record_grammar.specs.declared.place.Place.TheVariants as places
-use Rattle.record_grammar.specs.Record.{items as items_in}
+use Rattle.record_grammar.specs.Record.{items as items_in, fault_so_far}
 use Rattle.record_view.specs.declared.view.ItemView.{ItemView}
 use Rattle.record_view.specs.Shows.{IsSpelling}
 use Rattle.item_reader.specs.declared.reader.ItemReader.{ItemReader}
-use Rattle.item_reader.specs.StandsFor.{StandsFor, HasRead, ItemIs, Holds, slot_of}
-use Rattle.record_reader.specs.Taking.{AreFirst, IsNext, Taking, Takes, Took, RefusedBy, Finds, RecordRead, ItemsRead}
+use Rattle.item_reader.specs.StandsFor.{StandsFor, HasRead, ReadsIfNeeded, ItemIs, Holds, slot_of}
+use Rattle.item_reader.proofs.Needed.{while-weaker, while-then}
+use Rattle.record_reader.specs.Taking.{AreFirst, IsNext, Taking, Takes, Took, RefusedBy, Finds, RecordRead, IsNeeded, ItemsRead}
 use Rattle.record_reader.proofs.Items.{are_first, more_items}
 use Rattle.record_reader.proofs.Taking.{at_none, all-before, step, Lifts, quiet-sink}
 
@@ -35,6 +36,7 @@ pub record Running {E : Type 0} (taking : Taking E) (first now : ShelfState) (sl
   pub at : slot_of reader ≡ slot
   pub reads : Reads first now slot read
   pub gave : StandsFor reader read given
+  pub needed : IsNeeded given read
   pub stands : taking.stands given
   pub grew : Grew before after (taking.written given)
 
@@ -46,15 +48,28 @@ running-new taking state reader took gave stands none = record {
   at = refl;
   reads = reads-none state (slot_of reader);
   gave = gave;
+  needed = inl refl;
   stands = stands;
   grew = subst (Grew took took) (sym none) (grew-none took);
 }
+
+-- bytes that were read behind some were needed, as those were
+needed-then : (given : List Item) (read more : List ℕ) → IsNeeded given read → ReadsIfNeeded read given more → IsNeeded given (read ++ more)
+needed-then given read more before need =
+    while-then (λ first. IsPrefix (items_in first) given × (fault_so_far first ≡ None)) read more before
+    (while-weaker _ _ more (λ first all. (subst (IsPrefix (items_in (read ++ first))) all.0 (prefix-same (items_in (read ++ first))), all.1)) need)
+
+-- what was needed for some items was needed for one more
+needed-longer : (given : List Item) (item : Item) (read : List ℕ) → IsNeeded given read → IsNeeded (given ++ item ∷ []) read
+needed-longer given item read h =
+    while-weaker _ _ read (λ first p. (prefix-then (items_in first) given (given ++ item ∷ []) p.0 (prefix-append given (item ∷ [])), p.1)) h
 
 -- what a reader answers, by all bytes that were read
 abbrev pub Answered : {E : Type 0} {taking : Taking E} {first mid : ShelfState} {slot : ℕ} {reader : ItemReader}
     {before after : List ℕ → Type 0} → Running taking first mid slot reader before after → ShelfState → ItemReader
     → Result (Option ItemView) (Stopped RecordFault) → Type 0
-Answered {first = first} {slot = slot} h now next result = (more : List ℕ) × Reads first now slot (h.read ++ more)
+Answered {first = first} {slot = slot} h now next result = (more : List ℕ)
+    × (Reads first now slot (h.read ++ more) × IsNeeded h.given (h.read ++ more))
     × ItemIs result next (IsAtEnd now slot) (h.read ++ more) h.given
 
 pub answered : {E : Type 0} {taking : Taking E} {first mid : ShelfState} {slot : ℕ} {reader : ItemReader} {before after : List ℕ → Type 0}
@@ -63,7 +78,10 @@ pub answered : {E : Type 0} {taking : Taking E} {first mid : ShelfState} {slot :
     → HasRead mid now reader (ItemIs result next (IsAtEnd now (slot_of reader))) → Answered h now next result
 answered {mid = mid} h {now = now} next result p = (
   p.0,
-  reads-then h.reads (subst (λ (k : ℕ). Reads mid now k p.0) h.at p.1),
+  (
+    reads-then h.reads (subst (λ (k : ℕ). Reads mid now k p.0) h.at p.1),
+    needed-then h.given h.read p.0 h.needed (p.2 h.read h.given h.gave).0,
+  ),
   subst (λ (k : ℕ). ItemIs result next (IsAtEnd now k) (h.read ++ p.0) h.given) h.at (p.2 h.read h.given h.gave).1,
 )
 
@@ -111,8 +129,9 @@ module _ {E : Type 0} {taking : Taking E} {first mid : ShelfState} {slot : ℕ} 
     read = h.read ++ answer.0;
     given = h.given ++ answer.2.item ∷ [];
     at = at ∙ h.at;
-    reads = answer.1;
+    reads = answer.1.0;
     gave = answer.2.stands;
+    needed = needed-longer h.given answer.2.item (h.read ++ answer.0) answer.1.1;
     stands = take.after;
     grew = subst (Grew before last) (sym take.all) (grew-then (grew-as h taken same) take.wrote);
   }
@@ -126,8 +145,9 @@ module _ {E : Type 0} {taking : Taking E} {first mid : ShelfState} {slot : ℕ} 
     read = h.read ++ answer.0;
     given = h.given;
     reads_to = answer.2.1;
+    needed = answer.1.1;
     record_read = record {
-      reads = answer.1;
+      reads = answer.1.0;
       each = λ rest end. at_none (λ (bytes : List ℕ). RecordRead (Ok u) taking h.given bytes (step before after a b)) (h.read ++ answer.0)
           rest (end answer.2.1)
           (record { items = answer.2.2; fault = answer.2.3 }, took h);
@@ -142,8 +162,9 @@ module _ {E : Type 0} {taking : Taking E} {first mid : ShelfState} {slot : ℕ} 
     read = h.read ++ answer.0;
     given = h.given;
     reads_to = subst (λ (o : Option RecordFault). Finds o h.given (h.read ++ answer.0) (IsAtEnd now slot)) (sym lifts) answer.2.0;
+    needed = answer.1.1;
     record_read = record {
-      reads = answer.1;
+      reads = answer.1.0;
       each = λ rest end. subst (λ (o : Option RecordFault). RefusedBy o why taking h.given ((h.read ++ answer.0) ++ rest)
           (step before after a b)) (sym lifts)
           (all-before answer.2.0 rest end, took h);
@@ -156,7 +177,8 @@ module _ {E : Type 0} {taking : Taking E} {first mid : ShelfState} {slot : ℕ} 
         read = h.read ++ answer.0;
         given = h.given;
         reads_to = (answer.2.1, answer.2.2);
-        record_read = record { reads = answer.1; each = λ rest at. (come-first h answer.0 rest, took h) };
+        needed = answer.1.1;
+        record_read = record { reads = answer.1.0; each = λ rest at. (come-first h answer.0 rest, took h) };
       })
   reader-stopped (Failed Write) end lifts answer = absurd answer.2
   reader-stopped (Failed OutOfMemory) end {a} {b} {stays} lifts answer =
@@ -165,8 +187,9 @@ module _ {E : Type 0} {taking : Taking E} {first mid : ShelfState} {slot : ℕ} 
         read = h.read ++ answer.0;
         given = h.given;
         reads_to = tt;
+        needed = answer.1.1;
         record_read = record {
-          reads = answer.1;
+          reads = answer.1.0;
           each =
               λ rest at. (come-first h answer.0 rest, part-whole before after (taking.written h.given) h.grew);
         };
@@ -194,8 +217,9 @@ taker-stopped {E} {first = first} {now = now} {slot = slot} {before = before} {a
       read = read;
       given = h.given;
       reads_to = subst (λ (o : Option RecordFault). Finds o h.given read (IsAtEnd now slot)) (sym take.after.0) tt;
+      needed = answer.1.1;
       record_read = record {
-        reads = answer.1;
+        reads = answer.1.0;
         each = λ rest end. subst (λ (o : Option RecordFault). RefusedBy o why taken h.given (read ++ rest) (step before last c d))
             (sym take.after.0) (
               answer.2.item,
@@ -215,8 +239,9 @@ taker-stopped {E} {first = first} {now = now} {slot = slot} {before = before} {a
       read = read;
       given = h.given;
       reads_to = tt;
+      needed = answer.1.1;
       record_read = record {
-        reads = answer.1;
+        reads = answer.1.0;
         each = λ rest end. (
           answer.2.item,
           next-all h next view answer rest,
@@ -234,8 +259,9 @@ taker-stopped {E} {first = first} {now = now} {slot = slot} {before = before} {a
       read = read;
       given = h.given ++ answer.2.item ∷ [];
       reads_to = tt;
+      needed = needed-longer h.given answer.2.item read answer.1.1;
       record_read = record {
-        reads = answer.1;
+        reads = answer.1.0;
         each = λ rest end. (
           next-all h next view answer rest,
           (

@@ -11,6 +11,7 @@ use Rattle.det_edges.specs.Traffic.{ShelfRun, SinkRun}
 use Rattle.record_grammar.specs.declared.fault.RecordFault.{RecordFault}
 use Rattle.record_grammar.specs.Record.{items as items_in, fault as fault_in, fault_so_far}
 use Rattle.record_reader.specs.declared.salvage.Salvaged.{Salvaged}
+use Rattle.item_reader.specs.Needed.{ReadsWhile}
 use Rattle.item_reader.specs.StandsFor.{IsFaulty}
 use Rattle.record_reader.specs.Salvaged.{salvaged, saved_of, cycles_of, refused_of}
 use Rattle.record_reader.specs.Taking.{OfSlot}
@@ -76,6 +77,7 @@ SavesRead result read out = Unit {0}
 pub record Ended (result : Result Salvaged (Stopped RecordFault)) (read : List ℕ)
     (shelf : ShelfRun) (slot : ℕ) (out : SinkRun) : Type 0 where
   pub reads_to : ReadsTo result read (IsAtEnd shelf.last slot)
+  pub needed : ReadsWhile (λ first. fault_so_far first ≡ None) read
   pub saves : SavesRead result read out
   pub answers : OfSlot shelf slot read (λ bytes. Answers result bytes out)
 

@@ -16,6 +16,7 @@ use Rattle.record_grammar.specs.Leads.{Leads}
 use Rattle.record_grammar.specs.Record.{items as items_in, fault as fault_in, fault_so_far}
 use Rattle.record_view.specs.declared.view.ItemView.{ItemView}
 use Rattle.record_view.specs.Shows.{IsSpelling}
+use Rattle.item_reader.specs.Needed.{ReadsWhile}
 use Rattle.item_reader.specs.StandsFor.{FoundFault}
 
 -- these items come first of some record
@@ -121,6 +122,11 @@ ReadsTo (Err (Failed Read)) taking given read at_end =
     (items_in read ≡ given) × (fault_so_far read ≡ None)
 ReadsTo (Err stop) taking given read at_end = Unit {0}
 
+-- before the last of these bytes were read they had no other items than these, and no fault
+abbrev pub IsNeeded : List Item → List ℕ → Type 0
+IsNeeded given read = ReadsWhile
+    (λ first. IsPrefix (items_in first) given × (fault_so_far first ≡ None)) read
+
 -- These bytes were read of a slot, and the fact holds of all that it can have had: of each list
 -- that begins with them, or of them alone where nothing is left.
 pub record OfSlot (shelf : ShelfRun) (slot : ℕ) (read : List ℕ) (Fact : List ℕ → Type 0)
@@ -134,4 +140,5 @@ pub record ItemsRead {E : Type 0} (result : Result (Unit {0}) (Stopped E)) (taki
   pub read : List ℕ
   pub given : List Item
   pub reads_to : ReadsTo result taking given read (IsAtEnd shelf.last slot)
+  pub needed : IsNeeded given read
   pub record_read : OfSlot shelf slot read (λ bytes. RecordRead result taking given bytes out)

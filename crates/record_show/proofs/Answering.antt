@@ -18,6 +18,7 @@ use Rattle.record_grammar.specs.Record.{items as items_in, fault as fault_in}
 use Rattle.record_text.specs.declared.part.ShowPart.{ShowPart}
 use Rattle.record_text.specs.declared.part.ShowPart.TheVariants.{All, Reports, Cycle}
 use Rattle.item_reader.specs.StandsFor.{FoundFault, IsFaulty}
+use Rattle.item_reader.proofs.Needed.{while-weaker}
 use Rattle.record_reader.specs.Taking.{AreAll, RecordRead, ItemsRead}
 use Rattle.record_reader.proofs.Taking.{behind, over, told, of-slot}
 use Rattle.probes.specs.Reports.{ProbeLife, AudienceState, reported, reports, in_turn, staying}
@@ -216,6 +217,7 @@ pub ended-stopped : (part : ShowPart) (first now : AudienceState) (printer : Pri
     → Ended (Err stop) part first now h.read shelf slot out
 ended-stopped part first now printer {out = out} stop kept h = record {
   reads_to = stopped_to part first now printer stop h;
+  needed = while-weaker _ _ h.read (λ first p. p.1) h.needed;
   wrote = stopped_wrote part first now printer stop h;
   answers = of-slot _ (λ bytes. Answers (Err stop) part first bytes out)
       (λ bytes r. (stopped part first now printer bytes out h.given stop r).0) h.record_read;
@@ -258,6 +260,7 @@ pub ended-finished : (part : ShowPart) (first mid now : AudienceState) (printer 
     → FinishIs result part printer.cycles mid now (behind one last b) → Ended result part first now h.read shelf slot (over one last b)
 ended-finished part first mid now printer {shelf = shelf} {slot = slot} {one = one} last b u result kept h end = record {
   reads_to = finished_to result part printer.cycles mid now h.read (IsAtEnd shelf.last slot) (behind one last b) h.reads_to end;
+  needed = while-weaker _ _ h.read (λ first p. p.1) h.needed;
   wrote = finished_wrote result part printer.cycles mid now h.read (behind one last b) (over one last b) end;
   answers = of-slot _ (λ bytes. Answers result part first bytes (over one last b))
       (λ bytes r. (finished part first mid now printer bytes one last b h.given u result r end).0) h.record_read;

@@ -14,6 +14,7 @@ use Rattle.record_grammar.specs.declared.item.Item.{Item}
 use Rattle.record_grammar.specs.Record.{items as items_in, fault as fault_in, fault_so_far}
 use Rattle.record_text.specs.declared.part.ShowPart.{ShowPart}
 use Rattle.record_text.specs.declared.part.ShowPart.TheVariants.{All, Reports, Cycle}
+use Rattle.item_reader.specs.Needed.{ReadsWhile}
 use Rattle.record_reader.specs.Taking.{OfSlot}
 use Rattle.probes.specs.Reports.{AudienceState, reported}
 use Rattle.probes.specs.Shows.{SawRuns}
@@ -106,6 +107,7 @@ pub record Ended (result : Result Shown (Stopped RecordFault)) (part : ShowPart)
     (old now : AudienceState) (read : List ℕ) (shelf : ShelfRun) (slot : ℕ) (out : SinkRun)
     : Type 0 where
   pub reads_to : ReadsTo result read (IsAtEnd shelf.last slot)
+  pub needed : ReadsWhile (λ first. fault_so_far first ≡ None) read
   pub wrote : WroteRead result part read out
   pub answers : OfSlot shelf slot read (λ bytes. Answers result part old bytes out)
   pub sees : OfSlot shelf slot read (λ bytes. Sees result part old now bytes out)

@@ -1,5 +1,5 @@
 -- How a record that is run again ends.
-use Rattle.std.proofs.Common.{◌≡◌, inl, inr, ℕ, List, [], ◌∷◌, ◌++◌, sym, ap, subst, ◌∙◌, append_assoc, append-nil}
+use Rattle.std.proofs.Common.{◌≡◌, inl, inr, ℕ, List, [], ◌∷◌, ◌++◌, refl, sym, ap, subst, ◌∙◌, append_assoc, append-nil}
 use Rattle.std.specs.Prelude.{true, false, Option, Some, None, Result, Ok, Err}
 use Rattle.std.specs.Option.{is_none}
 use Rattle.std.specs.List.{flat_map}
@@ -34,7 +34,7 @@ use Rattle.run_writer.proofs.Growing.{record-opened, record-next, record-ended, 
 use Rattle.replayer.specs.Again.{input_in, inputs, is_whole, again}
 use Rattle.replayer.specs.Ends.{Finishes, Stops, Answers, ReadsTo, Ended}
 use Rattle.replayer.proofs.Giving.{inputs-first}
-use Rattle.replayer.proofs.Running.{Running, Next, next_run}
+use Rattle.replayer.proofs.Running.{IsNeeded, Running, Next, next_run}
 
 -- a fact about what was read is one about the whole record where nothing follows
 at_record : (P : List ℕ → Type 0) (bytes rest : List ℕ) → rest ≡ [] → P bytes → P (bytes ++ rest)
@@ -42,11 +42,13 @@ at_record P bytes rest none p = subst P (sym (ap (λ l. bytes ++ l) none ∙ app
 
 module _ {S G E L P : Type 0} (m : Meaning S G E L P) (profile : ProfileValue) where
   ended : {result : Result Counts (Stopped RecordFault)} {read more : List ℕ} {shelf : ShelfRun} {slot : ℕ} {out : SinkRun}
-      → Reads shelf.first shelf.last slot more → ReadsTo m profile result (read ++ more) (IsAtEnd shelf.last slot) out
+      → Reads shelf.first shelf.last slot more → IsNeeded read more
+      → ReadsTo m profile result (read ++ more) (IsAtEnd shelf.last slot) out
       → ((rest : List ℕ) → (IsAtEnd shelf.last slot → rest ≡ []) → Answers m profile result ((read ++ more) ++ rest) out)
       → Ended m profile result read more shelf slot out
-  ended {result} {read} {more} {out = out} reads to each = record {
+  ended {result} {read} {more} {out = out} reads needed to each = record {
     reads_to = to;
+    needed = needed;
     answers = record {
       reads = reads;
       each = λ rest end. subst (λ (bytes : List ℕ). Answers m profile result bytes out) (append_assoc read more rest) (each rest end);
@@ -90,9 +92,9 @@ module _ {S G E L P : Type 0} (m : Meaning S G E L P) (profile : ProfileValue) w
       → Cuts failure out.before out.after (opening m profile)
       → Ended m profile (Err (Failed failure)) read [] (record { first = state; last = state; stays = stays }) slot out
   open-failed read slot state stays out Read cut = absurd cut
-  open-failed read slot state stays out Write cut = ended (reads-none state slot) tt (λ rest end.
+  open-failed read slot state stays out Write cut = ended (reads-none state slot) (inl refl) tt (λ rest end.
       short-of out [] ((read ++ []) ++ rest) (prefix-none _) (subst (GrewShort out.before out.after) (sym (record-opened m profile)) cut))
-  open-failed read slot state stays out OutOfMemory cut = ended (reads-none state slot) tt (λ rest end.
+  open-failed read slot state stays out OutOfMemory cut = ended (reads-none state slot) (inl refl) tt (λ rest end.
       part-none out.before out.after (again m profile ((read ++ []) ++ rest)) cut)
 
   module _ (slot : ℕ) (shelf : ShelfRun) (out : SinkRun) where
@@ -105,11 +107,11 @@ module _ {S G E L P : Type 0} (m : Meaning S G E L P) (profile : ProfileValue) w
           → Cuts failure took out.after (spelled_frame profile.format (Run (next_run m profile given input)))
           → Ended m profile (Err (Failed failure)) read n.all shelf slot out
       cycle-failed input Read n cut = absurd cut
-      cycle-failed input Write n cut = ended n.reads tt (λ rest end.
+      cycle-failed input Write n cut = ended n.reads (n.needed read stands) tt (λ rest end.
           short-of out (given ++ input ∷ []) ((read ++ n.all) ++ rest) (inputs-first (n.is read stands).0 rest)
           (subst (GrewShort out.before out.after) (sym (record-next m profile given input))
           (grew-then-short out.before took out.after _ _ running.grew cut)))
-      cycle-failed input OutOfMemory n cut = ended n.reads tt (λ rest end.
+      cycle-failed input OutOfMemory n cut = ended n.reads (n.needed read stands) tt (λ rest end.
           part-of out given ((read ++ n.all) ++ rest) (n.front read stands rest) (grew-same running.grew cut))
 
       -- Terminate wasn't written
@@ -120,10 +122,10 @@ module _ {S G E L P : Type 0} (m : Meaning S G E L P) (profile : ProfileValue) w
       close-failed Write n cut =
           let whole = (n.is read stands).1 in
           let is = again-is (read ++ n.all) given None whole.inputs whole.whole ∙ record-ended m profile given in
-          ended n.reads tt (λ rest end.
+          ended n.reads (n.needed read stands) tt (λ rest end.
           at_record (λ bytes. GrewShort out.before out.after (again m profile bytes)) (read ++ n.all) rest (end whole.end)
           (subst (GrewShort out.before out.after) (sym is) (grew-then-short out.before took out.after _ _ running.grew cut)))
-      close-failed OutOfMemory n cut = ended n.reads tt (λ rest end.
+      close-failed OutOfMemory n cut = ended n.reads (n.needed read stands) tt (λ rest end.
           part-of out given ((read ++ n.all) ++ rest) (n.front read stands rest) (grew-same running.grew cut))
 
       -- the record is whole
@@ -139,7 +141,7 @@ module _ {S G E L P : Type 0} (m : Meaning S G E L P) (profile : ProfileValue) w
             grew = subst (Grew out.before out.after) (sym (is ∙ record-ended m profile given)) (grew-then running.grew grew);
             counted = rw (is, whole.inputs) counted;
           } in
-          ended n.reads whole.end (λ rest end.
+          ended n.reads (n.needed read stands) whole.end (λ rest end.
           at_record (λ bytes. Finishes m profile bytes counts out) (read ++ n.all) rest (end whole.end) finishes)
 
     -- the record has a fault, or the reader failed
@@ -152,7 +154,8 @@ module _ {S G E L P : Type 0} (m : Meaning S G E L P) (profile : ProfileValue) w
     reading-stopped {given = given} next read stands (Refused fault) running n =
         let bytes = read ++ n.all in
         let has = n.is read stands in
-        ended n.reads has.found (λ rest end. elim has.found.found as (λ _. Stops m profile (bytes ++ rest) fault out) [
+        ended n.reads (n.needed read stands) has.found (λ rest end.
+        elim has.found.found as (λ _. Stops m profile (bytes ++ rest) fault out) [
           | inl stays ↦ stops-at out (bytes ++ rest) given fault
               (ap (λ (xs : List Item). flat_map input_in xs) (stays rest).0 ∙ has.inputs) (stays rest).1 running.grew
           | inr at ↦ at_record (λ all. Stops m profile all fault out) bytes rest (end at)
@@ -160,10 +163,10 @@ module _ {S G E L P : Type 0} (m : Meaning S G E L P) (profile : ProfileValue) w
         ])
     reading-stopped {given = given} next read stands (Failed Read) running n =
         let has = (n.is read stands).1 in
-        ended n.reads (
+        ended n.reads (n.needed read stands) (
           has.sound,
           subst (λ (xs : List CycleInput). Grew out.before out.after (record_with m profile xs false)) (sym has.inputs) running.grew,
         ) (λ rest end. part-of out given ((read ++ n.all) ++ rest) (n.front read stands rest) running.grew)
     reading-stopped next read stands (Failed Write) running n = absurd (n.is read stands)
-    reading-stopped {given = given} next read stands (Failed OutOfMemory) running n = ended n.reads tt (λ rest end.
+    reading-stopped {given = given} next read stands (Failed OutOfMemory) running n = ended n.reads (n.needed read stands) tt (λ rest end.
         part-of out given ((read ++ n.all) ++ rest) (n.front read stands rest) running.grew)

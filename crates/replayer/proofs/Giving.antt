@@ -16,16 +16,18 @@ use Rattle.det_edges.proofs.SlotReads.{reads-then}
 use Rattle.record_grammar.specs.declared.fault.RecordFault.{RecordFault}
 use Rattle.record_grammar.specs.declared.item.Item.{Item}
 use Rattle.record_grammar.specs.declared.item.Item.TheVariants as items
-use Rattle.record_grammar.specs.Record.{items as items_in}
+use Rattle.record_grammar.specs.Record.{items as items_in, fault_so_far}
 use Rattle.record_view.specs.declared.view.FrameView.{FrameView}
 use Rattle.record_codec.specs.Filled.{InputFilled}
-use Rattle.item_reader.specs.StandsFor.{FoundFault}
+use Rattle.item_reader.specs.Needed.{ReadsWhile}
+use Rattle.item_reader.specs.StandsFor.{FoundFault, ReadsIfNeeded}
+use Rattle.item_reader.proofs.Needed.{while-weaker, while-then}
 use Rattle.record_reader.specs.declared.frames.FrameReader.{FrameReader}
 use Rattle.record_reader.specs.Frames.{HasRead, FrameIs, GaveFrame, Holds, slot_of}
 use Rattle.record_reader.proofs.FrameReading.{are_first, more_items}
 use Rattle.record_reader.proofs.Items.{next_is}
 use Rattle.replayer.specs.Again.{input_in, inputs}
-use Rattle.replayer.specs.Giving.{HasGiven, ReadsOn, InputIs}
+use Rattle.replayer.specs.Giving.{HasGiven, HasAll, ReadsOn, InputIs}
 use Rattle.replayer.proofs.Items.{inputs-next, few-inputs, known-input}
 
 -- the inputs of a record, by its items
@@ -127,6 +129,16 @@ pub given-frame : {before now : ShelfState} {at : FrameReader} (o other : Option
 given-frame {before} {now} {at} o other next is h =
     subst (λ (x : Option FrameView). HasRead before now at (FrameIs (Ok x) next (IsAtEnd now (slot_of at)))) is h
 
+-- all inputs were given where a frame was wanted
+all-given : {profile : ProfileValue} {r : FrameReader} (read more next : List ℕ) {given : List CycleInput}
+    (h : HasGiven profile r (read ++ more) given) → ReadsIfNeeded (read ++ more) (items.Header profile ∷ h.behind) next
+    → ReadsWhile (λ first. HasAll (read ++ (more ++ first)) given) next
+all-given {profile} read more next {given} h needed =
+    while-weaker (λ first. (items_in ((read ++ more) ++ first) ≡ items.Header profile ∷ h.behind)
+    × (fault_so_far ((read ++ more) ++ first) ≡ None)) (λ first. HasAll (read ++ (more ++ first)) given) next
+    (λ first all. subst (λ (bytes : List ℕ). HasAll bytes given) (append_assoc read more first)
+    (record { inputs = inputs-of ((read ++ more) ++ first) h all.0; sound = all.1 })) needed
+
 -- the reader's answer, behind what was read
 module _ {before mid now : ShelfState} {old at : FrameReader} (next : FrameReader) (same : slot_of at ≡ slot_of old)
     (on : ReadsOn before mid old (λ profile. HasGiven profile at)) where
@@ -139,10 +151,12 @@ module _ {before mid now : ShelfState} {old at : FrameReader} (next : FrameReade
     reads-then on.1 (subst (λ (s : ℕ). Reads mid now s is.0) same is.1),
     λ profile read given h.
         let gave = on.2 profile read given h in
-        subst (λ (s : ℕ). P profile s (read ++ (on.0 ++ is.0)) given) same
-        (subst (λ (xs : List ℕ). P profile (slot_of at) xs given) (append_assoc read on.0 is.0)
-        (by profile (slot_of at) (read ++ on.0) ((read ++ on.0) ++ is.0) given gave
-        (is.2 profile (read ++ on.0) gave.behind gave.stands).1)),
+        let known = is.2 profile (read ++ on.0) gave.1.behind gave.1.stands in (
+          while-then (λ first. HasAll (read ++ first) given) on.0 is.0 gave.0 (all-given read on.0 is.0 gave.1 known.0),
+          subst (λ (s : ℕ). P profile s (read ++ (on.0 ++ is.0)) given) same
+              (subst (λ (xs : List ℕ). P profile (slot_of at) xs given) (append_assoc read on.0 is.0)
+              (by profile (slot_of at) (read ++ on.0) ((read ++ on.0) ++ is.0) given gave.1 known.1)),
+        ),
   )
 
   pub then-skipped : (view : FrameView) (input : CycleInput)

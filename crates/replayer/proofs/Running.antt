@@ -1,6 +1,6 @@
 -- A record on its way: its inputs read, their cycles run again, and the frames written.
 use Rattle.std.proofs.Common.{◌≡◌, ◌≤◌, ◌<◌, ℕ, List, [], ◌∷◌, ◌++◌, length, refl, sym, ap, subst, ◌∙◌, arith, append_assoc, append-nil}
-use Rattle.std.proofs.Common.{length-append}
+use Rattle.std.proofs.Common.{inl, length-append}
 use Rattle.std.specs.Prelude.{false, Option, Some, None, Result, Ok, Err}
 use Rattle.det_values.specs.Values.{ProfileValue}
 use Rattle.det_values.specs.declared.frames.CycleInput.{CycleInput}
@@ -21,7 +21,10 @@ use Rattle.job_trait.specs.Meaning.{Meaning}
 use Rattle.cycle_engine.specs.Frames.{frame_of, state_of}
 use Rattle.record_grammar.specs.declared.fault.RecordFault.{RecordFault}
 use Rattle.record_grammar.specs.declared.item.Item.TheVariants as items
+use Rattle.record_grammar.specs.Record.{fault_so_far}
 use Rattle.record_grammar.specs.Spelling.{spelled_frame}
+use Rattle.item_reader.specs.Needed.{ReadsWhile}
+use Rattle.item_reader.proofs.Needed.{while-weaker, while-then}
 use Rattle.record_reader.specs.declared.frames.FrameReader.{FrameReader}
 use Rattle.record_reader.specs.Frames.{StandsFor, slot_of}
 use Rattle.run_writer.specs.declared.counts.Counts.{Counts}
@@ -30,18 +33,23 @@ use Rattle.run_writer.specs.Record.{record_with, opening}
 use Rattle.run_writer.specs.Recording.{Cuts, Stands, Ran}
 use Rattle.run_writer.proofs.Growing.{record-opened, record-next}
 use Rattle.replayer.specs.Again.{inputs}
-use Rattle.replayer.specs.Giving.{HasGiven, ReadsOn, InputIs}
+use Rattle.replayer.specs.Giving.{HasGiven, HasAll, ReadsOn, InputIs}
 use Rattle.replayer.proofs.Giving.{inputs-first}
 
 -- what the reader answers, of every record whose header it gave
 abbrev pub Answered : Result (Option CycleInput) (Stopped RecordFault) → ShelfState → ShelfState → FrameReader → FrameReader → Type 0
 Answered answer mid now old new = ReadsOn mid now old (λ profile. InputIs answer profile new (IsAtEnd now (slot_of old)))
 
+-- bytes were read while those before them had no fault
+abbrev pub IsNeeded : List ℕ → List ℕ → Type 0
+IsNeeded before more = ReadsWhile (λ first. fault_so_far (before ++ first) ≡ None) more
+
 module _ {S G E L P : Type 0} (m : Meaning S G E L P) (profile : ProfileValue) where
   -- behind what `old` had read these bytes were read, and these inputs run again
   pub record Running (first now : ShelfState) (slot : ℕ) (before took : List ℕ → Type 0) (old reader : FrameReader)
       (recording : Recording S G E L P) (more : List ℕ) (given : List CycleInput) : Type 0 where
     pub reads : Reads first now slot more
+    pub needed : (read : List ℕ) → StandsFor old read (items.Header profile ∷ []) → IsNeeded read more
     pub gave : (read : List ℕ) → StandsFor old read (items.Header profile ∷ []) → HasGiven profile reader (read ++ more) given
     pub stands : Stands m recording given
     pub grew : Grew before took (record_with m profile given false)
@@ -55,6 +63,7 @@ module _ {S G E L P : Type 0} (m : Meaning S G E L P) (profile : ProfileValue) w
       → Running shelf shelf (slot_of reader) before took reader reader recording [] []
   running-opened shelf before took reader recording opened grew = record {
     reads = reads-none shelf (slot_of reader);
+    needed = λ read stands. inl refl;
     gave = λ read stands. subst (λ (bytes : List ℕ). HasGiven profile reader bytes []) (sym (append-nil read))
         (record { behind = []; stands = stands; inputs = refl });
     stands = opened;
@@ -66,6 +75,7 @@ module _ {S G E L P : Type 0} (m : Meaning S G E L P) (profile : ProfileValue) w
       (answer : Result (Option CycleInput) (Stopped RecordFault)) : Type 0 where
     pub all : List ℕ
     pub reads : Reads first now slot all
+    pub needed : (read : List ℕ) → StandsFor old read (items.Header profile ∷ []) → IsNeeded read all
     -- the inputs given before come first, whatever follows
     pub front : (read : List ℕ) → StandsFor old read (items.Header profile ∷ [])
         → (rest : List ℕ) → IsPrefix given (inputs ((read ++ all) ++ rest))
@@ -80,13 +90,17 @@ module _ {S G E L P : Type 0} (m : Meaning S G E L P) (profile : ProfileValue) w
     next-read next answer h same = record {
       all = more ++ h.0;
       reads = reads-then running.reads (subst (λ s. Reads mid now s h.0) same h.1);
+      needed = λ read stands. while-then (λ first. fault_so_far (read ++ first) ≡ None) more h.0 (running.needed read stands)
+          (while-weaker (λ first. HasAll ((read ++ more) ++ first) given) (λ first. fault_so_far (read ++ (more ++ first)) ≡ None) h.0
+          (λ first all. subst (λ (bytes : List ℕ). fault_so_far bytes ≡ None) (append_assoc read more first) all.sound)
+          (h.2 profile (read ++ more) given (running.gave read stands)).0);
       front = λ read stands rest. subst (λ (bytes : List ℕ). IsPrefix given (inputs bytes))
           (sym (append_assoc (read ++ more) h.0 rest) ∙ ap (λ (bytes : List ℕ). bytes ++ rest) (append_assoc read more h.0))
           (inputs-first (running.gave read stands) (h.0 ++ rest));
       is = λ read stands. subst (λ s. InputIs answer profile next (IsAtEnd now s) (read ++ (more ++ h.0)) given) same
           (subst (λ (bytes : List ℕ). InputIs answer profile next (IsAtEnd now (slot_of reader)) bytes given)
           (append_assoc read more h.0)
-          (h.2 profile (read ++ more) given (running.gave read stands)));
+          (h.2 profile (read ++ more) given (running.gave read stands)).1);
     }
 
     -- the same of an answer that is known
@@ -101,6 +115,7 @@ module _ {S G E L P : Type 0} (m : Meaning S G E L P) (profile : ProfileValue) w
         → Running first now slot before after old next ran n.all (given ++ input ∷ [])
     running-next next ran input run {after} n one = record {
       reads = n.reads;
+      needed = n.needed;
       gave = λ read stands. (n.is read stands).0;
       stands = one.stands;
       grew = subst (Grew before after)

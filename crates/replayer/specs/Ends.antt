@@ -11,6 +11,7 @@ use Rattle.job_trait.specs.Meaning.{Meaning}
 use Rattle.cycle_engine.specs.Frames.{runs}
 use Rattle.record_grammar.specs.declared.fault.RecordFault.{RecordFault}
 use Rattle.record_grammar.specs.Record.{items as items_in, fault as fault_in, fault_so_far}
+use Rattle.item_reader.specs.Needed.{ReadsWhile}
 use Rattle.item_reader.specs.StandsFor.{FoundFault}
 use Rattle.record_reader.specs.Taking.{OfSlot}
 use Rattle.run_writer.specs.declared.counts.Counts.{Counts}
@@ -56,4 +57,5 @@ module _ {S G E L P : Type 0} (m : Meaning S G E L P) (profile : ProfileValue) w
   pub record Ended (result : Result Counts (Stopped RecordFault)) (before more : List ℕ)
       (shelf : ShelfRun) (slot : ℕ) (out : SinkRun) : Type 0 where
     pub reads_to : ReadsTo result (before ++ more) (IsAtEnd shelf.last slot) out
+    pub needed : ReadsWhile (λ first. fault_so_far (before ++ first) ≡ None) more
     pub answers : OfSlot shelf slot more (λ bytes. Answers result (before ++ bytes) out)

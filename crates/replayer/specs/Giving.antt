@@ -12,6 +12,7 @@ use Rattle.record_grammar.specs.declared.fault.RecordFault.{RecordFault}
 use Rattle.record_grammar.specs.declared.item.Item.{Item}
 use Rattle.record_grammar.specs.declared.item.Item.TheVariants as items
 use Rattle.record_grammar.specs.Record.{items as items_in, fault as fault_in, fault_so_far}
+use Rattle.item_reader.specs.Needed.{ReadsWhile}
 use Rattle.item_reader.specs.StandsFor.{FoundFault}
 use Rattle.record_reader.specs.declared.frames.FrameReader.{FrameReader}
 use Rattle.record_reader.specs.Frames.{StandsFor, slot_of}
@@ -25,13 +26,6 @@ pub record HasGiven (profile : ProfileValue) (r : FrameReader) (read : List ℕ)
   pub stands : StandsFor r read (items.Header profile ∷ behind)
   pub inputs : flat_map input_in behind ≡ given
 
--- bytes were read, and what the reader had given before is known of it afterwards
-abbrev pub ReadsOn : ShelfState → ShelfState → FrameReader
-    → (ProfileValue → List ℕ → List CycleInput → Type 0) → Type 0
-ReadsOn before after r Then = (more : List ℕ) × Reads before after (slot_of r) more
-    × ((profile : ProfileValue) (read : List ℕ) (given : List CycleInput)
-    → HasGiven profile r read given → Then profile (read ++ more) given)
-
 -- This input comes next. Its samples are of the profile's events, and no more than 1,000,000 inputs
 -- are given.
 pub record IsNext (input : CycleInput) (profile : ProfileValue) (given : List CycleInput)
@@ -43,6 +37,16 @@ pub record IsNext (input : CycleInput) (profile : ProfileValue) (given : List Cy
 pub record HasAll (read : List ℕ) (given : List CycleInput) : Type 0 where
   pub inputs : inputs read ≡ given
   pub sound : fault_so_far read ≡ None
+
+-- Bytes were read, the last of them only where all inputs before them are given and no fault is in
+-- them. What the reader had given before is known of it afterwards.
+abbrev pub ReadsOn : ShelfState → ShelfState → FrameReader
+    → (ProfileValue → List ℕ → List CycleInput → Type 0) → Type 0
+ReadsOn before after r Then = (more : List ℕ) × Reads before after (slot_of r) more
+    × ((profile : ProfileValue) (read : List ℕ) (given : List CycleInput)
+    → HasGiven profile r read given
+    → ReadsWhile (λ first. HasAll (read ++ first) given) more
+    × Then profile (read ++ more) given)
 
 -- the record is whole, and all of its inputs are given
 pub record IsWhole (at_end : Type 0) (read : List ℕ) (given : List CycleInput) : Type 0 where

@@ -32,6 +32,7 @@ use Rattle.replayer.specs.Again.{inputs}
 use Rattle.checker.specs.declared.verdict.CheckVerdict.{CheckVerdict}
 use Rattle.checker.specs.declared.verdict.CheckVerdict.TheVariants.{Genuine, Departs}
 use Rattle.checker.specs.Departure.{frame_in, departure}
+use Rattle.checker.specs.Needed.{IsNeeded}
 use Rattle.checker.specs.Verdict.{verdict_by, check_verdict}
 use Rattle.upgrader.specs.Frames.{Takes}
 use Rattle.upgrader.specs.Upgraded.{in_format_two, upgraded_with, upgraded}
@@ -50,11 +51,13 @@ module _ {S G E L P : Type 0} (m : Meaning S G E L P) (profile : ProfileValue) w
   two = in_format_two profile
 
   ended : {result : Result CheckVerdict (Stopped RecordFault)} {read more : List ℕ} {shelf : ShelfRun} {slot : ℕ} {out : SinkRun}
-      → Reads shelf.first shelf.last slot more → ReadsTo m profile result (read ++ more) (IsAtEnd shelf.last slot) out
+      → Reads shelf.first shelf.last slot more → IsNeeded m profile read more
+      → ReadsTo m profile result (read ++ more) (IsAtEnd shelf.last slot) out
       → ((rest : List ℕ) → (IsAtEnd shelf.last slot → rest ≡ []) → Answers m profile result ((read ++ more) ++ rest) out)
       → Ended m profile result read more shelf slot out
-  ended {result} {read} {more} {out = out} reads to each = record {
+  ended {result} {read} {more} {out = out} reads needed to each = record {
     reads_to = to;
+    needed = needed;
     answers = record {
       reads = reads;
       each = λ rest end. subst (λ (bytes : List ℕ). Answers m profile result bytes out) (append_assoc read more rest) (each rest end);
@@ -100,9 +103,9 @@ module _ {S G E L P : Type 0} (m : Meaning S G E L P) (profile : ProfileValue) w
       → Cuts failure out.before out.after (spelled two [])
       → Ended m profile (Err (Failed failure)) read [] (record { first = state; last = state; stays = stays }) slot out
   header-failed read slot state stays out Read cut = absurd cut
-  header-failed read slot state stays out Write cut = ended (reads-none state slot) tt (λ rest end.
+  header-failed read slot state stays out Write cut = ended (reads-none state slot) (inl refl) tt (λ rest end.
       short-wider out.before out.after (spelled two []) (upgraded m profile ((read ++ []) ++ rest)) cut (header-first m profile _ _))
-  header-failed read slot state stays out OutOfMemory cut = ended (reads-none state slot) tt (λ rest end.
+  header-failed read slot state stays out OutOfMemory cut = ended (reads-none state slot) (inl refl) tt (λ rest end.
       part-none out.before out.after (upgraded m profile ((read ++ []) ++ rest)) cut)
 
   module _ (slot : ℕ) (shelf : ShelfRun) (out : SinkRun) {mid : ShelfState} {took : List ℕ → Type 0} {old reader : FrameReader}
@@ -121,7 +124,7 @@ module _ {S G E L P : Type 0} (m : Meaning S G E L P) (profile : ProfileValue) w
         departed m profile ((read ++ n.all) ++ rest) done all.0 frame at is_ended
         (subst (AreFrames profile ((read ++ n.all) ++ rest)) (append_assoc done (frame ∷ []) all.0) all.1) running.agree differ in
         let here = subst (λ (bytes : List ℕ). departure m profile bytes ≡ Some at) (append-nil (read ++ n.all)) (by [] false).departure in
-        ended n.reads here (λ rest end.
+        ended n.reads (n.needed read stands) here (λ rest end.
         let bytes = (read ++ n.all) ++ rest in
         let d = by rest (is_none (fault_in bytes)) in (
           verdict-is bytes (Some at) (fault_in bytes) d.departure refl,
@@ -139,7 +142,7 @@ module _ {S G E L P : Type 0} (m : Meaning S G E L P) (profile : ProfileValue) w
         let short : GrewShort took out.after (piece m profile done frame) =
         subst (λ (b : List ℕ → Type 0). GrewShort b out.after (piece m profile done frame)) before
         (subst (λ (a : List ℕ → Type 0). GrewShort step.before a (piece m profile done frame)) after h.1) in
-        ended n.reads tt (λ rest end.
+        ended n.reads (n.needed read stands) tt (λ rest end.
         let all = gone-first (gone-next m profile frame n read stands) rest in
         let bytes = (read ++ n.all) ++ rest in
         short-wider out.before out.after (spelled two (so_far m profile (done ++ frame ∷ []))) (upgraded m profile bytes)
@@ -150,7 +153,7 @@ module _ {S G E L P : Type 0} (m : Meaning S G E L P) (profile : ProfileValue) w
     take-failed frame n OutOfMemory goes_on step before after h =
         let same : Same took out.after =
         subst (λ (b : List ℕ → Type 0). Same b out.after) before (subst (λ (a : List ℕ → Type 0). Same step.before a) after h) in
-        ended n.reads tt (λ rest end.
+        ended n.reads (n.needed read stands) tt (λ rest end.
         let all = n.front read stands rest in
         part-of out done all.0 ((read ++ n.all) ++ rest) all.1 running.agree (grew-same running.grew same))
 
@@ -170,11 +173,11 @@ module _ {S G E L P : Type 0} (m : Meaning S G E L P) (profile : ProfileValue) w
       pub close-failed : (failure : Failure) → Cuts failure took out.after (spelled_frame two.format Terminate)
           → Ended m profile (Err (Failed failure)) read n.all shelf slot out
       close-failed Read cut = absurd cut
-      close-failed Write cut = ended n.reads tt (λ rest end.
+      close-failed Write cut = ended n.reads (n.needed read stands) tt (λ rest end.
           at_record (λ bytes. GrewShort out.before out.after (upgraded m profile bytes)) (read ++ n.all) rest
           (end (n.is read stands).2.1)
           (subst (GrewShort out.before out.after) (sym whole-is) (grew-then-short out.before took out.after _ _ running.grew cut)))
-      close-failed OutOfMemory cut = ended n.reads tt (λ rest end.
+      close-failed OutOfMemory cut = ended n.reads (n.needed read stands) tt (λ rest end.
           let all = n.front read stands rest in
           part-of out done all.0 ((read ++ n.all) ++ rest) all.1 running.agree (grew-same running.grew cut))
 
@@ -185,7 +188,7 @@ module _ {S G E L P : Type 0} (m : Meaning S G E L P) (profile : ProfileValue) w
           let is = n.is read stands in
           let all = read ++ n.all in
           let are = subst (AreFrames profile all) is.1 (are_frames profile all is.0 is.2.2) in
-          ended n.reads is.2.1 (λ rest end.
+          ended n.reads (n.needed read stands) is.2.1 (λ rest end.
           at_record (λ bytes. Answers m profile (Ok (Genuine cycles)) bytes out) all rest (end is.2.1) (
             verdict-is all None None whole-done.departure is.2.3
                 ∙ ap (λ (k : ℕ). Ok (Genuine k)) (ap length are.inputs ∙ sym counted),
@@ -203,7 +206,8 @@ module _ {S G E L P : Type 0} (m : Meaning S G E L P) (profile : ProfileValue) w
         let stays : IsFaulty fault all (items.Header profile ∷ is.0) → (rest : List ℕ)
         → Answers m profile (Err (Refused fault)) (all ++ rest) out =
         λ stays rest. faulty (all ++ rest) is.0 done fault out (stays rest).0 is.1 (stays rest).1 running.agree grew in
-        ended n.reads (elim is.2.0.found as (λ _. ReadsTo m profile (Err (Refused fault)) all (IsAtEnd shelf.last slot) out) [
+        ended n.reads (n.needed read stands)
+        (elim is.2.0.found as (λ _. ReadsTo m profile (Err (Refused fault)) all (IsAtEnd shelf.last slot) out) [
           | inl s ↦ inl (λ rest. (stays s rest).0)
           | inr at ↦ inr at
         ]) (λ rest end. elim is.2.0.found as (λ _. Answers m profile (Err (Refused fault)) (all ++ rest) out) [
@@ -217,11 +221,12 @@ module _ {S G E L P : Type 0} (m : Meaning S G E L P) (profile : ProfileValue) w
         let grew = subst (λ (t : List ℕ → Type 0). Grew out.before t (spelled two (so_far m profile done))) same running.grew in
         let are = subst (AreFrames profile all) is.1 (are_frames profile all is.0 is.2.1) in
         let done_all = all-done m profile all done are running.agree in
-        ended n.reads (is.2.2, done_all.departure, subst (Grew out.before out.after) (sym done_all.upgraded) grew) (λ rest end.
+        ended n.reads (n.needed read stands)
+        (is.2.2, done_all.departure, subst (Grew out.before out.after) (sym done_all.upgraded) grew) (λ rest end.
         let front = n.front read stands rest in
         part-of out done front.0 (all ++ rest) front.1 running.agree grew)
     reading-stopped (Failed Write) same n = absurd (n.is read stands).2
-    reading-stopped (Failed OutOfMemory) same n = ended n.reads tt (λ rest end.
+    reading-stopped (Failed OutOfMemory) same n = ended n.reads (n.needed read stands) tt (λ rest end.
         let front = n.front read stands rest in
         part-of out done front.0 ((read ++ n.all) ++ rest) front.1 running.agree
         (subst (λ (t : List ℕ → Type 0). Grew out.before t (spelled two (so_far m profile done))) same running.grew))

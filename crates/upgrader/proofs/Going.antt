@@ -1,5 +1,5 @@
 -- A record on its way: its frames read, compared with those that its inputs give, and those written.
-use Rattle.std.proofs.Common.{◌≡◌, ◌≤◌, ◌<◌, ◌+◌, ℕ, List, [], ◌∷◌, ◌++◌, length, refl, sym, ap, subst, ◌∙◌, arith}
+use Rattle.std.proofs.Common.{◌≡◌, inl, ◌≤◌, ◌<◌, ◌+◌, ℕ, List, [], ◌∷◌, ◌++◌, length, refl, sym, ap, subst, ◌∙◌, arith}
 use Rattle.std.proofs.Common.{append_assoc, append-nil, length-append}
 use Rattle.std.specs.Prelude.{Option, Some, None, Result, Ok, Err}
 use Rattle.std.specs.List.{flat_map}
@@ -41,9 +41,10 @@ use Rattle.replayer.specs.Again.{input_in}
 use Rattle.replayer.proofs.Items.{few-inputs}
 use Rattle.checker.specs.Departure.{frame_in}
 use Rattle.checker.specs.Given.{IsBehind, CanCome, IsPlaced, input_of, given_frame}
+use Rattle.checker.specs.Needed.{IsNeeded}
 use Rattle.checker.specs.declared.verdict.CheckVerdict.{CheckVerdict}
 use Rattle.checker.proofs.Departing.{inputs_of, departs-none}
-use Rattle.checker.proofs.Records.{inputs-are}
+use Rattle.checker.proofs.Records.{inputs-are, needed-then}
 use Rattle.checker.proofs.Running.{Gives, AnswersAs, gives, placed-at}
 use Rattle.upgrader.specs.declared.original.Original.{Original}
 use Rattle.upgrader.specs.Frames.{Takes, unless_last}
@@ -142,6 +143,7 @@ module _ {S G E L P : Type 0} (m : Meaning S G E L P) (profile : ProfileValue) w
   pub record Running (first now : ShelfState) (slot : ℕ) (before took : List ℕ → Type 0) (old reader : FrameReader)
       (recording : Recording S G E L P) (more : List ℕ) (done : List Frame) : Type 0 where
     pub reads : Reads first now slot more
+    pub needed : (read : List ℕ) → StandsFor old read (items.Header profile ∷ []) → IsNeeded m profile read more
     pub gone : (read : List ℕ) → StandsFor old read (items.Header profile ∷ []) → HasGone profile reader (read ++ more) done
     pub behind : IsBehind m recording (inputs_of done)
     pub agree : Agree m profile done
@@ -152,6 +154,7 @@ module _ {S G E L P : Type 0} (m : Meaning S G E L P) (profile : ProfileValue) w
       → Running shelf shelf (slot_of reader) before took reader reader recording [] []
   running-begun shelf before took reader recording behind grew = record {
     reads = reads-none shelf (slot_of reader);
+    needed = λ read stands. inl refl;
     gone = λ read stands. subst (λ (bytes : List ℕ). HasGone profile reader bytes []) (sym (append-nil read))
         (record { behind = []; stands = stands; frames = refl });
     behind = behind;
@@ -164,6 +167,7 @@ module _ {S G E L P : Type 0} (m : Meaning S G E L P) (profile : ProfileValue) w
       (answer : Result (Option Frame) (Stopped RecordFault)) : Type 0 where
     pub all : List ℕ
     pub reads : Reads first now slot all
+    pub needed : (read : List ℕ) → StandsFor old read (items.Header profile ∷ []) → IsNeeded m profile read all
     -- the frames done come first, whatever follows
     pub front : (read : List ℕ) → StandsFor old read (items.Header profile ∷ [])
         → (rest : List ℕ) → (more : List Frame) × AreFrames profile ((read ++ all) ++ rest) (done ++ more)
@@ -180,6 +184,10 @@ module _ {S G E L P : Type 0} (m : Meaning S G E L P) (profile : ProfileValue) w
     next-read next answer other fits h same = record {
       all = more ++ h.0;
       reads = reads-then running.reads (subst (λ s. Reads mid now s h.0) same h.1);
+      needed = λ read stands.
+          let gone = running.gone read stands in
+          needed-then m profile read more h.0 (items.Header profile ∷ gone.behind) done gone.frames running.agree
+          (running.needed read stands) (h.2 profile (read ++ more) gone.behind gone.stands).0;
       front = λ read stands rest. subst (λ (bytes : List ℕ). (fs : List Frame) × AreFrames profile bytes (done ++ fs))
           (sym (append_assoc (read ++ more) h.0 rest) ∙ ap (λ (bytes : List ℕ). bytes ++ rest) (append_assoc read more h.0))
           (gone-first (running.gone read stands) (h.0 ++ rest));
@@ -292,6 +300,7 @@ module _ {S G E L P : Type 0} (m : Meaning S G E L P) (profile : ProfileValue) w
       → Running first now slot before after old next later n.all (done ++ frame ∷ [])
   running-next {before = before} {done = done} running next frame n later after same grew behind = record {
     reads = n.reads;
+    needed = n.needed;
     gone = λ read stands. gone-next frame n read stands;
     behind = subst (IsBehind m later)
         (sym (inputs-next done frame)) behind;

@@ -14,6 +14,7 @@ use Rattle.record_reader.specs.Taking.{OfSlot}
 use Rattle.checker.specs.declared.verdict.CheckVerdict.{CheckVerdict}
 use Rattle.checker.specs.declared.verdict.CheckVerdict.TheVariants.{Genuine, Departs}
 use Rattle.checker.specs.Departure.{departure}
+use Rattle.checker.specs.Needed.{IsNeeded}
 use Rattle.checker.specs.Verdict.{check_verdict}
 use Rattle.upgrader.specs.Upgraded.{upgraded_with, upgraded}
 
@@ -51,6 +52,7 @@ module _ {S G E L P : Type 0} (m : Meaning S G E L P) (profile : ProfileValue) w
   pub record Ended (result : Result CheckVerdict (Stopped RecordFault)) (before more : List ℕ)
       (shelf : ShelfRun) (slot : ℕ) (out : SinkRun) : Type 0 where
     pub reads_to : ReadsTo result (before ++ more) (IsAtEnd shelf.last slot) out
+    pub needed : IsNeeded m profile before more
     pub answers : OfSlot shelf slot more (λ bytes. Answers result (before ++ bytes) out)
 
   -- of a record that begins with bytes read before

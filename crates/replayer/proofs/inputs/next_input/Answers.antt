@@ -1,4 +1,4 @@
-use Rattle.std.proofs.Common.{ℕ, List, [], Bool, Option, Some, None, Result, Ok, refl, sym, subst, ◌∙◌, ◌∷◌, ◌++◌, append-nil, arith}
+use Rattle.std.proofs.Common.{inl, ℕ, List, [], Bool, Option, Some, None, Result, Ok, refl, sym, subst, ◌∙◌, ◌∷◌, ◌++◌, append-nil, arith}
 use Rattle.det_values.specs.declared.frames.CycleInput.{CycleInput as Input}
 use Rattle.det_edges.specs.declared.failure.Stopped.{Stopped}
 use Rattle.det_edges.specs.Shelf.{IsAtEnd}
@@ -19,7 +19,10 @@ frames-init g c = record {
   on = (
     [],
     reads-none (g.S.Slots.sees c.args.shelf.now) (slot_of c.args.frames.now),
-    λ profile read given h. subst (λ (xs : List ℕ). HasGiven profile c.args.frames.now xs given) (sym (append-nil read)) h,
+    λ profile read given h. (
+      inl refl,
+      subst (λ (xs : List ℕ). HasGiven profile c.args.frames.now xs given) (sym (append-nil read)) h,
+    ),
   );
   slot = refl;
   traffic = record { cause = λ e. cc; counted = omega arith; stays = g.met.S.Slots.stays_same _ };
@@ -29,7 +32,7 @@ pub next-requires-clause-headed : goal.next-requires-clause-headed
 next-requires-clause-headed g c =
     let b = c.requires.begun in
     let on = c.frames.invariant.on in
-    let gave : HasGiven b.0 c.frames.frames (b.1 ++ on.0) b.2 = on.2 b.0 b.1 b.2 b.3 in
+    let gave : HasGiven b.0 c.frames.frames (b.1 ++ on.0) b.2 = (on.2 b.0 b.1 b.2 b.3).1 in
     (b.0, b.1 ++ on.0, gave.behind, gave.stands)
 
 pub returns-in_err-view-clause-input : goal.returns-in_err-view-clause-input
@@ -67,7 +70,7 @@ pub frames-smaller : goal.frames-smaller
 frames-smaller g c =
     let on = c.frames.invariant.on in
     let b = c.requires.begun in
-    let gave : HasGiven b.0 c.frames.frames (b.1 ++ on.0) b.2 = on.2 b.0 b.1 b.2 b.3 in
+    let gave : HasGiven b.0 c.frames.frames (b.1 ++ on.0) b.2 = (on.2 b.0 b.1 b.2 b.3).1 in
     subst (λ (o : Option FrameView). RoomFell (Ok o) (room c.frames.frames) (room c.next.new.self)) c.in-Some.is
     (c.in_ok-view.ensures.room (b.1 ++ on.0) (items.Header b.0 ∷ gave.behind) gave.stands)
 
