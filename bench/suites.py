@@ -181,7 +181,10 @@ class Bench:
         ]
 
     def salvaged(self, record: Path, cycles: int) -> list[Command]:
-        """A record that breaks off in the middle of its last cycle, made whole, and copied as it is."""
+        """A record that breaks off in the middle of its last cycle, made whole, and copied as it is.
+
+        `cp` leaves the copying to the kernel, and `dd` reads and writes pieces as large as those of `salvage`.
+        """
         cut = self.room("cut")
         shutil.copyfile(record, cut)
         os.truncate(cut, size(record) - size(record) // cycles // 2)
@@ -191,6 +194,7 @@ class Bench:
             *self.in_plain("salvage", "salvaged record", "salvage", cut),
             self.kept(f"salvage{KEPT}", salvage),
             self.kept("cp", ["cp", str(cut)]),
+            *([self.kept("dd", ["dd", f"if={cut}", "bs=64K", "status=none"])] if shutil.which("dd") else []),
         ]
 
     def upgraded(self, record: Path) -> list[Command]:

@@ -1,5 +1,5 @@
 -- An item that is noted and shown.
-use Rattle.std.proofs.Common.{◌≡◌, ◌<◌, ℕ, ◌+◌, Bool, false, ◌||◌, List, [], ◌∷◌, ◌++◌, length, Ok, Err, refl}
+use Rattle.std.proofs.Common.{◌≡◌, ◌<◌, ℕ, ◌+◌, Bool, false, ◌||◌, List, [], ◌∷◌, ◌++◌, Ok, Err, refl}
 use Rattle.std.proofs.Common.{sym, ap, subst, ◌∙◌, append-nil, arith}
 use Rattle.std.proofs.lemmas.Grind.{flat_map-append}
 use Rattle.det_values.specs.declared.frames.RunFrame.{RunFrame}
@@ -15,7 +15,7 @@ use Rattle.record_reader.proofs.Items.{NextIs, next_is}
 use Rattle.record_reader.proofs.Kept.{Adds, adds}
 use Rattle.record_reader.proofs.Pieces.{headed-next, begun-next, sum-next, cycles-room}
 use Rattle.record_show.specs.Text.{run_in, runs_in}
-use Rattle.probes.specs.Reports.{ProbeLife, AudienceState, in_turn, leaving, staying, reports}
+use Rattle.probes.specs.Reports.{AudienceState}
 use Rattle.probes.specs.Shows.{Shows}
 use Rattle.probes.proofs.Shown.{shows-none, shows-then}
 use Rattle.cmd_salvage.specs.declared.watch.Watch.{Watch}
@@ -63,25 +63,3 @@ module _ (first mid now : AudienceState) (given : List Item) (item : Item) (view
 pub unshown : (first now : AudienceState) (given : List Item) (item : Item) (new : Watch)
     → Takes (Err (Failed OutOfMemory)) (watching first now new) given item [] no_sink
 unshown first now given item new = record { more = []; all = refl; wrote = ([], prefix-none [], grew-none no_sink.before); after = tt }
-
--- ---- nobody looks
-
--- without probes nothing is told of any run
-in-turn-none : (k : ℕ) (runs : List RunFrame) → in_turn k runs [] ≡ []
-unfolding in_turn leaving
-in-turn-none k [] = refl
-in-turn-none k (run ∷ runs) = in-turn-none (k + 1) runs
-
-no-reports : (runs : List RunFrame) → reports [] runs ≡ []
-unfolding reports staying
-no-reports runs = ap (λ (told : List ℕ). told ++ []) (in-turn-none 0 runs)
-
--- an audience without probes need not be shown anything
-pub unwatched : (audience : AudienceState) (runs : List RunFrame) → length audience.seeing ≡ 0 → Shows audience audience runs
-unwatched audience runs none = record {
-  each = λ later. ap (λ (told : List ℕ). audience.left ++ told) (same audience.seeing later none);
-}
-  where
-    same : (probes : List ProbeLife) (later : List RunFrame) → length probes ≡ 0 → reports probes (runs ++ later) ≡ reports probes later
-    same [] later e = no-reports (runs ++ later) ∙ sym (no-reports later)
-    same (p ∷ ps) later e = absurd (omega (arith, e))

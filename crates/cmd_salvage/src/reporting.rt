@@ -45,7 +45,7 @@ pub(crate) fn report_run<S: Slots, K: Sink>(
         (failure_in result) }
 {
     let mut watch = Watch::new(alloc);
-    let read = watch_items(alloc, reader, shelf, &mut watch, audience);
+    let read = watch_items(reader, shelf, &mut watch, audience);
     settled(read, watch.has_begun)?;
     audience.finish(alloc)?;
     let lines = lines_of(alloc, watch.cycles, audience.reports())?;
@@ -55,7 +55,6 @@ pub(crate) fn report_run<S: Slots, K: Sink>(
 
 /// Gives all items to a watch and an audience.
 fn watch_items<S: Slots>(
-    alloc: Global,
     reader: &mut ItemReader,
     shelf: &mut S,
     watch: &mut Watch,
@@ -75,7 +74,7 @@ fn watch_items<S: Slots>(
         let Some(view) = reader.next(shelf)? else {
             return Ok(());
         };
-        watch.take(alloc, view, reader.bytes(view), audience)?;
+        watch.take(view, reader.bytes(view), audience)?;
     }
 }
 

@@ -1,17 +1,15 @@
 //! Items that are watched on their way to an audience.
 ghost use Rattle.std.specs.Prelude.{◌≡◌, ◌<◌, ◌+◌, OnOk};
-ghost use Rattle.det_values.specs.declared.frames.Frame.{Frame};
 ghost use Rattle.record_grammar.specs.declared.item.Item.{Item};
-ghost use Rattle.record_grammar.specs.declared.item.Item.TheVariants as items;
-ghost use Rattle.record_view.specs.Shows.{IsSpelling, IsFrameSpelling};
+ghost use Rattle.record_view.specs.Shows.{IsSpelling};
 ghost use Rattle.probes.specs.Shows.{Shows, seen};
 ghost use Rattle.record_show.specs.Text.{run_in};
 
 use det_values::OutOfMemory;
 use probes::{Audience, Probe};
-use record_codec::RunRoom;
 use record_reader::{begins_runs, runs_of};
-use record_view::{FrameView, ItemView};
+use record_show::Presenter;
+use record_view::ItemView;
 use std::alloc::Global;
 
 /// What is known of the items that were read of a record.
@@ -21,8 +19,7 @@ pub struct Watch {
     pub has_begun: bool,
     /// How many Run frames came.
     pub cycles: u32,
-    /// Where the runs that are shown are made.
-    room: RunRoom,
+    presenter: Presenter,
 }
 
 impl Watch {
@@ -37,7 +34,7 @@ impl Watch {
         Watch {
             has_begun: false,
             cycles: 0,
-            room: RunRoom::new(alloc),
+            presenter: Presenter::new(alloc),
         }
     }
 
@@ -45,7 +42,6 @@ impl Watch {
     /// of the probes has seen the run.
     pub fn take(
         &mut self,
-        alloc: Global,
         view: ItemView,
         bytes: &[u8],
         audience: &mut Audience,
@@ -60,31 +56,6 @@ impl Watch {
         let kind = view.span.kind;
         self.has_begun = begins_runs(kind) || self.has_begun;
         self.cycles += runs_of(kind);
-        match view.as_frame() {
-            Some(frame) => show_frame(alloc, &mut self.room, frame, bytes, audience),
-            None => Ok(()),
-        }
+        self.presenter.show(view, bytes, audience)
     }
-}
-
-/// Shows a Run frame to the audience, where a probe looks, and no other frame.
-fn show_frame(
-    alloc: Global,
-    room: &mut RunRoom,
-    view: FrameView,
-    bytes: &[u8],
-    audience: &mut Audience,
-) -> Result<(), OutOfMemory>
-    requires { (frame : Frame) × IsFrameSpelling view frame bytes.now }
-    ensures { (frame : Frame) → IsFrameSpelling view frame bytes.now
-        → OnOk result (Shows (seen (λ b. life (b.vtable, b.value)) audience.old)
-        (seen (λ b. life (b.vtable, b.value)) audience.new) (run_in (items.Frame frame))) }
-{
-    if audience.staying() == 0 {
-        return Ok(());
-    }
-    if !room.fill(view, bytes)? {
-        return Ok(());
-    }
-    audience.show(alloc, room.run())
 }
