@@ -10,6 +10,7 @@ use Rattle.probes.specs.Reports.{AudienceState}
 use Rattle.cli_answers.specs.declared.answer.Answer.{Answer}
 use Rattle.cli_answers.specs.declared.answer.Answer.TheVariants.{BadWords}
 use Rattle.cli_answers.specs.Outcome.{Meets, Tells, told}
+use Rattle.cli_answers.proofs.Keeping.{keeps-same}
 use Rattle.cli_answers.proofs.Meeting.{meets-refusal}
 use Rattle.cli_words.specs.declared.table.CommandWord.{CommandWord}
 use Rattle.cli_words.specs.declared.table.OptionWord.TheVariants.{Workers}
@@ -184,6 +185,7 @@ module _ (shelf : ShelfState) (other : Type 0) (before : List ℕ → Type 0) (a
     ends = refl;
     asked = asks-prefix-none shelf shelf [] refl;
     needed = λ t. asks-prefix-none shelf shelf [] refl;
+    earlier = keeps-same shelf;
     left = λ e. refl;
     gone = λ e. cc;
     saw = λ t ne. tt;

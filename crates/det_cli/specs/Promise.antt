@@ -25,6 +25,7 @@ use Rattle.cli_answers.specs.Answers.{status_of, err_line}
 use Rattle.cli_answers.specs.Ends.{can_end}
 use Rattle.cli_answers.specs.BreaksOff.{BreaksOff}
 use Rattle.cli_answers.specs.Outcome.{Meets, Tells, told}
+use Rattle.cli_answers.specs.Slots.{KeepsSlots}
 use Rattle.det_cli.specs.Outcome.{command_in, names_in, opened, shows_runs, work_of, outcome_of}
 
 -- with words that are no command it ends as bad words, and with no others
@@ -106,6 +107,8 @@ pub record Runs (command : Option CommandValue) (first last : ShelfState) (out_f
   pub asked : AsksPrefix first last (names_in command)
   pub needed : Tells first (opened command (told first))
       → AsksPrefix first last (opened command (told first))
+  -- slots given before the call keep what they have left
+  pub earlier : KeepsSlots first last
   -- a command that shows no runs leaves the audience; where one that shows them is done, all probes
   -- have reported and left
   pub left : shows_runs command ≡ false → stayed ≡ seeing

@@ -24,6 +24,7 @@ returns g c audience =
       ends = c.chain.ensures.ends;
       asked = c.chain.ensures.asked;
       needed = c.chain.ensures.judged;
+      earlier = c.chain.ensures.earlier;
       left = λ e. refl;
       gone = λ e. absurd cc;
       saw = λ t ne. tt;
