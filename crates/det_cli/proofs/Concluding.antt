@@ -12,7 +12,8 @@ use Rattle.cli_answers.specs.Answers.{status_of}
 use Rattle.cli_answers.specs.Ends.{Work, can_end}
 use Rattle.cli_answers.specs.Outcome.{Outcome, told}
 use Rattle.cli_words.specs.Command.{CommandValue}
-use Rattle.det_cli.specs.Outcome.{command_in, work_of, outcome}
+use Rattle.cli_words.specs.Reading.{command_of}
+use Rattle.det_cli.specs.Outcome.{work_of, outcome}
 use Rattle.det_cli.specs.Promise.{Ends, IsPromised}
 use Rattle.det_cli.specs.Laws.{Gives, IsRefusal, Concludes}
 
@@ -93,7 +94,7 @@ module _ (words : List (List ℕ)) (first last : ShelfState) (out_failed : Type 
         read_fault = read;
         write_fault = write;
         bad_words = (
-          (λ e. ends-bad (command_in words) p.answer p.runs.ends (at-bad-words p.answer (sym p.is ∙ e))),
-          λ e. p.is ∙ ap status_of (bad-ends (command_in words) p.answer p.runs.ends e),
+          (λ e. ends-bad (command_of words) p.answer p.runs.ends (at-bad-words p.answer (sym p.is ∙ e))),
+          λ e. p.is ∙ ap status_of (bad-ends (command_of words) p.answer p.runs.ends e),
         );
       }

@@ -17,42 +17,36 @@ use Rattle.cli_words.specs.declared.table.OptionWord.TheVariants.{Workers}
 use Rattle.cli_words.specs.Table.{row}
 use Rattle.cli_words.specs.Command.{CommandValue, name_at}
 use Rattle.cli_words.specs.Ranges.{IsInRange}
-use Rattle.cli_words.specs.Reading.{command_of}
 use Rattle.record_text.specs.declared.part.ShowPart.{ShowPart}
 use Rattle.record_text.specs.declared.part.ShowPart.TheVariants as parts
 use Rattle.record_show.specs.Showing.{Kept}
 use Rattle.record_show.specs.Ended.{IsGone}
 use Rattle.det_cli.specs.Texts.{help_text}
-use Rattle.det_cli.specs.Outcome.{known, command_in, has_reports, opened, outcome_of}
+use Rattle.det_cli.specs.Outcome.{has_reports, opened, outcome_of}
 use Rattle.det_cli.specs.Promise.{Runs}
 
--- the command in these words, where this is theirs
-pub command-in : (words : List (List ℕ)) (command : Option CommandValue) → command ≡ command_of words
-    → command_in words ≡ option_and_then known command
-command-in words command is = ap (option_and_then known) (sym is)
-
 -- a command by its word and its names
-pub same-known : (c : CommandValue) (word : CommandWord) (names : List (List ℕ)) → c.word ≡ word → c.names ≡ names
-    → known c ≡ known (record { word = word; names = names; options = c.options })
-same-known c word names is same =
-    ap (λ (w : CommandWord). known (record { word = w; names = c.names; options = c.options })) is
-    ∙ ap (λ (n : List (List ℕ)). known (record { word = word; names = n; options = c.options })) same
+pub same-command : (c : CommandValue) (word : CommandWord) (names : List (List ℕ)) → c.word ≡ word → c.names ≡ names
+    → Some c ≡ Some (record { word = word; names = names; options = c.options })
+same-command c word names is same =
+    ap (λ (w : CommandWord). Some (record { word = w; names = c.names; options = c.options })) is
+    ∙ ap (λ (n : List (List ℕ)). Some (record { word = word; names = n; options = c.options })) same
 
 -- the same, with what it says of reports
 pub same-reports : (c : CommandValue) (word : CommandWord) (names : List (List ℕ)) (reports : Bool) → c.word ≡ word → c.names ≡ names
     → c.options.reports ≡ reports
-    → known c ≡ known (record { word = word; names = names; options = record c.options { reports = reports } })
+    → Some c ≡ Some (record { word = word; names = names; options = record c.options { reports = reports } })
 same-reports c word names reports is same told =
-    same-known c word names is same
-    ∙ ap (λ (r : Bool). known (record { word = word; names = names; options = record c.options { reports = r } })) told
+    same-command c word names is same
+    ∙ ap (λ (r : Bool). Some (record { word = word; names = names; options = record c.options { reports = r } })) told
 
 -- the same, with what it says of dissent
 pub same-dissent : (c : CommandValue) (word : CommandWord) (names : List (List ℕ)) (dissent : Bool) → c.word ≡ word → c.names ≡ names
     → c.options.dissent ≡ dissent
-    → known c ≡ known (record { word = word; names = names; options = record c.options { dissent = dissent } })
+    → Some c ≡ Some (record { word = word; names = names; options = record c.options { dissent = dissent } })
 same-dissent c word names dissent is same told =
-    same-known c word names is same
-    ∙ ap (λ (d : Bool). known (record { word = word; names = names; options = record c.options { dissent = d } })) told
+    same-command c word names is same
+    ∙ ap (λ (d : Bool). Some (record { word = word; names = names; options = record c.options { dissent = d } })) told
 
 one-name : (names : List (List ℕ)) → 1 ≤ length names → length names ≤ 1 → names ≡ get_or names 0 [] ∷ []
 one-name [] least most = absurd (omega arith)

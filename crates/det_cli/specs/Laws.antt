@@ -15,11 +15,12 @@ use Rattle.cli_answers.specs.declared.status.Status.TheVariants.{ReadFault, Writ
 use Rattle.cli_answers.specs.Answers.{status_of}
 use Rattle.cli_answers.specs.Outcome.{Outcome, Tells, told}
 use Rattle.cli_words.specs.Command.{CommandValue}
-use Rattle.det_cli.specs.Outcome.{command_in, opened, outcome, outcome_of}
+use Rattle.cli_words.specs.Reading.{command_of}
+use Rattle.det_cli.specs.Outcome.{opened, outcome, outcome_of}
 
 -- the bytes under the names that the words open are told
 abbrev pub TellsAll : List (List ℕ) → ShelfState → Type 0
-TellsAll words shelf = Tells shelf (opened (command_in words) (told shelf))
+TellsAll words shelf = Tells shelf (opened (command_of words) (told shelf))
 
 -- the status is that of the outcome, and `out` took all its bytes
 pub record Gives (wanted : Outcome) (before after : List ℕ → Type 0) (status : Status)
@@ -50,7 +51,7 @@ pub record Concludes (words : List (List ℕ)) (first last : ShelfState) (out_fa
   pub read_fault : status ≡ ReadFault → Rose first.faults last.faults
   pub write_fault : status ≡ WriteFault → out_failed
   -- bad words exactly where the words are no command
-  pub bad_words : (status ≡ BadWords) ↔ (command_in words ≡ None)
+  pub bad_words : (status ≡ BadWords) ↔ (command_of words ≡ None)
 
 -- the command with this number of workers, or without one
 abbrev pub on_workers : Option ℕ → CommandValue → CommandValue

@@ -1,7 +1,7 @@
 -- What the program gives: an answer and the bytes for `out`, by the words, the bytes under each
 -- name and the audience.
 use Rattle.std.specs.Prelude.{ℕ, Bool, true, false, List, [], map, Option, Some, None}
-use Rattle.std.specs.Prelude.{is_some, unwrap_or, option_and_then, if◌then◌else◌}
+use Rattle.std.specs.Prelude.{unwrap_or}
 use Rattle.cli_answers.specs.declared.answer.Answer.TheVariants.{BadWords}
 use Rattle.cli_answers.specs.Outcome.{Outcome, text_outcome, refusal}
 use Rattle.cli_answers.specs.Ends.{Work, writes_alone}
@@ -29,18 +29,6 @@ use Rattle.cmd_vote.specs.Vote.{vote_outcome, dissent_outcome, vote_work}
 use Rattle.cmd_chain.specs.Chain.{chain_outcome, chain_names, chain_work}
 use Rattle.cmd_salvage.specs.Salvage.{salvage_outcome, salvage_reports_outcome, salvage_work}
 use Rattle.det_cli.specs.Texts.{version_text, help_text}
-
--- whether there is what the command asks for: the help of a command without a page isn't there
-abbrev pub is_known : CommandWord → CommandValue → Bool
-is_known Help c = is_some (help_text c.names)
-is_known word c = true
-
-abbrev pub known : CommandValue → Option CommandValue
-known c = if is_known c.word c then Some c else None
-
--- the command that the words are
-abbrev pub command_in : List (List ℕ) → Option CommandValue
-command_in words = option_and_then known (command_of words)
 
 -- the names that a command opens, in their order
 abbrev pub names_in : Option CommandValue → List (List ℕ)
@@ -131,4 +119,4 @@ outcome_of (Some c) holds audience = outcome_by c.word c holds audience
 outcome_of None holds audience = refusal BadWords
 
 abbrev pub outcome : List (List ℕ) → (List ℕ → List ℕ) → AudienceState → Outcome
-outcome words holds audience = outcome_of (command_in words) holds audience
+outcome words holds audience = outcome_of (command_of words) holds audience

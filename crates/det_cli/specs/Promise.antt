@@ -8,6 +8,7 @@ use Rattle.cli_words.specs.declared.table.CommandWord.{CommandWord}
 use Rattle.cli_words.specs.declared.table.CommandWord.TheVariants.{Show, Sim, Check}
 use Rattle.cli_words.specs.declared.table.CommandWord.TheVariants.{Salvage, Vote}
 use Rattle.cli_words.specs.Command.{CommandValue, name_at, files_of, number_in, part_of}
+use Rattle.cli_words.specs.Reading.{command_of}
 use Rattle.record_grammar.specs.Record.{items as items_in}
 use Rattle.record_reader.specs.Salvaged.{saved_of}
 use Rattle.record_show.specs.Text.{lines_of}
@@ -26,7 +27,7 @@ use Rattle.cli_answers.specs.Ends.{can_end}
 use Rattle.cli_answers.specs.BreaksOff.{BreaksOff}
 use Rattle.cli_answers.specs.Outcome.{Meets, Tells, told}
 use Rattle.cli_answers.specs.Slots.{KeepsSlots}
-use Rattle.det_cli.specs.Outcome.{command_in, names_in, opened, shows_runs, work_of, outcome_of}
+use Rattle.det_cli.specs.Outcome.{names_in, opened, shows_runs, work_of, outcome_of}
 
 -- with words that are no command it ends as bad words, and with no others
 abbrev pub Ends : Option CommandValue → Answer → Type 0
@@ -124,7 +125,7 @@ pub record IsPromised (words : List (List ℕ)) (first last : ShelfState) (out_f
     (seeing stayed : AudienceState) (status : Status) : Type 0 where
   pub answer : Answer
   pub is : status ≡ status_of answer
-  pub runs : Runs (command_in words) first last out_failed before after seeing stayed answer
+  pub runs : Runs (command_of words) first last out_failed before after seeing stayed answer
   -- `err` took a prefix of the answer's line, and all of it where its count of faults didn't rise
   pub line : GrewByPrefix err_before err_after (err_line answer)
   pub whole_line : ¬ err_failed → Grew err_before err_after (err_line answer)
