@@ -1,7 +1,7 @@
 -- What the program gives: an answer and the bytes for `out`, by the words, the bytes under each
 -- name and the audience.
 use Rattle.std.specs.Prelude.{ℕ, Bool, true, false, List, [], map, Option, Some, None}
-use Rattle.std.specs.Prelude.{unwrap_or}
+use Rattle.std.specs.Prelude.{unwrap_or, if◌then◌else◌}
 use Rattle.cli_answers.specs.declared.answer.Answer.TheVariants.{BadWords}
 use Rattle.cli_answers.specs.Outcome.{Outcome, text_outcome, refusal}
 use Rattle.cli_answers.specs.Ends.{Work, writes_alone}
@@ -81,16 +81,6 @@ abbrev pub shows_runs : Option CommandValue → Bool
 shows_runs (Some c) = is_showing c.word c
 shows_runs None = false
 
--- the salvaged record, or reports of it
-abbrev pub salvage_by : (reports : Bool) → AudienceState → List ℕ → Outcome
-salvage_by true audience recorded = salvage_reports_outcome audience recorded
-salvage_by false audience recorded = salvage_outcome recorded
-
--- the majority's record, or who dissents from it
-abbrev pub vote_by : (dissent : Bool) → List (List ℕ) → Outcome
-vote_by true copies = dissent_outcome copies
-vote_by false copies = vote_outcome copies
-
 abbrev pub outcome_by : CommandWord → CommandValue → (List ℕ → List ℕ) → AudienceState
     → Outcome
 outcome_by Demo c holds audience = demo_outcome (holds (name_at 0 c))
@@ -104,9 +94,11 @@ outcome_by Replay c holds audience = replay_outcome (holds (name_at 0 c))
 outcome_by Check c holds audience = check_outcome audience (holds (name_at 0 c))
 outcome_by Upgrade c holds audience = upgrade_outcome (holds (name_at 0 c))
 outcome_by Compare c holds audience = compare_outcome (map holds (files_of c))
-outcome_by Vote c holds audience = vote_by c.options.dissent (map holds (files_of c))
+outcome_by Vote c holds audience =
+    (if c.options.dissent then dissent_outcome else vote_outcome) (map holds (files_of c))
 outcome_by Salvage c holds audience =
-    salvage_by c.options.reports audience (holds (name_at 0 c))
+    (if c.options.reports then salvage_reports_outcome audience else salvage_outcome)
+    (holds (name_at 0 c))
 outcome_by Chain c holds audience =
     chain_outcome c.options.strict (holds (name_at 0 c)) (holds (name_at 1 c))
     (holds (name_at 2 c)) c.options.seed
