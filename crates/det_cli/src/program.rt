@@ -1,5 +1,5 @@
 //! The whole program.
-ghost use Rattle.std.specs.Prelude.{◌≡◌, true, map, option_map, Some, IfSome};
+ghost use Rattle.std.specs.Prelude.{◌≡◌, true, map, option_map, IfSome};
 ghost use Rattle.std.specs.Option.{unwrap_or};
 ghost use Rattle.det_edges.specs.Count.{Rose};
 ghost use Rattle.manifest.specs.Limits.{IsWorkers};
@@ -12,7 +12,7 @@ ghost use Rattle.cli_words.specs.Ranges.{IsInRange};
 ghost use Rattle.probes.specs.Reports.{AudienceState};
 ghost use Rattle.probes.specs.Shows.{seen};
 ghost use Rattle.det_cli.specs.Texts.{page_of, help_text};
-ghost use Rattle.det_cli.specs.Promise.{Runs, IsPromised};
+ghost use Rattle.det_cli.specs.Promise.{Runs, RunsWords, IsPromised};
 
 use crate::pages::{
     CHAIN, CHECK, COMPARE, DEMO, NEEDS, RECORD, REPLAY, SALVAGE, SHOW, SIM, UPGRADE, VOTE,
@@ -82,7 +82,7 @@ where
     K: Sink,
     R: Threads,
     G: Gate + Send + Sync + 'static,
-    ensures { Runs (command_of (texts words.now)) (S.sees shelf.old) (S.sees shelf.new)
+    ensures { RunsWords (command_of (texts words.now)) (S.sees shelf.old) (S.sees shelf.new)
         (Rose (K.faults out.old) (K.faults out.new)) (K.took out.old) (K.took out.new)
         (seen (λ b. life (b.vtable, b.value)) audience.old)
         (seen (λ b. life (b.vtable, b.value)) audience.new) result }
@@ -107,7 +107,7 @@ where
     R: Threads,
     G: Gate + Send + Sync + 'static,
     requires range { IsInRange (command_seen command) }
-    ensures { Runs (Some (command_seen command.entry)) (S.sees shelf.old) (S.sees shelf.new)
+    ensures { Runs (command_seen command.entry) (S.sees shelf.old) (S.sees shelf.new)
         (Rose (K.faults out.old) (K.faults out.new)) (K.took out.old) (K.took out.new)
         (seen (λ b. life (b.vtable, b.value)) audience.old)
         (seen (λ b. life (b.vtable, b.value)) audience.new) result }
@@ -166,7 +166,7 @@ fn vote_by<S: Shelf, K: Sink>(
 ) -> Answer
     requires range { IsInRange (command_seen command.now) }
     requires word { command.now.word ≡ CommandWord.Vote }
-    ensures { (audience : AudienceState) → Runs (Some (command_seen command.now))
+    ensures { (audience : AudienceState) → Runs (command_seen command.now)
         (S.sees shelf.old) (S.sees shelf.new) (Rose (K.faults out.old) (K.faults out.new))
         (K.took out.old) (K.took out.new) audience audience result }
 {
@@ -191,7 +191,7 @@ where
     G: Gate + Send + Sync + 'static,
     requires range { IsInRange (command_seen command.now) }
     requires word { command.now.word ≡ CommandWord.Chain }
-    ensures { (audience : AudienceState) → Runs (Some (command_seen command.now))
+    ensures { (audience : AudienceState) → Runs (command_seen command.now)
         (S.sees shelf.old) (S.sees shelf.new) (Rose (K.faults out.old) (K.faults out.new))
         (K.took out.old) (K.took out.new) audience audience result }
 {

@@ -1,5 +1,4 @@
 use Rattle.std.proofs.Common.{[], ◌∷◌, refl, rules}
-use Rattle.std.specs.Prelude.{Some}
 use Rattle.cli_words.specs.declared.table.CommandWord.TheVariants as words
 use Rattle.cli_words.specs.Command.{command_seen}
 use Rattle.det_cli.proofs.Joining.{same-command, all-names, workers-fit, runs-command}
@@ -17,7 +16,7 @@ returns g c audience =
     let stimulus = c.name-3.result.now in
     let is = all-names seen words.Chain c.requires.range c.requires.word refl refl first second stimulus
     c.name.ensures c.name-2.ensures c.name-3.ensures in
-    runs-command (g.S.Slots.sees c.args.shelf.now) _ _ _ _ _ _ _ (Some seen) _
+    runs-command (g.S.Slots.sees c.args.shelf.now) _ _ _ _ _ _ _ seen _
     (same-command seen words.Chain (first ∷ second ∷ stimulus ∷ []) c.requires.word is) (record {
       meets = c.chain.ensures.meets;
       broken = λ t e. tt;

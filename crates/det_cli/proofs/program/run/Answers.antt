@@ -1,7 +1,7 @@
-use Rattle.std.proofs.Common.{sym}
+use Rattle.std.proofs.Common.{sym, None}
 use Rattle.cli_words.specs.Names.{texts}
 use Rattle.cli_words.specs.Command.{command_seen}
-use Rattle.det_cli.proofs.Joining.{runs-command, runs-no-command}
+use Rattle.det_cli.proofs.Joining.{runs-words, refuses}
 use Rattle.det_cli.proofs.program.run.Goals as goal
 
 pub run_command-requires-clause-range : goal.run_command-requires-clause-range
@@ -9,7 +9,10 @@ run_command-requires-clause-range g c κs lives =
     c.ranges-2.ensures (texts c.args.words.now) (command_seen c.in-Some.command) (sym c.in-Some.ensures)
 
 pub returns-in-Some : goal.returns-in-Some
-returns-in-Some g c = runs-command (g.S.Slots.sees c.args.shelf.now) _ _ _ _ _ _ _ _ _ (sym c.in-Some.ensures) c.run_command.ensures
+returns-in-Some g c =
+    runs-words (g.S.Slots.sees c.args.shelf.now) _ _ _ _ _ _ _ _ _ (sym c.in-Some.ensures) c.run_command.ensures
 
 pub returns-in-None : goal.returns-in-None
-returns-in-None g c = runs-no-command (g.S.Slots.sees c.args.shelf.now) _ _ _ _ (sym c.in-None.ensures)
+returns-in-None g c =
+    let first = g.S.Slots.sees c.args.shelf.now in
+    runs-words first _ _ _ _ _ _ _ _ None (sym c.in-None.ensures) (refuses first _ _)

@@ -1,10 +1,10 @@
-use Rattle.std.proofs.Common.{ℕ, List, [], ◌∷◌, Bool, true, false, cond, refl, sym, ap, ◌∙◌, arith, rules}
+use Rattle.std.proofs.Common.{[], ◌∷◌, true, false, refl, sym, ◌∙◌, arith, rules}
 use Rattle.std.specs.Prelude.{Some, None}
 use Rattle.det_edges.proofs.Opening.{asks-all, asks-prefix-none}
 use Rattle.cli_answers.proofs.Keeping.{keeps-same}
 use Rattle.cli_answers.proofs.Meeting.{meets-under}
 use Rattle.cli_words.specs.declared.table.CommandWord.TheVariants as words
-use Rattle.cli_words.specs.Command.{CommandValue, command_seen}
+use Rattle.cli_words.specs.Command.{command_seen}
 use Rattle.det_cli.proofs.Helping.{help-there}
 use Rattle.det_cli.proofs.Joining.{same-command, sole-name, no-name, both-names, workers-fit, is-kept, is-gone, help-is, runs-command}
 use Rattle.det_cli.proofs.Joining.{same-reports, names-enough}
@@ -19,7 +19,7 @@ returns-in-Demo g c =
     let seen = command_seen c.args.command in
     let names = c.name-first.result.now ∷ [] in
     let is = sole-name seen words.Demo c.requires.range c.in-Demo.is refl refl c.name-first.result.now c.name-first.ensures in
-    runs-command (g.S.Slots.sees c.args.shelf.now) _ _ _ _ _ _ _ (Some seen) _ (same-command seen words.Demo names c.in-Demo.is is) (record {
+    runs-command (g.S.Slots.sees c.args.shelf.now) _ _ _ _ _ _ _ seen _ (same-command seen words.Demo names c.in-Demo.is is) (record {
       meets = c.demo.ensures.meets;
       broken = λ t e. tt;
       ends = c.demo.ensures.ends;
@@ -37,7 +37,7 @@ returns-in-Record g c =
     let names = c.name-first.result.now ∷ c.name-second.result.now ∷ [] in
     let is = both-names seen words.Record c.requires.range c.in-Record.is refl refl c.name-first.result.now c.name-second.result.now
     c.name-first.ensures c.name-second.ensures in
-    runs-command (g.S.Slots.sees c.args.shelf.now) _ _ _ _ _ _ _ (Some seen) _ (same-command seen words.Record names c.in-Record.is is)
+    runs-command (g.S.Slots.sees c.args.shelf.now) _ _ _ _ _ _ _ seen _ (same-command seen words.Record names c.in-Record.is is)
     (record {
       meets = c.record_stimulus.ensures.meets;
       broken = λ t e. tt;
@@ -56,7 +56,7 @@ returns-in-Needs g c =
     let names = c.name-first.result.now ∷ [] in
     let is = sole-name seen words.Needs c.requires.range c.in-Needs.is refl refl c.name-first.result.now c.name-first.ensures in
     let asked = asks-all _ _ names c.needs.ensures.asked in
-    runs-command (g.S.Slots.sees c.args.shelf.now) _ _ _ _ _ _ _ (Some seen) _ (same-command seen words.Needs names c.in-Needs.is is)
+    runs-command (g.S.Slots.sees c.args.shelf.now) _ _ _ _ _ _ _ seen _ (same-command seen words.Needs names c.in-Needs.is is)
     (record {
       meets = meets-under _ _ _ _ _ _ _ _ _ _ (λ t. t 0 c.name-first.result.now (omega arith)) (λ r. r) (λ o. o) c.needs.ensures.meets;
       broken = λ t e. tt;
@@ -75,7 +75,7 @@ returns-in-Show g c =
     let names = c.name-first.result.now ∷ [] in
     let is = sole-name seen words.Show c.requires.range c.in-Show.is refl refl c.name-first.result.now c.name-first.ensures in
     let part = c.part.ensures in
-    runs-command (g.S.Slots.sees c.args.shelf.now) _ _ _ _ _ _ _ (Some seen) _ (same-command seen words.Show names c.in-Show.is is)
+    runs-command (g.S.Slots.sees c.args.shelf.now) _ _ _ _ _ _ _ seen _ (same-command seen words.Show names c.in-Show.is is)
     (record {
       meets = rw (← part) c.show.ensures.meets;
       broken = rw (← part) (λ t e. c.show.ensures.broken e t);
@@ -93,7 +93,7 @@ returns-in-Sim g c =
     let seen = command_seen c.args.command in
     let first = g.S.Slots.sees c.args.shelf.now in
     let number = c.number.ensures in
-    runs-command first _ _ _ _ _ _ _ (Some seen) _ (same-command seen words.Sim seen.names c.in-Sim.is refl) (record {
+    runs-command first _ _ _ _ _ _ _ seen _ (same-command seen words.Sim seen.names c.in-Sim.is refl) (record {
       meets = rw (sym number) (meets-under _ _ _ _ _ _ _ _ _ _ (λ t. tt) (λ r. absurd r) (λ o. o) c.sim.ensures.meets);
       broken = λ t e. tt;
       ends = c.sim.ensures.ends;
@@ -110,7 +110,7 @@ returns-in-Some g c =
     let seen = command_seen c.args.command in
     let first = g.S.Slots.sees c.args.shelf.now in
     let text = help-is (Some c.in-Some.text.now) _ seen.names c.as_slice.ensures.names c.in-Some.ensures in
-    runs-command first _ _ _ _ _ _ _ (Some seen) _ (same-command seen words.Help seen.names c.in-Help.is refl) (record {
+    runs-command first _ _ _ _ _ _ _ seen _ (same-command seen words.Help seen.names c.in-Help.is refl) (record {
       meets = rw text (meets-under _ _ _ _ _ _ _ _ _ _ (λ t. tt) (λ r. absurd r) (λ o. o) c.print.ensures.meets);
       broken = λ t e. tt;
       ends = c.print.ensures.ends;
@@ -133,7 +133,7 @@ pub returns-in-Version : goal.returns-in-Version
 returns-in-Version g c =
     let seen = command_seen c.args.command in
     let first = g.S.Slots.sees c.args.shelf.now in
-    runs-command first _ _ _ _ _ _ _ (Some seen) _
+    runs-command first _ _ _ _ _ _ _ seen _
     (same-command seen words.Version [] c.in-Version.is (no-name seen words.Version c.requires.range c.in-Version.is refl)) (record {
       meets = meets-under _ _ _ _ _ _ _ _ _ _ (λ t. tt) (λ r. absurd r) (λ o. o) c.print-in-Version.ensures.meets;
       broken = λ t e. tt;
@@ -151,7 +151,7 @@ returns-in-Check g c =
     let seen = command_seen c.args.command in
     let names = c.name-first.result.now ∷ [] in
     let is = sole-name seen words.Check c.requires.range c.in-Check.is refl refl c.name-first.result.now c.name-first.ensures in
-    runs-command (g.S.Slots.sees c.args.shelf.now) _ _ _ _ _ _ _ (Some seen) _ (same-command seen words.Check names c.in-Check.is is)
+    runs-command (g.S.Slots.sees c.args.shelf.now) _ _ _ _ _ _ _ seen _ (same-command seen words.Check names c.in-Check.is is)
     (record {
       meets = c.check.ensures.meets;
       broken = λ t e. tt;
@@ -169,7 +169,7 @@ returns-in-Upgrade g c =
     let seen = command_seen c.args.command in
     let names = c.name-first.result.now ∷ [] in
     let is = sole-name seen words.Upgrade c.requires.range c.in-Upgrade.is refl refl c.name-first.result.now c.name-first.ensures in
-    runs-command (g.S.Slots.sees c.args.shelf.now) _ _ _ _ _ _ _ (Some seen) _ (same-command seen words.Upgrade names c.in-Upgrade.is is)
+    runs-command (g.S.Slots.sees c.args.shelf.now) _ _ _ _ _ _ _ seen _ (same-command seen words.Upgrade names c.in-Upgrade.is is)
     (record {
       meets = c.upgrade.ensures.meets;
       broken = λ t e. tt;
@@ -205,7 +205,7 @@ returns-in-Replay g c =
     let seen = command_seen c.args.command in
     let names = c.name-first.result.now ∷ [] in
     let is = sole-name seen words.Replay c.requires.range c.in-Replay.is refl refl c.name-first.result.now c.name-first.ensures in
-    runs-command (g.S.Slots.sees c.args.shelf.now) _ _ _ _ _ _ _ (Some seen) _ (same-command seen words.Replay names c.in-Replay.is is)
+    runs-command (g.S.Slots.sees c.args.shelf.now) _ _ _ _ _ _ _ seen _ (same-command seen words.Replay names c.in-Replay.is is)
     (record {
       meets = c.replay.ensures.meets;
       broken = λ t e. tt;
@@ -230,7 +230,7 @@ pub returns-in-Compare : goal.returns-in-Compare
 returns-in-Compare g c =
     let seen = command_seen c.args.command in
     let names = c.as_slice-in-Compare.ensures.names in
-    runs-command (g.S.Slots.sees c.args.shelf.now) _ _ _ _ _ _ _ (Some seen) _
+    runs-command (g.S.Slots.sees c.args.shelf.now) _ _ _ _ _ _ _ seen _
     (same-command seen words.Compare _ c.in-Compare.is (sym names)) (record {
       meets = c.compare.ensures.meets;
       broken = λ t e. tt;
@@ -248,7 +248,7 @@ returns-then-command g c =
     let seen = command_seen c.args.command in
     let names = c.name-first.result.now ∷ [] in
     let is = sole-name seen words.Salvage c.requires.range c.in-Salvage.is refl refl c.name-first.result.now c.name-first.ensures in
-    runs-command (g.S.Slots.sees c.args.shelf.now) _ _ _ _ _ _ _ (Some seen) _
+    runs-command (g.S.Slots.sees c.args.shelf.now) _ _ _ _ _ _ _ seen _
     (same-reports seen words.Salvage names true c.in-Salvage.is is c.if-command.true) (record {
       meets = c.salvage_reports.ensures.meets;
       broken = λ t e. c.salvage_reports.ensures.broken e;
@@ -266,7 +266,7 @@ returns-else-command g c =
     let seen = command_seen c.args.command in
     let names = c.name-first.result.now ∷ [] in
     let is = sole-name seen words.Salvage c.requires.range c.in-Salvage.is refl refl c.name-first.result.now c.name-first.ensures in
-    runs-command (g.S.Slots.sees c.args.shelf.now) _ _ _ _ _ _ _ (Some seen) _
+    runs-command (g.S.Slots.sees c.args.shelf.now) _ _ _ _ _ _ _ seen _
     (same-reports seen words.Salvage names false c.in-Salvage.is is c.if-command.false) (record {
       meets = c.salvage.ensures.meets;
       broken = λ t e. c.salvage.ensures.broken e t;
