@@ -3,3 +3,4 @@ pub mod Ends
 pub mod BreaksOff
 pub mod Outcome
 pub mod Statuses
+pub mod Slots

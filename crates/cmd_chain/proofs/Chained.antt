@@ -3,6 +3,7 @@ use Rattle.std.proofs.Common.{◌≡◌, ℕ, List, refl, sym, ap, inl, inr}
 use Rattle.std.specs.Prelude.{◌⊎◌, Some, Result, Ok, Err}
 use Rattle.det_values.specs.Values.{ProfileValue}
 use Rattle.det_edges.specs.Count.{Rose}
+use Rattle.det_edges.specs.Shelf.{Reads}
 use Rattle.det_edges.specs.Traffic.{ShelfRun, SinkRun}
 use Rattle.det_edges.specs.declared.failure.Failure.TheVariants.{Read, Write, OutOfMemory}
 use Rattle.det_edges.specs.declared.failure.Stopped.{Stopped}
@@ -93,17 +94,20 @@ module _ (text : List ℕ) (slot : ℕ) (shelf : ShelfRun) (one out : SinkRun) (
         (λ T H F M Q n has. met-chained m first.profile n second.profile result has) second.kind) first.kind visited)
 
 -- all that it read was of its slot
-pub kept-by-kinds : (slot : ℕ) (shelf : ShelfRun) (one out : SinkRun) (first second : Client)
+abbrev ReadsOf : ShelfRun → ℕ → Type 0
+ReadsOf shelf slot = (read : List ℕ) × Reads shelf.first shelf.last slot read
+
+pub reads-by-kinds : (slot : ℕ) (shelf : ShelfRun) (one out : SinkRun) (first second : Client)
     (result : Result ChainCounts (Stopped StimFault))
     → of_kind (λ S G E L P m. of_kind (λ T H F M Q n.
     HasChained m first.profile n second.profile slot shelf one out result) second.kind) first.kind
-    → shelf.last.asked ≡ shelf.first.asked
-kept-by-kinds slot shelf one out first second result visited =
+    → ReadsOf shelf slot
+reads-by-kinds slot shelf one out first second result visited =
     of_kind-gives
     (λ S G E L P m. of_kind (λ T H F M Q n. HasChained m first.profile n second.profile slot shelf one out result) second.kind)
-    (shelf.last.asked ≡ shelf.first.asked)
+    (ReadsOf shelf slot)
     (λ S G E L P m. of_kind-gives (λ T H F M Q n. HasChained m first.profile n second.profile slot shelf one out result)
-    (shelf.last.asked ≡ shelf.first.asked) (λ T H F M Q n has. has.chained.run.1.asked) second.kind) first.kind visited
+    (ReadsOf shelf slot) (λ T H F M Q n has. let run = has.chained.run in (run.0, run.1)) second.kind) first.kind visited
 
 -- no memory could be had, and the bytes are as before
 pub met-none : (wanted : Outcome) (tells rose failed : Type 0) (before after : List ℕ → Type 0) → after ≡ before

@@ -4,6 +4,7 @@ use Rattle.std.specs.Prelude.{Option, Some, Result, Ok, Err, IfSome}
 use Rattle.det_values.specs.Values.{ProfileValue}
 use Rattle.det_values.specs.declared.job_kind.JobKind.{JobKind}
 use Rattle.det_edges.specs.Count.{Rose}
+use Rattle.det_edges.specs.Shelf.{Reads}
 use Rattle.det_edges.specs.Sink.{Same}
 use Rattle.det_edges.specs.Traffic.{ShelfRun, SinkRun}
 use Rattle.det_edges.proofs.Growth.{same-then-grew, grew-same}
@@ -163,7 +164,10 @@ module _ (kind : JobKind) (profile : ProfileValue) (frames : FrameReader) (read 
       (Rose shelf.first.faults shelf.last.faults) failed sink.before)
 
   -- all that it read was of its slot
-  pub kept-by-kind : shelf.last.asked ≡ shelf.first.asked
-  kept-by-kind =
-      of_kind-gives (λ S G E L P m. HasChecked m profile frames shelf sink old now result) (shelf.last.asked ≡ shelf.first.asked)
-      (λ S G E L P m h. (h.checked read stands).run.1.answers.reads.asked) kind visited
+  abbrev ReadsSlot : Type 0
+  ReadsSlot = (more : List ℕ) × Reads shelf.first shelf.last (slot_of frames) more
+
+  pub reads-by-kind : ReadsSlot
+  reads-by-kind =
+      of_kind-gives (λ S G E L P m. HasChecked m profile frames shelf sink old now result) ReadsSlot
+      (λ S G E L P m h. let run = (h.checked read stands).run in (run.0, run.1.answers.reads)) kind visited

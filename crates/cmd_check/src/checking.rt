@@ -1,13 +1,14 @@
 //! The command `check`.
 ghost use Rattle.std.specs.Prelude.{◌≡◌, ◌≢◌, ℕ, List, ◌∷◌, [], ◌++◌, true, length, None, Some};
 ghost use Rattle.det_edges.specs.Count.{Rose};
-ghost use Rattle.det_edges.specs.Shelf.{AsksPrefix};
+ghost use Rattle.det_edges.specs.Shelf.{AsksPrefix, Reads};
 ghost use Rattle.record_grammar.specs.declared.item.Item.TheVariants as items;
 ghost use Rattle.record_reader.specs.Frames.{IsOpen, StandsFor, slot_of};
 ghost use Rattle.probes.specs.Shows.{seen};
 ghost use Rattle.shipped_jobs.specs.Kinds.{bad_param};
 ghost use Rattle.cli_answers.specs.Ends.{can_end};
 ghost use Rattle.cli_answers.specs.Outcome.{Meets, Tells, told};
+ghost use Rattle.cli_answers.specs.Slots.{KeepsSlots};
 ghost use Rattle.cmd_check.specs.Check.{check_outcome, checked, check_work, SawFirst};
 ghost use Rattle.cmd_check.specs.Check.{runs_by_kind, runs_checked};
 
@@ -42,7 +43,8 @@ where
         (Rose (S.sees shelf.old).faults (S.sees shelf.new).faults)
         (Rose (K.faults out.old) (K.faults out.new)) (K.took out.old) (K.took out.new) result }
     ensures ends { can_end check_work result ≡ true }
-    ensures asked { (S.sees shelf.new).asked ≡ (S.sees shelf.old).asked }
+    ensures reads { (read : List ℕ)
+        × Reads (S.sees shelf.old) (S.sees shelf.new) (slot_of run.frames) read }
     ensures saw { (read rest : List ℕ) → StandsFor run.frames read (items.Header run.profile ∷ [])
         → result ≢ Answer.OutOfMemory → (S.sees shelf.old).left (slot_of run.frames) ≡ Some rest
         → SawFirst (seen (λ b. life (b.vtable, b.value)) audience.old)
@@ -97,6 +99,7 @@ where
         (Rose (K.faults out.old) (K.faults out.new)) (K.took out.old) (K.took out.new) result }
     ensures ends { can_end check_work result ≡ true }
     ensures asked { AsksPrefix (S.sees shelf.old) (S.sees shelf.new) (recorded.now ∷ []) }
+    ensures earlier { KeepsSlots (S.sees shelf.old) (S.sees shelf.new) }
     // At every answer but want of memory the audience has seen the first of the runs checked.
     ensures saw { result ≢ Answer.OutOfMemory → Tells (S.sees shelf.old) (recorded.now ∷ [])
         → SawFirst (seen (λ b. life (b.vtable, b.value)) audience.old)

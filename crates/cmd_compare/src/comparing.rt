@@ -4,6 +4,7 @@ ghost use Rattle.det_edges.specs.Count.{Rose};
 ghost use Rattle.det_edges.specs.Shelf.{AsksPrefix};
 ghost use Rattle.cli_answers.specs.Ends.{can_end};
 ghost use Rattle.cli_answers.specs.Outcome.{Meets, Tells, told};
+ghost use Rattle.cli_answers.specs.Slots.{KeepsSlots};
 ghost use Rattle.cmd_compare.specs.Compare.{answer_to, compared};
 ghost use Rattle.cmd_compare.specs.Compare.{compare_outcome, compare_work};
 
@@ -59,6 +60,7 @@ pub fn compare<S: Shelf, K: Sink>(
     ensures ends { can_end compare_work result ≡ true }
     ensures asked { AsksPrefix (S.sees shelf.old) (S.sees shelf.new)
         (map (λ name. name.now) recorded.now) }
+    ensures earlier { KeepsSlots (S.sees shelf.old) (S.sees shelf.new) }
 {
     let slots = match open_all(alloc, recorded, shelf) {
         Ok(slots) => slots,

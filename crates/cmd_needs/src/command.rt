@@ -4,6 +4,7 @@ ghost use Rattle.det_edges.specs.Count.{Rose};
 ghost use Rattle.det_edges.specs.Shelf.{Asks};
 ghost use Rattle.cli_answers.specs.Ends.{can_end};
 ghost use Rattle.cli_answers.specs.Outcome.{Meets, told};
+ghost use Rattle.cli_answers.specs.Slots.{KeepsSlots};
 ghost use Rattle.cmd_needs.specs.Lines.{needs_lines};
 ghost use Rattle.cmd_needs.specs.Needs.{needs_outcome, needs_work};
 
@@ -40,6 +41,7 @@ pub fn needs<S: Shelf, K: Sink>(
         (Rose (K.faults out.old) (K.faults out.new)) (K.took out.old) (K.took out.new) result }
     ensures ends { can_end needs_work result ≡ true }
     ensures asked { Asks (S.sees shelf.old) (S.sees shelf.new) (name.now ∷ []) }
+    ensures earlier { KeepsSlots (S.sees shelf.old) (S.sees shelf.new) }
 {
     let manifest = match read_setup(alloc, name, strict, shelf) {
         Ok(manifest) => manifest,

@@ -2,6 +2,7 @@
 use Rattle.std.proofs.Common.{◌≡◌, ℕ, List, refl, sym, ap, inr}
 use Rattle.std.specs.Prelude.{true, Option, Some, Result, Ok, Err, IfSome}
 use Rattle.det_edges.specs.Count.{Rose}
+use Rattle.det_edges.specs.Shelf.{Reads}
 use Rattle.det_edges.specs.Sink.{GrewByPrefix}
 use Rattle.det_edges.specs.Traffic.{ShelfRun, SinkRun, ShelfTraffic, SinkTraffic, failure_in}
 use Rattle.det_edges.specs.declared.failure.Failure.TheVariants.{Read, Write, OutOfMemory}
@@ -99,13 +100,15 @@ met-by-kind kind profile text slot shelf sink audience last tells rose result an
     (λ S G E L P m r. met-later m profile text slot shelf sink audience last tells told rose result later read write r) kind r)
 
 -- all that a run of the recorder read was of its slot
-pub kept-by-kind : (kind : JobKind) (profile : ProfileValue) (slot : ℕ) (shelf : ShelfRun) (sink : SinkRun)
+abbrev ReadsOf : ShelfRun → ℕ → Type 0
+ReadsOf shelf slot = (read : List ℕ) × Reads shelf.first shelf.last slot read
+
+pub reads-by-kind : (kind : JobKind) (profile : ProfileValue) (slot : ℕ) (shelf : ShelfRun) (sink : SinkRun)
     (audience last : AudienceState) (result : Result Counts (Stopped StimFault))
-    → of_kind (λ S G E L P m. IsRecorded m profile slot shelf sink audience last result) kind
-    → shelf.last.asked ≡ shelf.first.asked
-kept-by-kind kind profile slot shelf sink audience last result r =
-    of_kind-gives (λ S G E L P m. IsRecorded m profile slot shelf sink audience last result)
-    (shelf.last.asked ≡ shelf.first.asked) (λ S G E L P m r. r.run.1.asked) kind r
+    → of_kind (λ S G E L P m. IsRecorded m profile slot shelf sink audience last result) kind → ReadsOf shelf slot
+reads-by-kind kind profile slot shelf sink audience last result r =
+    of_kind-gives (λ S G E L P m. IsRecorded m profile slot shelf sink audience last result) (ReadsOf shelf slot)
+    (λ S G E L P m r. (r.run.0, r.run.1)) kind r
 
 -- what ends `demo` ends `record`
 pub ends-record : (answer : Answer) → can_end demo_work answer ≡ true → can_end record_work answer ≡ true

@@ -4,6 +4,7 @@ ghost use Rattle.det_edges.specs.Count.{Rose};
 ghost use Rattle.det_edges.specs.Shelf.{AsksPrefix};
 ghost use Rattle.cli_answers.specs.Ends.{can_end};
 ghost use Rattle.cli_answers.specs.Outcome.{Meets, Tells, told};
+ghost use Rattle.cli_answers.specs.Slots.{KeepsSlots};
 ghost use Rattle.cmd_record.specs.Outcomes.{demo_outcome, demo_profile, demo_work};
 
 use crate::over_stimulus::record_named;
@@ -69,6 +70,7 @@ where
         (K.took out.old) (K.took out.new) result }
     ensures ends { can_end demo_work result ≡ true }
     ensures asked { AsksPrefix (S.sees shelf.old) (S.sees shelf.new) (stimulus.now ∷ []) }
+    ensures earlier { KeepsSlots (S.sees shelf.old) (S.sees shelf.new) }
 {
     let Ok(profile) = demo_profile(host.alloc) else {
         return Answer::OutOfMemory;

@@ -5,6 +5,7 @@ ghost use Rattle.det_edges.specs.Shelf.{AsksPrefix};
 ghost use Rattle.manifest.specs.Limits.{IsWorkers};
 ghost use Rattle.cli_answers.specs.Ends.{can_end};
 ghost use Rattle.cli_answers.specs.Outcome.{Meets, Tells, told};
+ghost use Rattle.cli_answers.specs.Slots.{KeepsSlots};
 ghost use Rattle.cmd_setup.specs.Setup.{setup_of};
 ghost use Rattle.cmd_record.specs.Outcomes.{record_names, record_outcome, record_work};
 
@@ -56,6 +57,7 @@ where
     ensures ends { can_end record_work result ≡ true }
     ensures asked { AsksPrefix (S.sees shelf.old) (S.sees shelf.new)
         (task.now.manifest.now ∷ task.now.stimulus.now ∷ []) }
+    ensures earlier { KeepsSlots (S.sees shelf.old) (S.sees shelf.new) }
     ensures judged { Tells (S.sees shelf.old)
         (record_names task.now.manifest.now task.now.stimulus.now
         (setup_of task.now.strict (told (S.sees shelf.old) task.now.manifest.now)))

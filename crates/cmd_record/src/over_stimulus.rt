@@ -5,6 +5,7 @@ ghost use Rattle.det_edges.specs.Shelf.{AsksPrefix};
 ghost use Rattle.shipped_jobs.specs.Kinds.{bad_param};
 ghost use Rattle.cli_answers.specs.Ends.{can_end};
 ghost use Rattle.cli_answers.specs.Outcome.{Meets, told};
+ghost use Rattle.cli_answers.specs.Slots.{KeepsSlots};
 ghost use Rattle.cmd_record.specs.Outcomes.{answer_of, recorded_by_kind, demo_work};
 
 use cli_answers::Answer;
@@ -50,6 +51,7 @@ where
         (Rose (K.faults out.old) (K.faults out.new)) (K.took out.old) (K.took out.new) result }
     ensures ends { can_end demo_work result ≡ true }
     ensures asked { AsksPrefix (S.sees shelf.old) (S.sees shelf.new) (stimulus.now ∷ []) }
+    ensures earlier { KeepsSlots (S.sees shelf.old) (S.sees shelf.new) }
 {
     let slot = match shelf.open_input(stimulus) {
         Ok(slot) => slot,

@@ -1,12 +1,13 @@
 //! The command `replay`.
 ghost use Rattle.std.specs.Prelude.{◌≡◌, ℕ, List, ◌∷◌, [], ◌++◌, true, length, None, Some};
 ghost use Rattle.det_edges.specs.Count.{Rose};
-ghost use Rattle.det_edges.specs.Shelf.{AsksPrefix};
+ghost use Rattle.det_edges.specs.Shelf.{AsksPrefix, Reads};
 ghost use Rattle.record_grammar.specs.declared.item.Item.TheVariants as items;
 ghost use Rattle.record_reader.specs.Frames.{StandsFor, IsOpen, slot_of};
 ghost use Rattle.shipped_jobs.specs.Kinds.{bad_param};
 ghost use Rattle.cli_answers.specs.Ends.{can_end};
 ghost use Rattle.cli_answers.specs.Outcome.{Meets, Tells, told};
+ghost use Rattle.cli_answers.specs.Slots.{KeepsSlots};
 ghost use Rattle.cmd_replay.specs.Replay.{replay_outcome, replayed, replay_work, answer_of};
 
 use crate::visiting::Replay;
@@ -52,7 +53,8 @@ where
         (Rose (S.sees shelf.old).faults (S.sees shelf.new).faults)
         (Rose (K.faults out.old) (K.faults out.new)) (K.took out.old) (K.took out.new) result }
     ensures ends { can_end replay_work result ≡ true }
-    ensures asked { (S.sees shelf.new).asked ≡ (S.sees shelf.old).asked }
+    ensures reads { (read : List ℕ)
+        × Reads (S.sees shelf.old) (S.sees shelf.new) (slot_of run.frames) read }
 {
     let RecordedRun {
         kind,
@@ -89,6 +91,7 @@ where
         (Rose (K.faults out.old) (K.faults out.new)) (K.took out.old) (K.took out.new) result }
     ensures ends { can_end replay_work result ≡ true }
     ensures asked { AsksPrefix (S.sees shelf.old) (S.sees shelf.new) (recorded.now ∷ []) }
+    ensures earlier { KeepsSlots (S.sees shelf.old) (S.sees shelf.new) }
 {
     match read_run(workers.alloc, recorded, shelf) {
         Ok(run) => replay_by_crew(workers, run, shelf, out),

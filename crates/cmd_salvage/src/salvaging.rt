@@ -1,12 +1,13 @@
 //! The command `salvage`, and `salvage --reports`.
 ghost use Rattle.std.specs.Prelude.{◌≡◌, ◌≢◌, ℕ, ◌<◌, List, ◌∷◌, ◌++◌, [], true, Some};
 ghost use Rattle.det_edges.specs.Count.{Rose};
-ghost use Rattle.det_edges.specs.Shelf.{AsksPrefix};
+ghost use Rattle.det_edges.specs.Shelf.{AsksPrefix, Reads};
 ghost use Rattle.det_edges.specs.Sink.{Grew};
 ghost use Rattle.probes.specs.Shows.{seen};
 ghost use Rattle.cli_answers.specs.BreaksOff.{BreaksOff};
 ghost use Rattle.cli_answers.specs.Ends.{can_end};
 ghost use Rattle.cli_answers.specs.Outcome.{Meets, Tells, told};
+ghost use Rattle.cli_answers.specs.Slots.{KeepsSlots};
 ghost use Rattle.record_reader.specs.Salvaged.{saved_of};
 ghost use Rattle.cmd_salvage.specs.Salvage.{salvage_outcome, salvage_reports_outcome};
 ghost use Rattle.cmd_salvage.specs.Salvage.{salvage_work, answer_of};
@@ -45,7 +46,7 @@ fn salvage_slot<S: Slots, K: Sink>(alloc: Global, slot: u32, shelf: &mut S, out:
         × (bytes ≡ read ++ rest) × ((S.sees shelf.new).left slot ≡ Some rest)
         × Grew (K.took out.old) (K.took out.new) (saved_of read) }
     ensures ends { can_end salvage_work result ≡ true }
-    ensures asked { (S.sees shelf.new).asked ≡ (S.sees shelf.old).asked }
+    ensures reads { (read : List ℕ) × Reads (S.sees shelf.old) (S.sees shelf.new) slot read }
 {
     let mut reader = ItemReader::new(alloc, slot);
     let saved = salvage_run(alloc, &mut reader, shelf, out);
@@ -66,6 +67,7 @@ pub fn salvage<S: Shelf, K: Sink>(
         (Rose (K.faults out.old) (K.faults out.new)) (K.took out.old) (K.took out.new) result }
     ensures ends { can_end salvage_work result ≡ true }
     ensures asked { AsksPrefix (S.sees shelf.old) (S.sees shelf.new) (recorded.now ∷ []) }
+    ensures earlier { KeepsSlots (S.sees shelf.old) (S.sees shelf.new) }
     // Where a read fails, all that is saved of what was read is written.
     ensures broken { result ≡ Answer.ReadFault → Tells (S.sees shelf.old) (recorded.now ∷ [])
         → BreaksOff (S.sees shelf.old) (S.sees shelf.new) recorded.now saved_of
@@ -93,7 +95,7 @@ fn report_slot<S: Slots, K: Sink>(
         (Rose (S.sees shelf.old).faults (S.sees shelf.new).faults)
         (Rose (K.faults out.old) (K.faults out.new)) (K.took out.old) (K.took out.new) result }
     ensures ends { can_end salvage_work result ≡ true }
-    ensures asked { (S.sees shelf.new).asked ≡ (S.sees shelf.old).asked }
+    ensures reads { (read : List ℕ) × Reads (S.sees shelf.old) (S.sees shelf.new) slot read }
     ensures saw { (bytes : List ℕ) → result ≢ Answer.OutOfMemory
         → (S.sees shelf.old).left slot ≡ Some bytes
         → SawFirst (seen (λ b. life (b.vtable, b.value)) audience.old)
@@ -124,6 +126,7 @@ pub fn salvage_reports<S: Shelf, K: Sink>(
         (Rose (K.faults out.old) (K.faults out.new)) (K.took out.old) (K.took out.new) result }
     ensures ends { can_end salvage_work result ≡ true }
     ensures asked { AsksPrefix (S.sees shelf.old) (S.sees shelf.new) (recorded.now ∷ []) }
+    ensures earlier { KeepsSlots (S.sees shelf.old) (S.sees shelf.new) }
     // At every answer but want of memory the audience has seen first runs of the record.
     ensures saw { result ≢ Answer.OutOfMemory → Tells (S.sees shelf.old) (recorded.now ∷ [])
         → SawFirst (seen (λ b. life (b.vtable, b.value)) audience.old)

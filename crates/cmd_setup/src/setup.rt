@@ -3,6 +3,7 @@ ghost use Rattle.std.specs.Prelude.{◌≡◌, ◌⊎◌, ◌∷◌, [], Some, O
 ghost use Rattle.det_edges.specs.Shelf.{Asks, SlotsStay};
 ghost use Rattle.det_edges.specs.Traffic.{ShelfTraffic, shelf_run, failure_in, IfRefused};
 ghost use Rattle.cli_answers.specs.Outcome.{told};
+ghost use Rattle.cli_answers.specs.Slots.{KeepsSlots};
 ghost use Rattle.cmd_setup.specs.Setup.{setup_of, IsGood, Takes};
 
 use crate::judging::setup_of;
@@ -33,6 +34,7 @@ pub fn read_setup<S: Shelf>(
     ensures writes_nothing { failure_in result ≡ Some Failure.Write → ⊥ }
     ensures holds { (S.sees shelf.new).holds ≡ (S.sees shelf.old).holds }
     ensures asked { Asks (S.sees shelf.old) (S.sees shelf.new) (name.now ∷ []) }
+    ensures earlier { KeepsSlots (S.sees shelf.old) (S.sees shelf.new) }
 {
     let slot = shelf.open_input(name)?;
     let text = match read_limited(alloc, shelf, slot, MOST_BYTES) {

@@ -1,12 +1,13 @@
 //! The command `show`.
 ghost use Rattle.std.specs.Prelude.{◌≡◌, ◌≢◌, ℕ, ◌<◌, List, ◌∷◌, ◌++◌, [], true, Some};
 ghost use Rattle.det_edges.specs.Count.{Rose};
-ghost use Rattle.det_edges.specs.Shelf.{AsksPrefix};
+ghost use Rattle.det_edges.specs.Shelf.{AsksPrefix, Reads};
 ghost use Rattle.det_edges.specs.Sink.{Grew};
 ghost use Rattle.record_grammar.specs.Record.{items as items_in};
 ghost use Rattle.cli_answers.specs.BreaksOff.{BreaksOff};
 ghost use Rattle.cli_answers.specs.Ends.{can_end};
 ghost use Rattle.cli_answers.specs.Outcome.{Meets, Tells, told};
+ghost use Rattle.cli_answers.specs.Slots.{KeepsSlots};
 ghost use Rattle.probes.specs.Shows.{seen};
 ghost use Rattle.record_show.specs.Text.{lines_of};
 ghost use Rattle.record_show.specs.Showing.{Kept};
@@ -54,7 +55,7 @@ fn show_slot<S: Slots, K: Sink>(
         × (bytes ≡ read ++ rest) × ((S.sees shelf.new).left slot ≡ Some rest)
         × Grew (K.took out.old) (K.took out.new) (lines_of part (items_in read)) }
     ensures ends { can_end show_work result ≡ true }
-    ensures asked { (S.sees shelf.new).asked ≡ (S.sees shelf.old).asked }
+    ensures reads { (read : List ℕ) × Reads (S.sees shelf.old) (S.sees shelf.new) slot read }
     ensures saw { (bytes : List ℕ) → result ≢ Answer.OutOfMemory
         → (S.sees shelf.old).left slot ≡ Some bytes
         → SawFirst part (seen (λ b. life (b.vtable, b.value)) audience.old)
@@ -91,6 +92,7 @@ pub fn show<S: Shelf, K: Sink>(
         (λ read. lines_of part (items_in read)) (K.took out.old) (K.took out.new) }
     ensures ends { can_end show_work result ≡ true }
     ensures asked { AsksPrefix (S.sees shelf.old) (S.sees shelf.new) (recorded.now ∷ []) }
+    ensures earlier { KeepsSlots (S.sees shelf.old) (S.sees shelf.new) }
     // At every answer but want of memory the audience has seen first runs whose lines `out` took.
     ensures saw { result ≢ Answer.OutOfMemory → Tells (S.sees shelf.old) (recorded.now ∷ [])
         → SawFirst part (seen (λ b. life (b.vtable, b.value)) audience.old)

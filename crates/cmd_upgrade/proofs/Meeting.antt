@@ -4,6 +4,7 @@ use Rattle.std.specs.Prelude.{Option, Some, None, Result, Ok, Err, IfSome}
 use Rattle.det_values.specs.Values.{ProfileValue}
 use Rattle.det_values.specs.declared.job_kind.JobKind.{JobKind}
 use Rattle.det_edges.specs.Count.{Rose}
+use Rattle.det_edges.specs.Shelf.{Reads}
 use Rattle.det_edges.specs.Sink.{GrewByPrefix}
 use Rattle.det_edges.specs.Traffic.{ShelfRun, SinkRun, failure_in}
 use Rattle.det_edges.specs.Traffic.{ShelfTraffic, SinkTraffic}
@@ -162,7 +163,10 @@ module _ (kind : JobKind) (profile : ProfileValue) (original : Original) (shelf 
       has.shelf_traffic has.sink_traffic) kind visited)
 
   -- all that it read was of its slot
-  pub kept-by-kind : shelf.last.asked ≡ shelf.first.asked
-  kept-by-kind =
-      of_kind-gives (λ S G E L P m. HasUpgraded m (in_format_two profile) original shelf out result)
-      (shelf.last.asked ≡ shelf.first.asked) (λ S G E L P m has. (has-upgraded m has).run.1.answers.reads.asked) kind visited
+  abbrev ReadsSlot : Type 0
+  ReadsSlot = (more : List ℕ) × Reads shelf.first shelf.last (slot_of original.frames) more
+
+  pub reads-by-kind : ReadsSlot
+  reads-by-kind =
+      of_kind-gives (λ S G E L P m. HasUpgraded m (in_format_two profile) original shelf out result) ReadsSlot
+      (λ S G E L P m has. let run = (has-upgraded m has).run in (run.0, run.1.answers.reads)) kind visited

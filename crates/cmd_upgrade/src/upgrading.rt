@@ -2,13 +2,14 @@
 ghost use Rattle.std.specs.Prelude.{◌≡◌, ℕ, List, ◌∷◌, [], ◌++◌, true, length};
 ghost use Rattle.std.specs.Prelude.{None, Some};
 ghost use Rattle.det_edges.specs.Count.{Rose};
-ghost use Rattle.det_edges.specs.Shelf.{AsksPrefix};
+ghost use Rattle.det_edges.specs.Shelf.{AsksPrefix, Reads};
 ghost use Rattle.record_grammar.specs.declared.item.Item.TheVariants as items;
 ghost use Rattle.record_reader.specs.Frames.{IsOpen, StandsFor, slot_of};
 ghost use Rattle.shipped_jobs.specs.Kinds.{bad_param};
 ghost use Rattle.upgrader.specs.Upgraded.{in_format_two};
 ghost use Rattle.cli_answers.specs.Ends.{can_end};
 ghost use Rattle.cli_answers.specs.Outcome.{Meets, Tells, told};
+ghost use Rattle.cli_answers.specs.Slots.{KeepsSlots};
 ghost use Rattle.cmd_upgrade.specs.Upgrade.{upgrade_outcome, upgraded_by_kind, upgrade_work};
 ghost use Rattle.cmd_upgrade.specs.Upgrade.{answer_of};
 ghost use Rattle.cmd_upgrade.specs.Visited.{CanUpgrade};
@@ -68,7 +69,8 @@ where
         (Rose (S.sees shelf.old).faults (S.sees shelf.new).faults)
         (Rose (K.faults out.old) (K.faults out.new)) (K.took out.old) (K.took out.new) result }
     ensures ends { can_end upgrade_work result ≡ true }
-    ensures asked { (S.sees shelf.new).asked ≡ (S.sees shelf.old).asked }
+    ensures reads { (read : List ℕ)
+        × Reads (S.sees shelf.old) (S.sees shelf.new) (slot_of run.frames) read }
 {
     let RecordedRun {
         kind,
@@ -108,6 +110,7 @@ where
         (Rose (K.faults out.old) (K.faults out.new)) (K.took out.old) (K.took out.new) result }
     ensures ends { can_end upgrade_work result ≡ true }
     ensures asked { AsksPrefix (S.sees shelf.old) (S.sees shelf.new) (recorded.now ∷ []) }
+    ensures earlier { KeepsSlots (S.sees shelf.old) (S.sees shelf.new) }
 {
     match read_run(workers.alloc, recorded, shelf) {
         Ok(run) => upgrade_by_crew(workers, run, shelf, out),

@@ -5,6 +5,7 @@ ghost use Rattle.det_edges.specs.Shelf.{AsksPrefix};
 ghost use Rattle.det_edges.specs.Sink.{Grew};
 ghost use Rattle.cli_answers.specs.Ends.{can_end};
 ghost use Rattle.cli_answers.specs.Outcome.{Meets, Tells, told};
+ghost use Rattle.cli_answers.specs.Slots.{KeepsSlots};
 ghost use Rattle.cmd_vote.specs.Vote.{answer_of, dissent_text, vote_work};
 ghost use Rattle.cmd_vote.specs.Vote.{vote_outcome, dissent_outcome, VoteBreaksOff};
 
@@ -51,6 +52,7 @@ pub fn vote<S: Shelf, K: Sink>(
         (map (λ name. name.now) recorded.now) (K.took out.old) (K.took out.new) }
     ensures asked { AsksPrefix (S.sees shelf.old) (S.sees shelf.new)
         (map (λ name. name.now) recorded.now) }
+    ensures earlier { KeepsSlots (S.sees shelf.old) (S.sees shelf.new) }
 {
     let slots = match open_all(alloc, recorded, shelf) {
         Ok(slots) => slots,
@@ -97,6 +99,7 @@ pub fn vote_dissent<S: Shelf, K: Sink>(
     ensures broken { result ≡ Answer.ReadFault → Grew (K.took out.old) (K.took out.new) [] }
     ensures asked { AsksPrefix (S.sees shelf.old) (S.sees shelf.new)
         (map (λ name. name.now) recorded.now) }
+    ensures earlier { KeepsSlots (S.sees shelf.old) (S.sees shelf.new) }
 {
     let slots = match open_all(alloc, recorded, shelf) {
         Ok(slots) => slots,

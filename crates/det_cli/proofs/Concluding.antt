@@ -1,6 +1,6 @@
 -- What a status tells, by the answer that it stands for.
-use Rattle.std.proofs.Common.{◌≡◌, ℕ, List, refl, sym, ap, ◌∙◌, inl, inr}
-use Rattle.std.specs.Prelude.{◌⊎◌, true, Option, Some, None}
+use Rattle.std.proofs.Common.{◌≡◌, ℕ, List, refl, sym, ap, subst, ◌∙◌, inl, inr}
+use Rattle.std.specs.Prelude.{◌⊎◌, true, Option, Some, None, unwrap_or}
 use Rattle.det_edges.specs.Sink.{Grew}
 use Rattle.det_edges.specs.Shelf.{ShelfState}
 use Rattle.probes.specs.Reports.{AudienceState}
@@ -12,9 +12,10 @@ use Rattle.cli_answers.specs.Answers.{status_of}
 use Rattle.cli_answers.specs.Ends.{Work, can_end}
 use Rattle.cli_answers.specs.Outcome.{Outcome, told}
 use Rattle.cli_words.specs.Command.{CommandValue}
-use Rattle.det_cli.specs.Outcome.{command_in, work_of, outcome}
-use Rattle.det_cli.specs.Promise.{Ends, IsPromised}
-use Rattle.det_cli.specs.Laws.{Gives, IsRefusal, Concludes}
+use Rattle.cli_words.specs.Reading.{command_of}
+use Rattle.det_cli.specs.Outcome.{work_of, outcome_by}
+use Rattle.det_cli.specs.Promise.{Runs, RunsWords, IsPromised}
+use Rattle.det_cli.specs.Laws.{Gives, IsRefusal, OfCommand, Concludes}
 
 -- a fault's status, and that of bad words, stand for one answer
 at-read-fault : (answer : Answer) → status_of answer ≡ statuses.ReadFault → answer ≡ ReadFault
@@ -32,14 +33,6 @@ at-bad-words _ e = absurd (cc)
 -- no command ends as bad words
 no-bad-words : (work : Work) (answer : Answer) → answer ≡ BadWords → can_end work answer ≡ true → ⊥
 no-bad-words work answer e ends = let h = rw e at ends in cc
-
-ends-bad : (command : Option CommandValue) (answer : Answer) → Ends command answer → answer ≡ BadWords → command ≡ None
-ends-bad None answer ends e = refl
-ends-bad (Some command) answer ends e = absurd (no-bad-words (work_of command.word) answer e ends)
-
-bad-ends : (command : Option CommandValue) (answer : Answer) → Ends command answer → command ≡ None → answer ≡ BadWords
-bad-ends None answer ends e = ends
-bad-ends (Some command) answer ends e = absurd (cc)
 
 module _ (wanted : Outcome) (before after : List ℕ → Type 0) (answer : Answer) (status : Status) (is : status ≡ status_of answer) where
   -- with no fault's status the outcome is given, or memory was wanting
@@ -71,29 +64,60 @@ no-refusal status other (inl is) manifest stimulus recorded e = manifest (cc)
 no-refusal status other (inr (inl is)) manifest stimulus recorded e = stimulus (cc)
 no-refusal status other (inr (inr is)) manifest stimulus recorded e = recorded (cc)
 
+some-none : (c : CommandValue) → Some c ≡ None → ⊥
+some-none c e = cc
+
+-- the same command
+same-of : (c d : CommandValue) → Some c ≡ Some d → c ≡ d
+same-of c d e = ap (λ (o : Option CommandValue). unwrap_or o c) e
+
+module _ (first last : ShelfState) (out_failed : Type 0) (before after : List ℕ → Type 0) (seeing stayed : AudienceState)
+    (answer : Answer) (status : Status) (is : status ≡ status_of answer) where
+  of-command : (c : CommandValue) → Runs c first last out_failed before after seeing stayed answer
+      → OfCommand c first last out_failed before after seeing status
+  of-command c runs =
+      let wanted = outcome_by c.word c (told first) seeing in
+      let meets = runs.meets in
+      record {
+        unfailed = λ tells calm taken. gives wanted before after answer status is
+            (λ e. calm (meets.read_fault (at-read-fault answer (sym is ∙ e))))
+            (λ e. taken (meets.write_fault (at-write-fault answer (sym is ∙ e)))) (meets.whole tells);
+        done = λ tells e. gives-all wanted before after answer status is (λ f. cc) (λ f. cc) (λ f. cc) (meets.whole tells);
+        differs = λ tells e. gives-all wanted before after answer status is (λ f. cc) (λ f. cc) (λ f. cc) (meets.whole tells);
+        refused = λ tells e. gives-all wanted before after answer status is
+            (no-refusal status statuses.ReadFault e (λ f. cc) (λ f. cc) (λ f. cc))
+            (no-refusal status statuses.WriteFault e (λ f. cc) (λ f. cc) (λ f. cc))
+            (no-refusal status statuses.OutOfMemory e (λ f. cc) (λ f. cc) (λ f. cc)) (meets.whole tells);
+        no_majority = λ tells e. gives-all wanted before after answer status is (λ f. cc) (λ f. cc) (λ f. cc) (meets.whole tells);
+      }
+
+  module _ (words : List (List ℕ)) where
+    by-words : (read : Option CommandValue) → command_of words ≡ read
+        → RunsWords read first last out_failed before after seeing stayed answer
+        → Concludes words first last out_failed before after seeing status
+    by-words (Some c) same runs =
+        let not_bad : status ≡ statuses.BadWords → ⊥ =
+        λ e. no-bad-words (work_of c.word) answer (at-bad-words answer (sym is ∙ e)) runs.ends in
+        record {
+          command = λ d other. subst (λ (e : CommandValue). OfCommand e first last out_failed before after seeing status)
+              (same-of c d (sym same ∙ other)) (of-command c runs);
+          read_fault = λ e. runs.meets.read_fault (at-read-fault answer (sym is ∙ e));
+          write_fault = λ e. runs.meets.write_fault (at-write-fault answer (sym is ∙ e));
+          bad_words = ((λ e. absurd (not_bad e)), λ none. absurd (some-none c (sym same ∙ none)));
+          unwritten = λ e. absurd (not_bad e);
+        }
+    by-words None same refuses =
+        let bad : status ≡ statuses.BadWords = is ∙ ap status_of refuses.is in
+        record {
+          command = λ d other. absurd (some-none d (sym other ∙ same));
+          read_fault = λ e. absurd (cc);
+          write_fault = λ e. absurd (cc);
+          bad_words = ((λ e. same), λ none. bad);
+          unwritten = λ e. refuses.wrote;
+        }
+
 module _ (words : List (List ℕ)) (first last : ShelfState) (out_failed : Type 0) (before after : List ℕ → Type 0)
     (err_failed : Type 0) (err_before err_after : List ℕ → Type 0) (seeing stayed : AudienceState) (status : Status) where
   pub concludes : IsPromised words first last out_failed before after err_failed err_before err_after seeing stayed status
       → Concludes words first last out_failed before after seeing status
-  concludes p =
-      let wanted = outcome words (told first) seeing in
-      let meets = p.runs.meets in
-      let read = λ (e : status ≡ statuses.ReadFault). meets.read_fault (at-read-fault p.answer (sym p.is ∙ e)) in
-      let write = λ (e : status ≡ statuses.WriteFault). meets.write_fault (at-write-fault p.answer (sym p.is ∙ e)) in
-      record {
-        unfailed = λ tells calm taken. gives wanted before after p.answer status p.is
-            (λ e. calm (read e)) (λ e. taken (write e)) (meets.whole tells);
-        done = λ tells e. gives-all wanted before after p.answer status p.is (λ f. cc) (λ f. cc) (λ f. cc) (meets.whole tells);
-        differs = λ tells e. gives-all wanted before after p.answer status p.is (λ f. cc) (λ f. cc) (λ f. cc) (meets.whole tells);
-        refused = λ tells e. gives-all wanted before after p.answer status p.is
-            (no-refusal status statuses.ReadFault e (λ f. cc) (λ f. cc) (λ f. cc))
-            (no-refusal status statuses.WriteFault e (λ f. cc) (λ f. cc) (λ f. cc))
-            (no-refusal status statuses.OutOfMemory e (λ f. cc) (λ f. cc) (λ f. cc)) (meets.whole tells);
-        no_majority = λ tells e. gives-all wanted before after p.answer status p.is (λ f. cc) (λ f. cc) (λ f. cc) (meets.whole tells);
-        read_fault = read;
-        write_fault = write;
-        bad_words = (
-          (λ e. ends-bad (command_in words) p.answer p.runs.ends (at-bad-words p.answer (sym p.is ∙ e))),
-          λ e. p.is ∙ ap status_of (bad-ends (command_in words) p.answer p.runs.ends e),
-        );
-      }
+  concludes p = by-words first last out_failed before after seeing stayed p.answer status p.is words (command_of words) refl p.runs

@@ -1,57 +1,44 @@
 -- How a command's run meets the outcome of the words.
 use Rattle.std.proofs.Common.{◌≡◌, ◌≤◌, ℕ, List, [], ◌∷◌, length, map, get_or, refl, ap, ◌∙◌, sym, subst, arith}
-use Rattle.std.specs.Prelude.{Option, Some, None, IfSome, Bool, true, false, not, ◌||◌, is_some, option_and_then, Result, Ok, Err, OnOk}
+use Rattle.std.specs.Prelude.{Option, Some, None, IfSome, Bool, true, false, Result, Ok, Err, OnOk}
 use Rattle.std.specs.Prelude.{OnErr}
 use Rattle.std.proofs.lemmas.List.{nil_from_length, length-map}
-use Rattle.det_edges.specs.Count.{Rose}
-use Rattle.det_edges.specs.Shelf.{ShelfState, AsksPrefix}
-use Rattle.det_edges.proofs.Opening.{asks-prefix-none}
+use Rattle.det_edges.specs.Shelf.{ShelfState}
+use Rattle.det_edges.proofs.Growth.{grew-none}
 use Rattle.probes.specs.Reports.{AudienceState}
 use Rattle.cli_answers.specs.declared.answer.Answer.{Answer}
 use Rattle.cli_answers.specs.declared.answer.Answer.TheVariants.{BadWords}
-use Rattle.cli_answers.specs.Outcome.{Meets, Tells, told}
-use Rattle.cli_answers.proofs.Meeting.{meets-refusal}
 use Rattle.cli_words.specs.declared.table.CommandWord.{CommandWord}
 use Rattle.cli_words.specs.declared.table.OptionWord.TheVariants.{Workers}
 use Rattle.cli_words.specs.Table.{row}
 use Rattle.cli_words.specs.Command.{CommandValue, name_at}
 use Rattle.cli_words.specs.Ranges.{IsInRange}
-use Rattle.cli_words.specs.Reading.{command_of}
 use Rattle.record_text.specs.declared.part.ShowPart.{ShowPart}
 use Rattle.record_text.specs.declared.part.ShowPart.TheVariants as parts
 use Rattle.record_show.specs.Showing.{Kept}
 use Rattle.record_show.specs.Ended.{IsGone}
 use Rattle.det_cli.specs.Texts.{help_text}
-use Rattle.det_cli.specs.Outcome.{known, command_in, has_reports, opened, outcome_of}
-use Rattle.det_cli.specs.Promise.{Runs}
-
--- the command in these words, where this is theirs
-pub command-in : (words : List (List ℕ)) (command : Option CommandValue) → command ≡ command_of words
-    → command_in words ≡ option_and_then known command
-command-in words command is = ap (option_and_then known) (sym is)
+use Rattle.det_cli.specs.Outcome.{has_reports}
+use Rattle.det_cli.specs.Promise.{Runs, RunsWords, Refuses}
 
 -- a command by its word and its names
-pub same-known : (c : CommandValue) (word : CommandWord) (names : List (List ℕ)) → c.word ≡ word → c.names ≡ names
-    → known c ≡ known (record { word = word; names = names; options = c.options })
-same-known c word names is same =
-    ap (λ (w : CommandWord). known (record { word = w; names = c.names; options = c.options })) is
-    ∙ ap (λ (n : List (List ℕ)). known (record { word = word; names = n; options = c.options })) same
+pub same-command : (c : CommandValue) (word : CommandWord) (names : List (List ℕ)) → c.word ≡ word → c.names ≡ names
+    → c ≡ record { word = word; names = names; options = c.options }
+same-command c word names is same = λ i. record { word = is i; names = same i; options = c.options }
 
 -- the same, with what it says of reports
 pub same-reports : (c : CommandValue) (word : CommandWord) (names : List (List ℕ)) (reports : Bool) → c.word ≡ word → c.names ≡ names
     → c.options.reports ≡ reports
-    → known c ≡ known (record { word = word; names = names; options = record c.options { reports = reports } })
+    → c ≡ record { word = word; names = names; options = record c.options { reports = reports } }
 same-reports c word names reports is same told =
-    same-known c word names is same
-    ∙ ap (λ (r : Bool). known (record { word = word; names = names; options = record c.options { reports = r } })) told
+    λ i. record { word = is i; names = same i; options = record c.options { reports = told i } }
 
 -- the same, with what it says of dissent
 pub same-dissent : (c : CommandValue) (word : CommandWord) (names : List (List ℕ)) (dissent : Bool) → c.word ≡ word → c.names ≡ names
     → c.options.dissent ≡ dissent
-    → known c ≡ known (record { word = word; names = names; options = record c.options { dissent = dissent } })
+    → c ≡ record { word = word; names = names; options = record c.options { dissent = dissent } }
 same-dissent c word names dissent is same told =
-    same-known c word names is same
-    ∙ ap (λ (d : Bool). known (record { word = word; names = names; options = record c.options { dissent = d } })) told
+    λ i. record { word = is i; names = same i; options = record c.options { dissent = told i } }
 
 one-name : (names : List (List ℕ)) → 1 ≤ length names → length names ≤ 1 → names ≡ get_or names 0 [] ∷ []
 one-name [] least most = absurd (omega arith)
@@ -141,53 +128,25 @@ workers-fit c range = by_told c.options.workers refl where
   by_told (Some n) e = (range.options Workers n e).1
   by_told None e = tt
 
--- what holds of a command holds of the same one
-pub of-same : (P : Option CommandValue → Type 0) (command same : Option CommandValue) → command ≡ same → P same → P command
-of-same P command same is p = subst P (sym is) p
-
--- a run that meets the outcome of a command meets that of the same command
-pub meets-command : (first : ShelfState) (audience : AudienceState) (rose other : Type 0) (before after : List ℕ → Type 0) (answer : Answer)
-    (command same : Option CommandValue) → command ≡ same
-    → Meets (outcome_of same (told first) audience) (Tells first (opened same (told first))) rose other before after answer
-    → Meets (outcome_of command (told first) audience) (Tells first (opened command (told first))) rose other before after answer
-meets-command first audience rose other before after answer =
-    of-same (λ c. Meets (outcome_of c (told first) audience) (Tells first (opened c (told first))) rose other before after answer)
-
--- and so does one that opens no name beyond those that are needed
-pub needs-command : (first last : ShelfState) (command same : Option CommandValue) → command ≡ same
-    → (Tells first (opened same (told first)) → AsksPrefix first last (opened same (told first)))
-    → Tells first (opened command (told first)) → AsksPrefix first last (opened command (told first))
-needs-command first last = of-same (λ c. Tells first (opened c (told first)) → AsksPrefix first last (opened c (told first)))
-
--- and what it promises of a command it promises of the words that give it
+-- what is promised of a command is promised of the same one
 pub runs-command : (first last : ShelfState) (other : Type 0) (before after : List ℕ → Type 0) (audience stayed : AudienceState)
-    (answer : Answer) (command same : Option CommandValue) → command ≡ same
+    (answer : Answer) (command same : CommandValue) → command ≡ same
     → Runs same first last other before after audience stayed answer → Runs command first last other before after audience stayed answer
-runs-command first last other before after audience stayed answer = of-same
-    (λ c. Runs c first last other before after audience stayed answer)
+runs-command first last other before after audience stayed answer command same is =
+    subst (λ c. Runs c first last other before after audience stayed answer) (sym is)
 
-module _ (shelf : ShelfState) (other : Type 0) (before : List ℕ → Type 0) (audience : AudienceState) where
-  -- words that are no command are refused
-  pub meets-no-command : (rose : Type 0) (command : Option CommandValue) → command ≡ None
-      → Meets (outcome_of command (told shelf) audience) (Tells shelf (opened command (told shelf))) rose other before before BadWords
-  meets-no-command rose command none =
-      meets-refusal (outcome_of command (told shelf) audience) (Tells shelf (opened command (told shelf))) rose other before BadWords
-      (λ e. cc) (λ e. cc)
-      (λ t. ap (λ c. outcome_of c (told shelf) audience) none)
+-- and of the words that give it
+pub runs-words : (first last : ShelfState) (other : Type 0) (before after : List ℕ → Type 0) (audience stayed : AudienceState)
+    (answer : Answer) (command : Option CommandValue) (read : Option CommandValue) → command ≡ read
+    → RunsWords read first last other before after audience stayed answer
+    → RunsWords command first last other before after audience stayed answer
+runs-words first last other before after audience stayed answer command read is =
+    subst (λ c. RunsWords c first last other before after audience stayed answer) (sym is)
 
-  -- and nothing else happens
-  pub runs-no-command : (command : Option CommandValue) → command ≡ None
-      → Runs command shelf shelf other before before audience audience BadWords
-  runs-no-command command none = runs-command shelf shelf other before before audience audience BadWords command None none (record {
-    meets = meets-no-command (Rose shelf.faults shelf.faults) None refl;
-    broken = λ t e. tt;
-    ends = refl;
-    asked = asks-prefix-none shelf shelf [] refl;
-    needed = λ t. asks-prefix-none shelf shelf [] refl;
-    left = λ e. refl;
-    gone = λ e. cc;
-    saw = λ t ne. tt;
-  })
+-- words that are no command are refused, and nothing else happens
+pub refuses : (shelf : ShelfState) (before : List ℕ → Type 0) (audience : AudienceState)
+    → Refuses shelf shelf before before audience audience BadWords
+refuses shelf before audience = record { is = refl; shelf = refl; wrote = grew-none before; left = refl }
 
 -- what holds at Ok holds where the cause of an error doesn't
 pub whole-unless : {X E : Type 0} (r : Result X E) {P Q : Type 0} → OnOk r P → OnErr r Q → ¬ Q → P

@@ -1,3 +1,4 @@
 mod Concluding
+mod Helping
 mod Joining
 mod OnWorkers

@@ -1,6 +1,6 @@
 -- What a user may conclude from the exit status of a run of the program, and what stays the same
 -- whatever the number of workers is.
-use Rattle.std.specs.Prelude.{◌≡◌, ℕ, Bool, ◌⊎◌, ◌↔◌, List, Option, Some, None, Ok}
+use Rattle.std.specs.Prelude.{◌≡◌, ℕ, Bool, ◌⊎◌, ◌↔◌, List, [], Option, Some, None, Ok}
 use Rattle.det_edges.specs.Count.{Rose}
 use Rattle.det_edges.specs.Sink.{Grew}
 use Rattle.det_edges.specs.Shelf.{ShelfState}
@@ -13,13 +13,11 @@ use Rattle.cli_answers.specs.declared.status.Status.TheVariants.{BadManifest, Ba
 use Rattle.cli_answers.specs.declared.status.Status.TheVariants.{BadRecord, NoMajority}
 use Rattle.cli_answers.specs.declared.status.Status.TheVariants.{ReadFault, WriteFault, OutOfMemory}
 use Rattle.cli_answers.specs.Answers.{status_of}
-use Rattle.cli_answers.specs.Outcome.{Outcome, Tells, told}
+use Rattle.cli_answers.specs.Outcome.{Outcome, told}
 use Rattle.cli_words.specs.Command.{CommandValue}
-use Rattle.det_cli.specs.Outcome.{command_in, opened, outcome, outcome_of}
-
--- the bytes under the names that the words open are told
-abbrev pub TellsAll : List (List ℕ) → ShelfState → Type 0
-TellsAll words shelf = Tells shelf (opened (command_in words) (told shelf))
+use Rattle.cli_words.specs.Reading.{command_of}
+use Rattle.det_cli.specs.Outcome.{opened_by, outcome_by}
+use Rattle.det_cli.specs.Promise.{TellsAll}
 
 -- the status is that of the outcome, and `out` took all its bytes
 pub record Gives (wanted : Outcome) (before after : List ℕ → Type 0) (status : Status)
@@ -31,26 +29,34 @@ pub record Gives (wanted : Outcome) (before after : List ℕ → Type 0) (status
 abbrev pub IsRefusal : Status → Type 0
 IsRefusal status = (status ≡ BadManifest) ⊎ ((status ≡ BadStimulus) ⊎ (status ≡ BadRecord))
 
-pub record Concludes (words : List (List ℕ)) (first last : ShelfState) (out_failed : Type 0)
+-- what is concluded from the status of a command
+pub record OfCommand (c : CommandValue) (first last : ShelfState) (out_failed : Type 0)
     (before after : List ℕ → Type 0) (seeing : AudienceState) (status : Status) : Type 0 where
   -- where neither the shelf nor `out` failed the outcome is given, or memory was wanting
-  pub unfailed : TellsAll words first → ¬ Rose first.faults last.faults → ¬ out_failed
-      → (status ≡ OutOfMemory) ⊎ Gives (outcome words (told first) seeing) before after status
+  pub unfailed : TellsAll c first → ¬ Rose first.faults last.faults → ¬ out_failed
+      → (status ≡ OutOfMemory)
+      ⊎ Gives (outcome_by c.word c (told first) seeing) before after status
   -- done, or that something differs, or refused, only where the outcome is
-  pub done : TellsAll words first → status ≡ Done
-      → Gives (outcome words (told first) seeing) before after status
-  pub differs : TellsAll words first → status ≡ Differs
-      → Gives (outcome words (told first) seeing) before after status
-  pub refused : TellsAll words first → IsRefusal status
-      → Gives (outcome words (told first) seeing) before after status
+  pub done : TellsAll c first → status ≡ Done
+      → Gives (outcome_by c.word c (told first) seeing) before after status
+  pub differs : TellsAll c first → status ≡ Differs
+      → Gives (outcome_by c.word c (told first) seeing) before after status
+  pub refused : TellsAll c first → IsRefusal status
+      → Gives (outcome_by c.word c (told first) seeing) before after status
   -- no majority only where the copies have none; behind the rows that most of them have in common
-  pub no_majority : TellsAll words first → status ≡ NoMajority
-      → Gives (outcome words (told first) seeing) before after status
+  pub no_majority : TellsAll c first → status ≡ NoMajority
+      → Gives (outcome_by c.word c (told first) seeing) before after status
+
+pub record Concludes (words : List (List ℕ)) (first last : ShelfState) (out_failed : Type 0)
+    (before after : List ℕ → Type 0) (seeing : AudienceState) (status : Status) : Type 0 where
+  pub command : (c : CommandValue) → command_of words ≡ Some c
+      → OfCommand c first last out_failed before after seeing status
   -- a fault only where there was one
   pub read_fault : status ≡ ReadFault → Rose first.faults last.faults
   pub write_fault : status ≡ WriteFault → out_failed
-  -- bad words exactly where the words are no command
-  pub bad_words : (status ≡ BadWords) ↔ (command_in words ≡ None)
+  -- bad words exactly where the words are no command, and then nothing was written
+  pub bad_words : (status ≡ BadWords) ↔ (command_of words ≡ None)
+  pub unwritten : status ≡ BadWords → Grew before after []
 
 -- the command with this number of workers, or without one
 abbrev pub on_workers : Option ℕ → CommandValue → CommandValue
@@ -59,9 +65,9 @@ on_workers number c = record c { options = record c.options { workers = number }
 -- a command opens the same names and has the same outcome on any number of workers
 pub record IsSameOn (number : Option ℕ) (c : CommandValue) (holds : List ℕ → List ℕ)
     (audience : AudienceState) : Type 0 where
-  pub names : opened (Some (on_workers number c)) holds ≡ opened (Some c) holds
-  pub same : outcome_of (Some (on_workers number c)) holds audience
-      ≡ outcome_of (Some c) holds audience
+  pub names : opened_by c.word (on_workers number c) holds ≡ opened_by c.word c holds
+  pub same : outcome_by c.word (on_workers number c) holds audience
+      ≡ outcome_by c.word c holds audience
 
 -- two manifests tell the same but for their number of workers
 pub record DifferInWorkers (strict : Bool) (one other : List ℕ) : Type 0 where

@@ -1,9 +1,8 @@
 -- What the program gives: an answer and the bytes for `out`, by the words, the bytes under each
 -- name and the audience.
-use Rattle.std.specs.Prelude.{ℕ, Bool, true, false, List, [], map, Option, Some, None}
-use Rattle.std.specs.Prelude.{is_some, unwrap_or, option_and_then, if◌then◌else◌}
-use Rattle.cli_answers.specs.declared.answer.Answer.TheVariants.{BadWords}
-use Rattle.cli_answers.specs.Outcome.{Outcome, text_outcome, refusal}
+use Rattle.std.specs.Prelude.{ℕ, Bool, true, false, List, [], map}
+use Rattle.std.specs.Prelude.{unwrap_or, if◌then◌else◌}
+use Rattle.cli_answers.specs.Outcome.{Outcome, text_outcome}
 use Rattle.cli_answers.specs.Ends.{Work, writes_alone}
 use Rattle.cli_words.specs.declared.table.CommandWord.{CommandWord}
 use Rattle.cli_words.specs.declared.table.CommandWord.TheVariants.{Demo, Record, Show, Needs, Sim}
@@ -11,7 +10,6 @@ use Rattle.cli_words.specs.declared.table.CommandWord.TheVariants.{Replay, Check
 use Rattle.cli_words.specs.declared.table.CommandWord.TheVariants.{Compare, Vote, Salvage, Chain}
 use Rattle.cli_words.specs.declared.table.CommandWord.TheVariants.{Help, Version}
 use Rattle.cli_words.specs.Command.{CommandValue, name_at, number_in, files_of, part_of}
-use Rattle.cli_words.specs.Reading.{command_of}
 use Rattle.record_text.specs.declared.part.ShowPart.{ShowPart}
 use Rattle.record_text.specs.declared.part.ShowPart.TheVariants.{Cycle}
 use Rattle.probes.specs.Reports.{AudienceState}
@@ -30,23 +28,8 @@ use Rattle.cmd_chain.specs.Chain.{chain_outcome, chain_names, chain_work}
 use Rattle.cmd_salvage.specs.Salvage.{salvage_outcome, salvage_reports_outcome, salvage_work}
 use Rattle.det_cli.specs.Texts.{version_text, help_text}
 
--- whether there is what the command asks for: the help of a command without a page isn't there
-abbrev pub is_known : CommandWord → CommandValue → Bool
-is_known Help c = is_some (help_text c.names)
-is_known word c = true
-
-abbrev pub known : CommandValue → Option CommandValue
-known c = if is_known c.word c then Some c else None
-
--- the command that the words are
-abbrev pub command_in : List (List ℕ) → Option CommandValue
-command_in words = option_and_then known (command_of words)
-
--- the names that a command opens, in their order
-abbrev pub names_in : Option CommandValue → List (List ℕ)
-names_in (Some c) = files_of c
-names_in None = []
-
+-- the names that a command opens where these are the bytes under each name: a manifest that is
+-- refused is the last of them
 abbrev pub opened_by : CommandWord → CommandValue → (List ℕ → List ℕ) → List (List ℕ)
 opened_by Record c holds =
     record_names (name_at 0 c) (name_at 1 c) (setup_of c.options.strict (holds (name_at 0 c)))
@@ -54,12 +37,6 @@ opened_by Chain c holds = chain_names (name_at 0 c) (name_at 1 c) (name_at 2 c)
     (setup_of c.options.strict (holds (name_at 0 c)))
     (setup_of c.options.strict (holds (name_at 1 c)))
 opened_by word c holds = files_of c
-
--- the names that a command opens where these are the bytes under each name: a manifest that is
--- refused is the last of them
-abbrev pub opened : Option CommandValue → (List ℕ → List ℕ) → List (List ℕ)
-opened (Some c) holds = opened_by c.word c holds
-opened None holds = []
 
 -- what a command reads and does
 abbrev pub work_of : CommandWord → Work
@@ -89,20 +66,7 @@ is_showing Check c = true
 is_showing Salvage c = c.options.reports
 is_showing other c = false
 
-abbrev pub shows_runs : Option CommandValue → Bool
-shows_runs (Some c) = is_showing c.word c
-shows_runs None = false
-
--- the salvaged record, or reports of it
-abbrev pub salvage_by : (reports : Bool) → AudienceState → List ℕ → Outcome
-salvage_by true audience recorded = salvage_reports_outcome audience recorded
-salvage_by false audience recorded = salvage_outcome recorded
-
--- the majority's record, or who dissents from it
-abbrev pub vote_by : (dissent : Bool) → List (List ℕ) → Outcome
-vote_by true copies = dissent_outcome copies
-vote_by false copies = vote_outcome copies
-
+-- the outcome of a command where these are the bytes under each name
 abbrev pub outcome_by : CommandWord → CommandValue → (List ℕ → List ℕ) → AudienceState
     → Outcome
 outcome_by Demo c holds audience = demo_outcome (holds (name_at 0 c))
@@ -116,19 +80,13 @@ outcome_by Replay c holds audience = replay_outcome (holds (name_at 0 c))
 outcome_by Check c holds audience = check_outcome audience (holds (name_at 0 c))
 outcome_by Upgrade c holds audience = upgrade_outcome (holds (name_at 0 c))
 outcome_by Compare c holds audience = compare_outcome (map holds (files_of c))
-outcome_by Vote c holds audience = vote_by c.options.dissent (map holds (files_of c))
+outcome_by Vote c holds audience =
+    (if c.options.dissent then dissent_outcome else vote_outcome) (map holds (files_of c))
 outcome_by Salvage c holds audience =
-    salvage_by c.options.reports audience (holds (name_at 0 c))
+    (if c.options.reports then salvage_reports_outcome audience else salvage_outcome)
+    (holds (name_at 0 c))
 outcome_by Chain c holds audience =
     chain_outcome c.options.strict (holds (name_at 0 c)) (holds (name_at 1 c))
     (holds (name_at 2 c)) c.options.seed
 outcome_by Help c holds audience = text_outcome (unwrap_or (help_text c.names) [])
 outcome_by Version c holds audience = text_outcome version_text
-
--- the outcome of a command, where these are the bytes under each name
-abbrev pub outcome_of : Option CommandValue → (List ℕ → List ℕ) → AudienceState → Outcome
-outcome_of (Some c) holds audience = outcome_by c.word c holds audience
-outcome_of None holds audience = refusal BadWords
-
-abbrev pub outcome : List (List ℕ) → (List ℕ → List ℕ) → AudienceState → Outcome
-outcome words holds audience = outcome_of (command_in words) holds audience

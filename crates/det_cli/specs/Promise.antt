@@ -8,6 +8,7 @@ use Rattle.cli_words.specs.declared.table.CommandWord.{CommandWord}
 use Rattle.cli_words.specs.declared.table.CommandWord.TheVariants.{Show, Sim, Check}
 use Rattle.cli_words.specs.declared.table.CommandWord.TheVariants.{Salvage, Vote}
 use Rattle.cli_words.specs.Command.{CommandValue, name_at, files_of, number_in, part_of}
+use Rattle.cli_words.specs.Reading.{command_of}
 use Rattle.record_grammar.specs.Record.{items as items_in}
 use Rattle.record_reader.specs.Salvaged.{saved_of}
 use Rattle.record_show.specs.Text.{lines_of}
@@ -25,12 +26,12 @@ use Rattle.cli_answers.specs.Answers.{status_of, err_line}
 use Rattle.cli_answers.specs.Ends.{can_end}
 use Rattle.cli_answers.specs.BreaksOff.{BreaksOff}
 use Rattle.cli_answers.specs.Outcome.{Meets, Tells, told}
-use Rattle.det_cli.specs.Outcome.{command_in, names_in, opened, shows_runs, work_of, outcome_of}
+use Rattle.cli_answers.specs.Slots.{KeepsSlots}
+use Rattle.det_cli.specs.Outcome.{opened_by, is_showing, work_of, outcome_by}
 
--- with words that are no command it ends as bad words, and with no others
-abbrev pub Ends : Option CommandValue → Answer → Type 0
-Ends None answer = answer ≡ BadWords
-Ends (Some command) answer = can_end (work_of command.word) answer ≡ true
+-- the bytes under the names that a command opens are told
+abbrev pub TellsAll : CommandValue → ShelfState → Type 0
+TellsAll c shelf = Tells shelf (opened_by c.word c (told shelf))
 
 -- salvaging shows runs where reports are asked for
 abbrev pub SalvageSeen : (reports : Bool) → AudienceState → AudienceState → List ℕ → Type 0
@@ -49,11 +50,6 @@ SeenBy Check c holds old now before after =
     checking.SawFirst old now (checking.runs_checked (holds (name_at 0 c)))
 SeenBy Sim c holds old now before after = SawRuns old now (sim_runs (number_in c))
 SeenBy other c holds old now before after = Unit {0}
-
-abbrev pub HasSeen : Option CommandValue → (List ℕ → List ℕ) → AudienceState → AudienceState
-    → (before after : List ℕ → Type 0) → Type 0
-HasSeen (Some c) holds old now before after = SeenBy c.word c holds old now before after
-HasSeen None holds old now before after = Unit {0}
 
 -- what `salvage` has written: all that it saves of the bytes read, and no report
 abbrev pub SalvageBroken : (reports : Bool) → ShelfState → ShelfState → List ℕ
@@ -81,39 +77,49 @@ BrokenBy Vote c first last before after =
     VoteBroken c.options.dissent first last (files_of c) before after
 BrokenBy other c first last before after = Unit {0}
 
-abbrev pub HasWritten : Option CommandValue → ShelfState → ShelfState
-    → (before after : List ℕ → Type 0) → Type 0
-HasWritten (Some c) first last before after = BrokenBy c.word c first last before after
-HasWritten None first last before after = Unit {0}
-
 -- A run of a command. `out` took what `before` and `after` say; the audience `seeing` was handed
 -- in, and is `stayed` afterwards.
-pub record Runs (command : Option CommandValue) (first last : ShelfState) (out_failed : Type 0)
+pub record Runs (c : CommandValue) (first last : ShelfState) (out_failed : Type 0)
     (before after : List ℕ → Type 0) (seeing stayed : AudienceState) (answer : Answer)
     : Type 0 where
   -- it answers and writes what the definition gives of the bytes under the names that it opens,
   -- where they are told
-  pub meets : Meets (outcome_of command (told first) seeing)
-      (Tells first (opened command (told first))) (Rose first.faults last.faults) out_failed
-      before after answer
+  pub meets : Meets (outcome_by c.word c (told first) seeing) (TellsAll c first)
+      (Rose first.faults last.faults) out_failed before after answer
   -- where a read failed, and the names are told, it has written what was read
-  pub broken : Tells first (opened command (told first)) → answer ≡ ReadFault
-      → HasWritten command first last before after
+  pub broken : TellsAll c first → answer ≡ ReadFault → BrokenBy c.word c first last before after
   -- each answer belongs to its command, told or untold
-  pub ends : Ends command answer
+  pub ends : can_end (work_of c.word) answer ≡ true
   -- no other name is opened, and none before its turn; where they are told, none beyond those that
   -- are needed
-  pub asked : AsksPrefix first last (names_in command)
-  pub needed : Tells first (opened command (told first))
-      → AsksPrefix first last (opened command (told first))
+  pub asked : AsksPrefix first last (files_of c)
+  pub needed : TellsAll c first → AsksPrefix first last (opened_by c.word c (told first))
+  -- slots given before the call keep what they have left
+  pub earlier : KeepsSlots first last
   -- a command that shows no runs leaves the audience; where one that shows them is done, all probes
   -- have reported and left
-  pub left : shows_runs command ≡ false → stayed ≡ seeing
-  pub gone : shows_runs command ≡ true → answer ≡ Done → stayed.seeing ≡ []
+  pub left : is_showing c.word c ≡ false → stayed ≡ seeing
+  pub gone : is_showing c.word c ≡ true → answer ≡ Done → stayed.seeing ≡ []
   -- where the names are told it has seen first runs; where memory was wanting nothing is said: some
   -- probes may have seen one run more, or be gone
-  pub saw : Tells first (opened command (told first)) → (answer ≡ OutOfMemory → ⊥)
-      → HasSeen command (told first) seeing stayed before after
+  pub saw : TellsAll c first → (answer ≡ OutOfMemory → ⊥)
+      → SeenBy c.word c (told first) seeing stayed before after
+
+-- words that are no command: nothing is opened, written or shown
+pub record Refuses (first last : ShelfState) (before after : List ℕ → Type 0)
+    (seeing stayed : AudienceState) (answer : Answer) : Type 0 where
+  pub is : answer ≡ BadWords
+  pub shelf : last ≡ first
+  pub wrote : Grew before after []
+  pub left : stayed ≡ seeing
+
+-- a run of the command that words are, or their refusal
+abbrev pub RunsWords : Option CommandValue → (first last : ShelfState) → Type 0
+    → (before after : List ℕ → Type 0) → (seeing stayed : AudienceState) → Answer → Type 0
+RunsWords (Some c) first last out_failed before after seeing stayed answer =
+    Runs c first last out_failed before after seeing stayed answer
+RunsWords None first last out_failed before after seeing stayed answer =
+    Refuses first last before after seeing stayed answer
 
 -- The program: a run of the command that the words give, its status, and one line for the user.
 pub record IsPromised (words : List (List ℕ)) (first last : ShelfState) (out_failed : Type 0)
@@ -121,7 +127,7 @@ pub record IsPromised (words : List (List ℕ)) (first last : ShelfState) (out_f
     (seeing stayed : AudienceState) (status : Status) : Type 0 where
   pub answer : Answer
   pub is : status ≡ status_of answer
-  pub runs : Runs (command_in words) first last out_failed before after seeing stayed answer
+  pub runs : RunsWords (command_of words) first last out_failed before after seeing stayed answer
   -- `err` took a prefix of the answer's line, and all of it where its count of faults didn't rise
   pub line : GrewByPrefix err_before err_after (err_line answer)
   pub whole_line : ¬ err_failed → Grew err_before err_after (err_line answer)

@@ -7,12 +7,12 @@ ghost use Rattle.cli_answers.specs.Ends.{can_end, writes_alone};
 ghost use Rattle.cli_answers.specs.Outcome.{Meets, text_outcome};
 ghost use Rattle.cli_words.specs.Names.{texts};
 ghost use Rattle.cli_words.specs.Command.{command_seen};
+ghost use Rattle.cli_words.specs.Reading.{command_of};
 ghost use Rattle.cli_words.specs.Ranges.{IsInRange};
 ghost use Rattle.probes.specs.Reports.{AudienceState};
 ghost use Rattle.probes.specs.Shows.{seen};
 ghost use Rattle.det_cli.specs.Texts.{page_of, help_text};
-ghost use Rattle.det_cli.specs.Outcome.{known, command_in};
-ghost use Rattle.det_cli.specs.Promise.{Runs, IsPromised};
+ghost use Rattle.det_cli.specs.Promise.{Runs, RunsWords, IsPromised};
 
 use crate::pages::{
     CHAIN, CHECK, COMPARE, DEMO, NEEDS, RECORD, REPLAY, SALVAGE, SHOW, SIM, UPGRADE, VOTE,
@@ -82,7 +82,7 @@ where
     K: Sink,
     R: Threads,
     G: Gate + Send + Sync + 'static,
-    ensures { Runs (command_in (texts words.now)) (S.sees shelf.old) (S.sees shelf.new)
+    ensures { RunsWords (command_of (texts words.now)) (S.sees shelf.old) (S.sees shelf.new)
         (Rose (K.faults out.old) (K.faults out.new)) (K.took out.old) (K.took out.new)
         (seen (λ b. life (b.vtable, b.value)) audience.old)
         (seen (λ b. life (b.vtable, b.value)) audience.new) result }
@@ -107,7 +107,7 @@ where
     R: Threads,
     G: Gate + Send + Sync + 'static,
     requires range { IsInRange (command_seen command) }
-    ensures { Runs (known (command_seen command.entry)) (S.sees shelf.old) (S.sees shelf.new)
+    ensures { Runs (command_seen command.entry) (S.sees shelf.old) (S.sees shelf.new)
         (Rose (K.faults out.old) (K.faults out.new)) (K.took out.old) (K.took out.new)
         (seen (λ b. life (b.vtable, b.value)) audience.old)
         (seen (λ b. life (b.vtable, b.value)) audience.new) result }
@@ -138,7 +138,8 @@ where
         CommandWord::Sim => sim(&workers_of(host, workers), command.number(), out, audience),
         CommandWord::Help => match help_text(command.names.as_slice()) {
             Some(text) => print(text, out),
-            None => Answer::BadWords,
+            // Each name that help takes is a word of a command with a page.
+            None => unreachable!(),
         },
         CommandWord::Version => print(VERSION, out),
         CommandWord::Replay => replay(&workers_of(host, workers), first, shelf, out),
@@ -165,7 +166,7 @@ fn vote_by<S: Shelf, K: Sink>(
 ) -> Answer
     requires range { IsInRange (command_seen command.now) }
     requires word { command.now.word ≡ CommandWord.Vote }
-    ensures { (audience : AudienceState) → Runs (known (command_seen command.now))
+    ensures { (audience : AudienceState) → Runs (command_seen command.now)
         (S.sees shelf.old) (S.sees shelf.new) (Rose (K.faults out.old) (K.faults out.new))
         (K.took out.old) (K.took out.new) audience audience result }
 {
@@ -190,7 +191,7 @@ where
     G: Gate + Send + Sync + 'static,
     requires range { IsInRange (command_seen command.now) }
     requires word { command.now.word ≡ CommandWord.Chain }
-    ensures { (audience : AudienceState) → Runs (known (command_seen command.now))
+    ensures { (audience : AudienceState) → Runs (command_seen command.now)
         (S.sees shelf.old) (S.sees shelf.new) (Rose (K.faults out.old) (K.faults out.new))
         (K.took out.old) (K.took out.new) audience audience result }
 {

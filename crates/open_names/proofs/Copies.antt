@@ -1,14 +1,15 @@
 -- Copies of a record in slots that were opened, one for each name.
-use Rattle.std.proofs.Common.{◌≡◌, ◌≢◌, ℕ, zero, suc, ◌<◌, List, [], ◌∷◌, length, map, Option, Some, Bor, arith, refl, sym, ap, ◌∙◌, subst}
+use Rattle.std.proofs.Common.{◌≡◌, ◌≢◌, ℕ, zero, suc, ◌+◌, ◌<◌, List, [], ◌∷◌, length, map, Option, Some, Bor, arith, refl, sym, ap, ◌∙◌, subst}
 use Rattle.std.specs.Prelude.{IfSome, IsSome}
-use Rattle.std.specs.List.{AllPairs, AllZip}
+use Rattle.std.specs.List.{AllByRecursion, AllPairs, AllZip, range_with_len}
 use Rattle.std.proofs.lemmas.List.Elements.{All-tail, recursion_from_All}
 use Rattle.std.proofs.lemmas.List.{length-map}
 use Rattle.det_edges.specs.Shelf.{ShelfState}
 use Rattle.open_names.specs.Opened.{Opened}
 use Rattle.cli_answers.specs.Outcome.{Tells, told}
 use Rattle.cli_answers.proofs.Telling.{held}
-use Rattle.lockstep.specs.Compared.{AreDifferent, AreGiven, AreLeft}
+use Rattle.cli_answers.specs.Slots.{KeepsSlots}
+use Rattle.lockstep.specs.Compared.{AreDifferent, AreGiven, AreLeft, ReadsAmong}
 
 -- no slot comes twice where any two differ
 different-of : (slots : List ℕ) → AllPairs (λ slot other. slot ≢ other) slots → AreDifferent slots
@@ -41,6 +42,11 @@ as-long R [] (y ∷ ys) zip = absurd zip
 as-long R (x ∷ xs) [] zip = absurd zip
 as-long R (x ∷ xs) (y ∷ ys) zip = ap suc (as-long R xs ys zip.1)
 
+-- a number before those in a row is none of them
+before-row : (k a n : ℕ) → k < a → AllByRecursion (λ slot. k ≢ slot) (range_with_len a n)
+before-row k a zero less = tt
+before-row k a (suc n) less = ((λ e. omega (arith, e, less)), before-row k (a + 1) n (omega (arith, less)))
+
 abbrev pub texts : List (Bor (List ℕ)) → List (List ℕ)
 texts recorded = map (λ name. name.now) recorded
 
@@ -64,3 +70,9 @@ module _ {first mid : ShelfState} {slots here : List ℕ} (recorded : List (Bor 
   -- what the slots have left is what the names held
   pub are-left : Tells first (texts recorded) → AreLeft mid here (map (told first) (texts recorded))
   are-left tells = left-of first mid (texts recorded) here tells opened-here.left
+
+  -- reads of the slots keep what was given before them
+  pub keeps-copies : {last : ShelfState} → KeepsSlots first mid → ReadsAmong mid last here → KeepsSlots first last
+  keeps-copies earlier reads k less =
+      reads.others k (subst (AllByRecursion (λ slot. k ≢ slot)) (sym (same ∙ opened.numbered))
+      (before-row k first.slots (length (texts recorded)) less)) ∙ earlier k less

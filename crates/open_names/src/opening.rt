@@ -3,6 +3,7 @@ ghost use Rattle.std.specs.Prelude.{◌≡◌, ◌≢◌, ◌+◌, ◌<◌, leng
 ghost use Rattle.det_edges.specs.declared.failure.Failure.TheVariants as failures;
 ghost use Rattle.det_edges.specs.Shelf.{Asks, AsksPrefix};
 ghost use Rattle.det_edges.specs.Traffic.{ShelfTraffic, shelf_run, failure_of};
+ghost use Rattle.cli_answers.specs.Slots.{KeepsSlots};
 ghost use Rattle.open_names.specs.Opened.{Opened};
 
 use det_edges::{Failure, Shelf};
@@ -18,6 +19,7 @@ pub fn open_all<S: Shelf>(alloc: Global, names: &[&str], shelf: &mut S) -> Resul
     ensures asked { AsksPrefix (S.sees shelf.old) (S.sees shelf.new)
         (map (λ name. name.now) names.now) }
     ensures holds { (S.sees shelf.new).holds ≡ (S.sees shelf.old).holds }
+    ensures earlier { KeepsSlots (S.sees shelf.old) (S.sees shelf.new) }
     ensures unopened { failure_of result ≡ Some failures.Read
         → (S.sees shelf.new).slots < (S.sees shelf.old).slots + length names.now }
     ensures no_write { failure_of result ≢ Some failures.Write }

@@ -2,11 +2,13 @@
 use Rattle.std.proofs.Common.{◌≡◌, ◌<◌, ℕ, List, [], ◌++◌, sym, ap, ◌∙◌}
 use Rattle.std.specs.Prelude.{Option, Some, IsSome}
 use Rattle.std.specs.Option.{unwrap_or}
-use Rattle.det_edges.specs.Shelf.{ShelfState}
+use Rattle.det_edges.specs.Shelf.{ShelfState, Reads}
 use Rattle.det_edges.proofs.Opening.{opens-left, opens-new}
-use Rattle.det_edges.proofs.SlotReads.{reads-told, reads-given}
+use Rattle.det_edges.proofs.SlotReads.{reads-then, reads-told, reads-given}
 use Rattle.record_reader.specs.Frames.{slot_of}
 use Rattle.cli_answers.specs.Outcome.{told}
+use Rattle.cli_answers.specs.Slots.{KeepsSlots}
+use Rattle.cli_answers.proofs.Keeping.{keeps-read}
 use Rattle.cli_answers.proofs.Telling.{held}
 use Rattle.recorded_run.specs.declared.run.RecordedRun.{RecordedRun}
 use Rattle.recorded_run.specs.Begun.{HasBegun}
@@ -27,3 +29,7 @@ module _ {first last : ShelfState} {name : List ℕ} {run : RecordedRun} (begun 
   -- the reader's slot was given
   pub slot-given : slot_of run.frames < last.slots
   slot-given = reads-given (slot_of run.frames) begun.reads (opens-new begun.opens)
+
+  -- reads of it keep the slots that were given before
+  pub keeps-behind : {end : ShelfState} {more : List ℕ} → Reads last end (slot_of run.frames) more → KeepsSlots first end
+  keeps-behind reads = keeps-read begun.opens (reads-then begun.reads reads)

@@ -1,11 +1,12 @@
 //! The run of a record.
-ghost use Rattle.std.specs.Prelude.{◌≡◌, ◌<◌, ◌∷◌, [], ℕ, length, None, Some, Ok, Err};
+ghost use Rattle.std.specs.Prelude.{◌≡◌, ◌∷◌, [], length, None, Some, Ok, Err};
 ghost use Rattle.std.specs.Prelude.{IfOk, IfErr, IsSome};
 ghost use Rattle.det_edges.specs.Shelf.{Asks};
 ghost use Rattle.det_edges.specs.Traffic.{ShelfTraffic, shelf_run, failure_in, IfRefused};
 ghost use Rattle.det_edges.specs.declared.failure.Stopped.TheVariants as stops;
 ghost use Rattle.shipped_jobs.specs.Kinds.{bad_param};
 ghost use Rattle.cli_answers.specs.Outcome.{told};
+ghost use Rattle.cli_answers.specs.Slots.{KeepsSlots};
 ghost use Rattle.recorded_run.specs.declared.bad_run.BadRun.TheVariants as bad_runs;
 ghost use Rattle.recorded_run.specs.Run.{run_of, kind_of};
 ghost use Rattle.recorded_run.specs.Begun.{HasBegun};
@@ -49,9 +50,7 @@ pub fn read_run<S: Shelf>(
         (failure_in result) }
     ensures writes_nothing { failure_in result ≡ Some Failure.Write → ⊥ }
     ensures asked { Asks (S.sees shelf.old) (S.sees shelf.new) (recorded.now ∷ []) }
-    // Slots that were given before keep what they have left.
-    ensures others { (k : ℕ) → k < (S.sees shelf.old).slots
-        → (S.sees shelf.new).left k ≡ (S.sees shelf.old).left k }
+    ensures earlier { KeepsSlots (S.sees shelf.old) (S.sees shelf.new) }
 {
     let slot = shelf.open_input(recorded)?;
     match open(alloc, slot, shelf) {

@@ -4,6 +4,7 @@ use Rattle.det_edges.proofs.Opening.{asks-then-prefix}
 use Rattle.cli_answers.specs.Outcome.{told}
 use Rattle.cli_answers.proofs.Meeting.{meets-no-memory}
 use Rattle.cmd_setup.specs.Setup.{setup_of}
+use Rattle.cmd_setup.proofs.Keeping.{keeps-behind}
 use Rattle.cmd_record.proofs.Meeting.{rose-later, meets-as}
 use Rattle.cmd_chain.proofs.First.{tells-rest, by-first, met-first, asked-first, asked-all}
 use Rattle.cmd_chain.proofs.chaining.chain.Goals as goal
@@ -63,3 +64,8 @@ returns-clause-judged g c = λ tells.
     asked-all task.strict first task.first.now task.second.now task.stimulus.now setup is mid holds _ c.read_setup.ensures.asked
     (c.chain_behind.ensures.judged
     (tells-rest task.strict first task.first.now task.second.now task.stimulus.now setup is mid holds tells)) tells
+
+pub returns-clause-earlier : goal.returns-clause-earlier
+returns-clause-earlier g c =
+    keeps-behind (g.S.Slots.sees c.args.shelf.now) (g.S.Slots.sees c.read_setup.new.shelf) (g.S.Slots.sees c.chain_behind.new.shelf)
+    c.read_setup.ensures.piece c.chain_behind.ensures.earlier

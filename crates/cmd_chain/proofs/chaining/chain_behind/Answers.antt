@@ -4,6 +4,7 @@ use Rattle.det_edges.proofs.Opening.{asks-then-prefix}
 use Rattle.cli_answers.specs.Outcome.{told}
 use Rattle.cli_answers.proofs.Meeting.{meets-no-memory}
 use Rattle.cmd_setup.specs.Setup.{setup_of}
+use Rattle.cmd_setup.proofs.Keeping.{keeps-behind}
 use Rattle.cmd_record.proofs.Meeting.{rose-later, meets-as}
 use Rattle.cmd_record.proofs.ByManifest.{still-told, asked-manifest, asked-both}
 use Rattle.cmd_chain.specs.Chain.{Client}
@@ -60,3 +61,8 @@ returns-clause-judged g c =
     let task = c.args.task.now in
     asked-both task.strict (g.S.Slots.sees c.args.shelf.now) task.second.now task.stimulus.now c.in-Ok.setup c.in-Ok.ensures.manifest _
     (asks-then-prefix _ _ _ (task.second.now ∷ []) (task.stimulus.now ∷ []) c.read_setup.ensures.asked c.chain_named.ensures.asked)
+
+pub returns-clause-earlier : goal.returns-clause-earlier
+returns-clause-earlier g c =
+    keeps-behind (g.S.Slots.sees c.args.shelf.now) (g.S.Slots.sees c.read_setup.new.shelf) (g.S.Slots.sees c.chain_named.new.shelf)
+    c.read_setup.ensures.piece c.chain_named.ensures.earlier

@@ -7,7 +7,7 @@ use Rattle.probes.specs.Shows.{seen}
 use Rattle.cli_answers.specs.Outcome.{Tells, told}
 use Rattle.recorded_run.proofs.Beginning.{tells-name, meets-told, if-refused}
 use Rattle.recorded_run.proofs.Ending.{meets-end}
-use Rattle.recorded_run.proofs.Resting.{rest, rest-told}
+use Rattle.recorded_run.proofs.Resting.{rest, rest-told, keeps-behind}
 use Rattle.cmd_check.specs.Check.{checked_by}
 use Rattle.cmd_check.proofs.Seeing.{saw-whole}
 use Rattle.cmd_check.proofs.checking.check.Goals as goal
@@ -26,7 +26,7 @@ returns-in-Ok-clause-meets g c =
 
 pub returns-in-Ok-clause-asked : goal.returns-in-Ok-clause-asked
 returns-in-Ok-clause-asked g c =
-    asks-all _ _ (c.args.recorded.now ∷ []) (asks-then-kept c.in-Ok.ensures.asked c.check_by_crew.ensures.asked)
+    asks-all _ _ (c.args.recorded.now ∷ []) (asks-then-kept c.in-Ok.ensures.asked c.check_by_crew.ensures.reads.1.asked)
 
 pub returns-in-Ok-clause-saw : goal.returns-in-Ok-clause-saw
 returns-in-Ok-clause-saw g c ne tells =
@@ -52,3 +52,6 @@ returns-in-Err-clause-meets g c =
     (meets-end (checked_by old (told first name)) (λ why. refl) (told first name) (Tells first (name ∷ [])) (Rose first.faults last.faults)
     (Rose out.faults_before out.faults_after) out.before c.in-Err.end (if-refused first name c.in-Err.end read.refused) read.traffic.cause
     read.writes_nothing)
+
+pub returns-in-Ok-clause-earlier : goal.returns-in-Ok-clause-earlier
+returns-in-Ok-clause-earlier g c = keeps-behind c.in-Ok.ensures.begun c.check_by_crew.ensures.reads.1

@@ -5,7 +5,7 @@ use Rattle.probes.specs.Shows.{seen}
 use Rattle.cli_answers.specs.Outcome.{Meets}
 use Rattle.cli_answers.proofs.Meeting.{meets-no-memory}
 use Rattle.cmd_check.specs.Check.{outcome_by}
-use Rattle.cmd_check.proofs.Meeting.{met-verdict, met-stop, met-unprinted, kept-by-kind}
+use Rattle.cmd_check.proofs.Meeting.{met-verdict, met-stop, met-unprinted, reads-by-kind}
 use Rattle.cmd_check.proofs.Seeing.{saw-verdict, saw-stop}
 use Rattle.cmd_check.proofs.checking.check_by_crew.Goals as goal
 
@@ -22,15 +22,15 @@ returns-in-Err-checked-clause-meets g c read rest stands =
     met-stop run.kind run.profile run.frames read stands shelf sink old now c.in-Ok.checked c.in-Ok.ensures.given c.in-Err-checked.stop rest
     (Rose sink.faults_before sink.faults_after) c.from.result c.in-Err-checked.is c.from.ensures
 
-pub returns-in-Err-checked-clause-asked : goal.returns-in-Err-checked-clause-asked
-returns-in-Err-checked-clause-asked g c =
+pub returns-in-Err-checked-clause-reads : goal.returns-in-Err-checked-clause-reads
+returns-in-Err-checked-clause-reads g c =
     let run = c.args.run in
     let shelf = shelf_run g.S.Slots.sees g.S.Slots.stays c.args.shelf.now c.with_crew.new.shelf in
     let sink = sink_run g.K.Sink.took g.K.Sink.faults c.args.out.now c.with_crew.new.sink in
     let old = seen (λ b. (goal.Probe-dyn g (b.vtable, b.value)).life b.value) c.args.audience.now in
     let now = seen (λ b. (goal.Probe-dyn g (b.vtable, b.value)).life b.value) c.with_crew.new.audience in
     let gave = c.requires.opened.gave in
-    kept-by-kind run.kind run.profile run.frames gave.0 gave.1 shelf sink old now c.in-Ok.checked c.in-Ok.ensures.given
+    reads-by-kind run.kind run.profile run.frames gave.0 gave.1 shelf sink old now c.in-Ok.checked c.in-Ok.ensures.given
 
 pub returns-in-Err-checked-clause-saw : goal.returns-in-Err-checked-clause-saw
 returns-in-Err-checked-clause-saw g c read rest stands ne told =
@@ -52,15 +52,15 @@ returns-in_default-clause-meets g c read rest stands =
     met-unprinted run.kind run.profile run.frames read stands shelf sink old now c.in-Ok.checked c.in-Ok.ensures.given rest
     (Rose sink.faults_before sink.faults_after)
 
-pub returns-in_default-clause-asked : goal.returns-in_default-clause-asked
-returns-in_default-clause-asked g c =
+pub returns-in_default-clause-reads : goal.returns-in_default-clause-reads
+returns-in_default-clause-reads g c =
     let run = c.args.run in
     let shelf = shelf_run g.S.Slots.sees g.S.Slots.stays c.args.shelf.now c.with_crew.new.shelf in
     let sink = sink_run g.K.Sink.took g.K.Sink.faults c.args.out.now c.with_crew.new.sink in
     let old = seen (λ b. (goal.Probe-dyn g (b.vtable, b.value)).life b.value) c.args.audience.now in
     let now = seen (λ b. (goal.Probe-dyn g (b.vtable, b.value)).life b.value) c.with_crew.new.audience in
     let gave = c.requires.opened.gave in
-    kept-by-kind run.kind run.profile run.frames gave.0 gave.1 shelf sink old now c.in-Ok.checked c.in-Ok.ensures.given
+    reads-by-kind run.kind run.profile run.frames gave.0 gave.1 shelf sink old now c.in-Ok.checked c.in-Ok.ensures.given
 
 pub returns-clause-meets : goal.returns-clause-meets
 returns-clause-meets g c read rest stands =
@@ -76,15 +76,15 @@ returns-clause-meets g c read rest stands =
     met-verdict run.kind run.profile run.frames read stands shelf sink old now c.in-Ok.checked c.in-Ok.ensures.given
     c.in-Ok-checked.verdict rest out.after out.faults_after c.print.result c.in-Ok-checked.is printed
 
-pub returns-clause-asked : goal.returns-clause-asked
-returns-clause-asked g c =
+pub returns-clause-reads : goal.returns-clause-reads
+returns-clause-reads g c =
     let run = c.args.run in
     let shelf = shelf_run g.S.Slots.sees g.S.Slots.stays c.args.shelf.now c.with_crew.new.shelf in
     let sink = sink_run g.K.Sink.took g.K.Sink.faults c.args.out.now c.with_crew.new.sink in
     let old = seen (λ b. (goal.Probe-dyn g (b.vtable, b.value)).life b.value) c.args.audience.now in
     let now = seen (λ b. (goal.Probe-dyn g (b.vtable, b.value)).life b.value) c.with_crew.new.audience in
     let gave = c.requires.opened.gave in
-    kept-by-kind run.kind run.profile run.frames gave.0 gave.1 shelf sink old now c.in-Ok.checked c.in-Ok.ensures.given
+    reads-by-kind run.kind run.profile run.frames gave.0 gave.1 shelf sink old now c.in-Ok.checked c.in-Ok.ensures.given
 
 pub returns-clause-saw : goal.returns-clause-saw
 returns-clause-saw g c read rest stands ne told =

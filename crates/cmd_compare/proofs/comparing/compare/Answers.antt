@@ -1,6 +1,6 @@
 use Rattle.std.proofs.Common.{arith, subst, Err}
 use Rattle.lockstep.specs.Compared.{Compared}
-use Rattle.open_names.proofs.Copies.{as-many, are-given, are-different}
+use Rattle.open_names.proofs.Copies.{as-many, are-given, are-different, keeps-copies}
 use Rattle.cmd_compare.proofs.Meeting.{meets-verdict, meets-bad}
 use Rattle.cmd_compare.proofs.comparing.compare.Goals as goal
 
@@ -34,3 +34,15 @@ returns-in-Err-Refused-clause-meets g c =
     rw c.in-Err-Refused.bad-is
     (meets-bad c.args.recorded.now c.deref.ensures.value c.in-Ok.ensures.opened c.in-Err-Refused.bad
     (subst (λ stop. Compared (Err stop) mid last c.deref.result.now) c.in-Err-Refused.field-0-is c.in-Err-Refused.ensures.compared))
+
+pub returns-in-Ok-compare-clause-earlier : goal.returns-in-Ok-compare-clause-earlier
+returns-in-Ok-compare-clause-earlier g c =
+    keeps-copies c.args.recorded.now c.deref.ensures.value c.in-Ok.ensures.opened c.in-Ok.ensures.earlier c.compare.ensures.reads
+
+pub returns-in-Err-Refused-clause-earlier : goal.returns-in-Err-Refused-clause-earlier
+returns-in-Err-Refused-clause-earlier g c =
+    keeps-copies c.args.recorded.now c.deref.ensures.value c.in-Ok.ensures.opened c.in-Ok.ensures.earlier c.compare.ensures.reads
+
+pub returns-clause-earlier : goal.returns-clause-earlier
+returns-clause-earlier g c =
+    keeps-copies c.args.recorded.now c.deref.ensures.value c.in-Ok.ensures.opened c.in-Ok.ensures.earlier c.compare.ensures.reads

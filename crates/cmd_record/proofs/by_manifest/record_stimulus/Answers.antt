@@ -3,6 +3,7 @@ use Rattle.det_edges.proofs.Opening.{asks-then-prefix}
 use Rattle.cli_answers.specs.Outcome.{told}
 use Rattle.cmd_setup.specs.Setup.{setup_of}
 use Rattle.cmd_setup.proofs.Ending.{can-end}
+use Rattle.cmd_setup.proofs.Keeping.{keeps-behind}
 use Rattle.cmd_record.specs.Outcomes.{record_work}
 use Rattle.cmd_record.proofs.Meeting.{rose-later, meets-as}
 use Rattle.cmd_record.proofs.ByManifest.{by-told, still-told, met-end, asked-manifest, asked-both}
@@ -60,3 +61,8 @@ returns-clause-judged g c =
     let task = c.args.task.now in
     asked-both task.strict (g.S.Slots.sees c.args.shelf.now) task.manifest.now task.stimulus.now c.in-Ok.setup c.in-Ok.ensures.manifest _
     (asks-then-prefix _ _ _ (task.manifest.now ∷ []) (task.stimulus.now ∷ []) c.read_setup.ensures.asked c.record_named.ensures.asked)
+
+pub returns-clause-earlier : goal.returns-clause-earlier
+returns-clause-earlier g c =
+    keeps-behind (g.S.Slots.sees c.args.shelf.now) (g.S.Slots.sees c.read_setup.new.shelf) (g.S.Slots.sees c.record_named.new.shelf)
+    c.read_setup.ensures.piece c.record_named.ensures.earlier

@@ -2,10 +2,11 @@ use Rattle.std.proofs.Common.{[], ◌∷◌}
 use Rattle.std.specs.Prelude.{IsSome}
 use Rattle.det_edges.proofs.Opening.{asks-all, asks-then-kept, opens-left}
 use Rattle.cli_answers.specs.Outcome.{told}
+use Rattle.cli_answers.proofs.Keeping.{keeps-stay, keeps-read}
 use Rattle.cli_answers.proofs.Meeting.{meets-unopened}
 use Rattle.cli_answers.proofs.Telling.{held}
 use Rattle.cmd_record.proofs.Meeting.{rose-later}
-use Rattle.cmd_record.proofs.Recorded.{met-by-kind, kept-by-kind}
+use Rattle.cmd_record.proofs.Recorded.{met-by-kind, reads-by-kind}
 use Rattle.cmd_record.proofs.over_stimulus.record_named.Goals as goal
 
 pub returns-in-Err-clause-meets : goal.returns-in-Err-clause-meets
@@ -25,4 +26,12 @@ returns-clause-meets g c =
 pub returns-clause-asked : goal.returns-clause-asked
 returns-clause-asked g c =
     asks-all _ _ (c.args.stimulus.now ∷ []) (asks-then-kept c.in-Ok.ensures.asked
-    (kept-by-kind c.args.run.kind c.args.run.profile _ _ _ _ _ _ c.record_by_crew-recorded.ensures.recorded))
+    (reads-by-kind c.args.run.kind c.args.run.profile _ _ _ _ _ _ c.record_by_crew-recorded.ensures.recorded).1.asked)
+
+pub returns-in-Err-clause-earlier : goal.returns-in-Err-clause-earlier
+returns-in-Err-clause-earlier g c = keeps-stay c.in-Err.ensures.slots
+
+pub returns-clause-earlier : goal.returns-clause-earlier
+returns-clause-earlier g c =
+    keeps-read c.in-Ok.ensures.opens
+    (reads-by-kind c.args.run.kind c.args.run.profile _ _ _ _ _ _ c.record_by_crew-recorded.ensures.recorded).1

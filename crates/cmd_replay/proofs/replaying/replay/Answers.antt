@@ -6,7 +6,7 @@ use Rattle.det_edges.proofs.Counts.{rose-before}
 use Rattle.cli_answers.specs.Outcome.{Tells, told}
 use Rattle.recorded_run.proofs.Beginning.{meets-told, if-refused}
 use Rattle.recorded_run.proofs.Ending.{meets-end}
-use Rattle.recorded_run.proofs.Resting.{rest}
+use Rattle.recorded_run.proofs.Resting.{rest, keeps-behind}
 use Rattle.cmd_replay.specs.Replay.{replayed_by}
 use Rattle.cmd_replay.proofs.replaying.replay.Goals as goal
 
@@ -23,7 +23,7 @@ returns-in-Ok-clause-meets g c =
 
 pub returns-in-Ok-clause-asked : goal.returns-in-Ok-clause-asked
 returns-in-Ok-clause-asked g c =
-    asks-all _ _ (c.args.recorded.now ∷ []) (asks-then-kept c.in-Ok.ensures.asked c.replay_by_crew.ensures.asked)
+    asks-all _ _ (c.args.recorded.now ∷ []) (asks-then-kept c.in-Ok.ensures.asked c.replay_by_crew.ensures.reads.1.asked)
 
 pub returns-in-Err-clause-meets : goal.returns-in-Err-clause-meets
 returns-in-Err-clause-meets g c =
@@ -36,3 +36,6 @@ returns-in-Err-clause-meets g c =
     (meets-end (replayed_by (told first name)) (λ why. refl) (told first name) (Tells first (name ∷ [])) (Rose first.faults last.faults)
     (Rose out.faults_before out.faults_after) out.before c.in-Err.end (if-refused first name c.in-Err.end read.refused) read.traffic.cause
     read.writes_nothing)
+
+pub returns-in-Ok-clause-earlier : goal.returns-in-Ok-clause-earlier
+returns-in-Ok-clause-earlier g c = keeps-behind c.in-Ok.ensures.begun c.replay_by_crew.ensures.reads.1

@@ -1,5 +1,5 @@
 use Rattle.det_edges.specs.Traffic.{shelf_run, sink_run}
-use Rattle.cmd_replay.proofs.Meeting.{met-by-kind, kept-by-kind}
+use Rattle.cmd_replay.proofs.Meeting.{met-by-kind, reads-by-kind}
 use Rattle.cmd_replay.proofs.replaying.replay_by_crew.Goals as goal
 
 pub returns-in-Ok-clause-meets : goal.returns-in-Ok-clause-meets
@@ -10,10 +10,10 @@ returns-in-Ok-clause-meets g c read rest stands =
     met-by-kind run.kind run.profile run.frames read shelf out c.in-Ok.replayed stands c.in-Ok.ensures.given rest c.answer_of.result
     c.answer_of.ensures.is
 
-pub returns-in-Ok-clause-asked : goal.returns-in-Ok-clause-asked
-returns-in-Ok-clause-asked g c =
+pub returns-in-Ok-clause-reads : goal.returns-in-Ok-clause-reads
+returns-in-Ok-clause-reads g c =
     let run = c.args.run in
     let shelf = shelf_run g.S.Slots.sees g.S.Slots.stays c.args.shelf.now c.with_crew.new.shelf in
     let out = sink_run g.K.Sink.took g.K.Sink.faults c.args.out.now c.with_crew.new.sink in
     let gave = c.requires.opened.gave in
-    kept-by-kind run.kind run.profile run.frames gave.0 shelf out c.in-Ok.replayed gave.1 c.in-Ok.ensures.given
+    reads-by-kind run.kind run.profile run.frames gave.0 shelf out c.in-Ok.replayed gave.1 c.in-Ok.ensures.given

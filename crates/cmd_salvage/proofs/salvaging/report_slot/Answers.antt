@@ -1,3 +1,5 @@
+use Rattle.std.proofs.Common.{ℕ, subst}
+use Rattle.det_edges.specs.Shelf.{Reads}
 use Rattle.det_edges.specs.Traffic.{shelf_run, sink_run}
 use Rattle.probes.specs.Shows.{seen}
 use Rattle.item_reader.specs.StandsFor.{slot_of}
@@ -23,8 +25,11 @@ returns-clause-saw g c bytes ne t =
     (shelf_run g.S.Slots.sees g.S.Slots.stays c.args.shelf.now s.new.shelf) (slot_of c.new-reader.result) c.args.slot
     c.answer_of.ensures.is c.new-reader.ensures.slot s.ensures.run.1.sees bytes ne t
 
-pub returns-clause-asked : goal.returns-clause-asked
-returns-clause-asked g c = c.report_run-reported.ensures.run.1.gives.reads.asked
+pub returns-clause-reads : goal.returns-clause-reads
+returns-clause-reads g c =
+    let run = c.report_run-reported.ensures.run in
+    let Read : ℕ → Type 0 = λ slot. Reads (g.S.Slots.sees c.args.shelf.now) (g.S.Slots.sees c.report_run-reported.new.shelf) slot run.0 in
+    (run.0, subst Read c.new-reader.ensures.slot run.1.gives.reads)
 
 pub returns-clause-gone : goal.returns-clause-gone
 returns-clause-gone g c =

@@ -3,6 +3,7 @@ use Rattle.det_edges.proofs.Opening.{asks-all, asks-then-kept, opens-left}
 use Rattle.det_edges.proofs.Counts.{rose-before}
 use Rattle.det_edges.proofs.Growth.{grew-none}
 use Rattle.cli_answers.specs.Outcome.{told}
+use Rattle.cli_answers.proofs.Keeping.{keeps-stay, keeps-read}
 use Rattle.cli_answers.proofs.Meeting.{meets-unopened, meets-under}
 use Rattle.cli_answers.proofs.Telling.{held}
 use Rattle.cmd_salvage.proofs.Meeting.{saw-unread}
@@ -34,7 +35,13 @@ returns-clause-saw g c ne t =
     c.report_slot.ensures.saw text ne (opens-left text c.in-Ok.ensures.opens (held (first.holds name) (t 0 name (omega arith))))
 
 pub returns-clause-asked : goal.returns-clause-asked
-returns-clause-asked g c = asks-all _ _ _ (asks-then-kept c.in-Ok.ensures.asked c.report_slot.ensures.asked)
+returns-clause-asked g c = asks-all _ _ _ (asks-then-kept c.in-Ok.ensures.asked c.report_slot.ensures.reads.1.asked)
 
 pub returns-in-Err-clause-broken : goal.returns-in-Err-clause-broken
 returns-in-Err-clause-broken g c e = grew-none (g.K.Sink.took c.args.out.now)
+
+pub returns-in-Err-clause-earlier : goal.returns-in-Err-clause-earlier
+returns-in-Err-clause-earlier g c = keeps-stay c.in-Err.ensures.slots
+
+pub returns-clause-earlier : goal.returns-clause-earlier
+returns-clause-earlier g c = keeps-read c.in-Ok.ensures.opens c.report_slot.ensures.reads.1

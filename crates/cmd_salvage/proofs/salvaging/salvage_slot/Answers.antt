@@ -1,3 +1,5 @@
+use Rattle.std.proofs.Common.{ℕ, subst}
+use Rattle.det_edges.specs.Shelf.{Reads}
 use Rattle.det_edges.specs.Traffic.{shelf_run, sink_run}
 use Rattle.item_reader.specs.StandsFor.{slot_of}
 use Rattle.cmd_salvage.specs.Salvage.{salvage_outcome}
@@ -13,8 +15,11 @@ returns-clause-meets g c bytes =
     out c.answer_of.ensures.is c.new-reader.ensures.slot
     (slot-gives s.result out s.ensures.run.1.answers) bytes s.ensures.shelf_traffic s.ensures.sink_traffic
 
-pub returns-clause-asked : goal.returns-clause-asked
-returns-clause-asked g c = c.salvage_run-saved.ensures.run.1.answers.reads.asked
+pub returns-clause-reads : goal.returns-clause-reads
+returns-clause-reads g c =
+    let run = c.salvage_run-saved.ensures.run in
+    let Read : ℕ → Type 0 = λ slot. Reads (g.S.Slots.sees c.args.shelf.now) (g.S.Slots.sees c.salvage_run-saved.new.shelf) slot run.0 in
+    (run.0, subst Read c.new-reader.ensures.slot run.1.answers.reads)
 
 pub returns-clause-broken : goal.returns-clause-broken
 returns-clause-broken g c bytes e t =

@@ -1,6 +1,7 @@
 use Rattle.std.proofs.Common.{◌≡◌, ◌∙◌, inl, inr, arith}
 use Rattle.std.specs.Prelude.{IsSome}
 use Rattle.cli_answers.specs.Outcome.{told}
+use Rattle.cli_answers.proofs.Keeping.{keeps-stay, keeps-read}
 use Rattle.cli_answers.proofs.Telling.{whole-text}
 use Rattle.cmd_setup.proofs.Reading.{told-ok, told-err, told-too-long, takes}
 use Rattle.cmd_setup.proofs.setup.read_setup.Goals as goal
@@ -44,3 +45,15 @@ returns-clause-refused g c =
     c.deref.ensures.value ∙ whole-text first _ _ name c.in_ok-slot.slot c.in-Ok.text.items c.in_ok-slot.ensures.opens read.0 read.1 tells in
     told-err c.args.strict c.deref.result.now (told first name)
     (IsSome (first.holds name)) same c.setup_of.result c.setup_of.ensures.refused
+
+pub returns-in_err-slot-clause-earlier : goal.returns-in_err-slot-clause-earlier
+returns-in_err-slot-clause-earlier g c = keeps-stay c.in_err-slot.ensures.slots
+
+pub returns-in-Err-Refused-clause-earlier : goal.returns-in-Err-Refused-clause-earlier
+returns-in-Err-Refused-clause-earlier g c = keeps-read c.in_ok-slot.ensures.opens c.in-Err-Refused.ensures.piece.1
+
+pub returns-in-Err-Failed-clause-earlier : goal.returns-in-Err-Failed-clause-earlier
+returns-in-Err-Failed-clause-earlier g c = keeps-read c.in_ok-slot.ensures.opens c.in-Err-Failed.ensures.piece.1
+
+pub returns-clause-earlier : goal.returns-clause-earlier
+returns-clause-earlier g c = keeps-read c.in_ok-slot.ensures.opens c.in-Ok.ensures.piece.1

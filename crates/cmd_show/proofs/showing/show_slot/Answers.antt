@@ -1,3 +1,5 @@
+use Rattle.std.proofs.Common.{ℕ, subst}
+use Rattle.det_edges.specs.Shelf.{Reads}
 use Rattle.det_edges.specs.Traffic.{shelf_run, sink_run}
 use Rattle.probes.specs.Shows.{seen}
 use Rattle.item_reader.specs.StandsFor.{slot_of}
@@ -29,8 +31,11 @@ returns-clause-broken g c bytes e t =
     shown-part s.result c.answer_of.result c.args.part _ _ c.args.slot c.answer_of.ensures.is c.new-reader.ensures.slot s.ensures.run.1 bytes
     e t
 
-pub returns-clause-asked : goal.returns-clause-asked
-returns-clause-asked g c = c.show_run-shown.ensures.run.1.answers.reads.asked
+pub returns-clause-reads : goal.returns-clause-reads
+returns-clause-reads g c =
+    let run = c.show_run-shown.ensures.run in
+    let Read : ℕ → Type 0 = λ slot. Reads (g.S.Slots.sees c.args.shelf.now) (g.S.Slots.sees c.show_run-shown.new.shelf) slot run.0 in
+    (run.0, subst Read c.new-reader.ensures.slot run.1.answers.reads)
 
 pub returns-clause-gone : goal.returns-clause-gone
 returns-clause-gone g c = at-done c.show_run-shown.result c.answer_of.result c.answer_of.ensures.is c.show_run-shown.ensures.run.1.gone

@@ -4,7 +4,7 @@ use Rattle.det_edges.specs.Traffic.{shelf_run, sink_run}
 use Rattle.shipped_jobs.specs.Kinds.{of_kind}
 use Rattle.upgrader.specs.declared.original.Original.{Original}
 use Rattle.cmd_upgrade.specs.Visited.{HasUpgraded}
-use Rattle.cmd_upgrade.proofs.Meeting.{met-by-kind, kept-by-kind}
+use Rattle.cmd_upgrade.proofs.Meeting.{met-by-kind, reads-by-kind}
 use Rattle.cmd_upgrade.proofs.upgrading.upgrade_by_crew.Goals as goal
 
 pub returns-in-Ok-clause-meets : goal.returns-in-Ok-clause-meets
@@ -19,8 +19,8 @@ returns-in-Ok-clause-meets g c read rest stands =
     met-by-kind run.kind run.profile original shelf out c.in-Ok.upgraded format read stands visited rest c.answer_of.result
     c.answer_of.ensures.is
 
-pub returns-in-Ok-clause-asked : goal.returns-in-Ok-clause-asked
-returns-in-Ok-clause-asked g c =
+pub returns-in-Ok-clause-reads : goal.returns-in-Ok-clause-reads
+returns-in-Ok-clause-reads g c =
     let run = c.args.run in
     let original : Original = record { format = c.profile.inside.format; frames = run.frames } in
     let format = ap (λ (p : ProfileValue). p.format) c.profile.view_is in
@@ -29,4 +29,4 @@ returns-in-Ok-clause-asked g c =
     let visited = subst (λ (p : ProfileValue). of_kind (λ S G E L P m. HasUpgraded m p original shelf out c.in-Ok.upgraded) run.kind)
     c.in_format_two-profile.ensures c.in-Ok.ensures.given in
     let gave = c.requires.opened.gave in
-    kept-by-kind run.kind run.profile original shelf out c.in-Ok.upgraded format gave.0 gave.1 visited
+    reads-by-kind run.kind run.profile original shelf out c.in-Ok.upgraded format gave.0 gave.1 visited

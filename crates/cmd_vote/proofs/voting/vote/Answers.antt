@@ -1,7 +1,7 @@
 use Rattle.std.proofs.Common.{sym, ◌∙◌, arith}
 use Rattle.std.proofs.lemmas.List.{length-map}
 use Rattle.det_edges.specs.Traffic.{sink_run}
-use Rattle.open_names.proofs.Copies.{texts, as-many, are-given, are-different}
+use Rattle.open_names.proofs.Copies.{texts, as-many, are-given, are-different, keeps-copies}
 use Rattle.cmd_vote.proofs.Meeting.{meets-voted}
 use Rattle.cmd_vote.proofs.Breaking.{unopened, vote-broke}
 use Rattle.cmd_vote.proofs.voting.vote.Goals as goal
@@ -45,3 +45,7 @@ returns-clause-broken g c fault tells =
     vote-broke c.args.recorded.now c.deref.ensures.value c.in-Ok.ensures.opened (g.S.Slots.sees c.vote.new.shelf)
     (sink_run g.K.Sink.took g.K.Sink.faults c.args.out.now c.vote.new.sink) c.vote.result c.vote.ensures.voted
     (sym c.answer_of.ensures.is ∙ fault) tells
+
+pub returns-clause-earlier : goal.returns-clause-earlier
+returns-clause-earlier g c =
+    keeps-copies c.args.recorded.now c.deref.ensures.value c.in-Ok.ensures.opened c.in-Ok.ensures.earlier c.vote.ensures.reads

@@ -2,7 +2,7 @@ use Rattle.std.proofs.Common.{arith}
 use Rattle.det_edges.specs.StdSink.{NothingTold}
 use Rattle.det_edges.specs.Traffic.{SinkRun}
 use Rattle.det_edges.proofs.Counts.{rose-none}
-use Rattle.open_names.proofs.Copies.{as-many, are-given, are-different}
+use Rattle.open_names.proofs.Copies.{as-many, are-given, are-different, keeps-copies}
 use Rattle.cmd_vote.proofs.Meeting.{meets-dissent, meets-unprinted}
 use Rattle.cmd_vote.proofs.voting.vote_dissent.Goals as goal
 
@@ -39,3 +39,11 @@ returns-clause-meets g c =
     rw c.answer_of.ensures.is
     (meets-unprinted c.args.recorded.now c.deref.ensures.value c.in-Ok.ensures.opened (g.S.Slots.sees c.vote.new.shelf) _
     c.in-Ok.ensures.traffic.counted discarded c.in-Err-vote.stop e.voted e.shelf_traffic e.sink_traffic (λ r. rose-none 0 r))
+
+pub returns-in-Ok-vote-clause-earlier : goal.returns-in-Ok-vote-clause-earlier
+returns-in-Ok-vote-clause-earlier g c =
+    keeps-copies c.args.recorded.now c.deref.ensures.value c.in-Ok.ensures.opened c.in-Ok.ensures.earlier c.vote.ensures.reads
+
+pub returns-clause-earlier : goal.returns-clause-earlier
+returns-clause-earlier g c =
+    keeps-copies c.args.recorded.now c.deref.ensures.value c.in-Ok.ensures.opened c.in-Ok.ensures.earlier c.vote.ensures.reads

@@ -1,8 +1,7 @@
 use Rattle.std.proofs.Common.{[], ◌∷◌, refl, rules}
 use Rattle.cli_words.specs.declared.table.CommandWord.TheVariants as words
 use Rattle.cli_words.specs.Command.{command_seen}
-use Rattle.det_cli.specs.Outcome.{known}
-use Rattle.det_cli.proofs.Joining.{same-known, all-names, workers-fit, runs-command}
+use Rattle.det_cli.proofs.Joining.{same-command, all-names, workers-fit, runs-command}
 use Rattle.det_cli.proofs.program.chain_by.Goals as goal
 
 pub chain-requires : goal.chain-requires
@@ -17,13 +16,14 @@ returns g c audience =
     let stimulus = c.name-3.result.now in
     let is = all-names seen words.Chain c.requires.range c.requires.word refl refl first second stimulus
     c.name.ensures c.name-2.ensures c.name-3.ensures in
-    runs-command (g.S.Slots.sees c.args.shelf.now) _ _ _ _ _ _ _ (known seen) _
-    (same-known seen words.Chain (first ∷ second ∷ stimulus ∷ []) c.requires.word is) (record {
+    runs-command (g.S.Slots.sees c.args.shelf.now) _ _ _ _ _ _ _ seen _
+    (same-command seen words.Chain (first ∷ second ∷ stimulus ∷ []) c.requires.word is) (record {
       meets = c.chain.ensures.meets;
       broken = λ t e. tt;
       ends = c.chain.ensures.ends;
       asked = c.chain.ensures.asked;
       needed = c.chain.ensures.judged;
+      earlier = c.chain.ensures.earlier;
       left = λ e. refl;
       gone = λ e. absurd cc;
       saw = λ t ne. tt;

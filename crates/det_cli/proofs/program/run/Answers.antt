@@ -1,8 +1,7 @@
-use Rattle.std.proofs.Common.{sym}
-use Rattle.std.specs.Prelude.{Some, None}
+use Rattle.std.proofs.Common.{sym, None}
 use Rattle.cli_words.specs.Names.{texts}
 use Rattle.cli_words.specs.Command.{command_seen}
-use Rattle.det_cli.proofs.Joining.{command-in, runs-command, runs-no-command}
+use Rattle.det_cli.proofs.Joining.{runs-words, refuses}
 use Rattle.det_cli.proofs.program.run.Goals as goal
 
 pub run_command-requires-clause-range : goal.run_command-requires-clause-range
@@ -11,11 +10,9 @@ run_command-requires-clause-range g c κs lives =
 
 pub returns-in-Some : goal.returns-in-Some
 returns-in-Some g c =
-    let words = texts c.args.words.now in
-    runs-command (g.S.Slots.sees c.args.shelf.now) _ _ _ _ _ _ _ _ _
-    (command-in words (Some (command_seen c.in-Some.command)) c.in-Some.ensures)
-    c.run_command.ensures
+    runs-words (g.S.Slots.sees c.args.shelf.now) _ _ _ _ _ _ _ _ _ (sym c.in-Some.ensures) c.run_command.ensures
 
 pub returns-in-None : goal.returns-in-None
 returns-in-None g c =
-    runs-no-command (g.S.Slots.sees c.args.shelf.now) _ _ _ _ (command-in (texts c.args.words.now) None c.in-None.ensures)
+    let first = g.S.Slots.sees c.args.shelf.now in
+    runs-words first _ _ _ _ _ _ _ _ None (sym c.in-None.ensures) (refuses first _ _)

@@ -1,12 +1,13 @@
-use Rattle.std.proofs.Common.{ℕ, List, [], ◌∷◌, Bool, true, false, cond, refl, sym, ap, ◌∙◌, arith, rules}
-use Rattle.std.specs.Prelude.{Option, Some, None, is_some}
+use Rattle.std.proofs.Common.{[], ◌∷◌, true, false, refl, sym, ◌∙◌, arith, rules}
+use Rattle.std.specs.Prelude.{Some, None}
 use Rattle.det_edges.proofs.Opening.{asks-all, asks-prefix-none}
+use Rattle.cli_answers.proofs.Keeping.{keeps-same}
 use Rattle.cli_answers.proofs.Meeting.{meets-under}
 use Rattle.cli_words.specs.declared.table.CommandWord.TheVariants as words
-use Rattle.cli_words.specs.Command.{CommandValue, command_seen}
-use Rattle.det_cli.specs.Outcome.{known}
-use Rattle.det_cli.proofs.Joining.{same-known, sole-name, no-name, both-names, workers-fit, is-kept, is-gone, help-is, runs-command}
-use Rattle.det_cli.proofs.Joining.{same-reports, names-enough, runs-no-command}
+use Rattle.cli_words.specs.Command.{command_seen}
+use Rattle.det_cli.proofs.Helping.{help-there}
+use Rattle.det_cli.proofs.Joining.{same-command, sole-name, no-name, both-names, workers-fit, is-kept, is-gone, help-is, runs-command}
+use Rattle.det_cli.proofs.Joining.{same-reports, names-enough}
 use Rattle.det_cli.proofs.program.run_command.Goals as goal
 
 pub record_stimulus-requires : goal.record_stimulus-requires
@@ -18,12 +19,13 @@ returns-in-Demo g c =
     let seen = command_seen c.args.command in
     let names = c.name-first.result.now ∷ [] in
     let is = sole-name seen words.Demo c.requires.range c.in-Demo.is refl refl c.name-first.result.now c.name-first.ensures in
-    runs-command (g.S.Slots.sees c.args.shelf.now) _ _ _ _ _ _ _ (known seen) _ (same-known seen words.Demo names c.in-Demo.is is) (record {
+    runs-command (g.S.Slots.sees c.args.shelf.now) _ _ _ _ _ _ _ seen _ (same-command seen words.Demo names c.in-Demo.is is) (record {
       meets = c.demo.ensures.meets;
       broken = λ t e. tt;
       ends = c.demo.ensures.ends;
       asked = c.demo.ensures.asked;
       needed = λ t. c.demo.ensures.asked;
+      earlier = c.demo.ensures.earlier;
       left = λ e. refl;
       gone = λ e. absurd cc;
       saw = λ t ne. tt;
@@ -35,13 +37,14 @@ returns-in-Record g c =
     let names = c.name-first.result.now ∷ c.name-second.result.now ∷ [] in
     let is = both-names seen words.Record c.requires.range c.in-Record.is refl refl c.name-first.result.now c.name-second.result.now
     c.name-first.ensures c.name-second.ensures in
-    runs-command (g.S.Slots.sees c.args.shelf.now) _ _ _ _ _ _ _ (known seen) _ (same-known seen words.Record names c.in-Record.is is)
+    runs-command (g.S.Slots.sees c.args.shelf.now) _ _ _ _ _ _ _ seen _ (same-command seen words.Record names c.in-Record.is is)
     (record {
       meets = c.record_stimulus.ensures.meets;
       broken = λ t e. tt;
       ends = c.record_stimulus.ensures.ends;
       asked = c.record_stimulus.ensures.asked;
       needed = c.record_stimulus.ensures.judged;
+      earlier = c.record_stimulus.ensures.earlier;
       left = λ e. refl;
       gone = λ e. absurd cc;
       saw = λ t ne. tt;
@@ -53,13 +56,14 @@ returns-in-Needs g c =
     let names = c.name-first.result.now ∷ [] in
     let is = sole-name seen words.Needs c.requires.range c.in-Needs.is refl refl c.name-first.result.now c.name-first.ensures in
     let asked = asks-all _ _ names c.needs.ensures.asked in
-    runs-command (g.S.Slots.sees c.args.shelf.now) _ _ _ _ _ _ _ (known seen) _ (same-known seen words.Needs names c.in-Needs.is is)
+    runs-command (g.S.Slots.sees c.args.shelf.now) _ _ _ _ _ _ _ seen _ (same-command seen words.Needs names c.in-Needs.is is)
     (record {
       meets = meets-under _ _ _ _ _ _ _ _ _ _ (λ t. t 0 c.name-first.result.now (omega arith)) (λ r. r) (λ o. o) c.needs.ensures.meets;
       broken = λ t e. tt;
       ends = c.needs.ensures.ends;
       asked = asked;
       needed = λ t. asked;
+      earlier = c.needs.ensures.earlier;
       left = λ e. refl;
       gone = λ e. absurd cc;
       saw = λ t ne. tt;
@@ -71,13 +75,14 @@ returns-in-Show g c =
     let names = c.name-first.result.now ∷ [] in
     let is = sole-name seen words.Show c.requires.range c.in-Show.is refl refl c.name-first.result.now c.name-first.ensures in
     let part = c.part.ensures in
-    runs-command (g.S.Slots.sees c.args.shelf.now) _ _ _ _ _ _ _ (known seen) _ (same-known seen words.Show names c.in-Show.is is)
+    runs-command (g.S.Slots.sees c.args.shelf.now) _ _ _ _ _ _ _ seen _ (same-command seen words.Show names c.in-Show.is is)
     (record {
       meets = rw (← part) c.show.ensures.meets;
       broken = rw (← part) (λ t e. c.show.ensures.broken e t);
       ends = c.show.ensures.ends;
       asked = c.show.ensures.asked;
       needed = λ t. c.show.ensures.asked;
+      earlier = c.show.ensures.earlier;
       left = rw (← part) (is-kept c.part.result _ _ c.show.ensures.kept);
       gone = rw (← part) (λ e done. is-gone c.part.result _ (c.show.ensures.gone done) e);
       saw = rw (← part) (λ t ne. c.show.ensures.saw ne t);
@@ -88,12 +93,13 @@ returns-in-Sim g c =
     let seen = command_seen c.args.command in
     let first = g.S.Slots.sees c.args.shelf.now in
     let number = c.number.ensures in
-    runs-command first _ _ _ _ _ _ _ (known seen) _ (same-known seen words.Sim seen.names c.in-Sim.is refl) (record {
+    runs-command first _ _ _ _ _ _ _ seen _ (same-command seen words.Sim seen.names c.in-Sim.is refl) (record {
       meets = rw (sym number) (meets-under _ _ _ _ _ _ _ _ _ _ (λ t. tt) (λ r. absurd r) (λ o. o) c.sim.ensures.meets);
       broken = λ t e. tt;
       ends = c.sim.ensures.ends;
       asked = asks-prefix-none first first [] refl;
       needed = λ t. asks-prefix-none first first [] refl;
+      earlier = keeps-same first;
       left = λ e. absurd cc;
       gone = λ e done. c.sim.ensures.gone done;
       saw = rw (sym number) (λ t ne. c.sim.ensures.saw ne);
@@ -103,40 +109,38 @@ pub returns-in-Some : goal.returns-in-Some
 returns-in-Some g c =
     let seen = command_seen c.args.command in
     let first = g.S.Slots.sees c.args.shelf.now in
-    let same : CommandValue = record { word = words.Help; names = seen.names; options = seen.options } in
     let text = help-is (Some c.in-Some.text.now) _ seen.names c.as_slice.ensures.names c.in-Some.ensures in
-    let is = same-known seen words.Help seen.names c.in-Help.is refl
-    ∙ ap (λ (t : Option (List ℕ)). cond (is_some t) (Some same) None) text in
-    runs-command first _ _ _ _ _ _ _ (known seen) (Some same) is (record {
+    runs-command first _ _ _ _ _ _ _ seen _ (same-command seen words.Help seen.names c.in-Help.is refl) (record {
       meets = rw text (meets-under _ _ _ _ _ _ _ _ _ _ (λ t. tt) (λ r. absurd r) (λ o. o) c.print.ensures.meets);
       broken = λ t e. tt;
       ends = c.print.ensures.ends;
       asked = asks-prefix-none first first [] refl;
       needed = λ t. asks-prefix-none first first [] refl;
+      earlier = keeps-same first;
       left = λ e. refl;
       gone = λ e. absurd cc;
       saw = λ t ne. tt;
     })
 
-pub returns-in-None : goal.returns-in-None
-returns-in-None g c =
+pub unreachable-requires : goal.unreachable-requires
+unreachable-requires g c =
     let seen = command_seen c.args.command in
-    let same : CommandValue = record { word = words.Help; names = seen.names; options = seen.options } in
-    let text = help-is None _ seen.names c.as_slice.ensures.names c.in-None.ensures in
-    runs-no-command (g.S.Slots.sees c.args.shelf.now) _ _ _ (known seen)
-    (same-known seen words.Help seen.names c.in-Help.is refl ∙ ap (λ (t : Option (List ℕ)). cond (is_some t) (Some same) None) text)
+    let there = help-there seen c.requires.range c.in-Help.is in
+    let none = sym (help-is None _ seen.names c.as_slice.ensures.names c.in-None.ensures) ∙ there.1 in
+    cc
 
 pub returns-in-Version : goal.returns-in-Version
 returns-in-Version g c =
     let seen = command_seen c.args.command in
     let first = g.S.Slots.sees c.args.shelf.now in
-    runs-command first _ _ _ _ _ _ _ (known seen) _
-    (same-known seen words.Version [] c.in-Version.is (no-name seen words.Version c.requires.range c.in-Version.is refl)) (record {
+    runs-command first _ _ _ _ _ _ _ seen _
+    (same-command seen words.Version [] c.in-Version.is (no-name seen words.Version c.requires.range c.in-Version.is refl)) (record {
       meets = meets-under _ _ _ _ _ _ _ _ _ _ (λ t. tt) (λ r. absurd r) (λ o. o) c.print-in-Version.ensures.meets;
       broken = λ t e. tt;
       ends = c.print-in-Version.ensures.ends;
       asked = asks-prefix-none first first [] refl;
       needed = λ t. asks-prefix-none first first [] refl;
+      earlier = keeps-same first;
       left = λ e. refl;
       gone = λ e. absurd cc;
       saw = λ t ne. tt;
@@ -147,13 +151,14 @@ returns-in-Check g c =
     let seen = command_seen c.args.command in
     let names = c.name-first.result.now ∷ [] in
     let is = sole-name seen words.Check c.requires.range c.in-Check.is refl refl c.name-first.result.now c.name-first.ensures in
-    runs-command (g.S.Slots.sees c.args.shelf.now) _ _ _ _ _ _ _ (known seen) _ (same-known seen words.Check names c.in-Check.is is)
+    runs-command (g.S.Slots.sees c.args.shelf.now) _ _ _ _ _ _ _ seen _ (same-command seen words.Check names c.in-Check.is is)
     (record {
       meets = c.check.ensures.meets;
       broken = λ t e. tt;
       ends = c.check.ensures.ends;
       asked = c.check.ensures.asked;
       needed = λ t. c.check.ensures.asked;
+      earlier = c.check.ensures.earlier;
       left = λ e. absurd cc;
       gone = λ e done. c.check.ensures.gone done;
       saw = λ t ne. c.check.ensures.saw ne t;
@@ -164,13 +169,14 @@ returns-in-Upgrade g c =
     let seen = command_seen c.args.command in
     let names = c.name-first.result.now ∷ [] in
     let is = sole-name seen words.Upgrade c.requires.range c.in-Upgrade.is refl refl c.name-first.result.now c.name-first.ensures in
-    runs-command (g.S.Slots.sees c.args.shelf.now) _ _ _ _ _ _ _ (known seen) _ (same-known seen words.Upgrade names c.in-Upgrade.is is)
+    runs-command (g.S.Slots.sees c.args.shelf.now) _ _ _ _ _ _ _ seen _ (same-command seen words.Upgrade names c.in-Upgrade.is is)
     (record {
       meets = c.upgrade.ensures.meets;
       broken = λ t e. tt;
       ends = c.upgrade.ensures.ends;
       asked = c.upgrade.ensures.asked;
       needed = λ t. c.upgrade.ensures.asked;
+      earlier = c.upgrade.ensures.earlier;
       left = λ e. refl;
       gone = λ e. absurd cc;
       saw = λ t ne. tt;
@@ -199,13 +205,14 @@ returns-in-Replay g c =
     let seen = command_seen c.args.command in
     let names = c.name-first.result.now ∷ [] in
     let is = sole-name seen words.Replay c.requires.range c.in-Replay.is refl refl c.name-first.result.now c.name-first.ensures in
-    runs-command (g.S.Slots.sees c.args.shelf.now) _ _ _ _ _ _ _ (known seen) _ (same-known seen words.Replay names c.in-Replay.is is)
+    runs-command (g.S.Slots.sees c.args.shelf.now) _ _ _ _ _ _ _ seen _ (same-command seen words.Replay names c.in-Replay.is is)
     (record {
       meets = c.replay.ensures.meets;
       broken = λ t e. tt;
       ends = c.replay.ensures.ends;
       asked = c.replay.ensures.asked;
       needed = λ t. c.replay.ensures.asked;
+      earlier = c.replay.ensures.earlier;
       left = λ e. refl;
       gone = λ e. absurd cc;
       saw = λ t ne. tt;
@@ -223,13 +230,14 @@ pub returns-in-Compare : goal.returns-in-Compare
 returns-in-Compare g c =
     let seen = command_seen c.args.command in
     let names = c.as_slice-in-Compare.ensures.names in
-    runs-command (g.S.Slots.sees c.args.shelf.now) _ _ _ _ _ _ _ (known seen) _
-    (same-known seen words.Compare _ c.in-Compare.is (sym names)) (record {
+    runs-command (g.S.Slots.sees c.args.shelf.now) _ _ _ _ _ _ _ seen _
+    (same-command seen words.Compare _ c.in-Compare.is (sym names)) (record {
       meets = c.compare.ensures.meets;
       broken = λ t e. tt;
       ends = c.compare.ensures.ends;
       asked = c.compare.ensures.asked;
       needed = λ t. c.compare.ensures.asked;
+      earlier = c.compare.ensures.earlier;
       left = λ e. refl;
       gone = λ e. absurd cc;
       saw = λ t ne. tt;
@@ -240,13 +248,14 @@ returns-then-command g c =
     let seen = command_seen c.args.command in
     let names = c.name-first.result.now ∷ [] in
     let is = sole-name seen words.Salvage c.requires.range c.in-Salvage.is refl refl c.name-first.result.now c.name-first.ensures in
-    runs-command (g.S.Slots.sees c.args.shelf.now) _ _ _ _ _ _ _ (known seen) _
+    runs-command (g.S.Slots.sees c.args.shelf.now) _ _ _ _ _ _ _ seen _
     (same-reports seen words.Salvage names true c.in-Salvage.is is c.if-command.true) (record {
       meets = c.salvage_reports.ensures.meets;
       broken = λ t e. c.salvage_reports.ensures.broken e;
       ends = c.salvage_reports.ensures.ends;
       asked = c.salvage_reports.ensures.asked;
       needed = λ t. c.salvage_reports.ensures.asked;
+      earlier = c.salvage_reports.ensures.earlier;
       left = λ e. absurd cc;
       gone = λ e done. c.salvage_reports.ensures.gone done;
       saw = λ t ne. c.salvage_reports.ensures.saw ne t;
@@ -257,13 +266,14 @@ returns-else-command g c =
     let seen = command_seen c.args.command in
     let names = c.name-first.result.now ∷ [] in
     let is = sole-name seen words.Salvage c.requires.range c.in-Salvage.is refl refl c.name-first.result.now c.name-first.ensures in
-    runs-command (g.S.Slots.sees c.args.shelf.now) _ _ _ _ _ _ _ (known seen) _
+    runs-command (g.S.Slots.sees c.args.shelf.now) _ _ _ _ _ _ _ seen _
     (same-reports seen words.Salvage names false c.in-Salvage.is is c.if-command.false) (record {
       meets = c.salvage.ensures.meets;
       broken = λ t e. c.salvage.ensures.broken e t;
       ends = c.salvage.ensures.ends;
       asked = c.salvage.ensures.asked;
       needed = λ t. c.salvage.ensures.asked;
+      earlier = c.salvage.ensures.earlier;
       left = λ e. refl;
       gone = λ e. absurd cc;
       saw = λ t ne. tt;

@@ -1,6 +1,7 @@
 use Rattle.std.proofs.Common.{◌≡◌, map, take, None}
 use Rattle.det_edges.specs.Shelf.{Asks}
 use Rattle.det_edges.specs.Traffic.{ShelfTraffic, shelf_run}
+use Rattle.cli_answers.specs.Slots.{KeepsSlots}
 use Rattle.open_names.specs.Opened.{Opened}
 use Rattle.open_names.proofs.opening.open_all.Given as goal
 
@@ -9,6 +10,7 @@ invariant-names g l = record {
   opened : Opened (g.S.Slots.sees l.fn.shelf) (g.S.Slots.sees l.shelf) (map (λ name. name.now) (take l.name-index l.names))
       l.slots.items;
   asked : Asks (g.S.Slots.sees l.fn.shelf) (g.S.Slots.sees l.shelf) (map (λ name. name.now) (take l.name-index l.names));
+  earlier : KeepsSlots (g.S.Slots.sees l.fn.shelf) (g.S.Slots.sees l.shelf);
   holds : (g.S.Slots.sees l.shelf).holds ≡ (g.S.Slots.sees l.fn.shelf).holds;
   traffic : ShelfTraffic (shelf_run g.S.Slots.sees g.S.Slots.stays l.fn.shelf l.shelf) None;
 }
