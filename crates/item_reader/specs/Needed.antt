@@ -1,4 +1,4 @@
--- Bytes that were read for want of others, and of those before the last of which something is known.
+-- Bytes that were read one piece after another, and what was so before the last piece.
 use Rattle.std.specs.Prelude.{◌≡◌, ◌≢◌, ℕ, ◌⊎◌, List, [], ◌++◌}
 
 -- this was so before the last of these bytes were read

@@ -57,12 +57,18 @@ running-new taking state reader took gave stands none = record {
 needed-then : (given : List Item) (read more : List ℕ) → IsNeeded given read → ReadsIfNeeded read given more → IsNeeded given (read ++ more)
 needed-then given read more before need =
     while-then (λ first. IsPrefix (items_in first) given × (fault_so_far first ≡ None)) read more before
-    (while-weaker _ _ more (λ first all. (subst (IsPrefix (items_in (read ++ first))) all.0 (prefix-same (items_in (read ++ first))), all.1)) need)
+    (while-weaker _ _ more (λ first all. (
+      subst (IsPrefix (items_in (read ++ first))) all.0 (prefix-same (items_in (read ++ first))),
+      all.1,
+    )) need)
 
 -- what was needed for some items was needed for one more
 needed-longer : (given : List Item) (item : Item) (read : List ℕ) → IsNeeded given read → IsNeeded (given ++ item ∷ []) read
 needed-longer given item read h =
-    while-weaker _ _ read (λ first p. (prefix-then (items_in first) given (given ++ item ∷ []) p.0 (prefix-append given (item ∷ [])), p.1)) h
+    while-weaker _ _ read (λ first p. (
+      prefix-then (items_in first) given (given ++ item ∷ []) p.0 (prefix-append given (item ∷ [])),
+      p.1,
+    )) h
 
 -- what a reader answers, by all bytes that were read
 abbrev pub Answered : {E : Type 0} {taking : Taking E} {first mid : ShelfState} {slot : ℕ} {reader : ItemReader}
