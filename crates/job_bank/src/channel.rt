@@ -3,7 +3,9 @@
 ghost use Rattle.std.specs.Prelude.{◌≡◌, ◌≤◌, ◌++◌, IfOk, OnOk, length};
 ghost use Rattle.std.specs.List.{All};
 ghost use Rattle.det_values.specs.Limits.{IsSampleValue};
-ghost use Rattle.det_values.specs.Spelling.{Grows};
+ghost use Rattle.det_values.specs.Spelling.{Grows, an_element, spelled_drawn};
+ghost use Rattle.det_values.specs.Spelling.{spelled_u16, spelled_u32};
+ghost use Rattle.job_shared.specs.Bytes.{u16_bytes, i64_bytes};
 ghost use Rattle.job_shared.specs.Samples.{IsSample};
 ghost use Rattle.job_bank.specs.Meaning.{level_after, first_channels, shown};
 ghost use Rattle.job_bank.specs.Ranges.{Own};
@@ -48,6 +50,17 @@ pub(crate) fn first_channels(alloc: Global, bank: &Bank) -> Result<Container<Cha
     Ok(channels)
 }
 
+/// Event and level.
+#[inline(always)]
+fn bytes_of(channel: &Channel) -> [u8; 10]
+    ensures { result ≡ u16_bytes channel.now.event ++ i64_bytes channel.now.level }
+{
+    let mut bytes = [0; 10];
+    bytes[..2].copy_from_slice(&channel.event.to_be_bytes());
+    bytes[2..].copy_from_slice(&channel.level.to_be_bytes());
+    bytes
+}
+
 /// Appends the level, and before it the event where there are several: 8 or 10 bytes.
 #[inline(always)]
 pub(crate) fn put_channel(
@@ -58,10 +71,54 @@ pub(crate) fn put_channel(
     ensures ok { OnOk result (out.new.items ≡ out.old.items ++ shown bank.now channel.now) }
     ensures grows { Grows out.old.items out.new.items }
 {
-    let mut bytes = [0; 10];
-    bytes[..2].copy_from_slice(&channel.event.to_be_bytes());
-    bytes[2..].copy_from_slice(&channel.level.to_be_bytes());
+    let bytes = bytes_of(channel);
     let skipped = if bank.events >= 2 { 0 } else { 2 };
     out.extend_from_slice(&bytes[skipped..])?;
     Ok(())
+}
+
+/// Event and level, with their number before them and the draws after them.
+#[inline(always)]
+#[tactic(auto, unfolding(det_values::specs::Spelling::spelled_u16, det_values::specs::Spelling::spelled_u32))]
+fn drawn_with_event(channel: &Channel, draws: u32) -> [u8; 16]
+    ensures { result ≡ spelled_u16 10
+        ++ ((u16_bytes channel.now.event ++ i64_bytes channel.now.level) ++ spelled_u32 draws) }
+{
+    let mut bytes = [0; 16];
+    bytes[..2].copy_from_slice(&10u16.to_be_bytes());
+    bytes[2..12].copy_from_slice(&bytes_of(channel));
+    bytes[12..].copy_from_slice(&draws.to_be_bytes());
+    bytes
+}
+
+/// The level, with the number of its bytes before it and the draws after it.
+#[inline(always)]
+#[tactic(auto, unfolding(det_values::specs::Spelling::spelled_u16, det_values::specs::Spelling::spelled_u32))]
+fn drawn_level(channel: &Channel, draws: u32) -> [u8; 14]
+    ensures { result ≡ spelled_u16 8 ++ (i64_bytes channel.now.level ++ spelled_u32 draws) }
+{
+    let mut bytes = [0; 14];
+    bytes[..2].copy_from_slice(&8u16.to_be_bytes());
+    bytes[2..10].copy_from_slice(&channel.level.to_be_bytes());
+    bytes[10..].copy_from_slice(&draws.to_be_bytes());
+    bytes
+}
+
+/// Appends the same as `put_channel` with the number of its bytes and the draws, at once.
+#[inline(always)]
+#[tactic(auto, unfolding(det_values::specs::Spelling::spelled_drawn))]
+pub(crate) fn put_drawn_channel(
+    bank: &Bank,
+    channel: &Channel,
+    draws: u32,
+    out: &mut Vec<u8>,
+) -> Result<(), OutOfMemory>
+    ensures { OnOk result (out.new.items ≡ out.old.items
+        ++ spelled_drawn (an_element (shown bank.now channel.now) draws)) }
+{
+    if bank.events >= 2 {
+        Ok(out.extend_from_slice(&drawn_with_event(channel, draws))?)
+    } else {
+        Ok(out.extend_from_slice(&drawn_level(channel, draws))?)
+    }
 }

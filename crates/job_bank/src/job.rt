@@ -1,6 +1,6 @@
 //! The bank as a job.
 
-use crate::channel::{first_channels, level_after, put_channel};
+use crate::channel::{first_channels, level_after, put_channel, put_drawn_channel};
 use crate::summary::{joined, output, summary_of};
 use crate::{Bank, Channel, Summary};
 use det_client::Client;
@@ -105,6 +105,16 @@ impl Job for Bank {
     #[inline(always)]
     fn put_element(&self, element: &Channel, out: &mut Vec<u8>) -> Result<(), OutOfMemory> {
         put_channel(self, element, out)
+    }
+
+    #[inline(always)]
+    fn put_drawn(
+        &self,
+        element: &Channel,
+        draws: u32,
+        out: &mut Vec<u8>,
+    ) -> Result<(), OutOfMemory> {
+        put_drawn_channel(self, element, draws, out)
     }
 
     fn conclude(

@@ -11,7 +11,7 @@ ghost use Rattle.job_cloud.specs.Steps.{landing, step_of, words_drawn};
 ghost use Rattle.job_cloud.specs.Ranges.{IsPlace, Own, IsPartOf};
 
 use crate::best::{best_of, is_far, joined, output};
-use crate::particle::{first_particles, moved, put_particle};
+use crate::particle::{first_particles, moved, put_drawn_particle, put_particle};
 use crate::steps::random_step;
 use crate::{Best, Cloud, Particle, Target};
 use det_client::Client;
@@ -202,6 +202,16 @@ impl Job for Cloud {
     #[inline(always)]
     fn put_element(&self, element: &Particle, out: &mut Vec<u8>) -> Result<(), OutOfMemory> {
         put_particle(element, out)
+    }
+
+    #[inline(always)]
+    fn put_drawn(
+        &self,
+        element: &Particle,
+        draws: u32,
+        out: &mut Vec<u8>,
+    ) -> Result<(), OutOfMemory> {
+        put_drawn_particle(element, draws, out)
     }
 
     fn conclude(

@@ -3,7 +3,8 @@
 ghost use Rattle.std.specs.Prelude.{◌≡◌, ◌<◌, ◌≤◌, ◌++◌, IfOk, OnOk, length};
 ghost use Rattle.std.specs.List.{All};
 ghost use Rattle.det_values.specs.Limits.{IsSampleValue};
-ghost use Rattle.det_values.specs.Spelling.{Grows};
+ghost use Rattle.det_values.specs.Spelling.{Grows, an_element, spelled_drawn};
+ghost use Rattle.det_values.specs.Spelling.{spelled_u16, spelled_u32};
 ghost use Rattle.job_cloud.specs.Meaning.{first_particles, distance, moved, shown};
 ghost use Rattle.job_cloud.specs.Ranges.{Own, IsPlace};
 
@@ -74,6 +75,19 @@ fn bytes_of(particle: &Particle) -> [u8; 20]
     bytes
 }
 
+/// The same with their number before them and the draws after them.
+#[inline(always)]
+#[tactic(auto, unfolding(det_values::specs::Spelling::spelled_u16, det_values::specs::Spelling::spelled_u32))]
+fn drawn_bytes(particle: &Particle, draws: u32) -> [u8; 26]
+    ensures { result ≡ spelled_u16 20 ++ (shown particle.now ++ spelled_u32 draws) }
+{
+    let mut bytes = [0; 26];
+    bytes[..2].copy_from_slice(&20u16.to_be_bytes());
+    bytes[2..22].copy_from_slice(&bytes_of(particle));
+    bytes[22..].copy_from_slice(&draws.to_be_bytes());
+    bytes
+}
+
 /// Appends number and coordinates.
 #[inline(always)]
 pub(crate) fn put_particle(particle: &Particle, out: &mut Vec<u8>) -> Result<(), OutOfMemory>
@@ -82,4 +96,18 @@ pub(crate) fn put_particle(particle: &Particle, out: &mut Vec<u8>) -> Result<(),
 {
     out.extend_from_slice(&bytes_of(particle))?;
     Ok(())
+}
+
+/// Appends the same bytes with their number and the draws, at once.
+#[inline(always)]
+#[tactic(auto, unfolding(det_values::specs::Spelling::spelled_drawn))]
+pub(crate) fn put_drawn_particle(
+    particle: &Particle,
+    draws: u32,
+    out: &mut Vec<u8>,
+) -> Result<(), OutOfMemory>
+    ensures { OnOk result (out.new.items ≡ out.old.items
+        ++ spelled_drawn (an_element (shown particle.now) draws)) }
+{
+    Ok(out.extend_from_slice(&drawn_bytes(particle, draws))?)
 }

@@ -2,7 +2,8 @@
 
 ghost use Rattle.std.specs.Prelude.{◌≡◌, ◌≤◌, ◌++◌, IfOk, OnOk, length};
 ghost use Rattle.std.specs.List.{All};
-ghost use Rattle.det_values.specs.Spelling.{Grows};
+ghost use Rattle.det_values.specs.Spelling.{Grows, an_element, spelled_drawn};
+ghost use Rattle.det_values.specs.Spelling.{spelled_u16, spelled_u32};
 ghost use Rattle.job_shared.specs.Samples.{IsSample};
 ghost use Rattle.job_trait.specs.Meaning.{Agrees};
 ghost use Rattle.job_guard.specs.Meaning.{first_channels, reading, corrected, holding, judged};
@@ -142,4 +143,31 @@ pub(crate) fn put_channel(channel: &Channel, out: &mut Vec<u8>) -> Result<(), Ou
 {
     out.extend_from_slice(&bytes_of(channel))?;
     Ok(())
+}
+
+/// The same with their number before them and the draws after them.
+#[inline(always)]
+#[tactic(auto, unfolding(det_values::specs::Spelling::spelled_u16, det_values::specs::Spelling::spelled_u32))]
+fn drawn_bytes(channel: &Channel, draws: u32) -> [u8; 20]
+    ensures { result ≡ spelled_u16 14 ++ (shown channel.now ++ spelled_u32 draws) }
+{
+    let mut bytes = [0; 20];
+    bytes[..2].copy_from_slice(&14u16.to_be_bytes());
+    bytes[2..16].copy_from_slice(&bytes_of(channel));
+    bytes[16..].copy_from_slice(&draws.to_be_bytes());
+    bytes
+}
+
+/// Appends the same bytes with their number and the draws, at once.
+#[inline(always)]
+#[tactic(auto, unfolding(det_values::specs::Spelling::spelled_drawn))]
+pub(crate) fn put_drawn_channel(
+    channel: &Channel,
+    draws: u32,
+    out: &mut Vec<u8>,
+) -> Result<(), OutOfMemory>
+    ensures { OnOk result (out.new.items ≡ out.old.items
+        ++ spelled_drawn (an_element (shown channel.now) draws)) }
+{
+    Ok(out.extend_from_slice(&drawn_bytes(channel, draws))?)
 }

@@ -6,7 +6,7 @@ ghost use Rattle.job_trait.specs.Laws.{CoverTogether, CoversBoth};
 ghost use Rattle.job_guard.specs.Meaning.{joined};
 ghost use Rattle.job_guard.specs.Ranges.{IsPartOf};
 
-use crate::channel::{first_channels, judged, put_channel, reading};
+use crate::channel::{first_channels, judged, put_channel, put_drawn_channel, reading};
 use crate::report::output;
 use crate::{Channel, Guard};
 use det_client::Client;
@@ -134,6 +134,16 @@ impl Job for Guard {
     #[inline(always)]
     fn put_element(&self, element: &Channel, out: &mut Vec<u8>) -> Result<(), OutOfMemory> {
         put_channel(element, out)
+    }
+
+    #[inline(always)]
+    fn put_drawn(
+        &self,
+        element: &Channel,
+        draws: u32,
+        out: &mut Vec<u8>,
+    ) -> Result<(), OutOfMemory> {
+        put_drawn_channel(element, draws, out)
     }
 
     fn conclude(

@@ -13,12 +13,11 @@ ghost use Rattle.pass_in_blocks.specs.Showing.{AreSpelled, AreBlocksOf, shown_in
 use crate::answers::BlockDone;
 use crate::draws::block_sums;
 use crate::spelled_blocks::SpelledBlocks;
-use det_values::put::{fill_u16, put_u32};
 use det_values::{DrawnElements, OutOfMemory};
 use job_trait::{Job, PassOf};
 use std::alloc::Global;
 
-/// Appends an element's bytes and draws. Their length is put into its place when it is known.
+/// Appends an element with its draws.
 #[inline(always)]
 fn put_shown<J: Job>(
     job: &J,
@@ -32,12 +31,7 @@ fn put_shown<J: Job>(
     ensures fields { OnOk result (
         IsDrawn (an_element (J.meaning.shown job.now element.now) draws)) }
 {
-    let at = out.len();
-    out.extend_from_slice(&[0, 0])?;
-    job.put_element(element, out)?;
-    let length = out.len() - at - 2;
-    fill_u16(out, at, length as u16);
-    put_u32(out, draws)?;
+    job.put_drawn(element, draws, out)?;
     Ok(())
 }
 
