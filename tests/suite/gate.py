@@ -9,8 +9,8 @@ from typing import Optional
 
 from suite.test import TOP, Programs, Test, ended
 
-# A stand-in that takes some seconds: in its crate's folder, for its tests, and elsewhere.
-PROVER = "for ((i = 0; i < 500000; i++)); do :; done"
+# A stand-in that takes some seconds, which the script has to see in time: in its crate's folder, for its tests, and elsewhere.
+PROVER = "for ((i = 0; i < 2000000; i++)); do :; done"
 COMMAND = f"""cd low && bash -c '{PROVER}' --crate-name low src/lib.rt &
 cd low && bash -c '{PROVER}' --crate-name low src/lib.rt --test &
 cd edit && bash -c '{PROVER}' --crate-name low src/lib.rt &
