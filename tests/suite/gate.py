@@ -9,7 +9,8 @@ from typing import Optional
 
 from suite.test import TOP, Programs, Test, ended
 
-# A stand-in that takes some seconds, which the script has to see in time: in its crate's folder, for its tests, and elsewhere.
+# A stand-in: in its crate's folder, for its tests, and elsewhere. It takes some seconds, so that the
+# script sees it in time on a busy machine too.
 PROVER = "for ((i = 0; i < 2000000; i++)); do :; done"
 COMMAND = f"""cd low && bash -c '{PROVER}' --crate-name low src/lib.rt &
 cd low && bash -c '{PROVER}' --crate-name low src/lib.rt --test &
