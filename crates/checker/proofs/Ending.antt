@@ -32,7 +32,8 @@ use Rattle.lockstep.specs.FirstDifference.{frame_difference}
 use Rattle.checker.specs.declared.comparing.Checker.{Checker}
 use Rattle.checker.specs.declared.verdict.CheckVerdict.{CheckVerdict}
 use Rattle.checker.specs.declared.verdict.CheckVerdict.TheVariants.{Genuine, Departs}
-use Rattle.checker.specs.Departure.{frame_in, frames_in, run_of, departure, checked_runs}
+use Rattle.checker.specs.Departure.{frames_in, run_of, departure, checked_runs}
+use Rattle.record_reader.specs.InItems.{frame_in}
 use Rattle.checker.specs.Given.{given_frame}
 use Rattle.checker.specs.Needed.{IsNeeded}
 use Rattle.checker.specs.Verdict.{verdict_by, check_verdict}

@@ -29,7 +29,8 @@ use Rattle.record_laws.proofs.Whole.{IsStuck, reads}
 use Rattle.record_laws.proofs.Growing.{items_grow}
 use Rattle.lockstep.specs.declared.difference.Difference.{Difference}
 use Rattle.replayer.specs.Again.{input_in}
-use Rattle.checker.specs.Departure.{frame_in, frames_in, run_of, given_by, genuine_frames, departure, checked_runs}
+use Rattle.checker.specs.Departure.{frames_in, run_of, given_by, genuine_frames, departure, checked_runs}
+use Rattle.record_reader.specs.InItems.{frame_in}
 use Rattle.checker.specs.Needed.{IsNeeded}
 use Rattle.checker.proofs.Departing.{inputs_of, AreInOrder, departs, agrees, AreSame, all-same, departs-stays, departs-on, agrees-all}
 

@@ -6,12 +6,11 @@ use Rattle.std.specs.Option.{is_none, option_or}
 use Rattle.det_values.specs.Values.{ProfileValue}
 use Rattle.det_values.specs.declared.frames.RunFrame.{RunFrame}
 use Rattle.det_values.specs.declared.frames.Frame.{Frame}
-use Rattle.det_values.specs.declared.frames.Frame.TheVariants.{Run}
 use Rattle.job_trait.specs.Meaning.{Meaning}
 use Rattle.cycle_engine.specs.Frames.{frames}
-use Rattle.record_grammar.specs.declared.item.Item.{Item}
 use Rattle.record_grammar.specs.declared.item.Item.TheVariants as items
 use Rattle.record_grammar.specs.Record.{items as items_in}
+use Rattle.record_reader.specs.InItems.{frame_in, run_in}
 use Rattle.lockstep.specs.declared.difference.Difference.{Difference}
 use Rattle.lockstep.specs.FirstDifference.{frame_difference}
 use Rattle.replayer.specs.Again.{inputs}
@@ -33,18 +32,12 @@ departure_from number others later = None
 
 -- ---- the frames of a record
 
--- the frame of an item, and none of a header
-abbrev pub frame_in : Item → List Frame
-frame_in (items.Frame frame) = frame ∷ []
-frame_in (items.Header profile) = []
-
 abbrev pub frames_in : List ℕ → List Frame
 frames_in record_bytes = flat_map frame_in (items_in record_bytes)
 
 -- the run of a frame, or none
 abbrev pub run_of : Frame → List RunFrame
-run_of (Run run) = run ∷ []
-run_of frame = []
+run_of frame = run_in (items.Frame frame)
 
 module _ {S G E L P : Type 0} (m : Meaning S G E L P) (profile : ProfileValue) where
   -- the frames of the whole run that a record's inputs give

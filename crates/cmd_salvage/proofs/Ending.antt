@@ -1,8 +1,11 @@
 -- How reports of a record end, by how the reading did.
 use Rattle.std.proofs.Common.{◌≡◌, ℕ, Bool, true, false, cond, List, [], ◌∷◌, ◌++◌, length, Option, Some, None, Result, Ok, Err, OnOk}
 use Rattle.std.proofs.Common.{refl, sym, ap, subst, ◌∙◌, append-nil, arith}
-use Rattle.std.specs.List.{list_any}
+use Rattle.std.specs.Prelude.{codes}
+use Rattle.std.specs.List.{flat_map, list_any}
 use Rattle.std.specs.Option.{option_map}
+use Rattle.det_values.specs.declared.frames.Frame.TheVariants.{Terminate}
+use Rattle.det_values.specs.Values.{ProfileValue}
 use Rattle.det_edges.specs.declared.failure.Failure.{Failure}
 use Rattle.det_edges.specs.declared.failure.Failure.TheVariants.{Read, Write, OutOfMemory}
 use Rattle.det_edges.specs.declared.failure.Stopped.{Stopped}
@@ -16,15 +19,16 @@ use Rattle.record_grammar.specs.declared.fault.RecordFault.{RecordFault}
 use Rattle.record_grammar.specs.declared.item.Item.{Item}
 use Rattle.record_grammar.specs.declared.item.Item.TheVariants as items
 use Rattle.record_grammar.specs.Record.{items as items_in, fault as fault_in}
-use Rattle.record_text.specs.Summaries.{salvaged_line}
+use Rattle.record_grammar.specs.Spelling.{spelled}
+use Rattle.record_text.specs.Words.{number_line}
 use Rattle.record_reader.specs.Keeping.{IsHeaded}
-use Rattle.record_reader.specs.Salvaged.{is_init, made_whole, salvaged_from}
+use Rattle.record_reader.specs.Salvaged.{kept, is_init, salvaged_from}
 use Rattle.record_reader.specs.Salvages.{settled_by}
 use Rattle.record_reader.specs.Taking.{AreAll, RecordRead, StopsAt, ItemsRead}
 use Rattle.record_reader.proofs.Ending.{settled-failure}
 use Rattle.record_reader.proofs.Items.{whole_has_init}
 use Rattle.record_reader.proofs.Taking.{of-slot}
-use Rattle.record_show.specs.Text.{runs_in}
+use Rattle.record_reader.specs.InItems.{runs_in}
 use Rattle.probes.specs.Reports.{ProbeLife, AudienceState, reported, reports, in_turn, staying}
 use Rattle.probes.specs.Shows.{Shows}
 use Rattle.probes.proofs.Shown.{all-reports}
@@ -38,6 +42,9 @@ use Rattle.cmd_salvage.specs.Ended.{Gives, SawFirst, Sees, Ended}
 -- ---- what can be saved
 
 -- a record is saved where Init is among its items
+abbrev made_whole : ProfileValue → List Item → List ℕ
+made_whole p xs = spelled p (flat_map kept xs ++ Terminate ∷ [])
+
 some_from : (given : List Item) → IsHeaded given → list_any is_init given ≡ true → (saved : List ℕ) × (salvaged_from given ≡ Some saved)
 some_from [] headed e = absurd cc
 some_from (items.Header p ∷ xs) headed e = (made_whole p xs, ap (λ (b : Bool). cond b (Some (made_whole p xs)) None) e)
@@ -55,7 +62,7 @@ outcome_of audience bytes saved = outcome_by (option_map (λ s. salvaged_text au
 
 -- the text of a record is that of a watch and an audience that was shown all its runs
 pub record AllSeen (first mid : AudienceState) (cycles : ℕ) (bytes : List ℕ) : Type 0 where
-  pub is : salvage_reports_outcome first bytes ≡ text_outcome (salvaged_line cycles ++ reported mid [])
+  pub is : salvage_reports_outcome first bytes ≡ text_outcome (number_line (codes "salvaged") cycles ++ reported mid [])
   pub shows : Shows first mid (runs_in (items_in bytes))
 
 module _ (first mid : AudienceState) (watch : Watch) (given : List Item) (bytes : List ℕ) where
@@ -65,8 +72,8 @@ module _ (first mid : AudienceState) (watch : Watch) (given : List Item) (bytes 
       record {
         is = ap (outcome_of first bytes) (ap salvaged_from all ∙ some.1)
             ∙ ap (λ (xs : List Item). text_outcome (salvaged_text first xs)) all
-            ∙ ap (λ (n : ℕ). text_outcome (salvaged_line n ++ reported first (runs_in given))) (sym h.cycles)
-            ∙ ap (λ (more : List ℕ). text_outcome (salvaged_line watch.cycles ++ more)) (sym (all-reports h.shows));
+            ∙ ap (λ (n : ℕ). text_outcome (number_line (codes "salvaged") n ++ reported first (runs_in given))) (sym h.cycles)
+            ∙ ap (λ (more : List ℕ). text_outcome (number_line (codes "salvaged") watch.cycles ++ more)) (sym (all-reports h.shows));
         shows = subst (λ (xs : List Item). Shows first mid (runs_in xs)) (sym all) h.shows;
       }
 
@@ -152,7 +159,7 @@ Written (Err (Failed Write)) text out = GrewByPrefix out.before out.after text
 Written (Err stop) text out = ⊥
 
 gives-written : (first mid : AudienceState) (result : Result (Unit {0}) (Stopped RecordFault)) (cycles : ℕ) (bytes : List ℕ) (out : SinkRun)
-    → AllSeen first mid cycles bytes → Written result (salvaged_line cycles ++ reported mid []) out
+    → AllSeen first mid cycles bytes → Written result (number_line (codes "salvaged") cycles ++ reported mid []) out
     → Gives result (salvage_reports_outcome first bytes) out
 gives-written first mid (Ok u) cycles bytes out all grew = (
   ap (λ (o : Outcome). o.answer) all.is,
@@ -227,12 +234,14 @@ module _ {first mid : AudienceState} {watch : Watch} {shelf : ShelfRun} {slot : 
 
   pub ended-written : (read result : Result (Unit {0}) (Stopped RecordFault)) (now : AudienceState) (text : List ℕ) (out : SinkRun)
       → settled_by watch.has_begun read ≡ Ok tt → (h : ItemsRead read (watching first mid watch) shelf slot no_sink)
-      → now.left ≡ reported mid [] → now.seeing ≡ [] → text ≡ salvaged_line watch.cycles ++ now.left → Written result text out
+      → now.left ≡ reported mid [] → now.seeing ≡ [] → text ≡ number_line (codes "salvaged") watch.cycles ++ now.left
+      → Written result text out
       → Ended result first now h.read shelf slot out
   ended-written read result now text out settled h left none is written = record {
     gives = of-slot _ (λ bytes. Gives result (salvage_reports_outcome first bytes) out)
         (λ bytes r. gives-written first mid result watch.cycles bytes out (all bytes r)
-        (subst (λ (t : List ℕ). Written result t out) (is ∙ ap (λ (more : List ℕ). salvaged_line watch.cycles ++ more) left) written))
+        (subst (λ (t : List ℕ). Written result t out)
+        (is ∙ ap (λ (more : List ℕ). number_line (codes "salvaged") watch.cycles ++ more) left) written))
         h.record_read;
     sees = of-slot _ (λ bytes. Sees result first now bytes)
         (λ bytes r. sees-written result first now bytes (saw-all first mid now watch.cycles bytes (all bytes r) left none)) h.record_read;

@@ -1,5 +1,5 @@
 -- An item that is noted and shown.
-use Rattle.std.proofs.Common.{◌≡◌, ◌<◌, ℕ, ◌+◌, Bool, false, ◌||◌, List, [], ◌∷◌, ◌++◌, Ok, Err, refl}
+use Rattle.std.proofs.Common.{◌≡◌, ◌<◌, ℕ, ◌+◌, Bool, false, ◌||◌, List, [], ◌∷◌, ◌++◌, length, Ok, Err, refl}
 use Rattle.std.proofs.Common.{sym, ap, subst, ◌∙◌, append-nil, arith}
 use Rattle.std.proofs.lemmas.Grind.{flat_map-append}
 use Rattle.det_values.specs.declared.frames.RunFrame.{RunFrame}
@@ -8,13 +8,14 @@ use Rattle.det_edges.specs.declared.failure.Stopped.TheVariants.{Failed}
 use Rattle.det_edges.proofs.Growth.{grew-none}
 use Rattle.det_edges.proofs.Prefixes.{prefix-none}
 use Rattle.record_grammar.specs.declared.item.Item.{Item}
-use Rattle.record_reader.specs.Salvaged.{is_init, runs_in as cycles_in}
+use Rattle.record_reader.specs.Salvaged.{is_init}
 use Rattle.record_view.specs.declared.view.ItemView.{ItemView}
 use Rattle.record_reader.specs.Taking.{AreFirst, IsNext, Takes}
 use Rattle.record_reader.proofs.Items.{NextIs, next_is}
 use Rattle.record_reader.proofs.Kept.{Adds, adds}
-use Rattle.record_reader.proofs.Pieces.{headed-next, begun-next, sum-next, cycles-room}
-use Rattle.record_show.specs.Text.{run_in, runs_in}
+use Rattle.record_reader.proofs.Pieces.{headed-next, begun-next, cycles-next, cycles-room}
+use Rattle.record_reader.specs.InItems.{runs_in}
+use Rattle.record_reader.specs.InItems.{run_in}
 use Rattle.probes.specs.Reports.{AudienceState}
 use Rattle.probes.specs.Shows.{Shows}
 use Rattle.probes.proofs.Shown.{shows-none, shows-then}
@@ -44,8 +45,8 @@ module _ (first mid now : AudienceState) (given : List Item) (item : Item) (view
     headed = headed-next given item next;
     has_begun = noted.has_begun ∙ ap (λ (b : Bool). b || old.has_begun) adds.begins
         ∙ ap (λ (b : Bool). is_init item || b) h.has_begun ∙ sym (begun-next given item);
-    cycles = noted.cycles ∙ ap (λ (n : ℕ). old.cycles + n) adds.runs ∙ ap (λ (n : ℕ). n + cycles_in item) h.cycles
-        ∙ sym (sum-next cycles_in given item);
+    cycles = noted.cycles ∙ ap (λ (n : ℕ). old.cycles + n) adds.runs ∙ ap (λ (n : ℕ). n + length (run_in item)) h.cycles
+        ∙ sym (cycles-next given item);
     shows = subst (Shows first now) (sym (runs_next given item)) (shows-then h.shows shows);
   }
 

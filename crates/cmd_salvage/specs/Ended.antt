@@ -10,7 +10,7 @@ use Rattle.record_grammar.specs.declared.fault.RecordFault.{RecordFault}
 use Rattle.record_grammar.specs.declared.item.Item.{Item}
 use Rattle.record_grammar.specs.Record.{items as items_in}
 use Rattle.record_reader.specs.Taking.{OfSlot}
-use Rattle.record_show.specs.Text.{runs_in}
+use Rattle.record_reader.specs.InItems.{runs_in}
 use Rattle.probes.specs.Reports.{AudienceState}
 use Rattle.probes.specs.Shows.{SawRuns}
 use Rattle.cli_answers.specs.declared.answer.Answer.TheVariants.{Done, BadRecord}

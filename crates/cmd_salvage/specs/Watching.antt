@@ -9,7 +9,7 @@ use Rattle.record_reader.specs.Kinds.{begins_runs, runs_of}
 use Rattle.record_reader.specs.Salvaged.{is_init, cycles_of}
 use Rattle.record_reader.specs.Keeping.{IsHeaded}
 use Rattle.record_reader.specs.Taking.{Taking}
-use Rattle.record_show.specs.Text.{runs_in}
+use Rattle.record_reader.specs.InItems.{runs_in}
 use Rattle.probes.specs.Reports.{AudienceState}
 use Rattle.probes.specs.Shows.{Shows}
 use Rattle.cmd_salvage.specs.declared.watch.Watch.{Watch}

@@ -1,10 +1,10 @@
 //! A record that breaks off, shown to an audience as it is read.
-ghost use Rattle.std.specs.Prelude.{◌≡◌, ℕ, ◌<◌, List, [], ◌++◌, IfOk};
+ghost use Rattle.std.specs.Prelude.{◌≡◌, ℕ, ◌<◌, List, [], ◌++◌, IfOk, codes};
 ghost use Rattle.det_edges.specs.Traffic.{ShelfTraffic, SinkTraffic, shelf_run, sink_run};
 ghost use Rattle.det_edges.specs.Traffic.{failure_in};
 ghost use Rattle.probes.specs.Reports.{AudienceState};
 ghost use Rattle.probes.specs.Shows.{seen};
-ghost use Rattle.record_text.specs.Summaries.{salvaged_line};
+ghost use Rattle.record_text.specs.Words.{number_line};
 ghost use Rattle.item_reader.specs.StandsFor.{StandsFor, slot_of};
 ghost use Rattle.record_reader.specs.Salvages.{settled_by};
 ghost use Rattle.record_reader.specs.Taking.{ItemsRead};
@@ -93,7 +93,8 @@ fn settled(
 
 /// The line of a salvaged record, then the reports.
 fn lines_of(alloc: Global, cycles: u32, reports: &[u8]) -> Result<Vec<u8>, OutOfMemory>
-    ensures { IfOk result (λ lines. lines.items ≡ salvaged_line cycles ++ reports.now) }
+    ensures { IfOk result (λ lines.
+        lines.items ≡ number_line (codes "salvaged") cycles ++ reports.now) }
 {
     let mut lines = Vec::new(alloc);
     put_salvaged_line(&mut lines, cycles)?;

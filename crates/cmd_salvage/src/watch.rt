@@ -3,7 +3,7 @@ ghost use Rattle.std.specs.Prelude.{◌≡◌, ◌<◌, ◌+◌, OnOk};
 ghost use Rattle.record_grammar.specs.declared.item.Item.{Item};
 ghost use Rattle.record_view.specs.Shows.{IsSpelling};
 ghost use Rattle.probes.specs.Shows.{Shows, seen};
-ghost use Rattle.record_show.specs.Text.{run_in};
+ghost use Rattle.record_reader.specs.InItems.{run_in};
 
 use det_values::OutOfMemory;
 use probes::{Audience, Probe};

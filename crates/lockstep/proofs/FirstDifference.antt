@@ -1,6 +1,6 @@
 -- There is a first difference of two frames exactly where they aren't equal.
 use Rattle.std.proofs.Common.{◌≡◌, ℕ, suc, ◌-◌, Bool, true, false, cond, nat_eq, List, [], ◌∷◌, Option, Some, None, refl, ap, subst, ◌∙◌}
-use Rattle.std.specs.Option.{option_eq, option_or}
+use Rattle.std.specs.Option.{option_eq, option_map, option_or}
 use Rattle.std.specs.Bool.{Decides}
 use Rattle.std.specs.Cmp.Lexicographic.{pointwise, pointwise_decides}
 use Rattle.det_values.specs.Values.{SampleValue}
@@ -13,8 +13,9 @@ use Rattle.det_values.specs.declared.frames.Frame.TheVariants.{Register, Discove
 use Rattle.det_values.specs.contracts.refused_at.RefusedAtPartialEq.TheImpl as place
 use Rattle.det_values.specs.contracts.sample.SamplePartialEq.TheImpl as sample
 use Rattle.det_values.specs.Equal.{drawn_eq}
+use Rattle.lockstep.specs.declared.difference.Difference.{Difference}
 use Rattle.lockstep.specs.declared.difference.Difference.TheVariants as differences
-use Rattle.lockstep.specs.FirstDifference.{first_apart, element_difference, outcome_difference, run_difference, frame_difference}
+use Rattle.lockstep.specs.FirstDifference.{first_apart, outcome_difference, run_difference, frame_difference}
 use Rattle.lockstep.proofs.Equality.{bytes_decide, drawn_decides, place_decides, samples_decide, time_decides}
 
 -- none exactly where the two are equal
@@ -47,6 +48,9 @@ apart-same same h n (x ∷ xs) =
 pub apart : {A : Type 0} (same : A → A → Bool) → ((x y : A) → Decides (same x y) (x ≡ y)) → (n : ℕ) (xs ys : List A)
     → IsNoneIfSame (first_apart same n xs ys) xs ys
 apart same h n xs ys = (apart-none same h n xs ys, λ e. subst (λ zs. first_apart same n xs zs ≡ None) e (apart-same same h n xs))
+
+abbrev element_difference : ℕ → Option ℕ → Option Difference
+element_difference cycle n = option_map (differences.Element cycle) n
 
 at-element : (cycle : ℕ) (o : Option ℕ) → (element_difference cycle o ≡ None → o ≡ None) × (o ≡ None → element_difference cycle o ≡ None)
 at-element cycle (Some n) = (λ e. absurd cc, λ e. absurd cc)

@@ -24,8 +24,9 @@ use Rattle.record_view.specs.declared.view.ItemKind.TheVariants as kinds
 use Rattle.record_view.specs.Shows.{ShowsFrame, ShowsParts}
 use Rattle.item_reader.specs.declared.reader.ItemReader.{ItemReader}
 use Rattle.item_reader.specs.StandsFor.{StandsFor, slot_of, room, unread}
-use Rattle.record_reader.specs.Salvaged.{runs_in, cycles_of}
-use Rattle.record_reader.proofs.Pieces.{sum-next, cycles-few}
+use Rattle.record_reader.specs.Salvaged.{cycles_of}
+use Rattle.record_reader.specs.InItems.{run_in}
+use Rattle.record_reader.proofs.Pieces.{cycles-next, cycles-few}
 use Rattle.record_reader.proofs.Items.{few_first}
 use Rattle.det_edges.proofs.SlotReads.{kept-same}
 use Rattle.lockstep.specs.declared.difference.Difference.{Difference}
@@ -252,7 +253,7 @@ differs n row copy (r ∷ more) found state slots e = by (row_difference n row r
     by None later e = later e
 
 frame-runs : (place : Place) (kind : FrameKind) (len : ℕ) (bytes : List ℕ) (frame : Frame) → ShowsFrame place kind len bytes frame
-    → runs_in (items.Frame frame) ≡ runs_of (kinds.Frame kind)
+    → length (run_in (items.Frame frame)) ≡ runs_of (kinds.Frame kind)
 frame-runs place frame_kinds.Register len bytes frames.Register h = refl
 frame-runs place frame_kinds.Discover len bytes frames.Discover h = refl
 frame-runs place (frame_kinds.Init count) len bytes (frames.Init elements) h = refl
@@ -262,7 +263,7 @@ frame-runs place kind len bytes frame h = elim h [ ]
 
 -- an item of one kind is so many cycles
 pub runs-are : (place : Place) (kind : ItemKind) (len : ℕ) (bytes : List ℕ) (item : Item) → ShowsParts place kind len bytes item
-    → runs_in item ≡ runs_of kind
+    → length (run_in item) ≡ runs_of kind
 runs-are place (kinds.Header layout) len bytes (items.Header p) h = refl
 runs-are place (kinds.Frame kind) len bytes (items.Frame frame) h = frame-runs place kind len bytes frame h
 runs-are place (kinds.Header layout) len bytes (items.Frame frame) h = absurd h
@@ -273,7 +274,7 @@ abbrev IsCountedAs : Option Item → Option Verdict → Option Verdict → Copie
 IsCountedAs item (Some found) result old new = result ≡ Some found
 IsCountedAs None None result old new = result ≡ Some (Agree old.cycles)
 IsCountedAs (Some item) None result old new = (result ≡ None)
-    × (new ≡ record old { rows = old.rows + 1; cycles = old.cycles + runs_in item })
+    × (new ≡ record old { rows = old.rows + 1; cycles = old.cycles + length (run_in item) })
 
 counted-as : (view : Option ItemView) (reader : ItemReader) (item : Option Item) (found result : Option Verdict) (old new : Copies)
     → IsHeldAs view reader item → IsCounted view found result old new → IsCountedAs item found result old new
@@ -332,7 +333,7 @@ row-read-as first old now given slots before after next (Some x) None result mor
             (on-item (length given) x first now given slots (next ∷ after) (rows.Item x ∷ more) have
             ((item-apart (length given) x (rows.Item x)).1 refl, none-other (length given) (rows.Item x) 1 more (sym is)));
         rows = let all = length-append given (x ∷ []) in omega (arith, all, n);
-        cycles = ap (λ k. k + runs_in x) c ∙ sym (sum-next runs_in given x);
+        cycles = ap (λ k. k + length (run_in x)) c ∙ sym (cycles-next given x);
       },
       subst (λ r. room r < old_room) (sym f) fell,
     ))

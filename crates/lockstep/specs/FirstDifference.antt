@@ -1,7 +1,7 @@
 -- The first thing in which two frames differ.
 use Rattle.std.specs.Prelude.{ℕ, suc, ◌-◌, List, [], ◌∷◌, Bool, Option, Some, None, nat_eq}
 use Rattle.std.specs.Prelude.{if◌then◌else◌}
-use Rattle.std.specs.Option.{option_eq, option_or}
+use Rattle.std.specs.Option.{option_eq, option_map, option_or}
 use Rattle.std.specs.Cmp.Lexicographic.{pointwise}
 use Rattle.det_values.specs.declared.frames.Outcome.{Outcome}
 use Rattle.det_values.specs.declared.frames.Outcome.TheVariants.{Finished, Refused}
@@ -22,14 +22,10 @@ first_apart same n [] [] = None
 first_apart same n (x ∷ xs) (y ∷ ys) = if same x y then first_apart same (suc n) xs ys else Some n
 first_apart same n xs ys = Some n
 
-abbrev pub element_difference : ℕ → Option ℕ → Option Difference
-element_difference cycle (Some element) = Some (differences.Element cycle element)
-element_difference cycle None = None
-
 -- of two outcomes of a cycle; elements come before the output
 abbrev pub outcome_difference : ℕ → Outcome → Outcome → Option Difference
 outcome_difference cycle (Finished elements output) (Finished others other) =
-    option_or (element_difference cycle (first_apart drawn_eq 0 elements others))
+    option_or (option_map (differences.Element cycle) (first_apart drawn_eq 0 elements others))
     (if pointwise nat_eq output other then None else Some (differences.Output cycle))
 outcome_difference cycle (Refused at) (Refused other) =
     if place.eq-value.it at other then None else Some (differences.Result cycle)
@@ -49,7 +45,7 @@ abbrev pub frame_difference : ℕ → Frame → Frame → Option Difference
 frame_difference frame Register Register = None
 frame_difference frame Discover Discover = None
 frame_difference frame (Init elements) (Init others) =
-    element_difference (frame - 2) (first_apart (pointwise nat_eq) 0 elements others)
+    option_map (differences.Element (frame - 2)) (first_apart (pointwise nat_eq) 0 elements others)
 frame_difference frame (Run run) (Run other) = run_difference (frame - 2) run other
 frame_difference frame Terminate Terminate = None
 frame_difference frame one other = Some (differences.Kind frame)

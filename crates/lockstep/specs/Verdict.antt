@@ -1,7 +1,7 @@
 -- The verdict on copies of a record.
 use Rattle.std.specs.Prelude.{ℕ, ◌+◌, ◌-◌, List, [], ◌∷◌, length, map, Option, Some, None, Result}
 use Rattle.std.specs.Prelude.{Ok, Err, if◌then◌else◌}
-use Rattle.std.specs.Option.{option_or, option_map}
+use Rattle.std.specs.Option.{option_or, option_map, unwrap_or}
 use Rattle.det_values.specs.contracts.profile.ProfilePartialEq.TheImpl as profile
 use Rattle.record_grammar.specs.declared.item.Item.{Item}
 use Rattle.record_grammar.specs.declared.item.Item.TheVariants as items
@@ -46,8 +46,7 @@ first_other n first copy (row ∷ more) =
 -- a fault comes before a difference; with neither of them the copies agree
 abbrev pub judged : Option BadCopy → Option Verdict → ℕ → Result Verdict BadCopy
 judged (Some bad) other cycles = Err bad
-judged None (Some verdict) cycles = Ok verdict
-judged None None cycles = Ok (Agree cycles)
+judged None other cycles = Ok (unwrap_or other (Agree cycles))
 
 -- the verdict on the rows behind the items with which all copies begin
 abbrev pub row_verdict : List Item → List Row → Result Verdict BadCopy

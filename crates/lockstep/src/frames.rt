@@ -1,9 +1,11 @@
 //! The first difference of two frames.
 ghost use Rattle.std.specs.Prelude.{◌≡◌, ◌≤◌, ℕ, nat_eq, None, length, ◌↔◌};
+ghost use Rattle.std.specs.Option.{option_map};
 ghost use Rattle.std.specs.Cmp.Lexicographic.{pointwise};
 ghost use Rattle.det_values.specs.Equal.{drawn_eq};
 ghost use Rattle.lockstep.specs.FirstDifference.{first_apart, frame_difference, run_difference};
-ghost use Rattle.lockstep.specs.FirstDifference.{outcome_difference, element_difference};
+ghost use Rattle.lockstep.specs.FirstDifference.{outcome_difference};
+ghost use Rattle.lockstep.specs.declared.difference.Difference.TheVariants as differences;
 
 use crate::Difference;
 use det_values::{Bytes64, DrawnElements, Frame, Outcome, RunFrame};
@@ -80,7 +82,7 @@ fn of_outcomes(cycle: u32, left: &Outcome, right: &Outcome) -> Option<Difference
 }
 
 pub(crate) fn at_element(cycle: u32, element: Option<u32>) -> Option<Difference>
-    ensures { result ≡ element_difference cycle element }
+    ensures { result ≡ option_map (differences.Element cycle) element }
 {
     match element {
         Some(element) => Some(Difference::Element { cycle, element }),

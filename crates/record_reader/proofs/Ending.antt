@@ -23,14 +23,15 @@ use Rattle.record_grammar.specs.declared.fault.RecordFault.{RecordFault}
 use Rattle.record_grammar.specs.declared.item.Item.{Item}
 use Rattle.record_grammar.specs.declared.item.Item.TheVariants as items
 use Rattle.record_grammar.specs.Record.{items as items_in}
-use Rattle.record_grammar.specs.Spelling.{spelled_header, spelled_frame}
+use Rattle.record_grammar.specs.Spelling.{spelled, spelled_header, spelled_frame}
 use Rattle.record_reader.specs.declared.salvage.Salvage.{Salvage}
 use Rattle.record_reader.specs.declared.salvage.Salvaged.{Salvaged}
 use Rattle.item_reader.specs.StandsFor.{FoundFault, IsFaulty}
 use Rattle.item_reader.proofs.Needed.{while-weaker}
 use Rattle.record_reader.specs.Taking.{AreAll, Took, RecordRead, ItemsRead}
-use Rattle.record_reader.specs.Salvaged.{kept, is_init, spelled_kept, made_whole, salvaged_from, salvaged, cycles_of, refused_of}
-use Rattle.record_reader.specs.Salvaged.{spelled_items, written_items}
+use Rattle.record_reader.specs.Salvaged.{kept, is_init, salvaged_from, salvaged, cycles_of, refused_of}
+use Rattle.record_reader.specs.Salvaged.{written_items}
+use Rattle.record_reader.specs.InItems.{spelled_by}
 use Rattle.record_reader.specs.Keeping.{Keeps, salvaging, FinishIs}
 use Rattle.record_reader.specs.Salvages.{IsFront, IsCut, Salvages, HasNothing, Begins, Answers, ReadsTo, SavesRead, Ended, settled_by}
 use Rattle.record_reader.proofs.Items.{whole_has_init}
@@ -38,6 +39,12 @@ use Rattle.record_reader.proofs.Pieces.{kept_append}
 use Rattle.record_reader.proofs.Taking.{behind, over, told, of-slot}
 
 -- ---- the salvaged record of items
+
+abbrev spelled_kept : ProfileValue → List Item → List ℕ
+spelled_kept p xs = spelled p (flat_map kept xs)
+
+abbrev made_whole : ProfileValue → List Item → List ℕ
+made_whole p xs = spelled p (flat_map kept xs ++ Terminate ∷ [])
 
 made_is : (p : ProfileValue) (xs : List Item) → made_whole p xs ≡ spelled_kept p xs ++ spelled_frame p.format Terminate
 made_is p xs =
@@ -188,7 +195,7 @@ module _ (one : SinkRun) (last : List ℕ → Type 0) (b : ℕ) (s : Salvage) (b
       subst (λ (r : Result Salvaged (Stopped RecordFault)). Answers r bytes (over one last b)) (sym end.0) (record {
         is = ap salvaged_from all.items ∙ none_from given none;
         fault = all.fault;
-        grew = quiet (subst (λ (begun : Bool). Grew one.before one.after (cond begun (spelled_items given) [])) none took.grew) end.1;
+        grew = quiet (subst (λ (begun : Bool). Grew one.before one.after (cond begun (spelled_by kept given) [])) none took.grew) end.1;
       })
 
   at-fault : (result : Result Salvaged (Stopped RecordFault)) {given : List Item} {fault : RecordFault} → AreAll given (Some fault) bytes

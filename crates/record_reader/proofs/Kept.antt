@@ -33,19 +33,20 @@ use Rattle.record_view.specs.Shows.{ShowsParts, ShowsOutcome, events_of}
 use Rattle.record_view.proofs.EqualItems.{span_is_spelling}
 use Rattle.record_reader.specs.declared.salvage.Salvage.{Salvage}
 use Rattle.record_reader.specs.Kinds.{begins_runs, runs_of, refusals_at, refusals_of, kept_bytes}
-use Rattle.record_reader.specs.Salvaged.{is_init, runs_in, refusals_in}
+use Rattle.record_reader.specs.Salvaged.{is_init, refusals_in}
+use Rattle.record_reader.specs.InItems.{run_in}
 use Rattle.record_reader.specs.Salvaged.{refusals_of as refusals_of_outcome}
 use Rattle.record_reader.specs.Keeping.{spelled_unless_last, piece_of, format_after, Keeps, salvaging, Counted, Puts}
 use Rattle.record_reader.specs.Taking.{IsNext, Takes}
 use Rattle.record_reader.proofs.Items.{NextIs, same_format}
-use Rattle.record_reader.proofs.Pieces.{headed-next, more_of, begun-next, written-next, all-next, sum-next}
+use Rattle.record_reader.proofs.Pieces.{headed-next, more_of, begun-next, written-next, all-next, sum-next, cycles-next}
 
 -- ---- an item by its kind
 
 -- what an item of a kind adds to the counts
 pub record Adds (kind : ItemKind) (item : Item) : Type 0 where
   pub begins : begins_runs kind ≡ is_init item
-  pub runs : runs_of kind ≡ runs_in item
+  pub runs : runs_of kind ≡ length (run_in item)
   pub refusals : refusals_of kind ≡ refusals_in item
 
 refusals-are : (format : Format) (outcome : OutcomeView) (len : ℕ) (bytes : List ℕ) (o : Outcome) → ShowsOutcome format outcome len bytes o
@@ -127,8 +128,8 @@ module _ (given : List Item) (item : Item) (kind : ItemKind) (old counted new : 
     headed = headed-next given item h.next;
     has_begun = same ∙ has_begun ∙ sym (begun-next given item);
     out = all-next given item old.out.items new.out.items h.next h.keeps.out split;
-    cycles = cycles ∙ h.count.cycles ∙ ap (λ (n : ℕ). old.cycles + n) h.adds.runs ∙ ap (λ (n : ℕ). n + runs_in item) h.keeps.cycles
-        ∙ sym (sum-next runs_in given item);
+    cycles = cycles ∙ h.count.cycles ∙ ap (λ (n : ℕ). old.cycles + n) h.adds.runs ∙ ap (λ (n : ℕ). n + length (run_in item)) h.keeps.cycles
+        ∙ sym (cycles-next given item);
     refused = refused ∙ h.count.refused ∙ ap (λ (n : ℕ). old.refused + n) h.adds.refusals
         ∙ ap (λ (n : ℕ). n + refusals_in item) h.keeps.refused ∙ sym (sum-next refusals_in given item);
   }

@@ -19,7 +19,8 @@ use Rattle.record_view.specs.declared.view.ItemKind.{ItemKind}
 use Rattle.record_reader.specs.declared.salvage.Salvage.{Salvage}
 use Rattle.record_reader.specs.declared.salvage.Salvaged.{Salvaged}
 use Rattle.record_reader.specs.Kinds.{begins_runs, runs_of, refusals_of}
-use Rattle.record_reader.specs.Salvaged.{is_init, spelled_items, written_items, cycles_of}
+use Rattle.record_reader.specs.Salvaged.{is_init, kept, written_items, cycles_of}
+use Rattle.record_reader.specs.InItems.{spelled_by}
 use Rattle.record_reader.specs.Salvaged.{refused_of}
 use Rattle.record_reader.specs.Taking.{Taking}
 
@@ -47,7 +48,7 @@ IsHeaded other = Unit {0}
 pub record Keeps (salvage : Salvage) (given : List Item) : Type 0 where
   pub headed : IsHeaded given
   pub has_begun : salvage.has_begun ≡ list_any is_init given
-  pub out : written_items given ++ salvage.out.items ≡ spelled_items given
+  pub out : written_items given ++ salvage.out.items ≡ spelled_by kept given
   pub cycles : salvage.cycles ≡ cycles_of given
   pub refused : salvage.refused ≡ refused_of given
 

@@ -1,5 +1,6 @@
 pub mod Digested
 pub mod Frames
+pub mod InItems
 pub mod Taking
 pub mod Salvaged
 pub mod Kinds

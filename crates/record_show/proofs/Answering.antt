@@ -26,7 +26,8 @@ use Rattle.probes.specs.Shows.{Shows, SawRuns}
 use Rattle.probes.proofs.Shown.{all-reports}
 use Rattle.record_show.specs.declared.shown.Shown.{Shown}
 use Rattle.record_show.specs.declared.printing.Printer.{Printer}
-use Rattle.record_show.specs.Text.{runs_in, lines_of, reports_of, text_from, text_of}
+use Rattle.record_show.specs.Text.{lines_of, reports_of, text_from, text_of}
+use Rattle.record_reader.specs.InItems.{runs_in}
 use Rattle.record_show.specs.Showing.{Watched, Kept, showing}
 use Rattle.record_show.specs.Ended.{Answers, SawFirst, Sees, Finished, IsGone, FinishIs, ReadsTo, WroteRead, Ended}
 use Rattle.record_show.proofs.Parts.{part-first, none-yet}

@@ -11,7 +11,8 @@ use Rattle.det_edges.specs.Prefix.{IsPrefix}
 use Rattle.record_grammar.specs.declared.item.Item.{Item}
 use Rattle.record_grammar.specs.declared.item.Item.TheVariants as items
 use Rattle.record_text.specs.Records.{header_lines, frame_lines, run_lines, item_lines, record_lines}
-use Rattle.record_show.specs.Text.{run_in, runs_in}
+use Rattle.record_reader.specs.InItems.{runs_in}
+use Rattle.record_reader.specs.InItems.{run_in}
 use Rattle.record_show.specs.Showing.{format_by, format_behind, lines_at}
 
 -- the lines of one item

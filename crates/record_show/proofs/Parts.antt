@@ -1,7 +1,7 @@
 -- The lines of a part of a record, item by item.
 use Rattle.std.proofs.Common.{◌≡◌, ◌≢◌, ◌⊎◌, inl, inr, ℕ, zero, suc, ◌+◌, Bool, true, false, cond, eqb, List, [], ◌∷◌, ◌++◌, length, Option}
 use Rattle.std.proofs.Common.{Some, None, refl, sym, ap, subst, ◌∙◌, arith, append-nil}
-use Rattle.std.specs.Prelude.{slice_get}
+use Rattle.std.specs.Prelude.{slice_get, unwrap_or, option_map}
 use Rattle.std.proofs.lemmas.Bool.Decides.{eqb_tells}
 use Rattle.std.proofs.lemmas.Option.{slice_get_past}
 use Rattle.det_values.specs.declared.format.Format.{Format}
@@ -16,11 +16,15 @@ use Rattle.record_reader.proofs.Items.{NextIs}
 use Rattle.record_text.specs.declared.part.ShowPart.{ShowPart}
 use Rattle.record_text.specs.declared.part.ShowPart.TheVariants.{All, Reports, Cycle}
 use Rattle.record_text.specs.Records.{run_lines, record_lines}
-use Rattle.record_show.specs.Text.{run_in, runs_in, format_in, lines_if, cycle_lines, lines_of}
+use Rattle.record_show.specs.Text.{format_in, cycle_lines, lines_of}
+use Rattle.record_reader.specs.InItems.{run_in, runs_in}
 use Rattle.record_show.specs.Showing.{format_by, format_behind, printed_of}
 use Rattle.record_show.proofs.Lines.{item_is, format_one, behind_append, runs_append, runs_next, lines_first, lines_next, lines_none_yet}
 
 -- ---- one run of many
+
+abbrev lines_if : Format → ℕ → Option RunFrame → List ℕ
+lines_if format number run = unwrap_or (option_map (run_lines format number) run) []
 
 get_found : {X : Type 0} (xs ys : List X) (i : ℕ) (x : X) → slice_get xs i ≡ Some x → slice_get (xs ++ ys) i ≡ Some x
 get_found [] ys i x e = absurd cc

@@ -20,7 +20,6 @@ use Rattle.record_grammar.proofs.Leads.{can_follow}
 use Rattle.record_view.specs.declared.view.ItemView.{ItemView}
 use Rattle.record_view.specs.Shows.{IsSpelling}
 use Rattle.record_reader.specs.Kinds.{runs_of}
-use Rattle.record_reader.specs.Salvaged.{runs_in as runs_in_item}
 use Rattle.record_reader.specs.Taking.{AreFirst, IsNext, Takes, Wrote}
 use Rattle.record_reader.proofs.Items.{next_is, few_first}
 use Rattle.record_reader.proofs.Kept.{adds}
@@ -30,7 +29,9 @@ use Rattle.probes.specs.Reports.{AudienceState}
 use Rattle.probes.specs.Shows.{Shows}
 use Rattle.probes.proofs.Shown.{shows-none, shows-then}
 use Rattle.record_show.specs.declared.printing.Printer.{Printer}
-use Rattle.record_show.specs.Text.{run_in, runs_in, lines_of}
+use Rattle.record_show.specs.Text.{lines_of}
+use Rattle.record_reader.specs.InItems.{runs_in}
+use Rattle.record_reader.specs.InItems.{run_in}
 use Rattle.record_show.specs.Showing.{format_by, format_behind, is_printed, lines_at, printed_of, Watched, Kept, IsFailed}
 use Rattle.record_show.specs.Showing.{AreShown, showing}
 use Rattle.record_show.proofs.Lines.{runs_next}
@@ -83,15 +84,7 @@ shown-room printer first now given item h are_first =
 
 -- as many runs as an item of its kind adds
 pub counted : (view : ItemView) (item : Item) (bytes : List ℕ) → IsSpelling view item bytes → runs_of view.span.kind ≡ length (run_in item)
-counted view item bytes h = (adds view.place view.span.kind view.span.len bytes item h.shows.parts).runs ∙ same item
-  where
-    same : (item : Item) → runs_in_item item ≡ length (run_in item)
-    same (items.Header p) = refl
-    same (items.Frame Register) = refl
-    same (items.Frame Discover) = refl
-    same (items.Frame (Init elements)) = refl
-    same (items.Frame (Run run)) = refl
-    same (items.Frame Terminate) = refl
+counted view item bytes h = (adds view.place view.span.kind view.span.len bytes item h.shows.parts).runs
 
 -- the lines of a header hang on no format, and those of a frame on that of its place
 in_format : (part : ShowPart) (number : ℕ) (given : List Item) (item : Item) (view : ItemView) (bytes : List ℕ)

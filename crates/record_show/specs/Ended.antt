@@ -20,7 +20,8 @@ use Rattle.probes.specs.Reports.{AudienceState, reported}
 use Rattle.probes.specs.Shows.{SawRuns}
 use Rattle.record_show.specs.declared.shown.Shown.{Shown}
 use Rattle.record_show.specs.Showing.{Kept}
-use Rattle.record_show.specs.Text.{runs_in, lines_of, reports_of, text_of}
+use Rattle.record_show.specs.Text.{lines_of, reports_of, text_of}
+use Rattle.record_reader.specs.InItems.{runs_in}
 
 -- ---- the text
 

@@ -18,7 +18,9 @@ use Rattle.record_reader.specs.Taking.{Taking}
 use Rattle.probes.specs.Reports.{AudienceState}
 use Rattle.probes.specs.Shows.{Shows}
 use Rattle.record_show.specs.declared.printing.Printer.{Printer}
-use Rattle.record_show.specs.Text.{run_in, runs_in, format_in, lines_of}
+use Rattle.record_show.specs.Text.{format_in, lines_of}
+use Rattle.record_reader.specs.InItems.{runs_in}
+use Rattle.record_reader.specs.InItems.{run_in}
 
 abbrev pub format_by : Format → Item → Format
 format_by format (items.Header profile) = profile.format

@@ -1,42 +1,30 @@
 -- The text of a record, or of a part of it.
 use Rattle.std.specs.Prelude.{ℕ, zero, suc, List, [], ◌∷◌, ◌++◌, Option, Some, None, slice_get}
-use Rattle.std.specs.List.{flat_map}
+use Rattle.std.specs.Prelude.{Bool, true, false, unwrap_or, option_map, if◌then◌else◌}
 use Rattle.det_values.specs.declared.format.Format.{Format}
 use Rattle.det_values.specs.declared.format.Format.TheVariants.{One}
 use Rattle.det_values.specs.declared.frames.RunFrame.{RunFrame}
-use Rattle.det_values.specs.declared.frames.Frame.TheVariants.{Run}
 use Rattle.record_grammar.specs.declared.fault.RecordFault.{RecordFault}
 use Rattle.record_grammar.specs.declared.item.Item.{Item}
 use Rattle.record_grammar.specs.declared.item.Item.TheVariants as items
 use Rattle.record_grammar.specs.Record.{items as items_in, fault as fault_in}
+use Rattle.record_reader.specs.InItems.{runs_in}
 use Rattle.record_text.specs.declared.part.ShowPart.{ShowPart}
 use Rattle.record_text.specs.declared.part.ShowPart.TheVariants.{All, Reports, Cycle}
 use Rattle.record_text.specs.Records.{run_lines, record_lines}
 use Rattle.probes.specs.Reports.{AudienceState, reported}
-
--- the run of an item, or none
-abbrev pub run_in : Item → List RunFrame
-run_in (items.Frame (Run run)) = run ∷ []
-run_in item = []
-
--- the runs among items
-abbrev pub runs_in : List Item → List RunFrame
-runs_in xs = flat_map run_in xs
 
 -- the format that a record's header tells
 abbrev pub format_in : List Item → Format
 format_in (items.Header profile ∷ rest) = profile.format
 format_in other = One
 
-abbrev pub lines_if : Format → ℕ → Option RunFrame → List ℕ
-lines_if format number (Some run) = run_lines format number run
-lines_if format number None = []
-
 -- the lines of the Run frame of this number, counted from 1, or nothing where it isn't there
 abbrev pub cycle_lines : ℕ → List Item → List ℕ
 cycle_lines zero xs = []
 cycle_lines (suc before) xs =
-    lines_if (format_in xs) (suc before) (slice_get (runs_in xs) before)
+    let lines = run_lines (format_in xs) (suc before) in
+    unwrap_or (option_map lines (slice_get (runs_in xs) before)) []
 
 -- the lines that are printed of items
 abbrev pub lines_of : ShowPart → List Item → List ℕ
@@ -44,11 +32,14 @@ lines_of All xs = record_lines xs
 lines_of Reports xs = []
 lines_of (Cycle number) xs = cycle_lines number xs
 
--- what an audience reports behind them; one run alone is printed without reports
+-- one run alone is printed without reports
+abbrev pub has_reports : ShowPart → Bool
+has_reports (Cycle number) = false
+has_reports other = true
+
+-- what an audience reports behind them
 abbrev pub reports_of : ShowPart → AudienceState → List RunFrame → List ℕ
-reports_of All audience runs = reported audience runs
-reports_of Reports audience runs = reported audience runs
-reports_of (Cycle number) audience runs = []
+reports_of part audience runs = if has_reports part then reported audience runs else []
 
 -- the lines of items, and behind those of a whole record what the audience reports of its runs
 abbrev pub text_from : ShowPart → AudienceState → List Item → Option RecordFault → List ℕ

@@ -8,7 +8,7 @@ ghost use Rattle.record_reader.specs.Kinds.{runs_of};
 ghost use Rattle.det_edges.specs.Traffic.{SinkTraffic, sink_run, failure_in};
 ghost use Rattle.probes.specs.Reports.{AudienceState};
 ghost use Rattle.probes.specs.Shows.{seen};
-ghost use Rattle.record_show.specs.Text.{run_in};
+ghost use Rattle.record_reader.specs.InItems.{run_in};
 ghost use Rattle.record_show.specs.Showing.{Kept, Watched, is_printed};
 
 use crate::presenter::Presenter;

@@ -21,7 +21,7 @@ use Rattle.record_view.specs.declared.view.FrameView.{FrameView}
 use Rattle.record_view.specs.Parts.{undrawn, ElementsOf, OutputOf}
 use Rattle.record_view.specs.Shows.{ShowsFrame, IsFrameSpelling}
 use Rattle.record_text.specs.Words.{number_line, numbered}
-use Rattle.record_text.specs.Records.{element_line, drawn_line, run_line, sample_line, output_line, init_lines, outcome_lines, run_lines}
+use Rattle.record_text.specs.Records.{element_line, drawn_line, run_line, sample_line, output_line, outcome_lines, run_lines}
 
 pub then-ok : {A E P Q : Type 0} (r : Result A E) → (P → Q) → OnOk r P → OnOk r Q
 then-ok (Ok x) then h = then h
@@ -41,7 +41,7 @@ undrawn_lines i (e ∷ es) = ap (λ (more : List ℕ). element_line i e ++ more)
 
 pub init_put : (es : List DrawnElement) (elements : List (List ℕ)) (count : ℕ) (old mid new : List ℕ) → es ≡ map undrawn elements
     → length es ≡ count → mid ≡ old ++ number_line (codes "init") count → new ≡ mid ++ numbered (drawn_line One) 0 es
-    → new ≡ old ++ init_lines elements
+    → new ≡ old ++ (number_line (codes "init") (length elements) ++ numbered element_line 0 elements)
 init_put es elements count old mid new is counted first then =
     let all : count ≡ length elements = sym counted ∙ ap length is ∙ length-map elements undrawn in
     then ∙ ap (λ (l : List ℕ). l ++ numbered (drawn_line One) 0 es) (first ∙ ap (λ (n : ℕ). old ++ number_line (codes "init") n) all)

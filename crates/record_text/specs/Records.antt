@@ -27,24 +27,18 @@ abbrev pub format_line : Format → List ℕ
 format_line One = []
 format_line Two = codes "format 2\n"
 
-abbrev pub spaced_param : ℤ → List ℕ
-spaced_param n = codes " " ++ signed_decimal n
-
 abbrev pub params_text : List ℤ → List ℕ
 params_text [] = codes " -"
-params_text (p ∷ params) = flat_map spaced_param (p ∷ params)
+params_text (p ∷ params) = flat_map (λ n. codes " " ++ signed_decimal n) (p ∷ params)
 
 abbrev pub params_line : List ℤ → List ℕ
 params_line params = codes "params" ++ (params_text params ++ codes "\n")
 
-abbrev pub policy_word : Policy → List ℕ
-policy_word Last = codes " last"
-policy_word Fresh = codes " fresh"
-
 -- only format 2 has policies
 abbrev pub policy_text : Format → Policy → List ℕ
 policy_text One policy = []
-policy_text Two policy = policy_word policy
+policy_text Two Last = codes " last"
+policy_text Two Fresh = codes " fresh"
 
 -- an event's number, name and capacity, and its policy
 abbrev pub event_line : Format → ℕ → EventSpecValue → List ℕ
@@ -104,13 +98,10 @@ refused_line at =
 abbrev pub output_line : List ℕ → List ℕ
 output_line output = codes "output " ++ (hex_text output ++ codes "\n")
 
-abbrev pub finished_lines : Format → List DrawnElement → List ℕ → List ℕ
-finished_lines format elements output =
+abbrev pub outcome_lines : Format → Outcome → List ℕ
+outcome_lines format (Finished elements output) =
     number_line (codes "finished") (length elements)
     ++ (numbered (drawn_line format) 0 elements ++ output_line output)
-
-abbrev pub outcome_lines : Format → Outcome → List ℕ
-outcome_lines format (Finished elements output) = finished_lines format elements output
 outcome_lines format (Refused at) = refused_line at
 
 abbrev pub run_lines : Format → ℕ → RunFrame → List ℕ
@@ -118,15 +109,12 @@ run_lines format cycle run =
     run_line cycle run.input.time
     ++ (flat_map sample_line run.input.samples ++ outcome_lines format run.outcome)
 
-abbrev pub init_lines : List (List ℕ) → List ℕ
-init_lines elements =
-    number_line (codes "init") (length elements) ++ numbered element_line 0 elements
-
 -- the lines of a frame; a Run is that of cycle number `cycle`
 abbrev pub frame_lines : Format → ℕ → Frame → List ℕ
 frame_lines format cycle Register = codes "register\n"
 frame_lines format cycle Discover = codes "discover\n"
-frame_lines format cycle (Init elements) = init_lines elements
+frame_lines format cycle (Init elements) =
+    number_line (codes "init") (length elements) ++ numbered element_line 0 elements
 frame_lines format cycle (Run run) = run_lines format cycle run
 frame_lines format cycle Terminate = codes "terminate\n"
 

@@ -13,7 +13,3 @@ summary_lines s =
     number_line (codes "sim") s.number
     ++ (number_line (codes "cycles") s.cycles ++ (number_line (codes "refused") s.refused
     ++ (number_line (codes "bytes") s.bytes ++ digest_line s.digest)))
-
--- of a salvaged record: its cycles
-abbrev pub salvaged_line : ℕ → List ℕ
-salvaged_line cycles = number_line (codes "salvaged") cycles

@@ -1,5 +1,5 @@
 //! The lines of a frame, put where its bytes are.
-ghost use Rattle.std.specs.Prelude.{◌≡◌, ◌≤◌, ◌+◌, ◌++◌, ℕ, List, OnOk, length, drop};
+ghost use Rattle.std.specs.Prelude.{◌≡◌, ◌≤◌, ◌+◌, ◌++◌, ℕ, List, OnOk, length, drop, codes};
 ghost use Rattle.std.specs.List.{flat_map};
 ghost use Rattle.det_values.specs.Spelling.{an_element};
 ghost use Rattle.det_values.specs.declared.frames.Frame.{Frame};
@@ -10,10 +10,10 @@ ghost use Rattle.record_grammar.specs.Grammar.{element_at};
 ghost use Rattle.record_grammar.specs.Places.{format_of};
 ghost use Rattle.record_view.specs.Shows.{ShowsInput, ShowsOutcome, ShowsFinished, events_of};
 ghost use Rattle.record_view.specs.Shows.{IsFrameSpelling};
-ghost use Rattle.record_text.specs.Words.{numbered};
+ghost use Rattle.record_text.specs.Words.{number_line, numbered};
 ghost use Rattle.record_text.specs.Records.{draws_text, drawn_line, time_text, run_line};
 ghost use Rattle.record_text.specs.Records.{sample_line, refused_line, output_line};
-ghost use Rattle.record_text.specs.Records.{init_lines, outcome_lines, run_lines, frame_lines};
+ghost use Rattle.record_text.specs.Records.{element_line, outcome_lines, run_lines, frame_lines};
 
 use crate::line::Line;
 use crate::put::{put_hex, put_number, put_number_line, put_signed, put_words};
@@ -221,7 +221,8 @@ fn put_init_lines(out: &mut Vec<u8>, count: u32, bytes: &[u8]) -> Result<(), All
         × (5 ≤ length bytes.now) }
     ensures { OnOk result ((elements : List (List ℕ)) (rest : List ℕ)
         → many element_at count (drop 5 bytes.now) ≡ Got (elements, rest)
-        → out.new.items ≡ out.old.items ++ init_lines elements) }
+        → out.new.items ≡ out.old.items ++ (number_line (codes "init") (length elements)
+        ++ numbered element_line 0 elements)) }
 {
     put_number_line(out, "init", count as u64)?;
     put_drawn_lines(out, Format::One, count, init_elements_in(count, bytes))

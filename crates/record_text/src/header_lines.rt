@@ -1,8 +1,9 @@
 //! The lines of a header.
-ghost use Rattle.std.specs.Prelude.{◌≡◌, ◌++◌, OnOk};
+ghost use Rattle.std.specs.Prelude.{◌≡◌, ◌++◌, OnOk, codes};
+ghost use Rattle.std.specs.Fmt.{signed_decimal};
 ghost use Rattle.std.specs.List.{flat_map};
 ghost use Rattle.record_text.specs.Words.{numbered};
-ghost use Rattle.record_text.specs.Records.{spaced_param, params_text, params_line, policy_word};
+ghost use Rattle.record_text.specs.Records.{params_text, params_line};
 ghost use Rattle.record_text.specs.Records.{policy_text, format_line, event_line, front_lines};
 ghost use Rattle.record_text.specs.Records.{header_lines};
 
@@ -11,7 +12,8 @@ use det_values::{EventSpec, Events, Format, OutOfMemory, Params, Policy, Profile
 use std::alloc::AllocError;
 
 fn put_spaced_params(out: &mut Vec<u8>, params: &[i64]) -> Result<(), AllocError>
-    ensures { OnOk result (out.new.items ≡ out.old.items ++ flat_map spaced_param params.now) }
+    ensures { OnOk result (out.new.items
+        ≡ out.old.items ++ flat_map (λ n. codes " " ++ signed_decimal n) params.now) }
 {
     for param in params {
         put_words(out, " ")?;

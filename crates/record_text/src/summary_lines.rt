@@ -1,6 +1,7 @@
 //! The lines that stand for a record.
-ghost use Rattle.std.specs.Prelude.{◌≡◌, ◌++◌, OnOk};
-ghost use Rattle.record_text.specs.Summaries.{digest_line, summary_lines, salvaged_line};
+ghost use Rattle.std.specs.Prelude.{◌≡◌, ◌++◌, OnOk, codes};
+ghost use Rattle.record_text.specs.Words.{number_line};
+ghost use Rattle.record_text.specs.Summaries.{digest_line, summary_lines};
 
 use crate::put::{put_hex, put_number_line, put_words};
 use det_values::OutOfMemory;
@@ -41,7 +42,7 @@ pub fn put_summary_lines(out: &mut Vec<u8>, summary: &Summary) -> Result<(), Out
 /// Appends the line of a salvaged record of so many cycles. After a refusal a part of it may stand
 /// there.
 pub fn put_salvaged_line(out: &mut Vec<u8>, cycles: u32) -> Result<(), OutOfMemory>
-    ensures { OnOk result (out.new.items ≡ out.old.items ++ salvaged_line cycles) }
+    ensures { OnOk result (out.new.items ≡ out.old.items ++ number_line (codes "salvaged") cycles) }
 {
     put_number_line(out, "salvaged", cycles as u64)?;
     Ok(())

@@ -1,20 +1,18 @@
 -- The record that the inputs of a record give, whatever came of their runs there.
-use Rattle.std.specs.Prelude.{ℕ, List, [], ◌∷◌, Bool}
+use Rattle.std.specs.Prelude.{ℕ, List, map, Bool}
 use Rattle.std.specs.List.{flat_map}
 use Rattle.std.specs.Option.{is_none}
 use Rattle.det_values.specs.Values.{ProfileValue}
 use Rattle.det_values.specs.declared.frames.CycleInput.{CycleInput}
-use Rattle.det_values.specs.declared.frames.Frame.TheVariants.{Run}
 use Rattle.job_trait.specs.Meaning.{Meaning}
 use Rattle.record_grammar.specs.declared.item.Item.{Item}
-use Rattle.record_grammar.specs.declared.item.Item.TheVariants as items
 use Rattle.record_grammar.specs.Record.{items as items_in, fault as fault_in}
+use Rattle.record_reader.specs.InItems.{run_in}
 use Rattle.run_writer.specs.Record.{record_with}
 
 -- the input of a Run frame, and none of any other item
 abbrev pub input_in : Item → List CycleInput
-input_in (items.Frame (Run run)) = run.input ∷ []
-input_in item = []
+input_in item = map (λ run. run.input) (run_in item)
 
 -- the inputs of all runs of a record
 abbrev pub inputs : List ℕ → List CycleInput

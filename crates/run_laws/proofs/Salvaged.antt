@@ -20,8 +20,8 @@ use Rattle.record_grammar.specs.Laws.{AreItems, items_of, items_spelling}
 use Rattle.record_laws.proofs.Order.{in_order}
 use Rattle.record_laws.proofs.Spelled.{spelled_is_read}
 use Rattle.record_laws.proofs.Whole.{decoded_is}
-use Rattle.record_reader.specs.Salvaged.{kept, is_init, made_whole, salvaged_from, salvaged}
-use Rattle.record_show.specs.Text.{runs_in}
+use Rattle.record_reader.specs.Salvaged.{kept, is_init, salvaged_from, salvaged}
+use Rattle.record_reader.specs.InItems.{runs_in}
 use Rattle.cli_answers.specs.declared.answer.Answer.TheVariants.{Done}
 use Rattle.cmd_salvage.specs.Salvage.{outcome_by, salvage_outcome}
 use Rattle.run_laws.specs.Salvages.{ended, InitIsEnough, IsMadeWhole, SalvagedIsWhole, WholeIsKept}
@@ -84,6 +84,9 @@ spelling_of profile run h =
     subst (SpellsWhole profile run) s.0.spelling s
 
 -- ---- what is salvaged
+
+abbrev made_whole : ProfileValue → List Item → List ℕ
+made_whole p rest = spelled p (flat_map kept rest ++ last)
 
 -- the bytes that are salvaged of items, and what they are read as
 record AreSalvaged (xs : List Item) : Type 0 where

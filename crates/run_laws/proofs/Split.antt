@@ -19,7 +19,8 @@ use Rattle.record_grammar.specs.Laws.{AreItems, items_of, items_spelling}
 use Rattle.record_grammar.proofs.Leads.{all_at_more}
 use Rattle.record_laws.proofs.Order.{in_order}
 use Rattle.record_laws.proofs.Whole.{nil_more, all_leads_on, decoded_is}
-use Rattle.voter.specs.Majority.{majority, begins_with, are_held, common, frame_of, spelled_items}
+use Rattle.voter.specs.Majority.{majority, begins_with, are_held, common, spelled_items}
+use Rattle.record_reader.specs.InItems.{frame_in}
 use Rattle.voter.proofs.Counting.{most-true, most-is, count-cons}
 use Rattle.voter.proofs.Prefixes.{begins-tells}
 use Rattle.voter.proofs.Held.{common-from, common-is}
@@ -39,7 +40,7 @@ first_items (x ∷ xs) more place to h =
     let rest = first_items xs more (after place x) to h.1 in
     (rest.0, (h.0, rest.1))
 
-frames_spelled : (fs : List Frame) → flat_map frame_of (map items.Frame fs) ≡ fs
+frames_spelled : (fs : List Frame) → flat_map frame_in (map items.Frame fs) ≡ fs
 frames_spelled [] = refl
 frames_spelled (f ∷ fs) = ap (λ (gs : List Frame). f ∷ gs) (frames_spelled fs)
 
@@ -52,7 +53,7 @@ spelled_is (items.Header p ∷ xs) to h =
     let run : List Frame = fs.0 in
     let in_places = subst (λ (ys : List Item). AreItems places.Header (items.Header p ∷ ys) to) fs.1 h in
     let s = (in_order p run (items_spelling places.Header (items_of p run))).begun.1 (to, in_places, refl) in
-    ap (λ (ys : List Item). spelled p (flat_map frame_of ys)) fs.1 ∙ ap (spelled p) (frames_spelled run) ∙ sym s.spelling
+    ap (λ (ys : List Item). spelled p (flat_map frame_in ys)) fs.1 ∙ ap (spelled p) (frames_spelled run) ∙ sym s.spelling
     ∙ ap (λ (ys : List Item). items_spelling places.Header (items.Header p ∷ ys)) (sym fs.1)
 
 -- what is spelled of them is read as them

@@ -21,9 +21,9 @@ use Rattle.record_grammar.specs.declared.item.Item.{Item}
 use Rattle.record_grammar.specs.declared.item.Item.TheVariants as items
 use Rattle.record_grammar.specs.Record.{items as items_in}
 use Rattle.record_grammar.specs.Laws.{items_of}
-use Rattle.record_reader.specs.Salvaged.{refusals_of, runs_in as runs_of, refusals_in, cycles_of, refused_of}
+use Rattle.record_reader.specs.Salvaged.{refusals_of, refusals_in, cycles_of, refused_of}
 use Rattle.record_text.specs.Summaries.{summary_lines}
-use Rattle.record_show.specs.Text.{runs_in}
+use Rattle.record_reader.specs.InItems.{runs_in}
 use Rattle.probes.specs.Reports.{AudienceState, reported}
 use Rattle.probes.specs.Shipped.{outcome_refused, is_refused}
 use Rattle.stimulus.specs.Made.{made}
@@ -60,14 +60,12 @@ runs_counted [] tail none = record { cycles = none.cycles; refused = none.refuse
 runs_counted (r ∷ rs) tail none =
     let rest = runs_counted rs tail none in
     let xs = map items.Frame (map (λ run. Run run) rs ++ tail) in
-    let one = sum_by-cons runs_of (items.Frame (Run r)) xs in
     let two = sum_by-cons refusals_in (items.Frame (Run r)) xs in
     let all = sum_by-cons (λ run. cond (is_refused run) 1 0) r rs in
     let here = one_refused r.outcome in
-    let c = rest.cycles in
     let f = rest.refused in
     record {
-      cycles = omega (arith, one, c);
+      cycles = ap (λ (zs : List RunFrame). length (r ∷ zs)) rest.runs;
       refused = omega (arith, two, all, here, f);
       runs = ap (λ (zs : List RunFrame). r ∷ zs) rest.runs;
     }

@@ -18,7 +18,8 @@ use Rattle.record_grammar.specs.Laws.{MayStand, AreItems, IsWhole, items_of, ite
 use Rattle.record_laws.proofs.Order.{in_order}
 use Rattle.record_laws.proofs.Whole.{decoded_is}
 use Rattle.replayer.specs.Again.{input_in}
-use Rattle.checker.specs.Departure.{frame_in, frames_in}
+use Rattle.checker.specs.Departure.{frames_in}
+use Rattle.record_reader.specs.InItems.{frame_in}
 
 -- ---- items behind a header
 

@@ -15,7 +15,7 @@ use Rattle.record_grammar.specs.Record.{items as items_in, fault}
 use Rattle.record_grammar.specs.Spelling.{AreBytes, spelled}
 use Rattle.record_grammar.specs.Laws.{items_of}
 use Rattle.record_reader.specs.Salvaged.{kept, is_init}
-use Rattle.record_show.specs.Text.{runs_in}
+use Rattle.record_reader.specs.InItems.{runs_in}
 use Rattle.stimulus.specs.Reading.{blocks, ending}
 use Rattle.recorder.specs.Record.{is_terminated}
 use Rattle.manifest.specs.Values.{ManifestValue}

@@ -4,7 +4,7 @@ use Rattle.sha2.specs.Sha256.{sha256}
 use Rattle.record_grammar.specs.Record.{items}
 use Rattle.record_reader.specs.Salvaged.{cycles_of, refused_of}
 use Rattle.record_text.specs.Summaries.{summary_lines}
-use Rattle.record_show.specs.Text.{runs_in}
+use Rattle.record_reader.specs.InItems.{runs_in}
 use Rattle.probes.specs.Reports.{AudienceState, reported}
 use Rattle.stimulus.specs.Made.{made}
 use Rattle.run_writer.specs.Record.{counted}

@@ -31,7 +31,8 @@ use Rattle.run_writer.specs.Recording.{Cuts}
 use Rattle.replayer.specs.Again.{inputs}
 use Rattle.checker.specs.declared.verdict.CheckVerdict.{CheckVerdict}
 use Rattle.checker.specs.declared.verdict.CheckVerdict.TheVariants.{Genuine, Departs}
-use Rattle.checker.specs.Departure.{frame_in, departure}
+use Rattle.checker.specs.Departure.{departure}
+use Rattle.record_reader.specs.InItems.{frame_in}
 use Rattle.checker.specs.Needed.{IsNeeded}
 use Rattle.checker.specs.Verdict.{verdict_by, check_verdict}
 use Rattle.upgrader.specs.Frames.{Takes}

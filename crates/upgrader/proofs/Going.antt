@@ -39,7 +39,7 @@ use Rattle.run_writer.specs.declared.recording.Recording.{Recording}
 use Rattle.run_writer.specs.Recording.{IsNew}
 use Rattle.replayer.specs.Again.{input_in}
 use Rattle.replayer.proofs.Items.{few-inputs}
-use Rattle.checker.specs.Departure.{frame_in}
+use Rattle.record_reader.specs.InItems.{frame_in}
 use Rattle.checker.specs.Given.{IsBehind, CanCome, IsPlaced, input_of, given_frame}
 use Rattle.checker.specs.Needed.{IsNeeded}
 use Rattle.checker.specs.declared.verdict.CheckVerdict.{CheckVerdict}

@@ -16,7 +16,8 @@ use Rattle.record_grammar.specs.Record.{items as items_in, fault as fault_in, fa
 use Rattle.record_grammar.specs.Record.{with_next, decoded, decoded_all}
 use Rattle.record_grammar.proofs.Leads.{can_follow}
 use Rattle.replayer.specs.Again.{input_in, inputs}
-use Rattle.checker.specs.Departure.{frame_in, frames_in}
+use Rattle.checker.specs.Departure.{frames_in}
+use Rattle.record_reader.specs.InItems.{frame_in}
 use Rattle.checker.proofs.Departing.{inputs_of}
 use Rattle.checker.proofs.Records.{inputs-are}
 

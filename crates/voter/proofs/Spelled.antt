@@ -22,29 +22,30 @@ use Rattle.record_grammar.specs.Spelling.{AreBytes, spelled, spelled_header, spe
 use Rattle.record_grammar.proofs.Leads.{all_leads, can_follow}
 use Rattle.record_laws.proofs.Whole.{nil_more, all_leads_on, decoded_is}
 use Rattle.record_reader.specs.Taking.{AreFirst}
-use Rattle.voter.specs.Majority.{frame_of, spelled_items}
+use Rattle.voter.specs.Majority.{spelled_items}
+use Rattle.record_reader.specs.InItems.{frame_in}
 use Rattle.voter.specs.Rows.{place_after, place_behind}
 
 -- ---- lists of items
 
-spelled-append : (p : ProfileValue) (xs ys : List Item) → spelled p (flat_map frame_of (xs ++ ys)) ≡ spelled p (flat_map frame_of xs)
-    ++ flat_map (spelled_frame p.format) (flat_map frame_of ys)
+spelled-append : (p : ProfileValue) (xs ys : List Item) → spelled p (flat_map frame_in (xs ++ ys)) ≡ spelled p (flat_map frame_in xs)
+    ++ flat_map (spelled_frame p.format) (flat_map frame_in ys)
 spelled-append p xs ys =
-    let one : flat_map frame_of (xs ++ ys) ≡ flat_map frame_of xs ++ flat_map frame_of ys = flat_map-append frame_of xs ys in
-    let two : flat_map (spelled_frame p.format) (flat_map frame_of xs ++ flat_map frame_of ys)
-    ≡ flat_map (spelled_frame p.format) (flat_map frame_of xs) ++ flat_map (spelled_frame p.format) (flat_map frame_of ys) =
-    flat_map-append (spelled_frame p.format) (flat_map frame_of xs) (flat_map frame_of ys) in
+    let one : flat_map frame_in (xs ++ ys) ≡ flat_map frame_in xs ++ flat_map frame_in ys = flat_map-append frame_in xs ys in
+    let two : flat_map (spelled_frame p.format) (flat_map frame_in xs ++ flat_map frame_in ys)
+    ≡ flat_map (spelled_frame p.format) (flat_map frame_in xs) ++ flat_map (spelled_frame p.format) (flat_map frame_in ys) =
+    flat_map-append (spelled_frame p.format) (flat_map frame_in xs) (flat_map frame_in ys) in
     ap (λ (fs : List Frame). spelled_header p ++ flat_map (spelled_frame p.format) fs) one
     ∙ ap (λ (bytes : List ℕ). spelled_header p ++ bytes) two
-    ∙ sym (append_assoc (spelled_header p) (flat_map (spelled_frame p.format) (flat_map frame_of xs))
-    (flat_map (spelled_frame p.format) (flat_map frame_of ys)))
+    ∙ sym (append_assoc (spelled_header p) (flat_map (spelled_frame p.format) (flat_map frame_in xs))
+    (flat_map (spelled_frame p.format) (flat_map frame_in ys)))
 
 pub spelled-prefix : (a b : List Item) → IsPrefix a b → IsPrefix (spelled_items a) (spelled_items b)
 spelled-prefix [] b p = prefix-none (spelled_items b)
 spelled-prefix (items.Frame f ∷ a) b p = prefix-none (spelled_items b)
 spelled-prefix (items.Header h ∷ a) b p =
     subst (λ xs. IsPrefix (spelled_items (items.Header h ∷ a)) (spelled_items xs)) p.1
-    (flat_map (spelled_frame h.format) (flat_map frame_of p.0), sym (spelled-append h a p.0))
+    (flat_map (spelled_frame h.format) (flat_map frame_in p.0), sym (spelled-append h a p.0))
 
 -- ---- the layout of a header stays
 
@@ -130,14 +131,14 @@ spelled-next (items.Header p ∷ xs) (items.Header q) h may =
     (all-behind (layout_of p) xs (places.Register (layout_of p)) h.place h.leads.0 h.rest h.leads.2 refl))
 spelled-next (items.Header p ∷ xs) (items.Frame f) h may =
     spelled-append p xs (items.Frame f ∷ [])
-    ∙ ap (λ (bytes : List ℕ). spelled p (flat_map frame_of xs) ++ bytes) (append-nil (spelled_frame p.format f)
+    ∙ ap (λ (bytes : List ℕ). spelled p (flat_map frame_in xs) ++ bytes) (append-nil (spelled_frame p.format f)
     ∙ sym (one-spelled (layout_of p) (place_after (places.Register (layout_of p)) xs) f may
     (all-behind (layout_of p) xs (places.Register (layout_of p)) h.place h.leads.0 h.rest h.leads.2 refl)))
 
 -- ---- a whole record
 
 frames-spelled : (layout : Layout) (xs : List Item) (place to : Place) → AreItems place xs to → HasLayout layout place
-    → items_spelling place xs ≡ flat_map (spelled_frame layout.format) (flat_map frame_of xs)
+    → items_spelling place xs ≡ flat_map (spelled_frame layout.format) (flat_map frame_in xs)
 frames-spelled layout [] place to h b = refl
 frames-spelled layout (items.Header p ∷ xs) place to h b = absurd (no-header layout place p h.0 b)
 frames-spelled layout (items.Frame f ∷ xs) place to h b =
@@ -145,8 +146,8 @@ frames-spelled layout (items.Frame f ∷ xs) place to h b =
     ap (λ (bytes : List ℕ). bytes ++ rest) (one-spelled layout place f h.0 b)
     ∙ ap (λ (bytes : List ℕ). spelled_frame layout.format f ++ bytes) (frames-spelled layout xs (after place (items.Frame f)) to h.1
     (keeps-layout layout place f h.0 b))
-    ∙ sym (flat_map-cons (spelled_frame layout.format) f (flat_map frame_of xs))
-    ∙ ap (flat_map (spelled_frame layout.format)) (sym (flat_map-cons frame_of (items.Frame f) xs))
+    ∙ sym (flat_map-cons (spelled_frame layout.format) f (flat_map frame_in xs))
+    ∙ ap (flat_map (spelled_frame layout.format)) (sym (flat_map-cons frame_in (items.Frame f) xs))
 
 spelling-is : (xs : List Item) (to : Place) → AreItems places.Header xs to → items_spelling places.Header xs ≡ spelled_items xs
 spelling-is [] to h = refl

@@ -14,8 +14,9 @@ use Rattle.record_grammar.specs.declared.place.Place.{Place}
 use Rattle.record_grammar.specs.Record.{items as items_in, fault as fault_in}
 use Rattle.record_view.specs.declared.view.ItemView.{ItemView}
 use Rattle.item_reader.specs.declared.reader.ItemReader.{ItemReader}
-use Rattle.record_reader.specs.Salvaged.{runs_in, cycles_of}
-use Rattle.record_reader.proofs.Pieces.{sum-next}
+use Rattle.record_reader.specs.Salvaged.{cycles_of}
+use Rattle.record_reader.specs.InItems.{run_in}
+use Rattle.record_reader.proofs.Pieces.{cycles-next}
 use Rattle.lockstep.specs.declared.row.Row.{Row}
 use Rattle.lockstep.specs.declared.row.Row.TheVariants as rows
 use Rattle.lockstep.specs.Rows.{first_row, row_at}
@@ -281,7 +282,7 @@ held-still place n same voters held x d all less holds = record {
 
 -- an item of one kind is so many cycles
 held-runs : (place : Place) (reader : ItemReader) (view : ItemView) (x : Item) → HoldsAt place reader view x
-    → runs_in x ≡ runs_of view.span.kind
+    → length (run_in x) ≡ runs_of view.span.kind
 held-runs place reader view x h = runs-are view.place view.span.kind _ _ x h.holds.shows.parts
 
 module _ (first now : ShelfState) (given : List Item) (slots : List ℕ) (after : List Voter) (more : List (Option Row))
@@ -309,7 +310,7 @@ module _ (first now : ShelfState) (given : List Item) (slots : List ℕ) (after 
           ap (λ (s : Voters). s.rows) counts ∙ ap (λ k. k + 1) n ∙ omega (arith, longer);
       cycles = ap (λ (s : Voters). s.cycles) counts ∙ ap (λ k. k + runs_of view.span.kind) cycles
           ∙ ap (λ k. cycles_of given + k) (sym (held-runs (place_behind given) (get_or after copy d).reader view x holds))
-          ∙ sym (sum-next runs_in given x);
+          ∙ sym (cycles-next given x);
     },
     subst (λ vs. IsHeldIn vs (record { copy = copy; view = view }) (place_behind given) x) (sym voters)
         (held-still (place_behind given) (length given) (map (same_row row) more) after (record { copy = copy; view = view }) x d many less

@@ -1,15 +1,13 @@
 -- The majority of copies of a record, and how far more than half of them are equal.
 use Rattle.std.specs.Prelude.{ℕ, ◌+◌, List, [], ◌∷◌, ◌++◌, length, map, Bool, true, false, ◌&&◌}
 use Rattle.std.specs.Prelude.{nat_le, nat_lt, find, Option, if◌then◌else◌}
-use Rattle.std.specs.List.{count_by, flat_map}
+use Rattle.std.specs.List.{count_by}
 use Rattle.std.specs.Option.{is_none, unwrap_or}
 use Rattle.std.specs.Cmp.Lexicographic.{pointwise}
-use Rattle.det_values.specs.declared.frames.Frame.{Frame}
 use Rattle.record_grammar.specs.declared.item.Item.{Item}
-use Rattle.record_grammar.specs.declared.item.Item.TheVariants as items
 use Rattle.record_grammar.specs.contracts.item.ItemPartialEq.TheImpl as item
 use Rattle.record_grammar.specs.Record.{items as items_in, fault}
-use Rattle.record_grammar.specs.Spelling.{spelled}
+use Rattle.record_reader.specs.InItems.{frame_in, spelled_by}
 use Rattle.lockstep.specs.Verdict.{shared}
 use Rattle.voter.specs.declared.outcome.Dissenter.{Dissenter}
 
@@ -71,14 +69,9 @@ common copies = longest (map (λ copy. held copies [] (items_in copy)) copies)
 
 -- ---- what is written
 
-abbrev pub frame_of : Item → List Frame
-frame_of (items.Header profile) = []
-frame_of (items.Frame frame) = frame ∷ []
-
 -- the bytes of the first items of a record
 abbrev pub spelled_items : List Item → List ℕ
-spelled_items (items.Header profile ∷ behind) = spelled profile (flat_map frame_of behind)
-spelled_items other = []
+spelled_items xs = spelled_by frame_in xs
 
 -- the majority's record, or else the rows that more than half of the copies have in common
 abbrev pub voted_items : List (List ℕ) → List Item

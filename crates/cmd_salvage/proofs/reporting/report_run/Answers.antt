@@ -1,11 +1,12 @@
 use Rattle.std.proofs.Common.{ℕ, List, ◌++◌, None, Result, Ok, Err, sym, ap, ◌∙◌, rules}
+use Rattle.std.specs.Prelude.{codes}
 use Rattle.det_edges.specs.declared.failure.Failure.TheVariants.{Write}
 use Rattle.det_edges.specs.declared.failure.Stopped.{Stopped}
 use Rattle.det_edges.specs.declared.failure.Stopped.TheVariants.{Failed}
 use Rattle.det_edges.specs.Traffic.{SinkTraffic, shelf_run, sink_run, failure_in}
 use Rattle.probes.specs.Shows.{seen}
 use Rattle.record_grammar.specs.declared.fault.RecordFault.{RecordFault}
-use Rattle.record_text.specs.Summaries.{salvaged_line}
+use Rattle.record_text.specs.Words.{number_line}
 use Rattle.item_reader.specs.StandsFor.{slot_of}
 use Rattle.item_reader.proofs.Passing.{passed-on}
 use Rattle.cmd_salvage.specs.Ended.{Ended}
@@ -71,7 +72,7 @@ returns-in_err-write_all-clause-run g c =
     let shelf = shelf_run g.S.Slots.sees g.S.Slots.stays c.args.shelf.now c.watch_items-read.new.shelf in
     let out = sink_run g.K.Sink.took g.K.Sink.faults c.args.sink.now c.write_all.new.sink in
     let h = c.watch_items-read.ensures.items in
-    let line = salvaged_line c.watch_items-read.new.watch.cycles in (
+    let line = number_line (codes "salvaged") c.watch_items-read.new.watch.cycles in (
       h.read,
       passed-on (λ (r : Result (Unit {0}) (Stopped RecordFault)). Ended r first now h.read shelf (slot_of c.args.reader.now) out)
           c.from_residual-in_err-write_all.result c.from_residual-in_err-write_all.ensures.1
@@ -86,7 +87,7 @@ returns-clause-run g c =
     let now = seen (λ b. (goal.Probe-dyn g (b.vtable, b.value)).life b.value) c.finish.new.self in
     let out = sink_run g.K.Sink.took g.K.Sink.faults c.args.sink.now c.write_all.new.sink in
     let h = c.watch_items-read.ensures.items in
-    let line = salvaged_line c.watch_items-read.new.watch.cycles in (
+    let line = number_line (codes "salvaged") c.watch_items-read.new.watch.cycles in (
       h.read,
       ended-written c.watch_items-read.result (Ok tt) now c.deref.result.now out
           (sym c.settled.ensures ∙ c.in_ok-settled.was) h c.in_ok-finish.ensures.left c.in_ok-finish.ensures.none

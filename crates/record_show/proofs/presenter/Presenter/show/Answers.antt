@@ -1,5 +1,5 @@
 use Rattle.std.proofs.Common.{sym, ◌∙◌}
-use Rattle.record_show.specs.Text.{run_in}
+use Rattle.record_reader.specs.InItems.{run_in}
 use Rattle.record_show.proofs.Gone.{shows-gone}
 use Rattle.record_show.proofs.presenter.Presenter.show.Goals as goal
 

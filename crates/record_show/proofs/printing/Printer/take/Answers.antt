@@ -6,7 +6,7 @@ use Rattle.record_grammar.specs.declared.fault.RecordFault.{RecordFault}
 use Rattle.record_reader.specs.Taking.{Takes}
 use Rattle.item_reader.proofs.Passing.{passed-on}
 use Rattle.record_text.specs.declared.part.ShowPart.{ShowPart}
-use Rattle.record_show.specs.Text.{run_in}
+use Rattle.record_reader.specs.InItems.{run_in}
 use Rattle.record_show.specs.Showing.{showing, Watched}
 use Rattle.record_show.proofs.Taken.{taken, unwritten, unshown}
 use Rattle.record_show.proofs.printing.Printer.take.Goals as goal
