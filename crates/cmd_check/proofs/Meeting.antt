@@ -25,10 +25,17 @@ use Rattle.checker.specs.Checked.{Answers}
 use Rattle.cli_answers.specs.declared.answer.Answer.{Answer}
 use Rattle.cli_answers.specs.declared.answer.Answer.TheVariants.{BadRecord, OutOfMemory}
 use Rattle.cli_answers.specs.Answers.{stopped}
-use Rattle.cli_answers.specs.Outcome.{Outcome, Meets}
+use Rattle.cli_answers.specs.Outcome.{Outcome, Meets, refusal}
 use Rattle.cli_answers.proofs.Meeting.{meets-read-fault, meets-no-memory, meets-refusal}
-use Rattle.cmd_check.specs.Check.{outcome_by, checked_with, checked}
-use Rattle.cmd_check.specs.Visited.{IsUntouched, HasChecked}
+use Rattle.recorded_run.specs.declared.bad_run.BadRun.{BadRun}
+use Rattle.recorded_run.specs.Run.{RunValue, over_run, refused}
+use Rattle.cmd_check.specs.Check.{outcome_by, checked_with}
+use Rattle.cmd_check.specs.Visited.{checked, IsUntouched, HasChecked}
+
+-- the outcome by the run that a record's header names
+abbrev pub checked_by : AudienceState → List ℕ → Result RunValue BadRun → Outcome
+checked_by audience record_bytes named =
+    over_run (λ S G E L P m profile. checked_with m profile audience record_bytes) (λ why. refusal (refused why)) named
 
 at-told : (left : Option (List ℕ)) (rest : List ℕ) (P : List ℕ → Type 0) → left ≡ Some rest → IfSome left P → P rest
 at-told left rest P e p = rw e at p

@@ -27,9 +27,10 @@ use Rattle.det_edges.specs.Shelf.{ShelfState}
 use Rattle.recorded_run.specs.declared.bad_run.BadRun.{BadRun}
 use Rattle.recorded_run.specs.declared.run.RecordedRun.{RecordedRun}
 use Rattle.recorded_run.specs.Begun.{HasBegun}
-use Rattle.recorded_run.specs.Run.{RunValue, run_of}
+use Rattle.recorded_run.specs.Run.{RunValue, run_of, over_run}
 use Rattle.recorded_run.proofs.Resting.{rest}
-use Rattle.cmd_check.specs.Check.{runs_by_kind, runs_by, runs_checked, SawFirst}
+use Rattle.cmd_check.specs.Check.{runs_checked, SawFirst}
+use Rattle.cmd_check.specs.Visited.{runs_by_kind}
 use Rattle.cmd_check.specs.Visited.{HasChecked}
 use Rattle.cmd_check.proofs.Meeting.{answers, no-write}
 
@@ -105,5 +106,6 @@ pub saw-whole : {first last : ShelfState} {name : List ℕ} {run : RecordedRun} 
     → begun.read ++ rest begun ≡ record_bytes → SawFirst old now (runs_by_kind run.kind run.profile (begun.read ++ rest begun))
     → SawFirst old now (runs_checked record_bytes)
 saw-whole {run = run} begun old now record_bytes is all saw =
-    subst (λ (r : Result RunValue BadRun). SawFirst old now (runs_by record_bytes r)) (sym is)
+    subst (λ (r : Result RunValue BadRun). SawFirst old now
+    (over_run (λ S G E L P m profile. checked_runs m profile record_bytes) (λ why. []) r)) (sym is)
     (subst (λ (bytes : List ℕ). SawFirst old now (runs_by_kind run.kind run.profile bytes)) all saw)

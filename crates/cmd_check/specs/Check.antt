@@ -4,9 +4,7 @@ use Rattle.std.specs.Prelude.{true, ℕ, List, [], ◌++◌, codes, Result, Ok, 
 use Rattle.det_edges.specs.Prefix.{IsPrefix}
 use Rattle.det_values.specs.Values.{ProfileValue}
 use Rattle.det_values.specs.declared.frames.RunFrame.{RunFrame}
-use Rattle.det_values.specs.declared.job_kind.JobKind.{JobKind}
 use Rattle.job_trait.specs.Meaning.{Meaning}
-use Rattle.shipped_jobs.specs.Kinds.{by_kind}
 use Rattle.record_grammar.specs.declared.fault.RecordFault.{RecordFault}
 use Rattle.probes.specs.Reports.{AudienceState, reported}
 use Rattle.probes.specs.Shows.{SawRuns}
@@ -20,8 +18,7 @@ use Rattle.cli_answers.specs.declared.answer.Answer.{Answer}
 use Rattle.cli_answers.specs.declared.answer.Answer.TheVariants.{Done, Differs, BadRecord}
 use Rattle.cli_answers.specs.Ends.{Work, writes_alone}
 use Rattle.cli_answers.specs.Outcome.{Outcome, refusal}
-use Rattle.recorded_run.specs.declared.bad_run.BadRun.{BadRun}
-use Rattle.recorded_run.specs.Run.{RunValue, run_of, refused}
+use Rattle.recorded_run.specs.Run.{run_of, over_run, refused}
 
 -- it reads a record, and compares it with the run of its inputs
 abbrev pub check_work : Work
@@ -49,33 +46,18 @@ checked_with m profile audience record_bytes =
     outcome_by (check_verdict m profile record_bytes)
     (reported audience (checked_runs m profile record_bytes))
 
--- the same with the job of a kind
-abbrev pub checked : JobKind → ProfileValue → AudienceState → List ℕ → Outcome
-checked kind profile audience record_bytes =
-    by_kind (λ S G E L P m. checked_with m profile audience record_bytes) kind
-
--- with the run that the record's header names, or the refusal of that
-abbrev pub checked_by : AudienceState → List ℕ → Result RunValue BadRun → Outcome
-checked_by audience record_bytes (Ok run) = checked run.kind run.profile audience record_bytes
-checked_by audience record_bytes (Err why) = refusal (refused why)
-
+-- the same with the run that the record's header names, or the refusal of that
 abbrev pub check_outcome : AudienceState → List ℕ → Outcome
-check_outcome audience record_bytes = checked_by audience record_bytes (run_of record_bytes)
+check_outcome audience record_bytes =
+    over_run (λ S G E L P m profile. checked_with m profile audience record_bytes)
+    (λ why. refusal (refused why)) (run_of record_bytes)
 
 -- ---- the audience
 
--- the runs of a record that are checked, with the job of a kind
-abbrev pub runs_by_kind : JobKind → ProfileValue → List ℕ → List RunFrame
-runs_by_kind kind profile record_bytes =
-    by_kind (λ S G E L P m. checked_runs m profile record_bytes) kind
-
--- with the run that the record's header names, or none without that
-abbrev pub runs_by : List ℕ → Result RunValue BadRun → List RunFrame
-runs_by record_bytes (Ok run) = runs_by_kind run.kind run.profile record_bytes
-runs_by record_bytes (Err why) = []
-
+-- the runs of a record that are checked: none where its header names no run
 abbrev pub runs_checked : List ℕ → List RunFrame
-runs_checked record_bytes = runs_by record_bytes (run_of record_bytes)
+runs_checked record_bytes = over_run (λ S G E L P m profile. checked_runs m profile record_bytes)
+    (λ why. []) (run_of record_bytes)
 
 -- the audience has seen the first of these runs
 pub record SawFirst (old now : AudienceState) (runs : List RunFrame) : Type 0 where

@@ -1,10 +1,13 @@
 -- What the answer of checking by a crew says.
 use Rattle.std.specs.Prelude.{◌≡◌, ℕ, List, [], ◌∷◌, Result}
 use Rattle.det_values.specs.Values.{ProfileValue}
+use Rattle.det_values.specs.declared.frames.RunFrame.{RunFrame}
+use Rattle.det_values.specs.declared.job_kind.JobKind.{JobKind}
 use Rattle.det_edges.specs.Sink.{Same}
 use Rattle.det_edges.specs.Traffic.{ShelfRun, SinkRun, ShelfTraffic, failure_in}
 use Rattle.det_edges.specs.declared.failure.Stopped.{Stopped}
 use Rattle.job_trait.specs.Meaning.{Meaning}
+use Rattle.shipped_jobs.specs.Kinds.{by_kind}
 use Rattle.record_grammar.specs.declared.fault.RecordFault.{RecordFault}
 use Rattle.record_grammar.specs.declared.item.Item.TheVariants.{Header}
 use Rattle.record_reader.specs.declared.frames.FrameReader.{FrameReader}
@@ -12,6 +15,18 @@ use Rattle.record_reader.specs.Frames.{StandsFor, slot_of}
 use Rattle.probes.specs.Reports.{AudienceState}
 use Rattle.checker.specs.declared.verdict.CheckVerdict.{CheckVerdict}
 use Rattle.checker.specs.Checked.{IsChecked}
+use Rattle.checker.specs.Departure.{checked_runs}
+use Rattle.cli_answers.specs.Outcome.{Outcome}
+use Rattle.cmd_check.specs.Check.{checked_with}
+
+-- what the bytes of a record give with the job of a kind, and the runs that are checked
+abbrev pub checked : JobKind → ProfileValue → AudienceState → List ℕ → Outcome
+checked kind profile audience record_bytes =
+    by_kind (λ S G E L P m. checked_with m profile audience record_bytes) kind
+
+abbrev pub runs_by_kind : JobKind → ProfileValue → List ℕ → List RunFrame
+runs_by_kind kind profile record_bytes =
+    by_kind (λ S G E L P m. checked_runs m profile record_bytes) kind
 
 -- nothing was written
 pub record IsUntouched (sink : SinkRun) : Type 0 where

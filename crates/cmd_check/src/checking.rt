@@ -9,8 +9,10 @@ ghost use Rattle.shipped_jobs.specs.Kinds.{bad_param};
 ghost use Rattle.cli_answers.specs.Ends.{can_end};
 ghost use Rattle.cli_answers.specs.Outcome.{Meets, Tells, told};
 ghost use Rattle.cli_answers.specs.Slots.{KeepsSlots};
-ghost use Rattle.cmd_check.specs.Check.{check_outcome, checked, check_work, SawFirst};
-ghost use Rattle.cmd_check.specs.Check.{runs_by_kind, runs_checked};
+ghost use Rattle.cmd_check.specs.Check.{check_outcome, check_work, SawFirst};
+ghost use Rattle.cmd_check.specs.Visited.{checked};
+ghost use Rattle.cmd_check.specs.Check.{runs_checked};
+ghost use Rattle.cmd_check.specs.Visited.{runs_by_kind};
 
 use crate::printing::print;
 use crate::visiting::Check;

@@ -22,11 +22,18 @@ use Rattle.replayer.specs.Again.{again}
 use Rattle.replayer.specs.Ends.{Finishes, Stops}
 use Rattle.replayer.specs.Replayed.{IsReplayed}
 use Rattle.cli_answers.specs.declared.answer.Answer.{Answer}
-use Rattle.cli_answers.specs.Outcome.{Meets}
+use Rattle.cli_answers.specs.Outcome.{Outcome, Meets, refusal}
 use Rattle.cli_answers.proofs.Meeting.{meets-read-fault-part, meets-write-fault, meets-no-memory-part}
 use Rattle.cli_answers.specs.Answers.{by_fault}
-use Rattle.cmd_replay.specs.Replay.{replayed_with, replayed, answer_of}
-use Rattle.cmd_replay.specs.Visited.{HasReplayed}
+use Rattle.recorded_run.specs.declared.bad_run.BadRun.{BadRun}
+use Rattle.recorded_run.specs.Run.{RunValue, over_run, refused}
+use Rattle.cmd_replay.specs.Replay.{replayed_with, answer_of}
+use Rattle.cmd_replay.specs.Visited.{replayed, HasReplayed}
+
+-- the outcome by the run that a record's header names
+abbrev pub replayed_by : List ℕ → Result RunValue BadRun → Outcome
+replayed_by record_bytes named =
+    over_run (λ S G E L P m profile. replayed_with m profile record_bytes) (λ why. refusal (refused why)) named
 
 at-told : (left : Option (List ℕ)) (rest : List ℕ) (P : List ℕ → Type 0) → left ≡ Some rest → IfSome left P → P rest
 at-told left rest P e p = rw e at p

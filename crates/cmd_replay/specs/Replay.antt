@@ -1,11 +1,9 @@
 -- What `replay` gives by the bytes of a record: the record that its inputs give now.
 use Rattle.std.specs.Prelude.{true, ℕ, List, Result, Ok, Err}
 use Rattle.det_values.specs.Values.{ProfileValue}
-use Rattle.det_values.specs.declared.job_kind.JobKind.{JobKind}
 use Rattle.det_edges.specs.declared.failure.Stopped.{Stopped}
 use Rattle.det_edges.specs.declared.failure.Stopped.TheVariants.{Refused, Failed}
 use Rattle.job_trait.specs.Meaning.{Meaning}
-use Rattle.shipped_jobs.specs.Kinds.{by_kind}
 use Rattle.record_grammar.specs.declared.fault.RecordFault.{RecordFault}
 use Rattle.record_grammar.specs.Record.{fault as fault_in}
 use Rattle.run_writer.specs.declared.counts.Counts.{Counts}
@@ -15,8 +13,7 @@ use Rattle.cli_answers.specs.declared.answer.Answer.TheVariants.{Done, BadRecord
 use Rattle.cli_answers.specs.Answers.{failed, by_fault}
 use Rattle.cli_answers.specs.Ends.{Work, writes_alone}
 use Rattle.cli_answers.specs.Outcome.{Outcome, refusal}
-use Rattle.recorded_run.specs.declared.bad_run.BadRun.{BadRun}
-use Rattle.recorded_run.specs.Run.{RunValue, run_of, refused}
+use Rattle.recorded_run.specs.Run.{run_of, over_run, refused}
 
 -- it reads a record
 abbrev pub replay_work : Work
@@ -30,18 +27,10 @@ replayed_with m profile record_bytes = record {
   bytes = again m profile record_bytes;
 }
 
--- the same with the job of a kind
-abbrev pub replayed : JobKind → ProfileValue → List ℕ → Outcome
-replayed kind profile record_bytes =
-    by_kind (λ S G E L P m. replayed_with m profile record_bytes) kind
-
--- with the run that the record's header names, or the refusal of that
-abbrev pub replayed_by : List ℕ → Result RunValue BadRun → Outcome
-replayed_by record_bytes (Ok run) = replayed run.kind run.profile record_bytes
-replayed_by record_bytes (Err why) = refusal (refused why)
-
+-- the same with the run that the record's header names, or the refusal of that
 abbrev pub replay_outcome : List ℕ → Outcome
-replay_outcome record_bytes = replayed_by record_bytes (run_of record_bytes)
+replay_outcome record_bytes = over_run (λ S G E L P m profile. replayed_with m profile record_bytes)
+    (λ why. refusal (refused why)) (run_of record_bytes)
 
 -- what a command answers by the end of the replay
 abbrev pub answer_of : Result Counts (Stopped RecordFault) → Answer

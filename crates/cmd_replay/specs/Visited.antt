@@ -1,15 +1,24 @@
 -- What the answer of replaying by a crew says.
 use Rattle.std.specs.Prelude.{ℕ, List, [], ◌∷◌, Result}
 use Rattle.det_values.specs.Values.{ProfileValue}
+use Rattle.det_values.specs.declared.job_kind.JobKind.{JobKind}
 use Rattle.det_edges.specs.Traffic.{ShelfRun, SinkRun, ShelfTraffic, SinkTraffic, failure_in}
 use Rattle.det_edges.specs.declared.failure.Stopped.{Stopped}
 use Rattle.job_trait.specs.Meaning.{Meaning}
+use Rattle.shipped_jobs.specs.Kinds.{by_kind}
 use Rattle.record_grammar.specs.declared.fault.RecordFault.{RecordFault}
 use Rattle.record_grammar.specs.declared.item.Item.TheVariants.{Header}
 use Rattle.record_reader.specs.declared.frames.FrameReader.{FrameReader}
 use Rattle.record_reader.specs.Frames.{StandsFor, slot_of}
 use Rattle.run_writer.specs.declared.counts.Counts.{Counts}
 use Rattle.replayer.specs.Replayed.{IsReplayed}
+use Rattle.cli_answers.specs.Outcome.{Outcome}
+use Rattle.cmd_replay.specs.Replay.{replayed_with}
+
+-- what the bytes of a record give with the job of a kind
+abbrev pub replayed : JobKind → ProfileValue → List ℕ → Outcome
+replayed kind profile record_bytes =
+    by_kind (λ S G E L P m. replayed_with m profile record_bytes) kind
 
 -- the rest of the record was run again behind the bytes that the reader had read
 pub record HasReplayed {S G E L P : Type 0} (m : Meaning S G E L P) (profile : ProfileValue)

@@ -8,7 +8,8 @@ ghost use Rattle.shipped_jobs.specs.Kinds.{bad_param};
 ghost use Rattle.cli_answers.specs.Ends.{can_end};
 ghost use Rattle.cli_answers.specs.Outcome.{Meets, Tells, told};
 ghost use Rattle.cli_answers.specs.Slots.{KeepsSlots};
-ghost use Rattle.cmd_replay.specs.Replay.{replay_outcome, replayed, replay_work, answer_of};
+ghost use Rattle.cmd_replay.specs.Replay.{replay_outcome, replay_work, answer_of};
+ghost use Rattle.cmd_replay.specs.Visited.{replayed};
 
 use crate::visiting::Replay;
 use cli_answers::Answer;

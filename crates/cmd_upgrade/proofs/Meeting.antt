@@ -1,6 +1,6 @@
 -- A record that was upgraded meets the outcome of its bytes.
 use Rattle.std.proofs.Common.{◌≡◌, ℕ, List, [], ◌∷◌, ◌++◌, refl, sym, ap, ◌∙◌, subst, inr}
-use Rattle.std.specs.Prelude.{Option, Some, None, Result, Ok, Err, IfSome}
+use Rattle.std.specs.Prelude.{Option, Some, None, Result, Ok, Err, IfSome, cond, is_none}
 use Rattle.det_values.specs.Values.{ProfileValue}
 use Rattle.det_values.specs.declared.job_kind.JobKind.{JobKind}
 use Rattle.det_edges.specs.Count.{Rose}
@@ -29,11 +29,19 @@ use Rattle.upgrader.specs.Begun.{header_of}
 use Rattle.upgrader.specs.Upgraded.{in_format_two, upgraded}
 use Rattle.upgrader.specs.Ends.{Answers, IsUpgraded}
 use Rattle.cli_answers.specs.declared.answer.Answer.{Answer}
-use Rattle.cli_answers.specs.declared.answer.Answer.TheVariants.{ReadFault, WriteFault}
-use Rattle.cli_answers.specs.Outcome.{Meets}
+use Rattle.cli_answers.specs.declared.answer.Answer.TheVariants.{Differs, ReadFault, WriteFault}
+use Rattle.cli_answers.specs.Answers.{by_fault}
+use Rattle.cli_answers.specs.Outcome.{Outcome, Meets, refusal}
 use Rattle.cli_answers.proofs.Meeting.{meets-read-fault-part, meets-write-fault, meets-no-memory-part}
-use Rattle.cmd_upgrade.specs.Upgrade.{answer_by, upgraded_with, upgraded_by_kind, answer_of}
-use Rattle.cmd_upgrade.specs.Visited.{HasUpgraded}
+use Rattle.recorded_run.specs.declared.bad_run.BadRun.{BadRun}
+use Rattle.recorded_run.specs.Run.{RunValue, over_run, refused}
+use Rattle.cmd_upgrade.specs.Upgrade.{upgraded_with, answer_of}
+use Rattle.cmd_upgrade.specs.Visited.{upgraded_by_kind, HasUpgraded}
+
+-- the outcome by the run that a record's header names
+abbrev pub upgraded_by : List ℕ → Result RunValue BadRun → Outcome
+upgraded_by record_bytes named =
+    over_run (λ S G E L P m profile. upgraded_with m profile record_bytes) (λ why. refusal (refused why)) named
 
 at-told : (left : Option (List ℕ)) (rest : List ℕ) (P : List ℕ → Type 0) → left ≡ Some rest → IfSome left P → P rest
 at-told left rest P e p = rw e at p
@@ -44,6 +52,10 @@ at-told left rest P e p = rw e at p
 abbrev ended_as : Result CheckVerdict RecordFault → Result CheckVerdict (Stopped RecordFault)
 ended_as (Ok verdict) = Ok verdict
 ended_as (Err fault) = Err (Refused fault)
+
+-- a departure comes before a fault
+abbrev answer_by : Option Difference → Option RecordFault → Answer
+answer_by at end = cond (is_none at) (by_fault end) Differs
 
 answer-is : (at : Option Difference) (end : Option RecordFault) (cycles : ℕ)
     → answer_of (ended_as (verdict_by at end cycles)) ≡ answer_by at end

@@ -1,13 +1,10 @@
 -- What `upgrade` gives by the bytes of a record: the record of the same run in format 2.
-use Rattle.std.specs.Prelude.{true, ℕ, List, Option, Some, None, Result, Ok, Err}
+use Rattle.std.specs.Prelude.{true, ℕ, List, is_none, if◌then◌else◌, Result, Ok, Err}
 use Rattle.det_values.specs.Values.{ProfileValue}
-use Rattle.det_values.specs.declared.job_kind.JobKind.{JobKind}
 use Rattle.det_edges.specs.declared.failure.Stopped.{Stopped}
 use Rattle.job_trait.specs.Meaning.{Meaning}
-use Rattle.shipped_jobs.specs.Kinds.{by_kind}
 use Rattle.record_grammar.specs.declared.fault.RecordFault.{RecordFault}
 use Rattle.record_grammar.specs.Record.{fault as fault_in}
-use Rattle.lockstep.specs.declared.difference.Difference.{Difference}
 use Rattle.checker.specs.declared.verdict.CheckVerdict.{CheckVerdict}
 use Rattle.checker.specs.declared.verdict.CheckVerdict.TheVariants.{Genuine, Departs}
 use Rattle.checker.specs.Departure.{departure}
@@ -17,38 +14,26 @@ use Rattle.cli_answers.specs.declared.answer.Answer.TheVariants.{Done, Differs}
 use Rattle.cli_answers.specs.Answers.{by_fault, stopped}
 use Rattle.cli_answers.specs.Ends.{Work, writes_alone}
 use Rattle.cli_answers.specs.Outcome.{Outcome, refusal}
-use Rattle.recorded_run.specs.declared.bad_run.BadRun.{BadRun}
-use Rattle.recorded_run.specs.Run.{RunValue, run_of, refused}
+use Rattle.recorded_run.specs.Run.{run_of, over_run, refused}
 
 -- it reads a record, and compares it with the run of its inputs
 abbrev pub upgrade_work : Work
 upgrade_work = record writes_alone { recorded = true; compares = true }
 
--- a departure comes before a fault
-abbrev pub answer_by : Option Difference → Option RecordFault → Answer
-answer_by (Some at) end = Differs
-answer_by None end = by_fault end
-
--- the record of the same run in format 2, and why it isn't whole
+-- the record of the same run in format 2, and why it isn't whole; a departure comes before a fault
 abbrev pub upgraded_with : {S G E L P : Type 0} → Meaning S G E L P → ProfileValue → List ℕ
     → Outcome
 upgraded_with m profile record_bytes = record {
-  answer = answer_by (departure m profile record_bytes) (fault_in record_bytes);
+  answer = if is_none (departure m profile record_bytes) then by_fault (fault_in record_bytes)
+      else Differs;
   bytes = upgraded m profile record_bytes;
 }
 
--- the same with the job of a kind
-abbrev pub upgraded_by_kind : JobKind → ProfileValue → List ℕ → Outcome
-upgraded_by_kind kind profile record_bytes =
-    by_kind (λ S G E L P m. upgraded_with m profile record_bytes) kind
-
--- with the run that the record's header names, or the refusal of that
-abbrev pub upgraded_by : List ℕ → Result RunValue BadRun → Outcome
-upgraded_by record_bytes (Ok run) = upgraded_by_kind run.kind run.profile record_bytes
-upgraded_by record_bytes (Err why) = refusal (refused why)
-
+-- the same with the run that the record's header names, or the refusal of that
 abbrev pub upgrade_outcome : List ℕ → Outcome
-upgrade_outcome record_bytes = upgraded_by record_bytes (run_of record_bytes)
+upgrade_outcome record_bytes =
+    over_run (λ S G E L P m profile. upgraded_with m profile record_bytes)
+    (λ why. refusal (refused why)) (run_of record_bytes)
 
 -- what the command answers by the end of the upgrade
 abbrev pub answer_of : Result CheckVerdict (Stopped RecordFault) → Answer

@@ -10,7 +10,8 @@ ghost use Rattle.upgrader.specs.Upgraded.{in_format_two};
 ghost use Rattle.cli_answers.specs.Ends.{can_end};
 ghost use Rattle.cli_answers.specs.Outcome.{Meets, Tells, told};
 ghost use Rattle.cli_answers.specs.Slots.{KeepsSlots};
-ghost use Rattle.cmd_upgrade.specs.Upgrade.{upgrade_outcome, upgraded_by_kind, upgrade_work};
+ghost use Rattle.cmd_upgrade.specs.Upgrade.{upgrade_outcome, upgrade_work};
+ghost use Rattle.cmd_upgrade.specs.Visited.{upgraded_by_kind};
 ghost use Rattle.cmd_upgrade.specs.Upgrade.{answer_of};
 ghost use Rattle.cmd_upgrade.specs.Visited.{CanUpgrade};
 

@@ -18,7 +18,7 @@ use Rattle.cli_answers.specs.declared.answer.Answer.{Answer}
 use Rattle.cli_answers.specs.declared.answer.Answer.TheVariants.{Done, NoMajority}
 use Rattle.cli_answers.specs.Answers.{failed}
 use Rattle.cli_answers.specs.Ends.{Work, writes_alone}
-use Rattle.cli_answers.specs.Outcome.{Outcome, refusal, told}
+use Rattle.cli_answers.specs.Outcome.{Outcome, text_outcome, refusal, told}
 
 -- it takes the majority of copies
 abbrev pub vote_work : Work
@@ -33,7 +33,7 @@ answer_of (Err (Failed failure)) = failed failure
 -- ---- the record
 
 abbrev pub voted_by : Option (List Item) → List (List ℕ) → Outcome
-voted_by (Some whole) copies = record { answer = Done; bytes = spelled_items whole }
+voted_by (Some whole) copies = text_outcome (spelled_items whole)
 voted_by None copies = record {
   answer = NoMajority (length (common copies));
   bytes = spelled_items (common copies);
@@ -56,10 +56,8 @@ dissent_text cycles dissenters =
     number_line (codes "agree") cycles ++ flat_map dissenter_line dissenters
 
 abbrev pub dissent_by : Option (List Item) → List (List ℕ) → Outcome
-dissent_by (Some whole) copies = record {
-  answer = Done;
-  bytes = dissent_text (cycles_of whole) (dissent whole 0 copies);
-}
+dissent_by (Some whole) copies =
+    text_outcome (dissent_text (cycles_of whole) (dissent whole 0 copies))
 dissent_by None copies = refusal (NoMajority (length (common copies)))
 
 -- what is printed in place of the record

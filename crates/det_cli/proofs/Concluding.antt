@@ -14,7 +14,8 @@ use Rattle.cli_answers.specs.Outcome.{Outcome, told}
 use Rattle.cli_words.specs.Command.{CommandValue}
 use Rattle.cli_words.specs.Reading.{command_of}
 use Rattle.det_cli.specs.Outcome.{work_of, outcome_by}
-use Rattle.det_cli.specs.Promise.{Runs, RunsWords, IsPromised}
+use Rattle.det_cli.specs.Promise.{Runs, IsPromised}
+use Rattle.det_cli.proofs.Joining.{RunsWords}
 use Rattle.det_cli.specs.Laws.{Gives, IsRefusal, OfCommand, Concludes}
 
 -- a fault's status, and that of bad words, stand for one answer

@@ -1,9 +1,10 @@
 -- How a command's run meets the outcome of the words.
 use Rattle.std.proofs.Common.{◌≡◌, ◌≤◌, ℕ, List, [], ◌∷◌, length, map, get_or, refl, ap, ◌∙◌, sym, subst, arith}
 use Rattle.std.specs.Prelude.{Option, Some, None, IfSome, Bool, true, false, Result, Ok, Err, OnOk}
-use Rattle.std.specs.Prelude.{OnErr}
+use Rattle.std.specs.Prelude.{OnErr, MatchOption}
 use Rattle.std.proofs.lemmas.List.{nil_from_length, length-map}
 use Rattle.det_edges.specs.Shelf.{ShelfState}
+use Rattle.det_edges.specs.Sink.{GrewByPrefix}
 use Rattle.det_edges.proofs.Growth.{grew-none}
 use Rattle.probes.specs.Reports.{AudienceState}
 use Rattle.cli_answers.specs.declared.answer.Answer.{Answer}
@@ -16,10 +17,12 @@ use Rattle.cli_words.specs.Ranges.{IsInRange}
 use Rattle.record_text.specs.declared.part.ShowPart.{ShowPart}
 use Rattle.record_text.specs.declared.part.ShowPart.TheVariants as parts
 use Rattle.record_show.specs.Showing.{Kept}
+use Rattle.record_show.specs.Ended as showing
 use Rattle.record_show.specs.Ended.{IsGone}
+use Rattle.cmd_salvage.specs.Ended as salvaging
 use Rattle.det_cli.specs.Texts.{help_text}
-use Rattle.det_cli.specs.Outcome.{has_reports}
-use Rattle.det_cli.specs.Promise.{Runs, RunsWords, Refuses}
+use Rattle.record_show.specs.Text.{has_reports}
+use Rattle.det_cli.specs.Promise.{Runs, Refuses}
 
 -- a command by its word and its names
 pub same-command : (c : CommandValue) (word : CommandWord) (names : List (List ℕ)) → c.word ≡ word → c.names ≡ names
@@ -117,6 +120,19 @@ is-gone parts.All now gone e = gone
 is-gone parts.Reports now gone e = gone
 is-gone (parts.Cycle number) now gone e = absurd cc
 
+-- runs that were reported of a record have no lines
+pub reported-runs : {old now : AudienceState} {record_bytes bytes : List ℕ} {before after : List ℕ → Type 0}
+    → salvaging.SawFirst old now record_bytes → GrewByPrefix before after bytes
+    → showing.SawFirst parts.Reports old now record_bytes before after
+reported-runs saw part = record {
+  seen = saw.seen;
+  first = saw.first;
+  saw = saw.saw;
+  taken = part.0;
+  lines = (part.0, refl);
+  grew = part.2;
+}
+
 -- the text of help that was looked up
 pub help-is : (found : Option (List ℕ)) (names asked : List (List ℕ)) → names ≡ asked → found ≡ help_text names → help_text asked ≡ found
 help-is found names asked same is = sym (is ∙ ap help_text same)
@@ -134,6 +150,13 @@ pub runs-command : (first last : ShelfState) (other : Type 0) (before after : Li
     → Runs same first last other before after audience stayed answer → Runs command first last other before after audience stayed answer
 runs-command first last other before after audience stayed answer command same is =
     subst (λ c. Runs c first last other before after audience stayed answer) (sym is)
+
+-- a run of the command that words are, or their refusal
+abbrev pub RunsWords : Option CommandValue → (first last : ShelfState) → Type 0 → (before after : List ℕ → Type 0)
+    → (seeing stayed : AudienceState) → Answer → Type 0
+RunsWords command first last other before after seeing stayed answer =
+    MatchOption command (Refuses first last before after seeing stayed answer)
+    (λ c. Runs c first last other before after seeing stayed answer)
 
 -- and of the words that give it
 pub runs-words : (first last : ShelfState) (other : Type 0) (before after : List ℕ → Type 0) (audience stayed : AudienceState)

@@ -10,8 +10,7 @@ use Rattle.cli_words.specs.declared.table.CommandWord.TheVariants.{Replay, Check
 use Rattle.cli_words.specs.declared.table.CommandWord.TheVariants.{Compare, Vote, Salvage, Chain}
 use Rattle.cli_words.specs.declared.table.CommandWord.TheVariants.{Help, Version}
 use Rattle.cli_words.specs.Command.{CommandValue, name_at, number_in, files_of, part_of}
-use Rattle.record_text.specs.declared.part.ShowPart.{ShowPart}
-use Rattle.record_text.specs.declared.part.ShowPart.TheVariants.{Cycle}
+use Rattle.record_show.specs.Text.{has_reports}
 use Rattle.probes.specs.Reports.{AudienceState}
 use Rattle.cmd_setup.specs.Setup.{setup_of}
 use Rattle.cmd_record.specs.Outcomes.{demo_outcome, demo_work}
@@ -26,7 +25,8 @@ use Rattle.cmd_compare.specs.Compare.{compare_outcome, compare_work}
 use Rattle.cmd_vote.specs.Vote.{vote_outcome, dissent_outcome, vote_work}
 use Rattle.cmd_chain.specs.Chain.{chain_outcome, chain_names, chain_work}
 use Rattle.cmd_salvage.specs.Salvage.{salvage_outcome, salvage_reports_outcome, salvage_work}
-use Rattle.det_cli.specs.Texts.{version_text, help_text}
+use Rattle.det_cli.specs.declared.texts.TheConstants.{VERSION}
+use Rattle.det_cli.specs.Texts.{help_text}
 
 -- the names that a command opens where these are the bytes under each name: a manifest that is
 -- refused is the last of them
@@ -52,11 +52,6 @@ work_of Vote = vote_work
 work_of Salvage = salvage_work
 work_of Chain = chain_work
 work_of other = writes_alone
-
--- one run alone is printed without reports
-abbrev pub has_reports : ShowPart → Bool
-has_reports (Cycle number) = false
-has_reports other = true
 
 -- the commands that show runs to the audience, and print its reports
 abbrev pub is_showing : CommandWord → CommandValue → Bool
@@ -89,4 +84,4 @@ outcome_by Chain c holds audience =
     chain_outcome c.options.strict (holds (name_at 0 c)) (holds (name_at 1 c))
     (holds (name_at 2 c)) c.options.seed
 outcome_by Help c holds audience = text_outcome (unwrap_or (help_text c.names) [])
-outcome_by Version c holds audience = text_outcome version_text
+outcome_by Version c holds audience = text_outcome VERSION.now

@@ -1,5 +1,5 @@
 -- What the program promises: first of a command's answer, then of an exit status.
-use Rattle.std.specs.Prelude.{◌≡◌, ℕ, Bool, true, false, List, [], Option, Some, None}
+use Rattle.std.specs.Prelude.{◌≡◌, ℕ, MatchBool, MatchOption, true, false, List, []}
 use Rattle.det_edges.specs.Count.{Rose}
 use Rattle.det_edges.specs.Sink.{Grew, GrewByPrefix}
 use Rattle.det_edges.specs.Shelf.{ShelfState, AsksPrefix}
@@ -12,9 +12,9 @@ use Rattle.cli_words.specs.Reading.{command_of}
 use Rattle.record_grammar.specs.Record.{items as items_in}
 use Rattle.record_reader.specs.Salvaged.{saved_of}
 use Rattle.record_show.specs.Text.{lines_of}
-use Rattle.record_show.specs.Ended as showing
+use Rattle.record_text.specs.declared.part.ShowPart.TheVariants.{Reports}
+use Rattle.record_show.specs.Ended.{SawFirst}
 use Rattle.probes.specs.Shows.{SawRuns}
-use Rattle.cmd_salvage.specs.Ended as salvaging
 use Rattle.cmd_vote.specs.Vote.{VoteBreaksOff}
 use Rattle.cmd_check.specs.Check as checking
 use Rattle.cmd_sim.specs.Sim.{sim_runs}
@@ -33,48 +33,34 @@ use Rattle.det_cli.specs.Outcome.{opened_by, is_showing, work_of, outcome_by}
 abbrev pub TellsAll : CommandValue → ShelfState → Type 0
 TellsAll c shelf = Tells shelf (opened_by c.word c (told shelf))
 
--- salvaging shows runs where reports are asked for
-abbrev pub SalvageSeen : (reports : Bool) → AudienceState → AudienceState → List ℕ → Type 0
-SalvageSeen true old now recorded = salvaging.SawFirst old now recorded
-SalvageSeen false old now recorded = Unit {0}
-
 -- What an audience has seen: first runs of the record under a name, of which `show` has written the
--- lines, and with `check` those that it checks; or all runs of `sim`. Other commands show none.
+-- lines, and with `check` those that it checks; or all runs of `sim`. Other commands show none, nor
+-- does `salvage` where no reports are asked for.
 abbrev pub SeenBy : CommandWord → CommandValue → (List ℕ → List ℕ) → AudienceState → AudienceState
     → (before after : List ℕ → Type 0) → Type 0
 SeenBy Show c holds old now before after =
-    showing.SawFirst (part_of c.options) old now (holds (name_at 0 c)) before after
+    SawFirst (part_of c.options) old now (holds (name_at 0 c)) before after
 SeenBy Salvage c holds old now before after =
-    SalvageSeen c.options.reports old now (holds (name_at 0 c))
+    c.options.reports ≡ true → SawFirst Reports old now (holds (name_at 0 c)) before after
 SeenBy Check c holds old now before after =
     checking.SawFirst old now (checking.runs_checked (holds (name_at 0 c)))
 SeenBy Sim c holds old now before after = SawRuns old now (sim_runs (number_in c))
 SeenBy other c holds old now before after = Unit {0}
 
--- what `salvage` has written: all that it saves of the bytes read, and no report
-abbrev pub SalvageBroken : (reports : Bool) → ShelfState → ShelfState → List ℕ
-    → (before after : List ℕ → Type 0) → Type 0
-SalvageBroken true first last name before after = Grew before after []
-SalvageBroken false first last name before after =
-    BreaksOff first last name saved_of before after
-
--- what `vote` has written: all rows that one copy shows so far, and of dissenters nothing
-abbrev pub VoteBroken : (dissent : Bool) → ShelfState → ShelfState → List (List ℕ)
-    → (before after : List ℕ → Type 0) → Type 0
-VoteBroken true first last names before after = Grew before after []
-VoteBroken false first last names before after = VoteBreaksOff first last names before after
-
 -- What a command on records has written where a read failed: all that the bytes give that were
--- read.
+-- read; of `salvage` all that is saved of them, and of `vote` all rows that one copy shows so far.
+-- In place of reports or of dissenters nothing is written.
 abbrev pub BrokenBy : CommandWord → CommandValue → ShelfState → ShelfState
     → (before after : List ℕ → Type 0) → Type 0
 BrokenBy Show c first last before after =
     BreaksOff first last (name_at 0 c) (λ read. lines_of (part_of c.options) (items_in read))
     before after
 BrokenBy Salvage c first last before after =
-    SalvageBroken c.options.reports first last (name_at 0 c) before after
+    MatchBool c.options.reports (Grew before after [])
+    (BreaksOff first last (name_at 0 c) saved_of before after)
 BrokenBy Vote c first last before after =
-    VoteBroken c.options.dissent first last (files_of c) before after
+    MatchBool c.options.dissent (Grew before after [])
+    (VoteBreaksOff first last (files_of c) before after)
 BrokenBy other c first last before after = Unit {0}
 
 -- A run of a command. `out` took what `before` and `after` say; the audience `seeing` was handed
@@ -113,21 +99,15 @@ pub record Refuses (first last : ShelfState) (before after : List ℕ → Type 0
   pub wrote : Grew before after []
   pub left : stayed ≡ seeing
 
--- a run of the command that words are, or their refusal
-abbrev pub RunsWords : Option CommandValue → (first last : ShelfState) → Type 0
-    → (before after : List ℕ → Type 0) → (seeing stayed : AudienceState) → Answer → Type 0
-RunsWords (Some c) first last out_failed before after seeing stayed answer =
-    Runs c first last out_failed before after seeing stayed answer
-RunsWords None first last out_failed before after seeing stayed answer =
-    Refuses first last before after seeing stayed answer
-
--- The program: a run of the command that the words give, its status, and one line for the user.
+-- The program: a run of the command that the words give, or their refusal; its status, and one line
+-- for the user.
 pub record IsPromised (words : List (List ℕ)) (first last : ShelfState) (out_failed : Type 0)
     (before after : List ℕ → Type 0) (err_failed : Type 0) (err_before err_after : List ℕ → Type 0)
     (seeing stayed : AudienceState) (status : Status) : Type 0 where
   pub answer : Answer
   pub is : status ≡ status_of answer
-  pub runs : RunsWords (command_of words) first last out_failed before after seeing stayed answer
+  pub runs : MatchOption (command_of words) (Refuses first last before after seeing stayed answer)
+      (λ c. Runs c first last out_failed before after seeing stayed answer)
   -- `err` took a prefix of the answer's line, and all of it where its count of faults didn't rise
   pub line : GrewByPrefix err_before err_after (err_line answer)
   pub whole_line : ¬ err_failed → Grew err_before err_after (err_line answer)

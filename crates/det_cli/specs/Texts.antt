@@ -5,13 +5,10 @@ use Rattle.cli_words.specs.declared.table.CommandWord.TheVariants.{Demo, Record,
 use Rattle.cli_words.specs.declared.table.CommandWord.TheVariants.{Replay, Check, Upgrade}
 use Rattle.cli_words.specs.declared.table.CommandWord.TheVariants.{Compare, Vote, Salvage, Chain}
 use Rattle.cli_words.specs.Table.{command_word}
-use Rattle.det_cli.specs.declared.texts.TheConstants.{USAGE, VERSION}
+use Rattle.det_cli.specs.declared.texts.TheConstants.{USAGE}
 use Rattle.det_cli.specs.declared.pages.TheConstants.{DEMO, RECORD, SHOW, NEEDS, SIM}
 use Rattle.det_cli.specs.declared.pages.TheConstants.{REPLAY, CHECK, UPGRADE, COMPARE, VOTE}
 use Rattle.det_cli.specs.declared.pages.TheConstants.{SALVAGE, CHAIN}
-
-abbrev pub version_text : List ℕ
-version_text = VERSION.now
 
 -- the page of a command; the help and the version have none
 abbrev pub page_of : CommandWord → Option (List ℕ)

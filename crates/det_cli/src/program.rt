@@ -1,5 +1,5 @@
 //! The whole program.
-ghost use Rattle.std.specs.Prelude.{◌≡◌, true, map, option_map, IfSome};
+ghost use Rattle.std.specs.Prelude.{◌≡◌, true, map, option_map, IfSome, MatchOption};
 ghost use Rattle.std.specs.Option.{unwrap_or};
 ghost use Rattle.det_edges.specs.Count.{Rose};
 ghost use Rattle.manifest.specs.Limits.{IsWorkers};
@@ -12,7 +12,7 @@ ghost use Rattle.cli_words.specs.Ranges.{IsInRange};
 ghost use Rattle.probes.specs.Reports.{AudienceState};
 ghost use Rattle.probes.specs.Shows.{seen};
 ghost use Rattle.det_cli.specs.Texts.{page_of, help_text};
-ghost use Rattle.det_cli.specs.Promise.{Runs, RunsWords, IsPromised};
+ghost use Rattle.det_cli.specs.Promise.{Runs, Refuses, IsPromised};
 
 use crate::pages::{
     CHAIN, CHECK, COMPARE, DEMO, NEEDS, RECORD, REPLAY, SALVAGE, SHOW, SIM, UPGRADE, VOTE,
@@ -82,10 +82,14 @@ where
     K: Sink,
     R: Threads,
     G: Gate + Send + Sync + 'static,
-    ensures { RunsWords (command_of (texts words.now)) (S.sees shelf.old) (S.sees shelf.new)
+    ensures { MatchOption (command_of (texts words.now))
+        (Refuses (S.sees shelf.old) (S.sees shelf.new) (K.took out.old) (K.took out.new)
+        (seen (λ b. life (b.vtable, b.value)) audience.old)
+        (seen (λ b. life (b.vtable, b.value)) audience.new) result)
+        (λ c. Runs c (S.sees shelf.old) (S.sees shelf.new)
         (Rose (K.faults out.old) (K.faults out.new)) (K.took out.old) (K.took out.new)
         (seen (λ b. life (b.vtable, b.value)) audience.old)
-        (seen (λ b. life (b.vtable, b.value)) audience.new) result }
+        (seen (λ b. life (b.vtable, b.value)) audience.new) result) }
 {
     ranges();
     match read_words(words) {

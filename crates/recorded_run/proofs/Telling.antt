@@ -1,6 +1,6 @@
 -- What is known of the run of a record that was opened under a name whose bytes are told.
 use Rattle.std.proofs.Common.{◌≡◌, ℕ, List, [], ◌∷◌, ◌++◌, sym, ap, ◌∙◌}
-use Rattle.std.specs.Prelude.{Option, Some, None, Result, Ok, Err, IsSome, IfOk, IfErr}
+use Rattle.std.specs.Prelude.{Option, Some, None, Result, Ok, Err, IsSome, IfOk, IfErr, ok_or, option_map}
 use Rattle.det_values.specs.Values.{ProfileValue}
 use Rattle.det_values.specs.declared.job_kind.JobKind.{JobKind}
 use Rattle.det_edges.specs.Shelf.{ShelfState, Reads, Opens}
@@ -19,7 +19,11 @@ use Rattle.cli_answers.proofs.Telling.{read-part}
 use Rattle.recorded_run.specs.declared.bad_run.BadRun.{BadRun}
 use Rattle.recorded_run.specs.declared.bad_run.BadRun.TheVariants.{Profile}
 use Rattle.recorded_run.specs.declared.run.RecordedRun.{RecordedRun}
-use Rattle.recorded_run.specs.Run.{kind_of, run_with, run_by, run_of}
+use Rattle.recorded_run.specs.Run.{RunValue, kind_of, run_by, run_of}
+
+-- a profile with the kind that takes it
+abbrev pub run_with : Option JobKind → ProfileValue → Result RunValue BadRun
+run_with kind p = ok_or (option_map (λ (k : JobKind). record { kind = k; profile = p }) kind) Profile
 
 module _ (first : ShelfState) {opened last : ShelfState} (name : List ℕ) {slot : ℕ} {read : List ℕ}
     (opens : Opens first opened name slot) (reads : Reads opened last slot read) (tells : IsSome (first.holds name)) where

@@ -1,11 +1,13 @@
 -- The run that a record's header names.
 use Rattle.std.specs.Prelude.{ℕ, List, ◌∷◌, length, Option, Some, None, Result, Ok, Err}
+use Rattle.std.specs.Prelude.{is_none, ok_or, option_map, option_and_then, if◌then◌else◌}
 use Rattle.det_values.specs.Values.{ProfileValue}
 use Rattle.det_values.specs.Jobs.{kind_of_number}
 use Rattle.det_values.specs.declared.job_kind.JobKind.{JobKind}
 use Rattle.det_edges.specs.declared.failure.Stopped.{Stopped}
 use Rattle.det_edges.specs.declared.failure.Stopped.TheVariants.{Refused, Failed}
-use Rattle.shipped_jobs.specs.Kinds.{bad_param}
+use Rattle.job_trait.specs.Meaning.{Meaning}
+use Rattle.shipped_jobs.specs.Kinds.{bad_param, by_kind}
 use Rattle.record_grammar.specs.declared.fault.RecordFault.{RecordFault}
 use Rattle.record_grammar.specs.declared.item.Item.{Item}
 use Rattle.record_grammar.specs.declared.item.Item.TheVariants.{Header}
@@ -21,28 +23,18 @@ pub record RunValue : Type 0 where
   pub kind : JobKind
   pub profile : ProfileValue
 
--- the kind, where its job refuses no parameter
-abbrev pub unless_bad : Option ℕ → JobKind → Option JobKind
-unless_bad None kind = Some kind
-unless_bad (Some index) kind = None
+-- a kind, where its job refuses no parameter of a profile
+abbrev pub taking : ProfileValue → JobKind → Option JobKind
+taking p kind = if is_none (bad_param kind p.params (length p.events)) then Some kind else None
 
--- the same of a kind, where a number has one
-abbrev pub kind_taking : Option JobKind → ProfileValue → Option JobKind
-kind_taking None p = None
-kind_taking (Some kind) p = unless_bad (bad_param kind p.params (length p.events)) kind
-
--- the kind whose number a profile has, where the job of that kind refuses no parameter of it
+-- the kind whose number a profile has, where its job takes that
 abbrev pub kind_of : ProfileValue → Option JobKind
-kind_of p = kind_taking (kind_of_number p.job) p
-
--- a profile with the kind that takes it
-abbrev pub run_with : Option JobKind → ProfileValue → Result RunValue BadRun
-run_with None p = Err Profile
-run_with (Some kind) p = Ok (record { kind = kind; profile = p })
+kind_of p = option_and_then (taking p) (kind_of_number p.job)
 
 -- by the items of a record and its fault; a record without a header has one
 abbrev pub run_by : List Item → Option RecordFault → Result RunValue BadRun
-run_by (Header p ∷ xs) end = run_with (kind_of p) p
+run_by (Header p ∷ xs) end =
+    ok_or (option_map (λ kind. record { kind = kind; profile = p }) (kind_of p)) Profile
 run_by xs (Some fault) = Err (Fault fault)
 run_by xs None = Err Profile
 
@@ -60,6 +52,13 @@ without_header (Failed failure) = Failed failure
 abbrev pub refused : BadRun → Answer
 refused (Fault fault) = BadRecord 0 fault
 refused Profile = BadProfile
+
+-- what is given over the run of a record, by its job and its profile, or by why there is none
+abbrev pub over_run : {A : Type 0}
+    → ((S G E L P : Type 0) → Meaning S G E L P → ProfileValue → A) → (BadRun → A)
+    → Result RunValue BadRun → A
+over_run given otherwise (Ok run) = by_kind (λ S G E L P m. given S G E L P m run.profile) run.kind
+over_run given otherwise (Err why) = otherwise why
 
 -- what a command answers that has no run
 abbrev pub without_run : Stopped BadRun → Answer

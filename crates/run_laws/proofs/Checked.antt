@@ -22,7 +22,9 @@ use Rattle.checker.specs.Departure.{run_of}
 use Rattle.checker.specs.Verdict.{verdict_by}
 use Rattle.cli_answers.specs.declared.answer.Answer.TheVariants.{Done}
 use Rattle.cli_answers.specs.Outcome.{Outcome}
-use Rattle.cmd_check.specs.Check.{outcome_by, checked_with, checked, checked_by, check_outcome}
+use Rattle.cmd_check.specs.Check.{outcome_by, checked_with, check_outcome}
+use Rattle.cmd_check.specs.Visited.{checked}
+use Rattle.run_laws.proofs.NamedRuns.{checked_by}
 use Rattle.run_laws.specs.Statements.{IsRunRead, frames_by_kind, fault_if}
 use Rattle.run_laws.specs.Checks.{checked_of, RecordIsChecked, DemoIsChecked}
 use Rattle.run_laws.proofs.Commands.{is_taken, record_read, demo_read}

@@ -1,5 +1,6 @@
 -- A record is genuine exactly where it is given again, and what it is upgraded to is genuine too.
 use Rattle.std.proofs.Common.{◌≡◌, ℕ, ◌↔◌, List, [], ◌∷◌, map, Option, Some, None, Result, Ok, Err, refl, sym, ap, ◌∙◌}
+use Rattle.std.specs.Option.{option_and_then}
 use Rattle.det_values.specs.Values.{ProfileValue}
 use Rattle.det_values.specs.declared.format.Format.TheVariants.{Two}
 use Rattle.det_values.specs.declared.job_kind.JobKind.{JobKind}
@@ -17,10 +18,9 @@ use Rattle.cli_answers.specs.declared.answer.Answer.TheVariants.{Done}
 use Rattle.cli_answers.specs.Outcome.{Outcome}
 use Rattle.recorded_run.specs.declared.bad_run.BadRun.{BadRun}
 use Rattle.recorded_run.specs.declared.bad_run.BadRun.TheVariants.{Fault, Profile}
-use Rattle.recorded_run.specs.Run.{RunValue, kind_taking, kind_of, run_with, run_by, run_of}
-use Rattle.cmd_replay.specs.Replay.{replayed_by}
-use Rattle.cmd_check.specs.Check.{checked_by}
-use Rattle.cmd_upgrade.specs.Upgrade.{upgraded_by, upgraded_by_kind}
+use Rattle.recorded_run.specs.Run.{RunValue, taking, kind_of, run_by, run_of}
+use Rattle.cmd_upgrade.specs.Visited.{upgraded_by_kind}
+use Rattle.run_laws.proofs.NamedRuns.{run_with, replayed_by, checked_by, upgraded_by}
 use Rattle.run_laws.specs.Statements.{given_again}
 use Rattle.run_laws.specs.Checks.{IsGenuine, GenuineIsReplayed, GenuineIsUpgraded, FormatTwoStays}
 use Rattle.run_laws.proofs.GenuineRuns.{kind_go_together}
@@ -57,14 +57,15 @@ names (items.Header p ∷ xs) end run e =
     }
 
 -- the same kind takes it in format 2
-kind_in_two : (taking : Option JobKind) (profile : ProfileValue) → kind_taking taking (in_format_two profile) ≡ kind_taking taking profile
+kind_in_two : (kind : Option JobKind) (profile : ProfileValue) → option_and_then (taking (in_format_two profile)) kind
+    ≡ option_and_then (taking profile) kind
 kind_in_two None profile = refl
 kind_in_two (Some kind) profile = refl
 
 run_in_two : (run : RunValue) (rest : List Item) (end : Option RecordFault) → kind_of run.profile ≡ Some run.kind
     → run_by (items.Header (in_format_two run.profile) ∷ rest) end ≡ Ok (a_run run.kind (in_format_two run.profile))
 run_in_two run rest end takes =
-    ap (λ (taking : Option JobKind). run_with taking (in_format_two run.profile))
+    ap (λ (kind : Option JobKind). run_with kind (in_format_two run.profile))
     (kind_in_two (kind_of_number run.profile.job) run.profile ∙ takes)
 
 -- ---- the laws

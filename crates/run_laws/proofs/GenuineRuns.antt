@@ -1,5 +1,5 @@
 -- What check, replay and upgrade say of one record, by the run that its header names.
-use Rattle.std.proofs.Common.{◌≡◌, ℕ, ◌↔◌, List, ◌∷◌, length, true, Option, Some, None, refl, sym, ap, subst, ◌∙◌}
+use Rattle.std.proofs.Common.{◌≡◌, ℕ, ◌↔◌, List, ◌∷◌, length, true, cond, is_none, Option, Some, None, refl, sym, ap, subst, ◌∙◌}
 use Rattle.det_values.specs.Values.{ProfileValue}
 use Rattle.det_values.specs.declared.format.Format.TheVariants.{Two}
 use Rattle.det_values.specs.declared.frames.CycleInput.{CycleInput}
@@ -31,12 +31,15 @@ use Rattle.replayer.specs.Again.{inputs}
 use Rattle.checker.specs.Departure.{departure, checked_runs}
 use Rattle.checker.specs.Verdict.{verdict_by}
 use Rattle.upgrader.specs.Upgraded.{in_format_two, upgraded}
-use Rattle.cli_answers.specs.declared.answer.Answer.TheVariants.{Done}
+use Rattle.cli_answers.specs.declared.answer.Answer.TheVariants.{Done, Differs}
 use Rattle.cli_answers.specs.Answers.{by_fault}
 use Rattle.cli_answers.specs.Outcome.{Outcome}
-use Rattle.cmd_replay.specs.Replay.{replayed_with, replayed}
-use Rattle.cmd_check.specs.Check.{outcome_by, checked_with, checked}
-use Rattle.cmd_upgrade.specs.Upgrade.{answer_by, upgraded_with, upgraded_by_kind}
+use Rattle.cmd_replay.specs.Replay.{replayed_with}
+use Rattle.cmd_replay.specs.Visited.{replayed}
+use Rattle.cmd_check.specs.Check.{outcome_by, checked_with}
+use Rattle.cmd_check.specs.Visited.{checked}
+use Rattle.cmd_upgrade.specs.Upgrade.{upgraded_with}
+use Rattle.cmd_upgrade.specs.Visited.{upgraded_by_kind}
 use Rattle.run_laws.specs.Statements.{IsRunRead, given_again}
 use Rattle.run_laws.proofs.SpelledJob.{IsSpelledJob}
 use Rattle.run_laws.proofs.Shipped.{bank_spelled, cloud_spelled, guard_spelled}
@@ -129,7 +132,7 @@ module _ {S G E L P : Type 0} (m : Meaning S G E L P) (Covers : S → P → ℕ 
         let read = upgraded_read m profile record_bytes own w.0 w.1 Covers Own Fit laws spells in
         let more : List ℕ = upgraded m profile record_bytes in
         record {
-          done = λ i. answer_by (none.0 i) (none.1 i);
+          done = λ i. cond (is_none (none.0 i)) (by_fault (none.1 i)) Differs;
           run = frames m two (inputs record_bytes) true;
           items = read.items;
           inputs = inputs_are m two (inputs record_bytes) true more read;

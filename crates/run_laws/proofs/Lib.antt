@@ -13,6 +13,7 @@ mod Unended
 mod Reading
 mod Commands
 mod Shown
+mod NamedRuns
 mod Replayed
 mod GivenAgain
 mod Compared

@@ -1,7 +1,8 @@
 -- The inputs of a record that is read give that record again.
-use Rattle.std.proofs.Common.{◌≡◌, ℕ, List, [], ◌∷◌, ◌++◌, length, map, Bool, true, false, Some, None, Ok, refl, sym, ap, ◌∙◌, append-nil}
+use Rattle.std.proofs.Common.{◌≡◌, ℕ, List, [], ◌∷◌, ◌++◌, length, map, Bool, true, false, cond, Option, Some, None, Ok}
+use Rattle.std.proofs.Common.{refl, sym, ap, ◌∙◌, append-nil}
 use Rattle.std.specs.List.{flat_map}
-use Rattle.std.specs.Option.{is_none}
+use Rattle.std.specs.Option.{is_none, option_and_then}
 use Rattle.det_values.specs.Jobs.{number_of_kind, kind_of_number}
 use Rattle.det_values.specs.Values.{ProfileValue}
 use Rattle.det_values.specs.declared.frames.CycleInput.{CycleInput}
@@ -23,9 +24,11 @@ use Rattle.run_writer.specs.Record.{record_with}
 use Rattle.stimulus.specs.Reading.{blocks, ending}
 use Rattle.recorder.specs.Record.{is_terminated, record_of}
 use Rattle.replayer.specs.Again.{input_in, inputs, is_whole, again}
-use Rattle.recorded_run.specs.Run.{run_of, run_by, run_with, kind_taking, unless_bad}
-use Rattle.cmd_replay.specs.Replay.{replayed_with, replayed, replayed_by}
+use Rattle.recorded_run.specs.Run.{taking, run_of, run_by}
+use Rattle.cmd_replay.specs.Replay.{replayed_with}
+use Rattle.cmd_replay.specs.Visited.{replayed}
 use Rattle.cmd_record.specs.Outcomes.{recorded_by_kind}
+use Rattle.run_laws.proofs.NamedRuns.{run_with, replayed_by}
 use Rattle.run_laws.specs.Statements.{IsRunRead, IsRecordRead, IsRecordReplayed, given_again, frames_by_kind, fault_if}
 
 -- ---- the inputs of a run
@@ -86,9 +89,9 @@ pub run_is : (kind : JobKind) (profile : ProfileValue) (run : List Frame) (bytes
     → items_in bytes ≡ items_of profile run → run_of bytes ≡ Ok (record { kind = kind; profile = profile })
 run_is kind profile run bytes of read =
     ap (λ xs. run_by xs (fault_in bytes)) read
-    ∙ ap (λ n. run_with (kind_taking (kind_of_number n) profile) profile) of.number
-    ∙ ap (λ o. run_with (kind_taking o profile) profile) (number_names kind)
-    ∙ ap (λ bad. run_with (unless_bad bad kind) profile) of.good
+    ∙ ap (λ n. run_with (option_and_then (taking profile) (kind_of_number n)) profile) of.number
+    ∙ ap (λ o. run_with (option_and_then (taking profile) o) profile) (number_names kind)
+    ∙ ap (λ (bad : Option ℕ). run_with (cond (is_none bad) (Some kind) None) profile) of.good
 
 -- ---- by the kind of the job
 

@@ -8,7 +8,7 @@ use Rattle.cli_answers.specs.Outcome.{Tells, told}
 use Rattle.recorded_run.proofs.Beginning.{tells-name, meets-told, if-refused}
 use Rattle.recorded_run.proofs.Ending.{meets-end}
 use Rattle.recorded_run.proofs.Resting.{rest, rest-told, keeps-behind}
-use Rattle.cmd_check.specs.Check.{checked_by}
+use Rattle.cmd_check.proofs.Meeting.{checked_by}
 use Rattle.cmd_check.proofs.Seeing.{saw-whole}
 use Rattle.cmd_check.proofs.checking.check.Goals as goal
 

@@ -7,7 +7,7 @@ use Rattle.cli_answers.specs.Outcome.{Tells, told}
 use Rattle.recorded_run.proofs.Beginning.{meets-told, if-refused}
 use Rattle.recorded_run.proofs.Ending.{meets-end}
 use Rattle.recorded_run.proofs.Resting.{rest, keeps-behind}
-use Rattle.cmd_replay.specs.Replay.{replayed_by}
+use Rattle.cmd_replay.proofs.Meeting.{replayed_by}
 use Rattle.cmd_replay.proofs.replaying.replay.Goals as goal
 
 pub returns-in-Ok-clause-meets : goal.returns-in-Ok-clause-meets

@@ -7,7 +7,7 @@ use Rattle.cli_answers.specs.Outcome.{Tells, told}
 use Rattle.recorded_run.proofs.Beginning.{meets-told, if-refused}
 use Rattle.recorded_run.proofs.Ending.{meets-end}
 use Rattle.recorded_run.proofs.Resting.{rest, keeps-behind}
-use Rattle.cmd_upgrade.specs.Upgrade.{upgraded_by}
+use Rattle.cmd_upgrade.proofs.Meeting.{upgraded_by}
 use Rattle.cmd_upgrade.proofs.upgrading.upgrade.Goals as goal
 
 pub returns-in-Ok-clause-meets : goal.returns-in-Ok-clause-meets

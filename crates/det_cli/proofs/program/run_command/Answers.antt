@@ -6,7 +6,8 @@ use Rattle.cli_answers.proofs.Meeting.{meets-under}
 use Rattle.cli_words.specs.declared.table.CommandWord.TheVariants as words
 use Rattle.cli_words.specs.Command.{command_seen}
 use Rattle.det_cli.proofs.Helping.{help-there}
-use Rattle.det_cli.proofs.Joining.{same-command, sole-name, no-name, both-names, workers-fit, is-kept, is-gone, help-is, runs-command}
+use Rattle.det_cli.proofs.Joining.{same-command, sole-name, no-name, both-names, workers-fit, is-kept, is-gone, help-is}
+use Rattle.det_cli.proofs.Joining.{runs-command, reported-runs}
 use Rattle.det_cli.proofs.Joining.{same-reports, names-enough}
 use Rattle.det_cli.proofs.program.run_command.Goals as goal
 
@@ -258,7 +259,7 @@ returns-then-command g c =
       earlier = c.salvage_reports.ensures.earlier;
       left = λ e. absurd cc;
       gone = λ e done. c.salvage_reports.ensures.gone done;
-      saw = λ t ne. c.salvage_reports.ensures.saw ne t;
+      saw = λ t ne e. reported-runs (c.salvage_reports.ensures.saw ne t) (c.salvage_reports.ensures.meets.part t);
     })
 
 pub returns-else-command : goal.returns-else-command
@@ -276,5 +277,5 @@ returns-else-command g c =
       earlier = c.salvage.ensures.earlier;
       left = λ e. refl;
       gone = λ e. absurd cc;
-      saw = λ t ne. tt;
+      saw = λ t ne e. absurd cc;
     })
