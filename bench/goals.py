@@ -6,7 +6,7 @@ from typing import Optional
 
 from inputs import RECORDED, SIM_NUMBER
 from running import Result
-from suites import BY_CLIENT, CYCLES_DIVISOR, GREATEST, IN_PLAIN, KEPT, MOST_COPIES, WORKERS
+from suites import BY_CLIENT, CYCLES_DIVISOR, GREATEST, IN_PLAIN, KEPT, MOST_COPIES, PIPED, WORKERS
 
 ABSENT = "not in this program"
 
@@ -77,13 +77,21 @@ def workers_goals(what: str) -> list[Goal]:
     for workers in WORKERS[1:]:
         more, many = (what, workers), f"{what}, {workers} workers"
         goals.append(Goal(f"{many}: time, of one worker", more, one, 1.05))
-        goals.append(Goal(f"{many}: memory, of one worker", more, one, 2.0, is_memory=True))
+        goals.append(Goal(f"{many}: memory, of one worker", more, one, 1.4, is_memory=True))
     return goals
 
 
 def gain_goal(name: str, least: float) -> Goal:
     most = WORKERS[-1]
     return Goal(f"{name}: gain of {most} workers", (name, 1), (name, most), least, is_least=True, processors=most)
+
+
+def written_goals(what: str) -> list[Goal]:
+    """That a record which goes into a file or a pipe takes no longer than by plain Rust."""
+    return [
+        Goal(f"{what}{end}: time, of plain Rust", (what + end, None), (what + IN_PLAIN + end, None), 1.0)
+        for end in (KEPT, PIPED)
+    ]
 
 
 def record_goals(name: str) -> list[Goal]:
@@ -94,6 +102,7 @@ def record_goals(name: str) -> list[Goal]:
         for command in ("replay", "check")
     ]
     return [
+        Goal(f"{what}: time, of plain Rust", one, (what + IN_PLAIN, None), 1.0),
         Goal(f"{what}: time, of the same interfaces in plain Rust", one, (what + BY_CLIENT, 1), 1.0),
         *workers_goals(what),
         *again,
@@ -124,8 +133,11 @@ def all_goals() -> list[Goal]:
     part = f"record cycles / {CYCLES_DIVISOR}"
     return [
         *(goal for name in RECORDED for goal in record_goals(name)),
+        *written_goals("record cycles"),
         gain_goal("record cloud", 2.9),
         gain_goal("record large", 2.9),
+        gain_goal("record bank", 2.0),
+        gain_goal("record guard", 2.0),
         gain_goal("heavy pass", 3.5),
         Goal(f"record cycles: memory, of {part}", ("record cycles", 1), (part, 1), 1.2, is_memory=True),
         *copies_goals(),

@@ -112,6 +112,22 @@ def cycles(is_quick: bool, divisor: int = 1) -> Recording:
     return Recording(name, "bank", [4, 2], ["x"], sampled_lines(number, wave))
 
 
+def crowded_lines(cycles: int, samples: int, events: int) -> list[str]:
+    """So many samples in each cycle, spread over the events."""
+    lines = ["stim 1"]
+    for cycle in range(cycles):
+        lines.append(f"cycle {CYCLE_TIME * cycle}")
+        lines += [f"sample {(number * 37 + cycle) % events} {number - cycle}" for number in range(samples)]
+    return [*lines, "terminate"]
+
+
+def many(is_quick: bool) -> Recording:
+    """Cycles of many samples, whose reading takes longer than their running."""
+    events = 256
+    lines = crowded_lines(40 if is_quick else 400, 4_000, events)
+    return Recording("many", "bank", [16, 2], [f"e{event}" for event in range(events)], lines)
+
+
 def behind(is_quick: bool) -> Recording:
     """A bank that follows the words of a cloud's output. Its own stimulus is made of them."""
     return Recording("behind", "bank", [1_000 if is_quick else 10_000, 2], ["a", "b", "c", "d"], ["stim 1"], seed=SIM_NUMBER)
@@ -139,5 +155,5 @@ def write_greatest(record: Path, runs: int) -> None:
         file.write(b"\5")
 
 
-RECORDED = {"bank": bank, "cloud": cloud, "large": large, "guard": guard, "cycles": cycles}
+RECORDED = {"bank": bank, "cloud": cloud, "large": large, "guard": guard, "cycles": cycles, "many": many}
 NAMES = (*RECORDED, "copies", "greatest", "chain", "running", "sim", "heavy")

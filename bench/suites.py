@@ -23,8 +23,9 @@ CYCLES_DIVISOR = 10
 # Endings of the names of lines, for those of the plain programs.
 IN_PLAIN = ", plain Rust"
 BY_CLIENT = ", same interfaces"
-# Of one whose output goes into a new file, and of one that reads the greatest frames.
+# Of one whose output goes into a new file or through a pipe to a `cat`, and of one that reads the greatest frames.
 KEPT = ", into a file"
+PIPED = ", into a pipe"
 GREATEST = ", greatest frames"
 
 
@@ -139,11 +140,21 @@ class Bench:
         few = cycles(self.is_quick, CYCLES_DIVISOR)
         return Command(f"record {few.name}", self.inputs(few)[1], 1, records=1 / CYCLES_DIVISOR)
 
+    def written(self, recorded: list[Command]) -> list[Command]:
+        """Recordings by one worker and by plain Rust whose bytes go into a file, and through a pipe."""
+        commands = []
+        for command in recorded:
+            if command.workers in (1, None) and not command.what.endswith(BY_CLIENT):
+                piped = ["sh", "-c", f"{shlex.join(command.words)} | cat"]
+                commands.append(self.kept(command.what + KEPT, command.words))
+                commands.append(Command(command.what + PIPED, piped))
+        return commands
+
     def record(self, recording: Recording) -> None:
         name, record = recording.name, self.room("record")
         commands = self.recorded(recording, record)
         if name == "cycles":
-            commands.append(self.tenth())
+            commands += [self.tenth(), *self.written(commands)]
         results = self.runner.measure(commands + self.read_again(name, record))
         self.add_rows(results, size(record), results[0].seconds)
         verdict = f"genuine {recording.cycles()}\n" + text_of(self.det("show", "--reports", record))

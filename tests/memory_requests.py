@@ -5,12 +5,12 @@
     python3 tests/memory_requests.py --programs FOLDER     with another build of det
     python3 tests/memory_requests.py --only "det show"     the commands whose words begin so
 
-The longer record has the samples of the shorter one twice. A command that only reads records has
-to make as many requests to the C library over both, but for a few by which its room grows: none
-for a further cycle. For a command that runs the record's job again nothing is wanted: its requests
-for a further cycle are printed beside those of `record`. Prints a line for each record and command;
-ends with 1 where there are too many requests. bin/det builds where needed. Python's standard
-library and gcc are all that it needs, on Linux.
+The longer record has the samples of the shorter one twice. Each command has to make exactly as many
+requests to the C library over both: none for a further cycle, be it read, run, run again or
+refused. All run with one worker. `sim` has a number of cycles of its own: it may make no more
+requests in all than its first cycles take. Prints a line for each
+record and command; ends with 1 where there are too many requests. bin/det builds where needed.
+Python's standard library and gcc are all that it needs, on Linux.
 """
 
 import argparse
@@ -18,7 +18,7 @@ import sys
 import tempfile
 from dataclasses import dataclass
 from pathlib import Path
-from typing import List, Optional
+from typing import List
 
 from chained import Client, stimulus
 from mutations import in_first_format
@@ -26,24 +26,23 @@ from refused_memory import Trial, built_in
 
 # A multiple of 140, so that the second half of the longer record has the samples of the first.
 CYCLES = 700
-# How many requests more there may be over twice the cycles: those by which the room grows.
-GROWTHS = 4
-NONE, ANY = 0, None
-# The commands, as words in which RECORD is a record, and the most requests for a further cycle.
-COMMANDS = {
-    "det compare RECORD RECORD": NONE,
-    "det compare RECORD RECORD RECORD RECORD RECORD RECORD RECORD RECORD": NONE,
-    "det vote RECORD RECORD RECORD": NONE,
-    "det vote RECORD RECORD RECORD --dissent": NONE,
-    "det salvage RECORD": NONE,
-    "det salvage RECORD --reports": NONE,
-    "det show RECORD": NONE,
-    "det show RECORD --reports": NONE,
-    "det show RECORD --cycle 2": NONE,
-    "det replay RECORD": ANY,
-    "det check RECORD": ANY,
-    "det upgrade RECORD": ANY,
-}
+# The commands, as words in which RECORD is a record.
+COMMANDS = (
+    "det compare RECORD RECORD",
+    "det compare RECORD RECORD RECORD RECORD RECORD RECORD RECORD RECORD",
+    "det vote RECORD RECORD RECORD",
+    "det vote RECORD RECORD RECORD --dissent",
+    "det salvage RECORD",
+    "det salvage RECORD --reports",
+    "det show RECORD",
+    "det show RECORD --reports",
+    "det show RECORD --cycle 2",
+    "det replay RECORD",
+    "det check RECORD",
+    "det upgrade RECORD",
+)
+# The requests of all 200 cycles of `sim`, whose 10,000 elements stand in 157 blocks.
+MOST_OF_SIM = 3_000
 
 
 @dataclass(frozen=True)
@@ -78,8 +77,9 @@ class Counts:
         """How many a further cycle takes."""
         return (self.longer - self.shorter) / CYCLES
 
-    def are_at_most(self, most: Optional[int]) -> bool:
-        return most is None or self.longer <= self.shorter + GROWTHS + most * CYCLES
+    def are_few(self) -> bool:
+        """Whether a further cycle takes none."""
+        return self.longer <= self.shorter
 
 
 class Counting:
@@ -116,15 +116,28 @@ class Counting:
                 raise RuntimeError(f"status {ended.status}: {words}")
         return Counts(*(count for _, count in ends))
 
-    def has_few(self, words: str, most: Optional[int]) -> bool:
-        """Whether a command takes no more for a further cycle; prints what it takes."""
-        counts = self.counted([words.replace("RECORD", str(record)) for record in self.records])
-        good = counts.are_at_most(most)
+    def has_few(self, words: str, counts: Counts) -> bool:
+        """Whether a command takes none for a further cycle; prints what it takes."""
         told = f"{counts.shorter} and {counts.longer} requests, {counts.a_cycle():.2f} a cycle"
-        beside = f"; record takes {self.recorded.a_cycle():.2f}" if most is None else ""
-        wrong = "" if good else ": TOO MANY"
-        print(f"{self.given.name}: {words}: {told}{beside}{wrong}", flush=True)
-        return good
+        wrong = "" if counts.are_few() else ": TOO MANY"
+        print(f"{self.given.name}: {words}: {told}{wrong}", flush=True)
+        return counts.are_few()
+
+    def reads_with_few(self, words: str) -> bool:
+        """The same of a command over the two records."""
+        both = [words.replace("RECORD", str(record)) for record in self.records]
+        return self.has_few(words, self.counted(both))
+
+    def records_with_few(self) -> bool:
+        return self.has_few("det record", self.recorded)
+
+
+def sim_has_few(trial: Trial) -> bool:
+    """Whether `sim` takes no more than its first cycles do."""
+    ended, count = trial.run("det sim 7 --workers 1", 0)
+    good = ended.status == 0 and count <= MOST_OF_SIM
+    print(f"det sim 7: {count} requests{'' if good else ': TOO MANY'}", flush=True)
+    return good
 
 
 def main() -> int:
@@ -132,13 +145,17 @@ def main() -> int:
     parser.add_argument("--programs", type=Path, help="a folder of builds in place of bin/")
     parser.add_argument("--only", default="", help="what the commands begin with")
     given = parser.parse_args()
-    commands = [pair for pair in COMMANDS.items() if pair[0].startswith(given.only)]
+    commands = [words for words in COMMANDS if words.startswith(given.only)]
     with tempfile.TemporaryDirectory() as name:
         folder = Path(name)
         programs = given.programs.resolve() if given.programs else built_in(folder / "programs")
         trial = Trial(programs, folder)
         countings = [Counting(trial, it) for it in INPUTS]
-        good = [counting.has_few(*pair) for counting in countings for pair in commands]
+        good = [counting.reads_with_few(words) for counting in countings for words in commands]
+        if "det record".startswith(given.only):
+            good += [counting.records_with_few() for counting in countings]
+        if "det sim".startswith(given.only):
+            good.append(sim_has_few(trial))
     return 0 if good and all(good) else 1
 
 

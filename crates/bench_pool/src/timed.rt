@@ -12,14 +12,14 @@ use anyhow::{Context, Result, bail};
 use det_client::{Client, Next};
 use det_values::{Container, Events, OutOfMemory, Params};
 use event_cache::EventCache;
-use job_trait::{Job, PassOf, Pool, Started};
+use job_trait::{Job, PassRoom, Pool, Started};
 use std::alloc::Global;
 use std::marker::Brand;
 use std::sync::Arc;
 use std::thread::Threads;
 use std::time::{Clock, Duration, Instant};
 use tickets::Room;
-use worker_pool::{Crew, CrewRoom, NoGate};
+use worker_pool::{Crew, CrewRoom, HeldPass, NoGate};
 
 /// A cache without events.
 fn no_events(alloc: Global) -> std::result::Result<EventCache, OutOfMemory>
@@ -46,33 +46,30 @@ fn pass_zero<J: Job>(
     carry: J::Part,
     elements: Container<J::Element>,
     seed: u64,
-) -> std::result::Result<Arc<PassOf<J>, Global>, OutOfMemory>
+) -> std::result::Result<HeldPass<J>, OutOfMemory>
     requires fit { J.Fit job plan }
     requires carry { CoversSome (J.Covers job) carry }
     requires own { All (J.Own job) elements }
     requires few { length elements ≤ 65536 }
-    ensures { IfOk result (λ pass. IsReady J.meaning J.Covers J.Own J.Fit (arc_value pass)) }
+    ensures { IfOk result (λ pass. IsReady J.meaning J.Covers J.Own J.Fit pass) }
 {
-    shared(
-        alloc,
-        PassOf {
-            job: shared(alloc, job)?,
-            plan: shared(alloc, plan)?,
-            carry: shared(alloc, carry)?,
-            number: 0,
-            elements: shared(alloc, elements)?,
-            seed,
-            cycle: 1,
-            earlier: shared(alloc, Container::new(alloc))?,
-            shows: false,
-        },
-    )
+    Ok(HeldPass {
+        job: shared(alloc, job)?,
+        plan: shared(alloc, plan)?,
+        carry: shared(alloc, carry)?,
+        number: 0,
+        elements: shared(alloc, elements)?,
+        seed,
+        cycle: 1,
+        earlier: shared(alloc, Container::new(alloc))?,
+        shows: false,
+    })
 }
 
 /// The first pass over the elements that a job of these parameters starts with. None where memory
 /// is short, or the job can't be made or refuses.
-fn first_pass<J: Job>(alloc: Global, params: &Params) -> Option<Arc<PassOf<J>, Global>>
-    ensures { IfSome result (λ pass. IsReady J.meaning J.Covers J.Own J.Fit (arc_value pass)) }
+fn first_pass<J: Job>(alloc: Global, params: &Params) -> Option<HeldPass<J>>
+    ensures { IfSome result (λ pass. IsReady J.meaning J.Covers J.Own J.Fit pass) }
 {
     let job = J::make(params, 0).ok()?;
     let cache = no_events(alloc).ok()?;
@@ -80,9 +77,9 @@ fn first_pass<J: Job>(alloc: Global, params: &Params) -> Option<Arc<PassOf<J>, G
     let Started { globals, elements } = job.start(alloc, &mut client).ok()?;
     let mut client = Client::resumed(10, 0, 0);
     let _ = client.wait_for_activation(Next::Go(None));
-    let plan = job.prepare(alloc, &globals, &elements, &cache, &mut client);
+    let plan = job.prepare(alloc, &globals, &elements, &cache, &mut client, &mut None);
     let plan = plan.ok()?;
-    let carry = job.unit(alloc);
+    let carry = job.unit(alloc, &mut None);
     pass_zero(alloc, job, plan, carry, elements, client.seed()).ok()
 }
 
@@ -91,12 +88,13 @@ fn timed<J: Job, P: Pool<J>, R: Clock>(
     rt: &R,
     alloc: Global,
     pool: &mut P,
-    pass: &Arc<PassOf<J>, Global>,
+    pass: &HeldPass<J>,
 ) -> Result<Duration>
-    requires { IsReady J.meaning J.Covers J.Own J.Fit (arc_value pass.now) }
+    requires { IsReady J.meaning J.Covers J.Own J.Fit pass.now }
 {
     let start = Instant::now(rt)?;
-    pool.run_pass(alloc, pass).ok().context("refused")?;
+    let done = pool.run_pass(&pass.pass(), &mut PassRoom::new(alloc));
+    done.ok().context("refused")?;
     Ok(start.elapsed(rt)?)
 }
 
@@ -105,7 +103,7 @@ fn timed_in_room<J, B, R>(
     rt: &R,
     alloc: Global,
     room: CrewRoom<J>,
-    pass: &Arc<PassOf<J>, Global>,
+    pass: &HeldPass<J>,
     workers: u32,
 ) -> Result<Duration>
 where
@@ -117,7 +115,7 @@ where
     B: Room + Send + Sync + 'static,
     R: Threads + Clock,
     requires room { room_name room ≡ B.table }
-    requires ready { IsReady J.meaning J.Covers J.Own J.Fit (arc_value pass.now) }
+    requires ready { IsReady J.meaning J.Covers J.Own J.Fit pass.now }
     requires workers { (1 ≤ workers) × (workers ≤ 64) }
 {
     let Ok(gate) = shared(alloc, NoGate) else {

@@ -57,7 +57,8 @@ where
 {
     open_both(first, second, first_sink, second_sink)?;
     'cycles: while let Some(input) = stimulus.next_input(shelf)? {
-        link(first, second, input, first_sink, second_sink)?;
+        let spare = link(first, second, input, first_sink, second_sink)?;
+        stimulus.take_back(spare);
     }
     let counts = close_both(first, second, first_sink, second_sink)?;
     Ok(counts)

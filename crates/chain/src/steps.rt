@@ -64,14 +64,14 @@ where
 }
 
 /// Runs the next cycle of both, the second client's over the output of the first one's, and writes
-/// their frames.
+/// their frames. The input is answered, for its memory.
 pub(crate) fn link<A, P, B, Q, K, L>(
     first: &mut Runner<A, P>,
     second: &mut Runner<B, Q>,
     input: CycleInput,
     first_sink: &mut K,
     second_sink: &mut L,
-) -> Result<(), Failure>
+) -> Result<CycleInput, Failure>
 where
     A: Job,
     P: Pool<A>,
@@ -118,10 +118,11 @@ where
     let run = first.recording.cycle(&mut first.pool, input, first_sink)?;
     let events = second.recording.events();
     let passed = derived_input(second.recording.alloc(), &run, events)?;
-    let _ = second
+    let followed = second
         .recording
         .cycle(&mut second.pool, passed, second_sink)?;
-    Ok(())
+    let _ = second.recording.take_back(followed);
+    Ok(first.recording.take_back(run))
 }
 
 /// Ends both runs.

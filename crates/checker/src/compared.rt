@@ -3,7 +3,7 @@ ghost use Rattle.std.specs.Prelude.{◌≡◌};
 ghost use Rattle.lockstep.specs.FirstDifference.{frame_difference};
 ghost use Rattle.checker.specs.Compared.{given_in};
 
-use det_values::{CycleInput, Frame, RunFrame};
+use det_values::Frame;
 use lockstep::{Difference, first_difference};
 
 /// A frame that was read, and the one that is given in its place.
@@ -24,16 +24,5 @@ impl Compared {
             None => None,
             Some(given) => first_difference(number, &self.read, given),
         }
-    }
-}
-
-/// The input of a Run frame.
-pub(crate) fn input_in(frame: Frame) -> Option<CycleInput> {
-    match frame {
-        Frame::Run(run) => {
-            let RunFrame { input, .. } = run;
-            Some(input)
-        }
-        Frame::Register | Frame::Discover | Frame::Init(_) | Frame::Terminate => None,
     }
 }

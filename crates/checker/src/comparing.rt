@@ -80,7 +80,7 @@ impl Checker {
         let difference = compared.difference(self.compared);
         self.compared += 1;
         let Compared { read, .. } = compared;
-        self.room.reuse(read);
+        self.room.take_back(recording, read);
         Ok(difference)
     }
 

@@ -6,7 +6,7 @@ ghost use Rattle.record_grammar.specs.Spelling.{CanSpell};
 ghost use Rattle.record_view.specs.Shows.{IsFrameSpelling, events_of};
 ghost use Rattle.checker.specs.Given.{AreAlike};
 
-use crate::compared::{Compared, input_in};
+use crate::compared::Compared;
 use crate::given::given_frame;
 use det_values::{CycleInput, Frame, OutOfMemory};
 use job_trait::{Job, Pool};
@@ -98,10 +98,12 @@ impl FrameRoom {
         })
     }
 
-    /// Takes the memory of a Run frame's input, for the next one.
-    pub fn reuse(&mut self, frame: Frame) {
-        if let Some(input) = input_in(frame) {
-            self.spare = input;
+    /// Takes back a frame that nobody needs, for its memory, where it is a Run frame.
+    pub fn take_back<J: Job>(&mut self, recording: &mut Recording<J>, frame: Frame)
+        ensures { recording.new ≡ recording.old }
+    {
+        if let Frame::Run(run) = frame {
+            self.spare = recording.take_back(run);
         }
     }
 }

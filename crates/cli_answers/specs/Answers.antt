@@ -1,6 +1,7 @@
 -- What an answer of a command tells: its exit status, and its line for `err`.
 use Rattle.std.specs.Prelude.{ℕ, List, [], ◌++◌, min, map, take, ◌&&◌, nat_le, codes, decimal}
-use Rattle.std.specs.Prelude.{if◌then◌else◌, Option, Some, None}
+use Rattle.std.specs.Prelude.{if◌then◌else◌, Option}
+use Rattle.std.specs.Option.{option_map_or}
 use Rattle.det_edges.specs.declared.failure.Failure.{Failure}
 use Rattle.det_edges.specs.declared.failure.Failure.TheVariants as failures
 use Rattle.det_edges.specs.declared.failure.Stopped.{Stopped}
@@ -9,7 +10,6 @@ use Rattle.manifest.specs.declared.fault.ManifestFault.TheVariants.{TooLong, Not
 use Rattle.manifest.specs.declared.fault.ManifestFault.TheVariants.{WrongKind, OutOfRange}
 use Rattle.manifest.specs.declared.fault.ManifestFault.TheVariants.{UnknownKey, DuplicateEvent}
 use Rattle.manifest.specs.declared.fault.ManifestFault.TheVariants.{UnknownJob}
-use Rattle.manifest.specs.declared.key.Key.{Key}
 use Rattle.manifest.specs.KeyTexts.{key_text}
 use Rattle.manifest.specs.declared.unknown.KeyTable.{KeyTable}
 use Rattle.manifest.specs.declared.unknown.KeyTable.TheVariants.{Top, Event, InitNeeds, RunNeeds}
@@ -37,8 +37,7 @@ failed failures.OutOfMemory = OutOfMemory
 
 -- a record without a fault is done; the one record that is read is copy 0
 abbrev pub by_fault : Option RecordFault → Answer
-by_fault None = Done
-by_fault (Some fault) = BadRecord 0 fault
+by_fault fault = option_map_or (BadRecord 0) fault Done
 
 -- what a command answers that stopped in the one record that it reads, which is copy 0
 abbrev pub stopped : Stopped RecordFault → Answer
@@ -67,10 +66,6 @@ status_of (NoMajority row) = statuses.NoMajority
 abbrev pub ended : List ℕ → List ℕ
 ended text = text ++ codes "\n"
 
--- words, and the text of a key
-abbrev pub with_key : List ℕ → Key → List ℕ
-with_key words key = words ++ key_text key
-
 -- a printable ASCII character other than a space, and `?` for any other byte
 abbrev pub printable : ℕ → ℕ
 printable byte = if nat_le 33 byte && nat_le byte 126 then byte else 63
@@ -86,17 +81,17 @@ table_text RunNeeds = codes "run_needs."
 abbrev pub unknown_text : unknown.UnknownKey → List ℕ
 unknown_text key = table_text key.table ++ map printable (take (min key.len 64) key.bytes)
 
+-- what is bad about a manifest
 abbrev pub bad_manifest_text : refusals.BadManifest → List ℕ
-bad_manifest_text (Fault TooLong) = codes "bad manifest: too long"
-bad_manifest_text (Fault NotToml) = codes "bad manifest: not toml"
-bad_manifest_text (Fault (Missing key)) = with_key (codes "bad manifest: missing ") key
-bad_manifest_text (Fault (WrongKind key)) = with_key (codes "bad manifest: wrong kind ") key
-bad_manifest_text (Fault (OutOfRange key)) = with_key (codes "bad manifest: out of range ") key
-bad_manifest_text (Fault (UnknownKey key)) = codes "bad manifest: unknown key " ++ unknown_text key
-bad_manifest_text (Fault (DuplicateEvent number)) =
-    codes "bad manifest: duplicate event " ++ decimal number
-bad_manifest_text (Fault UnknownJob) = codes "bad manifest: unknown job"
-bad_manifest_text (Parameter index) = codes "bad manifest: bad parameter " ++ decimal index
+bad_manifest_text (Fault TooLong) = codes "too long"
+bad_manifest_text (Fault NotToml) = codes "not toml"
+bad_manifest_text (Fault (Missing key)) = codes "missing " ++ key_text key
+bad_manifest_text (Fault (WrongKind key)) = codes "wrong kind " ++ key_text key
+bad_manifest_text (Fault (OutOfRange key)) = codes "out of range " ++ key_text key
+bad_manifest_text (Fault (UnknownKey key)) = codes "unknown key " ++ unknown_text key
+bad_manifest_text (Fault (DuplicateEvent number)) = codes "duplicate event " ++ decimal number
+bad_manifest_text (Fault UnknownJob) = codes "unknown job"
+bad_manifest_text (Parameter index) = codes "bad parameter " ++ decimal index
 
 abbrev pub reason_word : Reason → List ℕ
 reason_word Magic = codes "magic"
@@ -117,7 +112,7 @@ abbrev pub err_line : Answer → List ℕ
 err_line Done = []
 err_line Differs = []
 err_line BadWords = codes "bad words\n"
-err_line (BadManifest why) = ended (bad_manifest_text why)
+err_line (BadManifest why) = ended (codes "bad manifest: " ++ bad_manifest_text why)
 err_line (BadStimulus line) = ended (codes "bad stimulus: line " ++ decimal line)
 err_line (BadRecord copy fault) = ended (bad_record_text copy fault)
 err_line BadProfile = codes "bad record: profile\n"

@@ -2,10 +2,9 @@
 -- be wanting.
 use Rattle.std.specs.Prelude.{Bool, true, false, ◌||◌}
 use Rattle.cli_answers.specs.declared.answer.Answer.{Answer}
-use Rattle.cli_answers.specs.declared.answer.Answer.TheVariants.{Done, Differs, BadWords}
+use Rattle.cli_answers.specs.declared.answer.Answer.TheVariants.{Differs, BadWords}
 use Rattle.cli_answers.specs.declared.answer.Answer.TheVariants.{BadManifest, BadStimulus}
 use Rattle.cli_answers.specs.declared.answer.Answer.TheVariants.{BadRecord, BadProfile, ReadFault}
-use Rattle.cli_answers.specs.declared.answer.Answer.TheVariants.{WriteFault, OutOfMemory}
 use Rattle.cli_answers.specs.declared.answer.Answer.TheVariants.{NoMajority}
 
 pub record Work : Type 0 where
@@ -19,7 +18,6 @@ pub record Work : Type 0 where
   pub votes : Bool
 
 abbrev pub can_end : Work → Answer → Bool
-can_end work Done = true
 can_end work Differs = work.compares
 can_end work BadWords = false
 can_end work (BadManifest why) = work.manifest
@@ -27,9 +25,8 @@ can_end work (BadStimulus line) = work.stimulus
 can_end work (BadRecord copy fault) = work.recorded
 can_end work BadProfile = work.recorded
 can_end work ReadFault = work.manifest || (work.stimulus || (work.recorded || work.votes))
-can_end work WriteFault = true
-can_end work OutOfMemory = true
 can_end work (NoMajority row) = work.votes
+can_end work other = true
 
 -- a command that writes what it makes of nothing that it reads
 abbrev pub writes_alone : Work
@@ -40,3 +37,11 @@ writes_alone = record {
   compares = false;
   votes = false;
 }
+
+-- a command that reads records
+abbrev pub reads_records : Work
+reads_records = record writes_alone { recorded = true }
+
+-- a command that compares records, with each other or with the runs of their inputs
+abbrev pub compares_records : Work
+compares_records = record reads_records { compares = true }

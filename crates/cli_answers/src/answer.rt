@@ -1,7 +1,7 @@
 //! How a command ended, with what its line for `err` tells.
 ghost use Rattle.std.specs.Prelude.{◌≡◌, ◌+◌, ◌≤◌, ◌++◌, length, codes, decimal};
 ghost use Rattle.manifest.specs.KeyTexts.{key_text};
-ghost use Rattle.cli_answers.specs.Answers.{status_of, reason_word, ended, with_key, err_line};
+ghost use Rattle.cli_answers.specs.Answers.{status_of, reason_word, ended, err_line};
 ghost use Rattle.cli_answers.specs.Answers.{table_text, unknown_text};
 ghost use Rattle.cli_answers.specs.Answers.{bad_manifest_text, bad_record_text};
 
@@ -101,7 +101,7 @@ fn word_of(reason: Reason) -> &'static str
 
 fn key_line(words: &str, key: Key) -> Line
     requires { length words.now ≤ 40 }
-    ensures { result ≡ ended (with_key words.now key) }
+    ensures { result ≡ ended (words.now ++ key_text key) }
 {
     let mut line = Line::new();
     line.push(words);
@@ -151,7 +151,8 @@ fn unknown_line(key: UnknownKey) -> Line
 }
 
 fn fault_line(fault: ManifestFault) -> Line
-    ensures { result ≡ ended (bad_manifest_text (BadManifest.Fault fault)) }
+    ensures { result
+        ≡ ended (codes "bad manifest: " ++ bad_manifest_text (BadManifest.Fault fault)) }
 {
     match fault {
         ManifestFault::TooLong => Line::of("bad manifest: too long\n"),
@@ -168,7 +169,7 @@ fn fault_line(fault: ManifestFault) -> Line
 }
 
 fn manifest_line(why: BadManifest) -> Line
-    ensures { result ≡ ended (bad_manifest_text why) }
+    ensures { result ≡ ended (codes "bad manifest: " ++ bad_manifest_text why) }
 {
     match why {
         BadManifest::Fault(fault) => fault_line(fault),

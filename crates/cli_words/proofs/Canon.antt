@@ -13,12 +13,13 @@ use Rattle.cli_words.specs.declared.options.Options.{Options}
 use Rattle.cli_words.specs.Table.{row}
 use Rattle.cli_words.specs.Command.{CommandValue}
 use Rattle.cli_words.specs.Ranges.{value_of, IsInRange}
-use Rattle.cli_words.specs.Reading.{with_words, read_by, read, meant, meant_pair, in_full, read_in_full, command_of}
+use Rattle.cli_words.specs.Reading.{with_words, read_by, meant, meant_pair, in_full, read_in_full, command_of}
 use Rattle.cli_words.specs.Items.{Item, name, option, words_in, names_in, is_same, values_in, Gives, IsSpelling, told_items, words_of}
 use Rattle.cli_words.proofs.Ranging.{in_range}
 use Rattle.cli_words.proofs.Parting.{own-command}
 use Rattle.cli_words.proofs.Growing.{read-given}
 use Rattle.cli_words.proofs.Spelling.{spelled}
+use Rattle.cli_words.specs.First.{read}
 
 pub exactly : (words : List (List ℕ)) (c : CommandValue) → (command_of words ≡ Some c) ↔ (IsInRange c × IsSpelling words c)
 exactly words c = (

@@ -12,10 +12,11 @@ use Rattle.cli_words.specs.Names.{is_name, is_name_of, is_of_kind}
 use Rattle.cli_words.specs.Table.{row, command_word, option_row, is_among}
 use Rattle.cli_words.specs.Command.{CommandValue, with_told}
 use Rattle.cli_words.specs.Ranges.{value_of, IsWithin, IsInRange}
-use Rattle.cli_words.specs.Reading.{settled, begun, with_words, finished, read_by, read}
+use Rattle.cli_words.specs.Reading.{settled, begun, with_words, finished, read_by}
 use Rattle.cli_words.specs.Items.{Item, name, option, words_in, names_in, is_same, values_in, Gives}
 use Rattle.cli_words.proofs.Ranging.{Fits, IsOptionOf, untold}
 use Rattle.cli_words.proofs.Parting.{name-step, option-step, told-value, same-itself, none-untold, same-options}
+use Rattle.cli_words.specs.First.{read}
 
 abbrev pub told_list : OptionWord → CommandValue → List ℕ
 told_list o c = option_to_list (value_of o c.options)

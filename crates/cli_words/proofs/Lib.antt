@@ -2,6 +2,7 @@ pub mod Canon
 pub mod Decimals
 pub mod Finding
 pub mod Growing
+pub mod Choosing
 pub mod Moving
 pub mod Parting
 pub mod Ranging

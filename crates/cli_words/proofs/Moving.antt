@@ -10,7 +10,7 @@ use Rattle.cli_words.specs.Names.{is_name, is_name_of, is_of_kind}
 use Rattle.cli_words.specs.Table.{row, command_word, option_row, is_among}
 use Rattle.cli_words.specs.Command.{CommandValue, is_told, with_told}
 use Rattle.cli_words.specs.Ranges.{value_of, IsWithin, IsInRange}
-use Rattle.cli_words.specs.Reading.{Reading, settled, begun, with_option_or_name, with_word, with_words, finished, read_by, read}
+use Rattle.cli_words.specs.Reading.{Reading, settled, begun, with_word, with_words, finished, read_by}
 use Rattle.cli_words.specs.Reading.{command_of}
 use Rattle.cli_words.specs.Items.{Item, name, option, option_words, item_words, words_in, names_in, is_same, values_in, Gives, IsItem}
 use Rattle.cli_words.proofs.Ranging.{full-fits, untold}
@@ -18,6 +18,8 @@ use Rattle.cli_words.proofs.Parting.{has-own, not-own, no-name, name-no-option, 
 use Rattle.cli_words.proofs.Growing.{Grows, read-given}
 use Rattle.cli_words.proofs.Spelling.{grown-name, grown-option, grows-itself, finished-is}
 use Rattle.cli_words.proofs.Canon.{names-append, values-append}
+use Rattle.cli_words.proofs.Choosing.{with_option_or_name}
+use Rattle.cli_words.specs.First.{read}
 
 -- ---- items that are read as a command give it
 

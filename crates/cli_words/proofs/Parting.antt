@@ -17,9 +17,10 @@ use Rattle.cli_words.specs.Names.{is_name, is_name_of}
 use Rattle.cli_words.specs.Table.{row, command_word, option_row, option_word, option_in, is_among}
 use Rattle.cli_words.specs.Command.{CommandValue, is_told, with_told}
 use Rattle.cli_words.specs.Ranges.{value_if, value_of, IsWithin}
-use Rattle.cli_words.specs.Reading.{Reading, settled, is_in_range, with_number, with_value, with_option_or_name, with_word, with_words}
+use Rattle.cli_words.specs.Reading.{Reading, settled, is_in_range, with_number, with_value, with_word, with_words}
 use Rattle.cli_words.specs.Items.{option_words, is_same}
 use Rattle.cli_words.proofs.Decimals.{number_of-decimal}
+use Rattle.cli_words.proofs.Choosing.{with_option_or_name}
 
 find-true : {X : Type 0} (p : X → Bool) (xs : List X) (x : X) → find p xs ≡ Some x → p x ≡ true
 find-true {X} p [] x e = absurd cc

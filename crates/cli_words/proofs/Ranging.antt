@@ -16,8 +16,9 @@ use Rattle.cli_words.specs.Table.{row, command_word, option_row, option_word, op
 use Rattle.cli_words.specs.Command.{CommandValue, is_told, with_told}
 use Rattle.cli_words.specs.Ranges.{value_of, IsWithin, IsInRange}
 use Rattle.cli_words.specs.Reading.{Reading, settled, begun, with_name, is_in_range, with_number, with_value, with_option}
-use Rattle.cli_words.specs.Reading.{with_option_or_name, with_next, with_word, with_words, is_whole, finished, read_by, in_full}
+use Rattle.cli_words.specs.Reading.{with_next, with_word, with_words, is_whole, finished, read_by, in_full}
 use Rattle.cli_words.specs.Reading.{read_in_full, command_of}
+use Rattle.cli_words.proofs.Choosing.{with_option_or_name}
 
 -- what is told of an option after one more was told
 pub told-cases : (o p : OptionWord) (n m : ℕ) (options : Options) → IsWithin (option_row o).range n

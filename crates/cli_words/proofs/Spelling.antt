@@ -13,13 +13,14 @@ use Rattle.cli_words.specs.Names.{is_name_of}
 use Rattle.cli_words.specs.Table.{row, command_word, option_row, option_word, option_in, is_among}
 use Rattle.cli_words.specs.Command.{CommandValue, is_told, with_told}
 use Rattle.cli_words.specs.Ranges.{value_of, IsWithin}
-use Rattle.cli_words.specs.Reading.{Reading, settled, begun, is_in_range, with_number, with_option_or_name, with_words, is_whole, finished}
+use Rattle.cli_words.specs.Reading.{Reading, settled, begun, is_in_range, with_number, with_words, is_whole, finished}
 use Rattle.cli_words.specs.Reading.{read_by, read_in_full}
 use Rattle.cli_words.specs.Items.{Item, name, option, option_words, words_in, names_in, is_same, values_in, Gives}
 use Rattle.cli_words.proofs.Decimals.{number_of-is}
 use Rattle.cli_words.proofs.Ranging.{untold, none-within, within-range}
 use Rattle.cli_words.proofs.Parting.{option-is, command-is, told-value, untold-none}
 use Rattle.cli_words.proofs.Growing.{told_list, Grows}
+use Rattle.cli_words.proofs.Choosing.{with_option_or_name}
 
 record Spelled (words : List (List ℕ)) (from to : CommandValue) : Type 0 where
   items : List Item

@@ -1,6 +1,7 @@
 -- A command with its names and options.
-use Rattle.std.specs.Prelude.{ℕ, List, [], get_or, Bool, true, false, Option, Some, None, is_some}
-use Rattle.std.specs.Prelude.{unwrap_or}
+use Rattle.std.specs.Prelude.{ℕ, List, [], get_or, Bool, true, Some, is_some}
+use Rattle.std.specs.Prelude.{unwrap_or, if◌then◌else◌}
+use Rattle.std.specs.Option.{option_map_or}
 use Rattle.cli_words.specs.declared.table.CommandWord.{CommandWord}
 use Rattle.cli_words.specs.declared.table.NameKind.{NameKind}
 use Rattle.cli_words.specs.declared.table.NameKind.TheVariants.{File}
@@ -57,11 +58,8 @@ with_told Reports n options = record options { reports = true }
 with_told Dissent n options = record options { dissent = true }
 with_told Strict n options = record options { strict = true }
 
-abbrev pub part_by : Bool → Option ℕ → ShowPart
-part_by true cycle = parts.Reports
-part_by false (Some cycle) = parts.Cycle cycle
-part_by false None = parts.All
-
 -- which part of a record is shown
 abbrev pub part_of : Options → ShowPart
-part_of options = part_by options.reports options.cycle
+part_of options =
+    if options.reports then parts.Reports
+    else option_map_or parts.Cycle options.cycle parts.All

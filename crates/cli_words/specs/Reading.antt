@@ -2,6 +2,7 @@
 use Rattle.std.specs.Prelude.{ℕ, List, [], ◌∷◌, ◌++◌, Bool, false, ◌&&◌, ◌||◌, not, nat_lt, nat_le}
 use Rattle.std.specs.Prelude.{length, Option, Some, None, is_some, is_none, option_and_then, codes}
 use Rattle.std.specs.Prelude.{if◌then◌else◌}
+use Rattle.std.specs.Option.{option_map_or}
 use Rattle.std.specs.Str.{bytes_eq}
 use Rattle.cli_words.specs.declared.table.CommandWord.{CommandWord}
 use Rattle.cli_words.specs.declared.table.OptionWord.{OptionWord}
@@ -52,15 +53,11 @@ with_option option c =
     then Some (record { command = c; awaited = Some option })
     else Some (settled (record c { options = with_told option 0 c.options }))
 
-abbrev pub with_option_or_name : Option OptionWord → List ℕ → CommandValue → Option Reading
-with_option_or_name (Some option) word c = with_option option c
-with_option_or_name None word c = with_name word c
-
--- one word more, where this option awaits its value
+-- one word more, where this option awaits its value, or else an option or a name
 abbrev pub with_next : Option OptionWord → List ℕ → CommandValue → Option Reading
 with_next (Some option) word c = with_value option word c
 with_next None word c =
-    with_option_or_name (option_in (row c.word).options word) word c
+    option_map_or (λ o. with_option o c) (option_in (row c.word).options word) (with_name word c)
 
 abbrev pub with_word : List ℕ → Reading → Option Reading
 with_word word r = with_next r.awaited word r.command
@@ -83,10 +80,6 @@ finished r = if is_whole r then Some r.command else None
 abbrev pub read_by : List (List ℕ) → CommandWord → Option CommandValue
 read_by rest word = option_and_then finished (with_words rest (begun word))
 
--- the command of the first word, with what the rest tells
-abbrev pub read : List ℕ → List (List ℕ) → Option CommandValue
-read first rest = option_and_then (read_by rest) (command_word first)
-
 -- `-h`, `help`, `-V` and `version` alone are other words for commands
 abbrev pub meant : List ℕ → List ℕ
 meant word =
@@ -107,9 +100,10 @@ in_full (word ∷ []) = meant word ∷ []
 in_full (first ∷ second ∷ []) = meant_pair first second
 in_full words = words
 
+-- the command of the first word, with what the rest tells
 abbrev pub read_in_full : List (List ℕ) → Option CommandValue
 read_in_full [] = None
-read_in_full (first ∷ rest) = read first rest
+read_in_full (first ∷ rest) = option_and_then (read_by rest) (command_word first)
 
 -- the command that the words are
 abbrev pub command_of : List (List ℕ) → Option CommandValue

@@ -5,7 +5,8 @@ ghost use Rattle.cli_words.specs.Command.{command_seen};
 ghost use Rattle.cli_words.specs.Reading.{reading_seen, settled, begun};
 ghost use Rattle.cli_words.specs.Reading.{with_name, with_value, with_option};
 ghost use Rattle.cli_words.specs.Reading.{with_word, with_words, is_whole, finished};
-ghost use Rattle.cli_words.specs.Reading.{is_in_range, read, meant, meant_pair, read_in_full};
+ghost use Rattle.cli_words.specs.First.{read};
+ghost use Rattle.cli_words.specs.Reading.{is_in_range, meant, meant_pair, read_in_full};
 ghost use Rattle.cli_words.specs.Reading.{command_of};
 
 use crate::command::Command;

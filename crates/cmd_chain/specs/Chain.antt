@@ -17,14 +17,9 @@ use Rattle.cli_answers.specs.declared.answer.BadManifest.{BadManifest}
 use Rattle.cli_answers.specs.declared.answer.Answer.{Answer}
 use Rattle.cli_answers.specs.declared.answer.Answer.TheVariants as answers
 use Rattle.cli_answers.specs.Answers.{failed}
-use Rattle.cli_answers.specs.Ends.{Work}
 use Rattle.cli_answers.specs.Outcome.{Outcome, refusal}
 use Rattle.cmd_setup.specs.Setup.{setup_of}
-use Rattle.cmd_record.specs.Outcomes.{answer_to, record_names, record_work}
-
--- it reads what `record` reads
-abbrev pub chain_work : Work
-chain_work = record_work
+use Rattle.cmd_record.specs.Outcomes.{answer_to, record_names}
 
 -- what a run of a chain is answered
 abbrev pub answer_of : Result ChainCounts (Stopped StimFault) → Answer

@@ -9,8 +9,8 @@ ghost use Rattle.cli_answers.specs.Outcome.{Meets, Tells, told};
 ghost use Rattle.cli_answers.specs.Slots.{KeepsSlots};
 ghost use Rattle.shipped_jobs.specs.Kinds.{bad_param};
 ghost use Rattle.cmd_setup.specs.Setup.{setup_of};
-ghost use Rattle.cmd_record.specs.Outcomes.{record_names};
-ghost use Rattle.cmd_chain.specs.Chain.{chain_names, chain_outcome, chain_work, chained_behind};
+ghost use Rattle.cmd_record.specs.Outcomes.{record_names, record_work};
+ghost use Rattle.cmd_chain.specs.Chain.{chain_names, chain_outcome, chained_behind};
 
 use crate::over_stimulus::chain_named;
 use cli_answers::Answer;
@@ -63,7 +63,7 @@ where
         (setup_of task.now.strict (told (S.sees shelf.old) task.now.second.now))))
         (Rose (S.sees shelf.old).faults (S.sees shelf.new).faults)
         (Rose (K.faults out.old) (K.faults out.new)) (K.took out.old) (K.took out.new) result }
-    ensures ends { can_end chain_work result ≡ true }
+    ensures ends { can_end record_work result ≡ true }
     ensures asked { AsksPrefix (S.sees shelf.old) (S.sees shelf.new)
         (task.now.second.now ∷ task.now.stimulus.now ∷ []) }
     ensures earlier { KeepsSlots (S.sees shelf.old) (S.sees shelf.new) }
@@ -109,7 +109,7 @@ where
         (setup_of task.now.strict (told (S.sees shelf.old) task.now.second.now))))
         (Rose (S.sees shelf.old).faults (S.sees shelf.new).faults)
         (Rose (K.faults out.old) (K.faults out.new)) (K.took out.old) (K.took out.new) result }
-    ensures ends { can_end chain_work result ≡ true }
+    ensures ends { can_end record_work result ≡ true }
     ensures asked { AsksPrefix (S.sees shelf.old) (S.sees shelf.new)
         (task.now.first.now ∷ task.now.second.now ∷ task.now.stimulus.now ∷ []) }
     ensures earlier { KeepsSlots (S.sees shelf.old) (S.sees shelf.new) }

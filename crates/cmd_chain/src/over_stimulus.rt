@@ -6,7 +6,8 @@ ghost use Rattle.shipped_jobs.specs.Kinds.{bad_param};
 ghost use Rattle.cli_answers.specs.Ends.{can_end};
 ghost use Rattle.cli_answers.specs.Outcome.{Meets, told};
 ghost use Rattle.cli_answers.specs.Slots.{KeepsSlots};
-ghost use Rattle.cmd_chain.specs.Chain.{answer_of, chain_work, chained_by_kinds};
+ghost use Rattle.cmd_record.specs.Outcomes.{record_work};
+ghost use Rattle.cmd_chain.specs.Chain.{answer_of, chained_by_kinds};
 
 use crate::visiting::StimulusIn;
 use chain::ChainCounts;
@@ -20,7 +21,7 @@ use worker_pool::Gate;
 /// What a run of a chain is answered.
 fn answer_of(chained: Result<ChainCounts, Stopped<StimFault>>) -> Answer
     ensures is { result ≡ answer_of chained }
-    ensures ends { can_end chain_work result ≡ true }
+    ensures ends { can_end record_work result ≡ true }
 {
     match chained {
         Ok(_) => Answer::Done,
@@ -54,7 +55,7 @@ where
         (IsSome ((S.sees shelf.old).holds stimulus.now))
         (Rose (S.sees shelf.old).faults (S.sees shelf.new).faults)
         (Rose (K.faults out.old) (K.faults out.new)) (K.took out.old) (K.took out.new) result }
-    ensures ends { can_end chain_work result ≡ true }
+    ensures ends { can_end record_work result ≡ true }
     ensures asked { AsksPrefix (S.sees shelf.old) (S.sees shelf.new) (stimulus.now ∷ []) }
     ensures earlier { KeepsSlots (S.sees shelf.old) (S.sees shelf.new) }
 {

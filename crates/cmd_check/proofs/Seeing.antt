@@ -16,7 +16,7 @@ use Rattle.record_grammar.specs.declared.fault.RecordFault.{RecordFault}
 use Rattle.record_grammar.specs.declared.item.Item.TheVariants.{Header}
 use Rattle.record_reader.specs.declared.frames.FrameReader.{FrameReader}
 use Rattle.record_reader.specs.Frames.{StandsFor, slot_of}
-use Rattle.probes.specs.Reports.{ProbeLife, AudienceState, reported, reports, in_turn, staying}
+use Rattle.probes.specs.Reports.{ProbeLife, AudienceState, reported, reports, in_turn}
 use Rattle.probes.specs.Shows.{SawRuns}
 use Rattle.checker.specs.declared.verdict.CheckVerdict.{CheckVerdict}
 use Rattle.checker.specs.Departure.{checked_runs}
@@ -39,7 +39,7 @@ pub saw-none : (audience : AudienceState) (runs : List RunFrame) → SawFirst au
 saw-none audience runs = record { seen = []; first = prefix-none runs; saw = refl }
 
 none_more : reports [] [] ≡ []
-unfolding reports in_turn staying
+unfolding reports in_turn
 none_more = refl
 
 -- an audience that gave all its reports reports nothing else

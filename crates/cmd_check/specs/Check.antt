@@ -1,6 +1,6 @@
 -- What `check` gives by the bytes of a record: whether it is what its inputs give, and what an
 -- audience reports of the runs that were compared.
-use Rattle.std.specs.Prelude.{true, ℕ, List, [], ◌++◌, codes, Result, Ok, Err}
+use Rattle.std.specs.Prelude.{ℕ, List, [], ◌++◌, codes, Result, Ok, Err}
 use Rattle.det_edges.specs.Prefix.{IsPrefix}
 use Rattle.det_values.specs.Values.{ProfileValue}
 use Rattle.det_values.specs.declared.frames.RunFrame.{RunFrame}
@@ -16,13 +16,8 @@ use Rattle.record_text.specs.Words.{number_line}
 use Rattle.verdict_text.specs.Verdicts.{place_text}
 use Rattle.cli_answers.specs.declared.answer.Answer.{Answer}
 use Rattle.cli_answers.specs.declared.answer.Answer.TheVariants.{Done, Differs, BadRecord}
-use Rattle.cli_answers.specs.Ends.{Work, writes_alone}
 use Rattle.cli_answers.specs.Outcome.{Outcome, refusal}
 use Rattle.recorded_run.specs.Run.{run_of, over_run, refused}
-
--- it reads a record, and compares it with the run of its inputs
-abbrev pub check_work : Work
-check_work = record writes_alone { recorded = true; compares = true }
 
 abbrev pub answer_to : CheckVerdict → Answer
 answer_to (Genuine cycles) = Done

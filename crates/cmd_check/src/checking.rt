@@ -6,10 +6,10 @@ ghost use Rattle.record_grammar.specs.declared.item.Item.TheVariants as items;
 ghost use Rattle.record_reader.specs.Frames.{IsOpen, StandsFor, slot_of};
 ghost use Rattle.probes.specs.Shows.{seen};
 ghost use Rattle.shipped_jobs.specs.Kinds.{bad_param};
-ghost use Rattle.cli_answers.specs.Ends.{can_end};
+ghost use Rattle.cli_answers.specs.Ends.{can_end, compares_records};
 ghost use Rattle.cli_answers.specs.Outcome.{Meets, Tells, told};
 ghost use Rattle.cli_answers.specs.Slots.{KeepsSlots};
-ghost use Rattle.cmd_check.specs.Check.{check_outcome, check_work, SawFirst};
+ghost use Rattle.cmd_check.specs.Check.{check_outcome, SawFirst};
 ghost use Rattle.cmd_check.specs.Visited.{checked};
 ghost use Rattle.cmd_check.specs.Check.{runs_checked};
 ghost use Rattle.cmd_check.specs.Visited.{runs_by_kind};
@@ -44,7 +44,7 @@ where
         (read ++ rest)) ((S.sees shelf.old).left (slot_of run.frames) ≡ Some rest)
         (Rose (S.sees shelf.old).faults (S.sees shelf.new).faults)
         (Rose (K.faults out.old) (K.faults out.new)) (K.took out.old) (K.took out.new) result }
-    ensures ends { can_end check_work result ≡ true }
+    ensures ends { can_end compares_records result ≡ true }
     ensures reads { (read : List ℕ)
         × Reads (S.sees shelf.old) (S.sees shelf.new) (slot_of run.frames) read }
     ensures saw { (read rest : List ℕ) → StandsFor run.frames read (items.Header run.profile ∷ [])
@@ -99,7 +99,7 @@ where
         (told (S.sees shelf.old) recorded.now)) (Tells (S.sees shelf.old) (recorded.now ∷ []))
         (Rose (S.sees shelf.old).faults (S.sees shelf.new).faults)
         (Rose (K.faults out.old) (K.faults out.new)) (K.took out.old) (K.took out.new) result }
-    ensures ends { can_end check_work result ≡ true }
+    ensures ends { can_end compares_records result ≡ true }
     ensures asked { AsksPrefix (S.sees shelf.old) (S.sees shelf.new) (recorded.now ∷ []) }
     ensures earlier { KeepsSlots (S.sees shelf.old) (S.sees shelf.new) }
     // At every answer but want of memory the audience has seen the first of the runs checked.

@@ -1,9 +1,9 @@
 //! What a check prints.
 ghost use Rattle.std.specs.Prelude.{◌≡◌, ◌++◌, true, Ok, IfOk, OnOk};
 ghost use Rattle.det_edges.specs.Count.{Rose};
-ghost use Rattle.cli_answers.specs.Ends.{can_end};
+ghost use Rattle.cli_answers.specs.Ends.{can_end, compares_records};
 ghost use Rattle.cli_answers.specs.Outcome.{Meets};
-ghost use Rattle.cmd_check.specs.Check.{answer_to, check_line, check_work, outcome_by};
+ghost use Rattle.cmd_check.specs.Check.{answer_to, check_line, outcome_by};
 
 use checker::CheckVerdict;
 use cli_answers::Answer;
@@ -17,7 +17,7 @@ use verdict_text::put_place;
 /// What the command answers by its verdict.
 fn answer_to(verdict: CheckVerdict) -> Answer
     ensures is { result ≡ answer_to verdict }
-    ensures ends { can_end check_work result ≡ true }
+    ensures ends { can_end compares_records result ≡ true }
 {
     match verdict {
         CheckVerdict::Genuine { .. } => Answer::Done,
@@ -66,7 +66,7 @@ pub(crate) fn print<K: Sink>(
 ) -> Answer
     ensures meets { Meets (outcome_by (Ok verdict) reports.now) (Unit {0}) ⊥
         (Rose (K.faults out.old) (K.faults out.new)) (K.took out.old) (K.took out.new) result }
-    ensures ends { can_end check_work result ≡ true }
+    ensures ends { can_end compares_records result ≡ true }
 {
     let Ok(lines) = lines_of(alloc, verdict, reports) else {
         return Answer::OutOfMemory;

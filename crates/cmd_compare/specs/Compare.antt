@@ -1,5 +1,5 @@
 -- What `compare` gives of copies of a record.
-use Rattle.std.specs.Prelude.{ℕ, true, List, Result, Ok, Err}
+use Rattle.std.specs.Prelude.{ℕ, List, Result, Ok, Err}
 use Rattle.lockstep.specs.declared.verdict.BadCopy.{BadCopy}
 use Rattle.lockstep.specs.declared.verdict.Verdict.{Verdict}
 use Rattle.lockstep.specs.declared.verdict.Verdict.TheVariants.{Agree, Differ}
@@ -7,12 +7,7 @@ use Rattle.lockstep.specs.Verdict.{verdict}
 use Rattle.verdict_text.specs.Verdicts.{verdict_line}
 use Rattle.cli_answers.specs.declared.answer.Answer.{Answer}
 use Rattle.cli_answers.specs.declared.answer.Answer.TheVariants.{Done, Differs, BadRecord}
-use Rattle.cli_answers.specs.Ends.{Work, writes_alone}
 use Rattle.cli_answers.specs.Outcome.{Outcome, refusal}
-
--- it reads records, and compares them
-abbrev pub compare_work : Work
-compare_work = record writes_alone { recorded = true; compares = true }
 
 abbrev pub answer_to : Verdict → Answer
 answer_to (Agree cycles) = Done

@@ -2,11 +2,11 @@
 ghost use Rattle.std.specs.Prelude.{◌≡◌, ◌≤◌, map, length, true, Ok};
 ghost use Rattle.det_edges.specs.Count.{Rose};
 ghost use Rattle.det_edges.specs.Shelf.{AsksPrefix};
-ghost use Rattle.cli_answers.specs.Ends.{can_end};
+ghost use Rattle.cli_answers.specs.Ends.{can_end, compares_records};
 ghost use Rattle.cli_answers.specs.Outcome.{Meets, Tells, told};
 ghost use Rattle.cli_answers.specs.Slots.{KeepsSlots};
 ghost use Rattle.cmd_compare.specs.Compare.{answer_to, compared};
-ghost use Rattle.cmd_compare.specs.Compare.{compare_outcome, compare_work};
+ghost use Rattle.cmd_compare.specs.Compare.{compare_outcome};
 
 use cli_answers::Answer;
 use det_edges::{Shelf, Sink, Stopped, write_all};
@@ -18,7 +18,7 @@ use verdict_text::verdict_line;
 /// What the command answers by its verdict.
 fn answer_to(verdict: Verdict) -> Answer
     ensures is { result ≡ answer_to verdict }
-    ensures ends { can_end compare_work result ≡ true }
+    ensures ends { can_end compares_records result ≡ true }
 {
     match verdict {
         Verdict::Agree { .. } => Answer::Done,
@@ -30,7 +30,7 @@ fn answer_to(verdict: Verdict) -> Answer
 fn print<K: Sink>(alloc: Global, verdict: Verdict, out: &mut K) -> Answer
     ensures meets { Meets (compared (Ok verdict)) (Unit {0}) ⊥ (Rose (K.faults out.old)
         (K.faults out.new)) (K.took out.old) (K.took out.new) result }
-    ensures ends { can_end compare_work result ≡ true }
+    ensures ends { can_end compares_records result ≡ true }
 {
     let Ok(line) = verdict_line(alloc, &verdict) else {
         return Answer::OutOfMemory;
@@ -57,7 +57,7 @@ pub fn compare<S: Shelf, K: Sink>(
         (Tells (S.sees shelf.old) (map (λ name. name.now) recorded.now))
         (Rose (S.sees shelf.old).faults (S.sees shelf.new).faults)
         (Rose (K.faults out.old) (K.faults out.new)) (K.took out.old) (K.took out.new) result }
-    ensures ends { can_end compare_work result ≡ true }
+    ensures ends { can_end compares_records result ≡ true }
     ensures asked { AsksPrefix (S.sees shelf.old) (S.sees shelf.new)
         (map (λ name. name.now) recorded.now) }
     ensures earlier { KeepsSlots (S.sees shelf.old) (S.sees shelf.new) }

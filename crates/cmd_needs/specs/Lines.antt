@@ -1,5 +1,5 @@
 -- What is printed of a manifest: its job, its cycle, its workers, its platform and its needs.
-use Rattle.std.specs.Prelude.{ℕ, List, ◌++◌, Option, Some, None, codes}
+use Rattle.std.specs.Prelude.{ℕ, List, ◌++◌, Option, Some, None, unwrap_or, codes}
 use Rattle.det_values.specs.declared.job_kind.JobKind.{JobKind}
 use Rattle.det_values.specs.declared.job_kind.JobKind.TheVariants.{Bank, Cloud, Guard}
 use Rattle.manifest.specs.declared.needs.Needs.{Needs}
@@ -11,12 +11,8 @@ job_line Bank = codes "job bank\n"
 job_line Cloud = codes "job cloud\n"
 job_line Guard = codes "job guard\n"
 
-abbrev pub platform_text : Option (List ℕ) → List ℕ
-platform_text None = codes "none"
-platform_text (Some name) = name
-
 abbrev pub platform_line : Option (List ℕ) → List ℕ
-platform_line name = codes "platform " ++ (platform_text name ++ codes "\n")
+platform_line name = codes "platform " ++ (unwrap_or name (codes "none") ++ codes "\n")
 
 -- the needs of an initialisation or of a run, each line behind that word
 abbrev pub needs_of : List ℕ → Option Needs → List ℕ

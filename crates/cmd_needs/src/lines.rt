@@ -1,7 +1,7 @@
 //! The lines of a manifest, appended to a text.
-ghost use Rattle.std.specs.Prelude.{◌≡◌, ◌++◌, OnOk, option_map};
+ghost use Rattle.std.specs.Prelude.{◌≡◌, ◌++◌, OnOk, option_map, unwrap_or, codes};
 ghost use Rattle.record_text.specs.Words.{number_line};
-ghost use Rattle.cmd_needs.specs.Lines.{job_line, platform_text, platform_line, needs_of};
+ghost use Rattle.cmd_needs.specs.Lines.{job_line, platform_line, needs_of};
 ghost use Rattle.cmd_needs.specs.Lines.{needs_lines};
 
 use det_values::{JobKind, OutOfMemory};
@@ -21,7 +21,7 @@ fn put_job_line(out: &mut Vec<u8>, kind: JobKind) -> Result<(), AllocError>
 
 fn put_platform(out: &mut Vec<u8>, name: Option<&PlatformName>) -> Result<(), AllocError>
     ensures { OnOk result (out.new.items
-        ≡ out.old.items ++ platform_text (option_map (λ p. p.now) name.entry)) }
+        ≡ out.old.items ++ unwrap_or (option_map (λ p. p.now) name.entry) (codes "none")) }
 {
     match name {
         None => put_words(out, "none"),

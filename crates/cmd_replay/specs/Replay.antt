@@ -1,5 +1,5 @@
 -- What `replay` gives by the bytes of a record: the record that its inputs give now.
-use Rattle.std.specs.Prelude.{true, ℕ, List, Result, Ok, Err}
+use Rattle.std.specs.Prelude.{ℕ, List, Result, Ok, Err}
 use Rattle.det_values.specs.Values.{ProfileValue}
 use Rattle.det_edges.specs.declared.failure.Stopped.{Stopped}
 use Rattle.det_edges.specs.declared.failure.Stopped.TheVariants.{Refused, Failed}
@@ -11,13 +11,8 @@ use Rattle.replayer.specs.Again.{again}
 use Rattle.cli_answers.specs.declared.answer.Answer.{Answer}
 use Rattle.cli_answers.specs.declared.answer.Answer.TheVariants.{Done, BadRecord}
 use Rattle.cli_answers.specs.Answers.{failed, by_fault}
-use Rattle.cli_answers.specs.Ends.{Work, writes_alone}
 use Rattle.cli_answers.specs.Outcome.{Outcome, refusal}
 use Rattle.recorded_run.specs.Run.{run_of, over_run, refused}
-
--- it reads a record
-abbrev pub replay_work : Work
-replay_work = record writes_alone { recorded = true }
 
 -- the record that the inputs of a record give, and the fault where theirs ends
 abbrev pub replayed_with : {S G E L P : Type 0} → Meaning S G E L P → ProfileValue → List ℕ

@@ -5,10 +5,10 @@ ghost use Rattle.det_edges.specs.Shelf.{AsksPrefix, Reads};
 ghost use Rattle.record_grammar.specs.declared.item.Item.TheVariants as items;
 ghost use Rattle.record_reader.specs.Frames.{StandsFor, IsOpen, slot_of};
 ghost use Rattle.shipped_jobs.specs.Kinds.{bad_param};
-ghost use Rattle.cli_answers.specs.Ends.{can_end};
+ghost use Rattle.cli_answers.specs.Ends.{can_end, reads_records};
 ghost use Rattle.cli_answers.specs.Outcome.{Meets, Tells, told};
 ghost use Rattle.cli_answers.specs.Slots.{KeepsSlots};
-ghost use Rattle.cmd_replay.specs.Replay.{replay_outcome, replay_work, answer_of};
+ghost use Rattle.cmd_replay.specs.Replay.{replay_outcome, answer_of};
 ghost use Rattle.cmd_replay.specs.Visited.{replayed};
 
 use crate::visiting::Replay;
@@ -25,7 +25,7 @@ use worker_pool::Gate;
 /// What a replay is answered. The one record that is read is copy 0.
 fn answer_of(replayed: Result<Counts, Stopped<RecordFault>>) -> Answer
     ensures is { result ≡ answer_of replayed }
-    ensures ends { can_end replay_work result ≡ true }
+    ensures ends { can_end reads_records result ≡ true }
 {
     match replayed {
         Ok(_) => Answer::Done,
@@ -53,7 +53,7 @@ where
         ((S.sees shelf.old).left (slot_of run.frames) ≡ Some rest)
         (Rose (S.sees shelf.old).faults (S.sees shelf.new).faults)
         (Rose (K.faults out.old) (K.faults out.new)) (K.took out.old) (K.took out.new) result }
-    ensures ends { can_end replay_work result ≡ true }
+    ensures ends { can_end reads_records result ≡ true }
     ensures reads { (read : List ℕ)
         × Reads (S.sees shelf.old) (S.sees shelf.new) (slot_of run.frames) read }
 {
@@ -90,7 +90,7 @@ where
         (Tells (S.sees shelf.old) (recorded.now ∷ []))
         (Rose (S.sees shelf.old).faults (S.sees shelf.new).faults)
         (Rose (K.faults out.old) (K.faults out.new)) (K.took out.old) (K.took out.new) result }
-    ensures ends { can_end replay_work result ≡ true }
+    ensures ends { can_end reads_records result ≡ true }
     ensures asked { AsksPrefix (S.sees shelf.old) (S.sees shelf.new) (recorded.now ∷ []) }
     ensures earlier { KeepsSlots (S.sees shelf.old) (S.sees shelf.new) }
 {

@@ -29,7 +29,7 @@ use Rattle.record_reader.proofs.Ending.{settled-failure}
 use Rattle.record_reader.proofs.Items.{whole_has_init}
 use Rattle.record_reader.proofs.Taking.{of-slot}
 use Rattle.record_reader.specs.InItems.{runs_in}
-use Rattle.probes.specs.Reports.{ProbeLife, AudienceState, reported, reports, in_turn, staying}
+use Rattle.probes.specs.Reports.{ProbeLife, AudienceState, reported, reports, in_turn}
 use Rattle.probes.specs.Shows.{Shows}
 use Rattle.probes.proofs.Shown.{all-reports}
 use Rattle.cli_answers.specs.declared.answer.Answer.TheVariants.{BadRecord}
@@ -137,7 +137,7 @@ module _ (first mid : AudienceState) (watch : Watch) (given : List Item) (bytes 
 -- ---- the audience is gone
 
 none_more : reports [] [] ≡ []
-unfolding reports in_turn staying
+unfolding reports in_turn
 none_more = refl
 
 -- an audience that reported what it was shown has seen all

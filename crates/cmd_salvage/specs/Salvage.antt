@@ -1,5 +1,5 @@
 -- What `salvage` gives by the bytes of a record: the record made whole, or reports of its runs.
-use Rattle.std.specs.Prelude.{ℕ, true, List, [], ◌++◌, Option, Some, None, Result, Ok, Err, codes}
+use Rattle.std.specs.Prelude.{ℕ, List, [], ◌++◌, Option, Some, None, Result, Ok, Err, codes}
 use Rattle.std.specs.Option.{option_map}
 use Rattle.det_edges.specs.declared.failure.Stopped.{Stopped}
 use Rattle.det_edges.specs.declared.failure.Stopped.TheVariants.{Refused, Failed}
@@ -13,12 +13,7 @@ use Rattle.probes.specs.Reports.{AudienceState, reported}
 use Rattle.cli_answers.specs.declared.answer.Answer.{Answer}
 use Rattle.cli_answers.specs.declared.answer.Answer.TheVariants.{Done, BadRecord}
 use Rattle.cli_answers.specs.Answers.{failed, by_fault}
-use Rattle.cli_answers.specs.Ends.{Work, writes_alone}
 use Rattle.cli_answers.specs.Outcome.{Outcome, text_outcome, refusal}
-
--- it reads a record
-abbrev pub salvage_work : Work
-salvage_work = record writes_alone { recorded = true }
 
 -- the bytes that are given where something is saved, and else the fault that a record has of which
 -- nothing is

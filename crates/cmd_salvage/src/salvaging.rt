@@ -5,12 +5,12 @@ ghost use Rattle.det_edges.specs.Shelf.{AsksPrefix, Reads};
 ghost use Rattle.det_edges.specs.Sink.{Grew};
 ghost use Rattle.probes.specs.Shows.{seen};
 ghost use Rattle.cli_answers.specs.BreaksOff.{BreaksOff};
-ghost use Rattle.cli_answers.specs.Ends.{can_end};
+ghost use Rattle.cli_answers.specs.Ends.{can_end, reads_records};
 ghost use Rattle.cli_answers.specs.Outcome.{Meets, Tells, told};
 ghost use Rattle.cli_answers.specs.Slots.{KeepsSlots};
 ghost use Rattle.record_reader.specs.Salvaged.{saved_of};
 ghost use Rattle.cmd_salvage.specs.Salvage.{salvage_outcome, salvage_reports_outcome};
-ghost use Rattle.cmd_salvage.specs.Salvage.{salvage_work, answer_of};
+ghost use Rattle.cmd_salvage.specs.Salvage.{answer_of};
 ghost use Rattle.cmd_salvage.specs.Ended.{SawFirst};
 
 use crate::reporting::report_run;
@@ -25,7 +25,7 @@ use std::alloc::Global;
 /// What a command answers. The one record that it reads is copy 0.
 fn answer_of<T: Drop>(saved: Result<T, Stopped<RecordFault>>) -> Answer
     ensures is { result ≡ answer_of saved }
-    ensures ends { can_end salvage_work result ≡ true }
+    ensures ends { can_end reads_records result ≡ true }
 {
     match saved {
         Ok(_) => Answer::Done,
@@ -45,7 +45,7 @@ fn salvage_slot<S: Slots, K: Sink>(alloc: Global, slot: u32, shelf: &mut S, out:
         → (S.sees shelf.old).left slot ≡ Some bytes → (read : List ℕ) × (rest : List ℕ)
         × (bytes ≡ read ++ rest) × ((S.sees shelf.new).left slot ≡ Some rest)
         × Grew (K.took out.old) (K.took out.new) (saved_of read) }
-    ensures ends { can_end salvage_work result ≡ true }
+    ensures ends { can_end reads_records result ≡ true }
     ensures reads { (read : List ℕ) × Reads (S.sees shelf.old) (S.sees shelf.new) slot read }
 {
     let mut reader = ItemReader::new(alloc, slot);
@@ -65,7 +65,7 @@ pub fn salvage<S: Shelf, K: Sink>(
         (Tells (S.sees shelf.old) (recorded.now ∷ []))
         (Rose (S.sees shelf.old).faults (S.sees shelf.new).faults)
         (Rose (K.faults out.old) (K.faults out.new)) (K.took out.old) (K.took out.new) result }
-    ensures ends { can_end salvage_work result ≡ true }
+    ensures ends { can_end reads_records result ≡ true }
     ensures asked { AsksPrefix (S.sees shelf.old) (S.sees shelf.new) (recorded.now ∷ []) }
     ensures earlier { KeepsSlots (S.sees shelf.old) (S.sees shelf.new) }
     // Where a read fails, all that is saved of what was read is written.
@@ -94,7 +94,7 @@ fn report_slot<S: Slots, K: Sink>(
         ((S.sees shelf.old).left slot ≡ Some bytes)
         (Rose (S.sees shelf.old).faults (S.sees shelf.new).faults)
         (Rose (K.faults out.old) (K.faults out.new)) (K.took out.old) (K.took out.new) result }
-    ensures ends { can_end salvage_work result ≡ true }
+    ensures ends { can_end reads_records result ≡ true }
     ensures reads { (read : List ℕ) × Reads (S.sees shelf.old) (S.sees shelf.new) slot read }
     ensures saw { (bytes : List ℕ) → result ≢ Answer.OutOfMemory
         → (S.sees shelf.old).left slot ≡ Some bytes
@@ -124,7 +124,7 @@ pub fn salvage_reports<S: Shelf, K: Sink>(
         (told (S.sees shelf.old) recorded.now)) (Tells (S.sees shelf.old) (recorded.now ∷ []))
         (Rose (S.sees shelf.old).faults (S.sees shelf.new).faults)
         (Rose (K.faults out.old) (K.faults out.new)) (K.took out.old) (K.took out.new) result }
-    ensures ends { can_end salvage_work result ≡ true }
+    ensures ends { can_end reads_records result ≡ true }
     ensures asked { AsksPrefix (S.sees shelf.old) (S.sees shelf.new) (recorded.now ∷ []) }
     ensures earlier { KeepsSlots (S.sees shelf.old) (S.sees shelf.new) }
     // At every answer but want of memory the audience has seen first runs of the record.

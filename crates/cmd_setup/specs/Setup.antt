@@ -1,41 +1,33 @@
 -- The manifest that a text is, where its job takes its parameters.
-use Rattle.std.specs.Prelude.{◌≡◌, ℕ, ◌≤◌, Bool, true, false, List, length}
-use Rattle.std.specs.Prelude.{Option, Some, None, Result, Ok, Err}
+use Rattle.std.specs.Prelude.{◌≡◌, ℕ, ◌≤◌, Bool, List, length, Option, Some, None, Result, Ok, Err}
+use Rattle.std.specs.Option.{option_map_or}
 use Rattle.det_edges.specs.Shelf.{ShelfState, Opens, Reads}
 use Rattle.det_edges.specs.declared.failure.Failure.{Failure}
 use Rattle.det_edges.specs.declared.failure.Failure.TheVariants.{OutOfMemory}
 use Rattle.shipped_jobs.specs.Kinds.{bad_param}
 use Rattle.manifest.specs.Values.{ManifestValue}
-use Rattle.manifest.specs.Meaning.{manifest_of, strict_manifest_of}
+use Rattle.manifest.specs.Meaning.{manifest_of}
 use Rattle.manifest.specs.declared.fault.ManifestFault.{ManifestFault}
 use Rattle.cli_answers.specs.declared.answer.BadManifest.{BadManifest}
 use Rattle.cli_answers.specs.declared.answer.BadManifest.TheVariants.{Fault, Parameter}
-
--- the manifest, where its job refuses no parameter
-abbrev pub unless_bad : Option ℕ → ManifestValue → Result ManifestValue BadManifest
-unless_bad (Some index) m = Err (Parameter index)
-unless_bad None m = Ok m
 
 -- its job refuses no parameter
 abbrev pub IsGood : ManifestValue → Type 0
 IsGood m = bad_param m.kind m.params (length m.events) ≡ None
 
+-- the manifest, where its job refuses no parameter
 abbrev pub judged : ManifestValue → Result ManifestValue BadManifest
-judged m = unless_bad (bad_param m.kind m.params (length m.events)) m
+judged m =
+    option_map_or (λ i. Err (Parameter i)) (bad_param m.kind m.params (length m.events)) (Ok m)
 
 abbrev pub setup_from : Result ManifestValue ManifestFault → Result ManifestValue BadManifest
 setup_from (Err fault) = Err (Fault fault)
 setup_from (Ok m) = judged m
 
--- the manifest that a text is, or its first fault; strictly, a key that no table knows is one
-abbrev pub manifest_by : Bool → List ℕ → Result ManifestValue ManifestFault
-manifest_by true bytes = strict_manifest_of bytes
-manifest_by false bytes = manifest_of bytes
-
 -- the manifest that a text is, or why it is refused: its first fault, else the least parameter that
 -- its job refuses
 abbrev pub setup_of : (strict : Bool) → List ℕ → Result ManifestValue BadManifest
-setup_of strict bytes = setup_from (manifest_by strict bytes)
+setup_of strict bytes = setup_from (manifest_of strict bytes)
 
 -- neither the shelf nor a sink failed
 abbrev pub IsCalm : Option Failure → Type 0

@@ -1,9 +1,9 @@
 //! Judges the text of a manifest, and its parameters by its job.
 ghost use Rattle.std.specs.Prelude.{◌≡◌, IfOk, IfErr, Ok, Err};
-ghost use Rattle.cmd_setup.specs.Setup.{judged, manifest_by, setup_of};
+ghost use Rattle.cmd_setup.specs.Setup.{judged, setup_of};
 ghost use Rattle.det_edges.specs.Traffic.{failure_in, IfRefused};
 ghost use Rattle.cmd_setup.specs.Setup.{IsCalm, IsGood};
-ghost use Rattle.manifest.specs.Meaning.{IfFault};
+ghost use Rattle.manifest.specs.Meaning.{IfFault, manifest_of};
 
 use cli_answers::BadManifest;
 use det_edges::{Failure, Stopped};
@@ -26,8 +26,8 @@ fn judged(manifest: Manifest) -> Result<Manifest, Stopped<BadManifest>>
 }
 
 fn manifest_by(alloc: Global, text: &[u8], strict: bool) -> Result<Manifest, ManifestError>
-    ensures manifest { IfOk result (λ m. manifest_by strict text.now ≡ Ok m) }
-    ensures fault { IfErr result (λ e. IfFault e (λ f. manifest_by strict text.now ≡ Err f)) }
+    ensures manifest { IfOk result (λ m. manifest_of strict text.now ≡ Ok m) }
+    ensures fault { IfErr result (λ e. IfFault e (λ f. manifest_of strict text.now ≡ Err f)) }
 {
     if strict {
         read_strict_manifest(alloc, text)

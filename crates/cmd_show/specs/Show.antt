@@ -1,5 +1,5 @@
 -- What `show` gives by the bytes of a record: its text, and whether it is whole.
-use Rattle.std.specs.Prelude.{ℕ, true, List, Result, Ok, Err}
+use Rattle.std.specs.Prelude.{ℕ, List, Result, Ok, Err}
 use Rattle.det_edges.specs.declared.failure.Stopped.{Stopped}
 use Rattle.det_edges.specs.declared.failure.Stopped.TheVariants.{Refused, Failed}
 use Rattle.record_grammar.specs.declared.fault.RecordFault.{RecordFault}
@@ -11,12 +11,7 @@ use Rattle.record_show.specs.Text.{text_of}
 use Rattle.cli_answers.specs.declared.answer.Answer.{Answer}
 use Rattle.cli_answers.specs.declared.answer.Answer.TheVariants.{Done, BadRecord}
 use Rattle.cli_answers.specs.Answers.{failed, by_fault}
-use Rattle.cli_answers.specs.Ends.{Work, writes_alone}
 use Rattle.cli_answers.specs.Outcome.{Outcome}
-
--- it reads a record
-abbrev pub show_work : Work
-show_work = record writes_alone { recorded = true }
 
 -- a part of the record's text, with what the audience reports of its runs
 abbrev pub show_outcome : ShowPart → AudienceState → List ℕ → Outcome

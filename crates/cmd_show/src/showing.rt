@@ -5,14 +5,14 @@ ghost use Rattle.det_edges.specs.Shelf.{AsksPrefix, Reads};
 ghost use Rattle.det_edges.specs.Sink.{Grew};
 ghost use Rattle.record_grammar.specs.Record.{items as items_in};
 ghost use Rattle.cli_answers.specs.BreaksOff.{BreaksOff};
-ghost use Rattle.cli_answers.specs.Ends.{can_end};
+ghost use Rattle.cli_answers.specs.Ends.{can_end, reads_records};
 ghost use Rattle.cli_answers.specs.Outcome.{Meets, Tells, told};
 ghost use Rattle.cli_answers.specs.Slots.{KeepsSlots};
 ghost use Rattle.probes.specs.Shows.{seen};
 ghost use Rattle.record_show.specs.Text.{lines_of};
 ghost use Rattle.record_show.specs.Showing.{Kept};
 ghost use Rattle.record_show.specs.Ended.{IsGone, SawFirst};
-ghost use Rattle.cmd_show.specs.Show.{show_outcome, show_work, answer_of};
+ghost use Rattle.cmd_show.specs.Show.{show_outcome, answer_of};
 
 use cli_answers::Answer;
 use det_edges::{Shelf, Sink, Slots, Stopped};
@@ -26,7 +26,7 @@ use std::alloc::Global;
 /// What the command answers. The one record that it reads is copy 0.
 fn answer_of(shown: Result<Shown, Stopped<RecordFault>>) -> Answer
     ensures is { result ≡ answer_of shown }
-    ensures ends { can_end show_work result ≡ true }
+    ensures ends { can_end reads_records result ≡ true }
 {
     match shown {
         Ok(_) => Answer::Done,
@@ -54,7 +54,7 @@ fn show_slot<S: Slots, K: Sink>(
         → (S.sees shelf.old).left slot ≡ Some bytes → (read : List ℕ) × (rest : List ℕ)
         × (bytes ≡ read ++ rest) × ((S.sees shelf.new).left slot ≡ Some rest)
         × Grew (K.took out.old) (K.took out.new) (lines_of part (items_in read)) }
-    ensures ends { can_end show_work result ≡ true }
+    ensures ends { can_end reads_records result ≡ true }
     ensures reads { (read : List ℕ) × Reads (S.sees shelf.old) (S.sees shelf.new) slot read }
     ensures saw { (bytes : List ℕ) → result ≢ Answer.OutOfMemory
         → (S.sees shelf.old).left slot ≡ Some bytes
@@ -90,7 +90,7 @@ pub fn show<S: Shelf, K: Sink>(
     ensures broken { result ≡ Answer.ReadFault → Tells (S.sees shelf.old) (recorded.now ∷ [])
         → BreaksOff (S.sees shelf.old) (S.sees shelf.new) recorded.now
         (λ read. lines_of part (items_in read)) (K.took out.old) (K.took out.new) }
-    ensures ends { can_end show_work result ≡ true }
+    ensures ends { can_end reads_records result ≡ true }
     ensures asked { AsksPrefix (S.sees shelf.old) (S.sees shelf.new) (recorded.now ∷ []) }
     ensures earlier { KeepsSlots (S.sees shelf.old) (S.sees shelf.new) }
     // At every answer but want of memory the audience has seen first runs whose lines `out` took.

@@ -6,7 +6,7 @@ use Rattle.det_values.specs.Values.{ProfileValue}
 use Rattle.job_cloud.specs.Meaning.{meaning}
 use Rattle.stimulus.specs.Made.{made}
 use Rattle.stimulus.specs.Reading.{Terminated, ending}
-use Rattle.probes.specs.Reports.{ProbeLife, AudienceState, reported, reports, in_turn, staying}
+use Rattle.probes.specs.Reports.{ProbeLife, AudienceState, reported, reports, in_turn}
 use Rattle.record_text.specs.Summaries.{summary_lines}
 use Rattle.record_text.specs.declared.summary_lines.Summary.{Summary}
 use Rattle.cli_answers.specs.declared.answer.Answer.TheVariants.{Done, WriteFault}
@@ -36,7 +36,7 @@ module _ (number : ℕ) (p : ProfileValue) (is : p ≡ sim_profile number) where
   text-is items (Err e) audience text told summary same sum report all = tt
 
 none_more : reports [] [] ≡ []
-unfolding reports in_turn staying
+unfolding reports in_turn
 none_more = refl
 
 -- an audience that gave all its reports reports nothing else

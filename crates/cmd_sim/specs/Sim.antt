@@ -1,7 +1,7 @@
 -- What `sim` gives of a number: a summary of the run of a cloud over the stimulus that is made of
 -- the number, and what the
 -- probes report of it.
-use Rattle.std.specs.Prelude.{ℕ, ℤ, pos, List, [], ◌∷◌, ◌++◌, length, codes}
+use Rattle.std.specs.Prelude.{ℕ, pos, List, [], ◌∷◌, ◌++◌, length, codes}
 use Rattle.std.specs.List.{count_by}
 use Rattle.sha2.specs.Sha256.{sha256}
 use Rattle.det_values.specs.Values.{EventSpecValue, ProfileValue}
@@ -25,33 +25,16 @@ use Rattle.cli_answers.specs.Outcome.{Outcome, text_outcome}
 abbrev pub newest_of : List ℕ → EventSpecValue
 newest_of name = record { capacity = 1; name = name; policy = Last }
 
--- 10,000 particles, a spread of 1,000, a new seed in each 50th cycle, and no distance too far
-abbrev pub sim_params : List ℤ
-sim_params = pos 10000 ∷ pos 1000 ∷ pos 50 ∷ pos 4000000000000 ∷ []
-
-abbrev pub sim_events : List EventSpecValue
-sim_events = newest_of (codes "x") ∷ newest_of (codes "y") ∷ newest_of (codes "hold") ∷ []
-
--- a cloud with the number as its seed; 10 ms
+-- a cloud with the number as its seed; 10 ms; 10,000 particles, a spread of 1,000, a new seed in
+-- each 50th cycle, and no distance too far
 abbrev pub sim_profile : ℕ → ProfileValue
 sim_profile number = record {
   format = Two;
   job = 2;
   seed = number;
   cycle_time = 10000000;
-  params = sim_params;
-  events = sim_events;
-}
-
--- of a run: its number, how many cycles it had and how many of them were refused, the length of its
--- record and the digest
-abbrev pub summary_with : ℕ → List RunFrame → List ℕ → Summary
-summary_with number cycles record_bytes = record {
-  number = number;
-  cycles = length cycles;
-  refused = count_by is_refused cycles;
-  bytes = counted (length record_bytes);
-  digest = sha256 record_bytes;
+  params = pos 10000 ∷ pos 1000 ∷ pos 50 ∷ pos 4000000000000 ∷ [];
+  events = newest_of (codes "x") ∷ newest_of (codes "y") ∷ newest_of (codes "hold") ∷ [];
 }
 
 module _ {S G E L P : Type 0} (m : Meaning S G E L P) (profile : ProfileValue) (text : List ℕ) where
@@ -59,9 +42,16 @@ module _ {S G E L P : Type 0} (m : Meaning S G E L P) (profile : ProfileValue) (
   abbrev pub runs_over : List RunFrame
   runs_over = runs m profile (blocks (length profile.events) text)
 
-  -- and what is told of them and of their record
+  -- its number, how many cycles it had and how many of them were refused, the length of its record
+  -- and the digest
   abbrev pub summary_over : ℕ → Summary
-  summary_over number = summary_with number runs_over (record_of m profile text)
+  summary_over number = record {
+    number = number;
+    cycles = length runs_over;
+    refused = count_by is_refused runs_over;
+    bytes = counted (length (record_of m profile text));
+    digest = sha256 (record_of m profile text);
+  }
 
 -- the cycles of the cloud over the made stimulus
 unfoldable pub sim_runs : ℕ → List RunFrame

@@ -1,6 +1,6 @@
 //! The profile of `sim`.
 ghost use Rattle.std.specs.Prelude.{◌≡◌, IfOk};
-ghost use Rattle.cmd_sim.specs.Sim.{newest_of, sim_params, sim_events, sim_profile};
+ghost use Rattle.cmd_sim.specs.Sim.{newest_of, sim_profile};
 
 use det_values::{
     EventName, EventSpec, Events, Format, JobKind, OutOfMemory, Params, Policy, Profile,
@@ -18,7 +18,7 @@ fn newest_of(name: EventName) -> EventSpec
 }
 
 fn sim_events(alloc: Global) -> Result<Events, OutOfMemory>
-    ensures { IfOk result (λ events. events ≡ sim_events) }
+    ensures { IfOk result (λ events. events ≡ (sim_profile 0).events) }
 {
     let mut events = Events::new(alloc);
     let Some(x) = EventName::of(b"x") else {
@@ -37,7 +37,7 @@ fn sim_events(alloc: Global) -> Result<Events, OutOfMemory>
 }
 
 fn sim_params(alloc: Global) -> Result<Params, OutOfMemory>
-    ensures { IfOk result (λ params. params ≡ sim_params) }
+    ensures { IfOk result (λ params. params ≡ (sim_profile 0).params) }
 {
     let mut params = Params::new(alloc);
     params.extend_from_slice(&[10_000, 1_000, 50, 4_000_000_000_000])?;

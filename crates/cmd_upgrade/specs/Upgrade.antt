@@ -1,5 +1,5 @@
 -- What `upgrade` gives by the bytes of a record: the record of the same run in format 2.
-use Rattle.std.specs.Prelude.{true, ℕ, List, is_none, if◌then◌else◌, Result, Ok, Err}
+use Rattle.std.specs.Prelude.{ℕ, List, is_none, if◌then◌else◌, Result, Ok, Err}
 use Rattle.det_values.specs.Values.{ProfileValue}
 use Rattle.det_edges.specs.declared.failure.Stopped.{Stopped}
 use Rattle.job_trait.specs.Meaning.{Meaning}
@@ -12,13 +12,8 @@ use Rattle.upgrader.specs.Upgraded.{upgraded}
 use Rattle.cli_answers.specs.declared.answer.Answer.{Answer}
 use Rattle.cli_answers.specs.declared.answer.Answer.TheVariants.{Done, Differs}
 use Rattle.cli_answers.specs.Answers.{by_fault, stopped}
-use Rattle.cli_answers.specs.Ends.{Work, writes_alone}
 use Rattle.cli_answers.specs.Outcome.{Outcome, refusal}
 use Rattle.recorded_run.specs.Run.{run_of, over_run, refused}
-
--- it reads a record, and compares it with the run of its inputs
-abbrev pub upgrade_work : Work
-upgrade_work = record writes_alone { recorded = true; compares = true }
 
 -- the record of the same run in format 2, and why it isn't whole; a departure comes before a fault
 abbrev pub upgraded_with : {S G E L P : Type 0} → Meaning S G E L P → ProfileValue → List ℕ

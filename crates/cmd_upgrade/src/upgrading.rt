@@ -7,10 +7,10 @@ ghost use Rattle.record_grammar.specs.declared.item.Item.TheVariants as items;
 ghost use Rattle.record_reader.specs.Frames.{IsOpen, StandsFor, slot_of};
 ghost use Rattle.shipped_jobs.specs.Kinds.{bad_param};
 ghost use Rattle.upgrader.specs.Upgraded.{in_format_two};
-ghost use Rattle.cli_answers.specs.Ends.{can_end};
+ghost use Rattle.cli_answers.specs.Ends.{can_end, compares_records};
 ghost use Rattle.cli_answers.specs.Outcome.{Meets, Tells, told};
 ghost use Rattle.cli_answers.specs.Slots.{KeepsSlots};
-ghost use Rattle.cmd_upgrade.specs.Upgrade.{upgrade_outcome, upgrade_work};
+ghost use Rattle.cmd_upgrade.specs.Upgrade.{upgrade_outcome};
 ghost use Rattle.cmd_upgrade.specs.Visited.{upgraded_by_kind};
 ghost use Rattle.cmd_upgrade.specs.Upgrade.{answer_of};
 ghost use Rattle.cmd_upgrade.specs.Visited.{CanUpgrade};
@@ -31,7 +31,7 @@ use worker_pool::Gate;
 /// What an upgrade is answered.
 fn answer_of(upgraded: Result<CheckVerdict, Stopped<RecordFault>>) -> Answer
     ensures is { result ≡ answer_of upgraded }
-    ensures ends { can_end upgrade_work result ≡ true }
+    ensures ends { can_end compares_records result ≡ true }
 {
     match upgraded {
         Ok(CheckVerdict::Genuine { .. }) => Answer::Done,
@@ -69,7 +69,7 @@ where
         ((S.sees shelf.old).left (slot_of run.frames) ≡ Some rest)
         (Rose (S.sees shelf.old).faults (S.sees shelf.new).faults)
         (Rose (K.faults out.old) (K.faults out.new)) (K.took out.old) (K.took out.new) result }
-    ensures ends { can_end upgrade_work result ≡ true }
+    ensures ends { can_end compares_records result ≡ true }
     ensures reads { (read : List ℕ)
         × Reads (S.sees shelf.old) (S.sees shelf.new) (slot_of run.frames) read }
 {
@@ -109,7 +109,7 @@ where
         (Tells (S.sees shelf.old) (recorded.now ∷ []))
         (Rose (S.sees shelf.old).faults (S.sees shelf.new).faults)
         (Rose (K.faults out.old) (K.faults out.new)) (K.took out.old) (K.took out.new) result }
-    ensures ends { can_end upgrade_work result ≡ true }
+    ensures ends { can_end compares_records result ≡ true }
     ensures asked { AsksPrefix (S.sees shelf.old) (S.sees shelf.new) (recorded.now ∷ []) }
     ensures earlier { KeepsSlots (S.sees shelf.old) (S.sees shelf.new) }
 {

@@ -1,5 +1,5 @@
 -- How the answers of a cycle's phases follow from the definition of a cycle.
-use Rattle.std.specs.Prelude.{◌≡◌, ℕ, Result, Ok, Err, IsErr}
+use Rattle.std.specs.Prelude.{◌≡◌, ℕ, List, Result, Ok, Err, IsErr}
 use Rattle.std.specs.Arc.{arc_value}
 use Rattle.det_values.specs.Values.{RefusedAtValue}
 use Rattle.det_values.specs.declared.out_of_memory.OutOfMemory.{OutOfMemory as NoMemory}
@@ -23,6 +23,13 @@ pub record SharedValue (S L : Type 0) : Type 0 where
   pub plan : L
   pub seed : ℕ
   pub cycle : ℕ
+
+-- what one of the passes takes over from those before it
+pub record StageValue (E P : Type 0) : Type 0 where
+  pub number : ℕ
+  pub carry : P
+  pub elements : List E
+  pub earlier : List ℕ
 
 abbrev pub left_by : {E P : Type 0} → SoFar E P → Passed E P
 left_by done = record { elements = done.elements; draws = done.draws; part = done.part }

@@ -5,8 +5,9 @@ ghost use Rattle.std.specs.Arc.{arc_value};
 ghost use Rattle.job_trait.specs.Cycle.{added};
 ghost use Rattle.job_trait.specs.Passes.{drawn_so_far};
 
-use crate::owners::shared;
+use crate::desk::Desk;
 use det_values::{Container, OutOfMemory};
+use job_trait::Job;
 use pass_in_blocks::sums;
 use std::alloc::Global;
 use std::marker::Model;
@@ -50,15 +51,28 @@ impl Draws {
         Draws { earlier, own }
     }
 
-    /// The sums.
-    pub(crate) fn summed(self, alloc: Global) -> Result<Arc<Container<u32>, Global>, OutOfMemory>
+    /// The sums, for the next pass.
+    pub(crate) fn summed<J: Job>(
+        self,
+        desk: &mut Desk<J>,
+    ) -> Result<Arc<Container<u32>, Global>, OutOfMemory>
         ensures { IfOk result (λ all. arc_value all ≡ self) }
     {
         let Draws { earlier, own } = self;
         if earlier.is_empty() {
-            return shared(alloc, own);
+            desk.keep_draws(earlier);
+            return desk.share_draws(own);
         }
-        let all = sums(alloc, &*earlier, &own)?;
-        shared(alloc, all)
+        let all = sums(&*earlier, &own, &mut desk.room.draws)?;
+        desk.room.draws.keep(own);
+        desk.keep_draws(earlier);
+        desk.share_draws(all)
+    }
+
+    /// Gives the memory back.
+    pub(crate) fn leave_to<J: Job>(self, desk: &mut Desk<J>) {
+        let Draws { earlier, own } = self;
+        desk.room.draws.keep(own);
+        desk.keep_draws(earlier);
     }
 }

@@ -16,11 +16,12 @@ ghost use Rattle.cycle_engine.specs.Frames.{frame_of, state_of};
 ghost use Rattle.cycle_engine.specs.Engine.{StandsFor, EngineState, IsAfter};
 ghost use Rattle.cycle_engine.specs.Engine.{next_cycle, next_frame};
 
+use crate::desk::Desk;
 use crate::element_bytes::put_element;
 use crate::fault::{CycleFault, in_prepare};
-use crate::owners::{again, shared};
+use crate::owners::shared;
 use crate::passes::Passes;
-use crate::phases::{CycleDone, finish};
+use crate::phases::CycleDone;
 use det_client::{Client, Next};
 use det_values::{
     Bytes64, Container, CycleInput, Elements, Format, Frame, OutOfMemory, Outcome, Profile,
@@ -30,6 +31,7 @@ use event_cache::EventCache;
 use job_trait::{Job, Pool};
 use std::alloc::Global;
 use std::marker::Model;
+use std::mem;
 use std::sync::Arc;
 
 /// A job with all that it keeps between cycles.
@@ -161,7 +163,7 @@ impl<J: Job> Engine<J> {
     /// Runs the phases of the next cycle. The windows, globals and elements stay.
     fn run_phases<P: Pool<J>>(
         &mut self,
-        alloc: Global,
+        desk: &mut Desk<J>,
         pool: &mut P,
         time: Option<u64>,
     ) -> Result<CycleDone<J::Globals, J::Element>, CycleFault>
@@ -177,29 +179,32 @@ impl<J: Job> Engine<J> {
     {
         let _ = self.client.wait_for_activation(Next::Go(time));
         let plan = match self.job.prepare(
-            alloc,
+            desk.alloc(),
             &self.globals,
             &*self.elements,
             &self.cache,
             &mut self.client,
+            &mut desk.plans.spare,
         ) {
             Ok(plan) => plan,
             Err(fault) => return Err(in_prepare(fault)),
         };
+        let plan = desk.share_plan(plan)?;
         let passes = Passes {
-            job: again(&self.job)?,
-            plan: shared(alloc, plan)?,
+            job: &self.job,
+            plan: &plan,
             seed: self.client.seed(),
             cycle: self.client.cycle(),
         };
-        let last = passes.run(alloc, pool, again(&self.elements)?)?;
-        finish(alloc, &passes, &self.globals, last)
+        let done = passes.cycle(pool, &self.globals, &self.elements, desk);
+        desk.plans.keep(plan);
+        done
     }
 
     /// Runs the next cycle. The windows stay.
     fn advance<P: Pool<J>>(
         &mut self,
-        alloc: Global,
+        desk: &mut Desk<J>,
         pool: &mut P,
         time: Option<u64>,
     ) -> Result<Outcome, OutOfMemory>
@@ -215,10 +220,11 @@ impl<J: Job> Engine<J> {
     {
         let seed = self.client.seed();
         let cycles = self.client.cycle();
-        match self.run_phases(alloc, pool, time) {
+        match self.run_phases(desk, pool, time) {
             Ok(done) => {
                 self.globals = done.globals;
-                self.elements = done.elements;
+                let old = mem::replace(&mut self.elements, done.elements);
+                desk.keep_elements(old);
                 Ok(Outcome::Finished {
                     elements: done.shown,
                     output: done.output,
@@ -237,14 +243,15 @@ impl<J: Job> Engine<J> {
         }
     }
 
-    /// Runs the next cycle, its passes on the threads of a pool, and answers its frame.
+    /// Runs the next cycle, its passes on the threads of a pool, and answers its frame. It works in
+    /// memory of the desk as far as there is any.
     ///
     /// The windows of the cycle hold samples of earlier cycles alone: the input's samples arrive at
     /// its end, also where it is refused. A refused cycle keeps globals, elements and seed, and
     /// counts as a cycle. After OutOfMemory all is as before the call, and the input is gone.
     pub fn cycle<P: Pool<J>>(
         &mut self,
-        alloc: Global,
+        desk: &mut Desk<J>,
         pool: &mut P,
         input: CycleInput,
     ) -> Result<RunFrame, OutOfMemory>
@@ -261,7 +268,7 @@ impl<J: Job> Engine<J> {
         ensures after { OnOk result (IsAfter J.meaning self.old input self.new) }
         ensures kept { OnErr result (self.new ≡ self.old) }
     {
-        let outcome = self.advance(alloc, pool, input.time)?;
+        let outcome = self.advance(desk, pool, input.time)?;
         feed(&mut self.cache, input.samples.as_slice());
         Ok(framed(self.format, input, outcome))
     }

@@ -8,25 +8,25 @@ ghost use Rattle.job_trait.specs.Pass.{passed};
 ghost use Rattle.job_trait.specs.Passes.{IsPass, RefusedBelow, drawn_so_far};
 ghost use Rattle.cycle_engine.specs.Answers.{ArePasses, left_by};
 
+use crate::desk::Desk;
 use crate::draws::Draws;
 use crate::fault::{CycleFault, in_pool};
-use crate::owners::{again, shared};
 use det_values::{Container, DrawnElements};
-use job_trait::{Job, PassDone, PassOf, Pool, PoolFault};
+use job_trait::{Job, PassDone, PassOf, PassRoom, Pool, PoolFault};
 use std::alloc::Global;
 use std::marker::Model;
 use std::sync::Arc;
 
 /// What the passes of one cycle share.
 #[derive(Drop)]
-pub(crate) struct Passes<J: Job> {
-    pub(crate) job: Arc<J, Global>,
-    pub(crate) plan: Arc<J::Plan, Global>,
+pub(crate) struct Passes<'c, J: Job> {
+    pub(crate) job: &'c Arc<J, Global>,
+    pub(crate) plan: &'c Arc<J::Plan, Global>,
     pub(crate) seed: u64,
     pub(crate) cycle: u32,
 }
 
-impl<J: Job> Model for Passes<J> {
+impl<'c, J: Job> Model for Passes<'c, J> {
     ghost use Rattle.std.specs.Prelude.{◌≤◌};
     ghost use Rattle.std.specs.Arc.{arc_value};
     ghost use Rattle.cycle_engine.specs.Answers.{SharedValue};
@@ -34,13 +34,13 @@ impl<J: Job> Model for Passes<J> {
     ghost Value = { SharedValue J J.Plan };
 
     ghost view = { λ p. record {
-      job = arc_value p.job;
-      plan = arc_value p.plan;
+      job = arc_value p.job.now;
+      plan = arc_value p.plan.now;
       seed = p.seed;
       cycle = p.cycle;
     } };
 
-    ghost invariant = { λ p. J.Fit (arc_value p.job) (arc_value p.plan) × (p.cycle ≤ 1000000) };
+    ghost invariant = { λ p. J.Fit (arc_value p.job.now) (arc_value p.plan.now) × (p.cycle ≤ 1000000) };
 }
 
 /// What the passes up to one leave: the new elements, the words that each drew, the part, and,
@@ -55,51 +55,62 @@ pub struct SoFar<E, P> {
 
 /// What one of the passes takes over from those before it.
 #[derive(Drop)]
-struct Stage<E, P> {
+struct Stage<'s, E, P> {
     /// The pass' number, counted from 0.
     number: u8,
-    carry: P,
-    elements: Arc<Container<E>, Global>,
+    carry: &'s Arc<P, Global>,
+    elements: &'s Arc<Container<E>, Global>,
     /// The words that each element drew before. Pass 0 has none.
-    earlier: Arc<Container<u32>, Global>,
+    earlier: &'s Arc<Container<u32>, Global>,
 }
 
-impl<J: Job> Passes<J> {
+impl<'s, E, P> Model for Stage<'s, E, P> {
+    ghost use Rattle.std.specs.Arc.{arc_value};
+    ghost use Rattle.cycle_engine.specs.Answers.{StageValue};
+
+    ghost Value = { StageValue E P };
+
+    ghost view = { λ s. record {
+      number = s.number;
+      carry = arc_value s.carry.now;
+      elements = arc_value s.elements.now;
+      earlier = arc_value s.earlier.now;
+    } };
+}
+
+impl<'c, J: Job> Passes<'c, J> {
     /// One pass, whose data the pool may hold as long as it likes. The last one shows its elements.
     fn one<P: Pool<J>>(
         &self,
-        alloc: Global,
         pool: &mut P,
-        stage: Stage<J::Element, J::Part>,
+        stage: &Stage<'_, J::Element, J::Part>,
+        room: &mut PassRoom<J::Element, J::Part>,
     ) -> Result<PassDone<J::Element, J::Part>, PoolFault>
-        requires number { stage.number < J.meaning.passes_of self.now.job self.now.plan }
-        requires carry { CoversSome (J.Covers self.now.job) stage.carry }
-        requires few { length (arc_value stage.elements) ≤ 65536 }
-        requires own { All (J.Own self.now.job) (arc_value stage.elements) }
-        requires level { (arc_value stage.earlier ≡ [])
-            ⊎ (length (arc_value stage.earlier) ≡ length (arc_value stage.elements)) }
-        requires few_earlier { All (λ draws. draws ≤ 458745) (arc_value stage.earlier) }
-        ensures pass { IsPass result (passed J.meaning self.now.job self.now.plan stage.carry
-            self.now.seed self.now.cycle stage.number (arc_value stage.elements)) }
+        requires number { stage.now.number < J.meaning.passes_of self.now.job self.now.plan }
+        requires carry { CoversSome (J.Covers self.now.job) stage.now.carry }
+        requires few { length stage.now.elements ≤ 65536 }
+        requires own { All (J.Own self.now.job) stage.now.elements }
+        requires level { (stage.now.earlier ≡ []) ⊎ (length stage.now.earlier ≡ length stage.now.elements) }
+        requires few_earlier { All (λ draws. draws ≤ 458745) stage.now.earlier }
+        ensures pass { IsPass result (passed J.meaning self.now.job self.now.plan stage.now.carry
+            self.now.seed self.now.cycle stage.now.number stage.now.elements) }
         ensures own { IfOk result (λ done. All (J.Own self.now.job) done.elements) }
-        ensures many { IfOk result (λ done.
-            length done.elements ≡ length (arc_value stage.elements)) }
-        ensures drew { IfOk result (λ done.
-            length done.draws ≡ length (arc_value stage.elements)) }
+        ensures many { IfOk result (λ done. length done.elements ≡ length stage.now.elements) }
+        ensures drew { IfOk result (λ done. length done.draws ≡ length stage.now.elements) }
         ensures few_drawn { IfOk result (λ done. All (λ draws. draws ≤ 65535) done.draws) }
         ensures covers { IfOk result (λ done.
-            J.Covers self.now.job done.part (length (arc_value stage.elements))) }
-        ensures element { IfErr result (RefusedBelow (length (arc_value stage.elements))) }
+            J.Covers self.now.job done.part (length stage.now.elements)) }
+        ensures element { IfErr result (RefusedBelow (length stage.now.elements)) }
         ensures shown { IfOk result (λ done.
-            stage.number + 1 ≡ J.meaning.passes_of self.now.job self.now.plan
+            stage.now.number + 1 ≡ J.meaning.passes_of self.now.job self.now.plan
             → done.shown ≡ shown_with J.meaning self.now.job done.elements
-            (drawn_so_far (arc_value stage.earlier) done.draws)) }
+            (drawn_so_far stage.now.earlier done.draws)) }
     {
-        let passes = self.job.passes(&self.plan);
+        let passes = self.job.passes(&**self.plan);
         let pass = PassOf {
-            job: again(&self.job)?,
-            plan: again(&self.plan)?,
-            carry: shared(alloc, stage.carry)?,
+            job: self.job,
+            plan: self.plan,
+            carry: stage.carry,
             number: stage.number,
             elements: stage.elements,
             seed: self.seed,
@@ -107,23 +118,22 @@ impl<J: Job> Passes<J> {
             earlier: stage.earlier,
             shows: stage.number + 1 == passes,
         };
-        let pass = shared(alloc, pass)?;
-        pool.run_pass(alloc, &pass)
+        pool.run_pass(&pass, room)
     }
 
     /// Pass 0, which carries the unit.
     fn first<P: Pool<J>>(
         &self,
-        alloc: Global,
         pool: &mut P,
-        elements: Arc<Container<J::Element>, Global>,
+        elements: &Arc<Container<J::Element>, Global>,
+        desk: &mut Desk<J>,
     ) -> Result<SoFar<J::Element, J::Part>, CycleFault>
-        requires few { length (arc_value elements) ≤ 65536 }
-        requires own { All (J.Own self.now.job) (arc_value elements) }
+        requires few { length (arc_value elements.now) ≤ 65536 }
+        requires own { All (J.Own self.now.job) (arc_value elements.now) }
         ensures pass { ArePasses result (first_pass J.meaning self.now.job self.now.plan
-            self.now.seed self.now.cycle (arc_value elements)) }
+            self.now.seed self.now.cycle (arc_value elements.now)) }
         ensures own { IfOk result (λ done. All (J.Own self.now.job) done.elements) }
-        ensures many { IfOk result (λ done. length done.elements ≡ length (arc_value elements)) }
+        ensures many { IfOk result (λ done. length done.elements ≡ length (arc_value elements.now)) }
         ensures drew { IfOk result (λ done. length done.draws ≡ length done.elements) }
         ensures few_drawn { IfOk result (λ done. All (λ draws. draws ≤ 65535) done.draws) }
         ensures covers { IfOk result (λ done.
@@ -131,21 +141,28 @@ impl<J: Job> Passes<J> {
         ensures shown { IfOk result (λ done. 1 ≡ J.meaning.passes_of self.now.job self.now.plan
             → done.shown ≡ shown_with J.meaning self.now.job done.elements done.draws) }
     {
-        let none = shared(alloc, Container::new(alloc))?;
+        let unit = self.job.unit(desk.alloc(), &mut desk.room.part());
+        let carry = desk.share_part(unit)?;
+        let none = desk.share_draws(Container::new(desk.alloc()))?;
         let stage = Stage {
             number: 0,
-            carry: self.job.unit(alloc),
+            carry: &carry,
             elements,
-            earlier: again(&none)?,
+            earlier: &none,
         };
-        match self.one(alloc, pool, stage) {
+        let done = self.one(pool, &stage, &mut desk.room);
+        desk.keep_part(carry);
+        match done {
             Ok(done) => Ok(SoFar {
                 elements: done.elements,
                 draws: Draws::of(none, done.draws),
                 part: done.part,
                 shown: done.shown,
             }),
-            Err(fault) => Err(in_pool(0, fault)),
+            Err(fault) => {
+                desk.keep_draws(none);
+                Err(in_pool(0, fault))
+            }
         }
     }
 
@@ -153,10 +170,10 @@ impl<J: Job> Passes<J> {
     /// added to those drawn so far.
     fn next<P: Pool<J>>(
         &self,
-        alloc: Global,
         pool: &mut P,
         number: u8,
         done: SoFar<J::Element, J::Part>,
+        desk: &mut Desk<J>,
     ) -> Result<SoFar<J::Element, J::Part>, CycleFault>
         requires number { number < J.meaning.passes_of self.now.job self.now.plan }
         requires few_passes { number < 8 }
@@ -177,46 +194,54 @@ impl<J: Job> Passes<J> {
             number + 1 ≡ J.meaning.passes_of self.now.job self.now.plan
             → next.shown ≡ shown_with J.meaning self.now.job next.elements next.draws) }
     {
-        let earlier = done.draws.summed(alloc)?;
+        let earlier = done.draws.summed(desk)?;
+        let carry = desk.share_part(done.part)?;
+        let elements = desk.share_elements(done.elements)?;
         let stage = Stage {
             number,
-            carry: done.part,
-            elements: shared(alloc, done.elements)?,
-            earlier: again(&earlier)?,
+            carry: &carry,
+            elements: &elements,
+            earlier: &earlier,
         };
-        match self.one(alloc, pool, stage) {
+        let next = self.one(pool, &stage, &mut desk.room);
+        desk.keep_part(carry);
+        desk.keep_elements(elements);
+        match next {
             Ok(next) => Ok(SoFar {
                 elements: next.elements,
                 draws: Draws::of(earlier, next.draws),
                 part: next.part,
                 shown: next.shown,
             }),
-            Err(fault) => Err(in_pool(number, fault)),
+            Err(fault) => {
+                desk.keep_draws(earlier);
+                Err(in_pool(number, fault))
+            }
         }
     }
 
     /// All passes of the plan. The draws of an element are those of all passes together.
     pub(crate) fn run<P: Pool<J>>(
         &self,
-        alloc: Global,
         pool: &mut P,
-        elements: Arc<Container<J::Element>, Global>,
+        elements: &Arc<Container<J::Element>, Global>,
+        desk: &mut Desk<J>,
     ) -> Result<SoFar<J::Element, J::Part>, CycleFault>
-        requires few { length (arc_value elements) ≤ 65536 }
-        requires own { All (J.Own self.now.job) (arc_value elements) }
+        requires few { length (arc_value elements.now) ≤ 65536 }
+        requires own { All (J.Own self.now.job) (arc_value elements.now) }
         ensures passes { ArePasses result (all_passes J.meaning self.now.job self.now.plan
-            self.now.seed self.now.cycle (arc_value elements)) }
+            self.now.seed self.now.cycle (arc_value elements.now)) }
         ensures own { IfOk result (λ done. All (J.Own self.now.job) done.elements) }
-        ensures many { IfOk result (λ done. length done.elements ≡ length (arc_value elements)) }
+        ensures many { IfOk result (λ done. length done.elements ≡ length (arc_value elements.now)) }
         ensures drew { IfOk result (λ done. length done.draws ≡ length done.elements) }
         ensures covers { IfOk result (λ done.
             J.Covers self.now.job done.part (length done.elements)) }
         ensures shown { IfOk result (λ done.
             done.shown ≡ shown_with J.meaning self.now.job done.elements done.draws) }
     {
-        let mut done = self.first(alloc, pool, elements)?;
-        for number in 1..self.job.passes(&self.plan) {
-            done = self.next(alloc, pool, number, done)?;
+        let mut done = self.first(pool, elements, desk)?;
+        for number in 1..self.job.passes(&**self.plan) {
+            done = self.next(pool, number, done, desk)?;
         }
         Ok(done)
     }

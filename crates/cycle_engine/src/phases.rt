@@ -1,15 +1,15 @@
 //! The sequential end of a cycle.
-ghost use Rattle.std.specs.Prelude.{◌≡◌, ◌≤◌, length, IfOk};
+ghost use Rattle.std.specs.Prelude.{◌≡◌, ◌≤◌, length, Ok, Err, IfOk};
 ghost use Rattle.std.specs.List.{All};
 ghost use Rattle.std.specs.Arc.{arc_value};
-ghost use Rattle.job_trait.specs.Cycle.{concluded, shown_with};
+ghost use Rattle.job_trait.specs.Cycle.{all_passes, concluded, shown_with};
 ghost use Rattle.cycle_engine.specs.Answers.{IsCycle, left_by};
 
+use crate::desk::Desk;
 use crate::fault::{CycleFault, in_conclude};
-use crate::owners::shared;
 use crate::passes::{Passes, SoFar};
 use det_values::{Bytes, Container, DrawnElements};
-use job_trait::Job;
+use job_trait::{Job, Pool};
 use std::alloc::Global;
 use std::sync::Arc;
 
@@ -24,10 +24,10 @@ pub struct CycleDone<G, E> {
 
 /// The sequential end, behind the last pass.
 pub(crate) fn finish<J: Job>(
-    alloc: Global,
-    passes: &Passes<J>,
+    passes: &Passes<'_, J>,
     globals: &J::Globals,
     last: SoFar<J::Element, J::Part>,
+    desk: &mut Desk<J>,
 ) -> Result<CycleDone<J::Globals, J::Element>, CycleFault>
     requires few { length last.elements ≤ 65536 }
     requires covers { J.Covers passes.now.job last.part (length last.elements) }
@@ -37,14 +37,50 @@ pub(crate) fn finish<J: Job>(
         passes.now.plan passes.now.seed (left_by last)) }
     ensures elements { IfOk result (λ done. arc_value done.elements ≡ last.elements) }
 {
-    let job = &*passes.job;
-    match job.conclude(alloc, globals, &*passes.plan, last.part) {
+    let concluded = passes.job.conclude(
+        desk.alloc(),
+        globals,
+        &**passes.plan,
+        &last.part,
+        &mut desk.output,
+    );
+    desk.room.keep_part(last.part);
+    last.draws.leave_to(desk);
+    match concluded {
         Ok(concluded) => Ok(CycleDone {
             globals: concluded.globals,
-            elements: shared(alloc, last.elements)?,
+            elements: desk.share_elements(last.elements)?,
             shown: last.shown,
             output: concluded.output,
         }),
-        Err(fault) => Err(in_conclude(fault)),
+        Err(fault) => {
+            desk.room.elements.keep(last.elements);
+            desk.room.keep_frame(last.shown);
+            Err(in_conclude(fault))
+        }
+    }
+}
+
+impl<'c, J: Job> Passes<'c, J> {
+    /// All passes over these elements, and the sequential end.
+    pub(crate) fn cycle<P: Pool<J>>(
+        &self,
+        pool: &mut P,
+        globals: &J::Globals,
+        elements: &Arc<Container<J::Element>, Global>,
+        desk: &mut Desk<J>,
+    ) -> Result<CycleDone<J::Globals, J::Element>, CycleFault>
+        requires few { length (arc_value elements.now) ≤ 65536 }
+        requires own { All (J.Own self.now.job) (arc_value elements.now) }
+        ensures cycle { IsCycle result self.now.seed (elim (all_passes J.meaning self.now.job
+            self.now.plan self.now.seed self.now.cycle (arc_value elements.now)) [
+              | Ok last ↦ concluded J.meaning self.now.job globals.now self.now.plan self.now.seed last
+              | Err at ↦ Err at
+            ]) }
+        ensures own { IfOk result (λ done. All (J.Own self.now.job) (arc_value done.elements)) }
+        ensures few { IfOk result (λ done. length (arc_value done.elements) ≤ 65536) }
+    {
+        let last = self.run(pool, elements, desk)?;
+        finish(self, globals, last, desk)
     }
 }

@@ -3,7 +3,7 @@
 use Rattle.std.specs.Prelude.{ℕ, Bool, true, false, List, [], map}
 use Rattle.std.specs.Prelude.{unwrap_or, if◌then◌else◌}
 use Rattle.cli_answers.specs.Outcome.{Outcome, text_outcome}
-use Rattle.cli_answers.specs.Ends.{Work, writes_alone}
+use Rattle.cli_answers.specs.Ends.{Work, writes_alone, reads_records, compares_records}
 use Rattle.cli_words.specs.declared.table.CommandWord.{CommandWord}
 use Rattle.cli_words.specs.declared.table.CommandWord.TheVariants.{Demo, Record, Show, Needs, Sim}
 use Rattle.cli_words.specs.declared.table.CommandWord.TheVariants.{Replay, Check, Upgrade}
@@ -16,15 +16,15 @@ use Rattle.cmd_setup.specs.Setup.{setup_of}
 use Rattle.cmd_record.specs.Outcomes.{demo_outcome, demo_work}
 use Rattle.cmd_record.specs.Outcomes.{record_outcome, record_names, record_work}
 use Rattle.cmd_needs.specs.Needs.{needs_outcome, needs_work}
-use Rattle.cmd_show.specs.Show.{show_outcome, show_work}
+use Rattle.cmd_show.specs.Show.{show_outcome}
 use Rattle.cmd_sim.specs.Sim.{sim_outcome}
-use Rattle.cmd_replay.specs.Replay.{replay_outcome, replay_work}
-use Rattle.cmd_check.specs.Check.{check_outcome, check_work}
-use Rattle.cmd_upgrade.specs.Upgrade.{upgrade_outcome, upgrade_work}
-use Rattle.cmd_compare.specs.Compare.{compare_outcome, compare_work}
+use Rattle.cmd_replay.specs.Replay.{replay_outcome}
+use Rattle.cmd_check.specs.Check.{check_outcome}
+use Rattle.cmd_upgrade.specs.Upgrade.{upgrade_outcome}
+use Rattle.cmd_compare.specs.Compare.{compare_outcome}
 use Rattle.cmd_vote.specs.Vote.{vote_outcome, dissent_outcome, vote_work}
-use Rattle.cmd_chain.specs.Chain.{chain_outcome, chain_names, chain_work}
-use Rattle.cmd_salvage.specs.Salvage.{salvage_outcome, salvage_reports_outcome, salvage_work}
+use Rattle.cmd_chain.specs.Chain.{chain_outcome, chain_names}
+use Rattle.cmd_salvage.specs.Salvage.{salvage_outcome, salvage_reports_outcome}
 use Rattle.det_cli.specs.declared.texts.TheConstants.{VERSION}
 use Rattle.det_cli.specs.Texts.{help_text}
 
@@ -42,15 +42,15 @@ opened_by word c holds = files_of c
 abbrev pub work_of : CommandWord → Work
 work_of Demo = demo_work
 work_of Record = record_work
-work_of Show = show_work
+work_of Show = reads_records
 work_of Needs = needs_work
-work_of Replay = replay_work
-work_of Check = check_work
-work_of Upgrade = upgrade_work
-work_of Compare = compare_work
+work_of Replay = reads_records
+work_of Check = compares_records
+work_of Upgrade = compares_records
+work_of Compare = compares_records
 work_of Vote = vote_work
-work_of Salvage = salvage_work
-work_of Chain = chain_work
+work_of Salvage = reads_records
+work_of Chain = record_work
 work_of other = writes_alone
 
 -- the commands that show runs to the audience, and print its reports

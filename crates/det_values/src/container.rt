@@ -47,6 +47,23 @@ impl<E> Container<E> {
         })
     }
 
+    /// No elements, in the memory of a list that has no blocks.
+    pub(crate) fn of_no_blocks(blocks: Vec<Vec<E>>) -> Container<E>
+        requires { blocks.items ≡ [] }
+        ensures { result ≡ [] }
+    {
+        Container { blocks }
+    }
+
+    /// The blocks, for their memory.
+    pub(crate) fn into_blocks(self) -> Vec<Vec<E>>
+    where
+        E: Drop,
+    {
+        let Container { blocks } = self;
+        blocks
+    }
+
     /// The number of elements.
     pub fn len(&self) -> usize
         ensures len { result ≡ length self.now }

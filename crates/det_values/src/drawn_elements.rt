@@ -117,6 +117,12 @@ impl DrawnElements {
         DrawnElements { bytes, count }
     }
 
+    /// The bytes, for their memory.
+    pub fn into_bytes(self) -> Vec<u8> {
+        let DrawnElements { bytes, .. } = self;
+        bytes
+    }
+
     /// Makes all draws 0.
     pub fn undraw(&mut self)
         ensures { self.new ≡ all_undrawn self.old }

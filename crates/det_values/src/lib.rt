@@ -19,6 +19,7 @@ mod profile;
 pub mod put;
 mod refused_at;
 mod sample;
+mod spares;
 mod undraw;
 mod walk;
 
@@ -36,4 +37,5 @@ pub use out_of_memory::OutOfMemory;
 pub use profile::Profile;
 pub use refused_at::{Phase, RefusedAt};
 pub use sample::Sample;
+pub use spares::Spares;
 pub use walk::Walk;

@@ -8,9 +8,8 @@ use Rattle.std.proofs.lemmas.List.FromFn.{length-map-range_with_len}
 use Rattle.std.proofs.lemmas.Bool.Decides.{nat_tests}
 use Rattle.std.proofs.lemmas.Int.{ints, clamps}
 use Rattle.det_values.specs.Limits.{IsSampleValue}
-use Rattle.job_trait.specs.declared.answers.Worked.{Worked}
 use Rattle.job_trait.specs.declared.answers.Concluded.{Concluded}
-use Rattle.job_trait.specs.Meaning.{Prepared}
+use Rattle.job_trait.specs.Meaning.{Prepared, Worked}
 use Rattle.job_trait.specs.Laws.{JobLaws, CoversBoth}
 use Rattle.job_shared.specs.Bytes.{u16_bytes, i64_bytes}
 use Rattle.job_shared.specs.Samples.{sample_of, IsSample}

@@ -1,12 +1,11 @@
 -- The filter bank: a first-order low-pass filter per channel, which moves a level towards the
 -- newest sample of the channel's event.
 use Rattle.std.specs.Prelude.{ℕ, ℤ, pos, ◌%◌, ◌+ℤ◌, List, ◌++◌, length, map, Option, None, Some, Ok}
-use Rattle.std.specs.Prelude.{not, if◌then◌else◌, nat_lt, nat_le}
+use Rattle.std.specs.Prelude.{not, if◌then◌else◌, nat_lt, nat_le, unwrap_or}
 use Rattle.std.proofs.Common.{lit≤}
 use Rattle.std.specs.List.{range_with_len}
 use Rattle.std.specs.Int.{int_min, int_max}
-use Rattle.job_trait.specs.declared.answers.Worked.{Worked}
-use Rattle.job_trait.specs.Meaning.{Meaning, Begun}
+use Rattle.job_trait.specs.Meaning.{Meaning, Worked}
 use Rattle.job_shared.specs.Params.{is_param, natural_param, few_events}
 use Rattle.job_shared.proofs.Clamps.{natural_most, events_few}
 use Rattle.job_shared.specs.Samples.{all_newest, sample_of}
@@ -45,9 +44,6 @@ first_channel j i = record { event = event_of j i; level = pos 0 }
 abbrev pub first_channels : Bank → List Channel
 first_channels j = map (first_channel j) (range_with_len 0 j.channels)
 
-abbrev pub started : Bank → ℕ → Begun NoGlobals Channel
-started j seed = record { globals = record {}; elements = first_channels j; seed = seed }
-
 -- a level after one step towards a target, where there is one
 abbrev pub level_after : Option ℤ → ℤ → ℕ → ℤ
 level_after None level shift = level
@@ -59,11 +55,11 @@ new_level j plan e = level_after (sample_of plan e.event) e.level j.shift
 abbrev pub summary_of : ℤ → Summary
 summary_of level = record { sum = level; least = level; greatest = level }
 
+abbrev pub gives : Channel → Worked Channel (Option Summary)
+gives e = record { element = e; part = Some (summary_of e.level) }
+
 abbrev pub worked : Bank → List (Option ℤ) → Channel → Worked Channel (Option Summary)
-worked j plan e = record {
-  element = record { event = e.event; level = new_level j plan e };
-  part = Some (summary_of (new_level j plan e));
-}
+worked j plan e = gives (record e { level = new_level j plan e })
 
 abbrev pub joined : Option Summary → Option Summary → Option Summary
 joined None right = right
@@ -74,16 +70,12 @@ joined (Some left) (Some right) = Some (record {
   greatest = int_max left.greatest right.greatest;
 })
 
--- the summary of a part, all 0 where there is none
-abbrev pub summary : Option Summary → Summary
-summary None = summary_of (pos 0)
-summary (Some s) = s
-
 abbrev pub summary_bytes : Summary → List ℕ
 summary_bytes s = i64_bytes s.sum ++ i64_bytes s.least ++ i64_bytes s.greatest
 
+-- all 0 where there is no channel
 abbrev pub output : Option Summary → List ℕ
-output part = summary_bytes (summary part)
+output part = summary_bytes (unwrap_or part (summary_of (pos 0)))
 
 -- where there are several events, the event too
 abbrev pub shown : Bank → Channel → List ℕ
@@ -94,7 +86,7 @@ meaning = record {
   bad_param = bad_param;
   made = made;
   events = λ j. j.events;
-  started = started;
+  started = λ j seed. record { globals = record {}; elements = first_channels j; seed = seed };
   prepared = λ j globals es windows seed cycle time next.
       Ok (record { plan = all_newest windows; seed = seed });
   passes_of = λ j plan. 1;

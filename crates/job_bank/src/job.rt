@@ -4,11 +4,11 @@ use crate::channel::{first_channels, level_after, put_channel, put_drawn_channel
 use crate::summary::{joined, output, summary_of};
 use crate::{Bank, Channel, Summary};
 use det_client::Client;
-use det_values::{Container, OutOfMemory, Params};
+use det_values::{Bytes, Container, OutOfMemory, Params};
 use element_random::ElementRandom;
 use event_cache::EventCache;
 use job_shared::{NewestSamples, newest_samples, sample_of};
-use job_trait::{BadParam, Concluded, Job, JobFault, Started, Worked};
+use job_trait::{BadParam, Concluded, Job, JobFault, Started};
 use std::alloc::Global;
 
 /// Nothing is kept between cycles beside the channels.
@@ -62,18 +62,20 @@ impl Job for Bank {
         _elements: &Container<Channel>,
         cache: &EventCache,
         _client: &mut Client,
+        spare: &mut Option<NewestSamples>,
     ) -> Result<NewestSamples, JobFault> {
-        Ok(newest_samples(alloc, cache)?)
+        Ok(newest_samples(alloc, cache, spare.take())?)
     }
 
     fn passes(&self, _plan: &NewestSamples) -> u8 {
         1
     }
 
-    fn unit(&self, _alloc: Global) -> Option<Summary> {
+    fn unit(&self, _alloc: Global, _spare: &mut Option<Option<Summary>>) -> Option<Summary> {
         None
     }
 
+    #[inline(always)]
     fn run(
         &self,
         _alloc: Global,
@@ -82,24 +84,25 @@ impl Job for Bank {
         _pass: u8,
         element: &Channel,
         _random: &mut ElementRandom,
-    ) -> Result<Worked<Channel, Option<Summary>>, JobFault> {
+        part: &mut Option<Summary>,
+    ) -> Result<Channel, JobFault> {
         let target = sample_of(plan, u32::from(element.event));
         let level = level_after(target, element.level, self.shift);
-        Ok(Worked {
-            element: Channel {
-                event: element.event,
-                level,
-            },
-            part: Some(summary_of(level)),
+        *part = joined(*part, Some(summary_of(level)));
+        Ok(Channel {
+            event: element.event,
+            level,
         })
     }
 
+    #[inline(always)]
     fn merge(
         &self,
-        left: Option<Summary>,
-        right: Option<Summary>,
-    ) -> Result<Option<Summary>, OutOfMemory> {
-        Ok(joined(left, right))
+        left: &mut Option<Summary>,
+        right: &mut Option<Summary>,
+    ) -> Result<(), OutOfMemory> {
+        *left = joined(*left, *right);
+        Ok(())
     }
 
     #[inline(always)]
@@ -122,11 +125,13 @@ impl Job for Bank {
         alloc: Global,
         _globals: &NoGlobals,
         _plan: &NewestSamples,
-        part: Option<Summary>,
+        part: &Option<Summary>,
+        spare: &mut Option<Bytes>,
     ) -> Result<Concluded<NoGlobals>, JobFault> {
+        let spare = spare.take().unwrap_or(Bytes::new(alloc));
         Ok(Concluded {
             globals: NoGlobals,
-            output: output(alloc, part)?,
+            output: output(*part, spare)?,
         })
     }
 }

@@ -3,11 +3,11 @@
 ghost use Rattle.std.specs.Prelude.{◌≡◌, IfOk, Some};
 ghost use Rattle.det_values.specs.Limits.{IsSampleValue};
 ghost use Rattle.job_trait.specs.Laws.{CoverTogether, CoversBoth};
-ghost use Rattle.job_bank.specs.Meaning.{summary_of, joined, summary, output};
+ghost use Rattle.job_bank.specs.Meaning.{summary_of, joined, output};
 ghost use Rattle.job_bank.specs.Ranges.{IsSummaryOf, IsPartOf};
 
 use det_values::{Bytes, OutOfMemory};
-use std::alloc::Global;
+use job_shared::empty_output;
 
 /// The sum, the least and the greatest of the levels of some channels.
 #[derive(Clone, Copy, Debug, PartialEq, Eq, Drop)]
@@ -18,6 +18,7 @@ pub struct Summary {
 }
 
 /// The summary of one level.
+#[inline(always)]
 pub(crate) fn summary_of(level: i64) -> Summary
     requires { IsSampleValue level }
     ensures summary { result ≡ summary_of level }
@@ -31,6 +32,7 @@ pub(crate) fn summary_of(level: i64) -> Summary
 }
 
 /// The summary of the channels of two summaries.
+#[inline(always)]
 fn both(left: Summary, right: Summary) -> Summary
     requires { CoverTogether IsSummaryOf left right }
     ensures { Some result ≡ joined (Some left) (Some right) }
@@ -43,6 +45,7 @@ fn both(left: Summary, right: Summary) -> Summary
 }
 
 /// The same, where each may be of no channel.
+#[inline(always)]
 pub(crate) fn joined(left: Option<Summary>, right: Option<Summary>) -> Option<Summary>
     requires { CoverTogether IsPartOf left right }
     ensures joined { result ≡ joined left right }
@@ -58,18 +61,11 @@ pub(crate) fn joined(left: Option<Summary>, right: Option<Summary>) -> Option<Su
 }
 
 /// The sum, the least and the greatest level, 24 bytes; all three are 0 where there is no channel.
-pub(crate) fn output(alloc: Global, part: Option<Summary>) -> Result<Bytes, OutOfMemory>
+pub(crate) fn output(part: Option<Summary>, spare: Bytes) -> Result<Bytes, OutOfMemory>
     ensures { IfOk result (λ bytes. bytes ≡ output part) }
 {
-    let all = match part {
-        Some(summary) => summary,
-        None => Summary {
-            sum: 0,
-            least: 0,
-            greatest: 0,
-        },
-    };
-    let mut bytes = Bytes::from_vec(Vec::with_capacity(alloc, 24)?);
+    let all = part.unwrap_or(summary_of(0));
+    let mut bytes = empty_output(spare, 24)?;
     bytes.extend_from_slice(&all.sum.to_be_bytes())?;
     bytes.extend_from_slice(&all.least.to_be_bytes())?;
     bytes.extend_from_slice(&all.greatest.to_be_bytes())?;

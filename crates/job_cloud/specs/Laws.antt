@@ -10,9 +10,8 @@ use Rattle.std.proofs.lemmas.Int.{ints, clamps}
 use Rattle.det_values.specs.Limits.{IsSampleValue}
 use Rattle.event_cache.specs.Windows.{AreWindows}
 use Rattle.element_random.specs.Words.{word}
-use Rattle.job_trait.specs.declared.answers.Worked.{Worked}
 use Rattle.job_trait.specs.declared.answers.Concluded.{Concluded}
-use Rattle.job_trait.specs.Meaning.{Prepared}
+use Rattle.job_trait.specs.Meaning.{Prepared, Worked}
 use Rattle.job_trait.specs.Laws.{JobLaws, CoversSome, CoversBoth}
 use Rattle.job_shared.specs.Samples.{newest, IsSample}
 use Rattle.job_shared.proofs.Answered.{ok_same}

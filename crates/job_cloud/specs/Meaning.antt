@@ -6,9 +6,8 @@ use Rattle.std.proofs.Common.{lit≤}
 use Rattle.std.specs.List.{range_with_len}
 use Rattle.std.specs.Int.{int_min, int_max}
 use Rattle.element_random.specs.Words.{key, word}
-use Rattle.job_trait.specs.declared.answers.Worked.{Worked}
 use Rattle.job_trait.specs.declared.answers.Concluded.{Concluded}
-use Rattle.job_trait.specs.Meaning.{Meaning, Begun, Prepared}
+use Rattle.job_trait.specs.Meaning.{Meaning, Prepared, Worked}
 use Rattle.job_shared.specs.Params.{is_param, natural_param, few_events}
 use Rattle.job_shared.proofs.Clamps.{natural_least, natural_most, events_few}
 use Rattle.job_shared.specs.Samples.{newest}
@@ -52,13 +51,6 @@ first_particle i = record { number = i; x = pos 0; y = pos 0 }
 abbrev pub first_particles : Cloud → List Particle
 first_particles j = map first_particle (range_with_len 0 j.particles)
 
-abbrev pub started : Cloud → ℕ → Begun Finished Particle
-started j seed = record {
-  globals = record { cycles = 0 };
-  elements = first_particles j;
-  seed = seed;
-}
-
 -- a negative sample of event 2 refuses the cycle
 abbrev pub is_held : Option ℤ → Bool
 is_held None = false
@@ -91,15 +83,14 @@ abbrev pub moved : ℤ → ℤ → ℤ
 moved z by = int_max (negsuc 999999999999) (int_min (pos 1000000000000) (z +ℤ by))
 
 abbrev pub stepped : Particle → Step → Particle
-stepped e s = record { number = e.number; x = moved e.x s.dx; y = moved e.y s.dy }
+stepped e s = record e { x = moved e.x s.dx; y = moved e.y s.dy }
 
 -- an eighth of the way to the best particle; where there is none, and for every eighth word, no way
 -- at all
 abbrev pub pulled : Option Best → Particle → ℕ → Particle
 pulled None e w = e
 pulled (Some best) e w =
-    if w % 8 == 0 then e
-    else record { number = e.number; x = towards e.x best.x 3; y = towards e.y best.y 3 }
+    if w % 8 == 0 then e else record e { x = towards e.x best.x 3; y = towards e.y best.y 3 }
 
 -- a particle after a pass, by the key of its words
 abbrev pub after_pass : Cloud → Option Best → ℕ → Particle → ℕ → Particle
@@ -165,7 +156,11 @@ meaning = record {
   bad_param = bad_param;
   made = made;
   events = λ j. j.events;
-  started = started;
+  started = λ j seed. record {
+    globals = record { cycles = 0 };
+    elements = first_particles j;
+    seed = seed;
+  };
   prepared = λ j globals es windows seed cycle time next. prepared j windows seed cycle;
   passes_of = λ j plan. 2;
   unit_part = λ j. None;

@@ -1,6 +1,6 @@
 //! The particle that stands nearest to the target.
 
-ghost use Rattle.std.specs.Prelude.{◌≡◌, [], IfOk};
+ghost use Rattle.std.specs.Prelude.{◌≡◌, IfOk};
 ghost use Rattle.job_trait.specs.Laws.{CoverTogether, CoversBoth};
 ghost use Rattle.job_cloud.specs.Meaning.{best_of, is_better, joined, is_far, output};
 ghost use Rattle.job_cloud.specs.Ranges.{IsPlace, IsBestOf, IsPartOf};
@@ -8,7 +8,7 @@ ghost use Rattle.job_cloud.specs.Ranges.{IsPlace, IsBestOf, IsPartOf};
 use crate::particle::distance;
 use crate::{Particle, Target};
 use det_values::{Bytes, OutOfMemory};
-use std::alloc::Global;
+use job_shared::empty_output;
 
 /// The best particle: its distance from the target, its number, and its coordinates.
 #[derive(Clone, Copy, Debug, PartialEq, Eq, Drop)]
@@ -74,16 +74,9 @@ pub(crate) fn is_far(far: u64, part: Option<Best>) -> bool
     }
 }
 
-/// No bytes yet, and room for those of an output.
-fn room(alloc: Global) -> Result<Bytes, OutOfMemory>
-    ensures { IfOk result (λ bytes. bytes ≡ []) }
-{
-    Ok(Bytes::from_vec(Vec::with_capacity(alloc, 32)?))
-}
-
 /// The best particle's number, coordinates and distance, all 0 where there is none, and the number
 /// of finished cycles: 32 bytes.
-pub(crate) fn output(alloc: Global, part: Option<Best>, finished: u32) -> Result<Bytes, OutOfMemory>
+pub(crate) fn output(part: Option<Best>, finished: u32, spare: Bytes) -> Result<Bytes, OutOfMemory>
     ensures { IfOk result (λ bytes. bytes ≡ output part finished) }
 {
     let best = match part {
@@ -95,7 +88,7 @@ pub(crate) fn output(alloc: Global, part: Option<Best>, finished: u32) -> Result
             y: 0,
         },
     };
-    let mut bytes = room(alloc)?;
+    let mut bytes = empty_output(spare, 32)?;
     bytes.extend_from_slice(&best.number.to_be_bytes())?;
     bytes.extend_from_slice(&best.x.to_be_bytes())?;
     bytes.extend_from_slice(&best.y.to_be_bytes())?;

@@ -15,11 +15,11 @@ use crate::particle::{first_particles, moved, put_drawn_particle, put_particle};
 use crate::steps::random_step;
 use crate::{Best, Cloud, Particle, Target};
 use det_client::Client;
-use det_values::{Container, OutOfMemory, Params};
+use det_values::{Bytes, Container, OutOfMemory, Params};
 use element_random::ElementRandom;
 use event_cache::EventCache;
 use job_shared::{newest, towards};
-use job_trait::{BadParam, Concluded, Job, JobFault, Started, Worked};
+use job_trait::{BadParam, Concluded, Job, JobFault, Started};
 use std::alloc::Global;
 
 /// The number of finished cycles. It stands at `u32::MAX`.
@@ -157,6 +157,7 @@ impl Job for Cloud {
         _elements: &Container<Particle>,
         cache: &EventCache,
         client: &mut Client,
+        _spare: &mut Option<Target>,
     ) -> Result<Target, JobFault> {
         if is_held(cache) {
             return Err(JobFault::Code(1));
@@ -169,7 +170,7 @@ impl Job for Cloud {
         2
     }
 
-    fn unit(&self, _alloc: Global) -> Option<Best> {
+    fn unit(&self, _alloc: Global, _spare: &mut Option<Option<Best>>) -> Option<Best> {
         None
     }
 
@@ -182,21 +183,21 @@ impl Job for Cloud {
         pass: u8,
         element: &Particle,
         random: &mut ElementRandom,
-    ) -> Result<Worked<Particle, Option<Best>>, JobFault> {
+        part: &mut Option<Best>,
+    ) -> Result<Particle, JobFault> {
         let particle = if pass == 0 {
             stepped(self, element, random)
         } else {
             pulled(self, *carry, element, random)
         };
-        Ok(Worked {
-            element: particle,
-            part: Some(best_of(*plan, particle)),
-        })
+        *part = joined(*part, Some(best_of(*plan, particle)));
+        Ok(particle)
     }
 
     #[inline(always)]
-    fn merge(&self, left: Option<Best>, right: Option<Best>) -> Result<Option<Best>, OutOfMemory> {
-        Ok(joined(left, right))
+    fn merge(&self, left: &mut Option<Best>, right: &mut Option<Best>) -> Result<(), OutOfMemory> {
+        *left = joined(*left, *right);
+        Ok(())
     }
 
     #[inline(always)]
@@ -219,15 +220,17 @@ impl Job for Cloud {
         alloc: Global,
         globals: &Finished,
         _plan: &Target,
-        part: Option<Best>,
+        part: &Option<Best>,
+        spare: &mut Option<Bytes>,
     ) -> Result<Concluded<Finished>, JobFault> {
-        if is_far(self.far, part) {
+        if is_far(self.far, *part) {
             return Err(JobFault::Code(2));
         }
         let cycles = globals.cycles.saturating_add(1);
+        let spare = spare.take().unwrap_or(Bytes::new(alloc));
         Ok(Concluded {
             globals: Finished { cycles },
-            output: output(alloc, part, cycles)?,
+            output: output(*part, cycles, spare)?,
         })
     }
 }

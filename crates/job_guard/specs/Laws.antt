@@ -3,15 +3,15 @@ use Rattle.std.proofs.Common.{◌≡◌, ℕ, ℤ, ◌+◌, ◌*◌, ◌<◌, �
 use Rattle.std.proofs.Common.{Option, None, Some, Result, Ok, Err, Bool, true, false, cond, ltb}
 use Rattle.std.proofs.Common.{refl, ap, sym, ◌∙◌, subst, append_assoc, length-append, arith}
 use Rattle.std.specs.Prelude.{nat_le}
-use Rattle.std.specs.List.{All}
+use Rattle.std.specs.List.{All, flat_map}
 use Rattle.std.proofs.lemmas.List.{append-nil}
 use Rattle.std.proofs.lemmas.List.FromFn.{length-map-range_with_len}
 use Rattle.std.proofs.lemmas.Bool.Decides.{nat_tests}
 use Rattle.std.proofs.lemmas.Int.{ints}
-use Rattle.job_trait.specs.declared.answers.Worked.{Worked}
 use Rattle.job_trait.specs.declared.answers.Concluded.{Concluded}
-use Rattle.job_trait.specs.Meaning.{Prepared}
+use Rattle.job_trait.specs.Meaning.{Prepared, Worked}
 use Rattle.job_trait.specs.Laws.{JobLaws, CoversBoth}
+use Rattle.job_shared.specs.Bytes.{u32_bytes}
 use Rattle.job_shared.specs.Samples.{IsSample, AreSamples}
 use Rattle.job_shared.proofs.Answered.{ok_same}
 use Rattle.job_shared.proofs.Apart.{u16_bytes-apart, u32_bytes-apart, i64_bytes-apart}
@@ -23,7 +23,7 @@ use Rattle.job_guard.specs.declared.job.Total.{Total}
 use Rattle.job_guard.specs.declared.job.Plan.{Plan}
 use Rattle.job_guard.specs.Bounds.{contains}
 use Rattle.job_guard.specs.Meaning.{meaning, first_channel, first_channels, event_of, reading}
-use Rattle.job_guard.specs.Meaning.{judged, joined, number_bytes, next_bytes, output, total_after}
+use Rattle.job_guard.specs.Meaning.{judged, joined, next_bytes, output, total_after}
 use Rattle.job_guard.specs.Meaning.{shown}
 use Rattle.job_guard.specs.Ranges.{Own, Fit, IsPartOf, Covers}
 
@@ -93,9 +93,9 @@ parts_joined left right whole e a b n sum few h k =
     (subst (λ (p : List ℕ). IsPartOf p (a + b)) (sym e)
     (part_joined left right a b h k (omega arith)))
 
-pub length-number_bytes : (ns : List ℕ) → length (number_bytes ns) ≡ 4 * length ns
-length-number_bytes [] = refl
-length-number_bytes (n ∷ ns) = let rest = length-number_bytes ns in omega arith
+length-numbers : (ns : List ℕ) → length (flat_map u32_bytes ns) ≡ 4 * length ns
+length-numbers [] = refl
+length-numbers (n ∷ ns) = let rest = length-numbers ns in omega arith
 
 length-next_bytes : (next : Option ℕ) → length (next_bytes next) ≤ 9
 length-next_bytes None = omega arith
@@ -104,9 +104,9 @@ length-next_bytes (Some t) = omega arith
 length-output : (total : ℕ) (part : List ℕ) (next : Option ℕ) → length part ≤ 65536 →
     length (output total part next) ≤ 1048576
 length-output total part next few =
-    let numbers = length-number_bytes part in
+    let numbers = length-numbers part in
     let last = length-next_bytes next in
-    omega (arith, length-append (number_bytes part) (next_bytes next))
+    omega (arith, length-append (flat_map u32_bytes part) (next_bytes next))
 
 output_by : (b : Bool) (j : Guard) (g : Total) (plan : Plan) (part : List ℕ) (d : Concluded Total) →
     b ≡ ltb j.most (length part)

@@ -3,10 +3,9 @@ use Rattle.std.specs.Prelude.{ℕ, ℤ, pos, negsuc, ◌+◌, ◌-◌, ◌%◌, 
 use Rattle.std.specs.Prelude.{map, min, Option, None, Some, Result, Ok, Err, not, ◌==◌}
 use Rattle.std.specs.Prelude.{if◌then◌else◌, nat_lt, nat_le}
 use Rattle.std.proofs.Common.{lit≤}
-use Rattle.std.specs.List.{range_with_len}
-use Rattle.job_trait.specs.declared.answers.Worked.{Worked}
+use Rattle.std.specs.List.{range_with_len, flat_map}
 use Rattle.job_trait.specs.declared.answers.Concluded.{Concluded}
-use Rattle.job_trait.specs.Meaning.{Meaning, Begun}
+use Rattle.job_trait.specs.Meaning.{Meaning, Worked}
 use Rattle.job_shared.specs.Params.{param, is_param, natural_param, few_events}
 use Rattle.job_shared.proofs.Clamps.{natural_least, natural_most, events_few}
 use Rattle.job_shared.specs.Samples.{all_newest, sample_of}
@@ -53,30 +52,17 @@ first_channel j i = record { number = i; event = event_of j i; held = pos 0; str
 abbrev pub first_channels : Guard → List Channel
 first_channels j = map (first_channel j) (range_with_len 0 j.channels)
 
-abbrev pub started : Guard → ℕ → Begun Total Channel
-started j seed = record {
-  globals = record { corrections = 0 };
-  elements = first_channels j;
-  seed = seed;
-}
-
 -- what a channel reads: the newest sample of its event
 abbrev pub reading : List (Option ℤ) → Channel → Option ℤ
 reading samples e = sample_of samples e.event
 
 -- a channel that goes on holding its value
 abbrev pub corrected : Channel → Worked Channel (List ℕ)
-corrected e = record {
-  element = record { number = e.number; event = e.event; held = e.held; streak = e.streak + 1 };
-  part = e.number ∷ [];
-}
+corrected e = record { element = record e { streak = e.streak + 1 }; part = e.number ∷ [] }
 
 -- a channel that holds a reading
 abbrev pub holding : Channel → ℤ → Worked Channel (List ℕ)
-holding e value = record {
-  element = record { number = e.number; event = e.event; held = value; streak = 0 };
-  part = [];
-}
+holding e value = record { element = record e { held = value; streak = 0 }; part = [] }
 
 -- a channel after a reading: without one it stays, in range it holds the reading, else it is
 -- corrected, unless that would be the correction in a row whose number is `limit`
@@ -91,10 +77,6 @@ judged j e (Some value) =
 abbrev pub joined : List ℕ → List ℕ → List ℕ
 joined left right = left ++ right
 
-abbrev pub number_bytes : List ℕ → List ℕ
-number_bytes [] = []
-number_bytes (n ∷ ns) = u32_bytes n ++ number_bytes ns
-
 -- 01 and the time, or 00
 abbrev pub next_bytes : Option ℕ → List ℕ
 next_bytes None = 0 ∷ []
@@ -103,7 +85,7 @@ next_bytes (Some time) = 1 ∷ u64_bytes time
 abbrev pub output : ℕ → List ℕ → Option ℕ → List ℕ
 output total corrections next =
     u64_bytes total ++ (u32_bytes (length corrections) ++
-    (number_bytes corrections ++ next_bytes next))
+    (flat_map u32_bytes corrections ++ next_bytes next))
 
 -- the sum, as far as a u64 tells
 abbrev pub total_after : Total → List ℕ → ℕ
@@ -125,7 +107,11 @@ meaning = record {
   bad_param = bad_param;
   made = made;
   events = λ j. j.events;
-  started = started;
+  started = λ j seed. record {
+    globals = record { corrections = 0 };
+    elements = first_channels j;
+    seed = seed;
+  };
   prepared = λ j globals es windows seed cycle time next. Ok
       (record { plan = record { samples = all_newest windows; next = next }; seed = seed });
   passes_of = λ j plan. 1;

@@ -1,19 +1,18 @@
 //! Channels, and what a sample makes of them.
 
-ghost use Rattle.std.specs.Prelude.{◌≡◌, ◌≤◌, ◌++◌, IfOk, OnOk, length};
+ghost use Rattle.std.specs.Prelude.{◌≡◌, ◌<◌, ◌≤◌, ◌++◌, IfOk, OnOk, length};
 ghost use Rattle.std.specs.List.{All};
 ghost use Rattle.det_values.specs.Spelling.{Grows, an_element, spelled_drawn};
 ghost use Rattle.det_values.specs.Spelling.{spelled_u16, spelled_u32};
 ghost use Rattle.job_shared.specs.Samples.{IsSample};
-ghost use Rattle.job_trait.specs.Meaning.{Agrees};
-ghost use Rattle.job_guard.specs.Meaning.{first_channels, reading, corrected, holding, judged};
-ghost use Rattle.job_guard.specs.Meaning.{shown};
-ghost use Rattle.job_guard.specs.Ranges.{Own, IsPartOf};
+ghost use Rattle.job_trait.specs.Meaning.{AgreesWithPart, joined_to};
+ghost use Rattle.job_guard.specs.Meaning.{first_channels, reading, judged, joined, shown};
+ghost use Rattle.job_guard.specs.Ranges.{Own};
 
 use crate::{Corrections, Guard};
 use det_values::{Container, OutOfMemory};
 use job_shared::{NewestSamples, sample_of};
-use job_trait::{JobFault, Worked};
+use job_trait::JobFault;
 use std::alloc::Global;
 
 /// A channel: its number and its event, the value that it holds, from -10^12 to 10^12, and how
@@ -57,70 +56,43 @@ pub(crate) fn reading(samples: &NewestSamples, channel: &Channel) -> Option<i64>
     sample_of(samples, u32::from(channel.event))
 }
 
-/// A channel that goes on holding its value.
-fn corrected(alloc: Global, channel: &Channel) -> Result<Worked<Channel, Corrections>, OutOfMemory>
-    requires { channel.now.streak ≤ 1000 }
-    ensures { IfOk result (λ worked. worked ≡ corrected channel.now) }
-{
-    let mut part = Corrections::new(alloc);
-    part.push(channel.number)?;
-    Ok(Worked {
-        element: Channel {
-            number: channel.number,
-            event: channel.event,
-            held: channel.held,
-            streak: channel.streak + 1,
-        },
-        part,
-    })
-}
-
-/// A channel that holds a reading.
+/// A channel after a reading. Where it is corrected, its number comes behind those in `part`. It
+/// refuses with code 1 where it would have to be corrected once too often.
 #[inline(always)]
-fn holding(alloc: Global, channel: &Channel, value: i64) -> Worked<Channel, Corrections>
-    ensures { result ≡ holding channel.now value }
+pub(crate) fn judged(
+    guard: &Guard,
+    channel: &Channel,
+    reading: Option<i64>,
+    part: &mut Corrections,
+) -> Result<Channel, JobFault>
+    requires own { Own guard.now channel.now }
+    requires reading { IsSample reading }
+    requires room { length part.old < 65536 }
+    ensures judged { AgreesWithPart result part.new
+        (joined_to joined part.old (judged guard.now channel.now reading)) }
+    ensures own { IfOk result (λ channel. Own guard.now channel) }
 {
-    Worked {
-        element: Channel {
+    let Some(value) = reading else {
+        return Ok(*channel);
+    };
+    if guard.bounds.contains(value) {
+        return Ok(Channel {
             number: channel.number,
             event: channel.event,
             held: value,
             streak: 0,
-        },
-        part: Corrections::new(alloc),
+        });
     }
-}
-
-/// A channel after a reading. It refuses with code 1 where it would have to be corrected once too
-/// often.
-#[inline(always)]
-pub(crate) fn judged(
-    alloc: Global,
-    guard: &Guard,
-    channel: &Channel,
-    reading: Option<i64>,
-) -> Result<Worked<Channel, Corrections>, JobFault>
-    requires own { Own guard.now channel.now }
-    requires reading { IsSample reading }
-    ensures judged { Agrees result (judged guard.now channel.now reading) }
-    ensures own { IfOk result (λ worked. Own guard.now worked.element) }
-    ensures covers { IfOk result (λ worked. IsPartOf worked.part 1) }
-{
-    match reading {
-        None => Ok(Worked {
-            element: *channel,
-            part: Corrections::new(alloc),
-        }),
-        Some(value) => {
-            if guard.bounds.contains(value) {
-                Ok(holding(alloc, channel, value))
-            } else if channel.streak + 1 >= guard.limit {
-                Err(JobFault::Code(1))
-            } else {
-                Ok(corrected(alloc, channel)?)
-            }
-        }
+    if channel.streak + 1 >= guard.limit {
+        return Err(JobFault::Code(1));
     }
+    part.push(channel.number)?;
+    Ok(Channel {
+        number: channel.number,
+        event: channel.event,
+        held: channel.held,
+        streak: channel.streak + 1,
+    })
 }
 
 /// Number, held value and streak.

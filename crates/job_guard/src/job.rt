@@ -1,6 +1,6 @@
 //! The guard as a job.
 
-ghost use Rattle.std.specs.Prelude.{◌≡◌, length, IfOk};
+ghost use Rattle.std.specs.Prelude.{◌≡◌, [], OnOk};
 ghost use Rattle.det_client.specs.State.{next_time};
 ghost use Rattle.job_trait.specs.Laws.{CoverTogether, CoversBoth};
 ghost use Rattle.job_guard.specs.Meaning.{joined};
@@ -10,11 +10,11 @@ use crate::channel::{first_channels, judged, put_channel, put_drawn_channel, rea
 use crate::report::output;
 use crate::{Channel, Guard};
 use det_client::Client;
-use det_values::{Container, Limited, OutOfMemory, Params};
+use det_values::{Bytes, Container, Limited, OutOfMemory, Params};
 use element_random::ElementRandom;
 use event_cache::EventCache;
 use job_shared::{NewestSamples, newest_samples};
-use job_trait::{BadParam, Concluded, Job, JobFault, Started, Worked};
+use job_trait::{BadParam, Concluded, Job, JobFault, Started};
 use std::alloc::Global;
 
 /// How many corrections there were in all finished cycles. It stands at `u64::MAX`.
@@ -34,15 +34,35 @@ pub struct Plan {
 /// The numbers of corrected channels, in order.
 pub type Corrections = Limited<u32, 65536>;
 
-/// The corrections of two neighbouring parts, the left ones first.
+/// Adds the corrections of the right neighbour behind those of a part.
 #[inline(always)]
-fn joined(mut left: Corrections, right: Corrections) -> Result<Corrections, OutOfMemory>
-    requires { CoverTogether IsPartOf left right }
-    ensures joined { IfOk result (λ part. part ≡ joined left right) }
-    ensures covers { IfOk result (CoversBoth IsPartOf left right) }
+fn join(left: &mut Corrections, right: &Corrections) -> Result<(), OutOfMemory>
+    requires { CoverTogether IsPartOf left.old right.now }
+    ensures joined { OnOk result (left.new ≡ joined left.old right.now) }
+    ensures covers { OnOk result (CoversBoth IsPartOf left.old right.now left.new) }
 {
-    left.append(right)?;
-    Ok(left)
+    left.extend_from_slice(right.as_slice())
+}
+
+/// An empty list, in the memory of one that nobody needs, if there is one.
+fn empty_corrections(alloc: Global, spare: Option<Corrections>) -> Corrections
+    ensures { result ≡ [] }
+{
+    match spare {
+        Some(mut corrections) => {
+            corrections.clear();
+            corrections
+        }
+        None => Corrections::new(alloc),
+    }
+}
+
+/// The samples of a plan.
+fn samples_of(plan: Plan) -> NewestSamples
+    ensures { result ≡ plan.samples }
+{
+    let Plan { samples, next: _ } = plan;
+    samples
 }
 
 /// The next activation time.
@@ -97,9 +117,10 @@ impl Job for Guard {
         _elements: &Container<Channel>,
         cache: &EventCache,
         client: &mut Client,
+        spare: &mut Option<Plan>,
     ) -> Result<Plan, JobFault> {
         Ok(Plan {
-            samples: newest_samples(alloc, cache)?,
+            samples: newest_samples(alloc, cache, spare.take().map(samples_of))?,
             next: next_time(client),
         })
     }
@@ -108,27 +129,28 @@ impl Job for Guard {
         1
     }
 
-    fn unit(&self, alloc: Global) -> Corrections {
-        Corrections::new(alloc)
+    fn unit(&self, alloc: Global, spare: &mut Option<Corrections>) -> Corrections {
+        empty_corrections(alloc, spare.take())
     }
 
     #[inline(always)]
     fn run(
         &self,
-        alloc: Global,
+        _alloc: Global,
         plan: &Plan,
         _carry: &Corrections,
         _pass: u8,
         element: &Channel,
         _random: &mut ElementRandom,
-    ) -> Result<Worked<Channel, Corrections>, JobFault> {
+        part: &mut Corrections,
+    ) -> Result<Channel, JobFault> {
         let value = reading(&plan.samples, element);
-        judged(alloc, self, element, value)
+        judged(self, element, value, part)
     }
 
     #[inline(always)]
-    fn merge(&self, left: Corrections, right: Corrections) -> Result<Corrections, OutOfMemory> {
-        joined(left, right)
+    fn merge(&self, left: &mut Corrections, right: &mut Corrections) -> Result<(), OutOfMemory> {
+        join(left, right)
     }
 
     #[inline(always)]
@@ -151,16 +173,18 @@ impl Job for Guard {
         alloc: Global,
         globals: &Total,
         plan: &Plan,
-        part: Corrections,
+        part: &Corrections,
+        spare: &mut Option<Bytes>,
     ) -> Result<Concluded<Total>, JobFault> {
         let count = part.len();
         if count > self.most as usize {
             return Err(JobFault::Code(2));
         }
         let corrections = globals.corrections.saturating_add(count as u64);
+        let spare = spare.take().unwrap_or(Bytes::new(alloc));
         Ok(Concluded {
             globals: Total { corrections },
-            output: output(alloc, corrections, &part, plan.next)?,
+            output: output(corrections, part, plan.next, spare)?,
         })
     }
 }

@@ -7,8 +7,8 @@ use Rattle.std.specs.Int.{w64, rotate_left, from_be_bytes}
 use Rattle.std.proofs.lemmas.Nat.{from_be_bytes-to_be_bytes_8}
 use Rattle.std.proofs.lemmas.List.FromFn.{length-map-range_with_len}
 use Rattle.element_random.specs.Words.{word}
-use Rattle.job_trait.specs.declared.answers.Worked.{Worked}
 use Rattle.job_trait.specs.declared.answers.Concluded.{Concluded}
+use Rattle.job_trait.specs.Meaning.{Worked}
 use Rattle.job_trait.specs.Laws.{JobLaws, CoversBoth}
 use Rattle.job_shared.specs.Bytes.{u64_bytes}
 use Rattle.job_shared.proofs.Answered.{ok_same}

@@ -5,8 +5,7 @@ use Rattle.std.proofs.Common.{lit≤}
 use Rattle.std.specs.List.{range_with_len}
 use Rattle.std.specs.Int.{w64, rotate_left}
 use Rattle.element_random.specs.Words.{word}
-use Rattle.job_trait.specs.declared.answers.Worked.{Worked}
-use Rattle.job_trait.specs.Meaning.{Meaning, Begun}
+use Rattle.job_trait.specs.Meaning.{Meaning, Worked}
 use Rattle.job_shared.specs.Params.{is_param, natural_param, few_events}
 use Rattle.job_shared.proofs.Clamps.{natural_most, events_few}
 use Rattle.job_shared.specs.Bytes.{u64_bytes}
@@ -37,9 +36,6 @@ first_state i = record { folded = i }
 abbrev pub first_states : Heavy → List State
 first_states j = map first_state (range_with_len 0 j.elements)
 
-abbrev pub started : Heavy → ℕ → Begun NoGlobals State
-started j seed = record { globals = record {}; elements = first_states j; seed = seed }
-
 -- a number into which the first n words of a key are folded
 unfoldable pub folded : ℕ → ℕ → ℕ → ℕ
 folded state key zero = state
@@ -59,7 +55,7 @@ meaning = record {
   bad_param = bad_param;
   made = made;
   events = λ j. j.events;
-  started = started;
+  started = λ j seed. record { globals = record {}; elements = first_states j; seed = seed };
   prepared = λ j globals es windows seed cycle time next.
       Ok (record { plan = record {}; seed = seed });
   passes_of = λ j plan. 1;

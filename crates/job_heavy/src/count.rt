@@ -6,7 +6,7 @@ ghost use Rattle.job_heavy.specs.Meaning.{output};
 ghost use Rattle.job_heavy.specs.Ranges.{IsCountOf};
 
 use det_values::{Bytes, OutOfMemory};
-use std::alloc::Global;
+use job_shared::empty_output;
 
 /// The elements of two counts.
 pub(crate) fn both(left: u64, right: u64) -> u64
@@ -18,10 +18,10 @@ pub(crate) fn both(left: u64, right: u64) -> u64
 }
 
 /// The count, 8 bytes.
-pub(crate) fn output(alloc: Global, count: u64) -> Result<Bytes, OutOfMemory>
+pub(crate) fn output(count: u64, spare: Bytes) -> Result<Bytes, OutOfMemory>
     ensures { IfOk result (λ bytes. bytes ≡ output count) }
 {
-    let mut bytes = Bytes::from_vec(Vec::with_capacity(alloc, 8)?);
+    let mut bytes = empty_output(spare, 8)?;
     bytes.extend_from_slice(&count.to_be_bytes())?;
     Ok(bytes)
 }

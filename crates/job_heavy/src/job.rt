@@ -4,10 +4,10 @@ use crate::count::{both, output};
 use crate::state::{first_states, fold_words, put_state};
 use crate::{Heavy, State};
 use det_client::Client;
-use det_values::{Container, OutOfMemory, Params};
+use det_values::{Bytes, Container, OutOfMemory, Params};
 use element_random::ElementRandom;
 use event_cache::EventCache;
-use job_trait::{BadParam, Concluded, Job, JobFault, Started, Worked};
+use job_trait::{BadParam, Concluded, Job, JobFault, Started};
 use std::alloc::Global;
 
 /// Nothing is kept between cycles beside the elements.
@@ -64,6 +64,7 @@ impl Job for Heavy {
         _elements: &Container<State>,
         _cache: &EventCache,
         _client: &mut Client,
+        _spare: &mut Option<NoPlan>,
     ) -> Result<NoPlan, JobFault> {
         Ok(NoPlan)
     }
@@ -72,7 +73,7 @@ impl Job for Heavy {
         1
     }
 
-    fn unit(&self, _alloc: Global) -> u64 {
+    fn unit(&self, _alloc: Global, _spare: &mut Option<u64>) -> u64 {
         0
     }
 
@@ -84,17 +85,17 @@ impl Job for Heavy {
         _pass: u8,
         element: &State,
         random: &mut ElementRandom,
-    ) -> Result<Worked<State, u64>, JobFault> {
-        Ok(Worked {
-            element: State {
-                folded: fold_words(element.folded, random),
-            },
-            part: 1,
+        part: &mut u64,
+    ) -> Result<State, JobFault> {
+        *part = both(*part, 1);
+        Ok(State {
+            folded: fold_words(element.folded, random),
         })
     }
 
-    fn merge(&self, left: u64, right: u64) -> Result<u64, OutOfMemory> {
-        Ok(both(left, right))
+    fn merge(&self, left: &mut u64, right: &mut u64) -> Result<(), OutOfMemory> {
+        *left = both(*left, *right);
+        Ok(())
     }
 
     #[inline(always)]
@@ -107,11 +108,13 @@ impl Job for Heavy {
         alloc: Global,
         _globals: &NoGlobals,
         _plan: &NoPlan,
-        part: u64,
+        part: &u64,
+        spare: &mut Option<Bytes>,
     ) -> Result<Concluded<NoGlobals>, JobFault> {
+        let spare = spare.take().unwrap_or(Bytes::new(alloc));
         Ok(Concluded {
             globals: NoGlobals,
-            output: output(alloc, part)?,
+            output: output(*part, spare)?,
         })
     }
 }

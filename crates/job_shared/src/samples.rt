@@ -1,6 +1,6 @@
 //! The newest samples of events.
 
-ghost use Rattle.std.specs.Prelude.{◌≡◌, ℕ, ◌≤◌, length, IfOk};
+ghost use Rattle.std.specs.Prelude.{◌≡◌, ℕ, ◌≤◌, [], length, IfOk};
 ghost use Rattle.event_cache.specs.Rings.{windows};
 ghost use Rattle.job_shared.specs.Samples.{newest, all_newest, sample_of, AreSamples, IsSample};
 
@@ -23,13 +23,34 @@ pub fn newest(cache: &EventCache, event: u16) -> Option<i64>
     }
 }
 
-/// The newest sample of each event.
-pub fn newest_samples(alloc: Global, cache: &EventCache) -> Result<NewestSamples, OutOfMemory>
+/// An empty list, in the memory of one that nobody needs, or in new memory for so many events.
+fn empty_samples(
+    alloc: Global,
+    events: u16,
+    spare: Option<NewestSamples>,
+) -> Result<NewestSamples, OutOfMemory>
+    ensures { IfOk result (λ samples. samples ≡ []) }
+{
+    match spare {
+        Some(mut samples) => {
+            samples.clear();
+            Ok(samples)
+        }
+        None => Ok(NewestSamples::from_vec(Vec::with_capacity(alloc, events as usize)?)),
+    }
+}
+
+/// The newest sample of each event. A spare list takes no new memory once it held as many.
+pub fn newest_samples(
+    alloc: Global,
+    cache: &EventCache,
+    spare: Option<NewestSamples>,
+) -> Result<NewestSamples, OutOfMemory>
     ensures samples { IfOk result (λ samples. samples ≡ all_newest (windows cache.now)) }
     ensures limits { (events : ℕ) → length (windows cache.now) ≡ events
         → IfOk result (AreSamples events) }
 {
-    let mut samples = NewestSamples::from_vec(Vec::with_capacity(alloc, cache.events() as usize)?);
+    let mut samples = empty_samples(alloc, cache.events(), spare)?;
     for event in 0..cache.events() {
         samples.push(cache.newest(event))?;
     }

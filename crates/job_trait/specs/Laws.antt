@@ -2,9 +2,8 @@
 use Rattle.std.specs.Prelude.{◌≡◌, ℕ, ℤ, ◌+◌, ◌^◌, ◌≤◌, ◌<◌, List, length, Option, Ok}
 use Rattle.std.specs.List.{All}
 use Rattle.event_cache.specs.Windows.{AreWindows}
-use Rattle.job_trait.specs.declared.answers.Worked.{Worked}
 use Rattle.job_trait.specs.declared.answers.Concluded.{Concluded}
-use Rattle.job_trait.specs.Meaning.{Meaning, Prepared}
+use Rattle.job_trait.specs.Meaning.{Meaning, Prepared, Worked}
 
 -- a part may come from some number of elements
 abbrev pub CoversSome : {P : Type 0} → (P → ℕ → Type 0) → P → Type 0

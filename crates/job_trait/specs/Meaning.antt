@@ -2,7 +2,6 @@
 use Rattle.std.specs.Prelude.{◌≡◌, ℕ, ℤ, List, Option, Result, Ok, Err}
 use Rattle.job_trait.specs.declared.answers.JobFault.{JobFault}
 use Rattle.job_trait.specs.declared.answers.JobFault.TheVariants.{Code, OutOfMemory}
-use Rattle.job_trait.specs.declared.answers.Worked.{Worked}
 use Rattle.job_trait.specs.declared.answers.Concluded.{Concluded}
 
 -- globals and elements, and the seed that the client is left with
@@ -15,6 +14,11 @@ pub record Begun (G E : Type 0) : Type 0 where
 pub record Prepared (L : Type 0) : Type 0 where
   pub plan : L
   pub seed : ℕ
+
+-- an element's new value, and the part that it gives to the pass
+pub record Worked (E P : Type 0) : Type 0 where
+  pub element : E
+  pub part : P
 
 -- The functions of a job, where `Err` carries the code of a refusal. S is the job's type, G that of
 -- its globals, E that of an element, L that of a plan and P that of a part.
@@ -57,6 +61,18 @@ abbrev pub AgreesWithSeed : {L : Type 0} → Result L JobFault → ℕ → Resul
 AgreesWithSeed (Ok x) seed meant = meant ≡ Ok (record { plan = x; seed = seed })
 AgreesWithSeed (Err (Code n)) seed meant = meant ≡ Err n
 AgreesWithSeed (Err OutOfMemory) seed meant = Unit {0}
+
+-- what an element gives, its part joined to that of the elements before it
+abbrev pub joined_to : {E P : Type 0} → (P → P → P) → P → Result (Worked E P) ℕ
+    → Result (Worked E P) ℕ
+joined_to join part (Ok w) = Ok (record { element = w.element; part = join part w.part })
+joined_to join part (Err code) = Err code
+
+-- the same for an answer beside which a part is left
+abbrev pub AgreesWithPart : {E P : Type 0} → Result E JobFault → P → Result (Worked E P) ℕ → Type 0
+AgreesWithPart (Ok x) part meant = meant ≡ Ok (record { element = x; part = part })
+AgreesWithPart (Err (Code n)) part meant = meant ≡ Err n
+AgreesWithPart (Err OutOfMemory) part meant = Unit {0}
 
 -- a fact at every answer but want of memory
 abbrev pub IfTold : {T : Type 0} → Result T JobFault → Type 0 → Type 0

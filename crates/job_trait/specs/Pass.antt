@@ -2,8 +2,7 @@
 -- AUTOSAR Adaptive Platform does over a container, whatever its workers do. No worker stands here.
 use Rattle.std.specs.Prelude.{ℕ, ◌+◌, ◌*◌, List, [], ◌∷◌, ◌++◌, take, drop, Result, Ok, Err}
 use Rattle.element_random.specs.Words.{key}
-use Rattle.job_trait.specs.declared.answers.Worked.{Worked}
-use Rattle.job_trait.specs.Meaning.{Meaning}
+use Rattle.job_trait.specs.Meaning.{Meaning, Worked}
 
 -- the new elements, the words that each drew, and the parts joined
 pub record Passed (E P : Type 0) : Type 0 where

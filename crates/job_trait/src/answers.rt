@@ -38,13 +38,6 @@ pub struct Started<G, E> {
     pub elements: Container<E>,
 }
 
-/// An element's new value, and the part that it gives to the pass.
-#[derive(Debug, Drop)]
-pub struct Worked<E, P> {
-    pub element: E,
-    pub part: P,
-}
-
 /// What a finished cycle leaves and shows.
 #[derive(Debug, Drop)]
 pub struct Concluded<G> {

@@ -7,10 +7,10 @@ ghost use Rattle.element_random.specs.Words.{StandsFor, key};
 ghost use Rattle.det_client.specs.State.{next_time, OwnAt, SameButSeed};
 ghost use Rattle.event_cache.specs.Rings.{windows};
 
-use crate::{BadParam, Concluded, JobFault, Started, Worked};
+use crate::{BadParam, Concluded, JobFault, Started};
 use det_client::{Activation, Client};
 use det_values::put::{fill_u16, put_u32};
-use det_values::{Container, OutOfMemory, Params};
+use det_values::{Bytes, Container, OutOfMemory, Params};
 use element_random::ElementRandom;
 use event_cache::EventCache;
 use std::alloc::Global;
@@ -18,11 +18,15 @@ use std::alloc::Global;
 /// A cyclic application over a container of elements. A value of it is fixed by its parameters and
 /// the number of events.
 ///
-/// What its calls mean is `meaning`. `Own` says which elements are the job's own, `Fit` which plans
+/// Where a call is given a `spare` value nobody needs it: it may use its memory, whatever stands in
+/// it, so that a cycle asks for none.
+///
+/// What the calls mean is `meaning`. `Own` says which elements are the job's own, `Fit` which plans
 /// are, and `Covers` from how many elements a part may come. `laws` are proved of these by every
 /// implementation.
 pub trait Job: Sized + Drop {
-    ghost use Rattle.job_trait.specs.Meaning.{Meaning, Agrees, AgreesWithSeed, IfTold};
+    ghost use Rattle.job_trait.specs.Meaning.{Meaning, Agrees, AgreesWithSeed, AgreesWithPart};
+    ghost use Rattle.job_trait.specs.Meaning.{joined_to, IfTold};
     ghost use Rattle.job_trait.specs.Laws.{JobLaws, CoversSome, CoverTogether, CoversBoth};
     ghost use Rattle.det_values.specs.Spelling.{Grows, an_element, spelled_drawn};
 
@@ -81,6 +85,7 @@ pub trait Job: Sized + Drop {
         elements: &Container<Self::Element>,
         cache: &EventCache,
         client: &mut Client,
+        spare: &mut Option<Self::Plan>,
     ) -> Result<Self::Plan, JobFault>
         requires own { All (Own self.now) elements.now }
         requires events { length (windows cache.now) ≡ meaning.events self.now }
@@ -100,12 +105,13 @@ pub trait Job: Sized + Drop {
         ensures most { result ≤ 8 };
 
     /// The part of no elements. It takes no memory.
-    fn unit(&self, alloc: Global) -> Self::Part
+    fn unit(&self, alloc: Global, spare: &mut Option<Self::Part>) -> Self::Part
         ensures gives { result ≡ meaning.unit_part self.now }
         ensures covers { Covers self.now result 0 };
 
-    /// Runs one element in a pass. `carry` is the part of the pass before, or the unit in the first
-    /// one. The words are the element's own.
+    /// Runs one element in a pass, answers its new value and joins what it gives to `part`, which
+    /// comes from the elements before it. `carry` is the part of the pass before, or the unit in the
+    /// first one. The words are the element's own. A refused call may leave any part.
     fn run(
         &self,
         alloc: Global,
@@ -114,25 +120,27 @@ pub trait Job: Sized + Drop {
         pass: u8,
         element: &Self::Element,
         random: &mut ElementRandom,
-    ) -> Result<Worked<Self::Element, Self::Part>, JobFault>
+        part: &mut Self::Part,
+    ) -> Result<Self::Element, JobFault>
         requires fit { Fit self.now plan.now }
         requires carry { CoversSome (Covers self.now) carry.now }
         requires pass { pass < meaning.passes_of self.now plan.now }
         requires own { Own self.now element.now }
         requires random { (key : ℕ) × StandsFor random.old key 0 }
+        requires room { (n : ℕ) × (n < 65536) × Covers self.now part.old n }
         ensures gives { (key : ℕ) → StandsFor random.old key 0
-            → Agrees result (meaning.worked self.now plan.now carry.now pass element.now key) }
+            → AgreesWithPart result part.new (joined_to (meaning.joined self.now) part.old
+            (meaning.worked self.now plan.now carry.now pass element.now key)) }
         ensures draws { (key : ℕ) → StandsFor random.old key 0 → IfTold result
             (random.new.draws ≡ meaning.drawn self.now plan.now carry.now pass element.now key) }
-        ensures own { IfOk result (λ worked. Own self.now worked.element) }
-        ensures covers { IfOk result (λ worked. Covers self.now worked.part 1) };
+        ensures own { IfOk result (λ element. Own self.now element) };
 
-    /// Joins two neighbouring parts, of which `left` comes from the elements before those of
-    /// `right`.
-    fn merge(&self, left: Self::Part, right: Self::Part) -> Result<Self::Part, OutOfMemory>
-        requires { CoverTogether (Covers self.now) left right }
-        ensures gives { IfOk result (λ part. part ≡ meaning.joined self.now left right) }
-        ensures covers { IfOk result (CoversBoth (Covers self.now) left right) };
+    /// Joins a part to its left neighbour's. What is left in `right` is there for its memory alone.
+    fn merge(&self, left: &mut Self::Part, right: &mut Self::Part) -> Result<(), OutOfMemory>
+        requires { CoverTogether (Covers self.now) left.old right.old }
+        ensures gives { OnOk result (left.new ≡ meaning.joined self.now left.old right.old) }
+        ensures covers { OnOk result (
+            CoversBoth (Covers self.now) left.old right.old left.new) };
 
     /// Appends an element's bytes in a record, at most 64, which tell the job's own elements apart.
     /// A refused call may leave some of them.
@@ -171,11 +179,12 @@ pub trait Job: Sized + Drop {
         alloc: Global,
         globals: &Self::Globals,
         plan: &Self::Plan,
-        part: Self::Part,
+        part: &Self::Part,
+        spare: &mut Option<Bytes>,
     ) -> Result<Concluded<Self::Globals>, JobFault>
         requires fit { Fit self.now plan.now }
-        requires part { CoversSome (Covers self.now) part }
-        ensures { Agrees result (meaning.concluded self.now globals.now plan.now part) };
+        requires part { CoversSome (Covers self.now) part.now }
+        ensures { Agrees result (meaning.concluded self.now globals.now plan.now part.now) };
 
     ghost laws: { JobLaws meaning Covers Own Fit };
 }

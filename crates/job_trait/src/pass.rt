@@ -1,27 +1,91 @@
 //! A pass that is to be run, and what it gives.
+ghost use Rattle.std.specs.Prelude.{◌≡◌, ◌≤◌, ◌<◌, ◌*◌, length, take, drop};
+ghost use Rattle.job_trait.specs.Passes.{blocks_in};
 
 use crate::Job;
 use det_values::{Container, DrawnElements, OutOfMemory};
 use std::alloc::Global;
+use std::marker::Model;
 use std::sync::Arc;
 
-/// A pass that is to be run. Threads may hold its data as long as they like.
+/// A pass that is to be run. Its data have owners, so that threads may hold them as long as they
+/// like: one that does takes an owner of its own.
 #[derive(Drop)]
-pub struct PassOf<J: Job> {
-    pub job: Arc<J, Global>,
-    pub plan: Arc<J::Plan, Global>,
+pub struct PassOf<'p, J: Job> {
+    pub job: &'p Arc<J, Global>,
+    pub plan: &'p Arc<J::Plan, Global>,
     /// The part of the pass before, or the unit in the first one.
-    pub carry: Arc<J::Part, Global>,
+    pub carry: &'p Arc<J::Part, Global>,
     /// The pass' number in its cycle, counted from 0.
     pub number: u8,
-    pub elements: Arc<Container<J::Element>, Global>,
+    pub elements: &'p Arc<Container<J::Element>, Global>,
     pub seed: u64,
     /// The cycle's number, counted from 1.
     pub cycle: u32,
     /// The words that each element drew in the passes before. The first pass has none.
-    pub earlier: Arc<Container<u32>, Global>,
+    pub earlier: &'p Arc<Container<u32>, Global>,
     /// Whether the new elements are to be shown, as those of a cycle's last pass are.
     pub shows: bool,
+}
+
+impl<'p, J: Job> Model for PassOf<'p, J> {
+    ghost use Rattle.std.specs.Arc.{arc_value};
+    ghost use Rattle.job_trait.specs.Passes.{PassValue};
+
+    ghost Value = { PassValue J J.Element J.Plan J.Part };
+
+    ghost view = { λ p. record {
+      job = arc_value p.job.now;
+      plan = arc_value p.plan.now;
+      carry = arc_value p.carry.now;
+      number = p.number;
+      elements = arc_value p.elements.now;
+      seed = p.seed;
+      cycle = p.cycle;
+      earlier = arc_value p.earlier.now;
+      shows = p.shows;
+    } };
+}
+
+impl<'p, J: Job> PassOf<'p, J> {
+    /// Its job.
+    #[inline(always)]
+    pub fn job(&self) -> &J
+        ensures { result.now ≡ self.now.job }
+    {
+        &**self.job
+    }
+
+    /// Whether its new elements are to be shown.
+    pub fn shows(&self) -> bool
+        ensures { result ≡ self.now.shows }
+    {
+        self.shows
+    }
+
+    /// The number of its elements.
+    pub fn count(&self) -> usize
+        ensures count { result ≡ length self.now.elements }
+        ensures few { result ≤ 65536 }
+    {
+        self.elements.len()
+    }
+
+    /// The number of its blocks.
+    pub fn blocks(&self) -> u32
+        ensures blocks { result ≡ blocks_in self.now }
+        ensures few { result ≤ 1024 }
+    {
+        ((self.elements.len() + 63) / 64) as u32
+    }
+
+    /// The elements of a block.
+    pub fn block(&self, number: u32) -> &[J::Element]
+        requires { number < blocks_in self.now }
+        ensures { result.now ≡ take 64 (drop (64 * number) self.now.elements) }
+    {
+        self.elements.block(number as usize)
+    }
 }
 
 /// What a pass leaves: the new elements, the parts joined, and the number of words that each

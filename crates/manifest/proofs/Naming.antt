@@ -1,27 +1,31 @@
 -- What a tree means whose keys have no fault.
 use Rattle.std.proofs.Common.{◌≡◌, ◌∙◌, ap, ℕ, ℤ, Bool, List}
-use Rattle.std.specs.Prelude.{Option, Some, None, Err, option_map}
+use Rattle.std.specs.Prelude.{Option, Some, None, Result, Err, option_map, ok_or}
 use Rattle.det_values.specs.Jobs.{kind_of_name}
 use Rattle.det_values.specs.Values.{EventSpecValue}
 use Rattle.det_values.specs.declared.job_kind.JobKind.{JobKind}
 use Rattle.toml.specs.Data.{Data}
-use Rattle.manifest.specs.Keys.{keys, first_keys, params_keys, events_keys, last_keys, found}
+use Rattle.manifest.specs.Keys.{found}
 use Rattle.manifest.specs.Tree.{text_of}
 use Rattle.manifest.specs.Faults.{first_fault, first_duplicate}
-use Rattle.manifest.specs.Groups.{work_in, hardware_in}
-use Rattle.manifest.specs.Meaning.{or_fault, unknown_fault, by_names, with_job, said, params_of, events_of}
+use Rattle.manifest.specs.Groups.{first_keys, params_keys, events_keys, last_keys, work_in, hardware_in}
+use Rattle.manifest.specs.Meaning.{unknown_fault, by_names, manifest_in, said, params_of, events_of}
 use Rattle.manifest.specs.Values.{ManifestValue}
 use Rattle.manifest.specs.declared.fault.ManifestFault.{ManifestFault}
-use Rattle.manifest.specs.declared.fault.ManifestFault.TheVariants.{DuplicateEvent}
+use Rattle.manifest.specs.declared.fault.ManifestFault.TheVariants.{DuplicateEvent, UnknownJob}
 use Rattle.manifest.specs.declared.hardware.Hardware.{Hardware}
 use Rattle.manifest.specs.declared.key.Key.TheVariants.{Job}
 use Rattle.manifest.specs.declared.work.Work.{Work}
-use Rattle.manifest.proofs.Order.{past_keys}
+use Rattle.manifest.proofs.Order.{or_fault, past_keys}
+
+-- what a tree without a fault says, for the job of its name
+abbrev pub with_job : Data → Option JobKind → Result ManifestValue ManifestFault
+with_job tree kind = ok_or (option_map (said tree) kind) UnknownJob
 
 -- where each key is known too
 pub past_unknown : (tree : Data) (strict : Bool) → first_fault tree first_keys ≡ None → first_fault tree (params_keys tree) ≡ None
     → first_fault tree (events_keys tree) ≡ None → first_fault tree last_keys ≡ None → unknown_fault strict tree ≡ None
-    → or_fault (first_fault tree (keys tree)) (or_fault (unknown_fault strict tree) (by_names tree)) ≡ by_names tree
+    → manifest_in strict tree ≡ by_names tree
 past_unknown tree strict work params events last unknown =
     past_keys tree (or_fault (unknown_fault strict tree) (by_names tree)) work params events last
     ∙ ap (λ (o : Option ManifestFault). or_fault o (by_names tree)) unknown

@@ -1,11 +1,11 @@
 -- The first fault by the groups of keys.
 use Rattle.std.proofs.Common.{◌≡◌, ◌∙◌, ◌++◌, ap}
 use Rattle.std.specs.Prelude.{Option, Some, None, Result, Err}
-use Rattle.std.specs.Option.{option_or}
+use Rattle.std.specs.Option.{option_or, option_map_or}
 use Rattle.toml.specs.Data.{Data}
-use Rattle.manifest.specs.Keys.{keys, first_keys, params_keys, events_keys, last_keys, needs_keys}
+use Rattle.manifest.specs.Keys.{keys, needs_keys}
+use Rattle.manifest.specs.Groups.{first_keys, params_keys, events_keys, last_keys}
 use Rattle.manifest.specs.Faults.{first_fault, fault_at}
-use Rattle.manifest.specs.Meaning.{or_fault}
 use Rattle.manifest.specs.Judged.{IsRead, Agrees}
 use Rattle.manifest.specs.Values.{ManifestValue}
 use Rattle.manifest.specs.declared.fault.ManifestError.{ManifestError}
@@ -13,6 +13,10 @@ use Rattle.manifest.specs.declared.fault.ManifestError.TheVariants.{Fault, OutOf
 use Rattle.manifest.specs.declared.fault.ManifestFault.{ManifestFault}
 use Rattle.manifest.specs.declared.key.Key.TheVariants.{Platform, InitNeeds, InitNeed, RunNeeds, RunNeed}
 use Rattle.manifest.proofs.Steps.{first_append}
+
+-- a fault where there is one, else the answer
+abbrev pub or_fault : Option ManifestFault → Result ManifestValue ManifestFault → Result ManifestValue ManifestFault
+or_fault fault answer = option_map_or Err fault answer
 
 pub last_fault : (tree : Data) → first_fault tree last_keys
     ≡ option_or (fault_at tree Platform)

@@ -1,19 +1,32 @@
 -- One parameter, or one event, and those after it.
 use Rattle.std.proofs.Common.{◌≡◌, ℕ, ℤ, true, false, None, Some, suc, ◌+◌, ◌-◌, ◌<◌, Option, List, [], ◌∷◌, ◌++◌, append_assoc, length}
-use Rattle.std.proofs.Common.{take, drop, get_or, bytes_eq, if◌then◌else◌, refl, ap, ◌∙◌, arith}
+use Rattle.std.proofs.Common.{take, drop, map, get_or, bytes_eq, if◌then◌else◌, refl, ap, ◌∙◌, arith}
 use Rattle.std.proofs.lemmas.List.{drop_more, take_more}
-use Rattle.std.specs.List.{list_any, All}
+use Rattle.std.specs.List.{list_any, All, flat_map, range_with_len}
 use Rattle.std.proofs.lemmas.List.Elements.{All-append, All-cons, All-nil}
 use Rattle.std.specs.Option.{option_or}
 use Rattle.toml.specs.Data.{Data}
 use Rattle.det_values.specs.Values.{EventSpecValue}
-use Rattle.manifest.specs.Keys.{param_keys, event_keys, found}
+use Rattle.manifest.specs.Keys.{event_keys, found}
 use Rattle.manifest.specs.Faults.{first_fault, fault_at, duplicate_after}
-use Rattle.manifest.specs.Meaning.{params_from, events_from, event_at}
+use Rattle.manifest.specs.Meaning.{event_at}
 use Rattle.manifest.specs.Tree.{whole_of}
 use Rattle.manifest.specs.declared.fault.ManifestFault.{ManifestFault}
 use Rattle.manifest.specs.declared.key.Key.{Key}
 use Rattle.manifest.specs.declared.key.Key.TheVariants.{Param}
+
+-- the keys and the values of n parameters, or events, from number i on
+abbrev pub keys_of_params : ℕ → ℕ → List Key
+keys_of_params i n = map Param (range_with_len i n)
+
+abbrev pub params_from : Data → ℕ → ℕ → List ℤ
+params_from tree i n = map (λ k. whole_of (found tree (Param k))) (range_with_len i n)
+
+abbrev pub keys_of_events : ℕ → ℕ → List Key
+keys_of_events i n = flat_map event_keys (range_with_len i n)
+
+abbrev pub events_from : Data → ℕ → ℕ → List EventSpecValue
+events_from tree i n = map (event_at tree) (range_with_len i n)
 
 one_more : (i n : ℕ) → i < n → n - i ≡ suc (n - (i + 1))
 one_more i n h = omega arith
@@ -23,8 +36,8 @@ or_or None b c = refl
 or_or (Some x) b c = refl
 
 pub params_fault : (tree : Data) (i n : ℕ) → i < n
-    → first_fault tree (param_keys i (n - i))
-    ≡ option_or (fault_at tree (Param i)) (first_fault tree (param_keys (i + 1) (n - (i + 1))))
+    → first_fault tree (keys_of_params i (n - i))
+    ≡ option_or (fault_at tree (Param i)) (first_fault tree (keys_of_params (i + 1) (n - (i + 1))))
 params_fault tree i n h = rw (one_more i n h)
 
 pub params_value : (tree : Data) (i n : ℕ) → i < n
@@ -33,7 +46,7 @@ params_value tree i n h = rw (one_more i n h)
 
 -- past a parameter without a fault
 pub params_past : (tree : Data) (i n : ℕ) → i < n → fault_at tree (Param i) ≡ None
-    → first_fault tree (param_keys i (n - i)) ≡ first_fault tree (param_keys (i + 1) (n - (i + 1)))
+    → first_fault tree (keys_of_params i (n - i)) ≡ first_fault tree (keys_of_params (i + 1) (n - (i + 1)))
 params_past tree i n h good = params_fault tree i n h ∙ rw good
 
 -- the parameters so far, and one more
@@ -49,17 +62,17 @@ first_append tree [] ls = refl
 first_append tree (k ∷ ks) ls = ap (option_or (fault_at tree k)) (first_append tree ks ls) ∙ or_or (fault_at tree k) _ _
 
 pub events_fault : (tree : Data) (i n : ℕ) → i < n
-    → first_fault tree (event_keys i (n - i))
-    ≡ option_or (first_fault tree (event_keys i 1)) (first_fault tree (event_keys (i + 1) (n - (i + 1))))
-events_fault tree i n h = rw (one_more i n h) (first_append tree (event_keys i 1) (event_keys (i + 1) (n - (i + 1))))
+    → first_fault tree (keys_of_events i (n - i))
+    ≡ option_or (first_fault tree (event_keys i)) (first_fault tree (keys_of_events (i + 1) (n - (i + 1))))
+events_fault tree i n h = rw (one_more i n h) (first_append tree (event_keys i) (keys_of_events (i + 1) (n - (i + 1))))
 
 pub events_value : (tree : Data) (i n : ℕ) → i < n
     → events_from tree i (n - i) ≡ event_at tree i ∷ events_from tree (i + 1) (n - (i + 1))
 events_value tree i n h = rw (one_more i n h)
 
 -- past an event without a fault
-pub events_past : (tree : Data) (i n : ℕ) → i < n → first_fault tree (event_keys i 1) ≡ None
-    → first_fault tree (event_keys i (n - i)) ≡ first_fault tree (event_keys (i + 1) (n - (i + 1)))
+pub events_past : (tree : Data) (i n : ℕ) → i < n → first_fault tree (event_keys i) ≡ None
+    → first_fault tree (keys_of_events i (n - i)) ≡ first_fault tree (keys_of_events (i + 1) (n - (i + 1)))
 events_past tree i n h good = events_fault tree i n h ∙ rw good
 
 -- the events so far, and one more

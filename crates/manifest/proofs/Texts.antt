@@ -4,13 +4,13 @@ use Rattle.std.proofs.Common.{List, ℕ, String, BTreeMap, Global, IsUtf8, refl}
 use Rattle.std.specs.Str.{is_utf8}
 use Rattle.std.proofs.lemmas.Str.{IsUtf8-from_is_utf8, is_utf8-from_IsUtf8}
 use Rattle.manifest.specs.Judged.{Agrees, IsParsed, IsDocument}
-use Rattle.manifest.specs.Meaning.{read_by, document_of, IfFault}
+use Rattle.manifest.specs.Meaning.{manifest_of, document_of, IfFault}
 use Rattle.manifest.specs.Values.{ManifestValue}
 use Rattle.manifest.specs.declared.fault.ManifestError.{ManifestError}
 use Rattle.manifest.specs.declared.fault.ManifestError.TheVariants.{Fault, OutOfMemory}
 use Rattle.manifest.specs.declared.fault.ManifestFault.{ManifestFault}
 use Rattle.manifest.specs.declared.fault.ManifestFault.TheVariants.{TooLong, NotToml}
-use Rattle.toml.specs.Data.{Data, table}
+use Rattle.toml.specs.Data.{table}
 use Rattle.toml.specs.View.{view, table_view}
 use Rattle.toml.specs.declared.value.Value.{Value, Table as TableValue}
 use Rattle.toml.proofs.Views.{view-Table}
@@ -44,25 +44,25 @@ agreed_fault (Err OutOfMemory) said meant same agreed = tt
 pub told : (r : Result Value ManifestError) (bytes text : List ℕ)
     → length bytes ≤ 65536 → IsUtf8 bytes → text ≡ bytes → IsParsed r (document_of text)
     → IsDocument r bytes
-told (Ok v) bytes text few utf8 same parsed = λ meaning.
+told (Ok v) bytes text few utf8 same parsed = λ strict.
     let read : document_of bytes ≡ Some (view v) = subst (λ b. document_of b ≡ Some (view v)) same parsed in
     rw (le-leb (length bytes) 65536 few, is_text bytes utf8, read)
-told (Err (Fault f)) bytes text few utf8 same parsed = λ meaning.
+told (Err (Fault f)) bytes text few utf8 same parsed = λ strict.
     let read : document_of bytes ≡ None = subst (λ b. document_of b ≡ None) same parsed.1 in
     rw (le-leb (length bytes) 65536 few, is_text bytes utf8, read, parsed.0)
 told (Err OutOfMemory) bytes text few utf8 same parsed = tt
 
 -- bytes that are too many, or no text
 pub too_long : (bytes : List ℕ) → nat_le (length bytes) 65536 ≡ false
-    → (meaning : Data → Result ManifestValue ManifestFault) → read_by meaning bytes ≡ Err TooLong
-too_long bytes long meaning = rw long
+    → (strict : Bool) → manifest_of strict bytes ≡ Err TooLong
+too_long bytes long strict = rw long
 
 pub not_text : (bytes : List ℕ) → length bytes ≤ 65536 → is_utf8 bytes ≡ false
-    → (meaning : Data → Result ManifestValue ManifestFault) → read_by meaning bytes ≡ Err NotToml
-not_text bytes few none meaning = rw (le-leb (length bytes) 65536 few, none)
+    → (strict : Bool) → manifest_of strict bytes ≡ Err NotToml
+not_text bytes few none strict = rw (le-leb (length bytes) 65536 few, none)
 
 -- an answer of which nothing was read
-pub unread_fault : (e : ManifestError) (bytes : List ℕ) (meaning : Data → Result ManifestValue ManifestFault)
-    → IsDocument (Err e) bytes → IfFault e (λ f. read_by meaning bytes ≡ Err f)
-unread_fault (Fault f) bytes meaning unread = unread meaning
-unread_fault OutOfMemory bytes meaning unread = tt
+pub unread_fault : (e : ManifestError) (bytes : List ℕ) (strict : Bool)
+    → IsDocument (Err e) bytes → IfFault e (λ f. manifest_of strict bytes ≡ Err f)
+unread_fault (Fault f) bytes strict unread = unread strict
+unread_fault OutOfMemory bytes strict unread = tt

@@ -1,14 +1,15 @@
 -- What the readers of single keys, of groups of keys and of the whole answer.
 use Rattle.std.specs.Prelude.{◌≡◌, Option, Some, None, Result, Ok, Err, option_map, List, ℕ}
+use Rattle.std.specs.Prelude.{Bool, ◌||◌, ◌-◌, ◌^◌, ◌++◌, length, drop, replicate, bytes_eq, codes}
 use Rattle.std.specs.Borrow.{Bor}
 use Rattle.toml.specs.Data.{Data}
 use Rattle.toml.specs.View.{view}
 use Rattle.toml.specs.declared.value.Value.{Value}
-use Rattle.manifest.specs.Values.{ManifestValue}
-use Rattle.manifest.specs.Meaning.{read_by}
+use Rattle.manifest.specs.Meaning.{manifest_of, manifest_in}
 use Rattle.manifest.specs.declared.key.Key.{Key}
 use Rattle.manifest.specs.declared.key.Key.TheVariants.{InitNeeds, InitNeed, RunNeeds, RunNeed}
 use Rattle.manifest.specs.declared.key.NeedKey.{NeedKey}
+use Rattle.manifest.specs.declared.key.NeedKey.TheVariants.{Speedup}
 use Rattle.manifest.specs.declared.stage.Stage.{Stage}
 use Rattle.manifest.specs.declared.stage.Stage.TheVariants.{Init, Run}
 use Rattle.manifest.specs.declared.fault.ManifestFault.{ManifestFault}
@@ -28,6 +29,36 @@ abbrev pub need_key : Stage → NeedKey → Key
 need_key Init need = InitNeed need
 need_key Run need = RunNeed need
 
+-- the least and the greatest number at a key of a table of needs
+abbrev pub need_least : NeedKey → ℕ
+need_least Speedup = 1
+need_least _ = 0
+
+abbrev pub need_most : NeedKey → ℕ
+need_most Speedup = 1000000
+need_most _ = 2 ^ 63 - 1
+
+-- the words of the table of keys, level by level
+abbrev pub is_top_word : List ℕ → Bool
+is_top_word key =
+    bytes_eq key (codes "job") || bytes_eq key (codes "cycle_time_ns")
+    || bytes_eq key (codes "workers") || bytes_eq key (codes "params")
+    || bytes_eq key (codes "event") || bytes_eq key (codes "platform")
+    || bytes_eq key (codes "init_needs") || bytes_eq key (codes "run_needs")
+
+abbrev pub is_event_word : List ℕ → Bool
+is_event_word key =
+    bytes_eq key (codes "name") || bytes_eq key (codes "capacity") || bytes_eq key (codes "policy")
+
+abbrev pub is_need_word : List ℕ → Bool
+is_need_word key =
+    bytes_eq key (codes "instructions") || bytes_eq key (codes "sequential_begin")
+    || bytes_eq key (codes "sequential_end") || bytes_eq key (codes "speedup_thousandths")
+
+-- these bytes and zeros, 64 in all
+abbrev pub with_zeros : List ℕ → List ℕ
+with_zeros bytes = bytes ++ drop (length bytes) (replicate 64 0)
+
 -- an answer tells the fault, or that there is none and what is meant
 abbrev pub IsJudged : {T : Type 0} → Result T ManifestFault → Option ManifestFault → T → Type 0
 IsJudged (Ok x) fault meant = (fault ≡ None) × (x ≡ meant)
@@ -45,12 +76,10 @@ Agrees (Ok x) meant = meant ≡ Ok x
 Agrees (Err (Fault fault)) meant = meant ≡ Err fault
 Agrees (Err OutOfMemory) meant = Unit {0}
 
--- a tree is what a text is read as, whatever trees mean
+-- a tree is what a text is read as, strictly or not
 abbrev pub IsDocument : Result Value ManifestError → List ℕ → Type 0
-IsDocument (Ok v) bytes =
-    (meaning : Data → Result ManifestValue ManifestFault) → read_by meaning bytes ≡ meaning (view v)
-IsDocument (Err (Fault fault)) bytes =
-    (meaning : Data → Result ManifestValue ManifestFault) → read_by meaning bytes ≡ Err fault
+IsDocument (Ok v) bytes = (strict : Bool) → manifest_of strict bytes ≡ manifest_in strict (view v)
+IsDocument (Err (Fault fault)) bytes = (strict : Bool) → manifest_of strict bytes ≡ Err fault
 IsDocument (Err OutOfMemory) bytes = Unit {0}
 
 -- a text is read as its document, where memory may be wanting

@@ -1,7 +1,8 @@
 -- The table of keys: where each stands, when it is needed, what it may hold, and in which order
 -- they are judged.
-use Rattle.std.specs.Prelude.{ℕ, zero, suc, ◌+◌, ◌-◌, ◌^◌, Bool, true, false, ◌||◌, List, [], ◌∷◌}
-use Rattle.std.specs.Prelude.{◌++◌, Option, Some, is_some, codes}
+use Rattle.std.specs.Prelude.{ℕ, ◌-◌, ◌^◌, Bool, true, false, ◌||◌, List, [], ◌∷◌, ◌++◌, map}
+use Rattle.std.specs.Prelude.{flat_map, Option, Some, is_some, codes}
+use Rattle.std.specs.List.{range_with_len}
 use Rattle.det_values.specs.Limits.{is_event_name}
 use Rattle.toml.specs.Data.{Data}
 use Rattle.manifest.specs.Limits.{is_platform_name, is_policy}
@@ -69,23 +70,13 @@ optional kind = record { needed = false; kind = kind }
 abbrev pub needed_if : Bool → Kind → Rule
 needed_if test kind = record { needed = test; kind = kind }
 
-abbrev pub any_text : List ℕ → Bool
-any_text s = true
-
-abbrev pub need_least : NeedKey → ℕ
-need_least Speedup = 1
-need_least _ = 0
-
-abbrev pub need_most : NeedKey → ℕ
-need_most Speedup = 1000000
-need_most _ = 2 ^ 63 - 1
-
 abbrev pub need_kind : NeedKey → Kind
-need_kind need = whole (need_least need) (need_most need)
+need_kind Speedup = whole 1 1000000
+need_kind _ = whole 0 (2 ^ 63 - 1)
 
 -- the table
 abbrev pub rule : Data → Key → Rule
-rule tree Job = needed (text any_text)
+rule tree Job = needed (text (λ _. true))
 rule tree CycleTime = needed (whole 1 (2 ^ 63 - 1))
 rule tree Workers = needed (whole 1 64)
 rule tree Params = optional (array_up_to 16)
@@ -101,33 +92,23 @@ rule tree (InitNeed need) = needed_if (has tree InitNeeds) (need_kind need)
 rule tree RunNeeds = optional section
 rule tree (RunNeed need) = needed_if (has tree RunNeeds) (need_kind need)
 
--- the keys of n parameters from number i on, and of n events
-abbrev pub param_keys : ℕ → ℕ → List Key
-param_keys i zero = []
-param_keys i (suc n) = Param i ∷ param_keys (i + 1) n
+-- the numbers of the items of the array at a key
+abbrev pub items_of : Data → Key → List ℕ
+items_of tree key = range_with_len 0 (count_of (found tree key))
 
-abbrev pub event_keys : ℕ → ℕ → List Key
-event_keys i zero = []
-event_keys i (suc n) =
-    EventItem i ∷ EventName i ∷ EventCapacity i ∷ EventPolicy i ∷ event_keys (i + 1) n
+abbrev pub event_keys : ℕ → List Key
+event_keys i = EventItem i ∷ EventName i ∷ EventCapacity i ∷ EventPolicy i ∷ []
+
+abbrev pub all_needs : List NeedKey
+all_needs = Instructions ∷ SequentialBegin ∷ SequentialEnd ∷ Speedup ∷ []
 
 -- a table of needs and its four keys
 abbrev pub needs_keys : Key → (NeedKey → Key) → List Key
-needs_keys needs need =
-    needs ∷ need Instructions ∷ need SequentialBegin ∷ need SequentialEnd ∷ need Speedup ∷ []
-
-abbrev pub first_keys : List Key
-first_keys = Job ∷ CycleTime ∷ Workers ∷ []
-
-abbrev pub params_keys : Data → List Key
-params_keys tree = Params ∷ param_keys 0 (count_of (found tree Params))
-
-abbrev pub events_keys : Data → List Key
-events_keys tree = Event ∷ event_keys 0 (count_of (found tree Event))
-
-abbrev pub last_keys : List Key
-last_keys = Platform ∷ (needs_keys InitNeeds InitNeed ++ needs_keys RunNeeds RunNeed)
+needs_keys needs need = needs ∷ map need all_needs
 
 -- the keys in the order in which they are judged
 abbrev pub keys : Data → List Key
-keys tree = first_keys ++ (params_keys tree ++ (events_keys tree ++ last_keys))
+keys tree =
+    Job ∷ CycleTime ∷ Workers ∷ Params ∷ (map Param (items_of tree Params)
+    ++ (Event ∷ (flat_map event_keys (items_of tree Event)
+    ++ (Platform ∷ (needs_keys InitNeeds InitNeed ++ needs_keys RunNeeds RunNeed)))))

@@ -1,7 +1,7 @@
 -- The manifest that a text is.
-use Rattle.std.specs.Prelude.{ℕ, zero, suc, ◌+◌, ℤ, nat_le, Bool, true, List, [], ◌∷◌, length}
-use Rattle.std.specs.Prelude.{Option, Some, None, Result, Ok, Err, if◌then◌else◌, option_map, codes}
-use Rattle.std.specs.Prelude.{bytes_eq}
+use Rattle.std.specs.Prelude.{ℕ, ℤ, nat_le, not, Bool, List, map, length, Option, Some, None}
+use Rattle.std.specs.Prelude.{option_map, Result, Err, ok_or, if◌then◌else◌, codes, bytes_eq}
+use Rattle.std.specs.Option.{option_map_or}
 use Rattle.std.specs.Str.{is_utf8}
 use Rattle.det_values.specs.Jobs.{kind_of_name}
 use Rattle.det_values.specs.Values.{EventSpecValue}
@@ -11,7 +11,7 @@ use Rattle.det_values.specs.declared.job_kind.JobKind.{JobKind}
 use Rattle.toml.specs.Data.{Data, table}
 use Rattle.toml.specs.Parse.{parse_document}
 use Rattle.manifest.specs.Tree.{count_of, whole_of, number_of, text_of}
-use Rattle.manifest.specs.Keys.{found, keys}
+use Rattle.manifest.specs.Keys.{found, keys, items_of}
 use Rattle.manifest.specs.Faults.{first_fault, first_duplicate}
 use Rattle.manifest.specs.Unknown.{first_unknown}
 use Rattle.manifest.specs.Values.{ManifestValue}
@@ -30,13 +30,9 @@ use Rattle.manifest.specs.declared.fault.ManifestError.{ManifestError}
 use Rattle.manifest.specs.declared.fault.ManifestError.TheVariants.{Fault, OutOfMemory}
 use Rattle.manifest.specs.declared.needs.Needs.{Needs}
 
--- n parameters from number i on; a list without its key is empty
-abbrev pub params_from : Data → ℕ → ℕ → List ℤ
-params_from tree i zero = []
-params_from tree i (suc n) = whole_of (found tree (Param i)) ∷ params_from tree (i + 1) n
-
+-- none where the key is absent
 abbrev pub params_of : Data → List ℤ
-params_of tree = params_from tree 0 (count_of (found tree Params))
+params_of tree = map (λ i. whole_of (found tree (Param i))) (items_of tree Params)
 
 -- a policy is `last` where nothing else is said
 abbrev pub policy_of : List ℕ → Policy
@@ -49,17 +45,8 @@ event_at tree i = record {
   policy = policy_of (text_of (found tree (EventPolicy i)));
 }
 
--- n events from number i on
-abbrev pub events_from : Data → ℕ → ℕ → List EventSpecValue
-events_from tree i zero = []
-events_from tree i (suc n) = event_at tree i ∷ events_from tree (i + 1) n
-
 abbrev pub events_of : Data → List EventSpecValue
-events_of tree = events_from tree 0 (count_of (found tree Event))
-
--- none exactly where the key is absent
-abbrev pub platform_of : Data → Option (List ℕ)
-platform_of tree = option_map (λ d. text_of (Some d)) (found tree Platform)
+events_of tree = map (event_at tree) (items_of tree Event)
 
 -- none exactly where the key of the table is absent
 abbrev pub needs_of : Data → Key → (NeedKey → Key) → Option Needs
@@ -70,7 +57,7 @@ needs_of tree needs need = option_map (λ _. record {
   speedup = number_of (found tree (need Speedup));
 }) (found tree needs)
 
--- what a tree without a fault says, for a job
+-- what a tree without a fault says, for a job; no platform exactly where its key is absent
 abbrev pub said : Data → JobKind → ManifestValue
 said tree kind = record {
   kind = kind;
@@ -78,30 +65,16 @@ said tree kind = record {
   workers = number_of (found tree Workers);
   params = params_of tree;
   events = events_of tree;
-  platform = platform_of tree;
+  platform = option_map (λ d. text_of (Some d)) (found tree Platform);
   init_needs = needs_of tree InitNeeds InitNeed;
   run_needs = needs_of tree RunNeeds RunNeed;
 }
 
--- a fault where there is one, else the answer
-abbrev pub or_fault : {A : Type 0} → Option ManifestFault → Result A ManifestFault →
-    Result A ManifestFault
-or_fault (Some fault) answer = Err fault
-or_fault None answer = answer
-
-abbrev pub with_job : Data → Option JobKind → Result ManifestValue ManifestFault
-with_job tree None = Err UnknownJob
-with_job tree (Some kind) = Ok (said tree kind)
-
--- first the names of the events, then the name of the job
+-- the first repeated name of an event is a fault, then an unknown name of the job
 abbrev pub by_names : Data → Result ManifestValue ManifestFault
 by_names tree =
-    or_fault (option_map DuplicateEvent (first_duplicate (events_of tree)))
-    (with_job tree (kind_of_name (text_of (found tree Job))))
-
--- first the keys, then the names
-abbrev pub manifest_in : Data → Result ManifestValue ManifestFault
-manifest_in tree = or_fault (first_fault tree (keys tree)) (by_names tree)
+    option_map_or Err (option_map DuplicateEvent (first_duplicate (events_of tree)))
+    (ok_or (option_map (said tree) (kind_of_name (text_of (found tree Job)))) UnknownJob)
 
 -- the first key that no table knows, where such keys are a fault
 abbrev pub unknown_fault : Bool → Data → Option ManifestFault
@@ -110,37 +83,21 @@ unknown_fault strict tree =
     (first_unknown tree (count_of (found tree Event))) else None
 
 -- first the keys of the tables, then a key that no table knows, then the names
-abbrev pub strict_manifest_in : Data → Result ManifestValue ManifestFault
-strict_manifest_in tree =
-    or_fault (first_fault tree (keys tree)) (or_fault (unknown_fault true tree) (by_names tree))
-
-abbrev pub in_document_by : (Data → Result ManifestValue ManifestFault) → Option Data
-    → Result ManifestValue ManifestFault
-in_document_by meaning None = Err NotToml
-in_document_by meaning (Some tree) = meaning tree
-
-abbrev pub in_document : Option Data → Result ManifestValue ManifestFault
-in_document document = in_document_by manifest_in document
+abbrev pub manifest_in : (strict : Bool) → Data → Result ManifestValue ManifestFault
+manifest_in strict tree =
+    option_map_or Err (first_fault tree (keys tree))
+    (option_map_or Err (unknown_fault strict tree) (by_names tree))
 
 -- the tree of a document, none where the text is no TOML
 abbrev pub document_of : List ℕ → Option Data
 document_of text = option_map table (parse_document text)
 
--- what a text is by what its tree is
-abbrev pub read_by : (Data → Result ManifestValue ManifestFault) → List ℕ
-    → Result ManifestValue ManifestFault
-read_by meaning bytes =
-    if nat_le (length bytes) 65536
-    then (if is_utf8 bytes then in_document_by meaning (document_of bytes) else Err NotToml)
-    else Err TooLong
-
--- the manifest that a text is, or its first fault
-abbrev pub manifest_of : List ℕ → Result ManifestValue ManifestFault
-manifest_of bytes = read_by manifest_in bytes
-
--- the same where a key that no table knows is a fault
-abbrev pub strict_manifest_of : List ℕ → Result ManifestValue ManifestFault
-strict_manifest_of bytes = read_by strict_manifest_in bytes
+-- the manifest that a text is, or its first fault; strictly, a key that no table knows is one
+abbrev pub manifest_of : (strict : Bool) → List ℕ → Result ManifestValue ManifestFault
+manifest_of strict bytes =
+    if not (nat_le (length bytes) 65536) then Err TooLong
+    else if is_utf8 bytes then option_map_or (manifest_in strict) (document_of bytes) (Err NotToml)
+    else Err NotToml
 
 -- a fact of the fault that an error tells; nothing where memory was wanting
 abbrev pub IfFault : ManifestError → (ManifestFault → Type 0) → Type 0

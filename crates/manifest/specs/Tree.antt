@@ -1,6 +1,8 @@
 -- Places in the tree of a TOML document, and what stands there.
 use Rattle.std.specs.Prelude.{ℕ, suc, ℤ, pos, List, [], ◌∷◌, Option, Some, option_and_then}
-use Rattle.toml.specs.Data.{Data, string, integer, array, Items, no_items, item, get, at}
+use Rattle.std.specs.Option.{option_map_or, unwrap_or}
+use Rattle.toml.specs.Data.{Data, integer, Items, no_items, item, get, at, as_str, as_integer}
+use Rattle.toml.specs.Data.{as_array}
 
 -- a step into a tree: to a member of a table, or to an item of an array
 pub data Step : Type 0 where
@@ -22,13 +24,11 @@ length_of_items no_items = 0
 length_of_items (item d ds) = suc (length_of_items ds)
 
 abbrev pub count_of : Option Data → ℕ
-count_of (Some (array ds)) = length_of_items ds
-count_of _ = 0
+count_of place = option_map_or length_of_items (option_and_then as_array place) 0
 
 -- the whole number that stands at a place, 0 for anything else
 abbrev pub whole_of : Option Data → ℤ
-whole_of (Some (integer z)) = z
-whole_of _ = pos 0
+whole_of place = unwrap_or (option_and_then as_integer place) (pos 0)
 
 -- the natural number that stands at a place, 0 for anything else
 abbrev pub number_of : Option Data → ℕ
@@ -37,5 +37,4 @@ number_of _ = 0
 
 -- the text that stands at a place, empty for anything else
 abbrev pub text_of : Option Data → List ℕ
-text_of (Some (string s)) = s
-text_of _ = []
+text_of place = unwrap_or (option_and_then as_str place) []

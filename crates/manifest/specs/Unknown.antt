@@ -1,47 +1,33 @@
 -- The keys that a table of a manifest doesn't know.
-use Rattle.std.specs.Prelude.{ℕ, zero, suc, ◌+◌, Bool, ◌||◌, List, ◌++◌, length, take, drop}
+use Rattle.std.specs.Prelude.{ℕ, zero, suc, ◌+◌, Bool, List, [], ◌∷◌, ◌++◌, map, length, take}
 use Rattle.std.specs.Prelude.{replicate, Option, Some, None, option_map, option_and_then, codes}
 use Rattle.std.specs.Prelude.{bytes_eq, if◌then◌else◌}
+use Rattle.std.specs.List.{list_any}
 use Rattle.std.specs.Option.{option_or}
 use Rattle.toml.specs.Data.{Data, as_table, Members, no_members, member}
-use Rattle.manifest.specs.Keys.{found}
+use Rattle.manifest.specs.Keys.{found, need_word, all_needs}
 use Rattle.manifest.specs.declared.key.Key.TheVariants as keys
 use Rattle.manifest.specs.declared.unknown.UnknownKey.{UnknownKey}
 use Rattle.manifest.specs.declared.unknown.KeyTable.{KeyTable}
 use Rattle.manifest.specs.declared.unknown.KeyTable.TheVariants.{Top, Event, InitNeeds, RunNeeds}
 
 -- the words of the table of keys, level by level
-abbrev pub is_top_word : List ℕ → Bool
-is_top_word key =
-    bytes_eq key (codes "job") || bytes_eq key (codes "cycle_time_ns")
-    || bytes_eq key (codes "workers") || bytes_eq key (codes "params")
-    || bytes_eq key (codes "event") || bytes_eq key (codes "platform")
-    || bytes_eq key (codes "init_needs") || bytes_eq key (codes "run_needs")
-
-abbrev pub is_event_word : List ℕ → Bool
-is_event_word key =
-    bytes_eq key (codes "name") || bytes_eq key (codes "capacity") || bytes_eq key (codes "policy")
-
-abbrev pub is_need_word : List ℕ → Bool
-is_need_word key =
-    bytes_eq key (codes "instructions") || bytes_eq key (codes "sequential_begin")
-    || bytes_eq key (codes "sequential_end") || bytes_eq key (codes "speedup_thousandths")
+abbrev pub known : KeyTable → List (List ℕ)
+known Top =
+    codes "job" ∷ codes "cycle_time_ns" ∷ codes "workers" ∷ codes "params" ∷ codes "event"
+    ∷ codes "platform" ∷ codes "init_needs" ∷ codes "run_needs" ∷ []
+known (Event i) = codes "name" ∷ codes "capacity" ∷ codes "policy" ∷ []
+known InitNeeds = map need_word all_needs
+known RunNeeds = map need_word all_needs
 
 unfoldable pub is_known : KeyTable → List ℕ → Bool
-is_known Top key = is_top_word key
-is_known (Event i) key = is_event_word key
-is_known InitNeeds key = is_need_word key
-is_known RunNeeds key = is_need_word key
+is_known table key = list_any (bytes_eq key) (known table)
 
--- these bytes and zeros, 64 in all
-abbrev pub with_zeros : List ℕ → List ℕ
-with_zeros bytes = bytes ++ drop (length bytes) (replicate 64 0)
-
--- a key as a fault tells it: at most the first 64 of its bytes
+-- a key as a fault tells it: at most the first 64 of its bytes, and zeros behind them
 abbrev pub unknown_key : KeyTable → List ℕ → UnknownKey
 unknown_key table key = record {
   table = table;
-  bytes = with_zeros (take 64 key);
+  bytes = take 64 (key ++ replicate 64 0);
   len = length (take 64 key);
 }
 

@@ -3,7 +3,8 @@ ghost use Rattle.std.specs.Prelude.{◌≡◌, ◌≤◌, length, IfOk, bytes_eq
 ghost use Rattle.std.specs.List.{list_any, All};
 ghost use Rattle.toml.specs.View.{view};
 ghost use Rattle.manifest.specs.Limits.{IsEvent};
-ghost use Rattle.manifest.specs.Keys.{events_keys, event_keys, found};
+ghost use Rattle.manifest.specs.Groups.{events_keys};
+ghost use Rattle.manifest.specs.Keys.{event_keys, found};
 ghost use Rattle.manifest.specs.Faults.{first_fault, first_duplicate};
 ghost use Rattle.manifest.specs.Tree.{count_of};
 ghost use Rattle.manifest.specs.Judged.{IsJudged, IsRead};
@@ -16,7 +17,7 @@ use std::alloc::Global;
 use toml::Value;
 
 fn read_event(tree: &Value, i: u16) -> Result<EventSpec, ManifestFault>
-    ensures judged { IsJudged result (first_fault (view tree.now) (event_keys i 1))
+    ensures judged { IsJudged result (first_fault (view tree.now) (event_keys i))
         (event_at (view tree.now) i) }
     ensures range { IfOk result IsEvent }
 {

@@ -3,10 +3,10 @@ ghost use Rattle.std.specs.Prelude.{◌≡◌, ◌||◌, IfOk};
 ghost use Rattle.std.specs.Option.{ForSome};
 ghost use Rattle.toml.specs.View.{view};
 ghost use Rattle.manifest.specs.Limits.{IsNeeds};
-ghost use Rattle.manifest.specs.Keys.{has, last_keys};
+ghost use Rattle.manifest.specs.Keys.{has};
 ghost use Rattle.manifest.specs.Faults.{first_fault};
 ghost use Rattle.manifest.specs.Judged.{IsJudged};
-ghost use Rattle.manifest.specs.Groups.{hardware_in};
+ghost use Rattle.manifest.specs.Groups.{last_keys, hardware_in};
 
 use crate::judge::platform_name;
 use crate::stage::Stage;

@@ -1,6 +1,7 @@
 //! The keys of a manifest.
 ghost use Rattle.std.specs.Prelude.{◌≡◌, ◌≤◌, length};
-ghost use Rattle.manifest.specs.Keys.{need_word, need_least, need_most};
+ghost use Rattle.manifest.specs.Keys.{need_word};
+ghost use Rattle.manifest.specs.Judged.{need_least, need_most};
 ghost use Rattle.manifest.specs.KeyTexts.{key_text};
 
 use crate::KeyText;

@@ -1,7 +1,7 @@
 //! The parameters of a manifest.
 ghost use Rattle.std.specs.Prelude.{◌≡◌};
 ghost use Rattle.toml.specs.View.{view};
-ghost use Rattle.manifest.specs.Keys.{params_keys};
+ghost use Rattle.manifest.specs.Groups.{params_keys};
 ghost use Rattle.manifest.specs.Faults.{first_fault};
 ghost use Rattle.manifest.specs.Judged.{IsRead};
 ghost use Rattle.manifest.specs.Meaning.{params_of};

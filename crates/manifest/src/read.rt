@@ -1,13 +1,12 @@
 //! Reads a manifest from its text.
-ghost use Rattle.std.specs.Prelude.{◌≡◌, Ok, Err, Some, None, IfOk, IfErr, ◌≤◌};
+ghost use Rattle.std.specs.Prelude.{◌≡◌, true, false, Ok, Err, Some, None, IfOk, IfErr, ◌≤◌};
 ghost use Rattle.toml.specs.View.{view};
 ghost use Rattle.manifest.specs.declared.key.Key.{Key};
-ghost use Rattle.manifest.specs.Keys.{found, keys};
+ghost use Rattle.manifest.specs.Keys.{found};
 ghost use Rattle.manifest.specs.Judged.{IsParsed, IsDocument, Agrees};
 ghost use Rattle.manifest.specs.Tree.{count_of};
-ghost use Rattle.manifest.specs.Faults.{first_fault};
-ghost use Rattle.manifest.specs.Meaning.{manifest_of, strict_manifest_of, document_of, IfFault};
-ghost use Rattle.manifest.specs.Meaning.{or_fault, unknown_fault, by_names};
+ghost use Rattle.manifest.specs.Meaning.{manifest_of, manifest_in, document_of, IfFault};
+ghost use Rattle.manifest.specs.Meaning.{unknown_fault};
 
 use crate::events::{duplicate_event, read_events};
 use crate::hardware::Hardware;
@@ -38,8 +37,7 @@ fn refuse_unknown(tree: &Value, count: usize, strict: bool) -> Result<(), Manife
 }
 
 fn read_tree(alloc: Global, tree: &Value, strict: bool) -> Result<Manifest, ManifestError>
-    ensures { Agrees result (or_fault (first_fault (view tree.now) (keys (view tree.now)))
-        (or_fault (unknown_fault strict (view tree.now)) (by_names (view tree.now)))) }
+    ensures { Agrees result (manifest_in strict (view tree.now)) }
 {
     let work = Work::read(tree)?;
     let params = read_params(alloc, tree)?;
@@ -92,8 +90,8 @@ fn document(alloc: Global, bytes: &[u8]) -> Result<Value, ManifestError>
 /// The manifest that a text of at most 65,536 bytes is, or its first fault. Keys that aren't known
 /// are ignored.
 pub fn read_manifest(alloc: Global, bytes: &[u8]) -> Result<Manifest, ManifestError>
-    ensures manifest { IfOk result (λ m. manifest_of bytes.now ≡ Ok m) }
-    ensures fault { IfErr result (λ e. IfFault e (λ f. manifest_of bytes.now ≡ Err f)) }
+    ensures manifest { IfOk result (λ m. manifest_of false bytes.now ≡ Ok m) }
+    ensures fault { IfErr result (λ e. IfFault e (λ f. manifest_of false bytes.now ≡ Err f)) }
 {
     let tree = document(alloc, bytes)?;
     read_tree(alloc, &tree, false)
@@ -101,8 +99,8 @@ pub fn read_manifest(alloc: Global, bytes: &[u8]) -> Result<Manifest, ManifestEr
 
 /// The same, where a key that no table knows is a fault.
 pub fn read_strict_manifest(alloc: Global, bytes: &[u8]) -> Result<Manifest, ManifestError>
-    ensures manifest { IfOk result (λ m. strict_manifest_of bytes.now ≡ Ok m) }
-    ensures fault { IfErr result (λ e. IfFault e (λ f. strict_manifest_of bytes.now ≡ Err f)) }
+    ensures manifest { IfOk result (λ m. manifest_of true bytes.now ≡ Ok m) }
+    ensures fault { IfErr result (λ e. IfFault e (λ f. manifest_of true bytes.now ≡ Err f)) }
 {
     let tree = document(alloc, bytes)?;
     read_tree(alloc, &tree, true)

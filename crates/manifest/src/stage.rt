@@ -4,9 +4,10 @@ ghost use Rattle.std.specs.Option.{ForSome};
 ghost use Rattle.toml.specs.View.{view};
 ghost use Rattle.manifest.specs.Limits.{IsNeeds};
 ghost use Rattle.manifest.specs.Tree.{number_of};
-ghost use Rattle.manifest.specs.Keys.{needs_keys, need_least, need_most, found, has};
+ghost use Rattle.manifest.specs.Keys.{needs_keys, found, has};
 ghost use Rattle.manifest.specs.Faults.{first_fault, fault_at};
-ghost use Rattle.manifest.specs.Judged.{seen, section_key, need_key, IsJudged};
+ghost use Rattle.manifest.specs.Judged.{seen, section_key, need_key, need_least};
+ghost use Rattle.manifest.specs.Judged.{need_most, IsJudged};
 ghost use Rattle.manifest.specs.Meaning.{needs_of};
 
 use crate::judge::{member, number, section};

@@ -3,9 +3,9 @@ ghost use Rattle.std.specs.Prelude.{◌≡◌, ℕ, ◌≤◌, ◌<◌, ◌^◌,
 ghost use Rattle.std.specs.Prelude.{◌||◌, bytes_eq, codes};
 ghost use Rattle.toml.specs.View.{view, table_view};
 ghost use Rattle.manifest.specs.Judged.{seen};
-ghost use Rattle.manifest.specs.Unknown.{unknown_key, is_known, is_top_word, is_event_word};
-ghost use Rattle.manifest.specs.Unknown.{is_need_word, unknown_in, unknown_at, unknown_events};
-ghost use Rattle.manifest.specs.Unknown.{first_unknown, with_zeros};
+ghost use Rattle.manifest.specs.Judged.{is_top_word, is_event_word, is_need_word, with_zeros};
+ghost use Rattle.manifest.specs.Unknown.{unknown_key, is_known, unknown_in, unknown_at};
+ghost use Rattle.manifest.specs.Unknown.{unknown_events, first_unknown};
 
 use crate::judge::item;
 use toml::{Table, Value};
@@ -45,6 +45,7 @@ fn with_zeros(first: &[u8]) -> [u8; 64]
 }
 
 impl UnknownKey {
+    #[tactic(auto, using(crate::proofs::Unknowns::in_zeros))]
     fn of(table: KeyTable, key: &[u8]) -> UnknownKey
         ensures { result ≡ unknown_key table key.now }
     {
@@ -100,7 +101,7 @@ fn is_need_word(key: &str) -> bool
 }
 
 impl KeyTable {
-    #[tactic(auto, unfolding(crate::specs::Unknown::is_known))]
+    #[tactic(auto, using(crate::proofs::Unknowns::known_top, crate::proofs::Unknowns::known_event, crate::proofs::Unknowns::known_init, crate::proofs::Unknowns::known_run))]
     fn knows(self, key: &str) -> bool
         ensures { result ≡ is_known self key.now }
     {

@@ -3,10 +3,9 @@ ghost use Rattle.std.specs.Prelude.{◌≡◌, IfOk};
 ghost use Rattle.det_values.specs.Limits.{IsCycleTime};
 ghost use Rattle.toml.specs.View.{view};
 ghost use Rattle.manifest.specs.Limits.{IsWorkers};
-ghost use Rattle.manifest.specs.Keys.{first_keys};
 ghost use Rattle.manifest.specs.Faults.{first_fault};
 ghost use Rattle.manifest.specs.Judged.{IsJudged};
-ghost use Rattle.manifest.specs.Groups.{work_in};
+ghost use Rattle.manifest.specs.Groups.{first_keys, work_in};
 
 use crate::judge::{needed_text, number};
 use crate::{Key, ManifestFault};

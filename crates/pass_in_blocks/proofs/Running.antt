@@ -2,14 +2,11 @@
 use Rattle.std.proofs.Common.{◌≡◌, ℕ, ◌+◌, ◌*◌, ◌≤◌, List, [], ◌∷◌, ◌++◌, length, take, drop, Result, Ok, Err, append_assoc}
 use Rattle.std.proofs.Common.{sym, refl, ap, ◌∙◌, arith, length-take, take-add}
 use Rattle.std.proofs.lemmas.List.{take-append-drop}
-use Rattle.std.specs.Arc.{arc_value}
 use Rattle.element_random.specs.Words.{key}
-use Rattle.job_trait.specs.declared.answers.Worked.{Worked}
-use Rattle.job_trait.specs.declared.pass.PassOf.{PassOf}
-use Rattle.job_trait.specs.Meaning.{Meaning}
+use Rattle.job_trait.specs.Meaning.{Meaning, Worked}
 use Rattle.job_trait.specs.Laws.{JobLaws}
 use Rattle.job_trait.specs.Pass.{Passed, Refusal, more}
-use Rattle.job_trait.specs.Passes.{pass_of, block_in}
+use Rattle.job_trait.specs.Passes.{PassValue, pass_of, block_in}
 use Rattle.pass_in_blocks.specs.Steps.{passed_by, beside, none_in, added_to, first_in}
 
 append_nil : {A : Type 0} (es : List A) → es ++ [] ≡ es
@@ -24,7 +21,7 @@ abbrev onto : {E P : Type 0} → (P → P → P) → Passed E P → Result (Pass
 onto join d (Ok e) = Ok (beside join d e)
 onto join d (Err r) = Err r
 
-module _ {S G E L P : Type 0} (m : Meaning S G E L P) (t : PassOf S G E L P) where
+module _ {S G E L P : Type 0} (m : Meaning S G E L P) (t : PassValue S E L P) where
   abbrev from : ℕ → List E → Passed E P → Result (Passed E P) Refusal
   from = added_to m t
 
@@ -32,13 +29,13 @@ module _ {S G E L P : Type 0} (m : Meaning S G E L P) (t : PassOf S G E L P) whe
   none = none_in m t
 
   abbrev gives : E → ℕ → Result (Worked E P) ℕ
-  gives e i = m.worked (arc_value t.job) (arc_value t.plan) (arc_value t.carry) t.number e (key t.seed t.cycle t.number i)
+  gives e i = m.worked t.job t.plan t.carry t.number e (key t.seed t.cycle t.number i)
 
   abbrev drew : ℕ → E → ℕ
-  drew i e = m.drawn (arc_value t.job) (arc_value t.plan) (arc_value t.carry) t.number e (key t.seed t.cycle t.number i)
+  drew i e = m.drawn t.job t.plan t.carry t.number e (key t.seed t.cycle t.number i)
 
   abbrev with_one : Passed E P → Worked E P → ℕ → Passed E P
-  with_one = more m (arc_value t.job) (arc_value t.plan) (arc_value t.carry) t.seed t.cycle t.number
+  with_one = more m t.job t.plan t.carry t.seed t.cycle t.number
 
   -- the answer of element i and those after it, by what the job gives for the element
   abbrev on_from : ℕ → E → List E → Passed E P → Result (Worked E P) ℕ → Result (Passed E P) Refusal
@@ -80,37 +77,37 @@ module _ {S G E L P : Type 0} (m : Meaning S G E L P) (t : PassOf S G E L P) whe
 
   module _ {Covers : S → P → ℕ → Type 0} {Own : S → E → Type 0} {Fit : S → L → Type 0} (laws : JobLaws m Covers Own Fit) where
     abbrev join : P → P → P
-    join = m.joined (arc_value t.job)
+    join = m.joined t.job
 
     onto_twice : (d e : Passed E P) (a : Result (Passed E P) Refusal) → onto join d (onto join e a) ≡ onto join (beside join d e) a
     onto_twice d e (Err r) = refl
     onto_twice d e (Ok f) = λ k. Ok (passed_by (sym (three d.elements e.elements f.elements) k) (sym (three d.draws e.draws f.draws) k)
-        (sym (laws.assoc (arc_value t.job) d.part e.part f.part) k))
+        (sym (laws.assoc t.job d.part e.part f.part) k))
 
     -- what is done before stands before what is done from nothing
     from_nothing : (i : ℕ) (es : List E) (d : Passed E P) → from i es d ≡ onto join d (from i es none)
     from_nothing i [] d =
-        λ k. Ok (passed_by (sym (append_nil d.elements) k) (sym (append_nil d.draws) k) (sym (laws.right_unit (arc_value t.job) d.part) k))
+        λ k. Ok (passed_by (sym (append_nil d.elements) k) (sym (append_nil d.draws) k) (sym (laws.right_unit t.job d.part) k))
     from_nothing i (e ∷ es) d =
         elim (gives e i) as (λ r. on_from i e es d r ≡ onto join d (on_from i e es none r)) [
           | Ok w ↦ let one : Passed E P = with_one none w (drew i e) in
               from_nothing (i + 1) es (with_one d w (drew i e))
               ∙ (λ k. onto join (passed_by (d.elements ++ w.element ∷ []) (d.draws ++ drew i e ∷ [])
-              (join d.part (sym (laws.left_unit (arc_value t.job) w.part) k))) (from (i + 1) es none))
+              (join d.part (sym (laws.left_unit t.job w.part) k))) (from (i + 1) es none))
               ∙ sym (onto_twice d one (from (i + 1) es none)) ∙ sym (ap (onto join d) (from_nothing (i + 1) es one))
           | Err c ↦ refl
         ]
 
     -- the blocks before number b are done, and block b
-    module _ (b : ℕ) (inside : 64 * b ≤ length (arc_value t.elements)) (d : Passed E P) (is : first_in m t (64 * b) ≡ Ok d) where
-      after : from (64 * b) (take 64 (drop (64 * b) (arc_value t.elements))) d ≡ onto join d (block_in m t b)
-      after = from_nothing (64 * b) (take 64 (drop (64 * b) (arc_value t.elements))) d
+    module _ (b : ℕ) (inside : 64 * b ≤ length t.elements) (d : Passed E P) (is : first_in m t (64 * b) ≡ Ok d) where
+      after : from (64 * b) (take 64 (drop (64 * b) t.elements)) d ≡ onto join d (block_in m t b)
+      after = from_nothing (64 * b) (take 64 (drop (64 * b) t.elements)) d
 
-      pub block_done : (e : Passed E P) → block_in m t b ≡ Ok e → first_in m t (64 * (b + 1)) ≡ Ok (beside (m.joined (arc_value t.job)) d e)
+      pub block_done : (e : Passed E P) → block_in m t b ≡ Ok e → first_in m t (64 * (b + 1)) ≡ Ok (beside (m.joined t.job) d e)
       block_done e came = ap (first_in m t) (omega arith)
-          ∙ goes_on 0 (64 * b) (arc_value t.elements) none (64 * b) 64 (omega arith) inside d (beside join d e) is
+          ∙ goes_on 0 (64 * b) t.elements none (64 * b) 64 (omega arith) inside d (beside join d e) is
           (after ∙ ap (onto join d) came)
 
       pub block_refuses : (r : Refusal) → block_in m t b ≡ Err r → pass_of m t ≡ Err r
       block_refuses r came =
-          stops 0 (64 * b) (arc_value t.elements) none (64 * b) 64 (omega arith) inside d r is (after ∙ ap (onto join d) came)
+          stops 0 (64 * b) t.elements none (64 * b) 64 (omega arith) inside d r is (after ∙ ap (onto join d) came)

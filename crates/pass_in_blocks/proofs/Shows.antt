@@ -1,20 +1,18 @@
 -- What the blocks of a pass show, one behind another.
-use Rattle.std.proofs.Common.{◌≡◌, ℕ, zero, suc, ◌+◌, ◌*◌, ◌<◌, ◌≤◌, ◌⊎◌, ◌≢◌, inl, inr, List, [], ◌∷◌, ◌++◌, length, take, drop, Result}
+use Rattle.std.proofs.Common.{◌≡◌, ℕ, zero, suc, ◌+◌, ◌*◌, ◌<◌, ◌≤◌, ◌⊎◌, inl, inr, List, [], ◌∷◌, ◌++◌, length, take, drop, Result}
 use Rattle.std.proofs.Common.{Ok, Err}
-use Rattle.std.proofs.Common.{refl, sym, ap, ◌∙◌, subst, arith, length-take, length-drop, length-append}
+use Rattle.std.proofs.Common.{refl, sym, ap, ◌∙◌, subst, arith, length-take, length-append}
 use Rattle.std.specs.Prelude.{OnOk}
-use Rattle.std.specs.Arc.{arc_value}
 use Rattle.std.specs.List.{All}
 use Rattle.std.proofs.Math.Seq.{take-add}
 use Rattle.std.proofs.lemmas.List.{take_all}
 use Rattle.std.proofs.lemmas.List.Elements.{All-take, All-drop}
 use Rattle.det_values.specs.declared.frames.DrawnElement.{DrawnElement}
-use Rattle.job_trait.specs.declared.pass.PassOf.{PassOf}
 use Rattle.job_trait.specs.Meaning.{Meaning}
 use Rattle.job_trait.specs.Laws.{JobLaws}
 use Rattle.job_trait.specs.Pass.{Passed}
 use Rattle.job_trait.specs.Cycle.{added, shown_with}
-use Rattle.job_trait.specs.Passes.{IsReady, pass_of, block_in, drawn_so_far}
+use Rattle.job_trait.specs.Passes.{PassValue, IsReady, pass_of, block_in, drawn_so_far}
 use Rattle.pass_in_blocks.specs.Showing.{AreSpelled, shown_before, shown_by, shown_in}
 use Rattle.pass_in_blocks.specs.Steps.{none_in, added_to, first_in}
 use Rattle.pass_in_blocks.proofs.Adding.{added-append, length-added, same_takes}
@@ -33,10 +31,6 @@ pub as_added : (xs ds : List ℕ) → length xs ≡ length ds → drawn_so_far x
 as_added [] [] e = refl
 as_added [] (d ∷ ds) e = absurd (omega (arith, e))
 as_added (x ∷ xs) ds e = refl
-
-empty : (xs : List ℕ) → length xs ≡ 0 → xs ≡ []
-empty [] e = refl
-empty (x ∷ xs) e = absurd (omega (arith, e))
 
 plain : (n : ℕ) (xs ds : List ℕ) → xs ≡ [] → drawn_so_far (take n xs) ds ≡ ds
 plain n xs ds none = ap (λ (ys : List ℕ). drawn_so_far (take n ys) ds) none ∙ ap (λ (ys : List ℕ). drawn_so_far ys ds) (take-none n)
@@ -84,22 +78,22 @@ module _ {E : Type 0} (xs : List ℕ) (es : List E) (b : ℕ) (inside : 64 * b <
         ])
 
 module _ {S G E L P : Type 0} {m : Meaning S G E L P} {Covers : S → P → ℕ → Type 0} {Own : S → E → Type 0} {Fit : S → L → Type 0}
-    (laws : JobLaws m Covers Own Fit) (t : PassOf S G E L P) (ready : IsReady m Covers Own Fit t) where
+    (laws : JobLaws m Covers Own Fit) (t : PassValue S E L P) (ready : IsReady m Covers Own Fit t) where
   abbrev job : S
-  job = arc_value t.job
+  job = t.job
 
   abbrev es : List E
-  es = arc_value t.elements
+  es = t.elements
 
   abbrev xs : List ℕ
-  xs = arc_value t.earlier
+  xs = t.earlier
 
   -- what the elements before block b show, and block b
-  module _ (b : ℕ) (inside : 64 * b < length (arc_value t.elements)) (e : Passed E P) (came : block_in m t b ≡ Ok e) where
-    holds : Sums Covers Own (arc_value t.job) (length (take 64 (drop (64 * b) (arc_value t.elements)))) e
+  module _ (b : ℕ) (inside : 64 * b < length t.elements) (e : Passed E P) (came : block_in m t b ≡ Ok e) where
+    holds : Sums Covers Own t.job (length (take 64 (drop (64 * b) t.elements))) e
     holds = block_holds laws t ready b e came
 
-    pub own_done : All (Own (arc_value t.job)) e.elements
+    pub own_done : All (Own t.job) e.elements
     own_done = holds.own
 
     pub level_done : length e.draws ≡ length e.elements
@@ -109,36 +103,27 @@ module _ {S G E L P : Type 0} {m : Meaning S G E L P} {Covers : S → P → ℕ 
     few_done = holds.few_drawn
 
     -- earlier draws of the block
-    module _ (some : length (arc_value t.earlier) ≢ 0) where
-      same : length (arc_value t.earlier) ≡ length (arc_value t.elements)
-      same = elim ready.level as (λ l. length (arc_value t.earlier) ≡ length (arc_value t.elements)) [
-        | inl none ↦ absurd (some (ap length none))
-        | inr is ↦ is
-      ]
+    module _ (same : length t.earlier ≡ length t.elements) where
+      pub earlier_level : length (take 64 (drop (64 * b) t.earlier)) ≡ length e.draws
+      earlier_level = same_block t.earlier t.elements b inside same ∙ sym holds.drew
 
-      pub earlier_inside : 64 * b < length (arc_value t.earlier)
-      earlier_inside = omega (arith, same, inside)
-
-      pub earlier_level : length (take 64 (drop (64 * b) (arc_value t.earlier))) ≡ length e.draws
-      earlier_level = same_block (arc_value t.earlier) (arc_value t.elements) b inside same ∙ sym holds.drew
-
-      pub earlier_few : All (λ draws. draws ≤ 458745) (take 64 (drop (64 * b) (arc_value t.earlier)))
+      pub earlier_few : All (λ draws. draws ≤ 458745) (take 64 (drop (64 * b) t.earlier))
       earlier_few = let Few : ℕ → Type 0 = λ n. n ≤ 458745 in
           All-take Few 64 (drop (64 * b) xs) (All-drop Few (64 * b) xs ready.few_earlier)
 
-      pub shows_sums : (sums old new : List ℕ) → sums ≡ added (take 64 (drop (64 * b) (arc_value t.earlier))) e.draws
-          → AreSpelled (shown_with m (arc_value t.job) e.elements sums) old new → AreSpelled (shown_in m t b) old new
+      pub shows_sums : (sums old new : List ℕ) → sums ≡ added (take 64 (drop (64 * b) t.earlier)) e.draws
+          → AreSpelled (shown_with m t.job e.elements sums) old new → AreSpelled (shown_in m t b) old new
       shows_sums sums old new is spelled =
           let so_far : sums ≡ drawn_so_far (take 64 (drop (64 * b) xs)) e.draws = is ∙ sym (as_added _ e.draws earlier_level) in
           subst (λ r. AreSpelled (shown_by m t b r) old new) (sym came)
           (subst (λ (ds : List ℕ). AreSpelled (shown_with m job e.elements ds) old new) so_far spelled)
 
-    pub shows_plain : (old new : List ℕ) → length (arc_value t.earlier) ≡ 0
-        → AreSpelled (shown_with m (arc_value t.job) e.elements e.draws) old new → AreSpelled (shown_in m t b) old new
+    pub shows_plain : (old new : List ℕ) → t.earlier ≡ []
+        → AreSpelled (shown_with m t.job e.elements e.draws) old new → AreSpelled (shown_in m t b) old new
     shows_plain old new none spelled =
         subst (λ r. AreSpelled (shown_by m t b r) old new) (sym came)
         (subst (λ (ds : List ℕ). AreSpelled (shown_with m job e.elements ds) old new)
-        (sym (plain_block (64 * b) xs e.draws (empty xs none)))
+        (sym (plain_block (64 * b) xs e.draws none))
         spelled)
 
     -- one block more
@@ -156,31 +141,31 @@ module _ {S G E L P : Type 0} {m : Meaning S G E L P} {Covers : S → P → ℕ 
         (drawn_so_far (take 64 (drop (64 * b) xs)) e.draws) [] old new n so_far block)
 
   -- all elements, which are before number n
-  module _ (d : Passed E P) (n : ℕ) (is : first_in m t n ≡ Ok d) (enough : length (arc_value t.elements) ≤ n) where
+  module _ (d : Passed E P) (n : ℕ) (is : first_in m t n ≡ Ok d) (enough : length t.elements ≤ n) where
     whole : pass_of m t ≡ Ok d
-    whole = ap (λ (xs : List E). added_to m t 0 xs (none_in m t)) (sym (take_all n (arc_value t.elements) enough)) ∙ is
+    whole = ap (λ (xs : List E). added_to m t 0 xs (none_in m t)) (sym (take_all n t.elements enough)) ∙ is
 
-    held : Sums Covers Own (arc_value t.job) (length (arc_value t.elements)) d
+    held : Sums Covers Own t.job (length t.elements) d
     held = pass_holds laws t ready d whole
 
-    drawn_length : length (drawn_so_far (arc_value t.earlier) d.draws) ≡ length d.elements
-    drawn_length = elim ready.level as (λ l. length (drawn_so_far (arc_value t.earlier) d.draws) ≡ length d.elements) [
+    drawn_length : length (drawn_so_far t.earlier d.draws) ≡ length d.elements
+    drawn_length = elim ready.level as (λ l. length (drawn_so_far t.earlier d.draws) ≡ length d.elements) [
       | inl none ↦ ap (λ (ys : List ℕ). length (drawn_so_far ys d.draws)) none ∙ held.drew ∙ sym held.many
-      | inr same ↦ let k : length (arc_value t.earlier) ≡ length d.draws = same ∙ sym held.drew in
-          ap length (as_added (arc_value t.earlier) d.draws k) ∙ length-added (arc_value t.earlier) d.draws k ∙ same ∙ sym held.many
+      | inr same ↦ let k : length t.earlier ≡ length d.draws = same ∙ sym held.drew in
+          ap length (as_added t.earlier d.draws k) ∙ length-added t.earlier d.draws k ∙ same ∙ sym held.many
     ]
 
-    pub shown_length : length (shown_with m (arc_value t.job) d.elements (drawn_so_far (arc_value t.earlier) d.draws)) ≡ length d.elements
-    shown_length = length-shown m (arc_value t.job) d.elements (drawn_so_far (arc_value t.earlier) d.draws) drawn_length
+    pub shown_length : length (shown_with m t.job d.elements (drawn_so_far t.earlier d.draws)) ≡ length d.elements
+    shown_length = length-shown m t.job d.elements (drawn_so_far t.earlier d.draws) drawn_length
 
-    all_earlier : take n (arc_value t.earlier) ≡ arc_value t.earlier
-    all_earlier = elim ready.level as (λ l. take n (arc_value t.earlier) ≡ arc_value t.earlier) [
-      | inl none ↦ take_all n (arc_value t.earlier) (omega (arith, ap length none))
-      | inr same ↦ take_all n (arc_value t.earlier) (omega (arith, same, enough))
+    all_earlier : take n t.earlier ≡ t.earlier
+    all_earlier = elim ready.level as (λ l. take n t.earlier ≡ t.earlier) [
+      | inl none ↦ take_all n t.earlier (omega (arith, ap length none))
+      | inr same ↦ take_all n t.earlier (omega (arith, same, enough))
     ]
 
     pub shows_all : (bytes : List ℕ) → AreSpelled (shown_before m t n d.elements d.draws) [] bytes
-        → AreSpelled (shown_with m (arc_value t.job) d.elements (drawn_so_far (arc_value t.earlier) d.draws)) [] bytes
+        → AreSpelled (shown_with m t.job d.elements (drawn_so_far t.earlier d.draws)) [] bytes
     shows_all bytes spelled =
         subst (λ (ys : List ℕ). AreSpelled (shown_with m job d.elements (drawn_so_far ys d.draws)) [] bytes) all_earlier spelled
 

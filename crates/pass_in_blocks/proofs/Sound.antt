@@ -1,21 +1,18 @@
 -- What the laws of a job say of the answers of its blocks and passes.
 use Rattle.std.proofs.Common.{◌≡◌, ℕ, suc, ◌+◌, ◌-◌, ◌*◌, ◌<◌, ◌≤◌, min, List, [], ◌∷◌, length, take, drop, true, Result, Ok, Err}
 use Rattle.std.proofs.Common.{refl, sym, ap, ◌∙◌, subst, arith, length-append, length-take, length-drop}
-use Rattle.std.specs.Arc.{arc_value}
 use Rattle.std.specs.List.{All}
 use Rattle.std.proofs.lemmas.List.{take_all}
 use Rattle.std.proofs.lemmas.List.Elements.{All-nil, All-head, All-tail, All-push, All-same, All-take, All-drop}
 use Rattle.element_random.specs.Words.{key}
-use Rattle.job_trait.specs.declared.answers.Worked.{Worked}
-use Rattle.job_trait.specs.declared.pass.PassOf.{PassOf}
 use Rattle.job_trait.specs.declared.pass.PassDone.{PassDone}
 use Rattle.job_trait.specs.declared.pass.PoolFault.{PoolFault}
 use Rattle.job_trait.specs.declared.pass.PoolFault.TheVariants.{Refused, OutOfMemory}
-use Rattle.job_trait.specs.Meaning.{Meaning}
+use Rattle.job_trait.specs.Meaning.{Meaning, Worked}
 use Rattle.job_trait.specs.Laws.{JobLaws}
 use Rattle.job_trait.specs.Pass.{Passed, Refusal, more}
 use Rattle.job_trait.specs.Cycle.{shown_with}
-use Rattle.job_trait.specs.Passes.{drawn_so_far, passed_of, IsPass, RefusedBelow, IsReady, IsAnswer, pass_of, block_in}
+use Rattle.job_trait.specs.Passes.{PassValue, drawn_so_far, passed_of, IsPass, RefusedBelow, IsReady, IsAnswer, pass_of, block_in}
 use Rattle.pass_in_blocks.specs.Steps.{beside, HasRoom, CanJoin, none_in, added_to, first_in}
 use Rattle.pass_in_blocks.proofs.Running.{block_done, block_refuses}
 
@@ -35,18 +32,18 @@ module _ {E P : Type 0} where
   same_refusal x y q = cc
 
 module _ {S G E L P : Type 0} {m : Meaning S G E L P} {Covers : S → P → ℕ → Type 0} {Own : S → E → Type 0} {Fit : S → L → Type 0}
-    (laws : JobLaws m Covers Own Fit) (t : PassOf S G E L P) (ready : IsReady m Covers Own Fit t) where
+    (laws : JobLaws m Covers Own Fit) (t : PassValue S E L P) (ready : IsReady m Covers Own Fit t) where
   abbrev job : S
-  job = arc_value t.job
+  job = t.job
 
   abbrev plan : L
-  plan = arc_value t.plan
+  plan = t.plan
 
   abbrev carry : P
-  carry = arc_value t.carry
+  carry = t.carry
 
   abbrev es : List E
-  es = arc_value t.elements
+  es = t.elements
 
   abbrev from : ℕ → List E → Passed E P → Result (Passed E P) Refusal
   from = added_to m t
@@ -55,7 +52,7 @@ module _ {S G E L P : Type 0} {m : Meaning S G E L P} {Covers : S → P → ℕ 
   none = none_in m t
 
   abbrev Holds : ℕ → Passed E P → Type 0
-  Holds = Sums Covers Own (arc_value t.job)
+  Holds = Sums Covers Own t.job
 
   abbrev gives : E → ℕ → Result (Worked E P) ℕ
   gives e i = m.worked job plan carry t.number e (key t.seed t.cycle t.number i)
@@ -138,7 +135,7 @@ module _ {S G E L P : Type 0} {m : Meaning S G E L P} {Covers : S → P → ℕ 
   block_holds b d is = let f = ready.few in let size = block_size b in
       subst (λ (k : ℕ). Holds k d) (omega arith) (taken_holds 0 (64 * b) (of_block b) none d none_holds (own_block b) (omega arith) is)
 
-  module _ (b k : ℕ) (xs : List E) (is_block : xs ≡ take 64 (drop (64 * b) (arc_value t.elements))) (inside : k < length xs) where
+  module _ (b k : ℕ) (xs : List E) (is_block : xs ≡ take 64 (drop (64 * b) t.elements)) (inside : k < length xs) where
     pub in_pass : 64 * b + k < 65536
     in_pass = let f = ready.few in let size = block_size b in let same = ap length is_block in omega arith
 
@@ -160,7 +157,7 @@ module _ {S G E L P : Type 0} {m : Meaning S G E L P} {Covers : S → P → ℕ 
 
   -- what is shown is right, where the pass shows it
   abbrev Shows : PassDone E P → Type 0
-  Shows d = t.shows ≡ true → d.shown ≡ shown_with m job d.elements (drawn_so_far (arc_value t.earlier) d.draws)
+  Shows d = t.shows ≡ true → d.shown ≡ shown_with m job d.elements (drawn_so_far t.earlier d.draws)
 
   done_answer : (d : PassDone E P) → pass_of m t ≡ Ok (passed_of d) → Shows d → IsAnswer m Covers Own t (Ok d)
   done_answer d is shown = let h = pass_holds (passed_of d) is in record {
@@ -189,14 +186,14 @@ module _ {S G E L P : Type 0} {m : Meaning S G E L P} {Covers : S → P → ℕ 
   -- the blocks before number b are done
   module _ (b : ℕ) (d : Passed E P) (is : first_in m t (64 * b) ≡ Ok d) where
     -- and there are no more
-    pub all_answer : (x : PassDone E P) → d ≡ passed_of x → length (arc_value t.elements) ≤ 64 * b → Shows x
+    pub all_answer : (x : PassDone E P) → d ≡ passed_of x → length t.elements ≤ 64 * b → Shows x
         → IsAnswer m Covers Own t (Ok x)
     all_answer x same none_left =
         done_answer x (ap (λ (xs : List E). from 0 xs none) (sym (take_all (64 * b) es none_left)) ∙ is ∙ ap Ok same)
 
-    module _ (inside : 64 * b < length (arc_value t.elements)) where
+    module _ (inside : 64 * b < length t.elements) where
       -- and block b as well
-      pub next_done : (e both : Passed E P) → block_in m t b ≡ Ok e → both ≡ beside (m.joined (arc_value t.job)) d e
+      pub next_done : (e both : Passed E P) → block_in m t b ≡ Ok e → both ≡ beside (m.joined t.job) d e
           → first_in m t (64 * (b + 1)) ≡ Ok both
       next_done e both came same = block_done m t laws b (omega arith) d is e came ∙ sym (ap Ok same)
 
@@ -207,7 +204,7 @@ module _ {S G E L P : Type 0} {m : Meaning S G E L P} {Covers : S → P → ℕ 
           (block_refuses m t laws b (omega arith) d is (record { element = element; code = code }) came)
 
       -- and block b is to join them
-      pub can_join : (e : Passed E P) → block_in m t b ≡ Ok e → CanJoin Covers (arc_value t.job) d e
+      pub can_join : (e : Passed E P) → block_in m t b ≡ Ok e → CanJoin Covers t.job d e
       can_join e came =
           let h = first_hold 0 (64 * b) es d ready.own (omega arith) ready.few is in let p = h.many in
           let g = block_holds b e came in let q = g.many in

@@ -2,14 +2,12 @@
 use Rattle.std.specs.Prelude.{◌≡◌, ℕ, ◌*◌, ◌≤◌, ◌<◌, List, [], ◌++◌, length, take, drop}
 use Rattle.std.specs.Prelude.{slice_range, slice_index_or, Result, Ok, Err}
 use Rattle.std.specs.List.{All}
-use Rattle.std.specs.Arc.{arc_value}
 use Rattle.det_values.specs.declared.frames.DrawnElement.{DrawnElement}
 use Rattle.det_values.specs.Spelling.{spelled_all, IsDrawn}
 use Rattle.job_trait.specs.Meaning.{Meaning}
 use Rattle.job_trait.specs.Pass.{Passed, Refusal}
 use Rattle.job_trait.specs.Cycle.{shown_with}
-use Rattle.job_trait.specs.Passes.{block_in, drawn_so_far}
-use Rattle.job_trait.specs.declared.pass.PassOf.{PassOf}
+use Rattle.job_trait.specs.Passes.{PassValue, block_in, drawn_so_far}
 use Rattle.pass_in_blocks.specs.declared.spelled_blocks.Span.{Span}
 use Rattle.pass_in_blocks.specs.declared.spelled_blocks.SpelledBlocks.{SpelledBlocks}
 
@@ -30,16 +28,16 @@ AreBlocksOf shown s =
     (b : ℕ) (d : Span) → b < length s.spans.items
     → IsSpan (shown b) s.bytes.items (slice_index_or s.spans.items b d)
 
-module _ {S G E L P : Type 0} (m : Meaning S G E L P) (t : PassOf S G E L P) where
+module _ {S G E L P : Type 0} (m : Meaning S G E L P) (t : PassValue S E L P) where
   -- what the new elements before number n show, these being they and the words that they drew
   abbrev pub shown_before : ℕ → List E → List ℕ → List DrawnElement
   shown_before n es ds =
-      shown_with m (arc_value t.job) es (drawn_so_far (take n (arc_value t.earlier)) ds)
+      shown_with m t.job es (drawn_so_far (take n t.earlier) ds)
 
   -- what block b shows, this being what it gives
   abbrev pub shown_by : ℕ → Result (Passed E P) Refusal → List DrawnElement
-  shown_by b (Ok done) = shown_with m (arc_value t.job) done.elements
-      (drawn_so_far (take 64 (drop (64 * b) (arc_value t.earlier))) done.draws)
+  shown_by b (Ok done) = shown_with m t.job done.elements
+      (drawn_so_far (take 64 (drop (64 * b) t.earlier)) done.draws)
   shown_by b (Err refusal) = []
 
   abbrev pub shown_in : ℕ → List DrawnElement

@@ -1,13 +1,12 @@
 -- How a block is run element by element, and a pass is joined block by block.
 use Rattle.std.specs.Prelude.{◌≡◌, ℕ, ◌+◌, ◌*◌, ◌≤◌, ◌<◌, List, ◌++◌, length, take, slice_index_or}
 use Rattle.std.specs.Prelude.{Option, None, Some, Result, Ok, Err}
-use Rattle.std.specs.Arc.{arc_value}
 use Rattle.element_random.specs.declared.PassKeys.{PassKeys}
 use Rattle.element_random.specs.Words.{AreKeysOf}
 use Rattle.job_trait.specs.Meaning.{Meaning}
 use Rattle.job_trait.specs.Laws.{CoverTogether}
+use Rattle.job_trait.specs.Passes.{PassValue}
 use Rattle.job_trait.specs.Pass.{Passed, Refusal, nothing, taken}
-use Rattle.job_trait.specs.declared.pass.PassOf.{PassOf}
 use Rattle.job_trait.specs.declared.pass.PoolFault.{PoolFault}
 use Rattle.job_trait.specs.declared.pass.PoolFault.TheVariants.{Refused, OutOfMemory}
 use Rattle.pass_in_blocks.specs.declared.answers.BlockAnswer.{BlockAnswer}
@@ -18,12 +17,12 @@ module _ {E P : Type 0} where
   abbrev pub passed_by : List E → List ℕ → P → Passed E P
   passed_by es ds part = record { elements = es; draws = ds; part = part }
 
-  -- the lists with the part are what is meant; want of memory is free
-  abbrev pub IsAdded : Result P PoolFault → List E → List ℕ → Result (Passed E P) Refusal → Type 0
-  IsAdded (Ok part) es ds meant = meant ≡ Ok (passed_by es ds part)
-  IsAdded (Err (Refused element code)) es ds meant =
+  -- what stands there now is what is meant; want of memory is free
+  abbrev pub IsAdded : {T : Type 0} → Result T PoolFault → Passed E P → Result (Passed E P) Refusal → Type 0
+  IsAdded (Ok done) now meant = meant ≡ Ok now
+  IsAdded (Err (Refused element code)) now meant =
       meant ≡ Err (record { element = element; code = code })
-  IsAdded (Err OutOfMemory) es ds meant = Unit {0}
+  IsAdded (Err OutOfMemory) now meant = Unit {0}
 
   -- what two neighbours give together
   abbrev pub beside : (P → P → P) → Passed E P → Passed E P → Passed E P
@@ -45,28 +44,29 @@ module _ {E P : Type 0} where
         (b : ℕ) (d : Option (BlockAnswer E P)) → b < length places
         → IsPlace b (slice_index_or places b d)
 
-module _ {S G E L P : Type 0} where
-  abbrev pub HasKeys : PassOf S G E L P → PassKeys → Type 0
+module _ {S E L P : Type 0} where
+  abbrev pub HasKeys : PassValue S E L P → PassKeys → Type 0
   HasKeys t keys = AreKeysOf keys t.seed t.cycle t.number
 
   -- the part comes from so few elements that another can be joined to it
-  abbrev pub HasRoom : (S → P → ℕ → Type 0) → PassOf S G E L P → P → Type 0
-  HasRoom Covers t part = (n : ℕ) × (n < 65536) × Covers (arc_value t.job) part n
+  abbrev pub HasRoom : (S → P → ℕ → Type 0) → PassValue S E L P → P → Type 0
+  HasRoom Covers t part = (n : ℕ) × (n < 65536) × Covers t.job part n
 
+module _ {S G E L P : Type 0} where
   -- what stands before any element
-  abbrev pub none_in : Meaning S G E L P → PassOf S G E L P → Passed E P
+  abbrev pub none_in : Meaning S G E L P → PassValue S E L P → Passed E P
   none_in m t =
-      nothing m (arc_value t.job) (arc_value t.plan) (arc_value t.carry) t.seed t.cycle t.number
+      nothing m t.job t.plan t.carry t.seed t.cycle t.number
 
   -- elements from number i on, added to what is done
-  abbrev pub added_to : Meaning S G E L P → PassOf S G E L P → ℕ → List E → Passed E P
+  abbrev pub added_to : Meaning S G E L P → PassValue S E L P → ℕ → List E → Passed E P
       → Result (Passed E P) Refusal
   added_to m t =
-      taken m (arc_value t.job) (arc_value t.plan) (arc_value t.carry) t.seed t.cycle t.number
+      taken m t.job t.plan t.carry t.seed t.cycle t.number
 
   -- what the first n elements give
-  abbrev pub first_in : Meaning S G E L P → PassOf S G E L P → ℕ → Result (Passed E P) Refusal
-  first_in m t n = added_to m t 0 (take n (arc_value t.elements)) (none_in m t)
+  abbrev pub first_in : Meaning S G E L P → PassValue S E L P → ℕ → Result (Passed E P) Refusal
+  first_in m t n = added_to m t 0 (take n t.elements) (none_in m t)
 
 -- a block can be added to those before it
 pub record CanJoin {S E P : Type 0} (Covers : S → P → ℕ → Type 0) (j : S)

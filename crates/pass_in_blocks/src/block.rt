@@ -1,6 +1,5 @@
 //! One block is run.
 ghost use Rattle.std.specs.Prelude.{◌≡◌, ◌+◌, ◌<◌, ◌++◌, ◌∷◌, [], length, take, drop, IfOk, OnOk};
-ghost use Rattle.std.specs.Arc.{arc_value};
 ghost use Rattle.std.specs.List.{All};
 ghost use Rattle.job_trait.specs.Passes.{IsReady, block_in, blocks_in};
 ghost use Rattle.pass_in_blocks.specs.Answers.{answer_of};
@@ -11,7 +10,7 @@ use crate::answers::{BlockAnswer, BlockDone};
 use crate::spelled_blocks::SpelledBlocks;
 use det_values::OutOfMemory;
 use element_random::{ElementRandom, PassKeys};
-use job_trait::{Job, JobFault, PassOf, PoolFault};
+use job_trait::{Job, JobFault, PassOf, PassRoom, PoolFault};
 use std::alloc::Global;
 
 /// Adds an item at the end of a list.
@@ -28,7 +27,7 @@ pub(crate) fn push<T: Drop>(list: &mut Vec<T>, item: T) -> Result<(), OutOfMemor
 /// A block that is to be run.
 #[derive(Drop)]
 struct Block<'a, J: Job> {
-    pass: &'a PassOf<J>,
+    pass: &'a PassOf<'a, J>,
     keys: PassKeys,
     /// The number of its first element.
     first: u32,
@@ -36,8 +35,8 @@ struct Block<'a, J: Job> {
 }
 
 impl<'a, J: Job> Block<'a, J> {
-    /// Runs its element `k` with random words of its own, adds what it gives to the lists, and
-    /// answers the part. It is the body of the loop that time is spent in, so it is inlined there.
+    /// Runs its element `k` with random words of its own, and adds what it gives to the lists and
+    /// the part. It is the body of the loop that time is spent in, so it is inlined there.
     #[inline(always)]
     fn step(
         &self,
@@ -45,34 +44,35 @@ impl<'a, J: Job> Block<'a, J> {
         k: usize,
         elements: &mut Vec<J::Element>,
         draws: &mut Vec<u32>,
-        part: J::Part,
-    ) -> Result<J::Part, PoolFault>
+        part: &mut J::Part,
+    ) -> Result<(), PoolFault>
         requires ready { IsReady J.meaning J.Covers J.Own J.Fit self.now.pass.now }
         requires keys { HasKeys self.now.pass.now self.now.keys }
-        requires own { All (J.Own (arc_value self.now.pass.now.job)) self.now.elements.now }
+        requires own { All (J.Own self.now.pass.now.job) self.now.elements.now }
         requires inside { k < length self.now.elements.now }
         requires few { self.now.first + k < 65536 }
-        requires room { HasRoom J.Covers self.now.pass.now part }
-        ensures { IsAdded result elements.new.items draws.new.items
+        requires room { HasRoom J.Covers self.now.pass.now part.old }
+        ensures { IsAdded result (passed_by elements.new.items draws.new.items part.new)
             (added_to J.meaning self.now.pass.now (self.now.first + k)
             (take 1 (drop k self.now.elements.now))
-            (passed_by elements.old.items draws.old.items part)) }
+            (passed_by elements.old.items draws.old.items part.old)) }
     {
         let pass = self.pass;
         let i = self.first + k as u32;
         let mut random = ElementRandom::at(self.keys.key(i));
-        match pass.job.run(
+        match pass.job().run(
             alloc,
-            &*pass.plan,
-            &*pass.carry,
+            &**pass.plan,
+            &**pass.carry,
             pass.number,
             &self.elements[k],
             &mut random,
+            part,
         ) {
-            Ok(worked) => {
-                push(elements, worked.element)?;
+            Ok(element) => {
+                push(elements, element)?;
                 push(draws, random.draws() as u32)?;
-                Ok(pass.job.merge(part, worked.part)?)
+                Ok(())
             }
             Err(fault) => match fault {
                 JobFault::Code(code) => Err(PoolFault::Refused { element: i, code }),
@@ -82,11 +82,11 @@ impl<'a, J: Job> Block<'a, J> {
     }
 }
 
-/// Runs the elements of a block one after another. A refusal ends it.
+/// Runs the elements of a block one after another, in memory of the room. A refusal ends it.
 pub fn run_block<J: Job>(
-    alloc: Global,
-    pass: &PassOf<J>,
+    pass: &PassOf<'_, J>,
     block: u32,
+    room: &mut PassRoom<J::Element, J::Part>,
 ) -> Result<BlockAnswer<J::Element, J::Part>, OutOfMemory>
     requires ready { IsReady J.meaning J.Covers J.Own J.Fit pass.now }
     requires inside { block < blocks_in pass.now }
@@ -96,17 +96,20 @@ pub fn run_block<J: Job>(
         pass,
         keys: PassKeys::of(pass.seed, pass.cycle, pass.number),
         first: 64 * block,
-        elements: pass.elements.block(block as usize),
+        elements: pass.block(block),
     };
-    let room = block.elements.len();
-    let mut elements = Vec::with_capacity(alloc, room)?;
-    let mut draws = Vec::with_capacity(alloc, room)?;
-    let mut part = pass.job.unit(alloc);
-    'run: for k in 0..room {
-        match block.step(alloc, k, &mut elements, &mut draws, part) {
-            Ok(more) => part = more,
+    let alloc = room.alloc();
+    let mut elements = room.elements.block()?;
+    let mut draws = room.draws.block()?;
+    let mut part = pass.job().unit(alloc, &mut room.part());
+    'run: for k in 0..block.elements.len() {
+        match block.step(alloc, k, &mut elements, &mut draws, &mut part) {
+            Ok(()) => {}
             Err(fault) => match fault {
                 PoolFault::Refused { element, code } => {
+                    room.elements.keep_block(elements);
+                    room.draws.keep_block(draws);
+                    room.keep_part(part);
                     return Ok(BlockAnswer::Refused { element, code });
                 }
                 PoolFault::OutOfMemory => return Err(OutOfMemory),
@@ -122,9 +125,9 @@ pub fn run_block<J: Job>(
 
 /// Runs a block, and spells what it leaves, where there is a place for it.
 pub fn run_and_spell<J: Job>(
-    alloc: Global,
-    pass: &PassOf<J>,
+    pass: &PassOf<'_, J>,
     block: u32,
+    room: &mut PassRoom<J::Element, J::Part>,
     spelled: &mut SpelledBlocks,
 ) -> Result<BlockAnswer<J::Element, J::Part>, OutOfMemory>
     requires ready { IsReady J.meaning J.Covers J.Own J.Fit pass.now }
@@ -134,9 +137,9 @@ pub fn run_and_spell<J: Job>(
     ensures spelled { IfOk result (λ answer.
         AreBlocksOf (shown_in J.meaning pass.now) spelled.new) }
 {
-    match run_block(alloc, pass, block)? {
+    match run_block(pass, block, room)? {
         BlockAnswer::Done(done) => {
-            spelled.add(alloc, pass, block, &done)?;
+            spelled.add(pass, block, &done, &mut room.draws)?;
             Ok(BlockAnswer::Done(done))
         }
         BlockAnswer::Refused { element, code } => Ok(BlockAnswer::Refused { element, code }),

@@ -3,41 +3,40 @@ ghost use Rattle.std.specs.Prelude.{◌≡◌, ◌≤◌, length, IfOk};
 ghost use Rattle.std.specs.List.{All};
 ghost use Rattle.job_trait.specs.Cycle.{added};
 
-use det_values::{Container, OutOfMemory};
-use std::alloc::Global;
+use det_values::{Container, OutOfMemory, Spares};
 
-/// The sums of two blocks, number by number.
+/// The sums of two blocks, number by number, in memory of the spares.
 pub(crate) fn block_sums(
-    alloc: Global,
     left: &[u32],
     right: &[u32],
+    spares: &mut Spares<u32>,
 ) -> Result<Vec<u32>, OutOfMemory>
     requires equal { length left.now ≡ length right.now }
     requires left { All (λ n. n ≤ 458745) left.now }
     requires right { All (λ n. n ≤ 65535) right.now }
     ensures { IfOk result (λ sums. sums.items ≡ added left.now right.now) }
 {
-    let mut sums = Vec::with_capacity(alloc, left.len())?;
+    let mut sums = spares.block()?;
     for i in 0..left.len() {
         sums.push(left[i] + right[i]).map_err(|_| OutOfMemory)?;
     }
     Ok(sums)
 }
 
-/// The sums of two lists, number by number.
+/// The sums of two lists, number by number, in memory of the spares.
 pub fn sums(
-    alloc: Global,
     left: &Container<u32>,
     right: &Container<u32>,
+    spares: &mut Spares<u32>,
 ) -> Result<Container<u32>, OutOfMemory>
     requires equal { length left.now ≡ length right.now }
     requires left { All (λ n. n ≤ 458745) left.now }
     requires right { All (λ n. n ≤ 65535) right.now }
     ensures { IfOk result (λ sums. sums ≡ added left.now right.now) }
 {
-    let mut sums = Container::with_room(alloc, left.len())?;
+    let mut sums = spares.container(left.len())?;
     for b in 0..left.blocks() {
-        let block = block_sums(alloc, left.block(b), right.block(b))?;
+        let block = block_sums(left.block(b), right.block(b), spares)?;
         sums.push_block(block)?;
     }
     Ok(sums)

@@ -1,9 +1,7 @@
 //! The pool of one thread.
 
 use crate::finish::finish_pass;
-use job_trait::{Job, PassDone, PassOf, Pool, PoolFault};
-use std::alloc::Global;
-use std::sync::Arc;
+use job_trait::{Job, PassDone, PassOf, PassRoom, Pool, PoolFault};
 
 /// Runs one block after another on the caller's thread.
 #[derive(Drop)]
@@ -12,9 +10,9 @@ pub struct InOrder;
 impl<J: Job> Pool<J> for InOrder {
     fn run_pass(
         &mut self,
-        alloc: Global,
-        pass: &Arc<PassOf<J>, Global>,
+        pass: &PassOf<'_, J>,
+        room: &mut PassRoom<J::Element, J::Part>,
     ) -> Result<PassDone<J::Element, J::Part>, PoolFault> {
-        finish_pass(alloc, &**pass, Vec::new(alloc), &[])
+        finish_pass(pass, Vec::new(room.alloc()), &[], room)
     }
 }

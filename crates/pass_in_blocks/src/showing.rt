@@ -1,8 +1,7 @@
 //! What the new elements of a pass show.
-ghost use Rattle.std.specs.Prelude.{◌≡◌, ◌<◌, ◌≤◌, ℕ, List, ◌++◌, [], length, Ok, true, OnOk, IfOk};
-ghost use Rattle.std.specs.Prelude.{IfSome};
+ghost use Rattle.std.specs.Prelude.{◌≡◌, ◌<◌, ◌≤◌, ◌*◌, ℕ, List, ◌++◌, [], length, take, drop, Ok, true};
+ghost use Rattle.std.specs.Prelude.{OnOk, IfOk, IfSome, None};
 ghost use Rattle.std.specs.List.{All};
-ghost use Rattle.std.specs.Arc.{arc_value};
 ghost use Rattle.det_values.specs.declared.frames.DrawnElement.{DrawnElement};
 ghost use Rattle.det_values.specs.Spelling.{an_element, spelled_drawn, spelled_all, IsDrawn};
 ghost use Rattle.job_trait.specs.Cycle.{shown_with};
@@ -13,8 +12,8 @@ ghost use Rattle.pass_in_blocks.specs.Showing.{AreSpelled, AreBlocksOf, shown_in
 use crate::answers::BlockDone;
 use crate::draws::block_sums;
 use crate::spelled_blocks::SpelledBlocks;
-use det_values::{DrawnElements, OutOfMemory};
-use job_trait::{Job, PassOf};
+use det_values::{DrawnElements, OutOfMemory, Spares};
+use job_trait::{Job, PassOf, PassRoom};
 use std::alloc::Global;
 
 /// Appends an element with its draws.
@@ -57,10 +56,10 @@ fn put_block<J: Job>(
 
 /// Appends what a block that was run shows.
 pub(crate) fn put_done<J: Job>(
-    alloc: Global,
-    pass: &PassOf<J>,
+    pass: &PassOf<'_, J>,
     block: u32,
     done: &BlockDone<J::Element, J::Part>,
+    spares: &mut Spares<u32>,
     out: &mut Vec<u8>,
 ) -> Result<(), OutOfMemory>
     requires ready { IsReady J.meaning J.Covers J.Own J.Fit pass.now }
@@ -69,14 +68,29 @@ pub(crate) fn put_done<J: Job>(
     ensures { OnOk result (
         AreSpelled (shown_in J.meaning pass.now block) out.old.items out.new.items) }
 {
-    let job = &*pass.job;
     let elements = done.elements.as_slice();
+    let own = done.draws.as_slice();
+    let Some(earlier) = earlier_block(pass, block as usize) else {
+        return put_block(pass.job(), elements, own, out);
+    };
+    let sums = block_sums(earlier, own, spares)?;
+    put_block(pass.job(), elements, sums.as_slice(), out)?;
+    spares.keep_block(sums);
+    Ok(())
+}
+
+/// The words that the elements of a block drew in earlier passes, if there were any.
+fn earlier_block<'a, J: Job>(pass: &'a PassOf<'_, J>, block: usize) -> Option<&'a [u32]>
+    requires ready { IsReady J.meaning J.Covers J.Own J.Fit pass.now }
+    requires inside { block < blocks_in pass.now }
+    ensures none { result ≡ None → pass.now.earlier ≡ [] }
+    ensures some { IfSome result (λ draws. (draws.now ≡ take 64 (drop (64 * block) pass.now.earlier))
+        × (length pass.now.earlier ≡ length pass.now.elements)) }
+{
     if pass.earlier.is_empty() {
-        return put_block(job, elements, done.draws.as_slice(), out);
+        return None;
     }
-    let earlier = pass.earlier.block(block as usize);
-    let draws = block_sums(alloc, earlier, done.draws.as_slice())?;
-    put_block(job, elements, draws.as_slice(), out)
+    Some(pass.earlier.block(block))
 }
 
 /// The bytes of a block, if one of the workers spelled it.
@@ -95,11 +109,11 @@ fn spelled_by<'a>(workers: &'a [SpelledBlocks], block: usize) -> Option<&'a [u8]
 /// Appends what a block shows, where the pass shows its elements: the bytes that a worker spelled,
 /// or else they are spelled here and now.
 pub(crate) fn show_block<J: Job>(
-    alloc: Global,
-    pass: &PassOf<J>,
+    pass: &PassOf<'_, J>,
     block: u32,
     done: &BlockDone<J::Element, J::Part>,
     workers: &[SpelledBlocks],
+    spares: &mut Spares<u32>,
     out: &mut Vec<u8>,
 ) -> Result<(), OutOfMemory>
     requires ready { IsReady J.meaning J.Covers J.Own J.Fit pass.now }
@@ -109,30 +123,33 @@ pub(crate) fn show_block<J: Job>(
     ensures { OnOk result (pass.now.shows ≡ true →
         AreSpelled (shown_in J.meaning pass.now block) out.old.items out.new.items) }
 {
-    if !pass.shows {
+    if !pass.shows() {
         return Ok(());
     }
     match spelled_by(workers, block as usize) {
         Some(bytes) => Ok(out.extend_from_slice(bytes)?),
-        None => put_done(alloc, pass, block, done, out),
+        None => put_done(pass, block, done, spares, out),
     }
 }
 
 /// No bytes, with room for what a pass shows, where the new elements are as long as the first old
 /// one.
-pub(crate) fn room_for<J: Job>(alloc: Global, pass: &PassOf<J>) -> Result<Vec<u8>, OutOfMemory>
-    requires { All (J.Own (arc_value pass.now.job)) (arc_value pass.now.elements) }
+pub(crate) fn room_for<J: Job>(
+    pass: &PassOf<'_, J>,
+    room: &mut PassRoom<J::Element, J::Part>,
+) -> Result<Vec<u8>, OutOfMemory>
+    requires { All (J.Own pass.now.job) pass.now.elements }
     ensures { IfOk result (λ bytes. bytes.items ≡ []) }
 {
-    let mut bytes = Vec::new(alloc);
-    let count = pass.elements.len();
-    if !pass.shows || count == 0 {
-        return Ok(bytes);
+    let count = pass.count();
+    if !pass.shows() || count == 0 {
+        return Ok(Vec::new(room.alloc()));
     }
-    pass.job.put_element(pass.elements.item(0), &mut bytes)?;
-    let room = count * (2 + bytes.len() + 4);
+    let mut bytes = room.frame();
+    pass.job().put_element(pass.elements.item(0), &mut bytes)?;
+    let length = count * (2 + bytes.len() + 4);
     bytes.clear();
-    bytes.reserve(room)?;
+    bytes.reserve(length)?;
     Ok(bytes)
 }
 

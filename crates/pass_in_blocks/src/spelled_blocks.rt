@@ -7,7 +7,7 @@ ghost use Rattle.pass_in_blocks.specs.Showing.{AreSpelled, AreBlocksOf, shown_in
 
 use crate::answers::BlockDone;
 use crate::showing::put_done;
-use det_values::OutOfMemory;
+use det_values::{OutOfMemory, Spares};
 use job_trait::{Job, PassOf};
 use std::alloc::Global;
 
@@ -51,10 +51,10 @@ impl SpelledBlocks {
     /// Spells a block that was run, where there is a place for it.
     pub(crate) fn add<J: Job>(
         &mut self,
-        alloc: Global,
-        pass: &PassOf<J>,
+        pass: &PassOf<'_, J>,
         block: u32,
         done: &BlockDone<J::Element, J::Part>,
+        spares: &mut Spares<u32>,
     ) -> Result<(), OutOfMemory>
         requires ready { IsReady J.meaning J.Covers J.Own J.Fit pass.now }
         requires inside { block < blocks_in pass.now }
@@ -67,7 +67,7 @@ impl SpelledBlocks {
             return Ok(());
         }
         let from = self.bytes.len();
-        put_done(alloc, pass, block, done, &mut self.bytes)?;
+        put_done(pass, block, done, spares, &mut self.bytes)?;
         let to = self.bytes.len();
         self.spans[place] = Span { from, to };
         Ok(())

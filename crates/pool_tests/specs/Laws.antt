@@ -3,8 +3,8 @@ use Rattle.std.proofs.Common.{◌≡◌, ℕ, ◌≤◌, ◌%◌, List, [], ◌�
 use Rattle.std.proofs.Common.{true, false, cond, ltb, append_assoc, append-nil, length-append}
 use Rattle.std.proofs.Common.{subst}
 use Rattle.std.proofs.lemmas.List.Elements.{All-nil}
-use Rattle.job_trait.specs.declared.answers.Worked.{Worked}
 use Rattle.job_trait.specs.declared.answers.Concluded.{Concluded}
+use Rattle.job_trait.specs.Meaning.{Worked}
 use Rattle.job_trait.specs.Laws.{JobLaws}
 use Rattle.pool_tests.specs.declared.list_job.ListJob.{ListJob}
 use Rattle.pool_tests.specs.declared.list_job.NoGlobals.{NoGlobals}

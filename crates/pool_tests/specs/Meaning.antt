@@ -2,8 +2,7 @@
 use Rattle.std.specs.Prelude.{ℕ, ◌≤◌, ◌%◌, ◌==◌, cond, ltb, if◌then◌else◌, List, [], ◌∷◌, ◌++◌}
 use Rattle.std.specs.Prelude.{length, None, Result, Ok, Err}
 use Rattle.element_random.specs.Words.{word}
-use Rattle.job_trait.specs.declared.answers.Worked.{Worked}
-use Rattle.job_trait.specs.Meaning.{Meaning}
+use Rattle.job_trait.specs.Meaning.{Meaning, Worked}
 use Rattle.pool_tests.specs.declared.list_job.ListJob.{ListJob}
 use Rattle.pool_tests.specs.declared.list_job.NoGlobals.{NoGlobals}
 use Rattle.pool_tests.specs.declared.list_job.NoPlan.{NoPlan}

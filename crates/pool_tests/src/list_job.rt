@@ -10,7 +10,7 @@ use det_values::put::put_slice;
 use det_values::{Bytes, Container, Limited, OutOfMemory, Params};
 use element_random::ElementRandom;
 use event_cache::EventCache;
-use job_trait::{BadParam, Concluded, Job, JobFault, Started, Worked};
+use job_trait::{BadParam, Concluded, Job, JobFault, Started};
 use std::alloc::Global;
 use std::sync::Arc;
 
@@ -95,6 +95,7 @@ impl Job for ListJob {
         _elements: &Container<u8>,
         _cache: &EventCache,
         _client: &mut Client,
+        _spare: &mut Option<NoPlan>,
     ) -> Result<NoPlan, JobFault> {
         Ok(NoPlan)
     }
@@ -103,19 +104,20 @@ impl Job for ListJob {
         1
     }
 
-    fn unit(&self, alloc: Global) -> Met {
+    fn unit(&self, alloc: Global, _spare: &mut Option<Met>) -> Met {
         Met::new(alloc)
     }
 
     fn run(
         &self,
-        alloc: Global,
+        _alloc: Global,
         _plan: &NoPlan,
         _carry: &Met,
         _pass: u8,
         element: &u8,
         random: &mut ElementRandom,
-    ) -> Result<Worked<u8, Met>, JobFault> {
+        part: &mut Met,
+    ) -> Result<u8, JobFault> {
         let byte = *element;
         if let Some(watch) = &self.watch {
             watch.see(byte);
@@ -123,17 +125,12 @@ impl Job for ListJob {
         if u32::from(byte) >= self.limit {
             return Err(JobFault::Code(u32::from(byte)));
         }
-        let mut part = Met::new(alloc);
         part.push(byte)?;
-        Ok(Worked {
-            element: byte_after(byte, random),
-            part,
-        })
+        Ok(byte_after(byte, random))
     }
 
-    fn merge(&self, mut left: Met, right: Met) -> Result<Met, OutOfMemory> {
-        left.append(right)?;
-        Ok(left)
+    fn merge(&self, left: &mut Met, right: &mut Met) -> Result<(), OutOfMemory> {
+        left.extend_from_slice(right.as_slice())
     }
 
     fn put_element(&self, element: &u8, out: &mut Vec<u8>) -> Result<(), OutOfMemory> {
@@ -145,7 +142,8 @@ impl Job for ListJob {
         alloc: Global,
         _globals: &NoGlobals,
         _plan: &NoPlan,
-        _part: Met,
+        _part: &Met,
+        _spare: &mut Option<Bytes>,
     ) -> Result<Concluded<NoGlobals>, JobFault> {
         Ok(Concluded {
             globals: NoGlobals,

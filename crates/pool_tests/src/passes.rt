@@ -9,7 +9,7 @@ use crate::gates::{HoldGate, Wanted};
 use crate::list_job::{ListJob, Met, NoPlan};
 use crate::watch::Watch;
 use det_values::Container;
-use job_trait::{PassDone, PassOf, Pool, PoolFault};
+use job_trait::{PassDone, PassRoom, Pool, PoolFault};
 use pass_in_blocks::InOrder;
 use std::alloc::Global;
 use std::marker::Brand;
@@ -18,10 +18,10 @@ use std::sync::Arc;
 use std::sync::atomic::{AtomicBool, AtomicU64, Ordering};
 use std::thread::Threads;
 use tickets::Room;
-use worker_pool::{Crew, CrewRoom, NoGate, run_worker_pool};
+use worker_pool::{Crew, CrewRoom, HeldPass, NoGate, run_worker_pool};
 
 /// A pass of a list job.
-pub(crate) type ListPass = Arc<PassOf<ListJob>, Global>;
+pub(crate) type ListPass = HeldPass<ListJob>;
 
 /// What such a pass answers.
 pub(crate) type ListDone = Result<PassDone<u8, Met>, PoolFault>;
@@ -75,14 +75,14 @@ pub(crate) fn list_pass<R: Abort>(
     bytes: &[u8],
 ) -> ListPass
     requires { length bytes.now ≤ 65536 }
-    ensures { IsReady meaning Covers Own Fit (arc_value result) }
+    ensures { IsReady meaning Covers Own Fit result }
 {
     let job = ListJob {
         limit,
         watch,
         events: 0,
     };
-    let pass = PassOf {
+    HeldPass {
         job: shared(rt, alloc, job),
         plan: shared(rt, alloc, NoPlan),
         carry: shared(rt, alloc, Met::new(alloc)),
@@ -92,15 +92,15 @@ pub(crate) fn list_pass<R: Abort>(
         cycle: 1,
         earlier: shared(rt, alloc, Container::new(alloc)),
         shows: true,
-    };
-    shared(rt, alloc, pass)
+    }
 }
 
 /// Such a pass by one thread. Nothing watches it.
 pub(crate) fn alone<R: Abort>(rt: &R, alloc: Global, limit: u32, bytes: &[u8]) -> ListDone
     requires { length bytes.now ≤ 65536 }
 {
-    InOrder.run_pass(alloc, &list_pass(rt, alloc, limit, None, bytes))
+    let pass = list_pass(rt, alloc, limit, None, bytes);
+    InOrder.run_pass(&pass.pass(), &mut PassRoom::new(alloc))
 }
 
 /// Whether two passes ended alike. What they show holds each element with its draws.
@@ -140,11 +140,14 @@ pub(crate) fn is_alike<R: Threads + Abort>(
     pass: &ListPass,
     wanted: &ListDone,
 ) -> bool
-    requires { IsReady meaning Covers Own Fit (arc_value pass.now) }
+    requires { IsReady meaning Covers Own Fit pass.now }
 {
     let gate = shared(rt, alloc, NoGate);
     for workers in [1, 2, 3, 8, 64] {
-        if !is_same(&run_worker_pool(rt, alloc, pass, workers, &gate), wanted) {
+        if !is_same(
+            &run_worker_pool(rt, alloc, &pass.pass(), workers, &gate),
+            wanted,
+        ) {
             return false;
         }
     }
@@ -181,12 +184,13 @@ pub(crate) fn watched_pass<R: Abort>(
     bytes: &[u8],
 ) -> ListPass
     requires { length bytes.now ≤ 65536 }
-    ensures { IsReady meaning Covers Own Fit (arc_value result) }
+    ensures { IsReady meaning Covers Own Fit result }
 {
     list_pass(rt, alloc, 65536, Some(again(rt, &gate.watch)), bytes)
 }
 
-/// Two passes by a crew of two workers in this room. Between them the held element is let go.
+/// Two passes by a crew of two workers in this room. Between them the held element is let go. The
+/// second one runs in memory of the first.
 fn twice_in_room<B: Room + Send + Sync + 'static, R: Threads + Abort>(
     rt: &R,
     alloc: Global,
@@ -196,14 +200,15 @@ fn twice_in_room<B: Room + Send + Sync + 'static, R: Threads + Abort>(
     gate: &Arc<HoldGate, Global>,
 ) -> (ListDone, ListDone)
     requires room { room_name room ≡ B.table }
-    requires first { IsReady meaning Covers Own Fit (arc_value first.now) }
-    requires second { IsReady meaning Covers Own Fit (arc_value second.now) }
+    requires first { IsReady meaning Covers Own Fit first.now }
+    requires second { IsReady meaning Covers Own Fit second.now }
 {
     let crew = Crew::<ListJob, B, HoldGate>::start(rt, alloc, room, 2, gate);
     let mut crew = crew.expect(rt, "out of memory");
-    let before = crew.run_pass(alloc, first);
+    let mut spares = PassRoom::new(alloc);
+    let before = crew.run_pass(&first.pass(), &mut spares);
     gate.watch.let_go.store(true, Ordering::SeqCst);
-    let after = crew.run_pass(alloc, second);
+    let after = crew.run_pass(&second.pass(), &mut spares);
     crew.stop(rt);
     (before, after)
 }
@@ -216,8 +221,8 @@ pub(crate) fn twice<R: Threads + Abort>(
     second: &ListPass,
     gate: &Arc<HoldGate, Global>,
 ) -> (ListDone, ListDone)
-    requires first { IsReady meaning Covers Own Fit (arc_value first.now) }
-    requires second { IsReady meaning Covers Own Fit (arc_value second.now) }
+    requires first { IsReady meaning Covers Own Fit first.now }
+    requires second { IsReady meaning Covers Own Fit second.now }
 {
     let room = CrewRoom::new(alloc).expect(rt, "out of memory");
     twice_in_room::<Brand, R>(rt, alloc, room, first, second, gate)

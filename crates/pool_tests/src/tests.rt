@@ -25,7 +25,7 @@ const ROWS: [(usize, u32); 9] = [
 fn workers_meet(rt: HostRuntime) {
     let gate = shared(&rt, rt.alloc(), MeetGate::new());
     let pass = list_pass(&rt, rt.alloc(), 65536, None, &[3; 128]);
-    let done = run_worker_pool(&rt, rt.alloc(), &pass, 2, &gate);
+    let done = run_worker_pool(&rt, rt.alloc(), &pass.pass(), 2, &gate);
     assert!(rt; gate.met() && ended_as_alone(&rt, rt.alloc(), done, &[3; 128]));
 }
 
@@ -55,7 +55,7 @@ fn every_number_of_workers_answers_alike(rt: HostRuntime) {
 fn blocks_are_claimed(rt: HostRuntime) {
     let gate = gate_of(&rt, rt.alloc(), 1, Wanted::Runs(128));
     let pass = watched_pass(&rt, rt.alloc(), &gate, &[3; 128]);
-    let done = run_worker_pool(&rt, rt.alloc(), &pass, 2, &gate);
+    let done = run_worker_pool(&rt, rt.alloc(), &pass.pass(), 2, &gate);
     assert!(rt; gate.came.load(Ordering::SeqCst) && gate.watch.runs.load(Ordering::SeqCst) == 128);
     assert!(rt; ended_as_alone(&rt, rt.alloc(), done, &[3; 128]));
 }
@@ -66,7 +66,7 @@ fn blocks_are_claimed(rt: HostRuntime) {
 fn a_block_of_a_kept_thread_is_run_once(rt: HostRuntime) {
     let gate = gate_of(&rt, rt.alloc(), 0, Wanted::Rest(128));
     let pass = watched_pass(&rt, rt.alloc(), &gate, &[3; 128]);
-    let done = run_worker_pool(&rt, rt.alloc(), &pass, 2, &gate);
+    let done = run_worker_pool(&rt, rt.alloc(), &pass.pass(), 2, &gate);
     assert!(rt; gate.came.load(Ordering::SeqCst) && gate.watch.runs.load(Ordering::SeqCst) == 128);
     assert!(rt; ended_as_alone(&rt, rt.alloc(), done, &[3; 128]));
 }

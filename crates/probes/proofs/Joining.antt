@@ -6,12 +6,12 @@ use Rattle.std.proofs.lemmas.List.{take_all, take_at, drop_at, length-take}
 use Rattle.std.proofs.Math.Seq.{drop-cons}
 use Rattle.std.proofs.Math.ListN.{get_or-map, length-map}
 use Rattle.std.proofs.lemmas.Bool.Decides.{nat_tests}
-use Rattle.std.specs.List.{remove}
+use Rattle.std.specs.List.{remove, flat_map}
 use Rattle.std.specs.Prelude.{Option, Some, None, Bool, true, false, if◌then◌else◌}
 use Rattle.std.specs.Option.{option_map}
 use Rattle.det_values.specs.declared.frames.RunFrame.{RunFrame}
 use Rattle.probes.specs.declared.probe.Wish.TheVariants.{Stay, Leave}
-use Rattle.probes.specs.Reports.{ProbeLife, leaves, Sees, Report, told_after, bytes_at, bytes_last, leaving, staying, in_turn, joined}
+use Rattle.probes.specs.Reports.{ProbeLife, leaves, Sees, Report, told_after, bytes_at, bytes_last, in_turn, joined}
 use Rattle.probes.specs.Reports.{reports}
 use Rattle.probes.proofs.Partly.{later, partly}
 
@@ -19,14 +19,19 @@ map-append : {A B : Type 0} (f : A → B) (xs ys : List A) → map f (xs ++ ys) 
 map-append f [] ys = refl
 map-append f (x ∷ xs) ys = ap (λ rest. f x ∷ rest) (map-append f xs ys)
 
+-- the reports of those that leave after k runs and the next one, and of those that stay
+abbrev leaving : ℕ → List Report → List ℕ
+leaving k rs = flat_map (bytes_at k) rs
+
+abbrev staying : List Report → List ℕ
+staying rs = flat_map bytes_last rs
+
 leaving-append : (k : ℕ) (xs ys : List Report) → leaving k (xs ++ ys) ≡ leaving k xs ++ leaving k ys
-unfolding leaving
 leaving-append k [] ys = refl
 leaving-append k (x ∷ xs) ys = ap (λ rest. bytes_at k x ++ rest) (leaving-append k xs ys)
     ∙ sym (append_assoc (bytes_at k x) (leaving k xs) (leaving k ys))
 
 staying-append : (xs ys : List Report) → staying (xs ++ ys) ≡ staying xs ++ staying ys
-unfolding staying
 staying-append [] ys = refl
 staying-append (x ∷ xs) ys = ap (λ rest. bytes_last x ++ rest) (staying-append xs ys)
     ∙ sym (append_assoc (bytes_last x) (staying xs) (staying ys))
@@ -59,18 +64,15 @@ later-last bytes (Some n) = refl
 later-last bytes None = refl
 
 later_never : (rs : List Report) → leaving 0 (map later rs) ≡ []
-unfolding leaving
 later_never [] = refl
 later_never (r ∷ rs) = ap (λ xs. xs ++ leaving 0 (map later rs)) (later-first r.bytes r.before) ∙ later_never rs
 
 later_leaving : (k : ℕ) (rs : List Report) → leaving (k + 1) (map later rs) ≡ leaving k rs
-unfolding leaving
 later_leaving k [] = refl
 later_leaving k (r ∷ rs) = ap (λ xs. xs ++ leaving (k + 1) (map later rs)) (later-at k r.bytes r.before)
     ∙ ap (λ xs. bytes_at k r ++ xs) (later_leaving k rs)
 
 later_staying : (rs : List Report) → staying (map later rs) ≡ staying rs
-unfolding staying
 later_staying [] = refl
 later_staying (r ∷ rs) = ap (λ xs. xs ++ staying (map later rs)) (later-last r.bytes r.before)
     ∙ ap (λ xs. bytes_last r ++ xs) (later_staying rs)
@@ -83,7 +85,7 @@ later_in_turn k (run ∷ runs) rs = rw (later_leaving k rs, later_in_turn (k + 1
 -- no report of one that is gone comes later
 gone_in_turn : (k : ℕ) (runs : List RunFrame) (xs ys : List Report) (bytes : List ℕ)
     → in_turn (k + 1) runs (xs ++ gone bytes ∷ ys) ≡ in_turn (k + 1) runs (xs ++ ys)
-unfolding in_turn leaving gone
+unfolding in_turn gone
 gone_in_turn k [] xs ys bytes = refl
 gone_in_turn k (run ∷ runs) xs ys bytes =
     let here : leaving (k + 1) (xs ++ gone bytes ∷ ys) ≡ leaving (k + 1) (xs ++ ys) =
@@ -95,7 +97,7 @@ gone_in_turn k (run ∷ runs) xs ys bytes =
 
 gone_joined : (run : RunFrame) (runs : List RunFrame) (xs ys : List Report) (bytes : List ℕ)
     → joined (run ∷ runs) (map later xs ++ gone bytes ∷ ys) ≡ bytes ++ joined (run ∷ runs) (map later xs ++ ys)
-unfolding in_turn leaving staying gone
+unfolding in_turn gone
 gone_joined run runs xs ys bytes =
     let first : leaving 0 (map later xs ++ gone bytes ∷ ys) ≡ bytes ++ leaving 0 (map later xs ++ ys) =
     leaving-append 0 (map later xs) (gone bytes ∷ ys)
@@ -230,7 +232,7 @@ last-stays p h = last-by (p.report_after []) (p.runs_before []) (never_before (p
 pub one-more-staying : {X : Type 0} (f : X → ProbeLife) (items : List X) (i : ℕ) (d : X) → i < length items
     → leaves (f (get_or items i d)) [] ≡ None
     → reports (map f (take (i + 1) items)) [] ≡ reports (map f (take i items)) [] ++ (f (get_or items i d)).report_after []
-unfolding reports in_turn staying
+unfolding reports in_turn
 one-more-staying f items i d lt here =
     ap (λ xs. staying (map (told_after []) xs)) (ap (map f) (take_more items i d lt) ∙ map-append f (take i items) (get_or items i d ∷ []))
     ∙ ap staying (map-append (told_after []) (map f (take i items)) (f (get_or items i d) ∷ []))

@@ -1,6 +1,6 @@
 -- What probes report, and in which order.
 use Rattle.std.specs.Prelude.{◌≡◌, ℕ, ◌+◌, List, [], ◌∷◌, ◌++◌, map, nat_eq, Option, Some, None}
-use Rattle.std.specs.Prelude.{if◌then◌else◌}
+use Rattle.std.specs.Prelude.{if◌then◌else◌, flat_map}
 use Rattle.std.specs.Option.{option_map}
 use Rattle.det_values.specs.declared.frames.RunFrame.{RunFrame}
 use Rattle.probes.specs.declared.probe.Wish.{Wish}
@@ -41,23 +41,15 @@ bytes_at k r = elim r.before [ Some n ↦ (if nat_eq n k then r.bytes else []) |
 abbrev pub bytes_last : Report → List ℕ
 bytes_last r = elim r.before [ Some n ↦ [] | None ↦ r.bytes ]
 
--- the reports of those that leave after k runs and the next one, in the order of the list
-unfoldable pub leaving : ℕ → List Report → List ℕ
-leaving k [] = []
-leaving k (r ∷ rs) = bytes_at k r ++ leaving k rs
-
--- the reports of those that stay
-unfoldable pub staying : List Report → List ℕ
-staying [] = []
-staying (r ∷ rs) = bytes_last r ++ staying rs
-
--- the reports of those that leave at these runs, run by run, where k runs stand before them
+-- the reports of those that leave at these runs, run by run and in the order of the list, where k
+-- runs stand before them
 unfoldable pub in_turn : ℕ → List RunFrame → List Report → List ℕ
 in_turn k [] rs = []
-in_turn k (run ∷ runs) rs = leaving k rs ++ in_turn (k + 1) runs rs
+in_turn k (run ∷ runs) rs = flat_map (bytes_at k) rs ++ in_turn (k + 1) runs rs
 
+-- and then the reports of those that stay
 abbrev pub joined : List RunFrame → List Report → List ℕ
-joined runs rs = in_turn 0 runs rs ++ staying rs
+joined runs rs = in_turn 0 runs rs ++ flat_map bytes_last rs
 
 -- all that probes report of these runs
 unfoldable pub reports : List ProbeLife → List RunFrame → List ℕ

@@ -21,7 +21,7 @@ use Rattle.item_reader.specs.StandsFor.{FoundFault, IsFaulty}
 use Rattle.item_reader.proofs.Needed.{while-weaker}
 use Rattle.record_reader.specs.Taking.{AreAll, RecordRead, ItemsRead}
 use Rattle.record_reader.proofs.Taking.{behind, over, told, of-slot}
-use Rattle.probes.specs.Reports.{ProbeLife, AudienceState, reported, reports, in_turn, staying}
+use Rattle.probes.specs.Reports.{ProbeLife, AudienceState, reported, reports, in_turn}
 use Rattle.probes.specs.Shows.{Shows, SawRuns}
 use Rattle.probes.proofs.Shown.{all-reports}
 use Rattle.record_show.specs.declared.shown.Shown.{Shown}
@@ -60,7 +60,7 @@ text_first part audience bytes given first =
 -- ---- the audience
 
 none_more : reports [] [] ≡ []
-unfolding reports in_turn staying
+unfolding reports in_turn
 none_more = refl
 
 reported_all : (part : ShowPart) (first mid : AudienceState) (runs : List RunFrame) → Watched part first mid runs → reports_of part mid []

@@ -1,16 +1,16 @@
 -- An audience of which no probe is left has seen all runs.
 use Rattle.std.proofs.Common.{◌≡◌, ℕ, ◌+◌, List, [], ◌∷◌, ◌++◌, length, refl, sym, ap, ◌∙◌, arith}
 use Rattle.det_values.specs.declared.frames.RunFrame.{RunFrame}
-use Rattle.probes.specs.Reports.{ProbeLife, AudienceState, reports, reported, in_turn, leaving, staying}
+use Rattle.probes.specs.Reports.{ProbeLife, AudienceState, reports, reported, in_turn}
 use Rattle.probes.specs.Shows.{Shows}
 
 nothing_in_turn : (k : ℕ) (runs : List RunFrame) → in_turn k runs [] ≡ []
-unfolding in_turn leaving
+unfolding in_turn
 nothing_in_turn k [] = refl
 nothing_in_turn k (run ∷ runs) = nothing_in_turn (k + 1) runs
 
 no_reports : (runs : List RunFrame) → reports [] runs ≡ []
-unfolding reports staying
+unfolding reports
 no_reports runs = ap (λ (xs : List ℕ). xs ++ []) (nothing_in_turn 0 runs)
 
 none_left : (probes : List ProbeLife) → length probes ≡ 0 → probes ≡ []

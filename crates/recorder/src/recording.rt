@@ -42,6 +42,8 @@ pub fn record_run<J: Job, P: Pool<J>, S: Slots, K: Sink>(
     'cycles: while let Some(input) = stimulus.next_input(shelf)? {
         let run = recording.cycle(pool, input, sink)?;
         audience.show(recording.alloc(), &run)?;
+        let input = recording.take_back(run);
+        stimulus.take_back(input);
     }
     let counts = recording.close(sink)?;
     Ok(counts)

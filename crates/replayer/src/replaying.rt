@@ -9,7 +9,7 @@ ghost use Rattle.replayer.specs.Replayed.{IsReplayed};
 
 use crate::inputs::next_input;
 use det_edges::{Sink, Slots, Stopped};
-use det_values::{CycleInput, Limited, RunFrame};
+use det_values::{CycleInput, Limited};
 use job_trait::{Job, Pool};
 use record_grammar::RecordFault;
 use record_reader::FrameReader;
@@ -45,7 +45,8 @@ pub fn replay_run<J: Job, P: Pool<J>, S: Slots, K: Sink>(
     recording.open(sink)?;
     let mut spare = empty_input(recording.alloc());
     'cycles: while let Some(input) = next_input(frames, shelf, spare)? {
-        spare = input_of(recording.cycle(pool, input, sink)?);
+        let run = recording.cycle(pool, input, sink)?;
+        spare = recording.take_back(run);
     }
     let counts = recording.close(sink)?;
     Ok(counts)
@@ -57,10 +58,4 @@ pub fn empty_input(alloc: Global) -> CycleInput {
         time: None,
         samples: Limited::new(alloc),
     }
-}
-
-/// The input of a run, for its memory.
-fn input_of(run: RunFrame) -> CycleInput {
-    let RunFrame { input, .. } = run;
-    input
 }

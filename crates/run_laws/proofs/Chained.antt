@@ -26,7 +26,7 @@ use Rattle.stimulus.specs.Reading.{blocks, ending}
 use Rattle.stimulus.proofs.Counting.{few_blocks}
 use Rattle.recorder.specs.Record.{is_terminated}
 use Rattle.chain.specs.Derived.{derived, derived_input}
-use Rattle.cmd_setup.specs.Setup.{manifest_by}
+use Rattle.manifest.specs.Meaning.{manifest_of}
 use Rattle.cmd_chain.specs.Chain.{Client, client_of, chained, chained_by_kinds, chained_by}
 use Rattle.cli_answers.specs.Outcome.{Outcome}
 use Rattle.run_laws.specs.Statements.{IsRunRead, frames_by_kind}
@@ -119,7 +119,7 @@ chain_is_read_by first second stimulus header of =
 pub chain_is_read : ChainIsRead
 chain_is_read strict first second stimulus seed m n small judged other =
     let number : ℕ = unwrap_or seed 0 in
-    let taken = is_taken (manifest_by strict second) n other in
+    let taken = is_taken (manifest_of strict second) n other in
     subst (λ (o : Outcome). IsChainRead (client_of number m) (client_of number n) stimulus o.bytes)
     (sym (λ i. chained_by number stimulus (judged i) (other i)))
     (chain_is_read_by (client_of number m) (client_of number n) stimulus (is_header strict second n number small other)

@@ -14,7 +14,7 @@ use Rattle.cycle_engine.specs.Frames.{frames}
 use Rattle.stimulus.specs.Reading.{blocks, ending}
 use Rattle.recorder.specs.Record.{is_terminated}
 use Rattle.manifest.specs.Profiles.{profile_of}
-use Rattle.cmd_setup.specs.Setup.{manifest_by}
+use Rattle.manifest.specs.Meaning.{manifest_of}
 use Rattle.cmd_record.specs.Outcomes.{demo_profile, demo_outcome, record_outcome}
 use Rattle.probes.specs.Reports.{AudienceState, reported}
 use Rattle.record_text.specs.Words.{number_line}
@@ -73,7 +73,7 @@ kind_is_checked kind profile of given ended bytes h audience =
 
 pub record_is_checked : RecordIsChecked
 record_is_checked strict manifest stimulus seed m small set =
-    let taken = is_taken (manifest_by strict manifest) m set in
+    let taken = is_taken (manifest_of strict manifest) m set in
     let profile : ProfileValue = profile_of m (unwrap_or seed 0) in
     let bytes : List ℕ = (record_outcome strict manifest stimulus seed).bytes in
     kind_is_checked m.kind profile (record { number = refl; good = taken.good }) (blocks (length profile.events) stimulus)

@@ -3,7 +3,7 @@ use Rattle.std.proofs.Common.{◌≡◌, ◌<◌, ◌^◌, ℕ, Bool, ℤ, pos, 
 use Rattle.std.proofs.Common.{refl, sym, ap, subst, arith, codes}
 use Rattle.std.specs.Prelude.{FitsSigned}
 use Rattle.std.specs.Int.{w64}
-use Rattle.std.specs.Option.{unwrap_or}
+use Rattle.std.specs.Option.{unwrap_or, option_map_or}
 use Rattle.std.specs.List.{All}
 use Rattle.std.proofs.lemmas.Int.{ints}
 use Rattle.std.proofs.lemmas.List.Elements.{All-nil, All-cons}
@@ -24,11 +24,12 @@ use Rattle.job_guard.specs.Laws.{guard_laws}
 use Rattle.record_grammar.specs.Spelling.{IsHeader, IsEvent}
 use Rattle.manifest.specs.Values.{ManifestValue}
 use Rattle.manifest.specs.Profiles.{profile_of}
+use Rattle.manifest.specs.Meaning.{manifest_of}
 use Rattle.manifest.specs.declared.fault.ManifestFault.{ManifestFault}
 use Rattle.cli_answers.specs.declared.answer.BadManifest.{BadManifest}
+use Rattle.cli_answers.specs.declared.answer.BadManifest.TheVariants.{Parameter}
 use Rattle.shipped_jobs.specs.Kinds.{bad_param}
-use Rattle.cmd_setup.specs.Setup.{unless_bad, setup_from, setup_of, manifest_by}
-use Rattle.run_laws.proofs.Strictly.{taken_too}
+use Rattle.cmd_setup.specs.Setup.{setup_from, setup_of}
 use Rattle.cmd_record.specs.Outcomes.{demo_profile, demo_outcome, recorded_by_kind, recorded_by}
 use Rattle.run_laws.specs.Statements.{frames_by_kind, IsRecordRead, RecordIsRead, DemoIsRead}
 use Rattle.run_laws.proofs.Shipped.{bank_spelled, cloud_spelled, guard_spelled}
@@ -56,8 +57,8 @@ pub record IsTaken (read : Result ManifestValue ManifestFault) (m : ManifestValu
   pub said : read ≡ Ok m
   pub good : bad_param m.kind m.params (length m.events) ≡ None
 
-unless_taken : (bad : Option ℕ) (n m : ManifestValue) → bad_param n.kind n.params (length n.events) ≡ bad → unless_bad bad n ≡ Ok m
-    → IsTaken (Ok n) m
+unless_taken : (bad : Option ℕ) (n m : ManifestValue) → bad_param n.kind n.params (length n.events) ≡ bad
+    → ◌≡◌ {A = Result ManifestValue BadManifest} (option_map_or (λ i. Err (Parameter i)) bad (Ok n)) (Ok m) → IsTaken (Ok n) m
 unless_taken (Some index) n m is e = absurd cc
 unless_taken None n m is e = let same : n ≡ m = cc in
     record { said = ap Ok same; good = subst (λ (x : ManifestValue). bad_param x.kind x.params (length x.events) ≡ None) same is }
@@ -70,8 +71,8 @@ is_taken (Ok n) m e = unless_taken (bad_param n.kind n.params (length n.events))
 pub is_header : (strict : Bool) (manifest : List ℕ) (m : ManifestValue) (seed : ℕ) → seed < 2 ^ 64 → setup_of strict manifest ≡ Ok m
     → IsHeader (profile_of m seed)
 is_header strict manifest m seed small set =
-    let taken = is_taken (manifest_by strict manifest) m set in
-    header_is manifest m seed small (taken_too strict manifest m taken.said) (params_fit m.kind m.params (length m.events) taken.good)
+    let taken = is_taken (manifest_of strict manifest) m set in
+    header_is strict manifest m seed small taken.said (params_fit m.kind m.params (length m.events) taken.good)
 
 pub record_read : RecordIsRead
 record_read strict manifest stimulus seed m small set =

@@ -6,7 +6,7 @@ use Rattle.det_values.specs.declared.job_kind.JobKind.TheVariants.{Bank}
 use Rattle.manifest.specs.Values.{ManifestValue}
 use Rattle.manifest.specs.Profiles.{profile_of}
 use Rattle.cli_answers.specs.declared.answer.BadManifest.{BadManifest}
-use Rattle.cmd_setup.specs.Setup.{manifest_by}
+use Rattle.manifest.specs.Meaning.{manifest_of}
 use Rattle.cmd_record.specs.Outcomes.{demo_profile, demo_outcome, recorded_by}
 use Rattle.run_laws.specs.Statements.{frames_by_kind, IsRecordRead, IsRecordReplayed, RecordIsReplayed, DemoIsReplayed}
 use Rattle.run_laws.proofs.Commands.{is_taken, record_read, demo_read}
@@ -14,7 +14,7 @@ use Rattle.run_laws.proofs.Replayed.{kind_is_replayed}
 
 pub record_is_replayed : RecordIsReplayed
 record_is_replayed strict manifest stimulus seed m small set =
-    let taken = is_taken (manifest_by strict manifest) m set in
+    let taken = is_taken (manifest_of strict manifest) m set in
     let profile : ProfileValue = profile_of m (unwrap_or seed 0) in
     let Reads : Result ManifestValue BadManifest → Type 0 =
     λ r. IsRecordRead profile (frames_by_kind m.kind profile) stimulus (recorded_by (unwrap_or seed 0) stimulus r).bytes in

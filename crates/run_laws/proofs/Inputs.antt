@@ -11,7 +11,7 @@ use Rattle.stimulus.specs.declared.line.Line.TheVariants as lines
 use Rattle.stimulus.specs.Good.{blocks_in, without_last, ends}
 use Rattle.stimulus.specs.Limits.{IsLine}
 use Rattle.stimulus.specs.Lines.{line_of}
-use Rattle.stimulus.specs.Reading.{blocks, head}
+use Rattle.stimulus.specs.Reading.{blocks, good_lines}
 use Rattle.stimulus.proofs.Within.{IfLine, line_within}
 use Rattle.stimulus.proofs.Growing.{blocks_within}
 use Rattle.stimulus.proofs.Heads.{is_head}
@@ -58,7 +58,7 @@ without_timed false (input ∷ next ∷ inputs) h =
 all_timed : (events : ℕ) (text : List ℕ) → AreTimed (blocks events text)
 all_timed events text =
     let h = is_head events text in
-    let all = blocks_timed events h.says (says_within events (head events text) h.says h.good.spelled) in
+    let all = blocks_timed events h.says (says_within events (good_lines events text) h.says h.good.spelled) in
     All-same IsTimed (blocks events text) (without_last (nat_lt 0 (ends h.says)) (blocks_in h.says).inputs) h.blocks
     (without_timed (nat_lt 0 (ends h.says)) (blocks_in h.says).inputs all)
 

@@ -10,15 +10,16 @@ use Rattle.det_values.specs.Limits.{IsCycleTime, is_event_name}
 use Rattle.toml.specs.Data.{Data, string, integer, float, boolean, datetime, array, table}
 use Rattle.record_grammar.specs.Spelling.{IsEvent}
 use Rattle.manifest.specs.Tree.{count_of, number_of, text_of, length_of_items}
-use Rattle.manifest.specs.Keys.{text, whole, array_up_to, found, event_keys, params_keys, events_keys, last_keys, keys}
+use Rattle.manifest.specs.Keys.{text, whole, array_up_to, found, keys}
+use Rattle.manifest.specs.Groups.{params_keys, events_keys, last_keys}
 use Rattle.manifest.specs.Faults.{unless, value_fault, fault_by, fault_at, first_fault}
-use Rattle.manifest.specs.Meaning.{params_from, params_of, event_at, events_from, events_of}
+use Rattle.manifest.specs.Meaning.{params_of, event_at, events_of}
 use Rattle.manifest.specs.declared.key.Key.{Key}
 use Rattle.manifest.specs.declared.key.Key.TheVariants.{Job, CycleTime, Workers, Params, Event, EventItem, EventName, EventCapacity}
 use Rattle.manifest.specs.declared.key.Key.TheVariants.{EventPolicy}
 use Rattle.manifest.specs.declared.fault.ManifestFault.{ManifestFault}
 use Rattle.manifest.specs.declared.fault.ManifestFault.TheVariants.{OutOfRange}
-use Rattle.manifest.proofs.Steps.{first_append}
+use Rattle.manifest.proofs.Steps.{first_append, keys_of_events, params_from, events_from}
 
 -- ---- one key
 
@@ -96,13 +97,13 @@ module _ (tree : Data) where
   length-events i zero = refl
   length-events i (suc n) = ap suc (length-events (i + 1) n)
 
-  events_in : (i n : ℕ) → first_fault tree (event_keys i n) ≡ None → All IsEvent (events_from tree i n)
+  events_in : (i n : ℕ) → first_fault tree (keys_of_events i n) ≡ None → All IsEvent (events_from tree i n)
   events_in i zero e = All-nil IsEvent
   events_in i (suc n) e =
-      let a = one (EventItem i) (EventName i ∷ EventCapacity i ∷ EventPolicy i ∷ event_keys (i + 1) n) e in
-      let b = one (EventName i) (EventCapacity i ∷ EventPolicy i ∷ event_keys (i + 1) n) a.1 in
-      let c = one (EventCapacity i) (EventPolicy i ∷ event_keys (i + 1) n) b.1 in
-      let d = one (EventPolicy i) (event_keys (i + 1) n) c.1 in
+      let a = one (EventItem i) (EventName i ∷ EventCapacity i ∷ EventPolicy i ∷ keys_of_events (i + 1) n) e in
+      let b = one (EventName i) (EventCapacity i ∷ EventPolicy i ∷ keys_of_events (i + 1) n) a.1 in
+      let c = one (EventCapacity i) (EventPolicy i ∷ keys_of_events (i + 1) n) b.1 in
+      let d = one (EventPolicy i) (keys_of_events (i + 1) n) c.1 in
       All-cons IsEvent (event_at tree i) (events_from tree (i + 1) n) (
         whole_in (EventCapacity i) 1 1024 (found tree (EventCapacity i)) c.0,
         text_in (EventName i) is_event_name (found tree (EventName i)) b.0,

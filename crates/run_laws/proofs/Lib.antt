@@ -8,7 +8,6 @@ mod Inputs
 mod Keys
 mod Parameters
 mod Headers
-mod Strictly
 mod Unended
 mod Reading
 mod Commands

@@ -4,8 +4,7 @@ use Rattle.std.proofs.Common.{length-append}
 use Rattle.std.specs.List.{All}
 use Rattle.std.proofs.lemmas.List.Elements.{All-nil, All-head, All-tail, All-push}
 use Rattle.element_random.specs.Words.{key}
-use Rattle.job_trait.specs.declared.answers.Worked.{Worked}
-use Rattle.job_trait.specs.Meaning.{Meaning}
+use Rattle.job_trait.specs.Meaning.{Meaning, Worked}
 use Rattle.job_trait.specs.Laws.{JobLaws, CoversSome}
 use Rattle.job_trait.specs.Pass.{Passed, Refusal, nothing, more, taken, passed}
 use Rattle.run_laws.proofs.SpelledJob.{IsSpelledJob}

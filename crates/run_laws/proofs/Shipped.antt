@@ -1,11 +1,12 @@
 -- Numbers are spelled in bytes, and what the shipped jobs show can be spelled.
 use Rattle.std.proofs.Common.{◌≡◌, ℕ, ℤ, zero, suc, pos, ◌+◌, ◌^◌, ◌<◌, List, [], ◌∷◌, ◌++◌, length, Bool, true, false, cond, Option, Some}
 use Rattle.std.proofs.Common.{None, Result, Ok, Err, subst, arith}
-use Rattle.std.specs.Prelude.{nat_le, nat_lt}
+use Rattle.std.specs.Prelude.{nat_le, nat_lt, unwrap_or}
+use Rattle.std.specs.List.{flat_map}
 use Rattle.std.specs.Int.{w16, w32, w64, bytes_high_first, byte_at, byte_len, cast_unsigned}
 use Rattle.std.proofs.lemmas.List.Elements.{All-nil, All-cons, All-append}
-use Rattle.job_trait.specs.declared.answers.Worked.{Worked}
 use Rattle.job_trait.specs.declared.answers.Concluded.{Concluded}
+use Rattle.job_trait.specs.Meaning.{Worked}
 use Rattle.record_grammar.specs.Spelling.{AreBytes}
 use Rattle.job_shared.specs.Samples.{newest}
 use Rattle.job_shared.specs.Bytes.{u16_bytes, u32_bytes, u64_bytes, i64_bytes}
@@ -80,7 +81,7 @@ bank_summary s =
     (both (i64_bytes s.least) (i64_bytes s.greatest) (signed_bytes s.least) (signed_bytes s.greatest))
 
 bank_output : (part : Option Summary) → AreBytes (bank.output part)
-bank_output part = bank_summary (bank.summary part)
+bank_output part = bank_summary (unwrap_or part (bank.summary_of (pos 0)))
 
 pub bank_spelled : IsSpelledJob bank.meaning
 bank_spelled = record {
@@ -126,9 +127,9 @@ guard_shown e =
     both (u32_bytes e.number) (i64_bytes e.held ++ u16_bytes e.streak) (four_bytes e.number)
     (both (i64_bytes e.held) (u16_bytes e.streak) (signed_bytes e.held) (two_bytes e.streak))
 
-number_bytes : (ns : List ℕ) → AreBytes (guard.number_bytes ns)
+number_bytes : (ns : List ℕ) → AreBytes (flat_map u32_bytes ns)
 number_bytes [] = All-nil (λ b. b < 256)
-number_bytes (n ∷ ns) = both (u32_bytes n) (guard.number_bytes ns) (four_bytes n) (number_bytes ns)
+number_bytes (n ∷ ns) = both (u32_bytes n) (flat_map u32_bytes ns) (four_bytes n) (number_bytes ns)
 
 next_bytes : (next : Option ℕ) → AreBytes (guard.next_bytes next)
 next_bytes None = All-cons (λ b. b < 256) 0 [] (omega arith) (All-nil (λ b. b < 256))
@@ -136,9 +137,9 @@ next_bytes (Some time) = All-cons (λ b. b < 256) 1 (u64_bytes time) (omega arit
 
 guard_output : (total : ℕ) (part : List ℕ) (next : Option ℕ) → AreBytes (guard.output total part next)
 guard_output total part next =
-    both (u64_bytes total) (u32_bytes (length part) ++ (guard.number_bytes part ++ guard.next_bytes next)) (eight_bytes total)
-    (both (u32_bytes (length part)) (guard.number_bytes part ++ guard.next_bytes next) (four_bytes (length part))
-    (both (guard.number_bytes part) (guard.next_bytes next) (number_bytes part) (next_bytes next)))
+    both (u64_bytes total) (u32_bytes (length part) ++ (flat_map u32_bytes part ++ guard.next_bytes next)) (eight_bytes total)
+    (both (u32_bytes (length part)) (flat_map u32_bytes part ++ guard.next_bytes next) (four_bytes (length part))
+    (both (flat_map u32_bytes part) (guard.next_bytes next) (number_bytes part) (next_bytes next)))
 
 judged_code : (j : Guard) (e : GuardChannel) (reading : Option ℤ) (code : ℕ) → guard.judged j e reading ≡ Err code → code < 2 ^ 32
 judged_code j e None code h = never _ code h

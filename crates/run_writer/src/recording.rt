@@ -3,7 +3,7 @@ ghost use Rattle.std.specs.Prelude.{◌≡◌};
 
 use crate::counts::Counts;
 use crate::frames::{frame_of, refusals, run_in};
-use cycle_engine::Engine;
+use cycle_engine::{Desk, Engine};
 use det_edges::{Failure, Sink, write_all};
 use det_values::{CycleInput, Frame, OutOfMemory, Profile, RunFrame};
 use job_trait::{Job, Pool};
@@ -15,6 +15,7 @@ use std::alloc::Global;
 pub struct Recording<J: Job> {
     alloc: Global,
     engine: Engine<J>,
+    desk: Desk<J>,
     profile: Profile,
     /// The bytes that are written next.
     buffer: Vec<u8>,
@@ -45,6 +46,7 @@ impl<J: Job> Recording<J> {
         Recording {
             alloc,
             engine,
+            desk: Desk::new(alloc),
             profile,
             buffer: Vec::new(alloc),
             counts: Counts {
@@ -128,7 +130,15 @@ impl<J: Job> Recording<J> {
             (length self.old.profile.events) (Frame.Run run)) }
         ensures keeps { self.new ≡ record self.old { engine = self.new.engine } }
     {
-        self.engine.cycle(self.alloc, pool, input)
+        self.engine.cycle(&mut self.desk, pool, input)
+    }
+
+    /// Takes back a run that nobody needs, for its memory: that of its outcome stays here, that of
+    /// its input is answered.
+    pub fn take_back(&mut self, run: RunFrame) -> CycleInput
+        ensures { self.new ≡ self.old }
+    {
+        self.desk.take_back(run)
     }
 
     /// The frame Init of a run that stands at its beginning. Nothing is written.

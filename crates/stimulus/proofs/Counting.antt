@@ -1,6 +1,7 @@
 -- A stimulus has at most 1,000,000 blocks.
 use Rattle.std.proofs.Common.{◌≡◌, ℕ, ◌+◌, ◌-◌, ◌≤◌, List, [], ◌∷◌, ◌++◌, length, Bool, true, false, cond, nat_lt, Option, Some, None, refl}
 use Rattle.std.proofs.Common.{sym, ap, ◌∙◌, arith, length-append, append_assoc}
+use Rattle.std.specs.Prelude.{option_and_then}
 use Rattle.std.proofs.lemmas.Bool.Decides.{nat_tests}
 use Rattle.stimulus.specs.declared.line.Line.{Line}
 use Rattle.stimulus.specs.declared.line.Line.TheVariants as lines
@@ -9,7 +10,7 @@ use Rattle.stimulus.specs.declared.item.StimItem.TheVariants as items
 use Rattle.det_values.specs.declared.frames.CycleInput.{CycleInput}
 use Rattle.stimulus.specs.Lines.{line_of}
 use Rattle.stimulus.specs.Places.{Place, First, Between, Inside, Ended, Step, step, begun, with_sample, taken}
-use Rattle.stimulus.specs.Reading.{Reading, reading, reading_from, parts, at_end, taken_if, taken_at, go_on, inputs_of}
+use Rattle.stimulus.specs.Reading.{Reading, reading, reading_from, parts, at_end, taken_at, go_on, inputs_of}
 use Rattle.stimulus.proofs.Going.{open_items}
 
 pub inputs_append : (xs ys : List StimItem) → inputs_of (xs ++ ys) ≡ inputs_of xs ++ inputs_of ys
@@ -65,15 +66,16 @@ taken_few Ended (lines.Cycle time) h = tt
 taken_few Ended (lines.Sample s) h = tt
 taken_few Ended lines.Terminate h = tt
 
-taken_if_few : (p : Place) (o : Option Line) → IsFew p → IfFew p (taken_if p o)
+taken_if_few : (p : Place) (o : Option Line) → IsFew p → IfFew p (option_and_then (taken p) o)
 taken_if_few p None h = tt
 taken_if_few p (Some l) h = taken_few p l h
 
 taken_at_few : (events : ℕ) (p : Place) (line : List ℕ) → IsFew p → IfFew p (taken_at events p line)
-taken_at_few events p line h = elim (nat_lt 128 (length line)) as (λ t. IfFew p (cond t None (taken_if p (line_of events line)))) [
-  | true ↦ tt
-  | false ↦ taken_if_few p (line_of events line) h
-]
+taken_at_few events p line h =
+    elim (nat_lt 128 (length line)) as (λ t. IfFew p (cond t None (option_and_then (taken p) (line_of events line)))) [
+      | true ↦ tt
+      | false ↦ taken_if_few p (line_of events line) h
+    ]
 
 go_on_few : (p : Place) (line : List ℕ) (o : Option Step) (next : Place → Reading) → IfFew p o
     → ((q : Place) → IsFew q → length (inputs_of (next q).items) ≤ more_blocks q)

@@ -2,6 +2,7 @@
 use Rattle.std.proofs.Common.{◌≡◌, ℕ, ◌<◌, ◌≤◌, List, [], ◌∷◌, ◌++◌, length, true, false, cond, nat_lt, Option, Some, None, refl, sym, ap}
 use Rattle.std.proofs.Common.{◌∙◌, arith, append_assoc, append-nil}
 use Rattle.std.proofs.lemmas.Bool.Decides.{nat_tests}
+use Rattle.std.specs.Prelude.{option_and_then}
 use Rattle.std.specs.List.{onto_first}
 use Rattle.stimulus.specs.declared.line.Line.{Line}
 use Rattle.stimulus.specs.declared.line.Line.TheVariants as lines
@@ -9,7 +10,7 @@ use Rattle.stimulus.specs.declared.item.StimItem.{StimItem}
 use Rattle.stimulus.specs.Lines.{line_of}
 use Rattle.stimulus.specs.Places.{Place, First, Between, Inside, Ended, step, taken}
 use Rattle.stimulus.specs.FirstLine.{IsLong}
-use Rattle.stimulus.specs.Reading.{Reading, reading_from, parts, after, bad_at_once, at_end, taken_if, taken_at, go_on}
+use Rattle.stimulus.specs.Reading.{Reading, reading_from, parts, after, bad_at_once, at_end, taken_at, go_on}
 use Rattle.stimulus.specs.StandsFor.{found_bad}
 use Rattle.stimulus.proofs.Parts.{is_lf, some_parts}
 
@@ -35,20 +36,21 @@ pub taken_there : (events : ℕ) (place : Place) (line : List ℕ) (l : Line) �
     → taken_at events place line ≡ taken place l
 taken_there events place line l short e =
     let test : nat_lt 128 (length line) ≡ false = grind (arith, nat_tests) in
-    ap (λ t. cond t None (taken_if place (line_of events line))) test ∙ ap (taken_if place) e
+    ap (λ t. cond t None (option_and_then (taken place) (line_of events line))) test ∙ ap (option_and_then (taken place)) e
 
 pub none_there : (events : ℕ) (place : Place) (line : List ℕ) → line_of events line ≡ None → taken_at events place line ≡ None
-none_there events place line e = elim (nat_lt 128 (length line)) as (λ t. cond t None (taken_if place (line_of events line)) ≡ None) [
-  | true ↦ refl
-  | false ↦ ap (taken_if place) e
-]
+none_there events place line e =
+    elim (nat_lt 128 (length line)) as (λ t. cond t None (option_and_then (taken place) (line_of events line)) ≡ None) [
+      | true ↦ refl
+      | false ↦ ap (option_and_then (taken place)) e
+    ]
 
 long_there : (events : ℕ) (place : Place) (line : List ℕ) → 128 < length line → taken_at events place line ≡ None
 long_there events place line long =
     let test : nat_lt 128 (length line) ≡ true = grind (arith, nat_tests) in
-    ap (λ t. cond t None (taken_if place (line_of events line))) test
+    ap (λ t. cond t None (option_and_then (taken place) (line_of events line))) test
 
-nothing_after : (l : Option Line) → taken_if Ended l ≡ None
+nothing_after : (l : Option Line) → option_and_then (taken Ended) l ≡ None
 nothing_after None = refl
 nothing_after (Some lines.Stim) = refl
 nothing_after (Some (lines.Cycle time)) = refl
@@ -56,10 +58,11 @@ nothing_after (Some (lines.Sample sample)) = refl
 nothing_after (Some lines.Terminate) = refl
 
 pub ended_there : (events : ℕ) (line : List ℕ) → taken_at events Ended line ≡ None
-ended_there events line = elim (nat_lt 128 (length line)) as (λ t. cond t None (taken_if Ended (line_of events line)) ≡ None) [
-  | true ↦ refl
-  | false ↦ nothing_after (line_of events line)
-]
+ended_there events line =
+    elim (nat_lt 128 (length line)) as (λ t. cond t None (option_and_then (taken Ended) (line_of events line)) ≡ None) [
+      | true ↦ refl
+      | false ↦ nothing_after (line_of events line)
+    ]
 
 -- a line that leads on
 pub goes_on : (events : ℕ) (place p : Place) (line xs ys : List ℕ) (given : List StimItem) → parts xs ≡ line ∷ parts ys

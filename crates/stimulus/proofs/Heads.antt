@@ -1,6 +1,7 @@
 -- The head of a text, by the table of lines.
 use Rattle.std.proofs.Common.{◌≡◌, ◌↔◌, ℕ, suc, ◌+◌, ◌<◌, ◌≤◌, List, [], ◌∷◌, ◌++◌, length, map, Bool, true, false, cond, nat_lt, Option}
 use Rattle.std.proofs.Common.{Some, None, refl, sym, ap, ◌∙◌, subst, inl, inr, arith, append_assoc, append-nil}
+use Rattle.std.specs.Prelude.{option_and_then}
 use Rattle.std.specs.List.{All}
 use Rattle.std.proofs.lemmas.Bool.Decides.{nat_tests}
 use Rattle.std.proofs.lemmas.List.Elements.{All-nil, All-cons, All-same, All-head, All-tail}
@@ -11,7 +12,7 @@ use Rattle.stimulus.specs.declared.item.StimItem.{StimItem}
 use Rattle.stimulus.specs.declared.item.StimItem.TheVariants as items
 use Rattle.stimulus.specs.Lines.{line_of}
 use Rattle.stimulus.specs.Places.{Place, First, Between, Inside, Ended, Step, step, begun, with_sample, taken}
-use Rattle.stimulus.specs.Reading.{Reading, Terminated, BadLine, reading, reading_from, parts, after, bad_at_once, at_end, taken_if}
+use Rattle.stimulus.specs.Reading.{Reading, Terminated, BadLine, reading, reading_from, parts, after, bad_at_once, at_end}
 use Rattle.stimulus.specs.Reading.{taken_at, go_on, inputs_of, ending_of}
 use Rattle.stimulus.specs.Good.{ends, MayStand, InOrder, blocks_in, without_last, IsFed, IsHead}
 use Rattle.stimulus.proofs.Parts.{IsSome_parts, some_parts}
@@ -178,11 +179,13 @@ record Took (events : ℕ) (place : Place) (line : List ℕ) (s : Step) : Type 0
 
 took : (events : ℕ) (place : Place) (line : List ℕ) (s : Step) → taken_at events place line ≡ Some s → Took events place line s
 took events place line s e = long (nat_lt 128 (length line)) refl e where
-  said : (o : Option Line) → line_of events line ≡ o → length line ≤ 128 → taken_if place o ≡ Some s → Took events place line s
+  said : (o : Option Line) → line_of events line ≡ o → length line ≤ 128 → option_and_then (taken place) o ≡ Some s
+      → Took events place line s
   said None spelled short is = absurd (cc)
   said (Some l) spelled short is = record { says = l; short = short; spelled = spelled; taken = is }
 
-  long : (t : Bool) → nat_lt 128 (length line) ≡ t → cond t None (taken_if place (line_of events line)) ≡ Some s → Took events place line s
+  long : (t : Bool) → nat_lt 128 (length line) ≡ t → cond t None (option_and_then (taken place) (line_of events line)) ≡ Some s
+      → Took events place line s
   long true test is = absurd (cc)
   long false test is = said (line_of events line) refl (grind (arith, nat_tests)) is
 

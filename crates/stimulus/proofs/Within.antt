@@ -1,7 +1,9 @@
 -- The inputs of a stimulus keep to their limits.
 use Rattle.std.proofs.Common.{◌≡◌, ℕ, zero, suc, ◌+◌, ◌^◌, ◌<◌, ℤ, List, [], ◌∷◌, ◌++◌, length, take, drop, Bool, true, false, cond, nat_lt}
 use Rattle.std.proofs.Common.{nat_eq, Option, Some, None, refl, sym, arith, codes, length-append}
+use Rattle.std.specs.Prelude.{pos, option_map, option_and_then}
 use Rattle.std.specs.List.{All, position}
+use Rattle.std.specs.Option.{option_zip}
 use Rattle.std.specs.Str.{bytes_eq}
 use Rattle.std.proofs.lemmas.Bool.Decides.{nat_tests}
 use Rattle.std.proofs.lemmas.Int.{ints}
@@ -14,11 +16,11 @@ use Rattle.stimulus.specs.declared.line.Line.{Line}
 use Rattle.stimulus.specs.declared.line.Line.TheVariants as lines
 use Rattle.stimulus.specs.declared.item.StimItem.{StimItem}
 use Rattle.stimulus.specs.declared.item.StimItem.TheVariants as items
-use Rattle.stimulus.specs.Numbers.{number, below, as_positive, as_negative, value_of}
-use Rattle.stimulus.specs.Lines.{timed, cycle_line, sampled, sample_words, sample_line, line_of}
+use Rattle.stimulus.specs.Numbers.{number, below, as_negative, value_of}
+use Rattle.stimulus.specs.Lines.{cycle_line, sample_words, sample_line, line_of}
 use Rattle.stimulus.specs.Places.{Place, First, Between, Inside, Ended, Step, step, begun, with_sample, taken}
 use Rattle.stimulus.specs.Limits.{IsTime, IsSample, IsLine, IsInput, IsItem}
-use Rattle.stimulus.specs.Reading.{Reading, reading, reading_from, parts, at_end, taken_if, taken_at, go_on}
+use Rattle.stimulus.specs.Reading.{Reading, reading, reading_from, parts, at_end, taken_at, go_on}
 use Rattle.stimulus.proofs.Going.{open_items}
 
 abbrev IfNumber : ℕ → Option ℕ → Type 0
@@ -37,11 +39,11 @@ number_below : (limit : ℕ) (o : Option ℕ) → IfNumber limit (below limit o)
 number_below limit None = tt
 number_below limit (Some n) = grind (arith, nat_tests)
 
-positive : (o : Option ℕ) → IfNumber 1000000000001 o → IfValue (as_positive o)
+positive : (o : Option ℕ) → IfNumber 1000000000001 o → IfValue (option_map pos o)
 positive None h = tt
 positive (Some n) h = omega (arith, ints)
 
-negative : (o : Option ℕ) → IfNumber 1000000000001 o → IfValue (as_negative o)
+negative : (o : Option ℕ) → IfNumber 1000000000001 o → IfValue (option_and_then as_negative o)
 negative None h = tt
 negative (Some zero) h = tt
 negative (Some (suc n)) h = omega (arith, ints)
@@ -51,17 +53,25 @@ unfolding value_of
 value_within bytes =
     elim (bytes_eq (take 1 bytes) (codes "-"))
     as (λ t. IfValue
-    (cond t (as_negative (below 1000000000001 (number (drop 1 bytes)))) (as_positive (below 1000000000001 (number bytes))))) [
+    (cond t (option_and_then as_negative (below 1000000000001 (number (drop 1 bytes))))
+    (option_map pos (below 1000000000001 (number bytes))))) [
       | true ↦ negative (below 1000000000001 (number (drop 1 bytes))) (number_below 1000000000001 (number (drop 1 bytes)))
       | false ↦ positive (below 1000000000001 (number bytes)) (number_below 1000000000001 (number bytes))
     ]
+
+-- a cycle's line by its time, and a sample's by its event and value
+abbrev pub timed : Option ℕ → Option Line
+timed time = option_map (λ t. lines.Cycle (Some t)) time
+
+abbrev pub sampled : Option ℕ → Option ℤ → Option Line
+sampled event value = option_map (λ s. lines.Sample (record { event = s.0; value = s.1 })) (option_zip event value)
 
 sampled_within : (events : ℕ) (e : Option ℕ) (v : Option ℤ) → IfNumber events e → IfValue v → IfLine events (sampled e v)
 sampled_within events None v h k = tt
 sampled_within events (Some e) None h k = tt
 sampled_within events (Some e) (Some v) h k = record { event = h; value = k }
 
-words_within : (events : ℕ) (words : List ℕ) (o : Option ℕ) → IfLine events (sample_words events words o)
+words_within : (events : ℕ) (words : List ℕ) (o : Option ℕ) → IfLine events (option_and_then (sample_words events words) o)
 words_within events words None = tt
 words_within events words (Some space) =
     sampled_within events (below events (number (take space words))) (value_of (drop (space + 1) words))
@@ -161,15 +171,17 @@ taken_within events (Inside n input) lines.Terminate h k =
     (one_item events (items.Cycle input) (items.Terminate ∷ []) h (one_item events items.Terminate [] tt (no_items events)), tt)
 taken_within events Ended l h k = ended_within events l
 
-taken_if_within : (events : ℕ) (p : Place) (o : Option Line) → IsPlace events p → IfLine events o → IfStep events (taken_if p o)
+taken_if_within : (events : ℕ) (p : Place) (o : Option Line) → IsPlace events p → IfLine events o
+    → IfStep events (option_and_then (taken p) o)
 taken_if_within events p None h k = tt
 taken_if_within events p (Some l) h k = taken_within events p l h k
 
 taken_at_within : (events : ℕ) (p : Place) (line : List ℕ) → IsPlace events p → IfStep events (taken_at events p line)
-taken_at_within events p line h = elim (nat_lt 128 (length line)) as (λ t. IfStep events (cond t None (taken_if p (line_of events line)))) [
-  | true ↦ tt
-  | false ↦ taken_if_within events p (line_of events line) h (line_within events line)
-]
+taken_at_within events p line h =
+    elim (nat_lt 128 (length line)) as (λ t. IfStep events (cond t None (option_and_then (taken p) (line_of events line)))) [
+      | true ↦ tt
+      | false ↦ taken_if_within events p (line_of events line) h (line_within events line)
+    ]
 
 go_on_within : (events : ℕ) (line : List ℕ) (o : Option Step) (next : Place → Reading) → IfStep events o →
     ((p : Place) → IsPlace events p → All (IsItem events) (next p).items) → All (IsItem events) (go_on line o next).items

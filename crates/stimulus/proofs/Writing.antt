@@ -2,6 +2,7 @@
 use Rattle.std.proofs.Common.{◌≡◌, ℕ, suc, ◌+◌, ◌^◌, ◌<◌, ◌≤◌, ℤ, List, [], ◌∷◌, ◌++◌, length, take, drop, get_or, Bool, true, false, cond}
 use Rattle.std.proofs.Common.{◌&&◌, not, nat_lt, nat_eq, Option, Some, None, refl, sym, ap, ◌∙◌, subst, arith, codes, take-append-drop}
 use Rattle.std.proofs.Common.{length-append, drop-cons}
+use Rattle.std.specs.Prelude.{option_and_then}
 use Rattle.std.specs.Fmt.{decimal, signed_decimal}
 use Rattle.std.specs.Str.{bytes_eq}
 use Rattle.std.specs.Str.Parse.{AllDigits}
@@ -15,10 +16,10 @@ use Rattle.stimulus.specs.declared.line.Line.{Line}
 use Rattle.stimulus.specs.declared.line.Line.TheVariants as lines
 use Rattle.stimulus.specs.Limits.{IsSample, IsLine}
 use Rattle.stimulus.specs.Numbers.{number, below, value_of}
-use Rattle.stimulus.specs.Lines.{timed, cycle_line, sampled, sample_words, sample_line, line_of, spelling}
+use Rattle.stimulus.specs.Lines.{cycle_line, sample_words, sample_line, line_of, spelling}
 use Rattle.stimulus.proofs.Spelling.{number_of_decimal, decimal_of_number}
 use Rattle.stimulus.proofs.Signed.{same_bytes, digits_of, is_below, below_some, value_of_decimal, decimal_of_value}
-use Rattle.stimulus.proofs.Within.{IfLine, line_within}
+use Rattle.stimulus.proofs.Within.{IfLine, line_within, timed, sampled}
 
 -- the first space of two words stands right after the first
 first_space : (bs rest : List ℕ) → AllDigits 10 bs → position_or_len (λ b. nat_eq b 32) (bs ++ 32 ∷ rest) ≡ length bs
@@ -54,7 +55,7 @@ sample_written events s few h =
     ∙ is_below events s.event in_range in
     let value : value_of (drop (length e + 1) (e ++ 32 ∷ v)) ≡ Some s.value = ap value_of (past_space e v)
     ∙ value_of_decimal s.value h.value in
-    ap (sample_words events (e ++ 32 ∷ v)) (at_space e v (digits_of s.event small)) ∙ (λ i. sampled (event i) (value i))
+    ap (option_and_then (sample_words events (e ++ 32 ∷ v))) (at_space e v (digits_of s.event small)) ∙ (λ i. sampled (event i) (value i))
 
 no_dash_alone : (bs : List ℕ) → AllDigits 10 bs → bytes_eq bs (codes "-") ≡ false
 no_dash_alone [] h = refl
@@ -125,7 +126,7 @@ parted words space e =
     ∙ ap (λ n. 32 ∷ drop n words) (let k : suc space ≡ space + 1 = omega arith in k))
 
 from_words : (events : ℕ) (words : List ℕ) (o : Option ℕ) (l : Line) → events ≤ 2 ^ 16 → position (λ b. nat_eq b 32) words ≡ o
-    → sample_words events words o ≡ Some l → codes "sample " ++ words ≡ spelling l
+    → option_and_then (sample_words events words) o ≡ Some l → codes "sample " ++ words ≡ spelling l
 from_words events words None l few at e = absurd (cc)
 from_words events words (Some space) l few at e =
     ap (λ b. codes "sample " ++ b) (parted words space at)

@@ -8,7 +8,7 @@ use Rattle.det_values.specs.declared.frames.CycleInput.{CycleInput}
 use Rattle.stimulus.specs.declared.line.Line.{Line}
 use Rattle.stimulus.specs.declared.line.Line.TheVariants as lines
 use Rattle.stimulus.specs.Lines.{line_of}
-use Rattle.stimulus.specs.Reading.{Terminated, BadLine, parts, head, blocks, ending, has_bad}
+use Rattle.stimulus.specs.Reading.{Terminated, BadLine, parts, good_lines, blocks, ending, has_bad}
 
 abbrev pub is_cycle : Line → Bool
 is_cycle (lines.Cycle time) = true
@@ -94,22 +94,22 @@ abbrev pub IsFed : List Line → List ℕ → List (List ℕ) → Type 0
 IsFed says line [] = (128 < length line) ⊎ ((ends says ≡ 1) × (0 < length line))
 IsFed says line (next ∷ later) = Unit {0}
 
--- what `head`, `blocks`, `ending` and `has_bad` are of a text
+-- what `good_lines`, `blocks`, `ending` and `has_bad` are of a text
 pub record IsHead (events : ℕ) (text : List ℕ) : Type 0 where
   pub says : List Line
-  pub good : IsGood events (head events text) says
+  pub good : IsGood events (good_lines events text) says
   -- whole lines at its beginning, and what follows them
   pub line : List ℕ
   pub others : List (List ℕ)
-  pub begins : parts text ≡ head events text ++ line ∷ others
+  pub begins : parts text ≡ good_lines events text ++ line ∷ others
   -- no more of its whole lines are good
   pub longest : (texts : List (List ℕ)) (next : List ℕ) (later : List (List ℕ)) (more : List Line)
       → parts text ≡ texts ++ next ∷ later → IsGood events texts more
-      → length texts ≤ length (head events text)
+      → length texts ≤ length (good_lines events text)
   pub blocks : blocks events text ≡ complete_blocks says
   -- they are all of it, and the last one is `terminate`
   pub terminated : (ending events text ≡ Terminated)
-      ↔ ((parts text ≡ head events text ++ [] ∷ []) × (ends says ≡ 1))
+      ↔ ((parts text ≡ good_lines events text ++ [] ∷ []) × (ends says ≡ 1))
   pub bad : (ending events text ≡ Terminated → ⊥) → ending events text
-      ≡ BadLine (length (head events text) + 1)
+      ≡ BadLine (length (good_lines events text) + 1)
   pub fed : (has_bad events text ≡ true) ↔ IsFed says line others

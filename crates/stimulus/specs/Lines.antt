@@ -1,36 +1,29 @@
 -- The lines of a stimulus, without their LF. The grammar is this project's own.
-use Rattle.std.specs.Prelude.{ℕ, ◌+◌, ◌^◌, ℤ, ◌==◌, List, ◌++◌, take, drop, position, Option, None}
-use Rattle.std.specs.Prelude.{Some, if◌then◌else◌, codes}
+use Rattle.std.specs.Prelude.{ℕ, ◌+◌, ◌^◌, ◌==◌, List, ◌++◌, take, drop, position, Option, None}
+use Rattle.std.specs.Prelude.{Some, if◌then◌else◌, codes, option_map, option_and_then}
+use Rattle.std.specs.Option.{option_zip}
 use Rattle.std.specs.Str.{bytes_eq}
 use Rattle.std.specs.Fmt.{decimal, signed_decimal}
 use Rattle.stimulus.specs.declared.line.Line.{Line}
 use Rattle.stimulus.specs.declared.line.Line.TheVariants as lines
 use Rattle.stimulus.specs.Numbers.{number, below, value_of}
 
-abbrev pub timed : Option ℕ → Option Line
-timed None = None
-timed (Some time) = Some (lines.Cycle (Some time))
-
 -- what follows `cycle `
 abbrev pub cycle_line : List ℕ → Option Line
 cycle_line time =
     if bytes_eq time (codes "-") then Some (lines.Cycle None)
-    else timed (below (2 ^ 64) (number time))
+    else option_map (λ t. lines.Cycle (Some t)) (below (2 ^ 64) (number time))
 
-abbrev pub sampled : Option ℕ → Option ℤ → Option Line
-sampled None value = None
-sampled (Some event) None = None
-sampled (Some event) (Some value) = Some (lines.Sample (record { event = event; value = value }))
+-- an event and a value, parted by the space at this place
+abbrev pub sample_words : ℕ → List ℕ → ℕ → Option Line
+sample_words events words space =
+    option_map (λ s. lines.Sample (record { event = s.0; value = s.1 }))
+    (option_zip (below events (number (take space words))) (value_of (drop (space + 1) words)))
 
--- two words, parted by the first space
-abbrev pub sample_words : ℕ → List ℕ → Option ℕ → Option Line
-sample_words events words None = None
-sample_words events words (Some space) =
-    sampled (below events (number (take space words))) (value_of (drop (space + 1) words))
-
--- what follows `sample `
+-- what follows `sample `: two words, parted by the first space
 abbrev pub sample_line : ℕ → List ℕ → Option Line
-sample_line events words = sample_words events words (position (λ b. b == 32) words)
+sample_line events words =
+    option_and_then (sample_words events words) (position (λ b. b == 32) words)
 
 -- what a line says, with so many events, or none
 unfoldable pub line_of : ℕ → List ℕ → Option Line

@@ -2,7 +2,7 @@
 -- sign, no `-0`.
 use Rattle.std.specs.Prelude.{ℕ, zero, suc, ◌+◌, ◌-◌, ◌*◌, ℤ, pos, negsuc, ◌==◌, nat_le, nat_lt}
 use Rattle.std.specs.Prelude.{◌&&◌, List, [], ◌∷◌, length, take, drop, Option, None, Some}
-use Rattle.std.specs.Prelude.{if◌then◌else◌, codes}
+use Rattle.std.specs.Prelude.{if◌then◌else◌, codes, option_map, option_and_then}
 use Rattle.std.specs.Str.{bytes_eq}
 
 -- the number that digits write after those of n
@@ -21,18 +21,14 @@ abbrev pub below : ℕ → Option ℕ → Option ℕ
 below limit None = None
 below limit (Some n) = if nat_lt n limit then Some n else None
 
-abbrev pub as_positive : Option ℕ → Option ℤ
-as_positive None = None
-as_positive (Some n) = Some (pos n)
-
-abbrev pub as_negative : Option ℕ → Option ℤ
-as_negative None = None
-as_negative (Some zero) = None
-as_negative (Some (suc n)) = Some (negsuc n)
+-- the number behind a minus sign; zero has none
+abbrev pub as_negative : ℕ → Option ℤ
+as_negative zero = None
+as_negative (suc n) = Some (negsuc n)
 
 -- the value of a sample that these bytes write, from -10^12 to 10^12, or none
 unfoldable pub value_of : List ℕ → Option ℤ
 value_of bytes =
     if bytes_eq (take 1 bytes) (codes "-")
-    then as_negative (below 1000000000001 (number (drop 1 bytes)))
-    else as_positive (below 1000000000001 (number bytes))
+    then option_and_then as_negative (below 1000000000001 (number (drop 1 bytes)))
+    else option_map pos (below 1000000000001 (number bytes))

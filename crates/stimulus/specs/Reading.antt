@@ -1,9 +1,8 @@
 -- What a text comes to as a stimulus. The format is this project's own.
 use Rattle.std.specs.Prelude.{ℕ, ◌+◌, ◌==◌, nat_lt, Bool, true, false, List, [], ◌∷◌, ◌++◌, length}
-use Rattle.std.specs.Prelude.{Option, None, Some, if◌then◌else◌}
+use Rattle.std.specs.Prelude.{Option, None, Some, if◌then◌else◌, option_and_then}
 use Rattle.std.specs.List.{slice_split}
 use Rattle.det_values.specs.declared.frames.CycleInput.{CycleInput}
-use Rattle.stimulus.specs.declared.line.Line.{Line}
 use Rattle.stimulus.specs.declared.item.StimItem.{StimItem}
 use Rattle.stimulus.specs.declared.item.StimItem.TheVariants as items
 use Rattle.stimulus.specs.Lines.{line_of}
@@ -28,14 +27,7 @@ parts text = slice_split (λ b. b == 10) text
 
 -- a reading, after good lines that gave these items
 abbrev pub after : List (List ℕ) → List StimItem → Reading → Reading
-after head given r =
-    record {
-      head = head ++ r.head;
-      items = given
-          ++ r.items;
-      is_whole = r.is_whole;
-      bad_is_fed = r.bad_is_fed;
-    }
+after head given r = record r { head = head ++ r.head; items = given ++ r.items }
 
 -- the first line is bad
 abbrev pub bad_at_once : Bool → Reading
@@ -51,14 +43,10 @@ at_end Ended [] = complete
 at_end Ended (b ∷ bs) = bad_at_once true
 at_end _ line = bad_at_once (nat_lt 128 (length line))
 
-abbrev pub taken_if : Place → Option Line → Option Step
-taken_if place None = None
-taken_if place (Some line) = taken place line
-
 -- a whole line at a place
 abbrev pub taken_at : ℕ → Place → List ℕ → Option Step
 taken_at events place line =
-    if nat_lt 128 (length line) then None else taken_if place (line_of events line)
+    if nat_lt 128 (length line) then None else option_and_then (taken place) (line_of events line)
 
 abbrev pub go_on : List ℕ → Option Step → (Place → Reading) → Reading
 go_on line None next = bad_at_once true
@@ -83,8 +71,8 @@ abbrev pub ending_of : Reading → Ending
 ending_of r = if r.is_whole then Terminated else BadLine (length r.head + 1)
 
 -- the longest list of good whole lines at the beginning
-abbrev pub head : ℕ → List ℕ → List (List ℕ)
-head events text = (reading events text).head
+abbrev pub good_lines : ℕ → List ℕ → List (List ℕ)
+good_lines events text = (reading events text).head
 
 -- the inputs of the complete blocks
 abbrev pub blocks : ℕ → List ℕ → List CycleInput

@@ -40,9 +40,9 @@ pub fn limits()
     ensures inputs { (events : ℕ) (text : List ℕ) → All (IsInput events) (blocks events text) }
 {}
 
-/// `head`, `blocks`, `ending` and `has_bad` are what the table of lines says: the longest list of
-/// good whole lines, the inputs of its complete blocks, the bad line or the end, and whether the
-/// line after them counts as fed.
+/// `good_lines`, `blocks`, `ending` and `has_bad` are what the table of lines says: the longest
+/// list of good whole lines, the inputs of its complete blocks, the bad line or the end, and
+/// whether the line after them counts as fed.
 pub fn longest_head()
     ensures { (events : ℕ) (text : List ℕ) → IsHead events text }
 {}

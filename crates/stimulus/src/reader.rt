@@ -8,7 +8,7 @@ use crate::first_line::{FirstLine, first_line};
 use crate::item::{StimError, StimFault, StimItem};
 use crate::line::{Line, parse_line};
 use crate::state::{State, Taken, take_line};
-use det_values::OutOfMemory;
+use det_values::{CycleInput, OutOfMemory};
 use std::alloc::Global;
 use std::mem;
 
@@ -107,6 +107,14 @@ impl StimReader {
                 Err(error) => return Err(error),
             }
         }
+    }
+
+    /// Takes an input that nobody needs, for the memory of the next one.
+    pub fn take_back(&mut self, input: CycleInput)
+        ensures { self.new ≡ self.old }
+    {
+        let state = mem::replace(&mut self.state, State::Ended);
+        self.state = state.with_memory_of(input.samples);
     }
 
     /// Whether the text that was fed is a whole stimulus, if no more bytes come.

@@ -36,6 +36,36 @@ pub enum Taken {
     OutOfMemory(State),
 }
 
+/// The same input, with this memory for its samples where it has none yet.
+fn in_memory_of(input: CycleInput, spare: Samples) -> CycleInput
+    ensures { result ≡ input }
+{
+    if !input.samples.is_empty() {
+        return input;
+    }
+    let mut samples = spare;
+    samples.clear();
+    CycleInput {
+        time: input.time,
+        samples,
+    }
+}
+
+impl State {
+    /// The same, with this memory for the samples of a block of which none was read yet.
+    pub fn with_memory_of(self, spare: Samples) -> State
+        ensures { result ≡ self }
+    {
+        match self {
+            State::Inside { blocks, input } => State::Inside {
+                blocks,
+                input: in_memory_of(input, spare),
+            },
+            state => state,
+        }
+    }
+}
+
 fn begin(alloc: Global, blocks: u32, time: Option<u64>) -> State
     ensures { result ≡ State.Inside blocks (begun time) }
 {

@@ -77,6 +77,13 @@ impl StimulusReader {
         }
     }
 
+    /// Takes an input that nobody needs, for the memory of the next one.
+    pub fn take_back(&mut self, input: CycleInput)
+        ensures { self.new ≡ self.old }
+    {
+        self.text.take_back(input);
+    }
+
     /// The input of the next complete block of what was fed.
     fn fed_input(&mut self) -> Result<Option<CycleInput>, Stopped<StimFault>>
         ensures input { (read : List ℕ) (given : List Input) → StandsFor self.old read given

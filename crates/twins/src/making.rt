@@ -4,6 +4,7 @@ ghost use Rattle.twins.specs.Making.{AreKnown, IsFrame, HasMade};
 
 use crate::TwinRun;
 use crate::twin::Twin;
+use cycle_engine::Desk;
 use det_values::{Frame, OutOfMemory};
 use job_trait::Job;
 use pass_in_blocks::InOrder;
@@ -68,7 +69,7 @@ impl<J: Job> Twin<J> {
         ensures keeps { self.new ≡ record self.old { engine = self.new.engine } }
     {
         let input = run.inputs.item(self.number as usize - 3).copied(alloc)?;
-        let frame = self.engine.cycle(alloc, &mut InOrder, input)?;
+        let frame = self.engine.cycle(&mut Desk::new(alloc), &mut InOrder, input)?;
         Ok(Frame::Run(frame))
     }
 }

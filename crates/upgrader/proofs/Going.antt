@@ -36,7 +36,7 @@ use Rattle.record_reader.proofs.FrameReading.{are_first, more_items}
 use Rattle.lockstep.specs.declared.difference.Difference.{Difference}
 use Rattle.lockstep.specs.FirstDifference.{frame_difference}
 use Rattle.run_writer.specs.declared.recording.Recording.{Recording}
-use Rattle.run_writer.specs.Recording.{IsNew}
+use Rattle.run_writer.specs.Recording.{IsNew, Cuts}
 use Rattle.replayer.specs.Again.{input_in}
 use Rattle.replayer.proofs.Items.{few-inputs}
 use Rattle.record_reader.specs.InItems.{frame_in}
@@ -325,3 +325,10 @@ pub no-read : (failure : Failure) (difference : Option Difference) (bytes : List
 no-read Read difference bytes goes_on shelf out h t = absurd h
 no-read Write difference bytes goes_on shelf out h t = record { cause = λ e. cc; counted = t.counted; stays = t.stays }
 no-read OutOfMemory difference bytes goes_on shelf out h t = record { cause = λ e. cc; counted = t.counted; stays = t.stays }
+
+-- and neither did the end of the run
+pub no-read-behind : (failure : Failure) (before after : List ℕ → Type 0) (bytes : List ℕ) (shelf : ShelfRun)
+    → Cuts failure before after bytes → ShelfTraffic shelf None → ShelfTraffic shelf (Some failure)
+no-read-behind Read before after bytes shelf h t = absurd h
+no-read-behind Write before after bytes shelf h t = record { cause = λ e. cc; counted = t.counted; stays = t.stays }
+no-read-behind OutOfMemory before after bytes shelf h t = record { cause = λ e. cc; counted = t.counted; stays = t.stays }

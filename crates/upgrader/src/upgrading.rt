@@ -132,7 +132,7 @@ impl Upgrade {
         let Compared { read, .. } = compared;
         self.count(&read);
         write_unless_last(recording, &read, sink)?;
-        self.room.reuse(read);
+        self.room.take_back(recording, read);
         Ok(None)
     }
 }

@@ -1,5 +1,5 @@
 -- A worker's share of a pass, and two of them together.
-use Rattle.std.proofs.Common.{◌≡◌, ℕ, ◌≤◌, ◌⊎◌, List, [], ◌∷◌, ◌++◌, map, Result, Ok, IfOk, sym, ap, ◌∙◌, subst, inl, inr, ⊎_elim, arith}
+use Rattle.std.proofs.Common.{◌≡◌, ℕ, ◌≤◌, ◌⊎◌, List, [], ◌∷◌, ◌++◌, map, Result, Ok, Err, IfOk, sym, ap, ◌∙◌, subst, inl, inr, ⊎_elim, arith}
 use mathlib.Core.List.{map-append}
 use Rattle.det_values.specs.declared.out_of_memory.OutOfMemory.{OutOfMemory}
 use Rattle.job_trait.specs.Meaning.{Meaning}
@@ -11,6 +11,7 @@ use Rattle.worker_pool.specs.declared.task.Task.{Task}
 use Rattle.worker_pool.specs.declared.view.Mark.{Mark}
 use Rattle.worker_pool.specs.declared.view.PoolEntry.{PoolEntry}
 use Rattle.worker_pool.specs.declared.view.PoolView.{PoolView}
+use Rattle.worker_pool.specs.Handles.{IsAt}
 use Rattle.worker_pool.specs.Views.{entry, Stands, joined}
 use Rattle.worker_pool.specs.Messages.{AreOf, IsSpelledOf, IsShareOf, IsReply}
 use Rattle.worker_pool.specs.Results.{Stops, shown, Works, IsShare}
@@ -51,3 +52,20 @@ pub brought : {S G E L P : Type 0} (m : Meaning S G E L P) (announced : List (Ta
     → AreOf m t given.results.items × IsSpelledOf m t given.spelled × IsShareOf m t seat given.results.items
 brought m announced t seat share given reply is ok = subst
     (λ s. IfOk s (λ x. AreOf m t x.results.items × IsSpelledOf m t x.spelled × IsShareOf m t seat x.results.items)) ok (reply t is).1
+
+abbrev first : {A : Type 0} → A → List A → A
+first a [] = a
+first a (x ∷ xs) = x
+
+-- what a worker gives of the task that its ticket is for is a reply
+pub replied : {S G E L P : Type 0} (m : Meaning S G E L P) (announced : List (Task S G E L P)) (d : Task S G E L P) (seat : PassSeat)
+    (share : Result (Share E P) OutOfMemory) → announced ≡ d ∷ [] → IsAt seat d.table
+    → IfOk share (λ x. AreOf m d x.results.items) → IfOk share (λ x. IsSpelledOf m d x.spelled)
+    → IfOk share (λ x. IsShareOf m d seat x.results.items) → IsReply m announced seat share
+replied m announced d seat (Ok x) is here right spelled whole t for = subst
+    (λ u. IsAt seat u.table × (AreOf m u x.results.items × IsSpelledOf m u x.spelled × IsShareOf m u seat x.results.items))
+    (ap (first d) (sym is ∙ for)) (here, (right, spelled, whole))
+replied m announced d seat (Err e) is here right spelled whole t for = (
+  subst (λ u. IsAt seat u.table) (ap (first d) (sym is ∙ for)) here,
+  tt,
+)

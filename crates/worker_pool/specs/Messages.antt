@@ -1,6 +1,5 @@
 -- What goes to a kept thread, and what comes back.
 use Rattle.std.specs.Prelude.{◌≡◌, ℕ, List, [], ◌∷◌, ◌++◌, ◌⊎◌, Result, IfOk}
-use Rattle.std.specs.Arc.{arc_value}
 use Rattle.job_trait.specs.Meaning.{Meaning}
 use Rattle.job_trait.specs.Passes.{IsReady, block_in, blocks_in}
 use Rattle.pass_in_blocks.specs.Answers.{AreRight}
@@ -21,23 +20,23 @@ module _ {S G E L P : Type 0} where
   -- a pass that is ready, with a table for its blocks
   pub record IsTask (m : Meaning S G E L P) (Covers : S → P → ℕ → Type 0) (Own : S → E → Type 0)
       (Fit : S → L → Type 0) (t : Task S G E L P) : Type 0 where
-    pub ready : IsReady m Covers Own Fit (arc_value t.pass)
-    pub sized : block_count t.table ≡ blocks_in (arc_value t.pass)
+    pub ready : IsReady m Covers Own Fit t.pass
+    pub sized : block_count t.table ≡ blocks_in t.pass
 
   -- these are results of the pass
   abbrev pub AreOf : Meaning S G E L P → Task S G E L P → List (BlockResult E P) → Type 0
-  AreOf m t results = AreRight (block_in m (arc_value t.pass))
-      (blocks_in (arc_value t.pass)) results
+  AreOf m t results = AreRight (block_in m t.pass)
+      (blocks_in t.pass) results
 
   -- each block that was spelled is one of the pass
   abbrev pub IsSpelledOf : Meaning S G E L P → Task S G E L P → SpelledBlocks → Type 0
-  IsSpelledOf m t spelled = AreBlocksOf (shown_in m (arc_value t.pass)) spelled
+  IsSpelledOf m t spelled = AreBlocksOf (shown_in m t.pass) spelled
 
   -- the results of the blocks that the worker with this seat claimed, and it has tried all blocks
   -- of the pass or knows of a refusal
   abbrev pub IsShareOf : Meaning S G E L P → Task S G E L P → PassSeat
       → List (BlockResult E P) → Type 0
-  IsShareOf m t seat results = IsShare (block_in m (arc_value t.pass)) (block_count t.table)
+  IsShareOf m t seat results = IsShare (block_in m t.pass) (block_count t.table)
       (view_of seat) results
 
   -- the ticket is for this task, and the seat is a new one at its table

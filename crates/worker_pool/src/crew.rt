@@ -1,19 +1,19 @@
 //! A crew: threads that are kept from pass to pass.
 ghost use Rattle.std.specs.Prelude.{◌+◌, ◌<◌, ◌≤◌, ◌^◌, length, IfOk};
-ghost use Rattle.std.specs.Arc.{arc_value};
 ghost use Rattle.job_trait.specs.Passes.{IsReady, IsAnswer, block_in, blocks_in};
 ghost use Rattle.std.specs.List.{All};
 ghost use Rattle.pass_in_blocks.specs.Answers.{AreRight};
 ghost use Rattle.pass_in_blocks.specs.Showing.{AreBlocksOf, shown_in};
 
+use crate::bench::{clear_benches, fill_benches, keep_spelled};
 use crate::gate::Gate;
 use crate::line::Line;
 use crate::lines::work_together;
 use crate::messages::Found;
 use crate::seat::PassTable;
-use crate::task::Task;
+use crate::task::{HeldPass, Task};
 use det_values::OutOfMemory;
-use job_trait::{Job, PassDone, PassOf, Pool, PoolFault};
+use job_trait::{Job, PassDone, PassOf, PassRoom, Pool, PoolFault};
 use pass_in_blocks::{SpelledBlocks, finish_pass};
 use std::alloc::Global;
 use std::marker::Model;
@@ -34,6 +34,8 @@ pub struct Crew<J: Job, B: Room, G: Gate> {
     pub(crate) handles: Vec<JoinHandle<()>>,
     pub(crate) workers: u32,
     pub(crate) gate: Arc<G, Global>,
+    /// Memory in which the caller spells its blocks.
+    pub(crate) spelled: SpelledBlocks,
 }
 
 impl<J: Job, B: Room, G: Gate> Model for Crew<J, B, G> {
@@ -49,34 +51,27 @@ impl<J: Job, B: Room, G: Gate> Model for Crew<J, B, G> {
 
 /// What the caller and these kept threads find of a pass. Some blocks may be missing.
 fn shared_pass<J: Job, B: Room, G: Gate>(
-    alloc: Global,
     keeper: &mut Keeper<Task<J>, B>,
     lines: &mut [Line<J, B>],
-    pass: &Arc<PassOf<J>, Global>,
+    pass: &PassOf<'_, J>,
     gate: &G,
+    room: &mut PassRoom<J::Element, J::Part>,
+    spelled: &mut SpelledBlocks,
 ) -> Result<Found<J::Element, J::Part>, OutOfMemory>
     requires few { length lines.old ≤ 63 }
     requires room { keeper.old.number < 2 ^ 63 }
-    requires ready { IsReady J.meaning J.Covers J.Own J.Fit (arc_value pass.now) }
-    ensures right { IfOk result (λ found. AreRight (block_in J.meaning (arc_value pass.now))
-        (blocks_in (arc_value pass.now)) found.results.items) }
+    requires ready { IsReady J.meaning J.Covers J.Own J.Fit pass.now }
+    ensures right { IfOk result (λ found. AreRight (block_in J.meaning pass.now)
+        (blocks_in pass.now) found.results.items) }
     ensures spelled { IfOk result (λ found.
-        All (AreBlocksOf (shown_in J.meaning (arc_value pass.now))) found.spelled.items) }
+        All (AreBlocksOf (shown_in J.meaning pass.now)) found.spelled.items) }
 {
-    let blocks = (pass.elements.len() + 63) / 64;
-    let (table, mut seat) = PassTable::new(alloc, blocks as u32)?;
-    let pass = Arc::try_clone(pass)?;
-    let Ok(task) = Arc::new(alloc, Task { pass, table }) else {
+    let (table, mut seat) = PassTable::new(room.alloc(), pass.blocks())?;
+    let pass = HeldPass::of(pass)?;
+    let Ok(task) = Arc::new(room.alloc(), Task { pass, table }) else {
         return Err(OutOfMemory);
     };
-    work_together(alloc, keeper, lines, &task, &mut seat, gate)
-}
-
-/// Keeps the memory of what was spelled for the next pass.
-fn give_back<J: Job, B: Room>(lines: &mut [Line<J, B>], mut spelled: Vec<SpelledBlocks>) {
-    'each: for line in lines {
-        line.spare = spelled.pop();
-    }
+    work_together(keeper, lines, &task, &mut seat, gate, room, spelled)
 }
 
 /// Lets the workers from this one on pass the gate on the caller's thread.
@@ -89,44 +84,49 @@ fn enter_here<G: Gate>(gate: &G, first: u32, workers: u32) {
 /// A pass by the caller and the kept threads. No more of these get work than there are blocks
 /// beside the caller's first one, and where none gets any the caller has no table.
 fn crew_pass<J: Job, B: Room, G: Gate>(
-    alloc: Global,
     keeper: &mut Keeper<Task<J>, B>,
     lines: &mut [Line<J, B>],
-    pass: &Arc<PassOf<J>, Global>,
+    pass: &PassOf<'_, J>,
     workers: u32,
     gate: &G,
+    room: &mut PassRoom<J::Element, J::Part>,
+    own: &mut SpelledBlocks,
 ) -> Result<PassDone<J::Element, J::Part>, PoolFault>
     requires few { length lines.old < workers }
     requires workers { workers ≤ 64 }
-    requires ready { IsReady J.meaning J.Covers J.Own J.Fit (arc_value pass.now) }
-    ensures { IsAnswer J.meaning J.Covers J.Own (arc_value pass.now) result }
+    requires ready { IsReady J.meaning J.Covers J.Own J.Fit pass.now }
+    ensures { IsAnswer J.meaning J.Covers J.Own pass.now result }
 {
-    let more = ((pass.elements.len() + 63) / 64).saturating_sub(1);
+    let more = pass.blocks().saturating_sub(1) as usize;
     let helpers = more.min(lines.len());
     if helpers == 0 || keeper.number() >= MOST_PASSES {
         enter_here(gate, 0, workers);
-        return finish_pass(alloc, &**pass, Vec::new(alloc), &[]);
+        return finish_pass(pass, Vec::new(room.alloc()), &[], room);
     }
-    let Found { results, spelled } = shared_pass(alloc, keeper, &mut lines[..helpers], pass, gate)?;
+    fill_benches(lines, room);
+    let found = shared_pass(keeper, &mut lines[..helpers], pass, gate, room, own)?;
+    let Found { results, spelled } = found;
     enter_here(gate, helpers as u32 + 1, workers);
-    let done = finish_pass(alloc, &**pass, results, spelled.as_slice());
-    give_back(lines, spelled);
+    clear_benches(lines, room);
+    let done = finish_pass(pass, results, spelled.as_slice(), room);
+    keep_spelled(lines, own, spelled);
     done
 }
 
 impl<J: Job, B: Room, G: Gate> Pool<J> for Crew<J, B, G> {
     fn run_pass(
         &mut self,
-        alloc: Global,
-        pass: &Arc<PassOf<J>, Global>,
+        pass: &PassOf<'_, J>,
+        room: &mut PassRoom<J::Element, J::Part>,
     ) -> Result<PassDone<J::Element, J::Part>, PoolFault> {
         crew_pass(
-            alloc,
             &mut self.keeper,
             self.lines.as_mut_slice(),
             pass,
             self.workers,
             &*self.gate,
+            room,
+            &mut self.spelled,
         )
     }
 }

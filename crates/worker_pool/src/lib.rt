@@ -10,6 +10,7 @@
 //! on a thread's getting on.
 #![tactic(auto)]
 
+mod bench;
 mod crew;
 mod gate;
 pub mod laws;
@@ -27,6 +28,7 @@ mod task;
 mod view;
 mod work;
 
+pub use bench::Bench;
 pub use crew::Crew;
 pub use gate::{Gate, MeetGate, NapGate, NoGate};
 pub use line::Line;
@@ -34,6 +36,6 @@ pub use messages::{Reply, ReplyFits, Share, Work, WorkFits};
 pub use pool::run_worker_pool;
 pub use room::CrewRoom;
 pub use seat::{PassSeat, PassTable, PoolRule};
-pub use task::Task;
+pub use task::{HeldPass, Task};
 pub use view::{Mark, PoolEntry, PoolView};
 pub use work::work_blocks;

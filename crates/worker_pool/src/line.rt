@@ -8,16 +8,18 @@ ghost use Rattle.worker_pool.specs.Messages.{IsTask, IsWork, IsReply, AreOf, IsS
 ghost use Rattle.worker_pool.specs.Messages.{IsShareOf, IsServed};
 ghost use Rattle.worker_pool.specs.Views.{IsNew};
 
+use crate::bench::Bench;
 use crate::gate::Gate;
 use crate::messages::{Found, Reply, ReplyFits, Share, Work, WorkFits};
 use crate::seat::PassSeat;
 use crate::task::Task;
 use crate::work::work_blocks;
 use det_values::OutOfMemory;
-use job_trait::Job;
-use pass_in_blocks::SpelledBlocks;
+use job_trait::{Job, PassRoom};
+use pass_in_blocks::{BlockResult, SpelledBlocks};
 use rtrb::{Consumer, Producer};
 use std::alloc::Global;
+use std::mem;
 use std::sync::Arc;
 use tickets::{Keeper, Room};
 
@@ -26,15 +28,16 @@ use tickets::{Keeper, Room};
 pub struct Line<J: Job, B: Room> {
     pub(crate) works: Producer<Work<J, B>, Global, WorkFits>,
     pub(crate) replies: Consumer<Reply<J, B>, Global, ReplyFits>,
-    /// Memory in which the kept thread may spell its blocks.
-    pub(crate) spare: Option<SpelledBlocks>,
+    /// Memory for the next work.
+    pub(crate) bench: Bench<J::Element, J::Part>,
 }
 
 /// Claims, runs and spells blocks of a task.
 pub(crate) fn work_at<J: Job>(
-    alloc: Global,
     task: &Task<J>,
     seat: &mut PassSeat,
+    room: &mut PassRoom<J::Element, J::Part>,
+    list: Vec<BlockResult<J::Element, J::Part>>,
     mut spelled: SpelledBlocks,
 ) -> Result<Share<J::Element, J::Part>, OutOfMemory>
     requires task { IsTask J.meaning J.Covers J.Own J.Fit task.now }
@@ -46,13 +49,10 @@ pub(crate) fn work_at<J: Job>(
     ensures share { IfOk result (λ share.
         IsShareOf J.meaning task.now seat.new share.results.items) }
 {
-    let places = if task.pass.shows {
-        task.table.blocks()
-    } else {
-        0
-    };
-    spelled.begin(alloc, places as usize)?;
-    let results = work_blocks(alloc, &task.table, seat, &*task.pass, &mut spelled)?;
+    let pass = task.pass.pass();
+    let places = if pass.shows() { task.table.blocks() } else { 0 };
+    spelled.begin(room.alloc(), places as usize)?;
+    let results = work_blocks(&task.table, seat, &pass, room, list, &mut spelled)?;
     Ok(Share {
         results: results.into_vec(),
         spelled,
@@ -60,7 +60,7 @@ pub(crate) fn work_at<J: Job>(
 }
 
 /// Does a piece of work.
-fn reply_to<J: Job, B: Room>(alloc: Global, work: Work<J, B>) -> Reply<J, B>
+fn reply_to<J: Job, B: Room>(work: Work<J, B>) -> Reply<J, B>
     requires { IsWork J.meaning J.Covers J.Own J.Fit work.ticket.work
         (arc_value work.task) work.seat }
     ensures ticket { result.ticket ≡ work.ticket }
@@ -70,21 +70,25 @@ fn reply_to<J: Job, B: Room>(alloc: Global, work: Work<J, B>) -> Reply<J, B>
         ticket,
         task,
         mut seat,
-        spare,
+        bench,
     } = work;
-    let spelled = spare.unwrap_or(SpelledBlocks::new(alloc));
-    let share = work_at(alloc, &*task, &mut seat, spelled);
+    let Bench {
+        mut room,
+        spelled,
+        results,
+    } = bench;
+    let share = work_at(&*task, &mut seat, &mut room, results, spelled);
     Reply {
         ticket,
         seat,
         share,
+        room,
     }
 }
 
 /// Takes the next piece of work, does it and replies, and says whether there was one. A reply that
 /// finds no place is thrown away.
 fn serve_next<J: Job, B: Room, G: Gate>(
-    alloc: Global,
     worker: u32,
     gate: &G,
     works: &mut Consumer<Work<J, B>, Global, WorkFits>,
@@ -99,13 +103,12 @@ fn serve_next<J: Job, B: Room, G: Gate>(
         return false;
     };
     gate.enter(worker);
-    let _ = replies.push(reply_to(alloc, work));
+    let _ = replies.push(reply_to(work));
     true
 }
 
 /// What a kept thread does until the other end of its line is gone.
 pub(crate) fn serve<J: Job, B: Room, G: Gate>(
-    alloc: Global,
     worker: u32,
     gate: Arc<G, Global>,
     mut works: Consumer<Work<J, B>, Global, WorkFits>,
@@ -113,7 +116,7 @@ pub(crate) fn serve<J: Job, B: Room, G: Gate>(
 ) {
     let mut idle = 0u32;
     'serve: for _ in 0..u64::MAX {
-        if serve_next(alloc, worker, &*gate, &mut works, &mut replies) {
+        if serve_next(worker, &*gate, &mut works, &mut replies) {
             idle = 0;
         } else if works.is_abandoned() {
             return;
@@ -141,24 +144,29 @@ pub(crate) fn give<J: Job, B: Room>(
     ensures new { IsNew (view_of seat.new) }
     ensures shares { (view_of seat.old).shares ≤ (view_of seat.new).shares + 1 }
 {
+    if line.works.is_full() {
+        return false;
+    }
     let Ok(theirs) = Arc::try_clone(task) else {
         return false;
     };
     let ticket = keeper.ticket();
     let newcomer = task.table.split(seat);
+    let empty = Bench::new(line.bench.room.alloc());
     let work = Work {
         ticket,
         task: theirs,
         seat: newcomer,
-        spare: line.spare.take(),
+        bench: mem::replace(&mut line.bench, empty),
     };
     line.works.push(work).is_ok()
 }
 
 /// Adds the share that a reply to the task announced last brings. Its seat is joined to the
-/// caller's.
+/// caller's, and its memory comes back to the bench.
 fn add_reply<J: Job, B: Room>(
     keeper: &mut Keeper<Task<J>, B>,
+    bench: &mut Bench<J::Element, J::Part>,
     task: &Task<J>,
     seat: &mut PassSeat,
     found: &mut Found<J::Element, J::Part>,
@@ -183,17 +191,19 @@ fn add_reply<J: Job, B: Room>(
         ticket,
         seat: other,
         share,
+        room,
     } = reply;
+    bench.room = room;
     let Ok(share) = share else {
         return Ok(());
     };
     keeper.check(ticket);
     task.table.join(seat, other);
-    found.add(share)
+    found.add(share, &mut bench.results)
 }
 
 /// Adds what a kept thread has found that has replied to the task announced last, and says whether
-/// it has. A reply to an earlier task is thrown away.
+/// it has. Of a reply to an earlier task only the memory is taken.
 pub(crate) fn take_reply<J: Job, B: Room>(
     keeper: &mut Keeper<Task<J>, B>,
     line: &mut Line<J, B>,
@@ -218,8 +228,15 @@ pub(crate) fn take_reply<J: Job, B: Room>(
         return Ok(false);
     };
     if reply.ticket.number() != keeper.number() {
+        let Reply {
+            ticket: _,
+            seat: _,
+            share: _,
+            room,
+        } = reply;
+        line.bench.room = room;
         return Ok(false);
     }
-    add_reply(keeper, task, seat, found, reply)?;
+    add_reply(keeper, &mut line.bench, task, seat, found, reply)?;
     Ok(true)
 }

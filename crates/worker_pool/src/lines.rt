@@ -12,11 +12,11 @@ use crate::messages::Found;
 use crate::seat::PassSeat;
 use crate::task::Task;
 use det_values::OutOfMemory;
-use job_trait::Job;
+use job_trait::{Job, PassRoom};
 use pass_in_blocks::SpelledBlocks;
 use std::alloc::Global;
 use std::sync::Arc;
-use std::{hint, slice, thread};
+use std::{hint, mem, slice, thread};
 use tickets::{Keeper, Room};
 
 /// The looks for replies after which the caller runs the missing blocks itself: so many, and so
@@ -112,7 +112,7 @@ fn collect<J: Job, B: Room>(
         IsShareOf J.meaning task.now seat.new found.new.results.items) }
 {
     let blocks = task.table.blocks() as usize;
-    let elements = task.pass.elements.len() as u32;
+    let elements = task.pass.pass().count() as u32;
     let mut missing = given;
     'look: for look in 0..FIRST_LOOKS + LOOKS_PER_ELEMENT * elements {
         if missing == 0 || found.results.len() >= blocks {
@@ -132,12 +132,13 @@ fn collect<J: Job, B: Room>(
 /// What the caller and the kept threads find of a task. Some blocks may be missing, but none that
 /// the caller claimed.
 pub(crate) fn work_together<J: Job, B: Room, G: Gate>(
-    alloc: Global,
     keeper: &mut Keeper<Task<J>, B>,
     lines: &mut [Line<J, B>],
     task: &Arc<Task<J>, Global>,
     seat: &mut PassSeat,
     gate: &G,
+    room: &mut PassRoom<J::Element, J::Part>,
+    spelled: &mut SpelledBlocks,
 ) -> Result<Found<J::Element, J::Part>, OutOfMemory>
     requires room { keeper.old.number < 2 ^ 63 }
     requires few { length lines.old ≤ 63 }
@@ -155,7 +156,10 @@ pub(crate) fn work_together<J: Job, B: Room, G: Gate>(
     keeper.announce(slice::from_ref(&**task));
     let given = give_all(keeper, lines, task, seat, gate);
     gate.enter(0);
-    let share = work_at(alloc, &**task, seat, SpelledBlocks::new(alloc))?;
+    let alloc = room.alloc();
+    let list = Vec::with_capacity(alloc, task.table.blocks() as usize)?;
+    let own = mem::replace(spelled, SpelledBlocks::new(alloc));
+    let share = work_at(&**task, seat, room, list, own)?;
     let mut found = Found::of(alloc, share)?;
     collect(keeper, lines, &**task, seat, &mut found, given)?;
     Ok(found)

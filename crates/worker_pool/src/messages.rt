@@ -1,24 +1,24 @@
 //! What goes to a kept thread, and what comes back.
 ghost use Rattle.std.specs.Prelude.{◌≡◌, [], ◌∷◌, ◌++◌, IfOk, OnOk};
 
+use crate::bench::Bench;
 use crate::seat::PassSeat;
 use crate::task::Task;
 use det_values::OutOfMemory;
-use job_trait::Job;
+use job_trait::{Job, PassRoom};
 use pass_in_blocks::{BlockResult, SpelledBlocks};
 use rtrb::Protocol;
 use std::alloc::Global;
 use std::sync::Arc;
 use tickets::{Room, Ticket};
 
-/// A task, a seat at its table, and a ticket for it. What was spelled before is there for its
-/// memory alone.
+/// A task, a seat at its table, a ticket for it, and memory to work in.
 #[derive(Drop)]
 pub struct Work<J: Job, B: Room> {
     pub ticket: Ticket<Task<J>, B>,
     pub task: Arc<Task<J>, Global>,
     pub seat: PassSeat,
-    pub spare: Option<SpelledBlocks>,
+    pub bench: Bench<J::Element, J::Part>,
 }
 
 /// What one worker found in the blocks that it claimed, and what it spelled of them.
@@ -28,12 +28,13 @@ pub struct Share<E, P> {
     pub spelled: SpelledBlocks,
 }
 
-/// A ticket that came back, with the seat, and the share of its worker.
+/// A ticket that came back, with the seat, the share of its worker, and the room that it worked in.
 #[derive(Drop)]
 pub struct Reply<J: Job, B: Room> {
     pub ticket: Ticket<Task<J>, B>,
     pub seat: PassSeat,
     pub share: Result<Share<J::Element, J::Part>, OutOfMemory>,
+    pub room: PassRoom<J::Element, J::Part>,
 }
 
 /// What the workers of a pass found in their blocks, and what they spelled of them.
@@ -60,8 +61,12 @@ impl<E: Drop, P: Drop> Found<E, P> {
         }
     }
 
-    /// Adds the share of another worker.
-    pub(crate) fn add(&mut self, share: Share<E, P>) -> Result<(), OutOfMemory>
+    /// Adds the share of another worker, and leaves the memory of its list.
+    pub(crate) fn add(
+        &mut self,
+        share: Share<E, P>,
+        left: &mut Vec<BlockResult<E, P>>,
+    ) -> Result<(), OutOfMemory>
         ensures results { OnOk result (
             self.new.results.items ≡ self.old.results.items ++ share.results.items) }
         ensures spelled { OnOk result (
@@ -72,6 +77,7 @@ impl<E: Drop, P: Drop> Found<E, P> {
             spelled,
         } = share;
         self.results.append(&mut results)?;
+        *left = results;
         match self.spelled.push(spelled) {
             Ok(()) => Ok(()),
             Err(_) => Err(OutOfMemory),

@@ -1,13 +1,12 @@
 //! One pass on threads of its own.
 ghost use Rattle.std.specs.Prelude.{◌≡◌, ◌≤◌};
-ghost use Rattle.std.specs.Arc.{arc_value};
 ghost use Rattle.job_trait.specs.Passes.{IsReady, IsAnswer};
 ghost use Rattle.worker_pool.specs.Crews.{room_name};
 
 use crate::crew::Crew;
 use crate::gate::Gate;
 use crate::room::CrewRoom;
-use job_trait::{Job, PassDone, PassOf, Pool, PoolFault};
+use job_trait::{Job, PassDone, PassOf, PassRoom, Pool, PoolFault};
 use std::alloc::Global;
 use std::marker::Brand;
 use std::sync::Arc;
@@ -19,7 +18,7 @@ fn run_in_room<J, B, G, R>(
     rt: &R,
     alloc: Global,
     room: CrewRoom<J>,
-    pass: &Arc<PassOf<J>, Global>,
+    pass: &PassOf<'_, J>,
     workers: u32,
     gate: &Arc<G, Global>,
 ) -> Result<PassDone<J::Element, J::Part>, PoolFault>
@@ -33,12 +32,12 @@ where
     G: Gate + Send + Sync + 'static,
     R: Threads,
     requires room { room_name room ≡ B.table }
-    requires ready { IsReady J.meaning J.Covers J.Own J.Fit (arc_value pass.now) }
+    requires ready { IsReady J.meaning J.Covers J.Own J.Fit pass.now }
     requires workers { (1 ≤ workers) × (workers ≤ 64) }
-    ensures { IsAnswer J.meaning J.Covers J.Own (arc_value pass.now) result }
+    ensures { IsAnswer J.meaning J.Covers J.Own pass.now result }
 {
     let mut crew = Crew::<J, B, G>::start(rt, alloc, room, workers, gate)?;
-    let done = crew.run_pass(alloc, pass);
+    let done = crew.run_pass(pass, &mut PassRoom::new(alloc));
     crew.stop(rt);
     done
 }
@@ -51,7 +50,7 @@ where
 pub fn run_worker_pool<J, G, R>(
     rt: &R,
     alloc: Global,
-    pass: &Arc<PassOf<J>, Global>,
+    pass: &PassOf<'_, J>,
     workers: u32,
     gate: &Arc<G, Global>,
 ) -> Result<PassDone<J::Element, J::Part>, PoolFault>
@@ -63,13 +62,12 @@ where
     J::Part: Send + Sync + 'static,
     G: Gate + Send + Sync + 'static,
     R: Threads,
-    requires ready { IsReady J.meaning J.Covers J.Own J.Fit (arc_value pass.now) }
+    requires ready { IsReady J.meaning J.Covers J.Own J.Fit pass.now }
     requires workers { (1 ≤ workers) × (workers ≤ 64) }
-    ensures { IsAnswer J.meaning J.Covers J.Own (arc_value pass.now) result }
+    ensures { IsAnswer J.meaning J.Covers J.Own pass.now result }
 {
     let room = CrewRoom::new(alloc)?;
-    let blocks = ((pass.elements.len() + 63) / 64) as u32;
-    let busy = workers.min(blocks.max(1));
+    let busy = workers.min(pass.blocks().max(1));
     let done = run_in_room::<J, Brand, G, R>(rt, alloc, room, pass, busy, gate);
     for worker in busy..workers {
         gate.enter(worker);

@@ -2,6 +2,7 @@
 ghost use Rattle.std.specs.Prelude.{◌≡◌, ◌≤◌, ◌<◌, [], length, IfOk};
 ghost use Rattle.worker_pool.specs.Crews.{room_name};
 
+use crate::bench::Bench;
 use crate::crew::Crew;
 use crate::gate::Gate;
 use crate::line::{Line, serve};
@@ -9,6 +10,7 @@ use crate::messages::{ReplyFits, WorkFits};
 use crate::room::CrewRoom;
 use det_values::OutOfMemory;
 use job_trait::Job;
+use pass_in_blocks::SpelledBlocks;
 use rtrb::RingBuffer;
 use std::alloc::Global;
 use std::sync::Arc;
@@ -61,14 +63,14 @@ where
     let gate = Arc::try_clone(gate)?;
     let (works, theirs) = RingBuffer::with_protocol::<Global, WorkFits>(alloc, 1)?;
     let (back, replies) = RingBuffer::with_protocol::<Global, ReplyFits>(alloc, 2)?;
-    let thread = move || serve::<J, B, G>(alloc, worker, gate, theirs, back);
+    let thread = move || serve::<J, B, G>(worker, gate, theirs, back);
     let Ok(handle) = thread::spawn(rt, thread) else {
         return Ok(None);
     };
     let line = Line::<J, B> {
         works,
         replies,
-        spare: None,
+        bench: Bench::new(alloc),
     };
     Ok(Some(Started { line, handle }))
 }
@@ -143,6 +145,7 @@ where
             handles,
             workers,
             gate,
+            spelled: SpelledBlocks::new(alloc),
         };
         match begun {
             Ok(()) => Ok(crew),
@@ -161,6 +164,7 @@ where
             handles,
             workers: _,
             gate: _,
+            spelled: _,
         } = self;
         // A thread ends when its line is gone.
         drop(lines);

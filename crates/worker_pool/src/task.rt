@@ -1,12 +1,85 @@
 //! What a crew works at.
+ghost use Rattle.std.specs.Prelude.{◌≡◌, IfOk};
+
 use crate::seat::PassTable;
+use det_values::{Container, OutOfMemory};
 use job_trait::{Job, PassOf};
 use std::alloc::Global;
+use std::marker::Model;
 use std::sync::Arc;
+
+/// A pass that a thread may hold as long as it likes, since it has owners of its own.
+#[derive(Drop)]
+pub struct HeldPass<J: Job> {
+    pub job: Arc<J, Global>,
+    pub plan: Arc<J::Plan, Global>,
+    pub carry: Arc<J::Part, Global>,
+    pub number: u8,
+    pub elements: Arc<Container<J::Element>, Global>,
+    pub seed: u64,
+    pub cycle: u32,
+    pub earlier: Arc<Container<u32>, Global>,
+    pub shows: bool,
+}
+
+impl<J: Job> Model for HeldPass<J> {
+    ghost use Rattle.std.specs.Arc.{arc_value};
+    ghost use Rattle.job_trait.specs.Passes.{PassValue};
+
+    ghost Value = { PassValue J J.Element J.Plan J.Part };
+
+    ghost view = { λ p. record {
+      job = arc_value p.job;
+      plan = arc_value p.plan;
+      carry = arc_value p.carry;
+      number = p.number;
+      elements = arc_value p.elements;
+      seed = p.seed;
+      cycle = p.cycle;
+      earlier = arc_value p.earlier;
+      shows = p.shows;
+    } };
+}
+
+impl<J: Job> HeldPass<J> {
+    /// The same pass, with owners of its own.
+    pub fn of(pass: &PassOf<'_, J>) -> Result<HeldPass<J>, OutOfMemory>
+        ensures { IfOk result (λ held. held ≡ pass.now) }
+    {
+        Ok(HeldPass {
+            job: Arc::try_clone(pass.job)?,
+            plan: Arc::try_clone(pass.plan)?,
+            carry: Arc::try_clone(pass.carry)?,
+            number: pass.number,
+            elements: Arc::try_clone(pass.elements)?,
+            seed: pass.seed,
+            cycle: pass.cycle,
+            earlier: Arc::try_clone(pass.earlier)?,
+            shows: pass.shows,
+        })
+    }
+
+    /// The pass, lent.
+    pub fn pass(&self) -> PassOf<'_, J>
+        ensures { result ≡ self.now }
+    {
+        PassOf {
+            job: &self.job,
+            plan: &self.plan,
+            carry: &self.carry,
+            number: self.number,
+            elements: &self.elements,
+            seed: self.seed,
+            cycle: self.cycle,
+            earlier: &self.earlier,
+            shows: self.shows,
+        }
+    }
+}
 
 /// A pass, and the table on which its blocks are claimed.
 #[derive(Drop)]
 pub struct Task<J: Job> {
-    pub pass: Arc<PassOf<J>, Global>,
+    pub pass: HeldPass<J>,
     pub table: PassTable,
 }

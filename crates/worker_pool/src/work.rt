@@ -1,5 +1,5 @@
 //! What one worker does.
-ghost use Rattle.std.specs.Prelude.{◌≡◌, ◌+◌, ◌<◌, ◌≤◌, ◌⊎◌, IfOk, OnErr, IsTrue};
+ghost use Rattle.std.specs.Prelude.{◌≡◌, [], ◌+◌, ◌<◌, ◌≤◌, ◌⊎◌, IfOk, OnErr, IsTrue};
 ghost use Rattle.job_trait.specs.Passes.{IsReady, block_in, blocks_in};
 ghost use Rattle.pass_in_blocks.specs.Answers.{AreRight};
 ghost use Rattle.pass_in_blocks.specs.Showing.{AreBlocksOf, shown_in};
@@ -10,17 +10,16 @@ ghost use Rattle.worker_pool.specs.Views.{taken, IsNew};
 
 use crate::seat::{PassSeat, PassTable};
 use det_values::OutOfMemory;
-use job_trait::{Job, PassOf};
+use job_trait::{Job, PassOf, PassRoom};
 use pass_in_blocks::{BlockResult, BlockResults, SpelledBlocks, run_and_spell};
-use std::alloc::Global;
 
 /// Tries the next block, runs and spells it, and says whether to go on. A block above a known
 /// refusal is skipped.
 fn try_block<J: Job>(
-    alloc: Global,
     table: &PassTable,
     seat: &mut PassSeat,
-    pass: &PassOf<J>,
+    pass: &PassOf<'_, J>,
+    room: &mut PassRoom<J::Element, J::Part>,
     results: &mut BlockResults<J::Element, J::Part>,
     spelled: &mut SpelledBlocks,
 ) -> Result<bool, OutOfMemory>
@@ -46,7 +45,7 @@ fn try_block<J: Job>(
     if table.look(seat, block) {
         return Ok(false);
     }
-    let answer = run_and_spell(alloc, pass, block, spelled)?;
+    let answer = run_and_spell(pass, block, room, spelled)?;
     let refused = answer.is_refusal();
     results.push(BlockResult { block, answer })?;
     if refused {
@@ -58,15 +57,24 @@ fn try_block<J: Job>(
     }
 }
 
+/// No results, in the memory of this list.
+fn emptied<E: Drop, P: Drop>(mut list: Vec<BlockResult<E, P>>) -> BlockResults<E, P>
+    ensures { result ≡ [] }
+{
+    list.clear();
+    BlockResults::from_vec(list)
+}
+
 /// Claims, runs and spells blocks until each block of the pass was tried, or a refusal is known.
 ///
 /// Where memory is short the worker stops with the block Open that it was at, and its results are
 /// lost, and so is what it spelled.
 pub fn work_blocks<J: Job>(
-    alloc: Global,
     table: &PassTable,
     seat: &mut PassSeat,
-    pass: &PassOf<J>,
+    pass: &PassOf<'_, J>,
+    room: &mut PassRoom<J::Element, J::Part>,
+    list: Vec<BlockResult<J::Element, J::Part>>,
     spelled: &mut SpelledBlocks,
 ) -> Result<BlockResults<J::Element, J::Part>, OutOfMemory>
     requires here { IsAt seat.old table.now }
@@ -88,9 +96,9 @@ pub fn work_blocks<J: Job>(
         × Tidy (block_in J.meaning pass.now) before
         × (before.seen < block_count table.now) × (view_of seat.new ≡ taken before)) }
 {
-    let mut results = BlockResults::new(alloc);
+    let mut results = emptied(list);
     'each: while seat.seen() < table.blocks() {
-        if !try_block(alloc, table, seat, pass, &mut results, spelled)? {
+        if !try_block(table, seat, pass, room, &mut results, spelled)? {
             return Ok(results);
         }
     }

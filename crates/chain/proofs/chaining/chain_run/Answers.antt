@@ -122,9 +122,9 @@ link-requires-clause-known g c =
     ∙ ap (λ (p : ProfileValue). length p.events) (sym c.cycles.invariant.first_profile) in
     subst (λ k. All (λ (s : SampleValue). s.event < k) c.in-Some.input.samples) events got.2.1.within.known
 
-pub returns-in_err-link-clause-chained : goal.returns-in_err-link-clause-chained
-returns-in_err-link-clause-chained g c =
-    let p = err_from_is_err_and c.from_residual-in_err-link.result c.from_residual-in_err-link.ensures.1 in
+pub returns-in_err-spare-clause-chained : goal.returns-in_err-spare-clause-chained
+returns-in_err-spare-clause-chained g c =
+    let p = err_from_is_err_and c.from_residual-in_err-spare.result c.from_residual-in_err-spare.ensures.1 in
     let m = g.A.Job.meaning in
     let n = g.B.Job.meaning in
     let one = c.args.first.now.recording.profile in
@@ -145,20 +145,20 @@ returns-in_err-link-clause-chained g c =
       first = sink_run g.K.Sink.took g.K.Sink.faults c.cycles.first_sink c.link.new.first_sink;
       second = sink_run g.L.Sink.took g.L.Sink.faults c.cycles.second_sink c.link.new.second_sink;
     } in
-    let failure = c.in_err-link.field-0.0 in
+    let failure = c.in_err-spare.field-0.0 in
     let cut = rw (c.cycles.invariant.first_profile, c.cycles.invariant.second_profile) at
-    (c.in_err-link.ensures.cut running.1 running.2.stands) in
+    (c.in_err-spare.ensures.cut running.1 running.2.stands) in
     rw (p.1, p.2) (chained m one n other _ shelf (joined sinks step) _
     (link-failed m one n other _ shelf sinks step running.2 c.in-Some.input failure got.0 got.1 is_next cut.cause cut.grew.first
     cut.grew.second))
 
-pub returns-in_err-link-clause-shelf_traffic : goal.returns-in_err-link-clause-shelf_traffic
-returns-in_err-link-clause-shelf_traffic g c =
-    let p = err_from_is_err_and c.from_residual-in_err-link.result c.from_residual-in_err-link.ensures.1 in
+pub returns-in_err-spare-clause-shelf_traffic : goal.returns-in_err-spare-clause-shelf_traffic
+returns-in_err-spare-clause-shelf_traffic g c =
+    let p = err_from_is_err_and c.from_residual-in_err-spare.result c.from_residual-in_err-spare.ensures.1 in
     let running = c.cycles.invariant.running in
     let shelf = shelf_run g.S.Slots.sees g.S.Slots.stays c.args.shelf.now c.next_input.new.shelf in
-    let cut = c.in_err-link.ensures.cut running.1 running.2.stands in
-    rw (p.1, p.2) (no-read c.in_err-link.field-0.0 shelf cut.cause (unfailed-shelf shelf
+    let cut = c.in_err-spare.ensures.cut running.1 running.2.stands in
+    rw (p.1, p.2) (no-read c.in_err-spare.field-0.0 shelf cut.cause (unfailed-shelf shelf
     (omega (arith, c.cycles.invariant.shelf_traffic.counted, c.in_ok-input.ensures.traffic.counted))
     (g.met.S.Slots.stays_on _ _ _ c.cycles.invariant.shelf_traffic.stays c.in_ok-input.ensures.traffic.stays)))
 
@@ -174,7 +174,7 @@ cycles-smaller g c =
     c.cycles.stimulus c.next_input.new.self (ap Ok c.in-Some.is) c.in_ok-input.ensures.input in
     let got = next-read m one n other c.next_input.new.self (Ok (Some c.in-Some.input)) running.2 answered c.cycles.invariant.slot in
     let few : c.cycles.first.recording.engine.cycles < 1000000 = few-cycles m one n other c.in-Some.input running.2 got.2.1.few in
-    let more : c.link.new.first.recording.engine.cycles ≡ c.cycles.first.recording.engine.cycles + 1 = c.in_ok-link.ensures.cycles in
+    let more : c.link.new.first.recording.engine.cycles ≡ c.cycles.first.recording.engine.cycles + 1 = c.in_ok-spare.ensures.cycles in
     omega arith
 
 pub cycles-preserved : goal.cycles-preserved
@@ -196,22 +196,22 @@ cycles-preserved g c =
       second = sink_run g.L.Sink.took g.L.Sink.faults c.cycles.second_sink c.link.new.second_sink;
     } in
     let linked = rw (c.cycles.invariant.first_profile, c.cycles.invariant.second_profile) at
-    (c.in_ok-link.ensures.linked running.1 running.2.stands) in
+    (c.in_ok-spare.ensures.linked running.1 running.2.stands) in
     let on = running-next m one n other sinks step c.next_input.new.self c.link.new.first.recording c.link.new.second.recording
     c.in-Some.input running.2 answered c.cycles.invariant.slot linked.stands linked.grew.first linked.grew.second in
-    record {
+    rw c.take_back.ensures (record {
       running = (on.0, running.1 ++ c.in-Some.input ∷ [], on.1);
-      first_profile = c.in_ok-link.ensures.first_profile ∙ c.cycles.invariant.first_profile;
-      second_profile = c.in_ok-link.ensures.second_profile ∙ c.cycles.invariant.second_profile;
+      first_profile = c.in_ok-spare.ensures.first_profile ∙ c.cycles.invariant.first_profile;
+      second_profile = c.in_ok-spare.ensures.second_profile ∙ c.cycles.invariant.second_profile;
       slot = c.in_ok-input.ensures.slot ∙ c.cycles.invariant.slot;
       events = c.in_ok-input.ensures.events ∙ c.cycles.invariant.events;
       shelf_traffic = unfailed-shelf (shelf_run g.S.Slots.sees g.S.Slots.stays c.args.shelf.now c.next_input.new.shelf)
           (omega (arith, c.cycles.invariant.shelf_traffic.counted, c.in_ok-input.ensures.traffic.counted))
           (g.met.S.Slots.stays_on _ _ _ c.cycles.invariant.shelf_traffic.stays c.in_ok-input.ensures.traffic.stays);
       sink_traffic = unfailed-sinks (joined sinks step)
-          (omega (arith, c.cycles.invariant.sink_traffic.first, c.in_ok-link.ensures.traffic.first))
-          (omega (arith, c.cycles.invariant.sink_traffic.second, c.in_ok-link.ensures.traffic.second));
-    }
+          (omega (arith, c.cycles.invariant.sink_traffic.first, c.in_ok-spare.ensures.traffic.first))
+          (omega (arith, c.cycles.invariant.sink_traffic.second, c.in_ok-spare.ensures.traffic.second));
+    })
 
 pub returns-in_err-counts-clause-chained : goal.returns-in_err-counts-clause-chained
 returns-in_err-counts-clause-chained g c =

@@ -58,9 +58,9 @@ cycle-requires-2-clause-few g c =
     let few : one.engine.cycles < 1000000 = c.requires.few in
     omega (arith, first, second, same, few)
 
-pub returns-in_err-cycle-clause-cut : goal.returns-in_err-cycle-clause-cut
-returns-in_err-cycle-clause-cut g c =
-    let p = err_from_is_err_and c.from_residual-in_err-cycle.result c.from_residual-in_err-cycle.ensures.1 in
+pub returns-in_err-followed-clause-cut : goal.returns-in_err-followed-clause-cut
+returns-in_err-followed-clause-cut g c =
+    let p = err_from_is_err_and c.from_residual-in_err-followed.result c.from_residual-in_err-followed.ensures.1 in
     let m = g.A.Job.meaning in
     let n = g.B.Job.meaning in
     let one = c.args.first.now.recording.profile in
@@ -69,7 +69,7 @@ returns-in_err-cycle-clause-cut g c =
       first = sink_run g.K.Sink.took g.K.Sink.faults c.args.first_sink.now c.cycle.new.sink;
       second = sink_run g.L.Sink.took g.L.Sink.faults c.args.second_sink.now c.cycle-2.new.sink;
     } in
-    let failure = c.in_err-cycle.field-0.0 in
+    let failure = c.in_err-followed.field-0.0 in
     rw (p.1, p.2) (λ given h. let ran = c.in_ok-run.ensures.ran given h.first in
     let is = passed-is m one n other given c.args.input _ _ c.in_ok-passed.passed c.in_ok-passed.ensures.is c.events-events.ensures.number
     ran.run in
@@ -77,7 +77,7 @@ returns-in_err-cycle-clause-cut g c =
     (subst (λ (r : RunFrame). Grew sinks.first.before sinks.first.after (spelled_frame one.format (Run r))) ran.run ran.took)
     (subst (λ (x : CycleInput). Cuts failure sinks.second.before sinks.second.after
     (spelled_frame other.format (Run (next_run n other (passed_on m one n other given) x)))) is
-    (c.in_err-cycle.ensures.cut (passed_on m one n other given) h.second)))
+    (c.in_err-followed.ensures.cut (passed_on m one n other given) h.second)))
 
 pub returns-clause-linked : goal.returns-clause-linked
 returns-clause-linked g c given h =
@@ -86,12 +86,12 @@ returns-clause-linked g c given h =
     let one = c.args.first.now.recording.profile in
     let other = c.args.second.now.recording.profile in
     let ran = c.in_ok-run.ensures.ran given h.first in
-    let followed = c.in_ok-cycle.ensures.ran (passed_on m one n other given) h.second in
+    let followed = c.in_ok-followed.ensures.ran (passed_on m one n other given) h.second in
     let is = passed-is m one n other given c.args.input _ _ c.in_ok-passed.passed c.in_ok-passed.ensures.is c.events-events.ensures.number
     ran.run in
     let all = passed-next m one n other given c.args.input c.in_ok-passed.passed c.cycle.new.self.profile c.cycle-2.new.self.profile
-    c.in_ok-run.ensures.profile c.in_ok-cycle.ensures.profile is in
-    record {
+    c.in_ok-run.ensures.profile c.in_ok-followed.ensures.profile is in
+    rw (c.take_back.ensures, c.take_back-2.ensures) (record {
       stands = record {
         first = ran.stands;
         second = subst (λ (xs : List CycleInput). Stands n c.cycle-2.new.self xs) all followed.stands;
@@ -104,4 +104,4 @@ returns-clause-linked g c given h =
             (subst (λ (r : RunFrame). Grew (g.L.Sink.took c.args.second_sink.now) (g.L.Sink.took c.cycle-2.new.sink)
             (spelled_frame other.format (Run r))) followed.run followed.took);
       };
-    }
+    })

@@ -3,9 +3,9 @@ use Rattle.std.specs.Prelude.{String}
 use Rattle.std.specs.Global.{Global}
 use Rattle.std.proofs.lemmas.List.{take_rest}
 use Rattle.cli_words.specs.Names.{texts}
-use Rattle.cli_words.specs.Reading.{read}
 use Rattle.cli_words.proofs.Steps.{many}
 use Rattle.cli_words.proofs.reading.read_words.Goals as goal
+use Rattle.cli_words.specs.First.{read}
 
 pub returns-in-len3-up : goal.returns-in-len3-up
 returns-in-len3-up c =

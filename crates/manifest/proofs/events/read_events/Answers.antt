@@ -13,7 +13,7 @@ loop-i-preserved c =
     let i = c.loop-i.i in
     let n = c.in_ok-count.count in
     let x = c.in_ok-read_event.field-0 in
-    let good : first_fault tree (event_keys i 1) ≡ None = search (rules, c.in_ok-read_event.ensures.judged) in
+    let good : first_fault tree (event_keys i) ≡ None = search (rules, c.in_ok-read_event.ensures.judged) in
     let read : x ≡ event_at tree i = search (rules, c.in_ok-read_event.ensures.judged) in
     let pushed : c.push.new.self ≡ c.loop-i.events ++ x ∷ [] = search (rules, c.in_ok-push.ensures) in
     record {

@@ -1,5 +1,4 @@
 use Rattle.std.proofs.Common.{rules, ◌≡◌, ◌+◌, ◌*◌, take, drop, List, ap, ◌∙◌, sym, refl, arith}
-use Rattle.std.specs.Arc.{arc_value}
 use Rattle.pass_in_blocks.specs.Steps.{passed_by, none_in, added_to}
 use Rattle.pass_in_blocks.proofs.Running.{goes_on, stops}
 use Rattle.pass_in_blocks.proofs.Sound.{in_pass, has_room}
@@ -16,7 +15,7 @@ step-requires-clause-room g c =
 
 pub returns-in-Refused : goal.returns-in-Refused
 returns-in-Refused g c = let m = g.J.Job.meaning in let t = c.args.pass.now in let first = 64 * c.args.block in
-    let is : c.block.result.now ≡ take 64 (drop first (arc_value t.elements)) = search rules in
+    let is : c.block.result.now ≡ take 64 (drop first t.elements) = search rules in
     let came = stops m t first (first + c.run.k) c.block.result.now (none_in m t) c.run.k 1 refl (omega arith)
     (passed_by c.run.elements.items c.run.draws.items c.run.part) (record { element = c.in-Refused.element; code = c.in-Refused.code })
     c.run.invariant (search rules) in
@@ -26,4 +25,4 @@ pub run-preserved : goal.run-preserved
 run-preserved g c = let m = g.J.Job.meaning in let t = c.args.pass.now in let first = 64 * c.args.block in
     goes_on m t first (first + c.run.k) c.block.result.now (none_in m t) c.run.k 1 refl (omega arith)
     (passed_by c.run.elements.items c.run.draws.items c.run.part)
-    (passed_by c.step.new.elements.items c.step.new.draws.items c.in-Ok.more) c.run.invariant (search rules)
+    (passed_by c.step.new.elements.items c.step.new.draws.items c.step.new.part) c.run.invariant (search rules)

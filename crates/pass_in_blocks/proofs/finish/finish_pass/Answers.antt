@@ -1,5 +1,4 @@
-use Rattle.std.proofs.Common.{rules, ◌≡◌, ◌+◌, ◌*◌, ◌<◌, ◌∙◌, [], Ok, length, sym, ap, subst, refl, arith}
-use Rattle.std.specs.Arc.{arc_value}
+use Rattle.std.proofs.Common.{rules, ◌≡◌, ◌+◌, ◌*◌, ◌∙◌, [], Ok, length, sym, subst, refl, arith}
 use Rattle.job_trait.specs.Cycle.{shown_with}
 use Rattle.job_trait.specs.Passes.{block_in, drawn_so_far}
 use Rattle.pass_in_blocks.specs.Answers.{left_by}
@@ -9,44 +8,36 @@ use Rattle.pass_in_blocks.proofs.Sound.{can_join, all_answer, next_done, refusal
 use Rattle.pass_in_blocks.proofs.Shows.{shows_next, shows_all, shown_length}
 use Rattle.pass_in_blocks.proofs.finish.finish_pass.Goals as goal
 
-pub overflow_cast-b : goal.overflow_cast-b
-overflow_cast-b g c = let q = c.blocks-b-end.ensures.no_more c.join.b (omega arith) in let e = ap length c.deref-4.ensures in
-    let f = c.requires.ready.few in let lt : c.join.b < 1024 = omega arith in omega arith
-
-pub overflow_cast-b-in-Done : goal.overflow_cast-b-in-Done
-overflow_cast-b-in-Done g c = let q = c.blocks-b-end.ensures.no_more c.join.b (omega arith) in let e = ap length c.deref-4.ensures in
-    let f = c.requires.ready.few in let lt : c.join.b < 1024 = omega arith in omega arith
-
 pub show_block-requires-clause-inside : goal.show_block-requires-clause-inside
 show_block-requires-clause-inside g c =
-    let q = c.blocks-b-end.ensures.no_more c.join.b (omega arith) in let e = ap length c.deref-4.ensures in omega arith
+    let q = c.blocks-b-end.ensures.blocks in omega arith
 
 pub answer_at-requires-clause-inside : goal.answer_at-requires-clause-inside
 answer_at-requires-clause-inside g c =
-    let q = c.blocks-b-end.ensures.no_more c.join.b (omega arith) in let e = ap length c.deref-4.ensures in omega arith
+    let q = c.blocks-b-end.ensures.blocks in omega arith
 
 pub join_block-requires : goal.join_block-requires
 join_block-requires g c =
-    let q = c.blocks-b-end.ensures.no_more c.join.b (omega arith) in let e = ap length c.deref-4.ensures in
+    let q = c.blocks-b-end.ensures.blocks in
     let d = passed_by c.join.elements c.join.draws c.join.part in
-    subst (λ j. CanJoin g.J.Job.Covers j d (left_by c.in-Done.done)) (sym c.deref-in-Done.ensures)
+    subst (λ j. CanJoin g.J.Job.Covers j d (left_by c.in-Done.done)) (sym c.job-job.ensures)
     (can_join g.met.J.Job.laws c.args.pass.now c.requires.ready c.join.b d c.join.invariant.done (omega arith)
     (left_by c.in-Done.done) (search rules))
 
 pub returns-in-Refused : goal.returns-in-Refused
 returns-in-Refused g c =
-    let q = c.blocks-b-end.ensures.no_more c.join.b (omega arith) in let e = ap length c.deref-4.ensures in
+    let q = c.blocks-b-end.ensures.blocks in
     let d = passed_by c.join.elements c.join.draws c.join.part in
     refusal_answer g.met.J.Job.laws c.args.pass.now c.requires.ready c.join.b d c.join.invariant.done (omega arith)
     c.in-Refused.element c.in-Refused.code (search rules)
 
 pub join-preserved : goal.join-preserved
 join-preserved g c =
-    let q = c.blocks-b-end.ensures.no_more c.join.b (omega arith) in let e = ap length c.deref-4.ensures in
+    let q = c.blocks-b-end.ensures.blocks in
     let d = passed_by c.join.elements c.join.draws c.join.part in
-    let both = passed_by c.join_block.new.elements c.join_block.new.draws c.in_ok-part-in-Done.part in
+    let both = passed_by c.join_block.new.elements c.join_block.new.draws c.join_block.new.part in
     let came : block_in g.J.Job.meaning c.args.pass.now c.join.b ≡ Ok (left_by c.in-Done.done) = search rules in
-    let same : both ≡ beside (g.J.Job.meaning.joined (arc_value c.args.pass.now.job)) d (left_by c.in-Done.done) = search rules in record {
+    let same : both ≡ beside (g.J.Job.meaning.joined c.args.pass.now.job) d (left_by c.in-Done.done) = search rules in record {
       done = next_done g.met.J.Job.laws c.args.pass.now c.requires.ready c.join.b d c.join.invariant.done (omega arith)
           (left_by c.in-Done.done) both came same;
       shown = λ shows. subst (λ x. AreSpelled (shown_before g.J.Job.meaning c.args.pass.now (64 * (c.join.b + 1)) x.elements x.draws) []
@@ -58,23 +49,23 @@ join-preserved g c =
     }
 
 pub returns : goal.returns
-returns g c = let q = c.blocks-b-end.ensures.enough in let e = ap length c.deref-4.ensures in
+returns g c = let q = c.blocks-b-end.ensures.blocks in
     let d = passed_by c.join.elements c.join.draws c.join.part in
     let laws = g.met.J.Job.laws in let t = c.args.pass.now in
     let n : length c.join.elements ≡ c.len-count.result = sym c.len-count.ensures.len in
     all_answer laws t c.requires.ready c.join.b d c.join.invariant.done
     (record { elements = c.join.elements; draws = c.join.draws; part = c.join.part; shown = c.frame_of.result }) refl (omega arith)
-    (λ shows. c.frame_of.ensures shows _
+    (λ shows. c.frame_of.ensures (c.shows.ensures ∙ shows) _
     (shows_all laws t c.requires.ready d (64 * c.join.b) c.join.invariant.done (omega arith) c.join.shown.items
     (c.join.invariant.shown shows))
     (shown_length laws t c.requires.ready d (64 * c.join.b) c.join.invariant.done (omega arith) ∙ n))
 
 pub frame_of-requires-clause-spelled : goal.frame_of-requires-clause-spelled
-frame_of-requires-clause-spelled g c shows = let q = c.blocks-b-end.ensures.enough in let e = ap length c.deref-4.ensures in
+frame_of-requires-clause-spelled g c told = let shows = sym c.shows.ensures ∙ told in let q = c.blocks-b-end.ensures.blocks in
     let d = passed_by c.join.elements c.join.draws c.join.part in
     let laws = g.met.J.Job.laws in let t = c.args.pass.now in
     let n : length c.join.elements ≡ c.len-count.result = sym c.len-count.ensures.len in (
-      shown_with g.J.Job.meaning (arc_value t.job) c.join.elements (drawn_so_far (arc_value t.earlier) c.join.draws),
+      shown_with g.J.Job.meaning t.job c.join.elements (drawn_so_far t.earlier c.join.draws),
       shows_all laws t c.requires.ready d (64 * c.join.b) c.join.invariant.done (omega arith) c.join.shown.items
           (c.join.invariant.shown shows),
       shown_length laws t c.requires.ready d (64 * c.join.b) c.join.invariant.done (omega arith) ∙ n,

@@ -1,4 +1,3 @@
-use Rattle.std.proofs.Common.{rules}
 use Rattle.pass_in_blocks.specs.Showing.{shown_in}
 use Rattle.pass_in_blocks.proofs.Shows.{copied}
 use Rattle.pass_in_blocks.proofs.showing.show_block.Goals as goal

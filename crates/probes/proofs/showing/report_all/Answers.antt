@@ -1,11 +1,11 @@
 use Rattle.std.proofs.Common.{◌≡◌, ◌+◌, ◌++◌, length, sym, ap, ◌∙◌, arith, length-append}
 use Rattle.std.proofs.lemmas.List.{append-nil}
-use Rattle.probes.specs.Reports.{reports, in_turn, staying}
+use Rattle.probes.specs.Reports.{reports, in_turn}
 use Rattle.probes.proofs.Joining.{staying-step}
 use Rattle.probes.proofs.showing.report_all.Goals as goal
 
 pub probes-init : goal.probes-init
-unfolding reports in_turn staying
+unfolding reports in_turn
 probes-init g c = record { done = sym (append-nil c.args.left.now); room = omega arith }
 
 pub probes-preserved : goal.probes-preserved

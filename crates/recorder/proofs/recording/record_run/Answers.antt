@@ -154,50 +154,6 @@ returns-in_err-show-clause-shelf_traffic g c =
       stays = g.met.S.Slots.stays_on _ _ _ c.cycles.invariant.shelf_traffic.stays c.in_ok-input.ensures.traffic.stays;
     })
 
-pub cycles-smaller-in_ok-show : goal.cycles-smaller-in_ok-show
-cycles-smaller-in_ok-show g c =
-    let m = g.J.Job.meaning in
-    let profile = c.args.recording.now.profile in
-    let running = c.cycles.invariant.running in
-    let answered = answered-as (Ok c.in_ok-input.field-0) (Ok (Some c.in-Some.input)) (g.S.Slots.sees c.cycles.shelf)
-    (g.S.Slots.sees c.next_input.new.shelf)
-    c.cycles.stimulus c.next_input.new.self (ap Ok c.in-Some.is) c.in_ok-input.ensures.input in
-    let n = next-read m profile c.next_input.new.self (Ok (Some c.in-Some.input)) running.2 answered c.cycles.invariant.slot in
-    let few : c.cycles.recording.engine.cycles < 1000000 = few-cycles m profile c.in-Some.input running.2 n.2.1.few in
-    let one : c.cycle.new.self.engine.cycles ≡ c.cycles.recording.engine.cycles + 1 = c.in_ok-run.ensures.cycles in
-    omega arith
-
-pub cycles-preserved-in_ok-show : goal.cycles-preserved-in_ok-show
-cycles-preserved-in_ok-show g c =
-    let m = g.J.Job.meaning in
-    let profile = c.args.recording.now.profile in
-    let running = c.cycles.invariant.running in
-    let answered = answered-as (Ok c.in_ok-input.field-0) (Ok (Some c.in-Some.input)) (g.S.Slots.sees c.cycles.shelf)
-    (g.S.Slots.sees c.next_input.new.shelf)
-    c.cycles.stimulus c.next_input.new.self (ap Ok c.in-Some.is) c.in_ok-input.ensures.input in
-    let ran = subst (λ (p : ProfileValue). Ran m p running.1 c.in-Some.input c.cycle.new.self c.in_ok-run.run' (g.K.Sink.took c.cycles.sink)
-    (g.K.Sink.took c.cycle.new.sink))
-    c.cycles.invariant.profile (c.in_ok-run.ensures.ran running.1 running.2.stands) in
-    let on = running-next m profile c.next_input.new.self c.cycle.new.self c.in-Some.input c.in_ok-run.run' running.2 answered
-    c.cycles.invariant.slot ran
-    c.in_ok-show.ensures.shown in
-    record {
-      running = (on.0, running.1 ++ c.in-Some.input ∷ [], on.1);
-      profile = c.in_ok-run.ensures.profile ∙ c.cycles.invariant.profile;
-      slot = c.in_ok-input.ensures.slot ∙ c.cycles.invariant.slot;
-      events = c.in_ok-input.ensures.events ∙ c.cycles.invariant.events;
-      shelf_traffic = record {
-        cause = λ e. cc;
-        counted = omega (arith, c.cycles.invariant.shelf_traffic.counted, c.in_ok-input.ensures.traffic.counted);
-        stays = g.met.S.Slots.stays_on _ _ _ c.cycles.invariant.shelf_traffic.stays c.in_ok-input.ensures.traffic.stays;
-      };
-      sink_traffic = record {
-        cause = λ e. cc;
-        counted = omega
-            (arith, c.cycles.invariant.sink_traffic.counted, c.in_ok-run.ensures.traffic.counted);
-      };
-    }
-
 pub cycles-smaller : goal.cycles-smaller
 cycles-smaller g c =
     let m = g.J.Job.meaning in
@@ -208,7 +164,8 @@ cycles-smaller g c =
     c.cycles.stimulus c.next_input.new.self (ap Ok c.in-Some.is) c.in_ok-input.ensures.input in
     let n = next-read m profile c.next_input.new.self (Ok (Some c.in-Some.input)) running.2 answered c.cycles.invariant.slot in
     let few : c.cycles.recording.engine.cycles < 1000000 = few-cycles m profile c.in-Some.input running.2 n.2.1.few in
-    let one : c.cycle.new.self.engine.cycles ≡ c.cycles.recording.engine.cycles + 1 = c.in_ok-run.ensures.cycles in
+    let one : c.take_back-input.new.self.engine.cycles ≡ c.cycles.recording.engine.cycles + 1 =
+    ap (λ r. r.engine.cycles) c.take_back-input.ensures ∙ c.in_ok-run.ensures.cycles in
     omega arith
 
 pub cycles-preserved : goal.cycles-preserved
@@ -225,7 +182,7 @@ cycles-preserved g c =
     let on = running-next m profile c.next_input.new.self c.cycle.new.self c.in-Some.input c.in_ok-run.run' running.2 answered
     c.cycles.invariant.slot ran
     c.in_ok-show.ensures.shown in
-    record {
+    rw (c.take_back-input.ensures, c.take_back.ensures) (record {
       running = (on.0, running.1 ++ c.in-Some.input ∷ [], on.1);
       profile = c.in_ok-run.ensures.profile ∙ c.cycles.invariant.profile;
       slot = c.in_ok-input.ensures.slot ∙ c.cycles.invariant.slot;
@@ -240,7 +197,7 @@ cycles-preserved g c =
         counted = omega
             (arith, c.cycles.invariant.sink_traffic.counted, c.in_ok-run.ensures.traffic.counted);
       };
-    }
+    })
 
 pub returns-in_err-counts-clause-recorded : goal.returns-in_err-counts-clause-recorded
 returns-in_err-counts-clause-recorded g c =

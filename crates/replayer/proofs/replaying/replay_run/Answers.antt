@@ -93,9 +93,9 @@ cycle-requires-clause-known g c =
     subst (λ (k : ℕ). All (λ (s : SampleValue). s.event < k) c.in-Some.input.samples)
     (ap (λ (p : ProfileValue). length p.events) (sym c.cycles.invariant.profile)) (n.is gave.0 gave.1).1.known
 
-pub returns-in_err-cycle-clause-replayed : goal.returns-in_err-cycle-clause-replayed
-returns-in_err-cycle-clause-replayed g c read stands =
-    let p = err_from_is_err_and c.from_residual-in_err-cycle.result c.from_residual-in_err-cycle.ensures.1 in
+pub returns-in_err-run-clause-replayed : goal.returns-in_err-run-clause-replayed
+returns-in_err-run-clause-replayed g c read stands =
+    let p = err_from_is_err_and c.from_residual-in_err-run.result c.from_residual-in_err-run.ensures.1 in
     let m = g.J.Job.meaning in
     let profile = c.args.recording.now.profile in
     let running = c.cycles.invariant.running in
@@ -103,20 +103,20 @@ returns-in_err-cycle-clause-replayed g c read stands =
     c.in_ok-input.ensures.input c.cycles.invariant.slot in
     let shelf = shelf_run g.S.Slots.sees g.S.Slots.stays c.args.shelf.now c.next_input.new.shelf in
     let sink = sink_run g.K.Sink.took g.K.Sink.faults c.args.sink.now c.cycle.new.sink in
-    let failure = c.in_err-cycle.field-0.0 in
+    let failure = c.in_err-run.field-0.0 in
     let cut = subst (λ (p : ProfileValue). Cuts failure (g.K.Sink.took c.cycles.sink) (g.K.Sink.took c.cycle.new.sink)
     (spelled_frame p.format (Run (next_run m p running.1 c.in-Some.input)))) c.cycles.invariant.profile
-    (c.in_err-cycle.ensures.cut running.1 running.2.stands) in
+    (c.in_err-run.ensures.cut running.1 running.2.stands) in
     rw (p.1, p.2) (replayed m profile n.all
     (cycle-failed m profile (slot_of c.args.frames.now) shelf sink running.2 c.next_input.new.frames read stands c.in-Some.input failure n
     cut))
 
-pub returns-in_err-cycle-clause-shelf_traffic : goal.returns-in_err-cycle-clause-shelf_traffic
-returns-in_err-cycle-clause-shelf_traffic g c =
-    let p = err_from_is_err_and c.from_residual-in_err-cycle.result c.from_residual-in_err-cycle.ensures.1 in
+pub returns-in_err-run-clause-shelf_traffic : goal.returns-in_err-run-clause-shelf_traffic
+returns-in_err-run-clause-shelf_traffic g c =
+    let p = err_from_is_err_and c.from_residual-in_err-run.result c.from_residual-in_err-run.ensures.1 in
     let running = c.cycles.invariant.running in
     let shelf = shelf_run g.S.Slots.sees g.S.Slots.stays c.args.shelf.now c.next_input.new.shelf in
-    rw (p.1, p.2) (no-read c.in_err-cycle.field-0.0 _ _ _ shelf (c.in_err-cycle.ensures.cut running.1 running.2.stands) (record {
+    rw (p.1, p.2) (no-read c.in_err-run.field-0.0 _ _ _ shelf (c.in_err-run.ensures.cut running.1 running.2.stands) (record {
       cause = λ e. cc;
       counted = omega (arith, c.cycles.invariant.shelf_traffic.counted, c.in_ok-input.ensures.traffic.counted);
       stays = g.met.S.Slots.stays_on _ _ _ c.cycles.invariant.shelf_traffic.stays c.in_ok-input.ensures.traffic.stays;
@@ -132,7 +132,8 @@ cycles-smaller g c =
     let gave = c.requires.opened.gave in
     let few : c.cycles.recording.engine.cycles < 1000000 = few-cycles m profile c.in-Some.input running.2.stands
     (n.is gave.0 gave.1).1.few in
-    let one : c.cycle.new.self.engine.cycles ≡ c.cycles.recording.engine.cycles + 1 = c.in_ok-cycle.ensures.cycles in
+    let one : c.take_back-spare.new.self.engine.cycles ≡ c.cycles.recording.engine.cycles + 1 =
+    ap (λ r. r.engine.cycles) c.take_back-spare.ensures ∙ c.in_ok-run.ensures.cycles in
     omega arith
 
 pub cycles-preserved : goal.cycles-preserved
@@ -142,16 +143,16 @@ cycles-preserved g c =
     let running = c.cycles.invariant.running in
     let n = next-as m profile running.2 c.next_input.new.frames (Ok c.in_ok-input.field-0) (Ok (Some c.in-Some.input)) (ap Ok c.in-Some.is)
     c.in_ok-input.ensures.input c.cycles.invariant.slot in
-    let ran = subst (λ (p : ProfileValue). Ran m p running.1 c.in-Some.input c.cycle.new.self c.in_ok-cycle.field-0
+    let ran = subst (λ (p : ProfileValue). Ran m p running.1 c.in-Some.input c.cycle.new.self c.in_ok-run.run'
     (g.K.Sink.took c.cycles.sink) (g.K.Sink.took c.cycle.new.sink))
-    c.cycles.invariant.profile (c.in_ok-cycle.ensures.ran running.1 running.2.stands) in
-    record {
+    c.cycles.invariant.profile (c.in_ok-run.ensures.ran running.1 running.2.stands) in
+    rw c.take_back-spare.ensures (record {
       running = (
         n.all,
         running.1 ++ c.in-Some.input ∷ [],
-        running-next m profile running.2 c.next_input.new.frames c.cycle.new.self c.in-Some.input c.in_ok-cycle.field-0 n ran,
+        running-next m profile running.2 c.next_input.new.frames c.cycle.new.self c.in-Some.input c.in_ok-run.run' n ran,
       );
-      profile = c.in_ok-cycle.ensures.profile ∙ c.cycles.invariant.profile;
+      profile = c.in_ok-run.ensures.profile ∙ c.cycles.invariant.profile;
       slot = c.in_ok-input.ensures.slot ∙ c.cycles.invariant.slot;
       shelf_traffic = record {
         cause = λ e. cc;
@@ -160,9 +161,9 @@ cycles-preserved g c =
       };
       sink_traffic = record {
         cause = λ e. cc;
-        counted = omega (arith, c.cycles.invariant.sink_traffic.counted, c.in_ok-cycle.ensures.traffic.counted);
+        counted = omega (arith, c.cycles.invariant.sink_traffic.counted, c.in_ok-run.ensures.traffic.counted);
       };
-    }
+    })
 
 pub returns-in_err-counts-clause-replayed : goal.returns-in_err-counts-clause-replayed
 returns-in_err-counts-clause-replayed g c read stands =

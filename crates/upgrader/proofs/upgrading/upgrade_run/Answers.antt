@@ -5,19 +5,21 @@ use Rattle.det_values.specs.Values.{ProfileValue}
 use Rattle.det_values.specs.declared.frames.Frame.TheVariants.{Terminate}
 use Rattle.det_edges.specs.Sink.{Grew}
 use Rattle.det_edges.specs.Shelf.{IsAtEnd}
-use Rattle.det_edges.specs.Traffic.{shelf_run, sink_run}
+use Rattle.det_edges.specs.Traffic.{ShelfTraffic, shelf_run, sink_run}
 use Rattle.record_view.specs.declared.view.FrameView.{FrameView}
 use Rattle.record_grammar.specs.Spelling.{spelled, spelled_frame}
+use Rattle.record_reader.proofs.Views.{shelf-then, same-failure}
 use Rattle.record_reader.specs.Frames.{RoomFell, HasRead, FrameIs, slot_of, room}
 use Rattle.run_writer.specs.Recording.{Cuts}
 use Rattle.checker.specs.Given.{IsPlaced}
+use Rattle.checker.specs.declared.verdict.CheckVerdict.{CheckVerdict}
 use Rattle.upgrader.specs.Begun.{in_format_of, header_of}
 use Rattle.upgrader.specs.Frames.{GoesOn}
 use Rattle.checker.proofs.Departing.{inputs_of}
 use Rattle.checker.proofs.Running.{held-frame}
 use Rattle.upgrader.proofs.Order.{fewer_inputs}
 use Rattle.upgrader.proofs.Going.{two-is, new-behind, running-begun, next-read, placed, few-done, comes, takes-as}
-use Rattle.upgrader.proofs.Going.{running-next, no-write, no-read, compared-next, cycles-next, none-of}
+use Rattle.upgrader.proofs.Going.{running-next, no-write, no-read, no-read-behind, compared-next, cycles-next, none-of}
 use Rattle.upgrader.proofs.Ending.{as-told, header-failed, departs, take-failed, close-failed, closed, reading-stopped}
 use Rattle.upgrader.proofs.upgrading.upgrade_run.Goals as goal
 
@@ -294,3 +296,34 @@ reading-preserved g c =
         counted = omega (arith, c.reading.invariant.sink_traffic.counted, c.in_ok-at.ensures.traffic.counted);
       };
     }
+
+pub returns-in_err-view-clause-shelf_traffic : goal.returns-in_err-view-clause-shelf_traffic
+returns-in_err-view-clause-shelf_traffic g c =
+    let p = err_from_is_err_and c.from_residual-in_err-view.result c.from_residual-in_err-view.ensures.1 in
+    let shelf = shelf_run g.S.Slots.sees g.S.Slots.stays c.args.shelf.now c.next.new.shelf in
+    rw (p.1, p.2) (subst (ShelfTraffic shelf) (same-failure (Option FrameView) CheckVerdict c.in_err-view.field-0.0)
+    (shelf-then (g.met.S.Slots.stays_on _ _ _) c.reading.invariant.shelf_traffic c.in_err-view.ensures.traffic))
+
+pub returns-in_err-close-clause-shelf_traffic : goal.returns-in_err-close-clause-shelf_traffic
+returns-in_err-close-clause-shelf_traffic g c =
+    let p = err_from_is_err_and c.from_residual-in_err-close.result c.from_residual-in_err-close.ensures.1 in
+    let shelf = shelf_run g.S.Slots.sees g.S.Slots.stays c.args.shelf.now c.next.new.shelf in
+    rw (p.1, p.2) (no-read-behind c.in_err-close.field-0.0 _ _ _ shelf c.in_err-close.ensures.cut (record {
+      cause = λ e. cc;
+      counted = omega (arith, c.reading.invariant.shelf_traffic.counted, c.in_ok-view.ensures.traffic.counted);
+      stays = g.met.S.Slots.stays_on _ _ _ c.reading.invariant.shelf_traffic.stays c.in_ok-view.ensures.traffic.stays;
+    }))
+
+pub returns-in_default-clause-shelf_traffic : goal.returns-in_default-clause-shelf_traffic
+returns-in_default-clause-shelf_traffic g c = record {
+  cause = λ e. cc;
+  counted = omega (arith, c.reading.invariant.shelf_traffic.counted, c.in_ok-view.ensures.traffic.counted);
+  stays = g.met.S.Slots.stays_on _ _ _ c.reading.invariant.shelf_traffic.stays c.in_ok-view.ensures.traffic.stays;
+}
+
+pub returns-in-Some-2-clause-shelf_traffic : goal.returns-in-Some-2-clause-shelf_traffic
+returns-in-Some-2-clause-shelf_traffic g c = record {
+  cause = λ e. cc;
+  counted = omega (arith, c.reading.invariant.shelf_traffic.counted, c.in_ok-view.ensures.traffic.counted);
+  stays = g.met.S.Slots.stays_on _ _ _ c.reading.invariant.shelf_traffic.stays c.in_ok-view.ensures.traffic.stays;
+}

@@ -1,7 +1,6 @@
-use Rattle.std.proofs.Common.{◌≡◌, length, IfOk, ◌∙◌, sym, ap, subst}
-use Rattle.std.specs.Arc.{arc_value}
+use Rattle.std.proofs.Common.{IfOk, ◌∙◌, sym, ap, subst}
 use Rattle.std.specs.List.{All}
-use Rattle.job_trait.specs.Passes.{IsReady, block_in, blocks_in, blocks_of}
+use Rattle.job_trait.specs.Passes.{IsReady, block_in, blocks_in}
 use Rattle.pass_in_blocks.specs.Answers.{AreRight}
 use Rattle.pass_in_blocks.specs.Showing.{AreBlocksOf, shown_in}
 use Rattle.worker_pool.specs.Handles.{IsAt}
@@ -14,14 +13,12 @@ work_together-requires g c =
     let made = c.in_ok-table.ensures in
     let is = sym c.in-Ok.ensures.ok in
     let same = sym c.in_ok-pass.ensures in
-    let count : c.len.result ≡ length (arc_value (arc_value c.in_ok-pass.pass).elements)
-    = c.len.ensures.len ∙ ap length c.deref-2.ensures ∙ ap (λ p. length (arc_value p.elements)) (c.deref.ensures ∙ same) in
     record {
       room = c.requires.room;
       few = c.requires.few;
       task = subst (λ t. IsTask j.meaning j.Covers j.Own j.Fit t) is (record {
         ready = subst (λ p. IsReady j.meaning j.Covers j.Own j.Fit p) same c.requires.ready;
-        sized = made.0 ∙ ap blocks_of count;
+        sized = made.0 ∙ c.blocks-2.ensures.blocks ∙ ap (λ p. blocks_in p) same;
       });
       here = subst (λ t. IsAt c.in_ok-table.seat t.table) is made.1;
       fresh = made.2;
@@ -30,7 +27,7 @@ work_together-requires g c =
 pub returns : goal.returns
 returns g c =
     let m = g.J.Job.meaning in
-    let is = ap (λ t. arc_value t.pass) c.in-Ok.ensures.ok ∙ c.in_ok-pass.ensures in
+    let is = ap (λ t. t.pass) c.in-Ok.ensures.ok ∙ c.in_ok-pass.ensures in
     record {
       right = subst (λ p. IfOk c.work_together.result (λ found. AreRight (block_in m p) (blocks_in p) found.results.items)) is
           c.work_together.ensures.right;

@@ -1,5 +1,4 @@
 use Rattle.std.proofs.Common.{◌∙◌}
-use Rattle.std.specs.Arc.{arc_value}
 use Rattle.std.proofs.lemmas.List.Elements.{All-append, All-push, All-same}
 use Rattle.std.proofs.lemmas.Result.{on_ok_weaker}
 use Rattle.job_trait.specs.Passes.{block_in, blocks_in}
@@ -14,7 +13,7 @@ join-requires-clause-other g c = (c.requires.reply c.args.task.now (c.check.ensu
 
 pub returns-clause-right : goal.returns-clause-right
 returns-clause-right g c =
-    let t = arc_value c.args.task.now.pass in
+    let t = c.args.task.now.pass in
     let P = IsRight (block_in g.J.Job.meaning t) (blocks_in t) in
     let b = brought g.J.Job.meaning c.args.reply.ticket.work c.args.task.now c.args.reply.seat c.args.reply.share
     c.in-Ok.share c.requires.reply (c.check.ensures.told c.requires.present ∙ c.requires.announced) c.in-Ok.is in
@@ -32,6 +31,6 @@ returns-clause-share g c =
     let t = c.args.task.now in
     let b = brought g.J.Job.meaning c.args.reply.ticket.work t c.args.reply.seat c.args.reply.share
     c.in-Ok.share c.requires.reply (c.check.ensures.told c.requires.present ∙ c.requires.announced) c.in-Ok.is in
-    on_ok_weaker c.add.result (λ e. share_joined (block_in g.J.Job.meaning (arc_value t.pass)) (block_count t.table)
+    on_ok_weaker c.add.result (λ e. share_joined (block_in g.J.Job.meaning t.pass) (block_count t.table)
     (view_of c.args.seat.now) (view_of c.args.reply.seat) (view_of c.join.new.seat) _ _ _ c.requires.share b.2 c.join.ensures.1 e)
     c.add.ensures.results

@@ -1,5 +1,4 @@
-use Rattle.std.proofs.Common.{◌≡◌, ◌∙◌, sym, ap, subst}
-use Rattle.std.specs.Arc.{arc_value}
+use Rattle.std.proofs.Common.{◌∙◌, sym, ap, subst}
 use Rattle.std.proofs.lemmas.List.Elements.{All-same}
 use Rattle.job_trait.specs.Passes.{IsReady, block_in, blocks_in}
 use Rattle.pass_in_blocks.specs.Answers.{IsRight, AreRight}
@@ -12,30 +11,30 @@ use Rattle.worker_pool.proofs.line.work_at.Goals as goal
 pub work_blocks-requires : goal.work_blocks-requires
 work_blocks-requires g c =
     let j = g.J.Job in
-    let e = sym c.deref-2.ensures in record {
+    let e = sym c.pass-pass.ensures in record {
       here = c.requires.here;
       ready = subst (λ t. IsReady j.meaning j.Covers j.Own j.Fit t) e c.requires.task.ready;
       sized = c.requires.task.sized ∙ ap blocks_in e;
       new = c.requires.new;
-      spelled = c.in_ok-begin.ensures (shown_in j.meaning c.deref-2.result.now);
+      spelled = c.in_ok-begin.ensures (shown_in j.meaning c.pass-pass.result);
     }
 
 pub returns-clause-right : goal.returns-clause-right
 returns-clause-right g c =
     let m = g.J.Job.meaning in
-    let t = arc_value c.args.task.now.pass in
+    let t = c.args.task.now.pass in
     All-same (IsRight (block_in m t) (blocks_in t)) _ _ c.into_vec.ensures
-    (subst (λ p. AreRight (block_in m p) (blocks_in p) c.in_ok-results.results) c.deref-2.ensures c.in_ok-results.ensures.right)
+    (subst (λ p. AreRight (block_in m p) (blocks_in p) c.in_ok-results.results) c.pass-pass.ensures c.in_ok-results.ensures.right)
 
 pub returns-clause-spelled : goal.returns-clause-spelled
 returns-clause-spelled g c =
-    subst (λ p. AreBlocksOf (shown_in g.J.Job.meaning p) c.work_blocks.new.spelled) c.deref-2.ensures c.in_ok-results.ensures.spelled
+    subst (λ p. AreBlocksOf (shown_in g.J.Job.meaning p) c.work_blocks.new.spelled) c.pass-pass.ensures c.in_ok-results.ensures.spelled
 
 pub returns-clause-share : goal.returns-clause-share
 returns-clause-share g c =
     let m = g.J.Job.meaning in
     let t = c.args.task.now in
     let v = view_of c.work_blocks.new.seat in
-    share_of (block_in m (arc_value t.pass)) (block_count t.table) v c.in_ok-results.results c.into_vec.result.items
-    (subst (λ p. Works (block_in m p) v c.in_ok-results.results) c.deref-2.ensures c.in_ok-results.ensures.works)
+    share_of (block_in m t.pass) (block_count t.table) v c.in_ok-results.results c.into_vec.result.items
+    (subst (λ p. Works (block_in m p) v c.in_ok-results.results) c.pass-pass.ensures c.in_ok-results.ensures.works)
     c.in_ok-results.ensures.all_tried c.into_vec.ensures

@@ -14,3 +14,6 @@ compare-requires-clause-read g c =
           (sym (c.in_ok-given.ensures.frame behind.0 comes.0 behind.1 comes.1))
           (given-alike g.J.Job.meaning c.args.recording.now.profile behind.0 comes.0),
     )
+
+pub returns-clause-behind : goal.returns-clause-behind
+returns-clause-behind g c given read behind spelling = rw c.take_back.ensures (c.in_ok-given.ensures.behind given read behind spelling)

@@ -1,12 +1,11 @@
 use Rattle.std.proofs.Common.{◌≡◌, ℕ, ◌+◌, ◌*◌, List, length, arith, ◌∙◌, ap, sym}
 use Rattle.job_trait.specs.Cycle.{added, shown_with}
-use Rattle.job_trait.specs.Passes.{drawn_so_far}
 use Rattle.pass_in_blocks.proofs.Adding.{length-added, All-added}
 use Rattle.cycle_engine.proofs.passes.Passes.next.Goals as goal
 
 pub returns-in-Ok-clause-drew : goal.returns-in-Ok-clause-drew
 returns-in-Ok-clause-drew g c =
-    let same = ap length c.in_ok-shared.ensures in
+    let same = ap length c.in_ok-elements.ensures in
     let drew = c.in-Ok.ensures.drew ∙ same in
     let is : c.of.result ≡ added c.args.done.draws c.in-Ok.next.draws =
     c.of.ensures.later (ap length c.in_ok-earlier.ensures ∙ c.requires.drew ∙ sym drew)
@@ -15,7 +14,7 @@ returns-in-Ok-clause-drew g c =
 
 pub returns-in-Ok-clause-few_drawn : goal.returns-in-Ok-clause-few_drawn
 returns-in-Ok-clause-few_drawn g c =
-    let drew = c.in-Ok.ensures.drew ∙ ap length c.in_ok-shared.ensures in
+    let drew = c.in-Ok.ensures.drew ∙ ap length c.in_ok-elements.ensures in
     let is : c.of.result ≡ added c.args.done.draws c.in-Ok.next.draws =
     c.of.ensures.later (ap length c.in_ok-earlier.ensures ∙ c.requires.drew ∙ sym drew)
     ∙ ap (λ (xs : List ℕ). added xs c.in-Ok.next.draws) c.in_ok-earlier.ensures in
@@ -25,7 +24,5 @@ returns-in-Ok-clause-few_drawn g c =
 
 pub returns-in-Ok-clause-shown : goal.returns-in-Ok-clause-shown
 returns-in-Ok-clause-shown g c last =
-    let m = g.J.Job.meaning in let job = c.args.self.now.job in
-    let es = c.in-Ok.next.elements in let ds = c.in-Ok.next.draws in
-    c.in-Ok.ensures.shown last ∙ ap (λ (xs : List ℕ). shown_with m job es (drawn_so_far xs ds)) c.in_ok-again.ensures
-    ∙ ap (λ (xs : List ℕ). shown_with m job es xs) (sym c.of.ensures.is)
+    let m = g.J.Job.meaning in let job = c.args.self.now.job in let es = c.in-Ok.next.elements in
+    c.in-Ok.ensures.shown last ∙ ap (λ (xs : List ℕ). shown_with m job es xs) (sym c.of.ensures.is)

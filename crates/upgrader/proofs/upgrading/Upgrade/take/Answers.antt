@@ -28,8 +28,8 @@ returns-clause-takes g c given read h spells =
       subst (Grew (g.K.Sink.took c.args.sink.now) (g.K.Sink.took c.write_unless_last.new.sink)) piece
           c.in_ok-write_unless_last.ensures.took,
       record {
-        behind = written-behind m c.compare.new.recording c.write_unless_last.new.recording (given ++ input_of read)
-            (ok.behind given read h spells) c.write_unless_last.ensures.engine c.write_unless_last.ensures.profile;
+        behind = rw c.take_back.ensures (written-behind m c.compare.new.recording c.write_unless_last.new.recording (given ++ input_of read)
+            (ok.behind given read h spells) c.write_unless_last.ensures.engine c.write_unless_last.ensures.profile);
         counted = record {
           compared = counted.compared ∙ ap (λ k. k + 1) counts.1;
           cycles = counted.cycles ∙ (λ i. counts.2 i + length (input_of (is i)));

@@ -1,0 +1,142 @@
+//! Memory that the cycles of an engine use again.
+ghost use Rattle.std.specs.Prelude.{◌≡◌, IfOk};
+ghost use Rattle.std.specs.Arc.{arc_value};
+
+use crate::owners::Place;
+use det_values::{Bytes, Container, CycleInput, OutOfMemory, Outcome, RunFrame, Spares};
+use job_trait::{Job, PassRoom};
+use std::alloc::Global;
+use std::marker::Model;
+use std::mem;
+use std::sync::Arc;
+
+/// Memory that the cycles of an engine use again, and where more of it is taken from. What it held
+/// is gone, so contracts see nothing of it.
+#[derive(Drop)]
+pub struct Desk<J: Job> {
+    pub(crate) room: PassRoom<J::Element, J::Part>,
+    pub(crate) plans: Place<J::Plan>,
+    carries: Place<J::Part>,
+    elements: Place<Container<J::Element>>,
+    draws: Place<Container<u32>>,
+    /// Bytes of an output that nobody needs.
+    pub(crate) output: Option<Bytes>,
+}
+
+/// Keeps a container that has elements. One without any has no memory either, and would be in the
+/// way of those that have.
+fn keep_filled<E: Drop>(spares: &mut Spares<E>, container: Container<E>) {
+    if !container.is_empty() {
+        spares.keep(container);
+    }
+}
+
+impl<J: Job> Model for Desk<J> {
+    ghost Value = { Unit {0} };
+
+    ghost view = { λ _. tt };
+}
+
+impl<J: Job> Desk<J> {
+    /// None yet. It takes no memory.
+    pub fn new(alloc: Global) -> Desk<J> {
+        Desk {
+            room: PassRoom::new(alloc),
+            plans: Place::new(),
+            carries: Place::new(),
+            elements: Place::new(),
+            draws: Place::new(),
+            output: None,
+        }
+    }
+
+    /// Where memory is taken from.
+    pub(crate) fn alloc(&self) -> Global {
+        self.room.alloc()
+    }
+
+    /// A plan that can have several owners.
+    pub(crate) fn share_plan(&mut self, plan: J::Plan) -> Result<Arc<J::Plan, Global>, OutOfMemory>
+        ensures { IfOk result (λ owner. arc_value owner ≡ plan) }
+    {
+        let alloc = self.alloc();
+        self.plans.share(alloc, plan)
+    }
+
+    /// A part that is carried to a pass.
+    pub(crate) fn share_part(&mut self, part: J::Part) -> Result<Arc<J::Part, Global>, OutOfMemory>
+        ensures { IfOk result (λ owner. arc_value owner ≡ part) }
+    {
+        let alloc = self.alloc();
+        let owner = self.carries.share(alloc, part)?;
+        if let Some(spare) = self.carries.spare.take() {
+            self.room.keep_part(spare);
+        }
+        Ok(owner)
+    }
+
+    /// Elements that a pass or a later cycle takes over.
+    pub(crate) fn share_elements(
+        &mut self,
+        elements: Container<J::Element>,
+    ) -> Result<Arc<Container<J::Element>, Global>, OutOfMemory>
+        ensures { IfOk result (λ owner. arc_value owner ≡ elements) }
+    {
+        let alloc = self.alloc();
+        let owner = self.elements.share(alloc, elements)?;
+        if let Some(spare) = self.elements.spare.take() {
+            keep_filled(&mut self.room.elements, spare);
+        }
+        Ok(owner)
+    }
+
+    /// Counts of words that a pass takes over.
+    pub(crate) fn share_draws(
+        &mut self,
+        draws: Container<u32>,
+    ) -> Result<Arc<Container<u32>, Global>, OutOfMemory>
+        ensures { IfOk result (λ owner. arc_value owner ≡ draws) }
+    {
+        let alloc = self.alloc();
+        let owner = self.draws.share(alloc, draws)?;
+        if let Some(spare) = self.draws.spare.take() {
+            keep_filled(&mut self.room.draws, spare);
+        }
+        Ok(owner)
+    }
+
+    /// Keeps the owner of a part that was carried, for its memory.
+    pub(crate) fn keep_part(&mut self, owner: Arc<J::Part, Global>) {
+        self.carries.keep(owner);
+    }
+
+    /// Keeps the owner of counts of words, for its memory.
+    pub(crate) fn keep_draws(&mut self, owner: Arc<Container<u32>, Global>) {
+        self.draws.keep(owner);
+    }
+
+    /// Keeps the owner of elements, for its memory. Their blocks are spare at once where nobody else
+    /// holds them.
+    pub(crate) fn keep_elements(&mut self, owner: Arc<Container<J::Element>, Global>) {
+        let mut owner = owner;
+        if let Some(place) = Arc::get_mut(&mut owner) {
+            let empty = Container::new(self.room.alloc());
+            self.room.elements.keep(mem::replace(place, empty));
+        }
+        self.elements.keep(owner);
+    }
+
+    /// Takes back the frame of a cycle that nobody needs, for its memory: that of its outcome stays
+    /// here, that of its input is answered.
+    pub fn take_back(&mut self, run: RunFrame) -> CycleInput {
+        let RunFrame { input, outcome } = run;
+        match outcome {
+            Outcome::Finished { elements, output } => {
+                self.room.keep_frame(elements);
+                self.output = Some(output);
+            }
+            Outcome::Refused(_) => {}
+        }
+        input
+    }
+}

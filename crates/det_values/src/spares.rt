@@ -1,0 +1,77 @@
+//! Memory of containers that is used again.
+ghost use Rattle.std.specs.Prelude.{◌≡◌, ◌≤◌, [], IfOk};
+
+use crate::{Container, OutOfMemory};
+use std::alloc::Global;
+
+/// Blocks and containers whose memory is used again, and where more of it is taken from. What they
+/// held is gone, so no clause speaks of what is kept here.
+#[derive(Drop)]
+pub struct Spares<E> {
+    alloc: Global,
+    blocks: Vec<Vec<E>>,
+    containers: Vec<Vec<Vec<E>>>,
+}
+
+impl<E: Drop> Spares<E> {
+    /// None yet. It takes no memory.
+    pub fn new(alloc: Global) -> Spares<E> {
+        Spares {
+            alloc,
+            blocks: Vec::new(alloc),
+            containers: Vec::new(alloc),
+        }
+    }
+
+    /// A list without elements, which has room for a block.
+    pub fn block(&mut self) -> Result<Vec<E>, OutOfMemory>
+        ensures { IfOk result (λ block. block.items ≡ []) }
+    {
+        if let Some(mut block) = self.blocks.pop() {
+            block.clear();
+            return Ok(block);
+        }
+        Ok(Vec::with_capacity(self.alloc, 64)?)
+    }
+
+    /// A container without elements, which has room for the blocks of so many where it is new.
+    pub fn container(&mut self, elements: usize) -> Result<Container<E>, OutOfMemory>
+        requires { elements ≤ 65536 }
+        ensures { IfOk result (λ container. container ≡ []) }
+    {
+        if let Some(mut blocks) = self.containers.pop() {
+            blocks.clear();
+            return Ok(Container::of_no_blocks(blocks));
+        }
+        Container::with_room(self.alloc, elements)
+    }
+
+    /// Keeps a block for its memory, unless there is none for the place that it takes here.
+    pub fn keep_block(&mut self, block: Vec<E>) {
+        let _ = self.blocks.push(block).is_ok();
+    }
+
+    /// Keeps a container and its blocks in the same way.
+    pub fn keep(&mut self, container: Container<E>) {
+        let mut blocks = container.into_blocks();
+        'each: while let Some(block) = blocks.pop() {
+            self.keep_block(block);
+        }
+        let _ = self.containers.push(blocks).is_ok();
+    }
+
+    /// The number of spare blocks.
+    pub fn blocks(&self) -> usize {
+        self.blocks.len()
+    }
+
+    /// Gives so many blocks away, as far as they are there.
+    pub fn give(&mut self, other: &mut Spares<E>, count: usize) {
+        for _ in 0..count {
+            match self.blocks.pop() {
+                Some(block) => other.keep_block(block),
+                None => return,
+            }
+        }
+    }
+}
