@@ -15,7 +15,7 @@ from typing import Optional
 
 from goals import ABSENT, judged
 from inputs import NAMES
-from running import Failure, Runner, adopt_orphans
+from running import Failure, Runner, adopt_orphans, busy_processes
 from suites import Bench, Programs, Row, build_plain
 
 TOP = Path(__file__).resolve().parent.parent
@@ -93,7 +93,8 @@ def measured(options: argparse.Namespace, room: Path) -> Bench:
     adopt_orphans()
     rounds = options.rounds or (1 if options.quick else ROUNDS)
     bench = Bench(Runner(room, rounds), programs, options.quick)
-    bench.measure(options.only)
+    with busy_processes(options.busy):
+        bench.measure(options.only)
     return bench
 
 
@@ -109,6 +110,7 @@ def options_of_words() -> argparse.Namespace:
     parser.add_argument("--quick", action="store_true", help="smaller inputs, each run once")
     parser.add_argument("--only", choices=NAMES, help="one of the inputs")
     parser.add_argument("--rounds", type=positive, help=f"timed runs of each command; else {ROUNDS}")
+    parser.add_argument("--busy", type=positive, default=0, help="so many busy processes beside all runs; else none")
     parser.add_argument("--program", type=Path, help="a program that is there, in place of the one that bin/det builds")
     parser.add_argument("--lane", type=Path, help="likewise det_lane; with --program alone running copies are left out")
     parser.add_argument("--twin", type=Path, help="likewise det_twin")

@@ -7,6 +7,8 @@ import statistics
 import subprocess
 import sys
 import time
+from collections.abc import Iterator
+from contextlib import contextmanager
 from dataclasses import dataclass
 from pathlib import Path
 from typing import Optional
@@ -67,6 +69,18 @@ class Result:
     @property
     def median(self) -> Optional[float]:
         return statistics.median(self.walls) if self.walls else None
+
+
+@contextmanager
+def busy_processes(count: int) -> Iterator[None]:
+    """Keeps so many processors busy as long as it is open."""
+    processes = [subprocess.Popen(["sh", "-c", "while :; do :; done"]) for _ in range(count)]
+    try:
+        yield
+    finally:
+        for process in processes:
+            process.kill()
+            process.wait()
 
 
 def size(path: Path) -> int:
