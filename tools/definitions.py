@@ -39,7 +39,7 @@ Each file of definitions with the comment that it begins with, in the order of `
 files and those of crates below it. `docs/THEOREM.md` has the definitions that the program's promise rests on, in reading order.
 This page is made by `python3 tools/definitions.py --write`, and `--check` fails where it is older.
 """
-MOST_LINES = 2325
+MOST_LINES = 2300
 MOST_LINES_OF_A_RECORD = 415
 
 HEAD = re.compile(

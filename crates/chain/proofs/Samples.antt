@@ -1,14 +1,14 @@
 -- Words as samples.
 use Rattle.std.proofs.Common.{◌≡◌, ◌<◌, ◌≤◌, ℕ, zero, suc, ◌+◌, ◌-◌, ℤ, List, [], ◌∷◌, ◌++◌, length, drop, refl, sym, ap, ◌∙◌, arith}
 use Rattle.std.proofs.Common.{append_assoc, length-append, Bool, true, false}
-use Rattle.std.specs.Prelude.{nat_le, if◌then◌else◌}
+use Rattle.std.specs.Prelude.{pos, negsuc, ◌&&◌, int_le, nat_le, if◌then◌else◌}
 use Rattle.std.specs.List.{All}
 use Rattle.std.proofs.lemmas.Bool.Decides.{nat_tests}
 use Rattle.std.proofs.lemmas.List.Elements.{All-nil, All-cons, All-append}
 use Rattle.det_values.specs.Values.{SampleValue}
 use Rattle.det_values.specs.declared.frames.Outcome.{Outcome}
 use Rattle.det_values.specs.declared.frames.Outcome.TheVariants.{Finished, Refused}
-use Rattle.chain.specs.Derived.{is_sample_value, sample_of, first_word, samples_from, samples_of}
+use Rattle.chain.specs.Derived.{sample_of, first_word, samples_from, samples_of}
 
 -- the samples where a word is left
 pub samples-next : (event events : ℕ) (output : List ℕ) → 8 ≤ length output
@@ -38,6 +38,10 @@ walk-next rest samples event events all below enough is =
 if-all : (P : SampleValue → Type 0) (b : Bool) (xs : List SampleValue) → All P xs → All P (if b then xs else [])
 if-all P true xs all = all
 if-all P false xs all = All-nil P
+
+-- whether a word is in the range of samples
+abbrev pub is_sample_value : ℤ → Bool
+is_sample_value word = int_le (negsuc 999999999999) word && int_le word (pos 1000000000000)
 
 -- the samples are of the events below the bound
 pub samples-known : (bound event events : ℕ) (output : List ℕ) → event + events ≤ bound

@@ -10,14 +10,10 @@ use Rattle.det_values.specs.declared.frames.RunFrame.{RunFrame}
 use Rattle.job_trait.specs.Meaning.{Meaning}
 use Rattle.cycle_engine.specs.Frames.{runs}
 
--- whether a word is in the range of samples, from -10^12 to 10^12
-abbrev pub is_sample_value : ℤ → Bool
-is_sample_value word = int_le (negsuc 999999999999) word && int_le word (pos 1000000000000)
-
--- a word as the sample of an event, or none out of the range
+-- a word as the sample of an event, or none where it isn't from -10^12 to 10^12
 abbrev pub sample_of : ℕ → ℤ → List SampleValue
-sample_of event word =
-    if is_sample_value word then record { event = event; value = word } ∷ [] else []
+sample_of event word = if int_le (negsuc 999999999999) word && int_le word (pos 1000000000000)
+    then record { event = event; value = word } ∷ [] else []
 
 -- the word that stands first: eight bytes, as a number in two's complement, big-endian
 abbrev pub first_word : List ℕ → ℤ
@@ -37,8 +33,7 @@ samples_of events (Refused at) = []
 
 -- a cycle's input for a second client of so many events, at the same time
 abbrev pub derived_input : ℕ → RunFrame → CycleInput
-derived_input events run =
-    record { time = run.input.time; samples = samples_of events run.outcome }
+derived_input events run = record run.input { samples = samples_of events run.outcome }
 
 -- one input for each cycle of a first client
 abbrev pub derived : {S G E L P : Type 0} → Meaning S G E L P → ProfileValue → List CycleInput

@@ -2,7 +2,7 @@
 ghost use Rattle.std.specs.Prelude.{◌≡◌, ◌<◌, ◌≤◌, ◌++◌, [], length, drop, OnOk, IfOk};
 ghost use Rattle.std.specs.Prelude.{IfSome, IfNone};
 ghost use Rattle.std.specs.List.{All};
-ghost use Rattle.chain.specs.Derived.{is_sample_value, sample_of, first_word, samples_from};
+ghost use Rattle.chain.specs.Derived.{sample_of, first_word, samples_from};
 ghost use Rattle.chain.specs.Derived.{samples_of, derived_input};
 
 use det_values::{CycleInput, OutOfMemory, Outcome, RunFrame, Sample, Samples};

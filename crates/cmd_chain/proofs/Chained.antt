@@ -22,7 +22,8 @@ use Rattle.cli_answers.specs.Outcome.{Outcome, Meets}
 use Rattle.cli_answers.proofs.Meeting.{meets-read-fault-part, meets-write-fault, meets-no-memory-part}
 use Rattle.cmd_record.specs.Outcomes.{answer_to}
 use Rattle.cmd_record.proofs.Recorded.{at-told}
-use Rattle.cmd_chain.specs.Chain.{Client, chained, chained_by_kinds, answer_of}
+use Rattle.cmd_chain.specs.Chain.{chained, answer_of}
+use Rattle.cmd_chain.specs.Clients.{Client, chained_by_kinds}
 use Rattle.cmd_chain.specs.Visited.{HasChained}
 
 -- of two, of which the first is refuted

@@ -21,7 +21,8 @@ use Rattle.cmd_setup.specs.Setup.{setup_of}
 use Rattle.cmd_setup.proofs.Ending.{meets-end}
 use Rattle.cmd_record.specs.Outcomes.{record_names}
 use Rattle.cmd_record.proofs.ByManifest.{tells-first}
-use Rattle.cmd_chain.specs.Chain.{chain_names, chained_behind, chained_by}
+use Rattle.cmd_chain.specs.Chain.{chain_names}
+use Rattle.cmd_chain.specs.Clients.{chained_behind, chained_from}
 
 module _ (strict : Bool) (shelf : ShelfState) (first second stimulus : List ℕ) where
   -- what the second manifest is told to be
@@ -65,10 +66,10 @@ module _ (strict : Bool) (shelf : ShelfState) (first second stimulus : List ℕ)
       -- the same outcome, where the names are told
       pub by-first : (seed : ℕ) (kind : JobKind) (p : ProfileValue) → kind ≡ m.kind → p ≡ profile_of m seed
           → Tells shelf (names (setup_of strict (told shelf first)))
-          → chained_by seed (told shelf stimulus) (setup_of strict (told shelf first)) other
+          → chained_from seed (told shelf stimulus) (setup_of strict (told shelf first)) other
           ≡ chained_behind seed (record { kind = kind; profile = p }) (told mid stimulus) (setup_of strict (told mid second))
       by-first seed kind p same profile tells =
-          ap (λ r. chained_by seed (told shelf stimulus) r other) (is-first tells)
+          ap (λ r. chained_from seed (told shelf stimulus) r other) (is-first tells)
           ∙ ap (λ k. chained_behind seed (record { kind = k; profile = profile_of m seed }) (told shelf stimulus) other) (sym same)
           ∙ ap (λ q. chained_behind seed (record { kind = kind; profile = q }) (told shelf stimulus) other) (sym profile)
           ∙ ap (λ h. chained_behind seed (record { kind = kind; profile = p }) (unwrap_or (h stimulus) [])
@@ -91,8 +92,8 @@ module _ (strict : Bool) (shelf : ShelfState) (first second stimulus : List ℕ)
   pub met-first : (seed : ℕ) (rose failed : Type 0) (before : List ℕ → Type 0) (end : Stopped BadManifest)
       → IfRefused end (λ why. IsSome (shelf.holds first) → setup_of strict (told shelf first) ≡ Err why)
       → (failure_in {A = ManifestValue} (Err end) ≡ Some Read → rose) → (failure_in {A = ManifestValue} (Err end) ≡ Some Write → ⊥)
-      → Meets (chained_by seed (told shelf stimulus) (setup_of strict (told shelf first)) other)
+      → Meets (chained_from seed (told shelf stimulus) (setup_of strict (told shelf first)) other)
       (Tells shelf (names (setup_of strict (told shelf first)))) rose failed before before (without_manifest end)
   met-first seed rose failed before end bad read write =
-      meets-end (λ r. chained_by seed (told shelf stimulus) r other) (λ why. refl) strict (told shelf first)
+      meets-end (λ r. chained_from seed (told shelf stimulus) r other) (λ why. refl) strict (told shelf first)
       (Tells shelf (names (setup_of strict (told shelf first)))) rose failed before end (bad-first end bad) read write

@@ -17,7 +17,7 @@ use Rattle.cmd_setup.specs.Setup.{setup_of}
 use Rattle.cmd_setup.proofs.Ending.{meets-end}
 use Rattle.cmd_record.specs.Outcomes.{record_names}
 use Rattle.cmd_record.proofs.ByManifest.{is-told, bad-told}
-use Rattle.cmd_chain.specs.Chain.{Client, chained_behind, chained_by_kinds}
+use Rattle.cmd_chain.specs.Clients.{Client, chained_behind, chained_by_kinds}
 
 module _ (strict : Bool) (first : ShelfState) (name stimulus : List ℕ) (seed : ℕ) (client : Client) where
   -- the same outcome, where the manifest and the stimulus are told

@@ -10,7 +10,8 @@ ghost use Rattle.cli_answers.specs.Slots.{KeepsSlots};
 ghost use Rattle.shipped_jobs.specs.Kinds.{bad_param};
 ghost use Rattle.cmd_setup.specs.Setup.{setup_of};
 ghost use Rattle.cmd_record.specs.Outcomes.{record_names, record_work};
-ghost use Rattle.cmd_chain.specs.Chain.{chain_names, chain_outcome, chained_behind};
+ghost use Rattle.cmd_chain.specs.Chain.{chain_names, chain_outcome};
+ghost use Rattle.cmd_chain.specs.Clients.{chained_behind};
 
 use crate::over_stimulus::chain_named;
 use cli_answers::Answer;

@@ -7,7 +7,8 @@ ghost use Rattle.cli_answers.specs.Ends.{can_end};
 ghost use Rattle.cli_answers.specs.Outcome.{Meets, told};
 ghost use Rattle.cli_answers.specs.Slots.{KeepsSlots};
 ghost use Rattle.cmd_record.specs.Outcomes.{record_work};
-ghost use Rattle.cmd_chain.specs.Chain.{answer_of, chained_by_kinds};
+ghost use Rattle.cmd_chain.specs.Chain.{answer_of};
+ghost use Rattle.cmd_chain.specs.Clients.{chained_by_kinds};
 
 use crate::visiting::StimulusIn;
 use chain::ChainCounts;

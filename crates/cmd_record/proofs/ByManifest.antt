@@ -16,11 +16,15 @@ use Rattle.manifest.specs.Values.{ManifestValue}
 use Rattle.manifest.specs.Profiles.{profile_of}
 use Rattle.cli_answers.specs.Answers.{without_manifest}
 use Rattle.cli_answers.specs.declared.answer.BadManifest.{BadManifest}
-use Rattle.cli_answers.specs.Outcome.{Meets, Tells, told}
-use Rattle.cmd_setup.specs.Setup.{setup_of}
+use Rattle.cli_answers.specs.Outcome.{Outcome, Meets, Tells, told}
+use Rattle.cmd_setup.specs.Setup.{setup_of, with_manifest}
 use Rattle.cmd_setup.proofs.Ending.{meets-end}
-use Rattle.cmd_record.specs.Outcomes.{demo_profile, demo_outcome, recorded_by_kind, recorded_by}
+use Rattle.cmd_record.specs.Outcomes.{demo_profile, demo_outcome, recorded_by_kind}
 use Rattle.cmd_record.specs.Outcomes.{record_names, record_outcome}
+
+-- a manifest's profile with a seed, over a stimulus, or the refusal of the manifest
+abbrev pub recorded_by : ℕ → List ℕ → Result ManifestValue BadManifest → Outcome
+recorded_by seed stimulus = with_manifest (λ m. recorded_by_kind m.kind (profile_of m seed) stimulus)
 
 -- the first of some told names, and the second
 pub tells-first : (shelf : ShelfState) (name : List ℕ) (names : List (List ℕ)) → Tells shelf (name ∷ names) → IsSome (shelf.holds name)

@@ -22,8 +22,8 @@ use Rattle.cli_answers.specs.declared.answer.Answer.{Answer}
 use Rattle.cli_answers.specs.declared.answer.Answer.TheVariants as answers
 use Rattle.cli_answers.specs.Answers.{failed}
 use Rattle.cli_answers.specs.Ends.{Work, writes_alone}
-use Rattle.cli_answers.specs.Outcome.{Outcome, refusal}
-use Rattle.cmd_setup.specs.Setup.{setup_of}
+use Rattle.cli_answers.specs.Outcome.{Outcome}
+use Rattle.cmd_setup.specs.Setup.{setup_of, with_manifest}
 
 -- `demo` reads a stimulus, `record` a manifest besides
 abbrev pub demo_work : Work
@@ -70,11 +70,6 @@ demo_outcome stimulus = recorded bank.meaning demo_profile stimulus
 abbrev pub recorded_by_kind : JobKind → ProfileValue → List ℕ → Outcome
 recorded_by_kind kind profile text = by_kind (λ S G E L P m. recorded m profile text) kind
 
--- a manifest's profile with a seed, over a stimulus, or the refusal of the manifest
-abbrev pub recorded_by : ℕ → List ℕ → Result ManifestValue BadManifest → Outcome
-recorded_by seed stimulus (Ok m) = recorded_by_kind m.kind (profile_of m seed) stimulus
-recorded_by seed stimulus (Err why) = refusal (answers.BadManifest why)
-
 -- the names that `record` opens: of a manifest that is refused it opens no stimulus
 abbrev pub record_names : (manifest stimulus : List ℕ) → Result ManifestValue BadManifest
     → List (List ℕ)
@@ -83,5 +78,5 @@ record_names manifest stimulus (Err why) = manifest ∷ []
 
 -- what `record` gives of a manifest and a stimulus, with the seed 0 where none is given
 abbrev pub record_outcome : (strict : Bool) (manifest stimulus : List ℕ) → Option ℕ → Outcome
-record_outcome strict manifest stimulus seed =
-    recorded_by (unwrap_or seed 0) stimulus (setup_of strict manifest)
+record_outcome strict manifest stimulus seed = with_manifest (λ m.
+    recorded_by_kind m.kind (profile_of m (unwrap_or seed 0)) stimulus) (setup_of strict manifest)

@@ -10,6 +10,8 @@ use Rattle.manifest.specs.Meaning.{manifest_of}
 use Rattle.manifest.specs.declared.fault.ManifestFault.{ManifestFault}
 use Rattle.cli_answers.specs.declared.answer.BadManifest.{BadManifest}
 use Rattle.cli_answers.specs.declared.answer.BadManifest.TheVariants.{Fault, Parameter}
+use Rattle.cli_answers.specs.declared.answer.Answer.TheVariants as answers
+use Rattle.cli_answers.specs.Outcome.{Outcome, refusal}
 
 -- its job refuses no parameter
 abbrev pub IsGood : ManifestValue → Type 0
@@ -28,6 +30,11 @@ setup_from (Ok m) = judged m
 -- its job refuses
 abbrev pub setup_of : (strict : Bool) → List ℕ → Result ManifestValue BadManifest
 setup_of strict bytes = setup_from (manifest_of strict bytes)
+
+-- what a command gives of a manifest, or the manifest's refusal
+abbrev pub with_manifest : (ManifestValue → Outcome) → Result ManifestValue BadManifest → Outcome
+with_manifest given (Ok m) = given m
+with_manifest given (Err why) = refusal (answers.BadManifest why)
 
 -- neither the shelf nor a sink failed
 abbrev pub IsCalm : Option Failure → Type 0

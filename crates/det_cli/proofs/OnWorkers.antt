@@ -9,8 +9,10 @@ use Rattle.cli_words.specs.Command.{CommandValue}
 use Rattle.manifest.specs.Values.{ManifestValue}
 use Rattle.cli_answers.specs.declared.answer.BadManifest.{BadManifest}
 use Rattle.cli_answers.specs.Outcome.{Outcome}
-use Rattle.cmd_record.specs.Outcomes.{record_outcome, recorded_by}
-use Rattle.cmd_chain.specs.Chain.{chain_outcome, chained_by}
+use Rattle.cmd_record.specs.Outcomes.{record_outcome}
+use Rattle.cmd_record.proofs.ByManifest.{recorded_by}
+use Rattle.cmd_chain.specs.Chain.{chain_outcome}
+use Rattle.cmd_chain.specs.Clients.{chained_from}
 use Rattle.det_cli.specs.Outcome.{opened_by, outcome_by}
 use Rattle.det_cli.specs.Laws.{on_workers, IsSameOn, DifferInWorkers}
 
@@ -65,5 +67,5 @@ pub same-chain : (strict : Bool) (first other second another stimulus : List ℕ
     → DifferInWorkers strict second another
     → chain_outcome strict other another stimulus seed ≡ chain_outcome strict first second stimulus seed
 same-chain strict first other second another stimulus seed d e =
-    (λ i. chained_by (unwrap_or seed 0) stimulus (d.second i) (e.second i))
-    ∙ sym (λ i. chained_by (unwrap_or seed 0) stimulus (d.first i) (e.first i))
+    (λ i. chained_from (unwrap_or seed 0) stimulus (d.second i) (e.second i))
+    ∙ sym (λ i. chained_from (unwrap_or seed 0) stimulus (d.first i) (e.first i))

@@ -27,7 +27,8 @@ use Rattle.stimulus.proofs.Counting.{few_blocks}
 use Rattle.recorder.specs.Record.{is_terminated}
 use Rattle.chain.specs.Derived.{derived, derived_input}
 use Rattle.manifest.specs.Meaning.{manifest_of}
-use Rattle.cmd_chain.specs.Chain.{Client, client_of, chained, chained_by_kinds, chained_by}
+use Rattle.cmd_chain.specs.Chain.{chained}
+use Rattle.cmd_chain.specs.Clients.{Client, client_of, chained_by_kinds, chained_from}
 use Rattle.cli_answers.specs.Outcome.{Outcome}
 use Rattle.run_laws.specs.Statements.{IsRunRead, frames_by_kind}
 use Rattle.run_laws.specs.Chains.{passed_on, second_frames, IsChainRead, ChainIsRead}
@@ -121,6 +122,6 @@ chain_is_read strict first second stimulus seed m n small judged other =
     let number : ℕ = unwrap_or seed 0 in
     let taken = is_taken (manifest_of strict second) n other in
     subst (λ (o : Outcome). IsChainRead (client_of number m) (client_of number n) stimulus o.bytes)
-    (sym (λ i. chained_by number stimulus (judged i) (other i)))
+    (sym (λ i. chained_from number stimulus (judged i) (other i)))
     (chain_is_read_by (client_of number m) (client_of number n) stimulus (is_header strict second n number small other)
     (record { number = refl; good = taken.good }))

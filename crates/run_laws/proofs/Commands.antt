@@ -30,7 +30,8 @@ use Rattle.cli_answers.specs.declared.answer.BadManifest.{BadManifest}
 use Rattle.cli_answers.specs.declared.answer.BadManifest.TheVariants.{Parameter}
 use Rattle.shipped_jobs.specs.Kinds.{bad_param}
 use Rattle.cmd_setup.specs.Setup.{setup_from, setup_of}
-use Rattle.cmd_record.specs.Outcomes.{demo_profile, demo_outcome, recorded_by_kind, recorded_by}
+use Rattle.cmd_record.specs.Outcomes.{demo_profile, demo_outcome, recorded_by_kind}
+use Rattle.cmd_record.proofs.ByManifest.{recorded_by}
 use Rattle.run_laws.specs.Statements.{frames_by_kind, IsRecordRead, RecordIsRead, DemoIsRead}
 use Rattle.run_laws.proofs.Shipped.{bank_spelled, cloud_spelled, guard_spelled}
 use Rattle.run_laws.proofs.Parameters.{bank_fits, cloud_fits, guard_fits}

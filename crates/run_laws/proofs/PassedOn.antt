@@ -15,7 +15,8 @@ use Rattle.job_trait.specs.Meaning.{Meaning}
 use Rattle.job_trait.specs.Cycle.{State, state_after}
 use Rattle.cycle_engine.specs.Frames.{cycle_of, frame_of, runs_behind, first_state}
 use Rattle.record_grammar.specs.Spelling.{IsTime, IsInput}
-use Rattle.chain.specs.Derived.{is_sample_value, sample_of, first_word, samples_from, samples_of, derived_input, derived}
+use Rattle.chain.specs.Derived.{sample_of, first_word, samples_from, samples_of, derived_input, derived}
+use Rattle.chain.proofs.Samples.{is_sample_value}
 use Rattle.chain.proofs.Samples.{known-samples, few-samples}
 use Rattle.run_laws.proofs.Parameters.{below}
 

@@ -25,7 +25,8 @@ use Rattle.recorder.specs.Record.{is_terminated, record_of}
 use Rattle.manifest.specs.Values.{ManifestValue}
 use Rattle.manifest.specs.Profiles.{profile_of}
 use Rattle.cli_answers.specs.declared.answer.BadManifest.{BadManifest}
-use Rattle.cmd_record.specs.Outcomes.{demo_profile, demo_outcome, recorded_by_kind, recorded_by}
+use Rattle.cmd_record.specs.Outcomes.{demo_profile, demo_outcome, recorded_by_kind}
+use Rattle.cmd_record.proofs.ByManifest.{recorded_by}
 use Rattle.cmd_salvage.specs.Salvage.{outcome_by}
 use Rattle.run_laws.specs.Statements.{frames_by_kind, IsRunRead, IsRecordRead}
 use Rattle.run_laws.specs.Salvages.{IsRecordSalvaged, RecordIsSalvaged, DemoIsSalvaged}

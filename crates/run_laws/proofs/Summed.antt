@@ -31,7 +31,8 @@ use Rattle.stimulus.specs.Reading.{blocks, ending}
 use Rattle.run_writer.specs.Record.{counted}
 use Rattle.recorder.specs.Record.{is_terminated, record_of}
 use Rattle.cli_answers.specs.Outcome.{text_outcome}
-use Rattle.cmd_record.specs.Outcomes.{record_outcome, recorded_by, recorded_by_kind}
+use Rattle.cmd_record.specs.Outcomes.{record_outcome, recorded_by_kind}
+use Rattle.cmd_record.proofs.ByManifest.{recorded_by}
 use Rattle.cmd_sim.specs.Sim.{sim_profile, runs_over, summary_over, sim_runs, summary_of, sim_text, sim_outcome}
 use Rattle.run_laws.specs.Statements.{IsRecordRead, frames_by_kind}
 use Rattle.run_laws.specs.Sums.{summed_up, SimIsRecorded}

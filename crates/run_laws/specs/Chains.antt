@@ -12,7 +12,8 @@ use Rattle.chain.specs.Derived.{derived}
 use Rattle.manifest.specs.Values.{ManifestValue}
 use Rattle.cmd_setup.specs.Setup.{setup_of}
 use Rattle.cmd_record.specs.Outcomes.{recorded_by_kind}
-use Rattle.cmd_chain.specs.Chain.{Client, client_of, chain_outcome}
+use Rattle.cmd_chain.specs.Chain.{chain_outcome}
+use Rattle.cmd_chain.specs.Clients.{Client, client_of}
 use Rattle.probes.specs.Reports.{AudienceState}
 use Rattle.cmd_check.specs.Check.{check_outcome}
 use Rattle.run_laws.specs.Statements.{frames_by_kind, fault_if, IsRunRead}

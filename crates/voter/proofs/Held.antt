@@ -17,13 +17,13 @@ use Rattle.lockstep.specs.declared.row.Row.{Row}
 use Rattle.lockstep.specs.declared.row.Row.TheVariants as rows
 use Rattle.lockstep.specs.Rows.{first_row, row_at}
 use Rattle.lockstep.proofs.Equality.{item_decides}
-use Rattle.voter.specs.Majority.{is_record, is_most, is_majority, majority, begins_with, are_held, held, longest, common}
+use Rattle.voter.specs.Majority.{is_record, is_most, is_majority, majority, are_held, held, longest, common}
 use Rattle.voter.specs.Majority.{spelled_items, voted_items, voted}
 use Rattle.voter.specs.Rows.{same_row, is_held}
 use Rattle.voter.specs.Standing.{IsRecord}
 use Rattle.voter.proofs.Counting.{most-true, most-is, count-cons, both, count-le, count-same, count-map, passes-at}
 use Rattle.voter.proofs.Counting.{find-only, find-none}
-use Rattle.voter.proofs.Prefixes.{begins-yes, begins-tells, begins-shorter, shorter-first, follows, row_behind}
+use Rattle.voter.proofs.Prefixes.{begins_with, begins-yes, begins-tells, begins-shorter, shorter-first, follows, row_behind}
 use Rattle.voter.proofs.Prefixes.{same-begins, same-is, sound-row}
 use Rattle.voter.proofs.Spelled.{spelled-prefix}
 

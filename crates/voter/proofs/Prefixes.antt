@@ -2,6 +2,7 @@
 use Rattle.std.proofs.Common.{◌≡◌, ◌+◌, ◌≤◌, ℕ, Bool, true, false, cond, ◌&&◌, List, [], ◌∷◌, ◌++◌, length, drop, Option, Some, None}
 use Rattle.std.proofs.Common.{refl, sym, ap, ◌∙◌, add-zero, zero-add, arith}
 use Rattle.std.specs.Prelude.{is_none}
+use Rattle.std.specs.List.{starts_with}
 use Rattle.std.proofs.lemmas.List.{drop_at}
 use Rattle.std.proofs.lemmas.Bool.{and_from, and_parts, false_from_ne_true}
 use Rattle.det_edges.specs.Prefix.{IsPrefix}
@@ -15,8 +16,11 @@ use Rattle.lockstep.specs.declared.row.Row.TheVariants as rows
 use Rattle.lockstep.specs.Rows.{first_row, row_at}
 use Rattle.lockstep.specs.Verdict.{shared}
 use Rattle.lockstep.proofs.Equality.{item_decides}
-use Rattle.voter.specs.Majority.{begins_with}
 use Rattle.voter.specs.Rows.{same_row, parts_at}
+
+-- whether a list of items begins with these
+abbrev pub begins_with : (given all : List Item) → Bool
+begins_with given all = starts_with item.eq-value.it all given
 
 pub begins-yes : (given all : List Item) → IsPrefix given all → begins_with given all ≡ true
 begins-yes [] all p = refl

@@ -32,12 +32,12 @@ use Rattle.voter.specs.declared.reading.RowView.TheVariants as views
 use Rattle.voter.specs.declared.reading.Voter.{Voter}
 use Rattle.voter.specs.declared.voters.HeldItem.{HeldItem}
 use Rattle.voter.specs.declared.voters.Voters.{Voters}
-use Rattle.voter.specs.Majority.{is_most, begins_with, are_held}
+use Rattle.voter.specs.Majority.{is_most, are_held}
 use Rattle.voter.specs.Rows.{same_row, is_held, MostHeld, is_in_step, VoterIs, AreVoters, VoteIs, HaveVotes, stayed, parted}
 use Rattle.voter.specs.Rows.{HoldsAt, HoldsAs, AreHeld, place_behind}
 use Rattle.voter.specs.Standing.{AreMost, IsRecord, EndIs, AreEnded, AreSplit, RowTaken, Counts, held_in, IsHeldIn}
 use Rattle.voter.proofs.Counting.{most-true, count-cons, passes-at}
-use Rattle.voter.proofs.Prefixes.{begins-yes, begins-parts, parts-longer, parts-shared, parts-next, shared-front}
+use Rattle.voter.proofs.Prefixes.{begins_with, begins-yes, begins-parts, parts-longer, parts-shared, parts-next, shared-front}
 use Rattle.voter.proofs.Prefixes.{follows, row_behind, same-is}
 use Rattle.voter.proofs.Holding.{held-item, held-whole, held-fault, held-none, held-many, held-at}
 use Rattle.voter.proofs.Parting.{parted-many, parted-reader, parted-row}

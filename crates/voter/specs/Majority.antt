@@ -1,7 +1,7 @@
 -- The majority of copies of a record, and how far more than half of them are equal.
 use Rattle.std.specs.Prelude.{ℕ, ◌+◌, List, [], ◌∷◌, ◌++◌, length, map, Bool, true, false, ◌&&◌}
 use Rattle.std.specs.Prelude.{nat_le, nat_lt, find, Option, if◌then◌else◌}
-use Rattle.std.specs.List.{count_by}
+use Rattle.std.specs.List.{count_by, starts_with}
 use Rattle.std.specs.Option.{is_none, unwrap_or}
 use Rattle.std.specs.Cmp.Lexicographic.{pointwise}
 use Rattle.record_grammar.specs.declared.item.Item.{Item}
@@ -40,16 +40,11 @@ dissent whole copy (other ∷ others) =
 
 -- ---- the rows in common
 
--- whether a list of items begins with these
-abbrev pub begins_with : (given all : List Item) → Bool
-begins_with [] all = true
-begins_with (x ∷ given) (y ∷ all) = item.eq-value.it x y && begins_with given all
-begins_with (x ∷ given) [] = false
-
 -- whether more than half of the copies begin with these items
 abbrev pub are_held : List (List ℕ) → List Item → Bool
 are_held copies given =
-    is_most (count_by (λ copy. begins_with given (items_in copy)) copies) (length copies)
+    is_most (count_by (λ copy. starts_with item.eq-value.it (items_in copy) given) copies)
+    (length copies)
 
 -- the given items and those behind them, as far as more than half of the copies begin with them
 abbrev pub held : List (List ℕ) → (given behind : List Item) → List Item

@@ -7,7 +7,7 @@ use Rattle.cmd_setup.specs.Setup.{setup_of}
 use Rattle.cmd_setup.proofs.Keeping.{keeps-behind}
 use Rattle.cmd_record.proofs.Meeting.{rose-later, meets-as}
 use Rattle.cmd_record.proofs.ByManifest.{still-told, asked-manifest, asked-both}
-use Rattle.cmd_chain.specs.Chain.{Client}
+use Rattle.cmd_chain.specs.Clients.{Client}
 use Rattle.cmd_chain.proofs.Second.{by-told, met-end}
 use Rattle.cmd_chain.proofs.chaining.chain_behind.Goals as goal
 

@@ -10,7 +10,7 @@ use Rattle.cli_answers.proofs.Keeping.{keeps-stay, keeps-opens, keeps-read}
 use Rattle.cli_answers.proofs.Meeting.{meets-unopened}
 use Rattle.cli_answers.proofs.Telling.{held}
 use Rattle.cmd_record.proofs.Meeting.{rose-later}
-use Rattle.cmd_chain.specs.Chain.{Client}
+use Rattle.cmd_chain.specs.Clients.{Client}
 use Rattle.cmd_chain.proofs.Chained.{met-by-kinds, reads-by-kinds, met-none}
 use Rattle.cmd_chain.proofs.over_stimulus.chain_named.Goals as goal
 

@@ -1,9 +1,18 @@
 use Rattle.std.proofs.Common.{refl, sym, ap, ◌∙◌}
-use Rattle.cli_answers.specs.Outcome.{told, text_outcome}
+use Rattle.std.specs.Prelude.{Result}
+use Rattle.manifest.specs.Values.{ManifestValue}
+use Rattle.cli_answers.specs.declared.answer.BadManifest.{BadManifest}
+use Rattle.cli_answers.specs.Outcome.{Outcome, told, text_outcome}
 use Rattle.cli_answers.proofs.Meeting.{meets-whole}
 use Rattle.cmd_setup.proofs.Ending.{meets-end, can-end}
-use Rattle.cmd_needs.specs.Needs.{needs_from, needs_work}
+use Rattle.cmd_setup.specs.Setup.{with_manifest}
+use Rattle.cmd_needs.specs.Lines.{needs_lines}
+use Rattle.cmd_needs.specs.Needs.{needs_work}
 use Rattle.cmd_needs.proofs.command.needs.Goals as goal
+
+-- the lines of the manifest that a text is, or its refusal
+abbrev needs_from : Result ManifestValue BadManifest → Outcome
+needs_from = with_manifest (λ m. text_outcome (needs_lines m))
 
 pub returns-in-Err-clause-meets : goal.returns-in-Err-clause-meets
 returns-in-Err-clause-meets g c =
