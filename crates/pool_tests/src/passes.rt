@@ -189,6 +189,47 @@ pub(crate) fn watched_pass<R: Abort>(
     list_pass(rt, alloc, 65536, Some(again(rt, &gate.watch)), bytes)
 }
 
+/// Whether one crew in this room ends each of these passes as one thread does, in memory of those
+/// before. A row has a number of elements, and the byte from which on one refuses.
+fn is_alike_in_room<B: Room + Send + Sync + 'static, R: Threads + Abort>(
+    rt: &R,
+    alloc: Global,
+    room: CrewRoom<ListJob>,
+    workers: u32,
+    rows: &[(usize, u32)],
+) -> bool
+    requires room { room_name room ≡ B.table }
+    requires workers { (1 ≤ workers) × (workers ≤ 64) }
+{
+    let bytes = many_bytes(rt, alloc);
+    let gate = shared(rt, alloc, NoGate);
+    let crew = Crew::<ListJob, B, NoGate>::start(rt, alloc, room, workers, &gate);
+    let mut crew = crew.expect(rt, "out of memory");
+    let mut spares = PassRoom::new(alloc);
+    let mut is_alike = true;
+    for (count, limit) in rows {
+        let elements = &bytes.as_slice()[..(*count).min(65536)];
+        let pass = list_pass(rt, alloc, *limit, None, elements);
+        let done = crew.run_pass(&pass.pass(), &mut spares);
+        is_alike = is_alike && is_same(&done, &alone(rt, alloc, *limit, elements));
+    }
+    crew.stop(rt);
+    is_alike
+}
+
+/// Whether one crew of so many workers ends each of these passes as one thread does.
+pub(crate) fn is_crew_alike<R: Threads + Abort>(
+    rt: &R,
+    alloc: Global,
+    workers: u32,
+    rows: &[(usize, u32)],
+) -> bool
+    requires { (1 ≤ workers) × (workers ≤ 64) }
+{
+    let room = CrewRoom::new(alloc).expect(rt, "out of memory");
+    is_alike_in_room::<Brand, R>(rt, alloc, room, workers, rows)
+}
+
 /// Two passes by a crew of two workers in this room. Between them the held element is let go. The
 /// second one runs in memory of the first.
 fn twice_in_room<B: Room + Send + Sync + 'static, R: Threads + Abort>(

@@ -1,7 +1,7 @@
 use crate::HELD;
 use crate::gates::Wanted;
 use crate::passes::{
-    alone, ended_as_alone, gate_of, is_alike, is_refused, list_pass, many_bytes, shared, twice,
+    alone, ended_as_alone, gate_of, is_alike, is_crew_alike, is_refused, list_pass, many_bytes, shared, twice,
     watched_pass,
 };
 use std::sync::atomic::Ordering;
@@ -47,6 +47,14 @@ fn every_number_of_workers_answers_alike(rt: HostRuntime) {
             is_alike(&rt, rt.alloc(), &pass, &wanted),
             "{count} from {limit}"
         );
+    }
+}
+
+/// The same of the passes of one crew, some of which refuse, in memory of those before them.
+#[test]
+fn one_crew_answers_alike_pass_after_pass(rt: HostRuntime) {
+    for workers in [2, 8, 64] {
+        assert!(rt; is_crew_alike(&rt, rt.alloc(), workers, &ROWS), "{workers} workers");
     }
 }
 
