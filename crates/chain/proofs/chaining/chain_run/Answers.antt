@@ -29,6 +29,13 @@ returns-in_err-open_both-clause-chained g c =
     rw (p.1, p.2) (chained m one n other _ shelf sinks _
     (open-failed m one n other _ shelf.first shelf.stays sinks c.in_err-open_both.field-0.0 c.in_err-open_both.ensures.cut))
 
+pub returns-in_err-open_both-clause-shelf_traffic : goal.returns-in_err-open_both-clause-shelf_traffic
+returns-in_err-open_both-clause-shelf_traffic g c =
+    let p = err_from_is_err_and c.from_residual.result c.from_residual.ensures.1 in
+    let shelf = shelf_run g.S.Slots.sees g.S.Slots.stays c.args.shelf.now c.args.shelf.now in
+    rw (p.1, p.2) (no-read c.in_err-open_both.field-0.0 shelf c.in_err-open_both.ensures.cut.cause (unfailed-shelf shelf (omega arith)
+    (g.met.S.Slots.stays_same _)))
+
 pub cycles-init : goal.cycles-init
 cycles-init g c =
     let sinks : Sinks = record {
