@@ -69,7 +69,9 @@ impl<J: Job> Twin<J> {
         ensures keeps { self.new ≡ record self.old { engine = self.new.engine } }
     {
         let input = run.inputs.item(self.number as usize - 3).copied(alloc)?;
-        let frame = self.engine.cycle(&mut Desk::new(alloc), &mut InOrder, input)?;
+        let frame = self
+            .engine
+            .cycle(&mut Desk::new(alloc), &mut InOrder, input)?;
         Ok(Frame::Run(frame))
     }
 }
