@@ -1,8 +1,8 @@
 use crate::HELD;
 use crate::gates::Wanted;
 use crate::passes::{
-    alone, ended_as_alone, gate_of, is_alike, is_crew_alike, is_refused, list_pass, many_bytes, shared, twice,
-    watched_pass,
+    alone, ended_as_alone, gate_of, is_alike, is_crew_alike, is_refused, list_pass, many_bytes,
+    shared, twice, watched_pass,
 };
 use std::sync::atomic::Ordering;
 use worker_pool::{MeetGate, run_worker_pool};
@@ -54,7 +54,10 @@ fn every_number_of_workers_answers_alike(rt: HostRuntime) {
 #[test]
 fn one_crew_answers_alike_pass_after_pass(rt: HostRuntime) {
     for workers in [2, 8, 64] {
-        assert!(rt; is_crew_alike(&rt, rt.alloc(), workers, &ROWS), "{workers} workers");
+        assert!(rt;
+            is_crew_alike(&rt, rt.alloc(), workers, &ROWS),
+            "{workers} workers"
+        );
     }
 }
 
