@@ -1,6 +1,7 @@
 use Rattle.std.proofs.Common.{[], ◌∷◌, refl}
 use Rattle.det_edges.proofs.Opening.{asks-then-prefix}
 use Rattle.cli_answers.specs.Outcome.{told}
+use Rattle.cli_answers.proofs.Meeting.{meets-no-memory}
 use Rattle.cmd_setup.specs.Setup.{setup_of}
 use Rattle.cmd_setup.proofs.Ending.{can-end}
 use Rattle.cmd_setup.proofs.Keeping.{keeps-behind}
@@ -30,6 +31,9 @@ returns-in_default-clause-judged g c = λ tells.
     let first = g.S.Slots.sees c.args.shelf.now in
     asked-manifest c.args.task.now.strict first c.args.task.now.manifest.now c.args.task.now.stimulus.now _
     (setup_of c.args.task.now.strict (told first c.args.task.now.manifest.now)) c.read_setup.ensures.asked
+
+pub returns-in_default-clause-meets : goal.returns-in_default-clause-meets
+returns-in_default-clause-meets g c = meets-no-memory _ _ _ _ _
 
 pub record_named-requires-clause-good : goal.record_named-requires-clause-good
 record_named-requires-clause-good g c κs lives = c.in-Ok-staffed.ensures.good
