@@ -15,6 +15,7 @@ from running import Command, Result, Runner, digest_of, digest_of_text, run_into
 
 PLAIN = Path(__file__).resolve().parent
 DERIVED = PLAIN.parent / "tests" / "derived.py"
+REQUESTS = PLAIN.parent / "tests" / "memory_requests.py"
 WORKERS = (1, 2, 4)
 CLIENT_WORKERS = (1, 4)
 MOST_COPIES = 8
@@ -323,6 +324,17 @@ class Bench:
         results = heavy_passes(self.programs.pool, self.runner.rounds)
         self.add_rows(results, 0, results[0].seconds)
 
+    # ---- memory that is asked for ----
+
+    def requests(self) -> None:
+        """Tells how often the most workers ask for memory while they record."""
+        words = [sys.executable, str(REQUESTS), "--programs", str(self.programs.det.parent), "--only", "det record"]
+        done = subprocess.run([*words, "--workers", str(WORKERS[-1])], stdout=subprocess.PIPE, text=True)
+        if done.returncode == 0:
+            self.remarks += [f"with {WORKERS[-1]} workers, {line}" for line in done.stdout.splitlines()]
+        else:
+            print("requests for memory can't be counted", file=sys.stderr)
+
     def measure(self, only: Optional[str]) -> None:
         for name, recording in RECORDED.items():
             if only in (None, name):
@@ -339,3 +351,5 @@ class Bench:
             self.sim()
         if only in (None, "heavy"):
             self.heavy()
+        if only is None and self.programs.det.name == "det":
+            self.requests()
