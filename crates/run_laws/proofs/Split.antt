@@ -19,10 +19,10 @@ use Rattle.record_grammar.specs.Laws.{AreItems, items_of, items_spelling}
 use Rattle.record_grammar.proofs.Leads.{all_at_more}
 use Rattle.record_laws.proofs.Order.{in_order}
 use Rattle.record_laws.proofs.Whole.{nil_more, all_leads_on, decoded_is}
-use Rattle.voter.specs.Majority.{majority, begins_with, are_held, common, spelled_items}
+use Rattle.voter.specs.Majority.{majority, are_held, common, spelled_items}
 use Rattle.record_reader.specs.InItems.{frame_in}
 use Rattle.voter.proofs.Counting.{most-true, most-is, count-cons}
-use Rattle.voter.proofs.Prefixes.{begins-tells}
+use Rattle.voter.proofs.Prefixes.{begins_with, begins-tells}
 use Rattle.voter.proofs.Held.{common-from, common-is}
 use Rattle.voter.proofs.Spelled.{spelled-prefix}
 use Rattle.cli_answers.specs.declared.answer.Answer.TheVariants.{NoMajority}
