@@ -1,0 +1,10 @@
+//! A buffer in front of a sink, which gathers short pieces to long writes.
+#![tactic(auto)]
+
+mod buffer;
+mod passing;
+mod start;
+
+pub use buffer::SinkBuffer;
+pub use passing::{BUFFER_ROOM, buffer_room};
+pub use start::Start;
