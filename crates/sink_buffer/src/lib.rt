@@ -2,9 +2,13 @@
 #![tactic(auto)]
 
 mod buffer;
+mod front;
+mod gather;
 mod passing;
 mod start;
 
 pub use buffer::SinkBuffer;
+pub use front::Front;
+pub use gather::Gather;
 pub use passing::{BUFFER_ROOM, buffer_room};
 pub use start::Start;

@@ -1,16 +1,24 @@
-//! What is held in front of a sink, and how it is passed on.
+//! How what is held is passed on to a sink.
 ghost use Rattle.std.specs.Prelude.{◌≡◌, ◌+◌, ◌<◌, ◌≤◌, ◌++◌, [], length, take, drop};
 ghost use Rattle.std.specs.Prelude.{vec_len, vec_capacity, IfOk, OnErr};
 ghost use Rattle.det_edges.specs.Count.{Rose};
-ghost use Rattle.det_edges.specs.Sink.{Grew, Same};
-ghost use Rattle.sink_buffer.specs.Took.{IsPassed};
+ghost use Rattle.det_edges.specs.Sink.{Same};
+ghost use Rattle.sink_buffer.specs.Front.{TakesFront};
 
 use det_edges::{Sink, SinkFailed};
 use det_values::OutOfMemory;
 use std::alloc::Global;
 
-/// How many bytes a buffer holds at most.
+/// For how many bytes a buffer has room. Between calls it holds fewer.
 pub const BUFFER_ROOM: usize = 65_536;
+
+/// The memory of a buffer, which is asked for once.
+pub fn buffer_room(alloc: Global) -> Result<Vec<u8>, OutOfMemory>
+    ensures none { IfOk result (λ held. held.items ≡ []) }
+    ensures room { IfOk result (λ held. 65536 ≤ vec_capacity held) }
+{
+    Ok(Vec::with_capacity(alloc, BUFFER_ROOM)?)
+}
 
 /// Puts a piece behind what is held.
 pub(crate) fn append(held: &mut Vec<u8>, piece: &[u8])
@@ -37,7 +45,7 @@ fn drop_front(held: &mut Vec<u8>, count: usize)
     held.truncate(rest);
 }
 
-/// Passes what is held on, with as much of the piece behind it as there is room for, in one write,
+/// Passes on what is held, with as much of the piece behind it as there is room for, in one write,
 /// and answers how much of the piece that was. What the sink doesn't take stays held. Where the
 /// write fails nothing has changed.
 pub(crate) fn pass<K: Sink>(
@@ -50,10 +58,10 @@ pub(crate) fn pass<K: Sink>(
     requires room { 65536 ≤ vec_capacity held.old }
     ensures count { IfOk result (λ n. n ≤ length piece.now) }
     ensures moves { IfOk result (λ n. 0 < length piece.now → 0 < n) }
-    ensures passed { IfOk result (λ n. IsPassed (K.took sink.old) (K.took sink.new)
+    ensures taken { IfOk result (λ n. TakesFront (K.took sink.old) (K.took sink.new)
         (held.old.items ++ take n piece.now) held.new.items) }
     ensures none { OnErr result (Same (K.took sink.old) (K.took sink.new)) }
-    ensures same { OnErr result (held.new.items ≡ held.old.items) }
+    ensures stays { OnErr result (held.new.items ≡ held.old.items) }
     ensures cause { OnErr result (Rose (K.faults sink.old) (K.faults sink.new)) }
     ensures counted { K.faults sink.old ≤ K.faults sink.new }
     ensures within { vec_len held.new < 65536 }
@@ -72,12 +80,4 @@ pub(crate) fn pass<K: Sink>(
             Err(failed)
         }
     }
-}
-
-/// The memory of a buffer, which is asked for once.
-pub fn buffer_room(alloc: Global) -> Result<Vec<u8>, OutOfMemory>
-    ensures none { IfOk result (λ held. held.items ≡ []) }
-    ensures room { IfOk result (λ held. 65536 ≤ vec_capacity held) }
-{
-    Ok(Vec::with_capacity(alloc, BUFFER_ROOM)?)
 }
