@@ -6,3 +6,5 @@
 mod edges;
 #[cfg(test)]
 mod folders;
+#[cfg(test)]
+mod fronts;

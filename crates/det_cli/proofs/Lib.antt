@@ -2,3 +2,4 @@ mod Concluding
 mod Helping
 mod Joining
 mod OnWorkers
+mod ThroughBuffer

@@ -1,4 +1,5 @@
 pub mod Laws
 pub mod Outcome
 pub mod Promise
+pub mod Records
 pub mod Texts

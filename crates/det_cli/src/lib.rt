@@ -10,6 +10,7 @@
 pub mod laws;
 mod pages;
 mod program;
+mod records;
 mod texts;
 
 pub use cli_answers::{Answer, Status};

@@ -1,8 +1,6 @@
 //! The whole program.
-ghost use Rattle.std.specs.Prelude.{◌≡◌, true, map, option_map, IfSome, MatchOption};
-ghost use Rattle.std.specs.Option.{unwrap_or};
+ghost use Rattle.std.specs.Prelude.{◌≡◌, true, map, option_map, MatchOption};
 ghost use Rattle.det_edges.specs.Count.{Rose};
-ghost use Rattle.manifest.specs.Limits.{IsWorkers};
 ghost use Rattle.cli_answers.specs.Ends.{can_end, writes_alone};
 ghost use Rattle.cli_answers.specs.Outcome.{Meets, text_outcome};
 ghost use Rattle.cli_words.specs.Names.{texts};
@@ -17,24 +15,21 @@ ghost use Rattle.det_cli.specs.Promise.{Runs, Refuses, IsPromised};
 use crate::pages::{
     CHAIN, CHECK, COMPARE, DEMO, NEEDS, RECORD, REPLAY, SALVAGE, SHOW, SIM, UPGRADE, VOTE,
 };
+use crate::records::{workers_of, write_gathered};
 use crate::texts::{USAGE, VERSION};
 use cli_answers::{Answer, Status};
 use cli_words::laws::ranges;
 use cli_words::{Command, CommandWord, Options, read_words};
-use cmd_chain::{ChainTask, chain};
 use cmd_check::check;
 use cmd_compare::compare;
 use cmd_needs::needs;
-use cmd_record::{RecordTask, demo, record_stimulus};
-use cmd_replay::replay;
 use cmd_salvage::{salvage, salvage_reports};
 use cmd_show::show;
 use cmd_sim::sim;
-use cmd_upgrade::upgrade;
 use cmd_vote::{vote, vote_dissent};
 use det_edges::{Shelf, Sink, write_all};
 use probes::{Audience, Probe};
-use shipped_crews::{Host, Workers};
+use shipped_crews::Host;
 use std::alloc::Global;
 use std::thread::Threads;
 use worker_pool::Gate;
@@ -118,25 +113,17 @@ where
 {
     let alloc = host.alloc;
     let first = command.name(0);
-    let second = command.name(1);
     let Options {
         workers,
-        seed,
         strict,
         ..
     } = command.options;
     match command.word {
-        CommandWord::Demo => demo(host, first, shelf, out),
-        CommandWord::Record => {
-            let task = RecordTask {
-                manifest: first,
-                strict,
-                stimulus: second,
-                seed,
-                workers,
-            };
-            record_stimulus(host, &task, shelf, out)
-        }
+        CommandWord::Demo
+        | CommandWord::Record
+        | CommandWord::Replay
+        | CommandWord::Upgrade
+        | CommandWord::Chain => write_gathered(host, &command, shelf, out),
         CommandWord::Show => show(alloc, first, command.options.part(), shelf, out, audience),
         CommandWord::Needs => needs(alloc, first, strict, shelf, out),
         CommandWord::Sim => sim(&workers_of(host, workers), command.number(), out, audience),
@@ -146,7 +133,6 @@ where
             None => unreachable!(),
         },
         CommandWord::Version => print(VERSION, out),
-        CommandWord::Replay => replay(&workers_of(host, workers), first, shelf, out),
         CommandWord::Compare => compare(alloc, command.names.as_slice(), shelf, out),
         CommandWord::Salvage => {
             if command.options.reports {
@@ -155,9 +141,7 @@ where
             salvage(alloc, first, shelf, out)
         }
         CommandWord::Check => check(&workers_of(host, workers), first, shelf, out, audience),
-        CommandWord::Upgrade => upgrade(&workers_of(host, workers), first, shelf, out),
         CommandWord::Vote => vote_by(alloc, &command, shelf, out),
-        CommandWord::Chain => chain_by(host, &command, shelf, out),
     }
 }
 
@@ -179,49 +163,6 @@ fn vote_by<S: Shelf, K: Sink>(
         return vote_dissent(alloc, copies, shelf, out);
     }
     vote(alloc, copies, shelf, out)
-}
-
-/// Writes the record of the second client of a chain.
-fn chain_by<S, K, R, G>(
-    host: &Host<'_, R, G>,
-    command: &Command<'_>,
-    shelf: &mut S,
-    out: &mut K,
-) -> Answer
-where
-    S: Shelf,
-    K: Sink,
-    R: Threads,
-    G: Gate + Send + Sync + 'static,
-    requires range { IsInRange (command_seen command.now) }
-    requires word { command.now.word ≡ CommandWord.Chain }
-    ensures { (audience : AudienceState) → Runs (command_seen command.now)
-        (S.sees shelf.old) (S.sees shelf.new) (Rose (K.faults out.old) (K.faults out.new))
-        (K.took out.old) (K.took out.new) audience audience result }
-{
-    let Options {
-        workers,
-        seed,
-        strict,
-        ..
-    } = command.options;
-    let task = ChainTask {
-        first: command.name(0),
-        second: command.name(1),
-        strict,
-        stimulus: command.name(2),
-        seed,
-        workers,
-    };
-    chain(host, &task, shelf, out)
-}
-
-/// One worker where no number is given.
-fn workers_of<'h, R, G>(host: &Host<'h, R, G>, given: Option<u32>) -> Workers<'h, R, G>
-    requires { IfSome given IsWorkers }
-    ensures { result.count ≡ unwrap_or given 1 }
-{
-    host.workers(given.unwrap_or(1))
 }
 
 /// The page of a command. The help and the version have none.

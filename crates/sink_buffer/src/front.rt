@@ -8,16 +8,17 @@ use det_edges::{Sink, SinkFailed};
 /// A piece of so many bytes goes to the sink as it is where nothing is held.
 const LONG: usize = 4_096;
 
-/// A sink with what is held in front of it.
+/// A sink with what is held in front of it. Whoever takes it apart writes to the sink what is held,
+/// else that is lost.
 ///
 /// Short pieces are held until there is no room for the next one, and then go to the sink in one
 /// write. It makes at most one write for a piece, and asks for no memory.
 #[derive(Drop)]
 pub struct Front<'a, 'r, K: Sink> {
-    sink: &'a mut K,
-    held: &'r mut Vec<u8>,
-    ghost within: { vec_len held.now < 65536 },
-    ghost has_room: { 65536 ≤ vec_capacity held.now },
+    pub sink: &'a mut K,
+    pub held: &'r mut Vec<u8>,
+    pub ghost within: { vec_len held.now < 65536 },
+    pub ghost has_room: { 65536 ≤ vec_capacity held.now },
 }
 
 impl<'a, 'r, K: Sink> Front<'a, 'r, K> {
@@ -32,16 +33,6 @@ impl<'a, 'r, K: Sink> Front<'a, 'r, K> {
         ensures none { result.held.now.items ≡ [] }
     {
         Front { sink, held }
-    }
-
-    /// The sink, and what is held. The caller writes that to the sink, else it is lost.
-    pub fn into_parts(self) -> (&'a mut K, &'r mut Vec<u8>)
-        ensures same_sink { result.0.ghost_name ≡ self.entry.sink.ghost_name }
-        ensures sink { result.0.now ≡ self.entry.sink.now }
-        ensures held { result.1.now ≡ self.entry.held.now }
-    {
-        let Front { sink, held } = self;
-        (sink, held)
     }
 }
 

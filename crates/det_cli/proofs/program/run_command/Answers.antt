@@ -1,4 +1,4 @@
-use Rattle.std.proofs.Common.{[], ◌∷◌, true, false, refl, sym, ◌∙◌, arith, rules}
+use Rattle.std.proofs.Common.{[], ◌∷◌, true, false, refl, sym, ◌∙◌, arith}
 use Rattle.std.specs.Prelude.{Some, None}
 use Rattle.det_edges.proofs.Opening.{asks-all, asks-prefix-none}
 use Rattle.cli_answers.proofs.Keeping.{keeps-same}
@@ -6,50 +6,11 @@ use Rattle.cli_answers.proofs.Meeting.{meets-under}
 use Rattle.cli_words.specs.declared.table.CommandWord.TheVariants as words
 use Rattle.cli_words.specs.Command.{command_seen}
 use Rattle.det_cli.proofs.Helping.{help-there}
-use Rattle.det_cli.proofs.Joining.{same-command, sole-name, no-name, both-names, workers-fit, is-kept, is-gone, help-is}
+use Rattle.det_cli.proofs.Joining.{same-command, sole-name, no-name, workers-fit, is-kept, is-gone, help-is}
 use Rattle.det_cli.proofs.Joining.{runs-command, reported-runs}
 use Rattle.det_cli.proofs.Joining.{same-reports, names-enough}
+use Rattle.det_cli.proofs.ThroughBuffer.{record-of}
 use Rattle.det_cli.proofs.program.run_command.Goals as goal
-
-pub record_stimulus-requires : goal.record_stimulus-requires
-record_stimulus-requires g c =
-    let workers = workers-fit (command_seen c.args.command) c.requires.range in search (rules, workers)
-
-pub returns-in-Demo : goal.returns-in-Demo
-returns-in-Demo g c =
-    let seen = command_seen c.args.command in
-    let names = c.name-first.result.now ∷ [] in
-    let is = sole-name seen words.Demo c.requires.range c.in-Demo.is refl refl c.name-first.result.now c.name-first.ensures in
-    runs-command (g.S.Slots.sees c.args.shelf.now) _ _ _ _ _ _ _ seen _ (same-command seen words.Demo names c.in-Demo.is is) (record {
-      meets = c.demo.ensures.meets;
-      broken = λ t e. tt;
-      ends = c.demo.ensures.ends;
-      asked = c.demo.ensures.asked;
-      needed = λ t. c.demo.ensures.asked;
-      earlier = c.demo.ensures.earlier;
-      left = λ e. refl;
-      gone = λ e. absurd cc;
-      saw = λ t ne. tt;
-    })
-
-pub returns-in-Record : goal.returns-in-Record
-returns-in-Record g c =
-    let seen = command_seen c.args.command in
-    let names = c.name-first.result.now ∷ c.name-second.result.now ∷ [] in
-    let is = both-names seen words.Record c.requires.range c.in-Record.is refl refl c.name-first.result.now c.name-second.result.now
-    c.name-first.ensures c.name-second.ensures in
-    runs-command (g.S.Slots.sees c.args.shelf.now) _ _ _ _ _ _ _ seen _ (same-command seen words.Record names c.in-Record.is is)
-    (record {
-      meets = c.record_stimulus.ensures.meets;
-      broken = λ t e. tt;
-      ends = c.record_stimulus.ensures.ends;
-      asked = c.record_stimulus.ensures.asked;
-      needed = c.record_stimulus.ensures.judged;
-      earlier = c.record_stimulus.ensures.earlier;
-      left = λ e. refl;
-      gone = λ e. absurd cc;
-      saw = λ t ne. tt;
-    })
 
 pub returns-in-Needs : goal.returns-in-Needs
 returns-in-Needs g c =
@@ -165,59 +126,14 @@ returns-in-Check g c =
       saw = λ t ne. c.check.ensures.saw ne t;
     })
 
-pub returns-in-Upgrade : goal.returns-in-Upgrade
-returns-in-Upgrade g c =
-    let seen = command_seen c.args.command in
-    let names = c.name-first.result.now ∷ [] in
-    let is = sole-name seen words.Upgrade c.requires.range c.in-Upgrade.is refl refl c.name-first.result.now c.name-first.ensures in
-    runs-command (g.S.Slots.sees c.args.shelf.now) _ _ _ _ _ _ _ seen _ (same-command seen words.Upgrade names c.in-Upgrade.is is)
-    (record {
-      meets = c.upgrade.ensures.meets;
-      broken = λ t e. tt;
-      ends = c.upgrade.ensures.ends;
-      asked = c.upgrade.ensures.asked;
-      needed = λ t. c.upgrade.ensures.asked;
-      earlier = c.upgrade.ensures.earlier;
-      left = λ e. refl;
-      gone = λ e. absurd cc;
-      saw = λ t ne. tt;
-    })
-
 pub returns-in-Vote : goal.returns-in-Vote
 returns-in-Vote g c = c.vote_by.ensures _
-
-pub returns-in-Chain : goal.returns-in-Chain
-returns-in-Chain g c = c.chain_by.ensures _
 
 pub workers_of-requires : goal.workers_of-requires
 workers_of-requires g c = workers-fit (command_seen c.args.command) c.requires.range
 
-pub workers_of-requires-in-Replay : goal.workers_of-requires-in-Replay
-workers_of-requires-in-Replay g c = workers-fit (command_seen c.args.command) c.requires.range
-
 pub workers_of-requires-in-Check : goal.workers_of-requires-in-Check
 workers_of-requires-in-Check g c = workers-fit (command_seen c.args.command) c.requires.range
-
-pub workers_of-requires-in-Upgrade : goal.workers_of-requires-in-Upgrade
-workers_of-requires-in-Upgrade g c = workers-fit (command_seen c.args.command) c.requires.range
-
-pub returns-in-Replay : goal.returns-in-Replay
-returns-in-Replay g c =
-    let seen = command_seen c.args.command in
-    let names = c.name-first.result.now ∷ [] in
-    let is = sole-name seen words.Replay c.requires.range c.in-Replay.is refl refl c.name-first.result.now c.name-first.ensures in
-    runs-command (g.S.Slots.sees c.args.shelf.now) _ _ _ _ _ _ _ seen _ (same-command seen words.Replay names c.in-Replay.is is)
-    (record {
-      meets = c.replay.ensures.meets;
-      broken = λ t e. tt;
-      ends = c.replay.ensures.ends;
-      asked = c.replay.ensures.asked;
-      needed = λ t. c.replay.ensures.asked;
-      earlier = c.replay.ensures.earlier;
-      left = λ e. refl;
-      gone = λ e. absurd cc;
-      saw = λ t ne. tt;
-    })
 
 pub compare-requires-clause-some : goal.compare-requires-clause-some
 compare-requires-clause-some g c =
@@ -279,3 +195,9 @@ returns-else-command g c =
       gone = λ e. absurd cc;
       saw = λ t ne e. absurd cc;
     })
+
+pub write_gathered-requires-clause-word : goal.write_gathered-requires-clause-word
+write_gathered-requires-clause-word g c = λ lifetimes bounds. record-of c.args.command.word c.in-Demo.is
+
+pub returns-in-Demo : goal.returns-in-Demo
+returns-in-Demo g c = c.write_gathered.ensures _

@@ -2,7 +2,7 @@ use Rattle.std.proofs.Common.{[], ◌∷◌, refl, rules}
 use Rattle.cli_words.specs.declared.table.CommandWord.TheVariants as words
 use Rattle.cli_words.specs.Command.{command_seen}
 use Rattle.det_cli.proofs.Joining.{same-command, all-names, workers-fit, runs-command}
-use Rattle.det_cli.proofs.program.chain_by.Goals as goal
+use Rattle.det_cli.proofs.records.chain_by.Goals as goal
 
 pub chain-requires : goal.chain-requires
 chain-requires g c =
