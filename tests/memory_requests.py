@@ -45,7 +45,7 @@ COMMANDS = (
 )
 # Those that run cycles on workers.
 ON_WORKERS = ("det replay RECORD", "det check RECORD", "det upgrade RECORD")
-# The requests of all 200 cycles of `sim`, whose 10,000 elements stand in 157 blocks.
+# The requests of all 200 cycles of `sim`, whose 10,000 elements stand in 40 blocks.
 MOST_OF_SIM = 3_000
 
 

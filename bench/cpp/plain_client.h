@@ -120,7 +120,7 @@ class Client {
         RunBlock(runnable, container, keys, block, thrown);
       }
     };
-    unsigned const blocks = (count + 63) / 64;
+    unsigned const blocks = Words::BlockCount(count);
     unsigned const helpers = std::min(threads_.Count(), blocks > 0 ? blocks - 1 : 0);
     if (helpers == 0) {
       work();

@@ -13,6 +13,8 @@ void Called::Begin(Stream& stream, PassKeys const& keys, std::uint32_t element) 
 
 std::uint64_t Called::Next(Stream& stream) { return Inlined::Next(stream); }
 
+std::uint32_t Called::BlockCount(std::uint32_t count) { return Inlined::BlockCount(count); }
+
 bool Called::BlockOf(std::uint32_t count, std::uint32_t number, Block& block) {
   return Inlined::BlockOf(count, number, block);
 }

@@ -60,10 +60,18 @@ struct Inlined {
     return word;
   }
 
+  static std::uint32_t BlockSize(std::uint32_t count) { return count <= 4096 ? 64 : 256; }
+
+  static std::uint32_t BlockCount(std::uint32_t count) {
+    std::uint32_t const size = BlockSize(count);
+    return count / size + (count % size != 0);
+  }
+
   static bool BlockOf(std::uint32_t count, std::uint32_t number, Block& block) {
-    if (number >= count / 64 + (count % 64 != 0)) return false;
-    block.begin = number * 64;
-    block.end = count - block.begin < 64 ? count : block.begin + 64;
+    if (number >= BlockCount(count)) return false;
+    std::uint32_t const size = BlockSize(count);
+    block.begin = number * size;
+    block.end = count - block.begin < size ? count : block.begin + size;
     return true;
   }
 };
@@ -72,6 +80,7 @@ struct Called {
   static PassKeys KeysOf(std::uint64_t seed, std::uint32_t cycle, std::uint8_t pass);
   static void Begin(Stream& stream, PassKeys const& keys, std::uint32_t element);
   static std::uint64_t Next(Stream& stream);
+  static std::uint32_t BlockCount(std::uint32_t count);
   static bool BlockOf(std::uint32_t count, std::uint32_t number, Block& block);
 };
 

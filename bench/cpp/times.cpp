@@ -65,7 +65,7 @@ class Claim final : public Timed {
     return Took(kBlocks, [this] {
       std::atomic<std::uint32_t> claimed{0};
       std::uint32_t end = 0;
-      while (Form::BlockOf(64 * kBlocks, claimed.fetch_add(1), end)) sum += end;
+      while (Form::BlockOf(256 * kBlocks, claimed.fetch_add(1), end)) sum += end;
     });
   }
 };

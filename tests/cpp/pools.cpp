@@ -12,7 +12,7 @@ using namespace ara::exec;
 
 namespace {
 
-constexpr std::size_t kCounts[] = {0, 1, 63, 64, 65, 1000, 65536};
+constexpr std::size_t kCounts[] = {0, 1, 63, 64, 65, 4096, 4097, 65536};
 constexpr std::uint64_t kSeed = 11;
 
 /// How many words an element draws: 1 to 5, by its value.
@@ -96,8 +96,9 @@ void OverAnArrayOfC() {
 }
 
 void EveryNumberOfWorkers() {
-  Wanted const wanted = Stirred(5000, 1);
-  std::vector<std::uint64_t> elements(5000);
+  // 4,096 elements are 64 blocks, so that there is one for each worker.
+  Wanted const wanted = Stirred(4096, 1);
+  std::vector<std::uint64_t> elements(4096);
   for (unsigned workers = 1; workers <= 64; ++workers) {
     CHECK(StirsAs(wanted, elements, workers, 1));
   }

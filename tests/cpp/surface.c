@@ -55,6 +55,7 @@ static void a_pass(void) {
     }
   }
   holds(elements == 130 && number == 4, "three blocks of 130 elements");
+  holds(det_block_count(130) == 3, "their count");
 }
 
 static void a_window(void) {

@@ -54,8 +54,9 @@ bool TellsTheLeast(std::vector<std::uint32_t> const& bad, std::uint32_t least, u
   for (std::uint32_t i = 0; i < 6000; ++i) {
     bool const ran = elements[i] == Added(i, 1);
     if (!ran && (i <= least || elements[i] != i)) return false;
-    // A thread that is alone claims no block behind the one in which it ended.
-    if (ran && workers == 1 && i / 64 > least / 64) return false;
+    // A thread that is alone claims no block behind the one in which it ended; of 6,000 elements
+    // a block has 256.
+    if (ran && workers == 1 && i / 256 > least / 256) return false;
   }
   Thrower harmless({});
   elements = Numbered(6000);
@@ -64,7 +65,7 @@ bool TellsTheLeast(std::vector<std::uint32_t> const& bad, std::uint32_t least, u
 }
 
 void OneElement() {
-  for (std::uint32_t bad : {0u, 1u, 63u, 64u, 3000u, 5999u}) {
+  for (std::uint32_t bad : {0u, 1u, 255u, 256u, 3000u, 5999u}) {
     for (unsigned workers : {1u, 2u, 8u, 64u}) CHECK(TellsTheLeast({bad}, bad, workers));
   }
 }
@@ -73,12 +74,13 @@ void SeveralElements() {
   for (int round = 0; round < 20; ++round) {
     for (unsigned workers : {1u, 2u, 4u, 16u}) {
       CHECK(TellsTheLeast({5999, 130, 129, 700, 3000}, 129, workers));
-      CHECK(TellsTheLeast({5900, 5800, 5860}, 5800, workers));
+      CHECK(TellsTheLeast({5900, 5600, 5700}, 5600, workers));
     }
   }
 }
 
-/// Throws at element 0 and at element 64, the first of the next block, in an order of one's own.
+/// Throws at element 0 and at element 64, the first of the next of two blocks, in an order of one's
+/// own.
 class InOrder final : public WorkerRunnable<std::uint64_t> {
  public:
   explicit InOrder(std::uint64_t first) : first_(first) {}

@@ -36,9 +36,10 @@ use worker_pool::Gate;
 
 /// Runs the command that the words give, which are those after the program's name.
 ///
-/// `record`, `demo`, `sim`, `chain`, `replay`, `check` and `upgrade` run their cycles on real
-/// threads, each of which passes the gate. `show`, `sim`, `check` and `salvage` show the runs that
-/// they read or make to the audience.
+/// `record`, `demo`, `sim`, `chain`, `replay`, `check` and `upgrade` run their cycles by
+/// workers on real threads. Only as many workers run as there are blocks of elements, and one at
+/// least. Each of these passes the gate; a worker beyond them isn't started and passes none.
+/// `show`, `sim`, `check` and `salvage` show the runs that they read or make to the audience.
 pub fn top<S, K, E, R, G>(
     host: &Host<'_, R, G>,
     words: &[String],

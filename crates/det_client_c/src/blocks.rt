@@ -2,17 +2,18 @@
 
 ghost use Rattle.std.specs.Prelude.{◌≡◌, ℕ, ◌+◌, ◌-◌, ◌*◌, ◌/◌, ◌<◌, ◌≤◌, ◌↔◌, min, IsTrue, List};
 ghost use Rattle.std.specs.Prelude.{length, take, drop};
-ghost use Rattle.job_trait.specs.Pass.{block, taken, nothing};
+ghost use Rattle.job_trait.specs.Pass.{block_size, block, taken, nothing};
 ghost use Rattle.job_trait.specs.Passes.{blocks_of};
 ghost use Rattle.det_client_c.specs.Blocks.{block_begin, block_end};
 
-use job_trait::Job;
+use job_trait::{Job, block_size};
 
-/// Each element is in the block of its number divided by 64, and in no other one.
+/// Each element is in the block of its number divided by the size of blocks, and in no other one.
 pub fn each_element_once()
     ensures within { (len i : ℕ) → i < len
-        → (block_begin len (i / 64) ≤ i) × (i < block_end len (i / 64)) }
-    ensures alone { (len i n : ℕ) → block_begin len n ≤ i → i < block_end len n → n ≡ i / 64 }
+        → (block_begin len (i / block_size len) ≤ i) × (i < block_end len (i / block_size len)) }
+    ensures alone { (len i n : ℕ) → block_begin len n ≤ i → i < block_end len n
+        → n ≡ i / block_size len }
 {}
 
 /// The blocks are those of a pass over a job: block n of the pass takes the elements from the
@@ -37,10 +38,20 @@ pub extern "C" fn det_block(len: u32, number: u32, begin: &mut u32, end: &mut u3
     ensures some { IsTrue result ↔ (begin.new < end.new) }
     ensures few { IsTrue result ↔ (number < blocks_of len) }
 {
-    let first = u64::from(number) * 64;
+    let size = block_size(len as usize) as u64;
+    let first = size * u64::from(number);
     *begin = within(len, first);
-    *end = within(len, first + 64);
+    *end = within(len, first + size);
     *begin < *end
+}
+
+/// How many blocks of a container of `len` elements have some. They are numbered from 0 on.
+#[unsafe(no_mangle)]
+pub extern "C" fn det_block_count(len: u32) -> u32
+    ensures { result ≡ blocks_of len }
+{
+    let size = block_size(len as usize) as u64;
+    ((u64::from(len) + (size - 1)) / size) as u32
 }
 
 /// A place in a container, or its end.

@@ -1,7 +1,7 @@
 //! The words of key 0 are published with SplitMix64 and xoshiro256++. The others are those that the
 //! plain Rust of `bench/common/random_words.rs` gives.
 
-use crate::blocks::det_block;
+use crate::blocks::{det_block, det_block_count};
 use crate::client::{
     det_client_cycle, det_client_new, det_client_next_time, det_client_random, det_client_seed,
     det_client_set_seed, det_client_time, det_client_wait,
@@ -188,9 +188,14 @@ fn blocks_of_containers(rt: HostRuntime) {
         (64, 0, 0, 64),
         (64, 1, 64, 64),
         (65, 1, 64, 65),
-        (65_536, 1023, 65_472, 65_536),
-        (65_536, 1024, 65_536, 65_536),
-        (4_294_967_295, 67_108_863, 4_294_967_232, 4_294_967_295),
+        (4_096, 63, 4_032, 4_096),
+        (4_096, 64, 4_096, 4_096),
+        (4_097, 0, 0, 256),
+        (4_097, 16, 4_096, 4_097),
+        (4_097, 17, 4_097, 4_097),
+        (65_536, 255, 65_280, 65_536),
+        (65_536, 256, 65_536, 65_536),
+        (4_294_967_295, 16_777_215, 4_294_967_040, 4_294_967_295),
         (4_294_967_295, 4_294_967_295, 4_294_967_295, 4_294_967_295),
     ];
     for (len, number, first, last) in blocks {
@@ -202,6 +207,24 @@ fn blocks_of_containers(rt: HostRuntime) {
             (first, last, first < last),
             "{number} of {len}"
         );
+    }
+}
+
+#[test]
+fn counts_of_blocks(rt: HostRuntime) {
+    let counts = [
+        (0, 0),
+        (1, 1),
+        (64, 1),
+        (65, 2),
+        (4_096, 64),
+        (4_097, 17),
+        (65_536, 256),
+        (65_537, 257),
+        (4_294_967_295, 16_777_216),
+    ];
+    for (len, count) in counts {
+        assert_eq!(rt; det_block_count(len), count, "blocks of {len}");
     }
 }
 

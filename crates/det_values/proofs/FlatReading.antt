@@ -1,4 +1,4 @@
--- The elements that are read in the bytes of a `DrawnElements` are those that were spelled there.
+-- The elements that are read in the bytes of a `DrawnBlock` are those that were spelled there.
 use Rattle.std.proofs.Common.{◌≡◌, ℕ, zero, suc, ◌+◌, ◌<◌, ◌≤◌, List, [], ◌∷◌, ◌++◌, length, take, drop, refl, sym, ap, subst, ◌∙◌}
 use Rattle.std.proofs.Common.{append_assoc, arith, length-append}
 use Rattle.std.specs.List.{All}

@@ -6,4 +6,5 @@ mod Filling
 mod Undrawing
 mod Blocking
 mod Growing
+mod Joining
 mod Equality

@@ -1,5 +1,5 @@
 -- Equal bytes are equal elements, and the other way round.
-use Rattle.std.proofs.Common.{◌≡◌, ℕ, List, [], ◌∷◌, nat_eq, length, refl, sym, ap, ◌∙◌, arith}
+use Rattle.std.proofs.Common.{◌≡◌, ℕ, List, [], ◌∷◌, nat_eq, length, true, refl, sym, ap, ◌∙◌, arith}
 use Rattle.std.specs.Bool.{Decides}
 use Rattle.std.specs.List.{All}
 use Rattle.std.specs.Cmp.Lexicographic.{pointwise, pointwise_decides}
@@ -8,6 +8,7 @@ use Rattle.std.proofs.lemmas.List.Elements.{All-head, All-tail}
 use Rattle.det_values.specs.declared.frames.DrawnElement.{DrawnElement}
 use Rattle.det_values.specs.Spelling.{spelled_all, an_element, IsDrawn, IsFlat, elements_in, first_of, behind_first}
 use Rattle.det_values.specs.Equal.{drawn_eq}
+use Rattle.det_values.specs.Blocks.{joined}
 use Rattle.det_values.proofs.FlatReading.{first_is, behind_is, held}
 use Rattle.det_values.proofs.Fronts.{drawn_length}
 
@@ -47,3 +48,9 @@ bytes_decide es fs m n a b v h w k =
     (λ s. p.0 ∙ ap spelled_all s ∙ sym q.0)
     (pointwise_decides Decides-eqb a b))
     (elements_decide es fs)
+
+-- equal blocks hold equal elements
+pub blocks_equal : (cs bs : List (List DrawnElement)) (es fs : List DrawnElement) → joined cs ≡ es → joined bs ≡ fs
+    → pointwise (pointwise drawn_eq) cs bs ≡ true → true ≡ pointwise drawn_eq es fs
+blocks_equal cs bs es fs v w e =
+    sym ((elements_decide es fs).1 (sym v ∙ ap joined ((pointwise_decides elements_decide cs bs).0 e) ∙ w))

@@ -1,9 +1,9 @@
 //! Items added to the blocks of a container.
-ghost use Rattle.std.specs.Prelude.{◌≡◌, ◌++◌, ◌∷◌, [], OnOk, OnErr};
+ghost use Rattle.std.specs.Prelude.{◌≡◌, ◌+◌, ◌≤◌, ◌%◌, ◌++◌, ◌∷◌, [], length, OnOk, OnErr};
 ghost use Rattle.std.specs.Bool.{OnTrue, OnFalse};
 ghost use Rattle.det_values.specs.Blocks.{joined, AreBlocks, HasRoom, AreFull, held_by};
 
-use crate::OutOfMemory;
+use crate::{OutOfMemory, Spares};
 use std::alloc::Global;
 
 /// Whether an item was added. A refused one is dropped.
@@ -24,7 +24,7 @@ pub(crate) fn has_room<E>(blocks: &Vec<Vec<E>>) -> bool
     if count == 0 {
         return false;
     }
-    if blocks[count - 1].len() < 64 {
+    if blocks[count - 1].len() < 256 {
         return true;
     }
     false
@@ -70,4 +70,31 @@ pub(crate) fn add_block<E: Drop>(
         return Ok(());
     }
     Err(OutOfMemory)
+}
+
+/// Moves elements to the end of the last block, and leaves their list to the spares. A refused call
+/// drops them and changes nothing.
+pub(crate) fn append_to_last<E: Drop>(
+    blocks: &mut Vec<Vec<E>>,
+    mut more: Vec<E>,
+    spares: &mut Spares<E>,
+) -> Result<(), OutOfMemory>
+    requires blocks { AreBlocks (held_by blocks.old.items) }
+    requires room { HasRoom (held_by blocks.old.items) }
+    requires together { length (joined (held_by blocks.old.items)) % 256 + length more.items ≤ 256 }
+    ensures blocks { AreBlocks (held_by blocks.new.items) }
+    ensures ok { OnOk result (joined (held_by blocks.new.items) ≡ joined (held_by blocks.old.items)
+        ++ more.items) }
+    ensures err { OnErr result (joined (held_by blocks.new.items)
+        ≡ joined (held_by blocks.old.items)) }
+{
+    let count = blocks.len();
+    let last = &mut blocks[count - 1];
+    match last.append(&mut more) {
+        Ok(()) => {
+            spares.keep_block(more);
+            Ok(())
+        }
+        Err(_) => Err(OutOfMemory),
+    }
 }

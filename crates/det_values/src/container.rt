@@ -1,15 +1,15 @@
 //! A list in blocks that are moved and never copied.
-ghost use Rattle.std.specs.Prelude.{◌≡◌, ℕ, ◌≤◌, ◌<◌, ◌+◌, ◌*◌, ◌++◌, ◌∷◌, [], length, take, drop};
+ghost use Rattle.std.specs.Prelude.{◌≡◌, ℕ, ◌≤◌, ◌<◌, ◌+◌, ◌*◌, ◌%◌, ◌++◌, ◌∷◌, [], length, take, drop};
 ghost use Rattle.std.specs.Prelude.{slice_index_or, OnOk, OnErr, IfOk, IsTrue, ◌↔◌};
 ghost use Rattle.det_values.specs.Blocks.{joined, AreBlocks, held_by};
 
-use crate::OutOfMemory;
-use crate::blocks::{add_block, add_to_last, has_room, pushed};
+use crate::blocks::{add_block, add_to_last, append_to_last, has_room, pushed};
+use crate::{OutOfMemory, Spares};
 use std::alloc::Global;
 use std::marker::Model;
 
-/// The elements of a job, or one value for each of them: at most 65,536, in blocks of 64, of which
-/// the last one may be shorter. Blocks are what the workers of a pass claim and give.
+/// The elements of a job, or one value for each of them: at most 65,536, in blocks of 256, of which
+/// the last one may be shorter. A worker of a pass runs one of these blocks or a quarter of one.
 #[derive(Debug, Drop)]
 pub struct Container<E> {
     blocks: Vec<Vec<E>>,
@@ -43,7 +43,7 @@ impl<E> Container<E> {
         ensures { IfOk result (λ container. container ≡ []) }
     {
         Ok(Container {
-            blocks: Vec::with_capacity(alloc, (elements + 63) / 64)?,
+            blocks: Vec::with_capacity(alloc, (elements + 255) / 256)?,
         })
     }
 
@@ -73,7 +73,7 @@ impl<E> Container<E> {
         if count == 0 {
             return 0;
         }
-        64 * (count - 1) + self.blocks[count - 1].len()
+        256 * (count - 1) + self.blocks[count - 1].len()
     }
 
     /// Whether there is no element.
@@ -88,21 +88,32 @@ impl<E> Container<E> {
         requires { index < length self.now }
         ensures { result.now ≡ slice_index_or self.now index result.now }
     {
-        &self.blocks[index / 64][index % 64]
+        &self.blocks[index / 256][index % 256]
     }
 
-    /// The elements of block `number`, 64 or those that are left.
+    /// The elements of block `number`, 256 or those that are left.
     pub fn block(&self, number: usize) -> &[E]
-        requires { 64 * number < length self.now }
-        ensures { result.now ≡ take 64 (drop (64 * number) self.now) }
+        requires { 256 * number < length self.now }
+        ensures { result.now ≡ take 256 (drop (256 * number) self.now) }
     {
         self.blocks[number].as_slice()
     }
 
+    /// The elements from an index on, so many or those that are left. They stand in one block.
+    pub fn part(&self, first: usize, most: usize) -> &[E]
+        requires inside { first < length self.now }
+        requires together { first % 256 + most ≤ 256 }
+        ensures { result.now ≡ take most (drop first self.now) }
+    {
+        let block = self.blocks[first / 256].as_slice();
+        let at = first % 256;
+        &block[at..block.len().min(at + most)]
+    }
+
     /// The number of blocks.
     pub fn blocks(&self) -> usize
-        ensures enough { length self.now ≤ 64 * result }
-        ensures no_more { (b : ℕ) → b < result → 64 * b < length self.now }
+        ensures enough { length self.now ≤ 256 * result }
+        ensures no_more { (b : ℕ) → b < result → 256 * b < length self.now }
     {
         self.blocks.len()
     }
@@ -122,17 +133,20 @@ impl<E> Container<E> {
         }
     }
 
-    /// Moves a block to the end, behind whole ones. A refused call drops it and changes nothing.
-    pub fn push_block(&mut self, block: Vec<E>) -> Result<(), OutOfMemory>
+    /// Moves these elements to the end, into one block of 256. Where they stand behind others in it
+    /// their list is left to the spares. A refused call drops them and changes nothing.
+    pub fn push_block(&mut self, block: Vec<E>, spares: &mut Spares<E>) -> Result<(), OutOfMemory>
     where
         E: Drop,
-        requires whole { (n : ℕ) × (length self.old ≡ 64 * n) }
         requires some { 0 < length block.items }
-        requires few { length block.items ≤ 64 }
+        requires together { length self.old % 256 + length block.items ≤ 256 }
         requires room { length self.old + length block.items ≤ 65536 }
         ensures ok { OnOk result (self.new ≡ self.old ++ block.items) }
         ensures err { OnErr result (self.new ≡ self.old) }
     {
+        if has_room(&self.blocks) {
+            return append_to_last(&mut self.blocks, block, spares);
+        }
         if pushed(&mut self.blocks, block) {
             return Ok(());
         }

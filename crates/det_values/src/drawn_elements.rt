@@ -1,37 +1,38 @@
 //! The elements of a finished cycle.
 ghost use Rattle.std.specs.Prelude.{◌≡◌, ◌≤◌, ◌<◌, ◌+◌, List, ◌++◌, ◌∷◌, [], length, OnOk, OnErr};
 ghost use Rattle.std.specs.List.{All};
-ghost use Rattle.det_values.specs.Spelling.{an_element, spelled_drawn, spelled_all, IsDrawn};
+ghost use Rattle.det_values.specs.Blocks.{joined};
+ghost use Rattle.det_values.specs.Spelling.{an_element, spelled_all, IsDrawn};
 ghost use Rattle.det_values.specs.declared.frames.DrawnElement.{DrawnElement};
 
 use crate::OutOfMemory;
-use crate::put::put_drawn;
-use crate::undraw::undraw_all;
+use crate::drawn_block::DrawnBlock;
+use crate::drawn_blocks::{
+    add_block, are_equal, begin, clear_blocks, extend_last, push_last, undraw_blocks, walk_over,
+};
 use crate::walk::Walk;
 use std::alloc::Global;
 use std::marker::Model;
 
 /// The bytes and draws of each element of a finished cycle: at most 65,536 elements of at most 64
-/// bytes each.
-///
-/// They are held as format Two of a record spells them, one behind another, so that a frame is
-/// encoded by one copy.
+/// bytes each, in blocks that are moved and never copied.
 #[derive(Debug, Drop)]
 pub struct DrawnElements {
-    bytes: Vec<u8>,
+    alloc: Global,
+    blocks: Vec<DrawnBlock>,
     count: u32,
 }
 
 impl Model for DrawnElements {
-    ghost use Rattle.std.specs.Prelude.{List};
+    ghost use Rattle.std.specs.Prelude.{List, ◌≡◌, ◌≤◌, length};
     ghost use Rattle.det_values.specs.declared.frames.DrawnElement.{DrawnElement};
-    ghost use Rattle.det_values.specs.Spelling.{elements_in, IsFlat};
+    ghost use Rattle.det_values.specs.Blocks.{joined};
 
     ghost Value = { List DrawnElement };
 
-    ghost view = { λ f. elements_in f.count f.bytes.items };
+    ghost view = { λ f. joined f.blocks.items };
 
-    ghost invariant = { λ f. IsFlat f.count f.bytes.items };
+    ghost invariant = { λ f. (f.count ≡ length (joined f.blocks.items)) × (f.count ≤ 65536) };
 }
 
 impl DrawnElements {
@@ -42,7 +43,20 @@ impl DrawnElements {
         ensures { result ≡ [] }
     {
         DrawnElements {
-            bytes: Vec::new(alloc),
+            alloc,
+            blocks: Vec::new(alloc),
+            count: 0,
+        }
+    }
+
+    /// No elements, in the memory of a list of blocks.
+    pub fn in_memory(alloc: Global, mut blocks: Vec<DrawnBlock>) -> DrawnElements
+        ensures { result ≡ [] }
+    {
+        blocks.clear();
+        DrawnElements {
+            alloc,
+            blocks,
             count: 0,
         }
     }
@@ -55,40 +69,55 @@ impl DrawnElements {
         self.count as usize
     }
 
-    /// The elements as the record spells them.
-    pub fn spelled(&self) -> &[u8]
-        ensures bytes { result.now ≡ spelled_all self.now }
-        ensures fields { All IsDrawn self.now }
+    /// The blocks, of which some may be empty.
+    pub fn blocks(&self) -> &[DrawnBlock]
+        ensures { joined result.now ≡ self.now }
     {
-        self.bytes.as_slice()
+        self.blocks.as_slice()
     }
 
-    /// Adds an element at the end. A refused call changes nothing.
+    /// Adds an element to the last block, or begins a block with it. A refused call changes
+    /// nothing.
     pub fn push(&mut self, bytes: &[u8], draws: u32) -> Result<(), OutOfMemory>
         requires room { length self.old < 65536 }
         requires short { length bytes.now ≤ 64 }
         ensures ok { OnOk result (self.new ≡ self.old ++ an_element bytes.now draws ∷ []) }
         ensures err { OnErr result (self.new ≡ self.old) }
     {
-        match put_drawn(&mut self.bytes, bytes, draws) {
-            Ok(()) => {
-                self.count += 1;
-                Ok(())
-            }
-            Err(refused) => Err(refused),
-        }
+        begin(&mut self.blocks, self.alloc)?;
+        push_last(&mut self.blocks, bytes, draws)?;
+        self.count += 1;
+        Ok(())
     }
 
-    /// Removes all elements, and keeps the memory that they took.
+    /// Moves a block to the end. A refused call drops it and changes nothing.
+    pub fn push_block(&mut self, block: DrawnBlock) -> Result<(), OutOfMemory>
+        requires { length self.old + length block ≤ 65536 }
+        ensures ok { OnOk result (self.new ≡ self.old ++ block) }
+        ensures err { OnErr result (self.new ≡ self.old) }
+    {
+        let more = block.len() as u32;
+        add_block(&mut self.blocks, block)?;
+        self.count += more;
+        Ok(())
+    }
+
+    /// The blocks, for their memory.
+    pub fn into_blocks(self) -> Vec<DrawnBlock> {
+        let DrawnElements { blocks, .. } = self;
+        blocks
+    }
+
+    /// Removes all elements, and keeps the memory of the first block.
     pub fn clear(&mut self)
         ensures { self.new ≡ [] }
     {
-        self.bytes.clear();
+        clear_blocks(&mut self.blocks);
         self.count = 0;
     }
 
-    /// Adds so many elements that are spelled already, one behind another, by one copy. A refused
-    /// call changes nothing.
+    /// Adds so many elements that are spelled already, one behind another, by one copy to the last
+    /// block. A refused call changes nothing.
     pub fn extend_spelled(&mut self, spelled: &[u8], count: u32) -> Result<(), OutOfMemory>
         requires room { length self.old + count ≤ 65536 }
         requires spelled { (es : List DrawnElement) × (spelled.now ≡ spelled_all es)
@@ -97,47 +126,24 @@ impl DrawnElements {
             → length es ≡ count → All IsDrawn es → self.new ≡ self.old ++ es) }
         ensures err { OnErr result (self.new ≡ self.old) }
     {
-        match self.bytes.extend_from_slice(spelled) {
-            Ok(()) => {
-                self.count += count;
-                Ok(())
-            }
-            Err(_) => Err(OutOfMemory),
-        }
-    }
-
-    /// So many elements that were spelled one behind another. The bytes are moved and not copied.
-    pub fn from_spelled(bytes: Vec<u8>, count: u32) -> DrawnElements
-        requires few { count ≤ 65536 }
-        requires spelled { (es : List DrawnElement) × (bytes.items ≡ spelled_all es)
-            × (length es ≡ count) × All IsDrawn es }
-        ensures { (es : List DrawnElement) → bytes.items ≡ spelled_all es → length es ≡ count
-            → All IsDrawn es → result ≡ es }
-    {
-        DrawnElements { bytes, count }
-    }
-
-    /// The bytes, for their memory.
-    pub fn into_bytes(self) -> Vec<u8> {
-        let DrawnElements { bytes, .. } = self;
-        bytes
+        begin(&mut self.blocks, self.alloc)?;
+        extend_last(&mut self.blocks, spelled, count)?;
+        self.count += count;
+        Ok(())
     }
 
     /// Makes all draws 0.
     pub fn undraw(&mut self)
         ensures { self.new ≡ all_undrawn self.old }
     {
-        undraw_all(self.bytes.as_mut_slice(), self.count);
+        undraw_blocks(self.blocks.as_mut_slice());
     }
 
     /// The elements, to be taken one after another.
     pub fn walk(&self) -> Walk<'_>
         ensures { result ≡ self.now }
     {
-        Walk {
-            rest: self.bytes.as_slice(),
-            left: self.count,
-        }
+        walk_over(self.blocks.as_slice())
     }
 }
 
@@ -150,8 +156,9 @@ impl PartialEq for DrawnElements {
     ghost laws = { flat_laws };
 
     fn eq(&self, other: &DrawnElements) -> bool {
-        let left = self.bytes.as_slice();
-        let right = other.bytes.as_slice();
-        left == right
+        if self.blocks.as_slice() == other.blocks.as_slice() {
+            return true;
+        }
+        are_equal(self.walk(), other.walk())
     }
 }

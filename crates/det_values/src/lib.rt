@@ -1,9 +1,12 @@
 //! The values that every other crate speaks of, with their limits.
 #![tactic(auto)]
 
+mod block_walk;
 mod blocks;
 mod bytes64;
 mod container;
+mod drawn_block;
+mod drawn_blocks;
 mod drawn_elements;
 mod event;
 mod event_name;
@@ -23,8 +26,10 @@ mod spares;
 mod undraw;
 mod walk;
 
+pub use block_walk::BlockWalk;
 pub use bytes64::Bytes64;
 pub use container::Container;
+pub use drawn_block::DrawnBlock;
 pub use drawn_elements::DrawnElements;
 pub use event::{EventSpec, Policy};
 pub use event_name::EventName;

@@ -1,5 +1,6 @@
 //! Numbers, bytes and elements appended to bytes, as the record spells them.
 ghost use Rattle.std.specs.Prelude.{◌≡◌, ◌≤◌, ◌+◌, ◌++◌, ◌∷◌, [], length, take, drop, OnOk, OnErr};
+ghost use Rattle.std.specs.Vec.{vec_capacity};
 ghost use Rattle.det_values.specs.Spelling.{spelled_u16, spelled_u32, AreBytes, an_element};
 ghost use Rattle.det_values.specs.Spelling.{spelled_drawn, IsDrawn, Grows};
 
@@ -68,8 +69,9 @@ pub fn put_drawn(out: &mut Vec<u8>, bytes: &[u8], draws: u32) -> Result<(), OutO
 /// Writes a number over the two bytes at an index.
 pub fn fill_u16(out: &mut Vec<u8>, at: usize, n: u16)
     requires { at + 2 ≤ length out.old.items }
-    ensures { out.new.items ≡ take at out.old.items
+    ensures items { out.new.items ≡ take at out.old.items
         ++ (spelled_u16 n ++ drop (at + 2) out.old.items) }
+    ensures room { vec_capacity out.new ≡ vec_capacity out.old }
 {
     let bytes = n.to_be_bytes();
     out[at] = bytes[0];

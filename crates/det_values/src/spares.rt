@@ -31,7 +31,7 @@ impl<E: Drop> Spares<E> {
             block.clear();
             return Ok(block);
         }
-        Ok(Vec::with_capacity(self.alloc, 64)?)
+        Ok(Vec::with_capacity(self.alloc, 256)?)
     }
 
     /// A container without elements, which has room for the blocks of so many where it is new.

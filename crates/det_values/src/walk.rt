@@ -2,26 +2,25 @@
 ghost use Rattle.std.specs.Prelude.{◌≡◌, ◌≤◌, ◌∷◌, [], length, IfSome, IfNone};
 ghost use Rattle.det_values.specs.Spelling.{an_element};
 
-use crate::first::first_in;
+use crate::block_walk::BlockWalk;
+use crate::drawn_block::DrawnBlock;
 use std::marker::Model;
 
 /// The elements of a `DrawnElements` that were not taken yet.
 #[derive(Drop)]
 pub struct Walk<'a> {
-    pub(crate) rest: &'a [u8],
-    pub(crate) left: u32,
+    pub(crate) here: BlockWalk<'a>,
+    pub(crate) behind: &'a [DrawnBlock],
 }
 
 impl<'a> Model for Walk<'a> {
-    ghost use Rattle.std.specs.Prelude.{List};
+    ghost use Rattle.std.specs.Prelude.{List, ◌++◌};
     ghost use Rattle.det_values.specs.declared.frames.DrawnElement.{DrawnElement};
-    ghost use Rattle.det_values.specs.Spelling.{elements_in, IsFlat};
+    ghost use Rattle.det_values.specs.Blocks.{joined};
 
     ghost Value = { List DrawnElement };
 
-    ghost view = { λ w. elements_in w.left w.rest.now };
-
-    ghost invariant = { λ w. IsFlat w.left w.rest.now };
+    ghost view = { λ w. w.here ++ joined w.behind.now };
 }
 
 impl<'a> Walk<'a> {
@@ -32,16 +31,17 @@ impl<'a> Walk<'a> {
         ensures none { IfNone result (self.old ≡ []) }
         ensures ended { IfNone result (self.new ≡ []) }
     {
-        if self.left == 0 {
-            return None;
-        }
-        match first_in(self.rest) {
-            Some((bytes, draws, rest)) => {
-                self.rest = rest;
-                self.left -= 1;
-                Some((bytes, draws))
+        'next: loop {
+            if let Some(element) = self.here.next() {
+                return Some(element);
             }
-            None => None,
+            match self.behind {
+                [block, behind @ ..] => {
+                    self.here = block.walk();
+                    self.behind = behind;
+                }
+                [] => return None,
+            }
         }
     }
 }

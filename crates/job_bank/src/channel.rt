@@ -1,6 +1,7 @@
 //! Channels, and their levels.
 
-ghost use Rattle.std.specs.Prelude.{◌≡◌, ◌≤◌, ◌++◌, IfOk, OnOk, length};
+ghost use Rattle.std.specs.Prelude.{◌≡◌, ◌+◌, ◌<◌, ◌≤◌, ◌++◌, IfOk, OnOk, OnErr, length};
+ghost use Rattle.std.specs.Vec.{vec_capacity, vec_len};
 ghost use Rattle.std.specs.List.{All};
 ghost use Rattle.det_values.specs.Limits.{IsSampleValue};
 ghost use Rattle.det_values.specs.Spelling.{Grows, an_element, spelled_drawn};
@@ -70,6 +71,8 @@ pub(crate) fn put_channel(
 ) -> Result<(), OutOfMemory>
     ensures ok { OnOk result (out.new.items ≡ out.old.items ++ shown bank.now channel.now) }
     ensures grows { Grows out.old.items out.new.items }
+    ensures room { vec_capacity out.old ≤ vec_capacity out.new }
+    ensures full { OnErr result (vec_capacity out.old < vec_len out.old + 64) }
 {
     let bytes = bytes_of(channel);
     let skipped = if bank.events >= 2 { 0 } else { 2 };
@@ -113,8 +116,10 @@ pub(crate) fn put_drawn_channel(
     draws: u32,
     out: &mut Vec<u8>,
 ) -> Result<(), OutOfMemory>
-    ensures { OnOk result (out.new.items ≡ out.old.items
+    ensures ok { OnOk result (out.new.items ≡ out.old.items
         ++ spelled_drawn (an_element (shown bank.now channel.now) draws)) }
+    ensures room { vec_capacity out.old ≤ vec_capacity out.new }
+    ensures full { OnErr result (vec_capacity out.old < vec_len out.old + 70) }
 {
     if bank.events >= 2 {
         Ok(out.extend_from_slice(&drawn_with_event(channel, draws))?)

@@ -1,6 +1,7 @@
 //! Particles, and where they stand.
 
-ghost use Rattle.std.specs.Prelude.{◌≡◌, ◌<◌, ◌≤◌, ◌++◌, IfOk, OnOk, length};
+ghost use Rattle.std.specs.Prelude.{◌≡◌, ◌+◌, ◌<◌, ◌≤◌, ◌++◌, IfOk, OnOk, OnErr, length};
+ghost use Rattle.std.specs.Vec.{vec_capacity, vec_len};
 ghost use Rattle.std.specs.List.{All};
 ghost use Rattle.det_values.specs.Limits.{IsSampleValue};
 ghost use Rattle.det_values.specs.Spelling.{Grows, an_element, spelled_drawn};
@@ -93,6 +94,8 @@ fn drawn_bytes(particle: &Particle, draws: u32) -> [u8; 26]
 pub(crate) fn put_particle(particle: &Particle, out: &mut Vec<u8>) -> Result<(), OutOfMemory>
     ensures ok { OnOk result (out.new.items ≡ out.old.items ++ shown particle.now) }
     ensures grows { Grows out.old.items out.new.items }
+    ensures room { vec_capacity out.old ≤ vec_capacity out.new }
+    ensures full { OnErr result (vec_capacity out.old < vec_len out.old + 64) }
 {
     out.extend_from_slice(&bytes_of(particle))?;
     Ok(())
@@ -106,8 +109,10 @@ pub(crate) fn put_drawn_particle(
     draws: u32,
     out: &mut Vec<u8>,
 ) -> Result<(), OutOfMemory>
-    ensures { OnOk result (out.new.items ≡ out.old.items
+    ensures ok { OnOk result (out.new.items ≡ out.old.items
         ++ spelled_drawn (an_element (shown particle.now) draws)) }
+    ensures room { vec_capacity out.old ≤ vec_capacity out.new }
+    ensures full { OnErr result (vec_capacity out.old < vec_len out.old + 70) }
 {
     Ok(out.extend_from_slice(&drawn_bytes(particle, draws))?)
 }

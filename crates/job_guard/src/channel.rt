@@ -1,6 +1,7 @@
 //! Channels, and what a sample makes of them.
 
-ghost use Rattle.std.specs.Prelude.{◌≡◌, ◌<◌, ◌≤◌, ◌++◌, IfOk, OnOk, length};
+ghost use Rattle.std.specs.Prelude.{◌≡◌, ◌+◌, ◌<◌, ◌≤◌, ◌++◌, IfOk, OnOk, OnErr, length};
+ghost use Rattle.std.specs.Vec.{vec_capacity, vec_len};
 ghost use Rattle.std.specs.List.{All};
 ghost use Rattle.det_values.specs.Spelling.{Grows, an_element, spelled_drawn};
 ghost use Rattle.det_values.specs.Spelling.{spelled_u16, spelled_u32};
@@ -112,6 +113,8 @@ fn bytes_of(channel: &Channel) -> [u8; 14]
 pub(crate) fn put_channel(channel: &Channel, out: &mut Vec<u8>) -> Result<(), OutOfMemory>
     ensures ok { OnOk result (out.new.items ≡ out.old.items ++ shown channel.now) }
     ensures grows { Grows out.old.items out.new.items }
+    ensures room { vec_capacity out.old ≤ vec_capacity out.new }
+    ensures full { OnErr result (vec_capacity out.old < vec_len out.old + 64) }
 {
     out.extend_from_slice(&bytes_of(channel))?;
     Ok(())
@@ -138,8 +141,10 @@ pub(crate) fn put_drawn_channel(
     draws: u32,
     out: &mut Vec<u8>,
 ) -> Result<(), OutOfMemory>
-    ensures { OnOk result (out.new.items ≡ out.old.items
+    ensures ok { OnOk result (out.new.items ≡ out.old.items
         ++ spelled_drawn (an_element (shown channel.now) draws)) }
+    ensures room { vec_capacity out.old ≤ vec_capacity out.new }
+    ensures full { OnErr result (vec_capacity out.old < vec_len out.old + 70) }
 {
     Ok(out.extend_from_slice(&drawn_bytes(channel, draws))?)
 }

@@ -1,6 +1,7 @@
 //! Elements, and the words that they fold.
 
-ghost use Rattle.std.specs.Prelude.{◌≡◌, ℕ, ◌≤◌, ◌++◌, IfOk, OnOk, length};
+ghost use Rattle.std.specs.Prelude.{◌≡◌, ◌+◌, ◌<◌, ℕ, ◌≤◌, ◌++◌, IfOk, OnOk, OnErr, length};
+ghost use Rattle.std.specs.Vec.{vec_capacity, vec_len};
 ghost use Rattle.std.specs.List.{All};
 ghost use Rattle.det_values.specs.Spelling.{Grows};
 ghost use Rattle.element_random.specs.Words.{StandsFor};
@@ -53,6 +54,8 @@ pub(crate) fn fold_words(first: u64, random: &mut ElementRandom) -> u64
 pub(crate) fn put_state(state: &State, out: &mut Vec<u8>) -> Result<(), OutOfMemory>
     ensures ok { OnOk result (out.new.items ≡ out.old.items ++ shown state.now) }
     ensures grows { Grows out.old.items out.new.items }
+    ensures room { vec_capacity out.old ≤ vec_capacity out.new }
+    ensures full { OnErr result (vec_capacity out.old < vec_len out.old + 64) }
 {
     out.extend_from_slice(&state.folded.to_be_bytes())?;
     Ok(())

@@ -1,1 +1,2 @@
+pub mod Sizes
 mod Putting

@@ -1,6 +1,7 @@
 -- One pass over the elements of a container, taken one after another: what RunWorkerPool of the
 -- AUTOSAR Adaptive Platform does over a container, whatever its workers do. No worker stands here.
-use Rattle.std.specs.Prelude.{ℕ, ◌+◌, ◌*◌, List, [], ◌∷◌, ◌++◌, take, drop, Result, Ok, Err}
+use Rattle.std.specs.Prelude.{ℕ, ◌+◌, ◌*◌, List, [], ◌∷◌, ◌++◌, length, take, drop, Result, Ok, Err}
+use Rattle.std.specs.Prelude.{nat_le, if◌then◌else◌}
 use Rattle.element_random.specs.Words.{key}
 use Rattle.job_trait.specs.Meaning.{Meaning, Worked}
 
@@ -9,6 +10,15 @@ pub record Passed (E P : Type 0) : Type 0 where
   pub elements : List E
   pub draws : List ℕ
   pub part : P
+
+-- How many elements a block has, but for the last one, where they are so many: 64 while all workers are to get some,
+-- 256 where a block is soon done beside what its claim costs.
+unfoldable pub block_size : ℕ → ℕ
+block_size n = if nat_le n 4096 then 64 else 256
+
+-- of a list with a value for each of n elements, those of block b
+abbrev pub in_block : {X : Type 0} → ℕ → ℕ → List X → List X
+in_block n b xs = take (block_size n) (drop (block_size n * b) xs)
 
 -- the least element that refuses, and its code
 pub record Refusal : Type 0 where
@@ -44,6 +54,6 @@ module _ {S G E L P : Type 0} (m : Meaning S G E L P) (j : S) (plan : L) (carry 
   abbrev pub passed : List E → Result (Passed E P) Refusal
   passed es = taken 0 es nothing
 
-  -- the 64 elements of block b, or those that are left
+  -- the elements of block b
   abbrev pub block : ℕ → List E → Result (Passed E P) Refusal
-  block b es = taken (64 * b) (take 64 (drop (64 * b) es)) nothing
+  block b es = taken (block_size (length es) * b) (in_block (length es) b es) nothing

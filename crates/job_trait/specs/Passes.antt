@@ -1,10 +1,10 @@
 -- A pass that is to be run, and what answers it.
-use Rattle.std.specs.Prelude.{◌≡◌, ℕ, ◌+◌, ◌/◌, ◌<◌, ◌≤◌, ◌⊎◌, List, [], ◌∷◌, length, true}
+use Rattle.std.specs.Prelude.{◌≡◌, ℕ, ◌+◌, ◌-◌, ◌/◌, ◌<◌, ◌≤◌, ◌⊎◌, List, [], ◌∷◌, length, true}
 use Rattle.std.specs.Prelude.{Result, Ok, Err, IfOk, IfErr, Bool}
 use Rattle.std.specs.List.{All}
 use Rattle.job_trait.specs.Meaning.{Meaning}
 use Rattle.job_trait.specs.Laws.{CoversSome}
-use Rattle.job_trait.specs.Pass.{Passed, Refusal, passed, block}
+use Rattle.job_trait.specs.Pass.{Passed, Refusal, block_size, passed, block}
 use Rattle.job_trait.specs.Cycle.{added, shown_with}
 use Rattle.job_trait.specs.declared.pass.PassDone.{PassDone}
 use Rattle.job_trait.specs.declared.pass.PoolFault.{PoolFault}
@@ -25,9 +25,9 @@ pub record PassValue (S E L P : Type 0) : Type 0 where
   -- whether its new elements are to be shown
   pub shows : Bool
 
--- the blocks of n elements, 64 to a block, and those of a pass
+-- the number of blocks of n elements, and of a pass
 abbrev pub blocks_of : ℕ → ℕ
-blocks_of n = (n + 63) / 64
+blocks_of n = (n + (block_size n - 1)) / block_size n
 
 abbrev pub blocks_in : {S E L P : Type 0} → PassValue S E L P → ℕ
 blocks_in t = blocks_of (length t.elements)

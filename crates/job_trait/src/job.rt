@@ -1,7 +1,8 @@
 //! The trait.
 
 ghost use Rattle.std.specs.Prelude.{◌≡◌, ℕ, ◌<◌, ◌≤◌, ◌++◌, List, length, None, Some, MatchResult};
-ghost use Rattle.std.specs.Prelude.{IfOk, OnOk};
+ghost use Rattle.std.specs.Prelude.{◌+◌, IfOk, OnOk, OnErr};
+ghost use Rattle.std.specs.Vec.{vec_capacity, vec_len};
 ghost use Rattle.std.specs.List.{All};
 ghost use Rattle.element_random.specs.Words.{StandsFor, key};
 ghost use Rattle.det_client.specs.State.{next_time, OwnAt, SameButSeed};
@@ -9,7 +10,7 @@ ghost use Rattle.event_cache.specs.Rings.{windows};
 
 use crate::{BadParam, Concluded, JobFault, Started};
 use det_client::{Activation, Client};
-use det_values::put::{fill_u16, put_u32};
+use det_values::put::fill_u16;
 use det_values::{Bytes, Container, OutOfMemory, Params};
 use element_random::ElementRandom;
 use event_cache::EventCache;
@@ -112,6 +113,9 @@ pub trait Job: Sized + Drop {
     /// Runs one element in a pass, answers its new value and joins what it gives to `part`, which
     /// comes from the elements before it. `carry` is the part of the pass before, or the unit in the
     /// first one. The words are the element's own. A refused call may leave any part.
+    ///
+    /// A thread that comes late may run an element again, also after the end of its pass. What that
+    /// gives is thrown away. So a job changes nothing but through its arguments.
     fn run(
         &self,
         alloc: Global,
@@ -143,16 +147,19 @@ pub trait Job: Sized + Drop {
             CoversBoth (Covers self.now) left.old right.old left.new) };
 
     /// Appends an element's bytes in a record, at most 64, which tell the job's own elements apart.
-    /// A refused call may leave some of them.
+    /// A refused call may leave some of them. Where 64 bytes have room it asks for no memory.
     fn put_element(&self, element: &Self::Element, out: &mut Vec<u8>) -> Result<(), OutOfMemory>
         requires { Own self.now element.now }
         ensures ok { OnOk result (out.new.items ≡ out.old.items
             ++ meaning.shown self.now element.now) }
         ensures short { OnOk result (length (meaning.shown self.now element.now) ≤ 64) }
-        ensures grows { Grows out.old.items out.new.items };
+        ensures grows { Grows out.old.items out.new.items }
+        ensures room { vec_capacity out.old ≤ vec_capacity out.new }
+        ensures full { OnErr result (vec_capacity out.old < vec_len out.old + 64) };
 
     /// Appends an element as a frame holds it: its bytes, their number in two bytes before them and
-    /// its draws in four after them. A job may do this by one append, which is quicker.
+    /// its draws in four after them. A job may do this by one append, which is quicker. Where 70
+    /// bytes have room it asks for no memory.
     #[inline(always)]
     fn put_drawn(
         &self,
@@ -163,13 +170,15 @@ pub trait Job: Sized + Drop {
         requires { Own self.now element.now }
         ensures ok { OnOk result (out.new.items ≡ out.old.items
             ++ spelled_drawn (an_element (meaning.shown self.now element.now) draws)) }
+        ensures room { vec_capacity out.old ≤ vec_capacity out.new }
+        ensures full { OnErr result (vec_capacity out.old < vec_len out.old + 70) }
     {
         let at = out.len();
         out.extend_from_slice(&[0, 0])?;
         self.put_element(element, out)?;
         let length = out.len() - at - 2;
         fill_u16(out, at, length as u16);
-        put_u32(out, draws)?;
+        out.extend_from_slice(&draws.to_be_bytes())?;
         Ok(())
     }
 

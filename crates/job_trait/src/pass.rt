@@ -1,8 +1,10 @@
 //! A pass that is to be run, and what it gives.
-ghost use Rattle.std.specs.Prelude.{◌≡◌, ◌≤◌, ◌<◌, ◌*◌, length, take, drop};
+ghost use Rattle.std.specs.Prelude.{◌≡◌, ◌≤◌, ◌<◌, ◌*◌, ◌⊎◌, [], length, None, IfSome};
+ghost use Rattle.job_trait.specs.Pass.{block_size, in_block};
 ghost use Rattle.job_trait.specs.Passes.{blocks_in};
 
 use crate::Job;
+use crate::blocks::{block_count, block_size};
 use det_values::{Container, DrawnElements, OutOfMemory};
 use std::alloc::Global;
 use std::marker::Model;
@@ -74,17 +76,43 @@ impl<'p, J: Job> PassOf<'p, J> {
     /// The number of its blocks.
     pub fn blocks(&self) -> u32
         ensures blocks { result ≡ blocks_in self.now }
-        ensures few { result ≤ 1024 }
+        ensures few { result ≤ 256 }
     {
-        ((self.elements.len() + 63) / 64) as u32
+        block_count(self.count())
+    }
+
+    /// The number of the first element of a block.
+    pub fn first_in(&self, block: u32) -> u32
+        requires { block < blocks_in self.now }
+        ensures first { result ≡ block_size (length self.now.elements) * block }
+        ensures inside { result < length self.now.elements }
+    {
+        block_size(self.count()) as u32 * block
     }
 
     /// The elements of a block.
     pub fn block(&self, number: u32) -> &[J::Element]
         requires { number < blocks_in self.now }
-        ensures { result.now ≡ take 64 (drop (64 * number) self.now.elements) }
+        ensures { result.now ≡ in_block (length self.now.elements) number self.now.elements }
     {
-        self.elements.block(number as usize)
+        let size = block_size(self.count());
+        self.elements.part(size * number as usize, size)
+    }
+
+    /// The words that the elements of a block drew in the passes before, if there were any.
+    pub fn earlier_block(&self, number: u32) -> Option<&[u32]>
+        requires inside { number < blocks_in self.now }
+        requires level { (self.now.earlier ≡ []) ⊎ (length self.now.earlier ≡ length self.now.elements) }
+        ensures none { result ≡ None → self.now.earlier ≡ [] }
+        ensures some { IfSome result (λ draws. (draws.now
+            ≡ in_block (length self.now.elements) number self.now.earlier)
+            × (length self.now.earlier ≡ length self.now.elements)) }
+    {
+        if self.earlier.is_empty() {
+            return None;
+        }
+        let size = block_size(self.count());
+        Some(self.earlier.part(size * number as usize, size))
     }
 }
 

@@ -1,7 +1,8 @@
 //! Memory that passes use again.
 ghost use Rattle.std.specs.Prelude.{◌≡◌, []};
 
-use det_values::{DrawnElements, Spares};
+use crate::PassDone;
+use det_values::{DrawnBlock, DrawnElements, Spares};
 use std::alloc::Global;
 
 /// Memory that passes use again, and where more of it is taken from. What it held is gone, so no
@@ -12,7 +13,10 @@ pub struct PassRoom<E, P> {
     pub elements: Spares<E>,
     pub draws: Spares<u32>,
     parts: Vec<P>,
-    frames: Vec<Vec<u8>>,
+    /// For the blocks of frames.
+    bytes: Vec<Vec<u8>>,
+    /// For the frames' lists of blocks.
+    frames: Vec<Vec<DrawnBlock>>,
 }
 
 impl<E: Drop, P: Drop> PassRoom<E, P> {
@@ -23,6 +27,7 @@ impl<E: Drop, P: Drop> PassRoom<E, P> {
             elements: Spares::new(alloc),
             draws: Spares::new(alloc),
             parts: Vec::new(alloc),
+            bytes: Vec::new(alloc),
             frames: Vec::new(alloc),
         }
     }
@@ -42,26 +47,76 @@ impl<E: Drop, P: Drop> PassRoom<E, P> {
         let _ = self.parts.push(part).is_ok();
     }
 
-    /// No bytes, in memory of a frame that nobody needs, if there is one.
-    pub fn frame(&mut self) -> Vec<u8>
+    /// No bytes, in memory of a block that nobody needs, if there is one.
+    pub fn bytes(&mut self) -> Vec<u8>
         ensures { result.items ≡ [] }
     {
-        match self.frames.pop() {
-            Some(mut frame) => {
-                frame.clear();
-                frame
+        match self.bytes.pop() {
+            Some(mut bytes) => {
+                bytes.clear();
+                bytes
             }
             None => Vec::new(self.alloc),
         }
     }
 
-    /// Keeps the bytes of a frame in the same way as a part.
+    /// Keeps bytes in the same way as a part.
     pub fn keep_bytes(&mut self, bytes: Vec<u8>) {
-        let _ = self.frames.push(bytes).is_ok();
+        let _ = self.bytes.push(bytes).is_ok();
     }
 
-    /// Keeps what elements show in the same way.
+    /// A frame without elements, in memory of one that nobody needs, if there is one.
+    pub fn frame(&mut self) -> DrawnElements
+        ensures { result ≡ [] }
+    {
+        match self.frames.pop() {
+            Some(blocks) => DrawnElements::in_memory(self.alloc, blocks),
+            None => DrawnElements::new(self.alloc),
+        }
+    }
+
+    /// Keeps the memory of a frame and of its blocks in the same way, if it has any.
     pub fn keep_frame(&mut self, shown: DrawnElements) {
-        self.keep_bytes(shown.into_bytes());
+        let mut blocks = shown.into_blocks();
+        'each: while let Some(block) = blocks.pop() {
+            self.keep_bytes(block.into_bytes());
+        }
+        if blocks.capacity() > 0 {
+            let _ = self.frames.push(blocks).is_ok();
+        }
+    }
+
+    /// Keeps the memory of what a pass gave in the same way.
+    pub fn keep_pass(&mut self, done: PassDone<E, P>) {
+        let PassDone {
+            elements,
+            draws,
+            part,
+            shown,
+        } = done;
+        self.elements.keep(elements);
+        self.draws.keep(draws);
+        self.keep_part(part);
+        self.keep_frame(shown);
+    }
+
+    /// Gives so many spares of each kind that a block needs away, as far as they are there.
+    pub fn give(&mut self, other: &mut PassRoom<E, P>, count: usize) {
+        self.elements.give(&mut other.elements, count);
+        self.draws.give(&mut other.draws, count);
+        give_each(&mut self.parts, &mut other.parts, count);
+        give_each(&mut self.bytes, &mut other.bytes, count);
+    }
+}
+
+/// Moves so many of one list to another, as far as they are there.
+fn give_each<T: Drop>(from: &mut Vec<T>, to: &mut Vec<T>, count: usize) {
+    for _ in 0..count {
+        match from.pop() {
+            Some(item) => {
+                let _ = to.push(item).is_ok();
+            }
+            None => return,
+        }
     }
 }

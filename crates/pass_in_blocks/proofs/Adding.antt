@@ -47,33 +47,33 @@ same_takes n k xs ys same =
 
 -- the sums of block b beside those of the blocks before it
 pub record Fits (xs ys : List ℕ) (b : ℕ) (so_far block : List ℕ) : Type 0 where
-  pub before : length so_far ≡ 64 * b
+  pub before : length so_far ≡ 256 * b
   pub some : 0 < length block
-  pub few : length block ≤ 64
-  pub within : 64 * b + length block ≤ length xs
-  pub more : so_far ++ block ≡ added (take (64 * (b + 1)) xs) (take (64 * (b + 1)) ys)
+  pub few : length block ≤ 256
+  pub within : 256 * b + length block ≤ length xs
+  pub more : so_far ++ block ≡ added (take (256 * (b + 1)) xs) (take (256 * (b + 1)) ys)
 
-pub fits : (xs ys : List ℕ) (b : ℕ) (left right so_far block : List ℕ) → length xs ≡ length ys → 64 * b < length xs
-    → left ≡ take 64 (drop (64 * b) xs) → right ≡ take 64 (drop (64 * b) ys)
-    → so_far ≡ added (take (64 * b) xs) (take (64 * b) ys) → block ≡ added left right → Fits xs ys b so_far block
+pub fits : (xs ys : List ℕ) (b : ℕ) (left right so_far block : List ℕ) → length xs ≡ length ys → 256 * b < length xs
+    → left ≡ take 256 (drop (256 * b) xs) → right ≡ take 256 (drop (256 * b) ys)
+    → so_far ≡ added (take (256 * b) xs) (take (256 * b) ys) → block ≡ added left right → Fits xs ys b so_far block
 fits xs ys b left right so_far block same inside at_left at_right is_so_far is_block =
-    let l : length (take (64 * b) xs) ≡ 64 * b = length-take-le (64 * b) xs (omega arith) in
-    let r : length (take (64 * b) ys) ≡ 64 * b = length-take-le (64 * b) ys (omega (arith, same)) in
-    let equal : length left ≡ length right = ap length at_left ∙ same_takes 64 (64 * b) xs ys same ∙ sym (ap length at_right) in
+    let l : length (take (256 * b) xs) ≡ 256 * b = length-take-le (256 * b) xs (omega arith) in
+    let r : length (take (256 * b) ys) ≡ 256 * b = length-take-le (256 * b) ys (omega (arith, same)) in
+    let equal : length left ≡ length right = ap length at_left ∙ same_takes 256 (256 * b) xs ys same ∙ sym (ap length at_right) in
     let n : length block ≡ length left = ap length is_block ∙ length-added left right equal in
-    let m : length left ≡ length (take 64 (drop (64 * b) xs)) = ap length at_left in
-    let d : length (drop (64 * b) xs) + 64 * b ≡ length xs = omega (arith, length-drop (64 * b) xs) in
-    let t = take_bounds 64 (drop (64 * b) xs) in
-    let next : 64 * b + 64 ≡ 64 * (b + 1) = omega arith in
-    let x : take (64 * b) xs ++ left ≡ take (64 * (b + 1)) xs =
-    ap (λ (k : List ℕ). take (64 * b) xs ++ k) at_left ∙ sym (take-add (64 * b) 64 xs) ∙ ap (λ k. take k xs) next in
-    let y : take (64 * b) ys ++ right ≡ take (64 * (b + 1)) ys =
-    ap (λ (k : List ℕ). take (64 * b) ys ++ k) at_right ∙ sym (take-add (64 * b) 64 ys) ∙ ap (λ k. take k ys) next in
+    let m : length left ≡ length (take 256 (drop (256 * b) xs)) = ap length at_left in
+    let d : length (drop (256 * b) xs) + 256 * b ≡ length xs = omega (arith, length-drop (256 * b) xs) in
+    let t = take_bounds 256 (drop (256 * b) xs) in
+    let next : 256 * b + 256 ≡ 256 * (b + 1) = omega arith in
+    let x : take (256 * b) xs ++ left ≡ take (256 * (b + 1)) xs =
+    ap (λ (k : List ℕ). take (256 * b) xs ++ k) at_left ∙ sym (take-add (256 * b) 256 xs) ∙ ap (λ k. take k xs) next in
+    let y : take (256 * b) ys ++ right ≡ take (256 * (b + 1)) ys =
+    ap (λ (k : List ℕ). take (256 * b) ys ++ k) at_right ∙ sym (take-add (256 * b) 256 ys) ∙ ap (λ k. take k ys) next in
     record {
-      before = ap length is_so_far ∙ length-added (take (64 * b) xs) (take (64 * b) ys) (l ∙ sym r) ∙ l;
-      some = omega (arith, n, m, take_some 64 (drop (64 * b) xs) (omega arith) (omega (arith, d)));
+      before = ap length is_so_far ∙ length-added (take (256 * b) xs) (take (256 * b) ys) (l ∙ sym r) ∙ l;
+      some = omega (arith, n, m, take_some 256 (drop (256 * b) xs) (omega arith) (omega (arith, d)));
       few = omega (arith, n, m, t.0);
       within = omega (arith, n, m, d, t.1);
       more = (λ i. is_so_far i ++ is_block i)
-          ∙ sym (added-append (take (64 * b) xs) left (take (64 * b) ys) right (l ∙ sym r)) ∙ (λ i. added (x i) (y i));
+          ∙ sym (added-append (take (256 * b) xs) left (take (256 * b) ys) right (l ∙ sym r)) ∙ (λ i. added (x i) (y i));
     }

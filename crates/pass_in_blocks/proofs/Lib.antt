@@ -1,5 +1,4 @@
 pub mod Adding
-mod Growing
 pub mod Places
 mod Putting
 pub mod Running

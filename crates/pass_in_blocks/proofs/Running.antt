@@ -5,8 +5,9 @@ use Rattle.std.proofs.lemmas.List.{take-append-drop}
 use Rattle.element_random.specs.Words.{key}
 use Rattle.job_trait.specs.Meaning.{Meaning, Worked}
 use Rattle.job_trait.specs.Laws.{JobLaws}
-use Rattle.job_trait.specs.Pass.{Passed, Refusal, more}
+use Rattle.job_trait.specs.Pass.{Passed, Refusal, block_size, in_block, more}
 use Rattle.job_trait.specs.Passes.{PassValue, pass_of, block_in}
+use Rattle.job_trait.proofs.Sizes.{next_begins}
 use Rattle.pass_in_blocks.specs.Steps.{passed_by, beside, none_in, added_to, first_in}
 
 append_nil : {A : Type 0} (es : List A) → es ++ [] ≡ es
@@ -99,15 +100,20 @@ module _ {S G E L P : Type 0} (m : Meaning S G E L P) (t : PassValue S E L P) wh
         ]
 
     -- the blocks before number b are done, and block b
-    module _ (b : ℕ) (inside : 64 * b ≤ length t.elements) (d : Passed E P) (is : first_in m t (64 * b) ≡ Ok d) where
-      after : from (64 * b) (take 64 (drop (64 * b) t.elements)) d ≡ onto join d (block_in m t b)
-      after = from_nothing (64 * b) (take 64 (drop (64 * b) t.elements)) d
+    module _ (b : ℕ) (inside : block_size (length t.elements) * b ≤ length t.elements) (d : Passed E P)
+        (is : first_in m t (block_size (length t.elements) * b) ≡ Ok d) where
+      abbrev w : ℕ
+      w = block_size (length t.elements)
 
-      pub block_done : (e : Passed E P) → block_in m t b ≡ Ok e → first_in m t (64 * (b + 1)) ≡ Ok (beside (m.joined t.job) d e)
-      block_done e came = ap (first_in m t) (omega arith)
-          ∙ goes_on 0 (64 * b) t.elements none (64 * b) 64 (omega arith) inside d (beside join d e) is
+      after : from (w * b) (in_block (length t.elements) b t.elements) d ≡ onto join d (block_in m t b)
+      after = from_nothing (w * b) (in_block (length t.elements) b t.elements) d
+
+      pub block_done : (e : Passed E P) → block_in m t b ≡ Ok e
+          → first_in m t (block_size (length t.elements) * (b + 1)) ≡ Ok (beside (m.joined t.job) d e)
+      block_done e came = ap (first_in m t) (next_begins w b)
+          ∙ goes_on 0 (w * b) t.elements none (w * b) w (omega arith) inside d (beside join d e) is
           (after ∙ ap (onto join d) came)
 
       pub block_refuses : (r : Refusal) → block_in m t b ≡ Err r → pass_of m t ≡ Err r
       block_refuses r came =
-          stops 0 (64 * b) t.elements none (64 * b) 64 (omega arith) inside d r is (after ∙ ap (onto join d) came)
+          stops 0 (w * b) t.elements none (w * b) w (omega arith) inside d r is (after ∙ ap (onto join d) came)

@@ -1,5 +1,5 @@
 -- What the laws of a job say of the answers of its blocks and passes.
-use Rattle.std.proofs.Common.{◌≡◌, ℕ, suc, ◌+◌, ◌-◌, ◌*◌, ◌<◌, ◌≤◌, min, List, [], ◌∷◌, length, take, drop, true, Result, Ok, Err}
+use Rattle.std.proofs.Common.{◌≡◌, ℕ, suc, ◌+◌, ◌-◌, ◌*◌, ◌%◌, ◌<◌, ◌≤◌, min, List, [], ◌∷◌, length, take, drop, true, Result, Ok, Err}
 use Rattle.std.proofs.Common.{refl, sym, ap, ◌∙◌, subst, arith, length-append, length-take, length-drop}
 use Rattle.std.specs.List.{All}
 use Rattle.std.proofs.lemmas.List.{take_all}
@@ -10,9 +10,11 @@ use Rattle.job_trait.specs.declared.pass.PoolFault.{PoolFault}
 use Rattle.job_trait.specs.declared.pass.PoolFault.TheVariants.{Refused, OutOfMemory}
 use Rattle.job_trait.specs.Meaning.{Meaning, Worked}
 use Rattle.job_trait.specs.Laws.{JobLaws}
-use Rattle.job_trait.specs.Pass.{Passed, Refusal, more}
+use Rattle.job_trait.specs.Pass.{Passed, Refusal, block_size, in_block, more}
 use Rattle.job_trait.specs.Cycle.{shown_with}
 use Rattle.job_trait.specs.Passes.{PassValue, drawn_so_far, passed_of, IsPass, RefusedBelow, IsReady, IsAnswer, pass_of, block_in}
+use Rattle.job_trait.proofs.Sizes.{together}
+use Rattle.job_trait.proofs.Sizes.{some as block_some, few as block_few}
 use Rattle.pass_in_blocks.specs.Steps.{beside, HasRoom, CanJoin, none_in, added_to, first_in}
 use Rattle.pass_in_blocks.proofs.Running.{block_done, block_refuses}
 
@@ -121,29 +123,33 @@ module _ {S G E L P : Type 0} {m : Meaning S G E L P} {Covers : S → P → ℕ 
   first_hold i k xs d own inside small is = subst (λ (n : ℕ). Holds n d) (omega (arith, length-take k xs))
       (taken_holds 0 i (take k xs) none d none_holds (All-take (Own job) k xs own) (omega (arith, length-take k xs)) is)
 
-  -- block b
+  -- the size of blocks, and block b
+  abbrev w : ℕ
+  w = block_size (length es)
+
   abbrev of_block : ℕ → List E
-  of_block b = take 64 (drop (64 * b) es)
+  of_block b = in_block (length es) b es
 
   own_block : (b : ℕ) → All (Own job) (of_block b)
-  own_block b = All-take (Own job) 64 (drop (64 * b) es) (All-drop (Own job) (64 * b) es ready.own)
+  own_block b = All-take (Own job) w (drop (w * b) es) (All-drop (Own job) (w * b) es ready.own)
 
-  pub block_size : (b : ℕ) → length (of_block b) ≡ min 64 (length es - 64 * b)
-  block_size b = omega (arith, length-take 64 (drop (64 * b) es), length-drop (64 * b) es)
+  pub block_length : (b : ℕ) → length (of_block b) ≡ min w (length es - w * b)
+  block_length b = omega (arith, length-take w (drop (w * b) es), length-drop (w * b) es)
 
   pub block_holds : (b : ℕ) (d : Passed E P) → block_in m t b ≡ Ok d → Holds (length (of_block b)) d
-  block_holds b d is = let f = ready.few in let size = block_size b in
-      subst (λ (k : ℕ). Holds k d) (omega arith) (taken_holds 0 (64 * b) (of_block b) none d none_holds (own_block b) (omega arith) is)
+  block_holds b d is = let f = ready.few in let size = block_length b in
+      subst (λ (k : ℕ). Holds k d) (omega arith) (taken_holds 0 (w * b) (of_block b) none d none_holds (own_block b) (omega arith) is)
 
-  module _ (b k : ℕ) (xs : List E) (is_block : xs ≡ take 64 (drop (64 * b) t.elements)) (inside : k < length xs) where
-    pub in_pass : 64 * b + k < 65536
-    in_pass = let f = ready.few in let size = block_size b in let same = ap length is_block in omega arith
+  module _ (b k : ℕ) (xs : List E) (is_block : xs ≡ in_block (length t.elements) b t.elements) (inside : k < length xs) where
+    pub in_pass : block_size (length t.elements) * b + k < 65536
+    in_pass = let f = ready.few in let size = block_length b in let same = ap length is_block in omega arith
 
     -- the first k elements of a block leave room for another
-    pub has_room : (d : Passed E P) → added_to m t (64 * b) (take k xs) (none_in m t) ≡ Ok d → HasRoom Covers t d.part
-    has_room d is = let size = block_size b in let same = ap length is_block in
-        let own = All-same (Own job) xs _ is_block (own_block b) in
-        (k, omega arith, (first_hold (64 * b) k xs d own (omega arith) (omega arith) is).covers)
+    pub has_room : (d : Passed E P) → added_to m t (block_size (length t.elements) * b) (take k xs) (none_in m t) ≡ Ok d
+        → HasRoom Covers t d.part
+    has_room d is = let size = block_length b in let same = ap length is_block in
+        let own = All-same (Own job) xs _ is_block (own_block b) in let n = block_few (length es) in
+        (k, omega arith, (first_hold (w * b) k xs d own (omega arith) (omega arith) is).covers)
 
   -- an answer is right in each of its facts, once it is that of the pass
   pub pass_holds : (d : Passed E P) → pass_of m t ≡ Ok d → Holds (length es) d
@@ -184,17 +190,17 @@ module _ {S G E L P : Type 0} {m : Meaning S G E L P} {Covers : S → P → ℕ 
   }
 
   -- the blocks before number b are done
-  module _ (b : ℕ) (d : Passed E P) (is : first_in m t (64 * b) ≡ Ok d) where
+  module _ (b : ℕ) (d : Passed E P) (is : first_in m t (block_size (length t.elements) * b) ≡ Ok d) where
     -- and there are no more
-    pub all_answer : (x : PassDone E P) → d ≡ passed_of x → length t.elements ≤ 64 * b → Shows x
+    pub all_answer : (x : PassDone E P) → d ≡ passed_of x → length t.elements ≤ block_size (length t.elements) * b → Shows x
         → IsAnswer m Covers Own t (Ok x)
     all_answer x same none_left =
-        done_answer x (ap (λ (xs : List E). from 0 xs none) (sym (take_all (64 * b) es none_left)) ∙ is ∙ ap Ok same)
+        done_answer x (ap (λ (xs : List E). from 0 xs none) (sym (take_all (w * b) es none_left)) ∙ is ∙ ap Ok same)
 
-    module _ (inside : 64 * b < length t.elements) where
+    module _ (inside : block_size (length t.elements) * b < length t.elements) where
       -- and block b as well
       pub next_done : (e both : Passed E P) → block_in m t b ≡ Ok e → both ≡ beside (m.joined t.job) d e
-          → first_in m t (64 * (b + 1)) ≡ Ok both
+          → first_in m t (block_size (length t.elements) * (b + 1)) ≡ Ok both
       next_done e both came same = block_done m t laws b (omega arith) d is e came ∙ sym (ap Ok same)
 
       -- and block b refuses
@@ -206,15 +212,14 @@ module _ {S G E L P : Type 0} {m : Meaning S G E L P} {Covers : S → P → ℕ 
       -- and block b is to join them
       pub can_join : (e : Passed E P) → block_in m t b ≡ Ok e → CanJoin Covers t.job d e
       can_join e came =
-          let h = first_hold 0 (64 * b) es d ready.own (omega arith) ready.few is in let p = h.many in
+          let h = first_hold 0 (w * b) es d ready.own (omega arith) ready.few is in let p = h.many in
           let g = block_holds b e came in let q = g.many in
-          let f = ready.few in let size = block_size b in
+          let f = ready.few in let size = block_length b in let n = block_some (length es) in let k = together (length es) b in
           record {
-            whole = (b, p);
             level = h.drew ∙ sym p;
             some = omega arith;
-            few = omega arith;
+            together = subst (λ (k : ℕ). k % 256 + length e.elements ≤ 256) (sym p) (omega arith);
             next_level = g.drew ∙ sym q;
             room = omega arith;
-            covers = (64 * b, length (of_block b), omega arith, h.covers, g.covers);
+            covers = (w * b, length (of_block b), omega arith, h.covers, g.covers);
           }

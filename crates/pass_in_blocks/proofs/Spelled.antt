@@ -16,7 +16,7 @@ module _ {S G E L P : Type 0} (m : Meaning S G E L P) (j : S) where
   abbrev pub Shown : List E → List ℕ → List ℕ → List ℕ → Type 0
   Shown es ds old new = AreSpelled (shown_with m j es ds) old new
 
-  shown-append : (es fs : List E) (ds ns : List ℕ) → length es ≡ length ds
+  pub shown-append : (es fs : List E) (ds ns : List ℕ) → length es ≡ length ds
       → shown_with m j (es ++ fs) (ds ++ ns) ≡ shown_with m j es ds ++ shown_with m j fs ns
   shown-append [] fs [] ns e = refl
   shown-append [] fs (d ∷ ds) ns e = absurd (omega (arith, e))

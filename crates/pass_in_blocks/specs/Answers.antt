@@ -1,6 +1,7 @@
 -- What blocks answer.
 use Rattle.std.specs.Prelude.{◌≡◌, ℕ, ◌<◌, List, Result, Ok, Err}
 use Rattle.std.specs.List.{All}
+use Rattle.det_values.specs.declared.frames.DrawnElement.{DrawnElement}
 use Rattle.job_trait.specs.Pass.{Passed, Refusal}
 use Rattle.pass_in_blocks.specs.declared.answers.BlockDone.{BlockDone}
 use Rattle.pass_in_blocks.specs.declared.answers.BlockAnswer.{BlockAnswer}
@@ -18,6 +19,15 @@ module _ {E P : Type 0} where
   abbrev pub answer_of : BlockAnswer E P → Result (Passed E P) Refusal
   answer_of (Done done) = Ok (left_by done)
   answer_of (Refused element code) = Err (record { element = element; code = code })
+
+  -- these elements are shown; a refusal shows none
+  abbrev pub Shows : List DrawnElement → BlockAnswer E P → Type 0
+  Shows es (Done done) = done.shown ≡ es
+  Shows es (Refused element code) = Unit {0}
+
+  -- each result shows what its block shows
+  abbrev pub AreShown : (ℕ → List DrawnElement) → List (BlockResult E P) → Type 0
+  AreShown shown rs = All (λ r. Shows (shown r.block) r.answer) rs
 
   -- beside what each block gives, and their number
   module _ (block : ℕ → Result (Passed E P) Refusal) (blocks : ℕ) where

@@ -1,8 +1,9 @@
 -- How a block is run element by element, and a pass is joined block by block.
-use Rattle.std.specs.Prelude.{◌≡◌, ℕ, ◌+◌, ◌*◌, ◌≤◌, ◌<◌, List, ◌++◌, length, take, slice_index_or}
+use Rattle.std.specs.Prelude.{◌≡◌, ℕ, ◌+◌, ◌%◌, ◌≤◌, ◌<◌, List, ◌++◌, length, take, slice_index_or}
 use Rattle.std.specs.Prelude.{Option, None, Some, Result, Ok, Err}
 use Rattle.element_random.specs.declared.PassKeys.{PassKeys}
 use Rattle.element_random.specs.Words.{AreKeysOf}
+use Rattle.det_values.specs.declared.frames.DrawnElement.{DrawnElement}
 use Rattle.job_trait.specs.Meaning.{Meaning}
 use Rattle.job_trait.specs.Laws.{CoverTogether}
 use Rattle.job_trait.specs.Passes.{PassValue}
@@ -10,7 +11,7 @@ use Rattle.job_trait.specs.Pass.{Passed, Refusal, nothing, taken}
 use Rattle.job_trait.specs.declared.pass.PoolFault.{PoolFault}
 use Rattle.job_trait.specs.declared.pass.PoolFault.TheVariants.{Refused, OutOfMemory}
 use Rattle.pass_in_blocks.specs.declared.answers.BlockAnswer.{BlockAnswer}
-use Rattle.pass_in_blocks.specs.Answers.{answer_of}
+use Rattle.pass_in_blocks.specs.Answers.{answer_of, Shows}
 
 module _ {E P : Type 0} where
   -- elements, counts of words and a part as one value
@@ -32,11 +33,11 @@ module _ {E P : Type 0} where
     part = join done.part next.part;
   }
 
-  -- beside what each block gives
-  module _ (block : ℕ → Result (Passed E P) Refusal) where
-    -- what stands in the place of block b is its answer
+  -- beside what each block gives and shows
+  module _ (block : ℕ → Result (Passed E P) Refusal) (shown : ℕ → List DrawnElement) where
+    -- what stands in the place of block b is its answer, and shows what the block shows
     abbrev pub IsPlace : ℕ → Option (BlockAnswer E P) → Type 0
-    IsPlace b (Some answer) = answer_of answer ≡ block b
+    IsPlace b (Some answer) = (answer_of answer ≡ block b) × Shows (shown b) answer
     IsPlace b None = Unit {0}
 
     abbrev pub ArePlaces : List (Option (BlockAnswer E P)) → Type 0
@@ -71,10 +72,9 @@ module _ {S G E L P : Type 0} where
 -- a block can be added to those before it
 pub record CanJoin {S E P : Type 0} (Covers : S → P → ℕ → Type 0) (j : S)
     (done next : Passed E P) : Type 0 where
-  pub whole : (n : ℕ) × (length done.elements ≡ 64 * n)
   pub level : length done.draws ≡ length done.elements
   pub some : 0 < length next.elements
-  pub few : length next.elements ≤ 64
+  pub together : length done.elements % 256 + length next.elements ≤ 256
   pub next_level : length next.draws ≡ length next.elements
   pub room : length done.elements + length next.elements ≤ 65536
   pub covers : CoverTogether (Covers j) done.part next.part

@@ -2,14 +2,16 @@
 ghost use Rattle.std.specs.Prelude.{◌≡◌, is_err};
 ghost use Rattle.pass_in_blocks.specs.Answers.{answer_of};
 
-use det_values::Limited;
+use det_values::{DrawnBlock, Limited};
 
-/// What a block leaves: its new elements, the words that each drew, and its parts joined.
+/// What a block leaves: its new elements, the words that each drew, its parts joined, and what its
+/// elements show, where the pass shows them.
 #[derive(Drop)]
 pub struct BlockDone<E, P> {
     pub elements: Vec<E>,
     pub draws: Vec<u32>,
     pub part: P,
+    pub shown: DrawnBlock,
 }
 
 /// What a block answers.
@@ -40,5 +42,5 @@ pub struct BlockResult<E, P> {
     pub answer: BlockAnswer<E, P>,
 }
 
-/// What one worker found in its blocks, of which a pass has at most 1,024.
-pub type BlockResults<E, P> = Limited<BlockResult<E, P>, 1024>;
+/// What one worker found in its blocks, of which a pass has at most 256.
+pub type BlockResults<E, P> = Limited<BlockResult<E, P>, 256>;

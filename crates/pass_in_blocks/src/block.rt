@@ -2,12 +2,12 @@
 ghost use Rattle.std.specs.Prelude.{◌≡◌, ◌+◌, ◌<◌, ◌++◌, ◌∷◌, [], length, take, drop, IfOk, OnOk};
 ghost use Rattle.std.specs.List.{All};
 ghost use Rattle.job_trait.specs.Passes.{IsReady, block_in, blocks_in};
-ghost use Rattle.pass_in_blocks.specs.Answers.{answer_of};
-ghost use Rattle.pass_in_blocks.specs.Showing.{AreBlocksOf, shown_in};
+ghost use Rattle.pass_in_blocks.specs.Answers.{answer_of, Shows};
+ghost use Rattle.pass_in_blocks.specs.Showing.{shown_in};
 ghost use Rattle.pass_in_blocks.specs.Steps.{HasKeys, HasRoom, passed_by, added_to, IsAdded};
 
 use crate::answers::{BlockAnswer, BlockDone};
-use crate::spelled_blocks::SpelledBlocks;
+use crate::showing::show_block;
 use det_values::OutOfMemory;
 use element_random::{ElementRandom, PassKeys};
 use job_trait::{Job, JobFault, PassOf, PassRoom, PoolFault};
@@ -82,7 +82,8 @@ impl<'a, J: Job> Block<'a, J> {
     }
 }
 
-/// Runs the elements of a block one after another, in memory of the room. A refusal ends it.
+/// Runs the elements of a block one after another, in memory of the room, and spells what they show
+/// where the pass shows them. A refusal ends it.
 pub fn run_block<J: Job>(
     pass: &PassOf<'_, J>,
     block: u32,
@@ -90,20 +91,21 @@ pub fn run_block<J: Job>(
 ) -> Result<BlockAnswer<J::Element, J::Part>, OutOfMemory>
     requires ready { IsReady J.meaning J.Covers J.Own J.Fit pass.now }
     requires inside { block < blocks_in pass.now }
-    ensures { IfOk result (λ answer. answer_of answer ≡ block_in J.meaning pass.now block) }
+    ensures answer { IfOk result (λ answer. answer_of answer ≡ block_in J.meaning pass.now block) }
+    ensures shown { IfOk result (Shows (shown_in J.meaning pass.now block)) }
 {
-    let block = Block {
+    let run = Block {
         pass,
         keys: PassKeys::of(pass.seed, pass.cycle, pass.number),
-        first: 64 * block,
+        first: pass.first_in(block),
         elements: pass.block(block),
     };
     let alloc = room.alloc();
     let mut elements = room.elements.block()?;
     let mut draws = room.draws.block()?;
     let mut part = pass.job().unit(alloc, &mut room.part());
-    'run: for k in 0..block.elements.len() {
-        match block.step(alloc, k, &mut elements, &mut draws, &mut part) {
+    'run: for k in 0..run.elements.len() {
+        match run.step(alloc, k, &mut elements, &mut draws, &mut part) {
             Ok(()) => {}
             Err(fault) => match fault {
                 PoolFault::Refused { element, code } => {
@@ -116,32 +118,11 @@ pub fn run_block<J: Job>(
             },
         }
     }
+    let shown = show_block(pass, block, elements.as_slice(), draws.as_slice(), room)?;
     Ok(BlockAnswer::Done(BlockDone {
         elements,
         draws,
         part,
+        shown,
     }))
-}
-
-/// Runs a block, and spells what it leaves, where there is a place for it.
-pub fn run_and_spell<J: Job>(
-    pass: &PassOf<'_, J>,
-    block: u32,
-    room: &mut PassRoom<J::Element, J::Part>,
-    spelled: &mut SpelledBlocks,
-) -> Result<BlockAnswer<J::Element, J::Part>, OutOfMemory>
-    requires ready { IsReady J.meaning J.Covers J.Own J.Fit pass.now }
-    requires inside { block < blocks_in pass.now }
-    requires so_far { AreBlocksOf (shown_in J.meaning pass.now) spelled.old }
-    ensures answer { IfOk result (λ answer. answer_of answer ≡ block_in J.meaning pass.now block) }
-    ensures spelled { IfOk result (λ answer.
-        AreBlocksOf (shown_in J.meaning pass.now) spelled.new) }
-{
-    match run_block(pass, block, room)? {
-        BlockAnswer::Done(done) => {
-            spelled.add(pass, block, &done, &mut room.draws)?;
-            Ok(BlockAnswer::Done(done))
-        }
-        BlockAnswer::Refused { element, code } => Ok(BlockAnswer::Refused { element, code }),
-    }
 }

@@ -37,7 +37,7 @@ pub fn sums(
     let mut sums = spares.container(left.len())?;
     for b in 0..left.blocks() {
         let block = block_sums(left.block(b), right.block(b), spares)?;
-        sums.push_block(block)?;
+        sums.push_block(block, spares)?;
     }
     Ok(sums)
 }

@@ -1,16 +1,14 @@
 //! The answer of a pass from its blocks.
-ghost use Rattle.std.specs.Prelude.{◌≡◌, ◌<◌, None, length, replicate, slice_set, IfOk, OnOk};
-ghost use Rattle.std.specs.List.{All};
-ghost use Rattle.job_trait.specs.Passes.{IsReady, IsAnswer, block_in, blocks_in};
-ghost use Rattle.pass_in_blocks.specs.Answers.{left_by, answer_of, AreRight};
-ghost use Rattle.pass_in_blocks.specs.Showing.{AreBlocksOf, shown_in};
-ghost use Rattle.pass_in_blocks.specs.Steps.{beside, passed_by, CanJoin, ArePlaces};
+ghost use Rattle.std.specs.Prelude.{◌≡◌, ◌<◌, ◌≤◌, ◌+◌, ◌++◌, [], None, length, replicate, slice_set};
+ghost use Rattle.std.specs.Prelude.{IfOk, OnOk};
+ghost use Rattle.job_trait.specs.Passes.{IsReady, IsAnswer, block_in, blocks_in, passed_of};
+ghost use Rattle.pass_in_blocks.specs.Answers.{left_by, answer_of, Shows, AreRight, AreShown};
+ghost use Rattle.pass_in_blocks.specs.Showing.{shown_in};
+ghost use Rattle.pass_in_blocks.specs.Steps.{beside, none_in, CanJoin, ArePlaces};
 
 use crate::answers::{BlockAnswer, BlockDone, BlockResult};
 use crate::block::{push, run_block};
-use crate::showing::{frame_of, room_for, show_block};
-use crate::spelled_blocks::SpelledBlocks;
-use det_values::{Container, OutOfMemory};
+use det_values::{DrawnElements, OutOfMemory};
 use job_trait::{Job, PassDone, PassOf, PassRoom, PoolFault};
 use std::alloc::Global;
 
@@ -41,7 +39,9 @@ fn in_places<J: Job>(
     mut results: Vec<BlockResult<J::Element, J::Part>>,
 ) -> Result<Vec<Option<BlockAnswer<J::Element, J::Part>>>, OutOfMemory>
     requires right { AreRight (block_in J.meaning pass.now) (blocks_in pass.now) results.items }
-    ensures { IfOk result (λ places. ArePlaces (block_in J.meaning pass.now) places.items) }
+    requires shown { AreShown (shown_in J.meaning pass.now) results.items }
+    ensures { IfOk result (λ places. ArePlaces (block_in J.meaning pass.now)
+        (shown_in J.meaning pass.now) places.items) }
 {
     if results.is_empty() {
         return Ok(Vec::new(alloc));
@@ -63,9 +63,12 @@ fn answer_at<J: Job>(
 ) -> Result<BlockAnswer<J::Element, J::Part>, OutOfMemory>
     requires ready { IsReady J.meaning J.Covers J.Own J.Fit pass.now }
     requires inside { block < blocks_in pass.now }
-    requires places { ArePlaces (block_in J.meaning pass.now) places.old.items }
+    requires places { ArePlaces (block_in J.meaning pass.now) (shown_in J.meaning pass.now)
+        places.old.items }
     ensures right { IfOk result (λ answer. answer_of answer ≡ block_in J.meaning pass.now block) }
-    ensures left { ArePlaces (block_in J.meaning pass.now) places.new.items }
+    ensures shown { IfOk result (Shows (shown_in J.meaning pass.now block)) }
+    ensures left { ArePlaces (block_in J.meaning pass.now) (shown_in J.meaning pass.now)
+        places.new.items }
 {
     let place = block as usize;
     if place < places.len() {
@@ -76,69 +79,72 @@ fn answer_at<J: Job>(
     run_block(pass, block, room)
 }
 
+/// What a pass leaves before its first block. It has room for all.
+fn begin_pass<J: Job>(
+    pass: &PassOf<'_, J>,
+    room: &mut PassRoom<J::Element, J::Part>,
+) -> Result<PassDone<J::Element, J::Part>, OutOfMemory>
+    ensures passed { IfOk result (λ begun. passed_of begun ≡ none_in J.meaning pass.now) }
+    ensures shown { IfOk result (λ begun. begun.shown ≡ []) }
+{
+    Ok(PassDone {
+        elements: room.elements.container(pass.count())?,
+        draws: room.draws.container(pass.count())?,
+        part: pass.job().unit(room.alloc(), &mut room.part()),
+        shown: if pass.shows() {
+            room.frame()
+        } else {
+            DrawnElements::new(room.alloc())
+        },
+    })
+}
+
 /// Adds a block to those before it. Its part is left to the room.
 fn join_block<J: Job>(
     job: &J,
-    elements: &mut Container<J::Element>,
-    draws: &mut Container<u32>,
-    part: &mut J::Part,
+    all: &mut PassDone<J::Element, J::Part>,
     done: BlockDone<J::Element, J::Part>,
     room: &mut PassRoom<J::Element, J::Part>,
 ) -> Result<(), OutOfMemory>
-    requires { CanJoin J.Covers job.now (passed_by elements.old draws.old part.old)
-        (left_by done) }
-    ensures { OnOk result (passed_by elements.new draws.new part.new
-        ≡ beside (J.meaning.joined job.now) (passed_by elements.old draws.old part.old)
-        (left_by done)) }
+    requires joins { CanJoin J.Covers job.now (passed_of all.old) (left_by done) }
+    requires shown { length all.old.shown + length done.shown ≤ 65536 }
+    ensures passed { OnOk result (passed_of all.new
+        ≡ beside (J.meaning.joined job.now) (passed_of all.old) (left_by done)) }
+    ensures shown { OnOk result (all.new.shown ≡ all.old.shown ++ done.shown) }
 {
     let mut next = done.part;
-    elements.push_block(done.elements)?;
-    draws.push_block(done.draws)?;
-    job.merge(part, &mut next)?;
+    all.elements.push_block(done.elements, &mut room.elements)?;
+    all.draws.push_block(done.draws, &mut room.draws)?;
+    job.merge(&mut all.part, &mut next)?;
     room.keep_part(next);
-    Ok(())
+    if done.shown.is_empty() {
+        return Ok(());
+    }
+    all.shown.push_block(done.shown)
 }
 
-/// The answer of a pass from results of its blocks, and from what the workers spelled of them,
-/// whichever they are and in whatever order. A block that has no result is run here and now, and
-/// one that wasn't spelled is spelled. The first block that refuses ends it.
+/// The answer of a pass from results of its blocks, whichever they are and in whatever order. A
+/// block that has no result is run here and now. The first block that refuses ends it.
 pub fn finish_pass<J: Job>(
     pass: &PassOf<'_, J>,
     results: Vec<BlockResult<J::Element, J::Part>>,
-    spelled: &[SpelledBlocks],
     room: &mut PassRoom<J::Element, J::Part>,
 ) -> Result<PassDone<J::Element, J::Part>, PoolFault>
     requires ready { IsReady J.meaning J.Covers J.Own J.Fit pass.now }
     requires right { AreRight (block_in J.meaning pass.now) (blocks_in pass.now) results.items }
-    requires spelled { All (AreBlocksOf (shown_in J.meaning pass.now)) spelled.now }
+    requires shown { AreShown (shown_in J.meaning pass.now) results.items }
     ensures { IsAnswer J.meaning J.Covers J.Own pass.now result }
 {
     let mut places = in_places(room.alloc(), pass, results)?;
-    let mut elements = room.elements.container(pass.count())?;
-    let mut draws = room.draws.container(pass.count())?;
-    let mut part = pass.job().unit(room.alloc(), &mut room.part());
-    let mut shown = room_for(pass, room)?;
+    let mut all = begin_pass(pass, room)?;
     'join: for b in 0..pass.blocks() {
         match answer_at(pass, &mut places, b, room)? {
-            BlockAnswer::Done(done) => {
-                show_block(pass, b, &done, spelled, &mut room.draws, &mut shown)?;
-                let job = pass.job();
-                join_block(job, &mut elements, &mut draws, &mut part, done, room)?;
-            }
+            BlockAnswer::Done(done) => join_block(pass.job(), &mut all, done, room)?,
             BlockAnswer::Refused { element, code } => {
-                room.elements.keep(elements);
-                room.draws.keep(draws);
-                room.keep_part(part);
-                room.keep_bytes(shown);
+                room.keep_pass(all);
                 return Err(PoolFault::Refused { element, code });
             }
         }
     }
-    let count = elements.len() as u32;
-    Ok(PassDone {
-        elements,
-        draws,
-        part,
-        shown: frame_of(room.alloc(), pass.shows(), shown, count),
-    })
+    Ok(all)
 }

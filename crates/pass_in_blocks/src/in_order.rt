@@ -13,6 +13,6 @@ impl<J: Job> Pool<J> for InOrder {
         pass: &PassOf<'_, J>,
         room: &mut PassRoom<J::Element, J::Part>,
     ) -> Result<PassDone<J::Element, J::Part>, PoolFault> {
-        finish_pass(pass, Vec::new(room.alloc()), &[], room)
+        finish_pass(pass, Vec::new(room.alloc()), room)
     }
 }

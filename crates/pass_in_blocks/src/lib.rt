@@ -1,8 +1,8 @@
 //! A pass of a job, block by block, whoever runs which block.
 //!
-//! A block is 64 neighbouring elements, or those that are left. `run_block` runs one, and
-//! `finish_pass` makes the answer of the pass from the blocks that others have run, and runs the
-//! rest itself. Neither knows of a thread.
+//! A block is so many neighbouring elements as `job_trait::block_size` says, or those that are left.
+//! `run_block` runs one, and `finish_pass` makes the answer of the pass from the blocks that others
+//! have run, and runs the rest itself. Neither knows of a thread.
 #![tactic(auto)]
 
 mod answers;
@@ -11,11 +11,9 @@ mod draws;
 mod finish;
 mod in_order;
 mod showing;
-mod spelled_blocks;
 
 pub use answers::{BlockAnswer, BlockDone, BlockResult, BlockResults};
-pub use block::{run_and_spell, run_block};
+pub use block::run_block;
 pub use draws::sums;
 pub use finish::finish_pass;
 pub use in_order::InOrder;
-pub use spelled_blocks::{Span, SpelledBlocks};

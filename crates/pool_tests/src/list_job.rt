@@ -6,7 +6,6 @@ ghost use Rattle.pool_tests.specs.Meaning.{byte_after};
 
 use crate::watch::Watch;
 use det_client::Client;
-use det_values::put::put_slice;
 use det_values::{Bytes, Container, Limited, OutOfMemory, Params};
 use element_random::ElementRandom;
 use event_cache::EventCache;
@@ -134,7 +133,7 @@ impl Job for ListJob {
     }
 
     fn put_element(&self, element: &u8, out: &mut Vec<u8>) -> Result<(), OutOfMemory> {
-        Ok(put_slice(out, &[*element])?)
+        Ok(out.extend_from_slice(&[*element])?)
     }
 
     fn conclude(

@@ -9,7 +9,7 @@ use worker_pool::{MeetGate, run_worker_pool};
 
 /// The numbers of elements, element i having the byte i % 251, and the byte from which on an
 /// element refuses. So the element `limit` is the least that does.
-const ROWS: [(usize, u32); 9] = [
+const ROWS: [(usize, u32); 12] = [
     (0, 65536),
     (1, 65536),
     (64, 65536),
@@ -18,6 +18,9 @@ const ROWS: [(usize, u32); 9] = [
     (1000, 63),
     (1000, 64),
     (1000, 200),
+    (4096, 65536),
+    (4097, 65536),
+    (4097, 200),
     (65536, 65536),
 ];
 

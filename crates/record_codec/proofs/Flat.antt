@@ -3,13 +3,14 @@ use Rattle.std.proofs.Common.{◌≡◌, ℕ, zero, suc, ◌+◌, ◌-◌, ◌�
 use Rattle.std.proofs.Common.{append_assoc, arith, length-append, length-drop}
 use Rattle.std.proofs.Math.Seq.{take-append_seam}
 use Rattle.std.specs.List.{flat_map, All}
-use Rattle.std.proofs.lemmas.List.{append-nil, take-append-drop}
+use Rattle.std.proofs.lemmas.List.{append-nil, take-append-drop, nil_from_length}
 use Rattle.std.proofs.lemmas.List.Concat.{flat_map-append}
-use Rattle.std.proofs.lemmas.List.Elements.{All-nil, All-cons, All-head, All-tail}
+use Rattle.std.proofs.lemmas.List.Elements.{All-nil, All-cons, All-head, All-tail, All-append}
 use Rattle.det_values.specs.declared.format.Format.{Format}
 use Rattle.det_values.specs.declared.format.Format.TheVariants.{One, Two}
 use Rattle.det_values.specs.declared.frames.DrawnElement.{DrawnElement}
 use Rattle.det_values.specs.Spelling as flat
+use Rattle.det_values.specs.Blocks.{joined}
 use Rattle.record_grammar.specs.Read.{Read, Got, ◌>>=◌, many}
 use Rattle.record_grammar.specs.Grammar.{drawn_at}
 use Rattle.record_grammar.proofs.Steady.{bind_got, got_is}
@@ -31,14 +32,15 @@ pub record PutSoFar (es : List DrawnElement) (i : ℕ) (left : List DrawnElement
   pub parts : es ≡ before ++ left
   pub counted : length before ≡ i
   pub written : new ≡ old ++ flat_map (spelled_drawn One) before
+  pub fields : All flat.IsDrawn before
 
 pub put_begin : (es : List DrawnElement) (old : List ℕ) → PutSoFar es 0 es old old
-put_begin es old = record { before = []; parts = refl; counted = refl; written = sym (append-nil old) }
+put_begin es old = record { before = []; parts = refl; counted = refl; written = sym (append-nil old); fields = All-nil flat.IsDrawn }
 
 pub put_more : (es : List DrawnElement) (i : ℕ) (left more : List DrawnElement) (old mid next new bytes : List ℕ) (draws : ℕ)
-    → PutSoFar es i left old mid → left ≡ flat.an_element bytes draws ∷ more → next ≡ mid ++ spelled_u16 (length bytes) → new ≡ next
+    → PutSoFar es i left old mid → left ≡ flat.an_element bytes draws ∷ more → flat.IsDrawn (flat.an_element bytes draws) → next ≡ mid ++ spelled_u16 (length bytes) → new ≡ next
     ++ bytes → PutSoFar es (i + 1) more old new
-put_more es i left more old mid next new bytes draws h l n w =
+put_more es i left more old mid next new bytes draws h l f n w =
     let e : DrawnElement = flat.an_element bytes draws in
     let b : List DrawnElement = h.before in
     let s : flat_map (spelled_drawn One) (b ++ e ∷ []) ≡ flat_map (spelled_drawn One) b
@@ -52,6 +54,7 @@ put_more es i left more old mid next new bytes draws h l n w =
           w ∙ ap (λ (xs : List ℕ). xs ++ bytes) n ∙ append_assoc mid (spelled_u16 (length bytes)) bytes
           ∙ ap (λ (xs : List ℕ). xs ++ spelled_element bytes) h.written
           ∙ append_assoc old (flat_map (spelled_drawn One) b) (spelled_element bytes) ∙ ap (λ (xs : List ℕ). old ++ xs) (sym s);
+      fields = All-append flat.IsDrawn b (e ∷ []) h.fields (All-cons flat.IsDrawn e [] f (All-nil flat.IsDrawn));
     }
 
 pub put_grows : (es : List DrawnElement) (i : ℕ) (left : List DrawnElement) (old new : List ℕ) → PutSoFar es i left old new
@@ -70,6 +73,29 @@ put_stops es i left old new h e =
     h.written
     ∙ ap (λ (xs : List DrawnElement). old ++ flat_map (spelled_drawn One) xs)
     (sym (append-nil h.before) ∙ ap (λ (xs : List DrawnElement). h.before ++ xs) (sym e) ∙ sym h.parts)
+
+pub put_fields : (es : List DrawnElement) (i : ℕ) (left : List DrawnElement) (old new : List ℕ) → PutSoFar es i left old new → left ≡ []
+    → All flat.IsDrawn es
+put_fields es i left old new h e =
+    subst (All flat.IsDrawn) (sym (h.parts ∙ ap (λ (xs : List DrawnElement). h.before ++ xs) e ∙ append-nil h.before)) h.fields
+
+pub put_all_fields : (es : List DrawnElement) (i : ℕ) (left : List DrawnElement) (old new : List ℕ) → length es ≤ i
+    → PutSoFar es i left old new → All flat.IsDrawn es
+put_all_fields es i left old new le h =
+    put_fields es i left old new h
+    (nil_from_length left (omega (arith, le, h.counted, ap length h.parts, length-append h.before left)))
+
+-- ---- blocks, one behind another
+
+pub blocks_spelled : (bs : List (List DrawnElement)) → flat_map flat.spelled_all bs ≡ flat.spelled_all (joined bs)
+blocks_spelled [] = refl
+blocks_spelled (b ∷ bs) =
+    ap (λ (xs : List ℕ). flat.spelled_all b ++ xs) (blocks_spelled bs) ∙ sym (flat_map-append flat.spelled_drawn b (joined bs))
+
+pub blocks_drawn : (bs : List (List DrawnElement)) → All (All flat.IsDrawn) bs → All flat.IsDrawn (joined bs)
+blocks_drawn [] h = All-nil flat.IsDrawn
+blocks_drawn (b ∷ bs) h =
+    All-append flat.IsDrawn b (joined bs) (All-head (All flat.IsDrawn) b bs h) (blocks_drawn bs (All-tail (All flat.IsDrawn) b bs h))
 
 -- ---- elements of format Two, as they stand in the bytes
 

@@ -2,3 +2,4 @@ pub mod Flat
 pub mod Appending
 pub mod Names
 pub mod Made
+pub mod Ends

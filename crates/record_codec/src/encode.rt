@@ -1,13 +1,18 @@
 //! Writing a record.
-ghost use Rattle.std.specs.Prelude.{◌≡◌, ℕ, List, ◌++◌, length, OnOk, OnErr};
-ghost use Rattle.std.specs.List.{flat_map};
+ghost use Rattle.std.specs.Prelude.{◌≡◌, ◌≤◌, ◌<◌, ℕ, List, ◌++◌, length, take, drop};
+ghost use Rattle.std.specs.Prelude.{OnOk, OnErr, IfOk};
+ghost use Rattle.std.specs.List.{flat_map, All};
 ghost use Rattle.det_values.specs.declared.format.Format.{Format as AnyFormat};
 ghost use Rattle.record_grammar.specs.Spelling.{spelled_header, IsHeader, spelled_frame, CanSpell};
 ghost use Rattle.record_grammar.specs.Spelling.{IsFrame, spelled_element};
+ghost use Rattle.det_values.specs.Spelling.{spelled_all};
+ghost use Rattle.det_values.specs.declared.format.Format.TheVariants.{Two};
+ghost use Rattle.det_values.specs.declared.frames.DrawnElement.{DrawnElement};
+ghost use Rattle.record_codec.specs.FinishedRun.{finished_run};
 
-use crate::put_frame::{put_frame, put_init_head};
+use crate::put_frame::{put_frame, put_init_head, put_output, put_run_head};
 use crate::put_header::put_header;
-use det_values::{Format, Frame, OutOfMemory, Profile};
+use det_values::{CycleInput, Format, Frame, OutOfMemory, Profile};
 
 /// Appends the one spelling of a header, in the profile's own format. A refused call leaves `out`
 /// as it was.
@@ -59,4 +64,27 @@ pub fn encode_init_head(count: u32, out: &mut Vec<u8>) -> Result<(), OutOfMemory
 {
     put_init_head(out, count)?;
     Ok(())
+}
+
+/// Appends what stands around the elements of a finished Run in format Two, which are so many, and
+/// answers the place of the elements. A refused call may leave some of it.
+pub fn encode_run_ends(
+    events: u16,
+    input: &CycleInput,
+    count: u32,
+    output: &[u8],
+    out: &mut Vec<u8>,
+) -> Result<usize, OutOfMemory>
+    requires known { All (λ s. s.event < events) input.now.samples }
+    requires short { length output.now ≤ 1048576 }
+    ensures within { IfOk result (λ at. at ≤ length out.new.items) }
+    ensures around { IfOk result (λ at. (elements : List DrawnElement)
+        → length elements ≡ count → take at out.new.items
+        ++ (spelled_all elements ++ drop at out.new.items)
+        ≡ out.old.items ++ spelled_frame Two (finished_run input.now elements output.now)) }
+{
+    put_run_head(out, events, input, count)?;
+    let at = out.len();
+    put_output(out, output)?;
+    Ok(at)
 }

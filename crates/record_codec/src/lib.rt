@@ -12,7 +12,7 @@ mod put_header;
 mod room;
 mod run;
 
-pub use encode::{encode_frame, encode_header, encode_init_head};
+pub use encode::{encode_frame, encode_header, encode_init_head, encode_run_ends};
 pub use item::{frame_of, profile_of};
 pub use record_grammar::{Item, Layout, Limits, Place, Reason, RecordFault};
 pub use room::{RunRoom, fill_input};

@@ -7,13 +7,16 @@ ghost use Rattle.record_grammar.specs.Spelling.{IsSample, spelled_input, IsInput
 ghost use Rattle.record_grammar.specs.Spelling.{spelled_refusal, IsRefusal, AreBytes};
 ghost use Rattle.record_grammar.specs.Spelling.{spelled_finished, spelled_outcome, MayDrawAll};
 ghost use Rattle.record_grammar.specs.Spelling.{IsOutcome, spelled_frame, CanSpell, IsFrame};
-ghost use Rattle.det_values.specs.Spelling.{Grows, spelled_u32};
+ghost use Rattle.det_values.specs.Blocks.{joined};
+ghost use Rattle.det_values.specs.Spelling.{Grows, spelled_u32, spelled_all};
+ghost use Rattle.det_values.specs.Spelling.{IsDrawn as IsFlatDrawn};
 ghost use Rattle.det_values.specs.declared.format.Format.TheVariants.{One};
 
 use crate::put::{put_element, put_i64, put_u8, put_u64};
 use det_values::put::{put_slice, put_u16, put_u32};
 use det_values::{
-    Bytes64, CycleInput, DrawnElements, Format, Frame, Outcome, Phase, RefusedAt, Sample,
+    Bytes64, CycleInput, DrawnBlock, DrawnElements, Format, Frame, Outcome, Phase, RefusedAt,
+    Sample,
 };
 use std::alloc::AllocError;
 
@@ -34,16 +37,29 @@ fn put_undrawn(out: &mut Vec<u8>, elements: &DrawnElements) -> Result<(), AllocE
     ensures ok { OnOk result (out.new.items ≡ out.old.items ++ flat_map
         (spelled_drawn One) elements.now) }
     ensures grows { Grows out.old.items out.new.items }
+    ensures fields { OnOk result (All IsFlatDrawn elements.now) }
 {
     let mut walk = elements.walk();
     for _ in 0..elements.len() {
         match walk.next() {
-            Some((bytes, _)) => {
+            Some((bytes, _draws)) => {
                 put_u16(out, bytes.len() as u16)?;
                 put_slice(out, bytes)?;
             }
             None => return Ok(()),
         }
+    }
+    Ok(())
+}
+
+/// The blocks of elements, each by one copy.
+fn put_blocks(out: &mut Vec<u8>, blocks: &[DrawnBlock]) -> Result<(), AllocError>
+    ensures ok { OnOk result (out.new.items ≡ out.old.items ++ spelled_all (joined blocks.now)) }
+    ensures grows { Grows out.old.items out.new.items }
+    ensures fields { OnOk result (All IsFlatDrawn (joined blocks.now)) }
+{
+    for block in blocks {
+        put_slice(out, block.spelled())?;
     }
     Ok(())
 }
@@ -59,10 +75,9 @@ fn put_all_drawn(
     ensures grows { Grows out.old.items out.new.items }
     ensures fields { OnOk result (All (IsDrawn format) elements.now) }
 {
-    let spelled = elements.spelled();
     match format {
         Format::One => put_undrawn(out, elements),
-        Format::Two => put_slice(out, spelled),
+        Format::Two => put_blocks(out, elements.blocks()),
     }
 }
 
@@ -147,6 +162,19 @@ fn put_refusal(out: &mut Vec<u8>, refused: &RefusedAt) -> Result<(), AllocError>
     Ok(())
 }
 
+/// What comes behind the elements of a finished Run.
+pub fn put_output(out: &mut Vec<u8>, output: &[u8]) -> Result<(), AllocError>
+    requires { length output.now ≤ 1048576 }
+    ensures ok { OnOk result (out.new.items
+        ≡ out.old.items ++ (spelled_u32 (length output.now) ++ output.now)) }
+    ensures grows { Grows out.old.items out.new.items }
+    ensures fields { OnOk result (AreBytes output.now) }
+{
+    put_u32(out, output.len() as u32)?;
+    put_slice(out, output)?;
+    Ok(())
+}
+
 fn put_finished(
     out: &mut Vec<u8>,
     format: Format,
@@ -164,9 +192,7 @@ fn put_finished(
     let count = elements.len();
     put_u32(out, count as u32)?;
     put_all_drawn(out, format, elements)?;
-    put_u32(out, output.len() as u32)?;
-    put_slice(out, output)?;
-    Ok(())
+    put_output(out, output)
 }
 
 fn put_outcome(out: &mut Vec<u8>, format: Format, outcome: &Outcome) -> Result<(), AllocError>
@@ -194,6 +220,23 @@ pub fn put_init_head(out: &mut Vec<u8>, count: u32) -> Result<(), AllocError>
     ensures grows { Grows out.old.items out.new.items }
 {
     put_u8(out, 3)?;
+    put_u32(out, count)
+}
+
+/// What comes before the elements of a finished Run, which are so many.
+pub fn put_run_head(
+    out: &mut Vec<u8>,
+    events: u16,
+    input: &CycleInput,
+    count: u32,
+) -> Result<(), AllocError>
+    requires { All (λ s. s.event < events) input.now.samples }
+    ensures { OnOk result (out.new.items ≡ out.old.items
+        ++ 4 ∷ (spelled_input input.now ++ 0 ∷ spelled_u32 count)) }
+{
+    put_u8(out, 4)?;
+    put_input(out, events, input)?;
+    put_u8(out, 0)?;
     put_u32(out, count)
 }
 

@@ -1,11 +1,13 @@
 //! Runs in their frames.
-ghost use Rattle.std.specs.Prelude.{◌≡◌, ◌≤◌, [], ◌∷◌};
+ghost use Rattle.std.specs.Prelude.{◌≡◌, ◌≤◌, [], ◌∷◌, length, IfSome};
 ghost use Rattle.std.specs.List.{count_by};
 ghost use Rattle.det_values.specs.declared.frames.RunFrame.{RunFrame as RunValue};
 ghost use Rattle.det_values.specs.declared.frames.Frame.TheVariants.{Run};
+ghost use Rattle.det_values.specs.declared.format.Format.TheVariants.{Two};
+ghost use Rattle.record_codec.specs.FinishedRun.{finished_run};
 ghost use Rattle.probes.specs.Shipped.{is_refused};
 
-use det_values::{Frame, Outcome, RunFrame};
+use det_values::{CycleInput, DrawnElements, Format, Frame, Outcome, RunFrame};
 
 /// 1 for a run that was refused, else 0.
 pub(crate) fn refusals(run: &RunFrame) -> u32
@@ -34,5 +36,38 @@ pub(crate) fn run_in(frame: Frame) -> RunFrame
     match frame {
         Frame::Run(run) => run,
         _ => unreachable!(),
+    }
+}
+
+/// A block of so many bytes isn't copied before it is written.
+const LONG: usize = 4_096;
+
+/// The input, the elements and the output of a finished run in format Two whose first block of
+/// elements has 4,096 bytes or more. Such blocks get writes of their own.
+pub(crate) fn long_run(
+    format: Format,
+    frame: &Frame,
+) -> Option<(&CycleInput, &DrawnElements, &[u8])>
+    ensures run { IfSome result (λ parts.
+        frame.now ≡ finished_run parts.0.now parts.1.now parts.2.now) }
+    ensures two { IfSome result (λ parts. format ≡ Two) }
+    ensures short { IfSome result (λ parts. length parts.2.now ≤ 1048576) }
+{
+    let Format::Two = format else {
+        return None;
+    };
+    let Frame::Run(run) = frame else {
+        return None;
+    };
+    match &run.outcome {
+        Outcome::Finished { elements, output } => {
+            match elements.blocks() {
+                [first, ..] if first.spelled().len() >= LONG => {
+                    Some((&run.input, elements, output.as_slice()))
+                }
+                _ => None,
+            }
+        }
+        Outcome::Refused(_) => None,
     }
 }

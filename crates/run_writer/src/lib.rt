@@ -3,6 +3,7 @@
 
 mod counts;
 mod frames;
+mod parts;
 mod recording;
 mod runner;
 

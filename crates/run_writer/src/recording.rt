@@ -2,12 +2,13 @@
 ghost use Rattle.std.specs.Prelude.{◌≡◌};
 
 use crate::counts::Counts;
-use crate::frames::{frame_of, refusals, run_in};
+use crate::frames::{frame_of, long_run, refusals, run_in};
+use crate::parts::{count_blocks, write_parts};
 use cycle_engine::{Desk, Engine};
 use det_edges::{Failure, Sink, write_all};
-use det_values::{CycleInput, Frame, OutOfMemory, Profile, RunFrame};
+use det_values::{CycleInput, DrawnElements, Frame, OutOfMemory, Profile, RunFrame};
 use job_trait::{Job, Pool};
-use record_codec::{encode_frame, encode_header, encode_init_head};
+use record_codec::{encode_frame, encode_header, encode_init_head, encode_run_ends};
 use std::alloc::Global;
 
 /// An engine with the profile of its run, and the counts of the record that was written of it.
@@ -24,14 +25,17 @@ pub struct Recording<J: Job> {
 
 impl<J: Job> Recording<J> {
     ghost use Rattle.std.specs.Prelude.{◌≡◌, ◌<◌, ◌≤◌, ◌+◌, List, [], ◌∷◌, ◌++◌, map, length};
-    ghost use Rattle.std.specs.Prelude.{true, false, OnOk, IfOk, IfErr};
+    ghost use Rattle.std.specs.Prelude.{true, false, OnOk, IfOk, IfErr, take, drop};
     ghost use Rattle.std.specs.List.{All};
     ghost use Rattle.det_values.specs.declared.frames.CycleInput.{CycleInput as Input};
+    ghost use Rattle.det_values.specs.Spelling.{spelled_all};
+    ghost use Rattle.det_values.specs.declared.format.Format.TheVariants.{Two};
     ghost use Rattle.det_edges.specs.Sink.{Grew};
     ghost use Rattle.det_edges.specs.Traffic.{SinkTraffic, sink_run, failure_of};
     ghost use Rattle.cycle_engine.specs.Engine.{StandsFor as EngineStands};
     ghost use Rattle.cycle_engine.specs.Frames.{frame_of, state_of, runs};
     ghost use Rattle.record_grammar.specs.Spelling.{CanSpell, spelled, spelled_frame};
+    ghost use Rattle.record_codec.specs.FinishedRun.{finished_run};
     ghost use Rattle.run_writer.specs.Record.{opening, record_with, Counted};
     ghost use Rattle.run_writer.specs.Recording.{IsNew, Stands, Cuts, Ran, Keeps, wrote};
 
@@ -269,8 +273,78 @@ impl<J: Job> Recording<J> {
         ensures traffic { SinkTraffic (sink_run K.took K.faults sink.old sink.new)
             (failure_of result) }
     {
+        if let Some((input, elements, output)) = long_run(self.profile.format, frame) {
+            return self.write_run(input, elements, output, sink);
+        }
         self.spell(frame)?;
         self.write(sink)
+    }
+
+    /// Writes the frame of a finished run in format Two and counts its bytes. The elements are
+    /// written where they stand, and all memory is asked for before the first write.
+    fn write_run<K: Sink>(
+        &mut self,
+        input: &CycleInput,
+        elements: &DrawnElements,
+        output: &[u8],
+        sink: &mut K,
+    ) -> Result<(), Failure>
+        requires known { All (λ s. s.event < length self.old.profile.events) input.now.samples }
+        requires short { length output.now ≤ 1048576 }
+        ensures took { OnOk result (Grew (K.took sink.old) (K.took sink.new)
+            (spelled_frame Two (finished_run input.now elements.now output.now))) }
+        ensures wrote { OnOk result (self.new.counts ≡ wrote self.old.counts
+            (spelled_frame Two (finished_run input.now elements.now output.now))) }
+        ensures engine { self.new.engine ≡ self.old.engine }
+        ensures profile { self.new.profile ≡ self.old.profile }
+        ensures cut { IfErr result (λ failure. Cuts failure (K.took sink.old) (K.took sink.new)
+            (spelled_frame Two (finished_run input.now elements.now output.now))) }
+        ensures traffic { SinkTraffic (sink_run K.took K.faults sink.old sink.new)
+            (failure_of result) }
+    {
+        let at = self.spell_ends(input, elements, output)?;
+        let (front, behind) = self.buffer.as_slice().split_at(at);
+        write_parts(front, elements.blocks(), behind, sink)?;
+        self.count(elements);
+        Ok(())
+    }
+
+    /// Makes what stands around the elements of a finished run what is written next, and answers
+    /// the place of the elements.
+    fn spell_ends(
+        &mut self,
+        input: &CycleInput,
+        elements: &DrawnElements,
+        output: &[u8],
+    ) -> Result<usize, OutOfMemory>
+        requires known { All (λ s. s.event < length self.old.profile.events) input.now.samples }
+        requires short { length output.now ≤ 1048576 }
+        ensures within { IfOk result (λ at. at ≤ length self.new.buffer.items) }
+        ensures around { IfOk result (λ at. take at self.new.buffer.items
+            ++ (spelled_all elements.now ++ drop at self.new.buffer.items)
+            ≡ spelled_frame Two (finished_run input.now elements.now output.now)) }
+        ensures keeps { Keeps self.old self.new }
+    {
+        self.buffer.clear();
+        let events = self.profile.events.len() as u16;
+        encode_run_ends(
+            events,
+            input,
+            elements.len() as u32,
+            output,
+            &mut self.buffer,
+        )
+    }
+
+    /// Counts the bytes of a frame whose elements don't stand in the buffer.
+    fn count(&mut self, elements: &DrawnElements)
+        ensures counts { self.new.counts ≡ wrote self.old.counts
+            (spelled_all elements.now ++ self.old.buffer.items) }
+        ensures engine { self.new.engine ≡ self.old.engine }
+        ensures profile { self.new.profile ≡ self.old.profile }
+    {
+        let bytes = self.counts.bytes.saturating_add(self.buffer.len() as u64);
+        self.counts.bytes = count_blocks(elements.blocks(), bytes);
     }
 
     /// Writes what is written next, and counts its bytes.

@@ -2,6 +2,7 @@
 ghost use Rattle.std.specs.Prelude.{◌≡◌, ◌≤◌, min, max};
 ghost use Rattle.job_trait.specs.Passes.{blocks_of};
 
+use job_trait::block_count;
 use std::alloc::Global;
 use std::sync::Arc;
 
@@ -41,12 +42,13 @@ pub struct Workers<'r, R, G> {
     ghost few: { count ≤ 64 },
 }
 
-/// As many of the workers as there are blocks of elements, and one at least.
+/// As many of the workers as there are blocks of elements, and one at least. A worker beyond them
+/// isn't started and passes no gate.
 pub(crate) fn busy<'r, R, G>(workers: &Workers<'r, R, G>, elements: usize) -> Workers<'r, R, G>
     requires { elements ≤ 65536 }
     ensures { result.count ≡ max (min workers.now.count (blocks_of elements)) 1 }
 {
-    let blocks = ((elements + 63) / 64) as u32;
+    let blocks = block_count(elements);
     Workers {
         rt: workers.rt,
         alloc: workers.alloc,

@@ -6,6 +6,7 @@ use lib.ListN.{get_elem?}
 use Rattle.std.proofs.lemmas.Bool.{lt-ltb, ltb-true}
 use Rattle.job_trait.specs.Meaning.{Meaning}
 use Rattle.job_trait.specs.Passes.{blocks_of}
+use Rattle.job_trait.proofs.Sizes.{few_blocks}
 use Rattle.job_trait.specs.Pass.{Passed, Refusal, passed, block}
 use Rattle.worker_pool.specs.declared.view.Mark.{Mark}
 use Rattle.worker_pool.specs.declared.view.Mark.TheVariants.{Open, Finished, Reported, Skipped}
@@ -61,7 +62,7 @@ module _ {S G E L P : Type 0} (m : Meaning S G E L P) (j : S) (plan : L) (carry 
       which
 
   gathered : (end : Machine) → length es ≤ 65536 → Kept B no end → HasEnded B end → gather (m.joined j) (m.unit_part j) at B end ≡ whole
-  gathered end small kept ended = ⊎_elim
+  gathered end small kept ended = let few = few_blocks (length es) small in ⊎_elim
       (λ (none : end.least ≡ no_block). answer_is end.least (inr (omega arith)) (λ b lt low. ⊎_elim
       (λ (h : (c : ℕ) × Has end c Reported). let t = (kept.true_marks h.0 Reported h.1).1 in let i = at_inside end.marks h.0 Reported h.1 in
       let k = kept.inside in absurd (omega arith))

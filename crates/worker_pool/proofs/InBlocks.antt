@@ -7,7 +7,8 @@ use Rattle.std.proofs.Math.Seq.{take-add}
 use Rattle.std.proofs.lemmas.List.{take_all}
 use Rattle.element_random.specs.Words.{key}
 use Rattle.job_trait.specs.Meaning.{Meaning}
-use Rattle.job_trait.specs.Pass.{Passed, Refusal, nothing, more, taken, passed, block}
+use Rattle.job_trait.specs.Pass.{Passed, Refusal, nothing, more, taken, passed, block, block_size, in_block}
+use Rattle.job_trait.proofs.Sizes.{begins, covers}
 use Rattle.job_trait.specs.Passes.{blocks_of}
 use Rattle.pass_in_blocks.specs.Steps.{beside}
 use Rattle.worker_pool.specs.Gather.{refuses, left_by, together}
@@ -131,18 +132,24 @@ module _ {S G E L P : Type 0} (m : Meaning S G E L P) (j : S) (plan : L) (carry 
       abbrev whole : List E → Result (Passed E P) Refusal
       whole = passed m j plan carry seed cycle pass
 
-      first_blocks : (n : ℕ) → 64 * n ≤ length es + 63 → whole (take (64 * n) es) ≡ first n
-      first_blocks zero h = refl
-      first_blocks (suc n) h = let ih = first_blocks n (omega arith) in
-          let full : length (take (64 * n) es) ≡ 64 * n = omega (arith, length-take (64 * n) es) in
-          ap (λ (k : ℕ). whole (take k es)) (omega arith) ∙ ap whole (take-add (64 * n) 64 es)
-          ∙ through 0 (64 * n) (take (64 * n) es) (take 64 (drop (64 * n) es)) none (omega arith)
-          ∙ on_is_then (64 * n) (take 64 (drop (64 * n) es)) (whole (take (64 * n) es))
+      abbrev w : ℕ
+      w = block_size (length es)
+
+      first_blocks : (n : ℕ) → ((b : ℕ) → b < n → w * b < length es) → whole (take (w * n) es) ≡ first n
+      first_blocks zero inside = ap (λ (k : ℕ). whole (take k es)) no_elements where
+        no_elements : w * 0 ≡ 0
+        no_elements = omega arith
+      first_blocks (suc n) inside = let ih = first_blocks n (λ b lt. inside b (omega arith)) in
+          let full : length (take (w * n) es) ≡ w * n = omega (arith, length-take (w * n) es, inside n (omega arith)) in
+          let next : w * suc n ≡ w * n + w = omega arith in
+          ap (λ (k : ℕ). whole (take k es)) next ∙ ap whole (take-add (w * n) w es)
+          ∙ through 0 (w * n) (take (w * n) es) (in_block (length es) n es) none (omega arith)
+          ∙ on_is_then (w * n) (in_block (length es) n es) (whole (take (w * n) es))
           ∙ ap (λ (a : Result (Passed E P) Refusal). then join a (at n)) ih
 
       in_blocks : whole es ≡ first (blocks_of (length es))
-      in_blocks = ap whole (sym (take_all (64 * blocks_of (length es)) es (omega arith)))
-          ∙ first_blocks (blocks_of (length es)) (omega arith)
+      in_blocks = ap whole (sym (take_all (w * blocks_of (length es)) es (covers (length es))))
+          ∙ first_blocks (blocks_of (length es)) (λ b lt. begins (length es) b lt)
 
       first_all : (n : ℕ) → ((b : ℕ) → b < n → refuses at b ≡ false) → first n ≡ Ok (all n)
       first_all zero ok = refl

@@ -1,11 +1,12 @@
 -- A worker's share of a pass, and two of them together.
 use Rattle.std.proofs.Common.{◌≡◌, ℕ, ◌≤◌, ◌⊎◌, List, [], ◌∷◌, ◌++◌, map, Result, Ok, Err, IfOk, sym, ap, ◌∙◌, subst, inl, inr, ⊎_elim, arith}
 use mathlib.Core.List.{map-append}
+use Rattle.std.specs.Global.{Global}
+use Rattle.std.specs.declared.vec.Vec.{Vec}
 use Rattle.det_values.specs.declared.out_of_memory.OutOfMemory.{OutOfMemory}
 use Rattle.job_trait.specs.Meaning.{Meaning}
 use Rattle.job_trait.specs.Pass.{Passed, Refusal}
 use Rattle.pass_in_blocks.specs.declared.answers.BlockResult.{BlockResult}
-use Rattle.worker_pool.specs.declared.messages.Share.{Share}
 use Rattle.worker_pool.specs.declared.seat.PassSeat.{PassSeat}
 use Rattle.worker_pool.specs.declared.task.Task.{Task}
 use Rattle.worker_pool.specs.declared.view.Mark.{Mark}
@@ -13,7 +14,7 @@ use Rattle.worker_pool.specs.declared.view.PoolEntry.{PoolEntry}
 use Rattle.worker_pool.specs.declared.view.PoolView.{PoolView}
 use Rattle.worker_pool.specs.Handles.{IsAt}
 use Rattle.worker_pool.specs.Views.{entry, Stands, joined}
-use Rattle.worker_pool.specs.Messages.{AreOf, IsSpelledOf, IsShareOf, IsReply}
+use Rattle.worker_pool.specs.Messages.{AreOf, IsShareOf, IsReply}
 use Rattle.worker_pool.specs.Results.{Stops, shown, Works, IsShare}
 use Rattle.worker_pool.proofs.Done.{results_append}
 
@@ -48,10 +49,10 @@ module _ {E P : Type 0} (block : ℕ → Result (Passed E P) Refusal) (blocks : 
 
 -- what a reply that isn't short of memory brings to the task that its ticket is for
 pub brought : {S G E L P : Type 0} (m : Meaning S G E L P) (announced : List (Task S G E L P)) (t : Task S G E L P) (seat : PassSeat)
-    (share : Result (Share E P) OutOfMemory) (given : Share E P) → IsReply m announced seat share → announced ≡ t ∷ [] → share ≡ Ok given
-    → AreOf m t given.results.items × IsSpelledOf m t given.spelled × IsShareOf m t seat given.results.items
-brought m announced t seat share given reply is ok = subst
-    (λ s. IfOk s (λ x. AreOf m t x.results.items × IsSpelledOf m t x.spelled × IsShareOf m t seat x.results.items)) ok (reply t is).1
+    (results : Result (Vec (BlockResult E P) Global) OutOfMemory) (given : Vec (BlockResult E P) Global) → IsReply m announced seat results
+    → announced ≡ t ∷ [] → results ≡ Ok given → AreOf m t given.items × IsShareOf m t seat given.items
+brought m announced t seat results given reply is ok = subst
+    (λ s. IfOk s (λ x. AreOf m t x.items × IsShareOf m t seat x.items)) ok (reply t is).1
 
 abbrev first : {A : Type 0} → A → List A → A
 first a [] = a
@@ -59,13 +60,12 @@ first a (x ∷ xs) = x
 
 -- what a worker gives of the task that its ticket is for is a reply
 pub replied : {S G E L P : Type 0} (m : Meaning S G E L P) (announced : List (Task S G E L P)) (d : Task S G E L P) (seat : PassSeat)
-    (share : Result (Share E P) OutOfMemory) → announced ≡ d ∷ [] → IsAt seat d.table
-    → IfOk share (λ x. AreOf m d x.results.items) → IfOk share (λ x. IsSpelledOf m d x.spelled)
-    → IfOk share (λ x. IsShareOf m d seat x.results.items) → IsReply m announced seat share
-replied m announced d seat (Ok x) is here right spelled whole t for = subst
-    (λ u. IsAt seat u.table × (AreOf m u x.results.items × IsSpelledOf m u x.spelled × IsShareOf m u seat x.results.items))
-    (ap (first d) (sym is ∙ for)) (here, (right, spelled, whole))
-replied m announced d seat (Err e) is here right spelled whole t for = (
+    (results : Result (Vec (BlockResult E P) Global) OutOfMemory) → announced ≡ d ∷ [] → IsAt seat d.table
+    → IfOk results (λ x. AreOf m d x.items) → IfOk results (λ x. IsShareOf m d seat x.items) → IsReply m announced seat results
+replied m announced d seat (Ok x) is here right whole t for = subst
+    (λ u. IsAt seat u.table × (AreOf m u x.items × IsShareOf m u seat x.items))
+    (ap (first d) (sym is ∙ for)) (here, (right, whole))
+replied m announced d seat (Err e) is here right whole t for = (
   subst (λ u. IsAt seat u.table) (ap (first d) (sym is ∙ for)) here,
   tt,
 )

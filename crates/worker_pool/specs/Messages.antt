@@ -1,14 +1,15 @@
 -- What goes to a kept thread, and what comes back.
 use Rattle.std.specs.Prelude.{◌≡◌, ℕ, List, [], ◌∷◌, ◌++◌, ◌⊎◌, Result, IfOk}
+use Rattle.std.specs.List.{All}
+use Rattle.std.specs.Global.{Global}
+use Rattle.std.specs.declared.vec.Vec.{Vec}
 use Rattle.job_trait.specs.Meaning.{Meaning}
 use Rattle.job_trait.specs.Passes.{IsReady, block_in, blocks_in}
-use Rattle.pass_in_blocks.specs.Answers.{AreRight}
-use Rattle.pass_in_blocks.specs.Showing.{AreBlocksOf, shown_in}
+use Rattle.pass_in_blocks.specs.Answers.{IsRight, Shows}
+use Rattle.pass_in_blocks.specs.Showing.{shown_in}
 use Rattle.pass_in_blocks.specs.declared.answers.BlockResult.{BlockResult}
-use Rattle.pass_in_blocks.specs.declared.spelled_blocks.SpelledBlocks.{SpelledBlocks}
 use Rattle.det_values.specs.declared.out_of_memory.OutOfMemory.{OutOfMemory}
 use Rattle.worker_pool.specs.declared.messages.Reply.{Reply}
-use Rattle.worker_pool.specs.declared.messages.Share.{Share}
 use Rattle.worker_pool.specs.declared.messages.Work.{Work}
 use Rattle.worker_pool.specs.declared.seat.PassSeat.{PassSeat}
 use Rattle.worker_pool.specs.declared.task.Task.{Task}
@@ -23,14 +24,13 @@ module _ {S G E L P : Type 0} where
     pub ready : IsReady m Covers Own Fit t.pass
     pub sized : block_count t.table ≡ blocks_in t.pass
 
-  -- these are results of the pass
-  abbrev pub AreOf : Meaning S G E L P → Task S G E L P → List (BlockResult E P) → Type 0
-  AreOf m t results = AreRight (block_in m t.pass)
-      (blocks_in t.pass) results
+  -- a result is that of a block of the pass, and shows what the block shows
+  abbrev pub IsOf : Meaning S G E L P → Task S G E L P → BlockResult E P → Type 0
+  IsOf m t r = IsRight (block_in m t.pass) (blocks_in t.pass) r
+      × Shows (shown_in m t.pass r.block) r.answer
 
-  -- each block that was spelled is one of the pass
-  abbrev pub IsSpelledOf : Meaning S G E L P → Task S G E L P → SpelledBlocks → Type 0
-  IsSpelledOf m t spelled = AreBlocksOf (shown_in m t.pass) spelled
+  abbrev pub AreOf : Meaning S G E L P → Task S G E L P → List (BlockResult E P) → Type 0
+  AreOf m t results = All (IsOf m t) results
 
   -- the results of the blocks that the worker with this seat claimed, and it has tried all blocks
   -- of the pass or knows of a refusal
@@ -49,13 +49,13 @@ module _ {S G E L P : Type 0} where
     pub new : IsNew (view_of seat)
 
   -- where the ticket is for one task, the seat is one at its table, and unless memory was short its
-  -- worker's share of the pass is there, right and spelled
+  -- worker's share of the pass is there and right
   abbrev pub IsReply : Meaning S G E L P → List (Task S G E L P) → PassSeat
-      → Result (Share E P) OutOfMemory → Type 0
-  IsReply m announced seat share =
+      → Result (Vec (BlockResult E P) Global) OutOfMemory → Type 0
+  IsReply m announced seat results =
       (t : Task S G E L P) → announced ≡ t ∷ []
-      → IsAt seat t.table × IfOk share (λ given. AreOf m t given.results.items
-      × IsSpelledOf m t given.spelled × IsShareOf m t seat given.results.items)
+      → IsAt seat t.table
+      × IfOk results (λ given. AreOf m t given.items × IsShareOf m t seat given.items)
 
 -- One more piece of work was received, and its reply was sent, unless there was no place for it.
 -- What was received and sent stands before and after, and how many places are known to be free.

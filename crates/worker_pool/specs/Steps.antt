@@ -5,7 +5,7 @@ use lib.ListN.{get_elem?}
 use Rattle.atomic_table.specs.Table.{Me, Step}
 use Rattle.worker_pool.specs.declared.view.PoolView.{PoolView}
 use Rattle.worker_pool.specs.declared.view.Mark.TheVariants.{Finished, Reported, Skipped}
-use Rattle.worker_pool.specs.Views.{taken, passed, with_mark, least_in, Whole}
+use Rattle.worker_pool.specs.Views.{taken, passed, with_mark, least_in}
 use Rattle.worker_pool.specs.declared.seat.PassTable.{PassTable}
 use Rattle.worker_pool.specs.declared.seat.PassSeat.{PassSeat}
 use Rattle.worker_pool.specs.Handles.{view_of, number_of, block_count}
@@ -44,6 +44,3 @@ module _ (blocks id : ℕ) where
   abbrev pub reports : ℕ → Step (Unit {0}) → Here → ℕ → Here → Type 0
   reports b st m n m' = (m'.1 ≡ m.1) × Turn blocks id m.0 m'.0 0 n (min n b)
       × (m'.0 ≡ with_mark b Reported m.0)
-
-abbrev pub tells : Step (Unit {0}) → Here → ℕ → Here → Type 0
-tells st m n m' = (m' ≡ m) × Whole m.0

@@ -98,10 +98,3 @@ one_less v = view v.entries v.seen (v.shares - 1)
 
 abbrev pub newcomer : PoolView
 newcomer = fresh 1
-
--- what the last seat knows of the whole pass
-pub record Whole (v : PoolView) : Type 0 where
-  pub stands : (b : ℕ) → b < v.seen → times b v.entries ≡ 1
-  pub once : (b : ℕ) → times b v.entries ≤ 1
-  pub below : Below v.seen v.entries
-  pub skips : SkipsAbove (least_in v.entries) v.entries

@@ -1,20 +1,20 @@
 //! Memory in which the workers of a crew run their blocks.
 
-use crate::line::Line;
+use crate::line::{Line, clear_line};
 use job_trait::{Job, PassRoom};
-use pass_in_blocks::{BlockResult, SpelledBlocks};
+use pass_in_blocks::{BlockAnswer, BlockResult};
 use std::alloc::Global;
+use std::mem;
 use tickets::Room;
 
 /// More parts than any room holds.
 const ALL: usize = usize::MAX;
 
-/// Memory in which a kept thread runs its blocks, spells them and lists their results. Nothing in
-/// it has a meaning before it is used.
+/// Memory in which a kept thread runs its blocks and lists their results. Nothing in it has a
+/// meaning before it is used.
 #[derive(Drop)]
 pub struct Bench<E, P> {
     pub room: PassRoom<E, P>,
-    pub spelled: SpelledBlocks,
     pub results: Vec<BlockResult<E, P>>,
 }
 
@@ -23,32 +23,44 @@ impl<E: Drop, P: Drop> Bench<E, P> {
     pub fn new(alloc: Global) -> Bench<E, P> {
         Bench {
             room: PassRoom::new(alloc),
-            spelled: SpelledBlocks::new(alloc),
             results: Vec::new(alloc),
         }
     }
-}
 
-/// Moves so many spare blocks from one room to another, and as many parts, as far as they are
-/// there.
-fn move_spares<E: Drop, P: Drop>(from: &mut PassRoom<E, P>, to: &mut PassRoom<E, P>, count: usize) {
-    from.elements.give(&mut to.elements, count);
-    from.draws.give(&mut to.draws, count);
-    for _ in 0..count {
-        match from.part() {
-            Some(part) => to.keep_part(part),
-            None => return,
+    /// Takes a room that comes back. What the one before has spare is moved to it.
+    pub(crate) fn take_room(&mut self, room: PassRoom<E, P>) {
+        let mut before = mem::replace(&mut self.room, room);
+        before.give(&mut self.room, ALL);
+    }
+
+    /// Takes the memory of results that nobody needs any more.
+    pub(crate) fn take_results(&mut self, mut results: Vec<BlockResult<E, P>>) {
+        'each: while let Some(BlockResult { block: _, answer }) = results.pop() {
+            keep_answer(&mut self.room, answer);
         }
+        self.results = results;
     }
 }
 
-/// Takes the spares on the lines' benches back to the caller's room.
+/// Keeps the memory of a block's answer.
+fn keep_answer<E: Drop, P: Drop>(room: &mut PassRoom<E, P>, answer: BlockAnswer<E, P>) {
+    if let BlockAnswer::Done(done) = answer {
+        room.elements.keep_block(done.elements);
+        room.draws.keep_block(done.draws);
+        room.keep_part(done.part);
+        room.keep_bytes(done.shown.into_bytes());
+    }
+}
+
+/// Takes the spares on the lines' benches back to the caller's room, and first those that late
+/// replies bring: it is called where no pass waits for any.
 pub(crate) fn clear_benches<J: Job, B: Room>(
     lines: &mut [Line<J, B>],
     room: &mut PassRoom<J::Element, J::Part>,
 ) {
     'each: for line in lines {
-        move_spares(&mut line.bench.room, room, ALL);
+        clear_line(line);
+        line.bench.room.give(room, ALL);
     }
 }
 
@@ -61,22 +73,6 @@ pub(crate) fn fill_benches<J: Job, B: Room>(
     clear_benches(lines, room);
     let count = room.elements.blocks() / (lines.len() + 1);
     'each: for line in lines {
-        move_spares(room, &mut line.bench.room, count);
-    }
-}
-
-/// Keeps the memory of what was spelled for the next pass, the caller's too.
-pub(crate) fn keep_spelled<J: Job, B: Room>(
-    lines: &mut [Line<J, B>],
-    own: &mut SpelledBlocks,
-    mut spelled: Vec<SpelledBlocks>,
-) {
-    'each: for line in lines {
-        if let Some(theirs) = spelled.pop() {
-            line.bench.spelled = theirs;
-        }
-    }
-    if let Some(last) = spelled.pop() {
-        *own = last;
+        room.give(&mut line.bench.room, count);
     }
 }

@@ -1,20 +1,18 @@
 //! A crew: threads that are kept from pass to pass.
 ghost use Rattle.std.specs.Prelude.{◌+◌, ◌<◌, ◌≤◌, ◌^◌, length, IfOk};
 ghost use Rattle.job_trait.specs.Passes.{IsReady, IsAnswer, block_in, blocks_in};
-ghost use Rattle.std.specs.List.{All};
-ghost use Rattle.pass_in_blocks.specs.Answers.{AreRight};
-ghost use Rattle.pass_in_blocks.specs.Showing.{AreBlocksOf, shown_in};
+ghost use Rattle.pass_in_blocks.specs.Answers.{AreRight, AreShown};
+ghost use Rattle.pass_in_blocks.specs.Showing.{shown_in};
 
-use crate::bench::{clear_benches, fill_benches, keep_spelled};
+use crate::bench::{clear_benches, fill_benches};
 use crate::gate::Gate;
 use crate::line::Line;
 use crate::lines::work_together;
-use crate::messages::Found;
 use crate::seat::PassTable;
 use crate::task::{HeldPass, Task};
 use det_values::OutOfMemory;
 use job_trait::{Job, PassDone, PassOf, PassRoom, Pool, PoolFault};
-use pass_in_blocks::{SpelledBlocks, finish_pass};
+use pass_in_blocks::{BlockResult, finish_pass};
 use std::alloc::Global;
 use std::marker::Model;
 use std::sync::Arc;
@@ -34,8 +32,6 @@ pub struct Crew<J: Job, B: Room, G: Gate> {
     pub(crate) handles: Vec<JoinHandle<()>>,
     pub(crate) workers: u32,
     pub(crate) gate: Arc<G, Global>,
-    /// Memory in which the caller spells its blocks.
-    pub(crate) spelled: SpelledBlocks,
 }
 
 impl<J: Job, B: Room, G: Gate> Model for Crew<J, B, G> {
@@ -56,22 +52,20 @@ fn shared_pass<J: Job, B: Room, G: Gate>(
     pass: &PassOf<'_, J>,
     gate: &G,
     room: &mut PassRoom<J::Element, J::Part>,
-    spelled: &mut SpelledBlocks,
-) -> Result<Found<J::Element, J::Part>, OutOfMemory>
+) -> Result<Vec<BlockResult<J::Element, J::Part>>, OutOfMemory>
     requires few { length lines.old ≤ 63 }
     requires room { keeper.old.number < 2 ^ 63 }
     requires ready { IsReady J.meaning J.Covers J.Own J.Fit pass.now }
     ensures right { IfOk result (λ found. AreRight (block_in J.meaning pass.now)
-        (blocks_in pass.now) found.results.items) }
-    ensures spelled { IfOk result (λ found.
-        All (AreBlocksOf (shown_in J.meaning pass.now)) found.spelled.items) }
+        (blocks_in pass.now) found.items) }
+    ensures shown { IfOk result (λ found. AreShown (shown_in J.meaning pass.now) found.items) }
 {
     let (table, mut seat) = PassTable::new(room.alloc(), pass.blocks())?;
     let pass = HeldPass::of(pass)?;
     let Ok(task) = Arc::new(room.alloc(), Task { pass, table }) else {
         return Err(OutOfMemory);
     };
-    work_together(keeper, lines, &task, &mut seat, gate, room, spelled)
+    work_together(keeper, lines, &task, &mut seat, gate, room)
 }
 
 /// Lets the workers from this one on pass the gate on the caller's thread.
@@ -90,7 +84,6 @@ fn crew_pass<J: Job, B: Room, G: Gate>(
     workers: u32,
     gate: &G,
     room: &mut PassRoom<J::Element, J::Part>,
-    own: &mut SpelledBlocks,
 ) -> Result<PassDone<J::Element, J::Part>, PoolFault>
     requires few { length lines.old < workers }
     requires workers { workers ≤ 64 }
@@ -101,16 +94,13 @@ fn crew_pass<J: Job, B: Room, G: Gate>(
     let helpers = more.min(lines.len());
     if helpers == 0 || keeper.number() >= MOST_PASSES {
         enter_here(gate, 0, workers);
-        return finish_pass(pass, Vec::new(room.alloc()), &[], room);
+        return finish_pass(pass, Vec::new(room.alloc()), room);
     }
     fill_benches(lines, room);
-    let found = shared_pass(keeper, &mut lines[..helpers], pass, gate, room, own)?;
-    let Found { results, spelled } = found;
+    let results = shared_pass(keeper, &mut lines[..helpers], pass, gate, room)?;
     enter_here(gate, helpers as u32 + 1, workers);
     clear_benches(lines, room);
-    let done = finish_pass(pass, results, spelled.as_slice(), room);
-    keep_spelled(lines, own, spelled);
-    done
+    finish_pass(pass, results, room)
 }
 
 impl<J: Job, B: Room, G: Gate> Pool<J> for Crew<J, B, G> {
@@ -126,7 +116,6 @@ impl<J: Job, B: Room, G: Gate> Pool<J> for Crew<J, B, G> {
             self.workers,
             &*self.gate,
             room,
-            &mut self.spelled,
         )
     }
 }

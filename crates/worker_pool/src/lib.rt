@@ -1,6 +1,6 @@
 //! One pass of a job over its container, on several threads.
 //!
-//! The workers claim blocks of 64 elements on a table of words. Whatever they do and in whatever
+//! The workers claim blocks of elements on a table of words. Whatever they do and in whatever
 //! order, the answer is that of one thread that takes the elements one after another: each element
 //! has random words of its own, the parts are joined in the order of the elements, and of several
 //! refusals the one of the least element is answered.
@@ -32,7 +32,7 @@ pub use bench::Bench;
 pub use crew::Crew;
 pub use gate::{Gate, MeetGate, NapGate, NoGate};
 pub use line::Line;
-pub use messages::{Reply, ReplyFits, Share, Work, WorkFits};
+pub use messages::{Reply, ReplyFits, Work, WorkFits};
 pub use pool::run_worker_pool;
 pub use room::CrewRoom;
 pub use seat::{PassSeat, PassTable, PoolRule};

@@ -1,27 +1,29 @@
 //! The way to one kept thread and back.
-ghost use Rattle.std.specs.Prelude.{◌≡◌, ◌+◌, ◌≤◌, [], ◌∷◌, IfOk, OnOk, IsTrue};
+ghost use Rattle.std.specs.Prelude.{◌≡◌, ◌+◌, ◌≤◌, [], ◌∷◌, ◌++◌, IfOk, OnOk, IfSome, IsTrue};
 ghost use Rattle.std.specs.Arc.{arc_value};
 ghost use Rattle.worker_pool.specs.Handles.{view_of, IsAt, IsSameSeat};
-ghost use Rattle.std.specs.List.{All};
 ghost use Rattle.rtrb.specs.Ring.{sent, received, known_free};
-ghost use Rattle.worker_pool.specs.Messages.{IsTask, IsWork, IsReply, AreOf, IsSpelledOf};
-ghost use Rattle.worker_pool.specs.Messages.{IsShareOf, IsServed};
+ghost use Rattle.worker_pool.specs.Messages.{IsTask, IsWork, IsReply, AreOf, IsShareOf};
+ghost use Rattle.worker_pool.specs.Messages.{IsServed};
 ghost use Rattle.worker_pool.specs.Views.{IsNew};
 
 use crate::bench::Bench;
 use crate::gate::Gate;
-use crate::messages::{Found, Reply, ReplyFits, Share, Work, WorkFits};
+use crate::messages::{Reply, ReplyFits, Work, WorkFits};
 use crate::seat::PassSeat;
 use crate::task::Task;
 use crate::work::work_blocks;
 use det_values::OutOfMemory;
 use job_trait::{Job, PassRoom};
-use pass_in_blocks::{BlockResult, SpelledBlocks};
+use pass_in_blocks::BlockResult;
 use rtrb::{Consumer, Producer};
 use std::alloc::Global;
 use std::mem;
 use std::sync::Arc;
 use tickets::{Keeper, Room};
+
+/// The most replies that wait in a line.
+pub(crate) const MOST_REPLIES: usize = 2;
 
 /// The way to one kept thread and back.
 #[derive(Drop)]
@@ -30,33 +32,44 @@ pub struct Line<J: Job, B: Room> {
     pub(crate) replies: Consumer<Reply<J, B>, Global, ReplyFits>,
     /// Memory for the next work.
     pub(crate) bench: Bench<J::Element, J::Part>,
+    /// Whether the thread was given work and has not replied yet.
+    pub(crate) is_busy: bool,
 }
 
-/// Claims, runs and spells blocks of a task.
+impl<J: Job, B: Room> Line<J, B> {
+    /// The next reply of the thread, if it has come. From then on it can be given work.
+    fn next_reply(&mut self) -> Option<Reply<J, B>>
+        ensures { IfSome result (λ reply.
+            IsReply J.meaning reply.ticket.work reply.seat reply.results) }
+    {
+        match self.replies.pop() {
+            Ok(reply) => {
+                self.is_busy = false;
+                Some(reply)
+            }
+            Err(_) => None,
+        }
+    }
+}
+
+/// Claims and runs blocks of a task.
 pub(crate) fn work_at<J: Job>(
     task: &Task<J>,
     seat: &mut PassSeat,
     room: &mut PassRoom<J::Element, J::Part>,
     list: Vec<BlockResult<J::Element, J::Part>>,
-    mut spelled: SpelledBlocks,
-) -> Result<Share<J::Element, J::Part>, OutOfMemory>
+) -> Result<Vec<BlockResult<J::Element, J::Part>>, OutOfMemory>
     requires task { IsTask J.meaning J.Covers J.Own J.Fit task.now }
     requires here { IsAt seat.old task.now.table }
     requires new { IsNew (view_of seat.old) }
     ensures seat { IsSameSeat seat.new seat.old }
-    ensures right { IfOk result (λ share. AreOf J.meaning task.now share.results.items) }
-    ensures spelled { IfOk result (λ share. IsSpelledOf J.meaning task.now share.spelled) }
-    ensures share { IfOk result (λ share.
-        IsShareOf J.meaning task.now seat.new share.results.items) }
+    ensures right { IfOk result (λ results. AreOf J.meaning task.now results.items) }
+    ensures share { IfOk result (λ results.
+        IsShareOf J.meaning task.now seat.new results.items) }
 {
     let pass = task.pass.pass();
-    let places = if pass.shows() { task.table.blocks() } else { 0 };
-    spelled.begin(room.alloc(), places as usize)?;
-    let results = work_blocks(&task.table, seat, &pass, room, list, &mut spelled)?;
-    Ok(Share {
-        results: results.into_vec(),
-        spelled,
-    })
+    let results = work_blocks(&task.table, seat, &pass, room, list)?;
+    Ok(results.into_vec())
 }
 
 /// Does a piece of work.
@@ -64,7 +77,7 @@ fn reply_to<J: Job, B: Room>(work: Work<J, B>) -> Reply<J, B>
     requires { IsWork J.meaning J.Covers J.Own J.Fit work.ticket.work
         (arc_value work.task) work.seat }
     ensures ticket { result.ticket ≡ work.ticket }
-    ensures reply { IsReply J.meaning result.ticket.work result.seat result.share }
+    ensures reply { IsReply J.meaning result.ticket.work result.seat result.results }
 {
     let Work {
         ticket,
@@ -74,14 +87,13 @@ fn reply_to<J: Job, B: Room>(work: Work<J, B>) -> Reply<J, B>
     } = work;
     let Bench {
         mut room,
-        spelled,
-        results,
+        results: list,
     } = bench;
-    let share = work_at(&*task, &mut seat, &mut room, results, spelled);
+    let results = work_at(&*task, &mut seat, &mut room, list);
     Reply {
         ticket,
         seat,
-        share,
+        results,
         room,
     }
 }
@@ -127,7 +139,8 @@ pub(crate) fn serve<J: Job, B: Room, G: Gate>(
     }
 }
 
-/// Gives a task to a kept thread, with one of the seat's shares, and says whether it was given.
+/// Gives a task to a kept thread, with one of the seat's shares, and says whether it was given. A
+/// thread that is still at an earlier task gets none, so it is waited for once and not in each pass.
 pub(crate) fn give<J: Job, B: Room>(
     keeper: &mut Keeper<Task<J>, B>,
     line: &mut Line<J, B>,
@@ -144,7 +157,7 @@ pub(crate) fn give<J: Job, B: Room>(
     ensures new { IsNew (view_of seat.new) }
     ensures shares { (view_of seat.old).shares ≤ (view_of seat.new).shares + 1 }
 {
-    if line.works.is_full() {
+    if line.is_busy || line.works.is_full() {
         return false;
     }
     let Ok(theirs) = Arc::try_clone(task) else {
@@ -159,47 +172,81 @@ pub(crate) fn give<J: Job, B: Room>(
         seat: newcomer,
         bench: mem::replace(&mut line.bench, empty),
     };
-    line.works.push(work).is_ok()
+    line.is_busy = line.works.push(work).is_ok();
+    line.is_busy
 }
 
-/// Adds the share that a reply to the task announced last brings. Its seat is joined to the
+/// Adds results to those found, and leaves the memory of their list.
+fn add_results<T: Drop>(
+    found: &mut Vec<T>,
+    mut more: Vec<T>,
+    left: &mut Vec<T>,
+) -> Result<(), OutOfMemory>
+    ensures { OnOk result (found.new.items ≡ found.old.items ++ more.items) }
+{
+    found.append(&mut more)?;
+    *left = more;
+    Ok(())
+}
+
+/// Adds the results that a reply to the task announced last brings. Its seat is joined to the
 /// caller's, and its memory comes back to the bench.
 fn add_reply<J: Job, B: Room>(
     keeper: &mut Keeper<Task<J>, B>,
     bench: &mut Bench<J::Element, J::Part>,
     task: &Task<J>,
     seat: &mut PassSeat,
-    found: &mut Found<J::Element, J::Part>,
+    found: &mut Vec<BlockResult<J::Element, J::Part>>,
     reply: Reply<J, B>,
 ) -> Result<(), OutOfMemory>
     requires announced { keeper.old.work ≡ task.now ∷ [] }
     requires present { reply.ticket.number ≡ keeper.old.number }
-    requires reply { IsReply J.meaning reply.ticket.work reply.seat reply.share }
+    requires reply { IsReply J.meaning reply.ticket.work reply.seat reply.results }
     requires here { IsAt seat.old task.now.table }
-    requires right { AreOf J.meaning task.now found.old.results.items }
-    requires spelled { All (IsSpelledOf J.meaning task.now) found.old.spelled.items }
-    requires share { IsShareOf J.meaning task.now seat.old found.old.results.items }
+    requires right { AreOf J.meaning task.now found.old.items }
+    requires share { IsShareOf J.meaning task.now seat.old found.old.items }
     ensures same { keeper.new ≡ keeper.old }
     ensures seat { IsSameSeat seat.new seat.old }
-    ensures right { OnOk result (AreOf J.meaning task.now found.new.results.items) }
-    ensures spelled { OnOk result (
-        All (IsSpelledOf J.meaning task.now) found.new.spelled.items) }
-    ensures share { OnOk result (
-        IsShareOf J.meaning task.now seat.new found.new.results.items) }
+    ensures right { OnOk result (AreOf J.meaning task.now found.new.items) }
+    ensures share { OnOk result (IsShareOf J.meaning task.now seat.new found.new.items) }
 {
     let Reply {
         ticket,
         seat: other,
-        share,
+        results,
         room,
     } = reply;
-    bench.room = room;
-    let Ok(share) = share else {
+    bench.take_room(room);
+    let Ok(results) = results else {
         return Ok(());
     };
     keeper.check(ticket);
     task.table.join(seat, other);
-    found.add(share, &mut bench.results)
+    add_results(found, results, &mut bench.results)
+}
+
+/// Takes the memory of a reply that came too late: its room, and its results with their blocks.
+fn keep_late<J: Job, B: Room>(bench: &mut Bench<J::Element, J::Part>, reply: Reply<J, B>) {
+    let Reply {
+        ticket: _,
+        seat: _,
+        results,
+        room,
+    } = reply;
+    bench.take_room(room);
+    if let Ok(results) = results {
+        bench.take_results(results);
+    }
+}
+
+/// Takes the memory of all replies that are there, where no pass waits for them.
+pub(crate) fn clear_line<J: Job, B: Room>(line: &mut Line<J, B>) {
+    for _ in 0..MOST_REPLIES {
+        match line.next_reply() {
+            Some(reply) => keep_late(&mut line.bench, reply),
+            None => return,
+        }
+    }
 }
 
 /// Adds what a kept thread has found that has replied to the task announced last, and says whether
@@ -209,32 +256,22 @@ pub(crate) fn take_reply<J: Job, B: Room>(
     line: &mut Line<J, B>,
     task: &Task<J>,
     seat: &mut PassSeat,
-    found: &mut Found<J::Element, J::Part>,
+    found: &mut Vec<BlockResult<J::Element, J::Part>>,
 ) -> Result<bool, OutOfMemory>
     requires announced { keeper.old.work ≡ task.now ∷ [] }
     requires here { IsAt seat.old task.now.table }
-    requires right { AreOf J.meaning task.now found.old.results.items }
-    requires spelled { All (IsSpelledOf J.meaning task.now) found.old.spelled.items }
-    requires share { IsShareOf J.meaning task.now seat.old found.old.results.items }
+    requires right { AreOf J.meaning task.now found.old.items }
+    requires share { IsShareOf J.meaning task.now seat.old found.old.items }
     ensures same { keeper.new ≡ keeper.old }
     ensures seat { IsSameSeat seat.new seat.old }
-    ensures right { IfOk result (λ came. AreOf J.meaning task.now found.new.results.items) }
-    ensures spelled { IfOk result (λ came.
-        All (IsSpelledOf J.meaning task.now) found.new.spelled.items) }
-    ensures share { IfOk result (λ came.
-        IsShareOf J.meaning task.now seat.new found.new.results.items) }
+    ensures right { IfOk result (λ came. AreOf J.meaning task.now found.new.items) }
+    ensures share { IfOk result (λ came. IsShareOf J.meaning task.now seat.new found.new.items) }
 {
-    let Ok(reply) = line.replies.pop() else {
+    let Some(reply) = line.next_reply() else {
         return Ok(false);
     };
     if reply.ticket.number() != keeper.number() {
-        let Reply {
-            ticket: _,
-            seat: _,
-            share: _,
-            room,
-        } = reply;
-        line.bench.room = room;
+        keep_late(&mut line.bench, reply);
         return Ok(false);
     }
     add_reply(keeper, &mut line.bench, task, seat, found, reply)?;

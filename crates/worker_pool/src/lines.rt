@@ -2,30 +2,26 @@
 ghost use Rattle.std.specs.Prelude.{◌≡◌, ◌+◌, ◌<◌, ◌≤◌, ◌^◌, [], ◌∷◌, length, IfOk};
 ghost use Rattle.std.specs.Arc.{arc_value};
 ghost use Rattle.worker_pool.specs.Handles.{view_of, IsAt, IsSameSeat};
-ghost use Rattle.std.specs.List.{All};
-ghost use Rattle.worker_pool.specs.Messages.{IsTask, AreOf, IsSpelledOf, IsShareOf};
+ghost use Rattle.worker_pool.specs.Messages.{IsTask, AreOf, IsShareOf};
 ghost use Rattle.worker_pool.specs.Views.{IsNew, fresh, all_shares};
 
 use crate::gate::Gate;
 use crate::line::{Line, give, take_reply, work_at};
-use crate::messages::Found;
 use crate::seat::PassSeat;
 use crate::task::Task;
 use det_values::OutOfMemory;
 use job_trait::{Job, PassRoom};
-use pass_in_blocks::SpelledBlocks;
+use pass_in_blocks::BlockResult;
 use std::alloc::Global;
 use std::sync::Arc;
-use std::{hint, mem, slice, thread};
+use std::{hint, slice, thread};
 use tickets::{Keeper, Room};
 
-/// The looks for replies after which the caller runs the missing blocks itself: so many, and so
-/// many more for each element of the pass. When it finds no more block to claim, each other worker
-/// is at one block at most, so on a machine with a processor for each this is enough for blocks of
-/// a fifth of a millisecond and more, and on a busy one the caller soon goes on alone.
-const FIRST_LOOKS: u32 = 20_000;
-
-const LOOKS_PER_ELEMENT: u32 = 2;
+/// The looks for replies after which the caller runs the missing blocks itself, which is about a
+/// millisecond. When it finds no more block to claim, each other worker is at one block at most, so
+/// on a machine with a processor for each this is enough for blocks of a fifth of a millisecond and
+/// more, and on a busy one the caller soon goes on alone.
+const MOST_LOOKS: u32 = 20_000;
 
 /// The looks after which the caller lets other threads run once.
 const BUSY_LOOKS: u32 = 8_192;
@@ -66,20 +62,16 @@ fn take_replies<J: Job, B: Room>(
     lines: &mut [Line<J, B>],
     task: &Task<J>,
     seat: &mut PassSeat,
-    found: &mut Found<J::Element, J::Part>,
+    found: &mut Vec<BlockResult<J::Element, J::Part>>,
 ) -> Result<u32, OutOfMemory>
     requires announced { keeper.old.work ≡ task.now ∷ [] }
     requires here { IsAt seat.old task.now.table }
-    requires right { AreOf J.meaning task.now found.old.results.items }
-    requires spelled { All (IsSpelledOf J.meaning task.now) found.old.spelled.items }
-    requires share { IsShareOf J.meaning task.now seat.old found.old.results.items }
+    requires right { AreOf J.meaning task.now found.old.items }
+    requires share { IsShareOf J.meaning task.now seat.old found.old.items }
     ensures same { keeper.new ≡ keeper.old }
     ensures seat { IsSameSeat seat.new seat.old }
-    ensures right { IfOk result (λ came. AreOf J.meaning task.now found.new.results.items) }
-    ensures spelled { IfOk result (λ came.
-        All (IsSpelledOf J.meaning task.now) found.new.spelled.items) }
-    ensures share { IfOk result (λ came.
-        IsShareOf J.meaning task.now seat.new found.new.results.items) }
+    ensures right { IfOk result (λ came. AreOf J.meaning task.now found.new.items) }
+    ensures share { IfOk result (λ came. IsShareOf J.meaning task.now seat.new found.new.items) }
 {
     let mut came = 0u32;
     'each: for line in lines {
@@ -96,26 +88,21 @@ fn collect<J: Job, B: Room>(
     lines: &mut [Line<J, B>],
     task: &Task<J>,
     seat: &mut PassSeat,
-    found: &mut Found<J::Element, J::Part>,
+    found: &mut Vec<BlockResult<J::Element, J::Part>>,
     given: u32,
 ) -> Result<(), OutOfMemory>
     requires announced { keeper.old.work ≡ task.now ∷ [] }
     requires here { IsAt seat.old task.now.table }
-    requires right { AreOf J.meaning task.now found.old.results.items }
-    requires spelled { All (IsSpelledOf J.meaning task.now) found.old.spelled.items }
-    requires share { IsShareOf J.meaning task.now seat.old found.old.results.items }
+    requires right { AreOf J.meaning task.now found.old.items }
+    requires share { IsShareOf J.meaning task.now seat.old found.old.items }
     ensures seat { IsSameSeat seat.new seat.old }
-    ensures right { IfOk result (λ done. AreOf J.meaning task.now found.new.results.items) }
-    ensures spelled { IfOk result (λ done.
-        All (IsSpelledOf J.meaning task.now) found.new.spelled.items) }
-    ensures share { IfOk result (λ done.
-        IsShareOf J.meaning task.now seat.new found.new.results.items) }
+    ensures right { IfOk result (λ done. AreOf J.meaning task.now found.new.items) }
+    ensures share { IfOk result (λ done. IsShareOf J.meaning task.now seat.new found.new.items) }
 {
     let blocks = task.table.blocks() as usize;
-    let elements = task.pass.pass().count() as u32;
     let mut missing = given;
-    'look: for look in 0..FIRST_LOOKS + LOOKS_PER_ELEMENT * elements {
-        if missing == 0 || found.results.len() >= blocks {
+    'look: for look in 0..MOST_LOOKS {
+        if missing == 0 || found.len() >= blocks {
             break;
         }
         let came = take_replies(keeper, lines, task, seat, found)?;
@@ -138,29 +125,22 @@ pub(crate) fn work_together<J: Job, B: Room, G: Gate>(
     seat: &mut PassSeat,
     gate: &G,
     room: &mut PassRoom<J::Element, J::Part>,
-    spelled: &mut SpelledBlocks,
-) -> Result<Found<J::Element, J::Part>, OutOfMemory>
+) -> Result<Vec<BlockResult<J::Element, J::Part>>, OutOfMemory>
     requires room { keeper.old.number < 2 ^ 63 }
     requires few { length lines.old ≤ 63 }
     requires task { IsTask J.meaning J.Covers J.Own J.Fit (arc_value task.now) }
     requires here { IsAt seat.old (arc_value task.now).table }
     requires fresh { view_of seat.old ≡ fresh all_shares }
     ensures seat { IsSameSeat seat.new seat.old }
-    ensures right { IfOk result (λ found.
-        AreOf J.meaning (arc_value task.now) found.results.items) }
-    ensures spelled { IfOk result (λ found.
-        All (IsSpelledOf J.meaning (arc_value task.now)) found.spelled.items) }
+    ensures right { IfOk result (λ found. AreOf J.meaning (arc_value task.now) found.items) }
     ensures share { IfOk result (λ found.
-        IsShareOf J.meaning (arc_value task.now) seat.new found.results.items) }
+        IsShareOf J.meaning (arc_value task.now) seat.new found.items) }
 {
     keeper.announce(slice::from_ref(&**task));
     let given = give_all(keeper, lines, task, seat, gate);
     gate.enter(0);
-    let alloc = room.alloc();
-    let list = Vec::with_capacity(alloc, task.table.blocks() as usize)?;
-    let own = mem::replace(spelled, SpelledBlocks::new(alloc));
-    let share = work_at(&**task, seat, room, list, own)?;
-    let mut found = Found::of(alloc, share)?;
+    let list = Vec::with_capacity(room.alloc(), task.table.blocks() as usize)?;
+    let mut found = work_at(&**task, seat, room, list)?;
     collect(keeper, lines, &**task, seat, &mut found, given)?;
     Ok(found)
 }

@@ -1,6 +1,6 @@
 //! What each step tells the worker that makes it, as the table's steps ask for it.
 ghost use Rattle.std.specs.Prelude.{ℕ};
-ghost use Rattle.worker_pool.specs.Steps.{claims, finishes, looks, reports, tells};
+ghost use Rattle.worker_pool.specs.Steps.{claims, finishes, looks, reports};
 ghost use Rattle.worker_pool.specs.Views.{one_less, newcomer, joined, fresh};
 
 use crate::view::PoolView;
@@ -56,12 +56,6 @@ pub struct Report<B> {
 
 impl<B: Site> Play<(), PoolView> for Report<B> {
     ghost then = { reports B.blocks B.seat B.block };
-}
-
-pub struct Tell;
-
-impl Play<(), PoolView> for Tell {
-    ghost then = { tells };
 }
 
 /// Gives one share to a new seat, and brings two seats together.

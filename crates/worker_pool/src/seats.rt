@@ -1,24 +1,30 @@
 //! How a table begins, and how seats are made, cut and brought together.
 ghost use Rattle.std.specs.Prelude.{◌≡◌, ℕ, ◌+◌, ◌<◌, ◌≤◌, IfOk};
-ghost use Rattle.worker_pool.specs.Views.{one_less, newcomer, joined, fresh, all_shares, Whole};
+ghost use Rattle.worker_pool.specs.Views.{one_less, newcomer, joined, fresh, all_shares};
 ghost use Rattle.worker_pool.specs.Handles.{view_of, block_count, IsAt, IsSameSeat};
 
-use crate::plays::{Shares, Tell};
+use crate::plays::Shares;
 use crate::seat::{PassSeat, PassTable};
 use atomic_table::Table;
 use det_values::OutOfMemory;
 use std::alloc::Global;
 
+/// The words of a table for the most blocks that a pass has.
+const MOST_WORDS: usize = 257;
+
 impl PassTable {
-    /// A table on which nothing is claimed, and the seat with all shares.
+    /// A table on which nothing is claimed, and the seat with all shares. The words that it begins
+    /// with lie on the stack, since the table has a copy of its own.
     pub fn new(alloc: Global, blocks: u32) -> Result<(PassTable, PassSeat), OutOfMemory>
+        requires few { blocks ≤ 256 }
         ensures { IfOk result (λ made.
             (block_count made.0 ≡ blocks) × IsAt made.1 made.0
             × (view_of made.1 ≡ fresh all_shares)) }
     {
-        let mut words = Vec::from_elem(alloc, 0u64, blocks as usize + 1)?;
+        let mut words = [0u64; MOST_WORDS];
         words[0] = u64::MAX;
-        let (table, seat) = Table::of_words(alloc, words.as_slice(), &blocks)?;
+        let first = &words[..blocks as usize + 1];
+        let (table, seat) = Table::of_words(alloc, first, &blocks)?;
         Ok((PassTable { table, blocks }, PassSeat { seat, seen: 0 }))
     }
 
@@ -52,15 +58,5 @@ impl PassTable {
             .shared
             .join_seat::<Shares>(&mut seat.seat, other_seat);
         seat.seen = seat.seen.max(other_seen);
-    }
-
-    /// One load more tells the seat with all shares that it knows the whole pass.
-    pub fn tell(&self, seat: &mut PassSeat)
-        requires here { IsAt seat.old self.now }
-        requires all { (view_of seat.old).shares ≡ all_shares }
-        ensures { IsSameSeat seat.new seat.old × (view_of seat.new ≡ view_of seat.old)
-            × Whole (view_of seat.old) }
-    {
-        self.table.shared.load::<Tell>(&mut seat.seat, 0);
     }
 }

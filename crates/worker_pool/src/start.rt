@@ -5,12 +5,11 @@ ghost use Rattle.worker_pool.specs.Crews.{room_name};
 use crate::bench::Bench;
 use crate::crew::Crew;
 use crate::gate::Gate;
-use crate::line::{Line, serve};
+use crate::line::{Line, MOST_REPLIES, serve};
 use crate::messages::{ReplyFits, WorkFits};
 use crate::room::CrewRoom;
 use det_values::OutOfMemory;
 use job_trait::Job;
-use pass_in_blocks::SpelledBlocks;
 use rtrb::RingBuffer;
 use std::alloc::Global;
 use std::sync::Arc;
@@ -62,7 +61,7 @@ where
 {
     let gate = Arc::try_clone(gate)?;
     let (works, theirs) = RingBuffer::with_protocol::<Global, WorkFits>(alloc, 1)?;
-    let (back, replies) = RingBuffer::with_protocol::<Global, ReplyFits>(alloc, 2)?;
+    let (back, replies) = RingBuffer::with_protocol::<Global, ReplyFits>(alloc, MOST_REPLIES)?;
     let thread = move || serve::<J, B, G>(worker, gate, theirs, back);
     let Ok(handle) = thread::spawn(rt, thread) else {
         return Ok(None);
@@ -71,6 +70,7 @@ where
         works,
         replies,
         bench: Bench::new(alloc),
+        is_busy: false,
     };
     Ok(Some(Started { line, handle }))
 }
@@ -145,7 +145,6 @@ where
             handles,
             workers,
             gate,
-            spelled: SpelledBlocks::new(alloc),
         };
         match begun {
             Ok(()) => Ok(crew),
@@ -164,7 +163,6 @@ where
             handles,
             workers: _,
             gate: _,
-            spelled: _,
         } = self;
         // A thread ends when its line is gone.
         drop(lines);

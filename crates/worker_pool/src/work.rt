@@ -1,8 +1,8 @@
 //! What one worker does.
 ghost use Rattle.std.specs.Prelude.{◌≡◌, [], ◌+◌, ◌<◌, ◌≤◌, ◌⊎◌, IfOk, OnErr, IsTrue};
 ghost use Rattle.job_trait.specs.Passes.{IsReady, block_in, blocks_in};
-ghost use Rattle.pass_in_blocks.specs.Answers.{AreRight};
-ghost use Rattle.pass_in_blocks.specs.Showing.{AreBlocksOf, shown_in};
+ghost use Rattle.pass_in_blocks.specs.Answers.{AreRight, AreShown};
+ghost use Rattle.pass_in_blocks.specs.Showing.{shown_in};
 ghost use Rattle.worker_pool.specs.declared.view.PoolView.{PoolView};
 ghost use Rattle.worker_pool.specs.Handles.{view_of, block_count, IsAt, IsSameSeat};
 ghost use Rattle.worker_pool.specs.Results.{Stops, Tidy, Works};
@@ -11,31 +11,29 @@ ghost use Rattle.worker_pool.specs.Views.{taken, IsNew};
 use crate::seat::{PassSeat, PassTable};
 use det_values::OutOfMemory;
 use job_trait::{Job, PassOf, PassRoom};
-use pass_in_blocks::{BlockResult, BlockResults, SpelledBlocks, run_and_spell};
+use pass_in_blocks::{BlockResult, BlockResults, run_block};
 
-/// Tries the next block, runs and spells it, and says whether to go on. A block above a known
-/// refusal is skipped.
+/// Tries the next block, runs it, and says whether to go on. A block above a known refusal is
+/// skipped.
 fn try_block<J: Job>(
     table: &PassTable,
     seat: &mut PassSeat,
     pass: &PassOf<'_, J>,
     room: &mut PassRoom<J::Element, J::Part>,
     results: &mut BlockResults<J::Element, J::Part>,
-    spelled: &mut SpelledBlocks,
 ) -> Result<bool, OutOfMemory>
     requires here { IsAt seat.old table.now }
     requires ready { IsReady J.meaning J.Covers J.Own J.Fit pass.now }
     requires sized { block_count table.now ≡ blocks_in pass.now }
     requires more { (view_of seat.old).seen < block_count table.now }
     requires so_far { Works (block_in J.meaning pass.now) (view_of seat.old) results.old }
-    requires spelled { AreBlocksOf (shown_in J.meaning pass.now) spelled.old }
+    requires shown { AreShown (shown_in J.meaning pass.now) results.old }
     ensures seat { IsSameSeat seat.new seat.old }
     ensures works { IfOk result (λ go.
         Works (block_in J.meaning pass.now) (view_of seat.new) results.new) }
     ensures seen { IfOk result (λ go. (view_of seat.new).seen ≡ (view_of seat.old).seen + 1) }
     ensures shares { IfOk result (λ go. (view_of seat.new).shares ≡ (view_of seat.old).shares) }
-    ensures spelled { IfOk result (λ go.
-        AreBlocksOf (shown_in J.meaning pass.now) spelled.new) }
+    ensures shown { IfOk result (λ go. AreShown (shown_in J.meaning pass.now) results.new) }
     ensures stops { IfOk result (λ go. ¬ IsTrue go → Stops (view_of seat.new).entries) }
     ensures given_up { OnErr result (view_of seat.new ≡ taken (view_of seat.old)) }
 {
@@ -45,7 +43,7 @@ fn try_block<J: Job>(
     if table.look(seat, block) {
         return Ok(false);
     }
-    let answer = run_and_spell(pass, block, room, spelled)?;
+    let answer = run_block(pass, block, room)?;
     let refused = answer.is_refusal();
     results.push(BlockResult { block, answer })?;
     if refused {
@@ -57,36 +55,35 @@ fn try_block<J: Job>(
     }
 }
 
-/// No results, in the memory of this list.
-fn emptied<E: Drop, P: Drop>(mut list: Vec<BlockResult<E, P>>) -> BlockResults<E, P>
+/// No results, in the memory of this list. It gets room for so many at once; where that is refused
+/// it grows.
+fn emptied<E: Drop, P: Drop>(mut list: Vec<BlockResult<E, P>>, count: usize) -> BlockResults<E, P>
     ensures { result ≡ [] }
 {
     list.clear();
+    let _ = list.reserve(count).is_ok();
     BlockResults::from_vec(list)
 }
 
-/// Claims, runs and spells blocks until each block of the pass was tried, or a refusal is known.
+/// Claims and runs blocks until each block of the pass was tried, or a refusal is known.
 ///
 /// Where memory is short the worker stops with the block Open that it was at, and its results are
-/// lost, and so is what it spelled.
+/// lost.
 pub fn work_blocks<J: Job>(
     table: &PassTable,
     seat: &mut PassSeat,
     pass: &PassOf<'_, J>,
     room: &mut PassRoom<J::Element, J::Part>,
     list: Vec<BlockResult<J::Element, J::Part>>,
-    spelled: &mut SpelledBlocks,
 ) -> Result<BlockResults<J::Element, J::Part>, OutOfMemory>
     requires here { IsAt seat.old table.now }
     requires ready { IsReady J.meaning J.Covers J.Own J.Fit pass.now }
     requires sized { block_count table.now ≡ blocks_in pass.now }
     requires new { IsNew (view_of seat.old) }
-    requires spelled { AreBlocksOf (shown_in J.meaning pass.now) spelled.old }
     ensures seat { IsSameSeat seat.new seat.old }
     ensures right { IfOk result (AreRight (block_in J.meaning pass.now) (blocks_in pass.now)) }
     ensures works { IfOk result (Works (block_in J.meaning pass.now) (view_of seat.new)) }
-    ensures spelled { IfOk result (λ results.
-        AreBlocksOf (shown_in J.meaning pass.now) spelled.new) }
+    ensures shown { IfOk result (AreShown (shown_in J.meaning pass.now)) }
     ensures inside { IfOk result (λ results. (view_of seat.new).seen ≤ block_count table.now) }
     ensures shares { (view_of seat.new).shares ≡ (view_of seat.old).shares }
     ensures all_tried { IfOk result (λ results.
@@ -96,9 +93,9 @@ pub fn work_blocks<J: Job>(
         × Tidy (block_in J.meaning pass.now) before
         × (before.seen < block_count table.now) × (view_of seat.new ≡ taken before)) }
 {
-    let mut results = emptied(list);
+    let mut results = emptied(list, table.blocks() as usize);
     'each: while seat.seen() < table.blocks() {
-        if !try_block(table, seat, pass, room, &mut results, spelled)? {
+        if !try_block(table, seat, pass, room, &mut results)? {
             return Ok(results);
         }
     }

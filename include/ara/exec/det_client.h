@@ -98,8 +98,12 @@ void det_random_in_pass(DetRandom *random, const DetPassKeys *keys, uint32_t ele
 /* ---- Blocks of elements ---- */
 
 /* Block `number` of a container of `len` elements: the elements from `begin` up to `end`, at most
- * 64. False where it has none: then both are `len`, and no later block has any. */
+ * 256. False where it has none: then both are `len`, and no later block has any. */
 bool det_block(uint32_t len, uint32_t number, uint32_t *begin, uint32_t *end);
+
+/* How many blocks a container of `len` elements has: one for each 64 where there are at most 4,096
+ * elements, else one for each 256, and one more for those that are left. */
+uint32_t det_block_count(uint32_t len);
 
 /* ---- Windows of events ----
  *

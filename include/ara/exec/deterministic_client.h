@@ -204,7 +204,7 @@ class DeterministicClient {
     DetPassKeys keys;
     det_pass_keys(&keys, Seed(), Cycle(), passes_++);
     internal::Pass<Runnable, First> pass(runnable, first, count, keys, draws_.data());
-    std::size_t const blocks = (std::size_t{count} + 63) / 64;
+    std::size_t const blocks = det_block_count(count);
     std::size_t const helpers = std::min(crew_->Threads(), std::max(blocks, std::size_t{1}) - 1);
     if (helpers == 0) {
       pass.Work();

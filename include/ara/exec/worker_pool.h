@@ -147,7 +147,7 @@ class Crew {
   std::vector<std::thread> threads_;
 };
 
-/// One pass over the elements that `First` begins. Blocks of 64 are claimed by whoever comes.
+/// One pass over the elements that `First` begins. Blocks are claimed by whoever comes.
 template <typename Runnable, typename First>
 class Pass final : public SharedWork {
  public:

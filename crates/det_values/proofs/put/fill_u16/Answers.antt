@@ -1,5 +1,5 @@
 use Rattle.det_values.proofs.Filling.{filled}
 use Rattle.det_values.proofs.put.fill_u16.Goals as goal
 
-pub returns : goal.returns
-returns c = filled _ _ _ _ c.requires c.to_be_bytes-bytes.ensures
+pub returns-clause-items : goal.returns-clause-items
+returns-clause-items c = filled _ _ _ _ c.requires c.to_be_bytes-bytes.ensures

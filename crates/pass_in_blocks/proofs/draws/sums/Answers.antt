@@ -6,38 +6,32 @@ use Rattle.pass_in_blocks.proofs.draws.sums.Goals as goal
 
 pub block_sums-requires-clause-equal : goal.block_sums-requires-clause-equal
 block_sums-requires-clause-equal c =
-    ap length c.block.ensures ∙ same_takes 64 (64 * c.loop-b.b) c.args.left.now c.args.right.now c.requires.equal
+    ap length c.block.ensures ∙ same_takes 256 (256 * c.loop-b.b) c.args.left.now c.args.right.now c.requires.equal
     ∙ sym (ap length c.block-in-loop-b.ensures)
 
 pub block_sums-requires-clause-left : goal.block_sums-requires-clause-left
 block_sums-requires-clause-left c =
     let Few : ℕ → Type 0 = λ n. n ≤ 458745 in
     subst (λ (l : List ℕ). All Few l) (sym c.block.ensures)
-    (All-take Few 64 (drop (64 * c.loop-b.b) c.args.left.now) (All-drop Few (64 * c.loop-b.b) c.args.left.now c.requires.left))
+    (All-take Few 256 (drop (256 * c.loop-b.b) c.args.left.now) (All-drop Few (256 * c.loop-b.b) c.args.left.now c.requires.left))
 
 pub block_sums-requires-clause-right : goal.block_sums-requires-clause-right
 block_sums-requires-clause-right c =
     let Few : ℕ → Type 0 = λ n. n ≤ 65535 in
     subst (λ (l : List ℕ). All Few l) (sym c.block-in-loop-b.ensures)
-    (All-take Few 64 (drop (64 * c.loop-b.b) c.args.right.now) (All-drop Few (64 * c.loop-b.b) c.args.right.now c.requires.right))
+    (All-take Few 256 (drop (256 * c.loop-b.b) c.args.right.now) (All-drop Few (256 * c.loop-b.b) c.args.right.now c.requires.right))
 
-pub push_block-requires-clause-whole : goal.push_block-requires-clause-whole
-push_block-requires-clause-whole c =
+pub push_block-requires-clause-together : goal.push_block-requires-clause-together
+push_block-requires-clause-together c =
     let f = fits _ _ _ _ _ _ _ c.requires.equal (c.blocks-b-end.ensures.no_more _ c.loop-b-test.true)
     c.block.ensures c.block-in-loop-b.ensures c.loop-b.invariant c.in_ok-block.ensures in
-    (c.loop-b.b, f.before)
+    omega (arith, f.before, f.few)
 
 pub push_block-requires-clause-some : goal.push_block-requires-clause-some
 push_block-requires-clause-some c =
     let f = fits _ _ _ _ _ _ _ c.requires.equal (c.blocks-b-end.ensures.no_more _ c.loop-b-test.true)
     c.block.ensures c.block-in-loop-b.ensures c.loop-b.invariant c.in_ok-block.ensures in
     f.some
-
-pub push_block-requires-clause-few : goal.push_block-requires-clause-few
-push_block-requires-clause-few c =
-    let f = fits _ _ _ _ _ _ _ c.requires.equal (c.blocks-b-end.ensures.no_more _ c.loop-b-test.true)
-    c.block.ensures c.block-in-loop-b.ensures c.loop-b.invariant c.in_ok-block.ensures in
-    f.few
 
 pub push_block-requires-clause-room : goal.push_block-requires-clause-room
 push_block-requires-clause-room c =

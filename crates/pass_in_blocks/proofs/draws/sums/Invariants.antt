@@ -3,4 +3,4 @@ use Rattle.job_trait.specs.Cycle.{added}
 use Rattle.pass_in_blocks.proofs.draws.sums.Given as goal
 
 abbrev pub invariant-loop-b : goal.invariant-loop-b
-invariant-loop-b l = l.sums ≡ added (take (64 * l.b) l.left) (take (64 * l.b) l.right)
+invariant-loop-b l = l.sums ≡ added (take (256 * l.b) l.left) (take (256 * l.b) l.right)

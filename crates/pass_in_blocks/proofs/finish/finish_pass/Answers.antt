@@ -1,72 +1,73 @@
-use Rattle.std.proofs.Common.{rules, ◌≡◌, ◌+◌, ◌*◌, ◌∙◌, [], Ok, length, sym, subst, refl, arith}
-use Rattle.job_trait.specs.Cycle.{shown_with}
-use Rattle.job_trait.specs.Passes.{block_in, drawn_so_far}
+use Rattle.std.proofs.Common.{rules, ◌≡◌, ◌+◌, ◌*◌, ◌≤◌, ◌<◌, ◌∙◌, ◌++◌, Ok, length, ap, sym, subst, refl, arith}
+use Rattle.job_trait.specs.Pass.{block_size}
+use Rattle.job_trait.specs.Passes.{block_in, blocks_of, passed_of}
+use Rattle.job_trait.proofs.Sizes.{begins, covers}
 use Rattle.pass_in_blocks.specs.Answers.{left_by}
-use Rattle.pass_in_blocks.specs.Showing.{AreSpelled, shown_before}
-use Rattle.pass_in_blocks.specs.Steps.{beside, passed_by, CanJoin}
+use Rattle.pass_in_blocks.specs.Showing.{shown_in, frame_before}
+use Rattle.pass_in_blocks.specs.Steps.{beside, first_in, CanJoin}
 use Rattle.pass_in_blocks.proofs.Sound.{can_join, all_answer, next_done, refusal_answer}
-use Rattle.pass_in_blocks.proofs.Shows.{shows_next, shows_all, shown_length}
+use Rattle.pass_in_blocks.proofs.Shows.{frame_none, frame_next, frame_few, frame_all}
 use Rattle.pass_in_blocks.proofs.finish.finish_pass.Goals as goal
 
-pub show_block-requires-clause-inside : goal.show_block-requires-clause-inside
-show_block-requires-clause-inside g c =
-    let q = c.blocks-b-end.ensures.blocks in omega arith
+pub join-init : goal.join-init
+join-init g c = let t = c.args.pass.now in
+    let none_before : block_size (length t.elements) * 0 ≡ 0 = omega arith in record {
+      done = ap (first_in g.J.Job.meaning t) none_before ∙ ap Ok (sym c.in_ok-all.ensures.passed);
+      shown = c.in_ok-all.ensures.shown
+          ∙ sym (frame_none g.met.J.Job.laws t c.requires.ready (passed_of c.in_ok-all.all) c.in_ok-all.ensures.passed);
+      places = search rules;
+    }
 
 pub answer_at-requires-clause-inside : goal.answer_at-requires-clause-inside
-answer_at-requires-clause-inside g c =
-    let q = c.blocks-b-end.ensures.blocks in omega arith
+answer_at-requires-clause-inside g c = omega (arith, c.blocks-b-end.ensures.blocks, c.join-test.true)
 
-pub join_block-requires : goal.join_block-requires
-join_block-requires g c =
-    let q = c.blocks-b-end.ensures.blocks in
-    let d = passed_by c.join.elements c.join.draws c.join.part in
-    subst (λ j. CanJoin g.J.Job.Covers j d (left_by c.in-Done.done)) (sym c.job-job.ensures)
-    (can_join g.met.J.Job.laws c.args.pass.now c.requires.ready c.join.b d c.join.invariant.done (omega arith)
+pub join_block-requires-clause-joins : goal.join_block-requires-clause-joins
+join_block-requires-clause-joins g c =
+    subst (λ j. CanJoin g.J.Job.Covers j (passed_of c.join.all) (left_by c.in-Done.done)) (sym c.job.ensures)
+    (can_join g.met.J.Job.laws c.args.pass.now c.requires.ready c.join.b (passed_of c.join.all) c.join.invariant.done
+    (begins _ _ (omega (arith, c.blocks-b-end.ensures.blocks, c.join-test.true)))
     (left_by c.in-Done.done) (search rules))
+
+pub join_block-requires-clause-shown : goal.join_block-requires-clause-shown
+join_block-requires-clause-shown g c = let t = c.args.pass.now in
+    let came : block_in g.J.Job.meaning t c.join.b ≡ Ok (left_by c.in-Done.done) = search rules in
+    let shown : c.in-Done.done.shown ≡ shown_in g.J.Job.meaning t c.join.b = search rules in
+    omega (
+      arith,
+      ap length c.join.invariant.shown,
+      ap length shown,
+      frame_few g.met.J.Job.laws t c.requires.ready c.join.b
+          (begins _ _ (omega (arith, c.blocks-b-end.ensures.blocks, c.join-test.true)))
+          (left_by c.in-Done.done) came (passed_of c.join.all) c.join.invariant.done,
+    )
 
 pub returns-in-Refused : goal.returns-in-Refused
 returns-in-Refused g c =
-    let q = c.blocks-b-end.ensures.blocks in
-    let d = passed_by c.join.elements c.join.draws c.join.part in
-    refusal_answer g.met.J.Job.laws c.args.pass.now c.requires.ready c.join.b d c.join.invariant.done (omega arith)
+    refusal_answer g.met.J.Job.laws c.args.pass.now c.requires.ready c.join.b (passed_of c.join.all) c.join.invariant.done
+    (begins _ _ (omega (arith, c.blocks-b-end.ensures.blocks, c.join-test.true)))
     c.in-Refused.element c.in-Refused.code (search rules)
 
 pub join-preserved : goal.join-preserved
-join-preserved g c =
-    let q = c.blocks-b-end.ensures.blocks in
-    let d = passed_by c.join.elements c.join.draws c.join.part in
-    let both = passed_by c.join_block.new.elements c.join_block.new.draws c.join_block.new.part in
-    let came : block_in g.J.Job.meaning c.args.pass.now c.join.b ≡ Ok (left_by c.in-Done.done) = search rules in
-    let same : both ≡ beside (g.J.Job.meaning.joined c.args.pass.now.job) d (left_by c.in-Done.done) = search rules in record {
-      done = next_done g.met.J.Job.laws c.args.pass.now c.requires.ready c.join.b d c.join.invariant.done (omega arith)
-          (left_by c.in-Done.done) both came same;
-      shown = λ shows. subst (λ x. AreSpelled (shown_before g.J.Job.meaning c.args.pass.now (64 * (c.join.b + 1)) x.elements x.draws) []
-          c.show_block.new.out.items) (sym same)
-          (shows_next g.met.J.Job.laws c.args.pass.now c.requires.ready c.join.b (omega arith) (left_by c.in-Done.done) came
-          d c.join.shown.items c.show_block.new.out.items c.join.invariant.done (c.join.invariant.shown shows)
-          (c.in_ok-show_block-in-Done.ensures shows));
+join-preserved g c = let t = c.args.pass.now in let d = passed_of c.join.all in let e = left_by c.in-Done.done in
+    let inside = begins _ _ (omega (arith, c.blocks-b-end.ensures.blocks, c.join-test.true)) in
+    let came : block_in g.J.Job.meaning t c.join.b ≡ Ok e = search rules in
+    let shown : c.in-Done.done.shown ≡ shown_in g.J.Job.meaning t c.join.b = search rules in
+    let same : passed_of c.join_block.new.all ≡ beside (g.J.Job.meaning.joined t.job) d e = search rules in record {
+      done = next_done g.met.J.Job.laws t c.requires.ready c.join.b d c.join.invariant.done inside e
+          (passed_of c.join_block.new.all) came same;
+      shown = c.in_ok-join_block-in-Done.ensures.shown
+          ∙ (λ i. c.join.invariant.shown i ++ shown i)
+          ∙ sym (frame_next g.met.J.Job.laws t c.requires.ready c.join.b inside e came d c.join.invariant.done)
+          ∙ ap (λ x. frame_before g.J.Job.meaning t (block_size (length t.elements) * (c.join.b + 1)) x.elements x.draws) (sym same);
       places = search rules;
     }
 
 pub returns : goal.returns
-returns g c = let q = c.blocks-b-end.ensures.blocks in
-    let d = passed_by c.join.elements c.join.draws c.join.part in
-    let laws = g.met.J.Job.laws in let t = c.args.pass.now in
-    let n : length c.join.elements ≡ c.len-count.result = sym c.len-count.ensures.len in
-    all_answer laws t c.requires.ready c.join.b d c.join.invariant.done
-    (record { elements = c.join.elements; draws = c.join.draws; part = c.join.part; shown = c.frame_of.result }) refl (omega arith)
-    (λ shows. c.frame_of.ensures (c.shows.ensures ∙ shows) _
-    (shows_all laws t c.requires.ready d (64 * c.join.b) c.join.invariant.done (omega arith) c.join.shown.items
-    (c.join.invariant.shown shows))
-    (shown_length laws t c.requires.ready d (64 * c.join.b) c.join.invariant.done (omega arith) ∙ n))
-
-pub frame_of-requires-clause-spelled : goal.frame_of-requires-clause-spelled
-frame_of-requires-clause-spelled g c told = let shows = sym c.shows.ensures ∙ told in let q = c.blocks-b-end.ensures.blocks in
-    let d = passed_by c.join.elements c.join.draws c.join.part in
-    let laws = g.met.J.Job.laws in let t = c.args.pass.now in
-    let n : length c.join.elements ≡ c.len-count.result = sym c.len-count.ensures.len in (
-      shown_with g.J.Job.meaning t.job c.join.elements (drawn_so_far t.earlier c.join.draws),
-      shows_all laws t c.requires.ready d (64 * c.join.b) c.join.invariant.done (omega arith) c.join.shown.items
-          (c.join.invariant.shown shows),
-      shown_length laws t c.requires.ready d (64 * c.join.b) c.join.invariant.done (omega arith) ∙ n,
-    )
+returns g c = let t = c.args.pass.now in
+    let all : length t.elements ≤ block_size (length t.elements) * c.join.b =
+    let last : c.join.b ≡ blocks_of (length t.elements) =
+    omega (arith, c.join-test.false, c.join.auto.b-end, c.blocks-b-end.ensures.blocks) in
+    subst (λ b. length t.elements ≤ block_size (length t.elements) * b) (sym last) (covers (length t.elements)) in
+    all_answer g.met.J.Job.laws t c.requires.ready c.join.b (passed_of c.join.all) c.join.invariant.done c.join.all refl all
+    (frame_all g.met.J.Job.laws t c.requires.ready (passed_of c.join.all) (block_size (length t.elements) * c.join.b) all
+    c.join.all.shown c.join.invariant.shown)

@@ -1,8 +1,53 @@
-use Rattle.pass_in_blocks.specs.Showing.{shown_in}
-use Rattle.pass_in_blocks.proofs.Shows.{copied}
+use Rattle.std.proofs.Common.{rules, ◌≡◌, ◌++◌, [], true, if◌then◌else◌, ap, sym, subst, ◌∙◌, arith}
+use Rattle.job_trait.specs.Passes.{block_in}
+use Rattle.job_trait.proofs.Sizes.{begins}
+use Rattle.det_values.specs.Spelling.{spelled_all}
+use Rattle.pass_in_blocks.specs.Showing.{shown_by}
+use Rattle.pass_in_blocks.proofs.Shows.{own_done, some_done, few_elements, block_shown}
 use Rattle.pass_in_blocks.proofs.showing.show_block.Goals as goal
 
-pub returns-in_ok-extend_from_slice-in-Some : goal.returns-in_ok-extend_from_slice-in-Some
-returns-in_ok-extend_from_slice-in-Some g c shows = let shown = shown_in g.J.Job.meaning c.args.pass.now in
-    copied (shown c.args.block) c.in-Some.bytes.now c.args.out.now.items c.extend_from_slice.new.self.items
-    (c.in-Some.ensures shown c.requires.spelled) c.in_ok-extend_from_slice-in-Some.ensures.items
+pub bounds-elements-0 : goal.bounds-elements-0
+bounds-elements-0 g c =
+    some_done g.met.J.Job.laws c.args.pass.now c.requires.ready c.args.block (begins _ _ c.requires.inside) _ c.requires.done.1
+
+pub room_for-requires-clause-few : goal.room_for-requires-clause-few
+room_for-requires-clause-few g c = omega (
+  arith,
+  few_elements g.met.J.Job.laws c.args.pass.now c.requires.ready c.args.block (begins _ _ c.requires.inside) _ c.requires.done.1,
+)
+
+pub overflow_cast-elements : goal.overflow_cast-elements
+overflow_cast-elements g c = omega (
+  arith,
+  few_elements g.met.J.Job.laws c.args.pass.now c.requires.ready c.args.block (begins _ _ c.requires.inside) _ c.requires.done.1,
+)
+
+pub from_spelled-requires-clause-few : goal.from_spelled-requires-clause-few
+from_spelled-requires-clause-few g c = omega (
+  arith,
+  few_elements g.met.J.Job.laws c.args.pass.now c.requires.ready c.args.block (begins _ _ c.requires.inside) _ c.requires.done.1,
+)
+
+pub room_for-requires-clause-own : goal.room_for-requires-clause-own
+room_for-requires-clause-own g c = let t = c.args.pass.now in
+    subst (λ j. g.J.Job.Own j c.index-elements-0.result) (sym c.job.ensures)
+    (subst (g.J.Job.Own t.job) (sym c.index-elements-0.is)
+    (own_done g.met.J.Job.laws t c.requires.ready c.args.block (begins _ _ c.requires.inside) _ c.requires.done.1 0 _
+    (some_done g.met.J.Job.laws t c.requires.ready c.args.block (begins _ _ c.requires.inside) _ c.requires.done.1)))
+
+pub from_spelled-requires-clause-spelled : goal.from_spelled-requires-clause-spelled
+from_spelled-requires-clause-spelled g c = let m = g.J.Job.meaning in let t = c.args.pass.now in (
+  shown_by m t c.args.block (block_in m t c.args.block),
+  c.in_ok-put_done.ensures.bytes ∙ ap (λ old. old ++ spelled_all (shown_by m t c.args.block (block_in m t c.args.block))) c.in_ok-bytes.ensures,
+  block_shown g.met.J.Job.laws t c.requires.ready c.args.block (begins _ _ c.requires.inside) _ c.requires.done.1,
+  c.in_ok-put_done.ensures.fields,
+)
+
+pub returns : goal.returns
+returns g c = let m = g.J.Job.meaning in let t = c.args.pass.now in
+    let told : t.shows ≡ true = search rules in
+    c.from_spelled.ensures (shown_by m t c.args.block (block_in m t c.args.block))
+    (c.in_ok-put_done.ensures.bytes ∙ ap (λ old. old ++ spelled_all (shown_by m t c.args.block (block_in m t c.args.block))) c.in_ok-bytes.ensures)
+    (block_shown g.met.J.Job.laws t c.requires.ready c.args.block (begins _ _ c.requires.inside) _ c.requires.done.1)
+    c.in_ok-put_done.ensures.fields
+    ∙ ap (λ s. if s then shown_by m t c.args.block (block_in m t c.args.block) else []) (sym told)

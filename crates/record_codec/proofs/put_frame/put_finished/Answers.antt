@@ -7,16 +7,6 @@ returns-in_err-put_u32-clause-grows c = c.put_u32.ensures.grows
 pub returns-in_err-put_all_drawn-clause-grows : goal.returns-in_err-put_all_drawn-clause-grows
 returns-in_err-put_all_drawn-clause-grows c = grows_then _ _ _ c.put_u32.ensures.grows c.put_all_drawn.ensures.grows
 
-pub returns-in_err-put_u32-2-clause-grows : goal.returns-in_err-put_u32-2-clause-grows
-returns-in_err-put_u32-2-clause-grows c =
-    grows_then _ _ _ c.put_u32.ensures.grows (grows_then _ _ _ c.put_all_drawn.ensures.grows c.put_u32-2.ensures.grows)
-
-pub returns-in_err-put_slice-clause-grows : goal.returns-in_err-put_slice-clause-grows
-returns-in_err-put_slice-clause-grows c =
-    grows_then _ _ _ c.put_u32.ensures.grows (grows_then _ _ _ c.put_all_drawn.ensures.grows (grows_then _ _ _
-    c.put_u32-2.ensures.grows c.put_slice.ensures.grows))
-
 pub returns-clause-grows : goal.returns-clause-grows
 returns-clause-grows c =
-    grows_then _ _ _ c.put_u32.ensures.grows (grows_then _ _ _ c.put_all_drawn.ensures.grows (grows_then _ _ _
-    c.put_u32-2.ensures.grows c.put_slice.ensures.grows))
+    grows_then _ _ _ c.put_u32.ensures.grows (grows_then _ _ _ c.put_all_drawn.ensures.grows c.put_output.ensures.grows)

@@ -1,8 +1,8 @@
 use Rattle.std.proofs.Common.{◌≡◌, ℕ, ◌<◌, ◌≤◌, List, length, take, arith, length-take}
 use Rattle.std.proofs.lemmas.List.Elements.{All-nil, All-same}
 use Rattle.job_trait.specs.Passes.{block_in, blocks_in}
-use Rattle.pass_in_blocks.specs.Answers.{IsRight}
-use Rattle.pass_in_blocks.specs.Showing.{AreBlocksOf, shown_in}
+use Rattle.pass_in_blocks.specs.Answers.{IsRight, Shows}
+use Rattle.pass_in_blocks.specs.Showing.{shown_in}
 use Rattle.worker_pool.proofs.crew.crew_pass.Goals as goal
 
 few_helpers : {A : Type 0} (n : ℕ) (lines filled : List A) (workers : ℕ) → length filled ≡ length lines → length lines < workers
@@ -27,15 +27,6 @@ finish_pass-requires g c =
       ready = c.requires.ready;
       right = All-same (IsRight (block_in j.meaning t) (blocks_in t)) _ _ c.new.ensures.items
           (All-nil (IsRight (block_in j.meaning t) (blocks_in t)));
-      spelled = All-nil (AreBlocksOf (shown_in j.meaning t));
-    }
-
-pub finish_pass-done-requires : goal.finish_pass-done-requires
-finish_pass-done-requires g c =
-    let j = g.J.Job in
-    let m = j.meaning in
-    record {
-      ready = c.requires.ready;
-      right = c.in_ok-found.ensures.right;
-      spelled = All-same (AreBlocksOf (shown_in m c.args.pass.now)) _ _ c.as_slice.ensures.value c.in_ok-found.ensures.spelled;
+      shown = All-same (λ r. Shows (shown_in j.meaning t r.block) r.answer) _ _ c.new.ensures.items
+          (All-nil (λ r. Shows (shown_in j.meaning t r.block) r.answer));
     }

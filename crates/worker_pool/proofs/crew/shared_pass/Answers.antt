@@ -1,8 +1,9 @@
 use Rattle.std.proofs.Common.{IfOk, ◌∙◌, sym, ap, subst}
 use Rattle.std.specs.List.{All}
+use Rattle.std.proofs.lemmas.Result.{IfOk-weaker}
 use Rattle.job_trait.specs.Passes.{IsReady, block_in, blocks_in}
-use Rattle.pass_in_blocks.specs.Answers.{AreRight}
-use Rattle.pass_in_blocks.specs.Showing.{AreBlocksOf, shown_in}
+use Rattle.pass_in_blocks.specs.Answers.{IsRight, Shows}
+use Rattle.pass_in_blocks.specs.Showing.{shown_in}
 use Rattle.worker_pool.specs.Handles.{IsAt}
 use Rattle.worker_pool.specs.Messages.{IsTask}
 use Rattle.worker_pool.proofs.crew.shared_pass.Goals as goal
@@ -28,9 +29,9 @@ pub returns : goal.returns
 returns g c =
     let m = g.J.Job.meaning in
     let is = ap (λ t. t.pass) c.in-Ok.ensures.ok ∙ c.in_ok-pass.ensures in
+    let right = subst (λ p. IfOk c.work_together.result (λ found. All (λ r. IsRight (block_in m p) (blocks_in p) r
+    × Shows (shown_in m p r.block) r.answer) found.items)) is c.work_together.ensures.right in
     record {
-      right = subst (λ p. IfOk c.work_together.result (λ found. AreRight (block_in m p) (blocks_in p) found.results.items)) is
-          c.work_together.ensures.right;
-      spelled = subst (λ p. IfOk c.work_together.result (λ found. All (AreBlocksOf (shown_in m p)) found.spelled.items)) is
-          c.work_together.ensures.spelled;
+      right = IfOk-weaker c.work_together.result _ _ (λ x h k d lt. (h k d lt).0) right;
+      shown = IfOk-weaker c.work_together.result _ _ (λ x h k d lt. (h k d lt).1) right;
     }

@@ -6,7 +6,7 @@ pub returns-clause-reply : goal.returns-clause-reply
 returns-clause-reply g c =
     let t = c.deref.result.now in
     let same = sym c.deref.ensures in
-    let made = c.work_at-share.ensures in
-    replied g.J.Job.meaning c.args.work.ticket.work t c.work_at-share.new.seat c.work_at-share.result
+    let made = c.work_at-results.ensures in
+    replied g.J.Job.meaning c.args.work.ticket.work t c.work_at-results.new.seat c.work_at-results.result
     (c.requires.same ∙ ap (λ t. t ∷ []) same)
-    (made.seat.0 ∙ c.requires.here ∙ ap (λ t. t.table.table.shared.table_id) same) made.right made.spelled made.share
+    (made.seat.0 ∙ c.requires.here ∙ ap (λ t. t.table.table.shared.table_id) same) made.right made.share

@@ -1,9 +1,10 @@
 use Rattle.std.proofs.Common.{◌∙◌, sym, ap, subst}
 use Rattle.std.proofs.lemmas.List.Elements.{All-same}
 use Rattle.job_trait.specs.Passes.{IsReady, block_in, blocks_in}
-use Rattle.pass_in_blocks.specs.Answers.{IsRight, AreRight}
-use Rattle.pass_in_blocks.specs.Showing.{AreBlocksOf, shown_in}
+use Rattle.pass_in_blocks.specs.Answers.{AreRight, AreShown}
+use Rattle.pass_in_blocks.specs.Showing.{shown_in}
 use Rattle.worker_pool.specs.Handles.{view_of, block_count}
+use Rattle.worker_pool.specs.Messages.{IsOf}
 use Rattle.worker_pool.specs.Results.{Works}
 use Rattle.worker_pool.proofs.Shares.{share_of}
 use Rattle.worker_pool.proofs.line.work_at.Goals as goal
@@ -16,19 +17,15 @@ work_blocks-requires g c =
       ready = subst (λ t. IsReady j.meaning j.Covers j.Own j.Fit t) e c.requires.task.ready;
       sized = c.requires.task.sized ∙ ap blocks_in e;
       new = c.requires.new;
-      spelled = c.in_ok-begin.ensures (shown_in j.meaning c.pass-pass.result);
     }
 
 pub returns-clause-right : goal.returns-clause-right
 returns-clause-right g c =
     let m = g.J.Job.meaning in
-    let t = c.args.task.now.pass in
-    All-same (IsRight (block_in m t) (blocks_in t)) _ _ c.into_vec.ensures
-    (subst (λ p. AreRight (block_in m p) (blocks_in p) c.in_ok-results.results) c.pass-pass.ensures c.in_ok-results.ensures.right)
-
-pub returns-clause-spelled : goal.returns-clause-spelled
-returns-clause-spelled g c =
-    subst (λ p. AreBlocksOf (shown_in g.J.Job.meaning p) c.work_blocks.new.spelled) c.pass-pass.ensures c.in_ok-results.ensures.spelled
+    let right = subst (λ p. AreRight (block_in m p) (blocks_in p) c.in_ok-results.results) c.pass-pass.ensures
+    c.in_ok-results.ensures.right in
+    let shown = subst (λ p. AreShown (shown_in m p) c.in_ok-results.results) c.pass-pass.ensures c.in_ok-results.ensures.shown in
+    All-same (IsOf m c.args.task.now) _ _ c.into_vec.ensures (λ k d lt. (right k d lt, shown k d lt))
 
 pub returns-clause-share : goal.returns-clause-share
 returns-clause-share g c =

@@ -1,6 +1,5 @@
 use Rattle.std.proofs.Common.{◌≡◌}
-use Rattle.std.specs.List.{All}
-use Rattle.worker_pool.specs.Messages.{AreOf, IsSpelledOf, IsShareOf}
+use Rattle.worker_pool.specs.Messages.{AreOf, IsShareOf}
 use Rattle.worker_pool.proofs.lines.collect.Given as goal
 
 abbrev pub invariant-look : goal.invariant-look
@@ -8,7 +7,6 @@ invariant-look g l = record {
   keeper : l.keeper ≡ l.initial.keeper;
   table : l.seat.seat.table_id ≡ l.initial.seat.seat.table_id;
   id : l.seat.seat.id ≡ l.initial.seat.seat.id;
-  right : AreOf g.J.Job.meaning l.task l.found.results.items;
-  spelled : All (IsSpelledOf g.J.Job.meaning l.task) l.found.spelled.items;
-  share : IsShareOf g.J.Job.meaning l.task l.seat l.found.results.items;
+  right : AreOf g.J.Job.meaning l.task l.found.items;
+  share : IsShareOf g.J.Job.meaning l.task l.seat l.found.items;
 }

@@ -1,5 +1,10 @@
 use Rattle.std.proofs.Common.{◌≡◌, ◌<◌, length, true≢false, refl, sym, ◌∙◌, inl, inr, arith}
+use Rattle.std.proofs.lemmas.List.Elements.{All-push, All-same}
 use Rattle.job_trait.specs.Passes.{block_in}
+use Rattle.job_trait.proofs.Sizes.{few_blocks}
+use Rattle.pass_in_blocks.specs.Answers.{Shows}
+use Rattle.pass_in_blocks.specs.declared.answers.BlockResult.{BlockResult}
+use Rattle.pass_in_blocks.specs.Showing.{shown_in}
 use Rattle.worker_pool.specs.declared.view.Mark.TheVariants.{Finished, Reported, Skipped}
 use Rattle.worker_pool.specs.Handles.{view_of}
 use Rattle.worker_pool.proofs.Done.{taken_stands, mark_stands, works_passed, works_skipped, works_marked, room}
@@ -32,8 +37,9 @@ returns-then-look-clause-stops g c goes =
 pub push-requires : goal.push-requires
 push-requires g c =
     let r = room (block_in g.J.Job.meaning c.args.pass.now) (view_of c.args.seat.now) _ c.requires.so_far in
-    let few = c.requires.ready.few in
-    let small : length c.args.results.now < 1024 = omega (arith, r, few) in (omega arith, small)
+    let few = few_blocks (length c.args.pass.now.elements) c.requires.ready.few in
+    let sized = c.requires.sized in let more = c.requires.more in
+    let small : length c.args.results.now < 256 = omega (arith, r, few) in (omega arith, small)
 
 pub report-requires-clause-open : goal.report-requires-clause-open
 report-requires-clause-open g c =
@@ -74,3 +80,11 @@ returns-else-refused-clause-works g c =
     (view_of c.look.new.seat) (view_of c.finish.new.seat) c.in-Some.block _ _ c.in_ok-answer.answer
     c.requires.so_far a.0 a.2 e c.finish.ensures.view c.in_ok-answer.ensures.answer c.in_ok-push.ensures.ok
     (λ same. sym same ∙ sym c.is_refusal-refused.ensures ∙ c.if-refused.false) refl
+
+pub returns-then-refused-clause-shown : goal.returns-then-refused-clause-shown
+returns-then-refused-clause-shown g c = let P : BlockResult _ _ → Type 0 = λ r. Shows (shown_in g.J.Job.meaning c.args.pass.now r.block) r.answer in
+    All-same P _ _ c.in_ok-push.ensures.ok (All-push P _ _ c.requires.shown c.in_ok-answer.ensures.shown)
+
+pub returns-else-refused-clause-shown : goal.returns-else-refused-clause-shown
+returns-else-refused-clause-shown g c = let P : BlockResult _ _ → Type 0 = λ r. Shows (shown_in g.J.Job.meaning c.args.pass.now r.block) r.answer in
+    All-same P _ _ c.in_ok-push.ensures.ok (All-push P _ _ c.requires.shown c.in_ok-answer.ensures.shown)

@@ -18,4 +18,4 @@ returns g c =
     c.as_slice.ensures.value
     ∙ held_block c.self.inside.blocks.items c.args.number c.index.result.now c.self.invariant.0
     (omega (arith, c.requires, ap length c.self.view_is)) c.index.ensures
-    ∙ ap (λ xs. take 64 (drop (64 * c.args.number) xs)) c.self.view_is
+    ∙ ap (λ xs. take 256 (drop (256 * c.args.number) xs)) c.self.view_is

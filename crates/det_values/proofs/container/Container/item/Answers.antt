@@ -8,7 +8,7 @@ pub index-requires : goal.index-requires
 index-requires g c =
     omega (
       arith,
-      in_blocks (held_by c.self.inside.blocks.items) (c.args.index / 64) c.self.invariant.0
+      in_blocks (held_by c.self.inside.blocks.items) (c.args.index / 256) c.self.invariant.0
           (omega (arith, c.requires, ap length c.self.view_is)),
       count_is c.self.inside.blocks (vec_len c.self.inside.blocks) refl,
     )

@@ -3,10 +3,10 @@ use Rattle.det_values.specs.Blocks.{joined, held_by}
 use Rattle.det_values.proofs.Growing.{block_behind}
 use Rattle.det_values.proofs.container.Container.push_block.Goals as goal
 
-pub invariant_of-self : goal.invariant_of-self
-invariant_of-self g c =
-    let h = block_behind c.self.inside.blocks.items c.pushed.new.items.items c.args.block c.requires.whole.0 c.self.invariant.0
-    (ap length c.self.view_is ∙ c.requires.whole.1) c.requires.some c.requires.few c.if-pushed.ensures.yes in (
+pub invariant_of-self-then-pushed : goal.invariant_of-self-then-pushed
+invariant_of-self-then-pushed g c =
+    let h = block_behind c.self.inside.blocks.items c.pushed.new.items.items c.args.block c.if-has_room.ensures.no c.requires.some
+    (omega (arith, c.requires.together)) c.if-pushed.ensures.yes in (
       h.blocks,
       omega (
         arith,
@@ -19,6 +19,6 @@ invariant_of-self g c =
 
 pub returns-then-pushed-clause-ok : goal.returns-then-pushed-clause-ok
 returns-then-pushed-clause-ok g c =
-    let h = block_behind c.self.inside.blocks.items c.pushed.new.items.items c.args.block c.requires.whole.0 c.self.invariant.0
-    (ap length c.self.view_is ∙ c.requires.whole.1) c.requires.some c.requires.few c.if-pushed.ensures.yes in
+    let h = block_behind c.self.inside.blocks.items c.pushed.new.items.items c.args.block c.if-has_room.ensures.no c.requires.some
+    (omega (arith, c.requires.together)) c.if-pushed.ensures.yes in
     h.elements ∙ ap (λ xs. xs ++ c.args.block.items) c.self.view_is

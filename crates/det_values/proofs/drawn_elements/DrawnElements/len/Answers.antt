@@ -1,5 +1,0 @@
-use Rattle.det_values.proofs.FlatReading.{held}
-use Rattle.det_values.proofs.drawn_elements.DrawnElements.len.Goals as goal
-
-pub returns-clause-len : goal.returns-clause-len
-returns-clause-len c = (held _ _ _ c.self.view_is c.self.invariant).1

@@ -1,0 +1,172 @@
+//! A block of the elements of a finished cycle.
+ghost use Rattle.std.specs.Prelude.{◌≡◌, ◌≤◌, ◌<◌, ◌+◌, List, ◌++◌, ◌∷◌, [], length, OnOk, OnErr, IsTrue, ◌↔◌};
+ghost use Rattle.std.specs.List.{All};
+ghost use Rattle.det_values.specs.Spelling.{an_element, spelled_drawn, spelled_all, IsDrawn};
+ghost use Rattle.det_values.specs.declared.frames.DrawnElement.{DrawnElement};
+
+use crate::OutOfMemory;
+use crate::block_walk::BlockWalk;
+use crate::put::put_drawn;
+use crate::undraw::undraw_all;
+use std::alloc::Global;
+use std::marker::Model;
+
+/// The bytes and draws of some elements of a finished cycle, one behind another: at most 65,536
+/// elements of at most 64 bytes each.
+///
+/// They are held as format Two of a record spells them, so that a frame is encoded by a copy for
+/// each block.
+#[derive(Debug, Drop)]
+pub struct DrawnBlock {
+    bytes: Vec<u8>,
+    count: u32,
+}
+
+impl Model for DrawnBlock {
+    ghost use Rattle.std.specs.Prelude.{List};
+    ghost use Rattle.det_values.specs.declared.frames.DrawnElement.{DrawnElement};
+    ghost use Rattle.det_values.specs.Spelling.{elements_in, IsFlat};
+
+    ghost Value = { List DrawnElement };
+
+    ghost view = { λ f. elements_in f.count f.bytes.items };
+
+    ghost invariant = { λ f. IsFlat f.count f.bytes.items };
+}
+
+impl DrawnBlock {
+    ghost use Rattle.det_values.specs.Frames.{all_undrawn};
+
+    /// No elements. It takes no memory.
+    pub fn new(alloc: Global) -> DrawnBlock
+        ensures { result ≡ [] }
+    {
+        DrawnBlock {
+            bytes: Vec::new(alloc),
+            count: 0,
+        }
+    }
+
+    /// No elements, in the memory of some bytes.
+    pub fn in_memory(mut bytes: Vec<u8>) -> DrawnBlock
+        ensures { result ≡ [] }
+    {
+        bytes.clear();
+        DrawnBlock { bytes, count: 0 }
+    }
+
+    /// The number of elements.
+    pub fn len(&self) -> usize
+        ensures len { result ≡ length self.now }
+        ensures most { result ≤ 65536 }
+    {
+        self.count as usize
+    }
+
+    /// Whether there is no element.
+    pub fn is_empty(&self) -> bool
+        ensures { IsTrue result ↔ (length self.now ≡ 0) }
+    {
+        self.len() == 0
+    }
+
+    /// The elements as the record spells them.
+    pub fn spelled(&self) -> &[u8]
+        ensures bytes { result.now ≡ spelled_all self.now }
+        ensures fields { All IsDrawn self.now }
+    {
+        self.bytes.as_slice()
+    }
+
+    /// Adds an element at the end. A refused call changes nothing.
+    pub fn push(&mut self, bytes: &[u8], draws: u32) -> Result<(), OutOfMemory>
+        requires room { length self.old < 65536 }
+        requires short { length bytes.now ≤ 64 }
+        ensures ok { OnOk result (self.new ≡ self.old ++ an_element bytes.now draws ∷ []) }
+        ensures err { OnErr result (self.new ≡ self.old) }
+    {
+        match put_drawn(&mut self.bytes, bytes, draws) {
+            Ok(()) => {
+                self.count += 1;
+                Ok(())
+            }
+            Err(refused) => Err(refused),
+        }
+    }
+
+    /// Removes all elements, and keeps the memory that they took.
+    pub fn clear(&mut self)
+        ensures { self.new ≡ [] }
+    {
+        self.bytes.clear();
+        self.count = 0;
+    }
+
+    /// Adds so many elements that are spelled already, one behind another, by one copy. A refused
+    /// call changes nothing.
+    pub fn extend_spelled(&mut self, spelled: &[u8], count: u32) -> Result<(), OutOfMemory>
+        requires room { length self.old + count ≤ 65536 }
+        requires spelled { (es : List DrawnElement) × (spelled.now ≡ spelled_all es)
+            × (length es ≡ count) × All IsDrawn es }
+        ensures ok { OnOk result ((es : List DrawnElement) → spelled.now ≡ spelled_all es
+            → length es ≡ count → All IsDrawn es → self.new ≡ self.old ++ es) }
+        ensures err { OnErr result (self.new ≡ self.old) }
+    {
+        match self.bytes.extend_from_slice(spelled) {
+            Ok(()) => {
+                self.count += count;
+                Ok(())
+            }
+            Err(_) => Err(OutOfMemory),
+        }
+    }
+
+    /// So many elements that were spelled one behind another. The bytes are moved and not copied.
+    pub fn from_spelled(bytes: Vec<u8>, count: u32) -> DrawnBlock
+        requires few { count ≤ 65536 }
+        requires spelled { (es : List DrawnElement) × (bytes.items ≡ spelled_all es)
+            × (length es ≡ count) × All IsDrawn es }
+        ensures { (es : List DrawnElement) → bytes.items ≡ spelled_all es → length es ≡ count
+            → All IsDrawn es → result ≡ es }
+    {
+        DrawnBlock { bytes, count }
+    }
+
+    /// The bytes, for their memory.
+    pub fn into_bytes(self) -> Vec<u8> {
+        let DrawnBlock { bytes, .. } = self;
+        bytes
+    }
+
+    /// Makes all draws 0.
+    pub fn undraw(&mut self)
+        ensures { self.new ≡ all_undrawn self.old }
+    {
+        undraw_all(self.bytes.as_mut_slice(), self.count);
+    }
+
+    /// The elements, to be taken one after another.
+    pub fn walk(&self) -> BlockWalk<'_>
+        ensures { result ≡ self.now }
+    {
+        BlockWalk {
+            rest: self.bytes.as_slice(),
+            left: self.count,
+        }
+    }
+}
+
+impl PartialEq for DrawnBlock {
+    ghost use Rattle.std.specs.Cmp.Lexicographic.{pointwise};
+    ghost use Rattle.det_values.specs.Equal.{drawn_eq, flat_laws};
+
+    ghost eq = { λ a b. pointwise drawn_eq a b };
+
+    ghost laws = { flat_laws };
+
+    fn eq(&self, other: &DrawnBlock) -> bool {
+        let left = self.bytes.as_slice();
+        let right = other.bytes.as_slice();
+        left == right
+    }
+}
