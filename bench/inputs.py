@@ -81,7 +81,7 @@ def spiky(cycle: int) -> int:
 
 
 def bank(is_quick: bool) -> Recording:
-    return Recording("bank", "bank", [65_536, 2], ["x"], sampled_lines(4 if is_quick else 20, wave))
+    return Recording("bank", "bank", [65_536, 2], ["x"], sampled_lines(4 if is_quick else 60, wave))
 
 
 def moving(name: str, particles: int, cycles: int) -> Recording:
@@ -102,7 +102,7 @@ def large(is_quick: bool) -> Recording:
 def guard(is_quick: bool) -> Recording:
     """A bad sample has all channels corrected in the cycle after it."""
     params = [65_536, -1_000, 1_000, 3, 65_536]
-    return Recording("guard", "guard", params, ["x"], sampled_lines(4 if is_quick else 20, spiky))
+    return Recording("guard", "guard", params, ["x"], sampled_lines(4 if is_quick else 60, spiky))
 
 
 def cycles(is_quick: bool, divisor: int = 1) -> Recording:
