@@ -85,6 +85,19 @@ fn a_block_of_a_kept_thread_is_run_once(rt: HostRuntime) {
     assert!(rt; ended_as_alone(&rt, rt.alloc(), done, &[3; 128]));
 }
 
+/// The caller is held in the second pass of a crew until a kept thread has run all its elements and
+/// has replied: a thread that replied to one pass gets work in the next one.
+#[test]
+fn a_kept_thread_works_in_each_pass(rt: HostRuntime) {
+    let gate = gate_of(&rt, rt.alloc(), 0, Wanted::Rest(128));
+    let first = list_pass(&rt, rt.alloc(), 65536, None, &[3; 128]);
+    let second = watched_pass(&rt, rt.alloc(), &gate, &[5; 128]);
+    let (before, after) = twice(&rt, rt.alloc(), &first, &second, &gate);
+    assert!(rt; gate.came.load(Ordering::SeqCst) && gate.watch.runs.load(Ordering::SeqCst) == 128);
+    assert!(rt; ended_as_alone(&rt, rt.alloc(), before, &[3; 128]));
+    assert!(rt; ended_as_alone(&rt, rt.alloc(), after, &[5; 128]));
+}
+
 /// A kept thread is held at the gate through a whole pass, and let go before the next one. Its
 /// reply to the first pass comes too late, and is no part of the second.
 #[test]
