@@ -1,5 +1,5 @@
 //! Fakes of a reader and of a writer.
-use det_edges::{Sink, SinkFailed, StdSink, read_trying, write_all};
+use det_io::{Sink, SinkFailed, StdSink, read_trying, write_all};
 use std::io::{self, ErrorKind, Read, Write};
 use std::test::Fail;
 

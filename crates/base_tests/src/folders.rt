@@ -1,5 +1,5 @@
 //! Reads of the operating system that fail.
-use det_edges::{DirShelf, Shelf, ShelfFailed, Slots};
+use det_io::{DirShelf, Shelf, ShelfFailed, Slots};
 use std::io::ErrorKind;
 use std::test::Fail;
 

@@ -1,6 +1,6 @@
 //! Pieces that are gathered in front of a sink.
-use det_edges::{FailList, MemSink, SinkFailed};
-use sink_buffer::{Front, Gather, buffer_room};
+use det_io::sink_buffer::{Front, Gather, buffer_room};
+use det_io::{FailList, MemSink, SinkFailed};
 use std::test::Fail;
 
 /// How many pieces of ten bytes a buffer holds. There is room for six more bytes.

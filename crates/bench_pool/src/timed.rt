@@ -3,16 +3,16 @@
 ghost use Rattle.std.specs.Prelude.{◌≡◌, ◌≤◌, length, IfOk, IfSome};
 ghost use Rattle.std.specs.Arc.{arc_value};
 ghost use Rattle.std.specs.List.{All};
-ghost use Rattle.event_cache.specs.Rings.{windows};
-ghost use Rattle.job_trait.specs.Laws.{CoversSome};
-ghost use Rattle.job_trait.specs.Passes.{IsReady};
+ghost use Rattle.job.specs.event_cache.Rings.{windows};
+ghost use Rattle.job.specs.Laws.{CoversSome};
+ghost use Rattle.job.specs.Passes.{IsReady};
 ghost use Rattle.worker_pool.specs.Crews.{room_name};
 
 use anyhow::{Context, Result, bail};
 use det_client::{Client, Next};
 use det_values::{Container, Events, OutOfMemory, Params};
-use event_cache::EventCache;
-use job_trait::{Job, PassRoom, Pool, Started};
+use job::event_cache::EventCache;
+use job::{Job, PassRoom, Pool, Started};
 use std::alloc::Global;
 use std::marker::Brand;
 use std::sync::Arc;

@@ -1,8 +1,8 @@
 -- Slots that keep what they have left.
 use Rattle.std.proofs.Common.{◌≤◌, ℕ, List, refl, ap, ◌∙◌, arith}
 use Rattle.std.specs.Prelude.{Option}
-use Rattle.det_edges.specs.Shelf.{ShelfState, Opens, Reads, SlotsStay}
-use Rattle.det_edges.proofs.Opening.{opens-other, opens-apart}
+use Rattle.det_io.specs.Shelf.{ShelfState, Opens, Reads, SlotsStay}
+use Rattle.det_io.proofs.Opening.{opens-other, opens-apart}
 use Rattle.cli_answers.specs.Slots.{KeepsSlots}
 
 -- a shelf that stays keeps them

@@ -1,10 +1,10 @@
 -- How a run meets an outcome, by its answer, and what follows from that.
 use Rattle.std.proofs.Common.{◌≡◌, ℕ, List, Some, refl, sym, ap, inl, inr}
 use Rattle.std.specs.Prelude.{◌⊎◌}
-use Rattle.det_edges.specs.declared.failure.Failure.{Failure}
-use Rattle.det_edges.specs.declared.failure.Failure.TheVariants as failures
-use Rattle.det_edges.specs.Sink.{Grew, GrewByPrefix}
-use Rattle.det_edges.proofs.Growth.{grew-none, same-none, part-none, part-whole}
+use Rattle.det_io.specs.declared.failure.Failure.{Failure}
+use Rattle.det_io.specs.declared.failure.Failure.TheVariants as failures
+use Rattle.det_io.specs.Sink.{Grew, GrewByPrefix}
+use Rattle.det_io.proofs.Growth.{grew-none, same-none, part-none, part-whole}
 use Rattle.cli_answers.specs.declared.answer.Answer.{Answer}
 use Rattle.cli_answers.specs.declared.answer.Answer.TheVariants.{ReadFault, WriteFault, OutOfMemory}
 use Rattle.cli_answers.specs.Answers.{failed}

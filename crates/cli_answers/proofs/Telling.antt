@@ -2,9 +2,9 @@
 use Rattle.std.proofs.Common.{◌≡◌, ℕ, List, [], ◌++◌, refl}
 use Rattle.std.specs.Prelude.{Option, Some, None, IsSome}
 use Rattle.std.specs.Option.{unwrap_or}
-use Rattle.det_edges.specs.Shelf.{ShelfState, Reads, Opens, IsAtEnd}
-use Rattle.det_edges.proofs.Opening.{opens-left}
-use Rattle.det_edges.proofs.SlotReads.{reads-all, reads-told}
+use Rattle.det_io.specs.Shelf.{ShelfState, Reads, Opens, IsAtEnd}
+use Rattle.det_io.proofs.Opening.{opens-left}
+use Rattle.det_io.proofs.SlotReads.{reads-all, reads-told}
 use Rattle.cli_answers.specs.Outcome.{told}
 
 pub held : (o : Option (List ℕ)) → IsSome o → o ≡ Some (unwrap_or o [])

@@ -2,10 +2,10 @@
 use Rattle.std.specs.Prelude.{ℕ, List, [], ◌++◌, min, map, take, ◌&&◌, nat_le, codes, decimal}
 use Rattle.std.specs.Prelude.{if◌then◌else◌, Option}
 use Rattle.std.specs.Option.{option_map_or}
-use Rattle.det_edges.specs.declared.failure.Failure.{Failure}
-use Rattle.det_edges.specs.declared.failure.Failure.TheVariants as failures
-use Rattle.det_edges.specs.declared.failure.Stopped.{Stopped}
-use Rattle.det_edges.specs.declared.failure.Stopped.TheVariants.{Refused, Failed}
+use Rattle.det_io.specs.declared.failure.Failure.{Failure}
+use Rattle.det_io.specs.declared.failure.Failure.TheVariants as failures
+use Rattle.det_io.specs.declared.failure.Stopped.{Stopped}
+use Rattle.det_io.specs.declared.failure.Stopped.TheVariants.{Refused, Failed}
 use Rattle.manifest.specs.declared.fault.ManifestFault.TheVariants.{TooLong, NotToml, Missing}
 use Rattle.manifest.specs.declared.fault.ManifestFault.TheVariants.{WrongKind, OutOfRange}
 use Rattle.manifest.specs.declared.fault.ManifestFault.TheVariants.{UnknownKey, DuplicateEvent}

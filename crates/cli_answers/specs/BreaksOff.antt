@@ -1,7 +1,7 @@
 -- Where a read of a record failed: what was written is what the bytes give that were read.
 use Rattle.std.specs.Prelude.{◌≡◌, ℕ, ◌⊎◌, List, [], ◌++◌, Some}
-use Rattle.det_edges.specs.Shelf.{ShelfState}
-use Rattle.det_edges.specs.Sink.{Grew}
+use Rattle.det_io.specs.Shelf.{ShelfState}
+use Rattle.det_io.specs.Sink.{Grew}
 use Rattle.cli_answers.specs.Outcome.{told}
 
 -- of the bytes under a name, the first that was opened, these were read, and `out` took what is

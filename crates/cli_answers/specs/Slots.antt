@@ -1,6 +1,6 @@
 -- What a command leaves of a shelf.
 use Rattle.std.specs.Prelude.{◌≡◌, ℕ, ◌<◌}
-use Rattle.det_edges.specs.Shelf.{ShelfState}
+use Rattle.det_io.specs.Shelf.{ShelfState}
 
 -- slots that were given before have left what they had
 abbrev pub KeepsSlots : ShelfState → ShelfState → Type 0

@@ -7,7 +7,7 @@ ghost use Rattle.cli_answers.specs.Answers.{bad_manifest_text, bad_record_text};
 
 use crate::line::Line;
 use crate::status::Status;
-use det_edges::{Failure, Stopped};
+use det_io::{Failure, Stopped};
 use manifest::{Key, KeyTable, ManifestFault, UnknownKey};
 use record_grammar::{Reason, RecordFault};
 

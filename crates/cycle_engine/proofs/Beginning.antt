@@ -3,10 +3,10 @@ use Rattle.std.proofs.Common.{◌≡◌, ℕ, ℤ, ◌+◌, ◌^◌, ◌<◌, �
 use Rattle.std.specs.Prelude.{None, Some, Option, [], if◌then◌else◌}
 use Rattle.std.specs.List.{All}
 use Rattle.det_values.specs.Values.{ProfileValue, EventSpecValue}
-use Rattle.event_cache.specs.Rings.{Rings}
-use Rattle.job_trait.specs.Meaning.{Meaning, Begun}
+use Rattle.job.specs.event_cache.Rings.{Rings}
+use Rattle.job.specs.Meaning.{Meaning, Begun}
 use Rattle.cycle_engine.specs.Frames.{job_of, begun_state, state_of, state_behind}
-use Rattle.element_random.specs.Words.{StandsFor, key}
+use Rattle.det_client.specs.element_random.Words.{StandsFor, key}
 use Rattle.det_client.specs.declared.activation.Activation.{Activation}
 use Rattle.det_client.specs.declared.activation.Activation.TheVariants.{RegisterServices, ServiceDiscovery, Init}
 use Rattle.det_client.specs.declared.activation.Next.TheVariants.{Go}

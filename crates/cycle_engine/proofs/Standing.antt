@@ -11,10 +11,10 @@ use Rattle.det_values.specs.declared.frames.Frame.TheVariants.{Register, Discove
 use Rattle.det_values.specs.declared.frames.Outcome.{Outcome}
 use Rattle.det_values.specs.declared.frames.RunFrame.{RunFrame}
 use Rattle.det_client.specs.State.{next_time}
-use Rattle.event_cache.specs.Windows.{HasSeen, rings_from}
-use Rattle.event_cache.proofs.Rounds.{seen_windows}
-use Rattle.job_trait.specs.Meaning.{Meaning}
-use Rattle.job_trait.specs.Cycle.{State, Done, cycled, outcome_of, state_after}
+use Rattle.job.specs.event_cache.Windows.{HasSeen, rings_from}
+use Rattle.job.proofs.lemmas.event_cache.Rounds.{seen_windows}
+use Rattle.job.specs.Meaning.{Meaning}
+use Rattle.job.specs.Cycle.{State, Done, cycled, outcome_of, state_after}
 use Rattle.cycle_engine.specs.Frames.{first_state, cycle_of, frame_of, state_behind, runs_behind, state_of, runs, samples_of, init_of}
 use Rattle.cycle_engine.specs.Frames.{frames}
 use Rattle.cycle_engine.specs.Engine.{EngineState, StandsFor, IsAfter, next_cycle, next_frame}

@@ -6,12 +6,12 @@ use Rattle.det_values.specs.declared.out_of_memory.OutOfMemory.{OutOfMemory as N
 use Rattle.det_values.specs.declared.frames.Outcome.{Outcome}
 use Rattle.det_values.specs.declared.frames.Outcome.TheVariants as outcomes
 use Rattle.det_values.specs.declared.refused_at.Phase.{Phase}
-use Rattle.job_trait.specs.declared.answers.JobFault.{JobFault}
-use Rattle.job_trait.specs.declared.answers.JobFault.TheVariants as job
-use Rattle.job_trait.specs.Pass.{Passed}
-use Rattle.job_trait.specs.Cycle.{Done, refused_in_pool}
-use Rattle.job_trait.specs.declared.pass.PoolFault.{PoolFault}
-use Rattle.job_trait.specs.declared.pass.PoolFault.TheVariants as pool
+use Rattle.job.specs.declared.answers.JobFault.{JobFault}
+use Rattle.job.specs.declared.answers.JobFault.TheVariants as job
+use Rattle.job.specs.Pass.{Passed}
+use Rattle.job.specs.Cycle.{Done, refused_in_pool}
+use Rattle.job.specs.declared.pass.PoolFault.{PoolFault}
+use Rattle.job.specs.declared.pass.PoolFault.TheVariants as pool
 use Rattle.cycle_engine.specs.declared.fault.CycleFault.{CycleFault}
 use Rattle.cycle_engine.specs.declared.fault.CycleFault.TheVariants.{Refused, OutOfMemory}
 use Rattle.cycle_engine.specs.declared.passes.SoFar.{SoFar}

@@ -14,10 +14,10 @@ use Rattle.det_client.specs.declared.activation.Activation.TheVariants.{ServiceD
 use Rattle.det_client.specs.declared.activation.Activation.TheVariants.{Run, Terminate}
 use Rattle.det_client.specs.Life.{following}
 use Rattle.det_client.specs.State.{State as ClientState, next_time}
-use Rattle.event_cache.specs.Rings.{Rings, windows}
-use Rattle.event_cache.specs.Windows.{HasSeen, next_windows}
-use Rattle.job_trait.specs.Meaning.{Meaning}
-use Rattle.job_trait.specs.Cycle.{State, Done, cycled, outcome_of, state_after}
+use Rattle.job.specs.event_cache.Rings.{Rings, windows}
+use Rattle.job.specs.event_cache.Windows.{HasSeen, next_windows}
+use Rattle.job.specs.Meaning.{Meaning}
+use Rattle.job.specs.Cycle.{State, Done, cycled, outcome_of, state_after}
 use Rattle.cycle_engine.specs.Frames.{job_of, state_of, samples_of}
 
 pub record EngineState (S G E : Type 0) : Type 0 where

@@ -9,9 +9,9 @@ use Rattle.det_values.specs.declared.frames.Frame.{Frame}
 use Rattle.det_values.specs.declared.frames.Frame.TheVariants.{Register, Discover, Init}
 use Rattle.det_values.specs.declared.frames.Frame.TheVariants.{Run, Terminate}
 use Rattle.det_client.specs.State.{next_time}
-use Rattle.event_cache.specs.Windows.{windows_after}
-use Rattle.job_trait.specs.Meaning.{Meaning, Begun}
-use Rattle.job_trait.specs.Cycle.{State, Done, cycled, outcome_of, state_after}
+use Rattle.job.specs.event_cache.Windows.{windows_after}
+use Rattle.job.specs.Meaning.{Meaning, Begun}
+use Rattle.job.specs.Cycle.{State, Done, cycled, outcome_of, state_after}
 
 -- the samples of each input
 abbrev pub samples_of : List CycleInput → List (List SampleValue)

@@ -4,7 +4,7 @@ ghost use Rattle.std.specs.Arc.{arc_value};
 
 use crate::owners::Place;
 use det_values::{Bytes, Container, CycleInput, OutOfMemory, Outcome, RunFrame, Spares};
-use job_trait::{Job, PassRoom};
+use job::{Job, PassRoom};
 use std::alloc::Global;
 use std::marker::Model;
 use std::mem;

@@ -2,12 +2,12 @@
 ghost use Rattle.std.specs.Prelude.{◌≡◌, ◌≤◌, ◌⊎◌, [], length, IfOk};
 ghost use Rattle.std.specs.List.{All};
 ghost use Rattle.std.specs.Arc.{arc_value};
-ghost use Rattle.job_trait.specs.Cycle.{added};
-ghost use Rattle.job_trait.specs.Passes.{drawn_so_far};
+ghost use Rattle.job.specs.Cycle.{added};
+ghost use Rattle.job.specs.Passes.{drawn_so_far};
 
 use crate::desk::Desk;
 use det_values::{Container, OutOfMemory};
-use job_trait::Job;
+use job::Job;
 use pass_in_blocks::sums;
 use std::alloc::Global;
 use std::marker::Model;
@@ -27,7 +27,7 @@ impl Model for Draws {
     ghost use Rattle.std.specs.Prelude.{◌≡◌, ◌≤◌, ◌⊎◌, ℕ, List, [], length};
     ghost use Rattle.std.specs.List.{All};
     ghost use Rattle.std.specs.Arc.{arc_value};
-    ghost use Rattle.job_trait.specs.Passes.{drawn_so_far};
+    ghost use Rattle.job.specs.Passes.{drawn_so_far};
 
     ghost Value = { List ℕ };
 

@@ -4,7 +4,7 @@ ghost use Rattle.cycle_engine.specs.Elements.{with_length};
 
 use det_values::OutOfMemory;
 use det_values::put::fill_u16;
-use job_trait::Job;
+use job::Job;
 
 /// Appends an element's bytes after their number, which is put into its place once it is known. A
 /// refused call may leave some of it.

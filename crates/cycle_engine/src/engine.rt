@@ -7,9 +7,9 @@ ghost use Rattle.det_values.specs.Values.{ProfileValue, SampleValue, EventSpecVa
 ghost use Rattle.det_values.specs.declared.frames.CycleInput.{CycleInput as Input};
 ghost use Rattle.det_values.specs.declared.frames.RunFrame.{RunFrame as Run};
 ghost use Rattle.det_values.specs.Frames.{outcome_in_format};
-ghost use Rattle.event_cache.specs.Rings.{windows};
-ghost use Rattle.event_cache.specs.Windows.{HasSeen, next_windows};
-ghost use Rattle.job_trait.specs.Cycle.{outcome_of, state_after};
+ghost use Rattle.job.specs.event_cache.Rings.{windows};
+ghost use Rattle.job.specs.event_cache.Windows.{HasSeen, next_windows};
+ghost use Rattle.job.specs.Cycle.{outcome_of, state_after};
 ghost use Rattle.cycle_engine.specs.Answers.{IsCycle};
 ghost use Rattle.cycle_engine.specs.Elements.{with_length};
 ghost use Rattle.cycle_engine.specs.Frames.{frame_of, state_of};
@@ -27,8 +27,8 @@ use det_values::{
     Bytes64, Container, CycleInput, Elements, Format, Frame, OutOfMemory, Outcome, Profile,
     RunFrame, Sample, as_format,
 };
-use event_cache::EventCache;
-use job_trait::{Job, Pool};
+use job::event_cache::EventCache;
+use job::{Job, Pool};
 use std::alloc::Global;
 use std::marker::Model;
 use std::mem;

@@ -1,10 +1,10 @@
 //! Why a cycle gives no new state.
 ghost use Rattle.std.specs.Prelude.{◌≡◌, ◌<◌};
-ghost use Rattle.job_trait.specs.Passes.{RefusedBelow};
+ghost use Rattle.job.specs.Passes.{RefusedBelow};
 ghost use Rattle.cycle_engine.specs.Answers.{PoolEnds, JobEnds, FaultOutcome};
 
 use det_values::{OutOfMemory, Outcome, Phase, RefusedAt};
-use job_trait::{JobFault, PoolFault};
+use job::{JobFault, PoolFault};
 
 /// Why a cycle gives no new state.
 #[derive(Clone, Copy, Debug, PartialEq, Eq, Drop)]

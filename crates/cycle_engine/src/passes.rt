@@ -2,17 +2,17 @@
 ghost use Rattle.std.specs.Prelude.{◌≡◌, ℕ, ◌+◌, ◌*◌, ◌<◌, ◌≤◌, ◌⊎◌, [], length, IfOk, IfErr};
 ghost use Rattle.std.specs.List.{All};
 ghost use Rattle.std.specs.Arc.{arc_value};
-ghost use Rattle.job_trait.specs.Cycle.{first_pass, next_pass, all_passes, shown_with};
-ghost use Rattle.job_trait.specs.Laws.{CoversSome};
-ghost use Rattle.job_trait.specs.Pass.{passed};
-ghost use Rattle.job_trait.specs.Passes.{IsPass, RefusedBelow, drawn_so_far};
+ghost use Rattle.job.specs.Cycle.{first_pass, next_pass, all_passes, shown_with};
+ghost use Rattle.job.specs.Laws.{CoversSome};
+ghost use Rattle.job.specs.Pass.{passed};
+ghost use Rattle.job.specs.Passes.{IsPass, RefusedBelow, drawn_so_far};
 ghost use Rattle.cycle_engine.specs.Answers.{ArePasses, left_by};
 
 use crate::desk::Desk;
 use crate::draws::Draws;
 use crate::fault::{CycleFault, in_pool};
 use det_values::{Container, DrawnElements};
-use job_trait::{Job, PassDone, PassOf, PassRoom, Pool, PoolFault};
+use job::{Job, PassDone, PassOf, PassRoom, Pool, PoolFault};
 use std::alloc::Global;
 use std::marker::Model;
 use std::sync::Arc;

@@ -2,14 +2,14 @@
 ghost use Rattle.std.specs.Prelude.{◌≡◌, ◌≤◌, length, Ok, Err, IfOk};
 ghost use Rattle.std.specs.List.{All};
 ghost use Rattle.std.specs.Arc.{arc_value};
-ghost use Rattle.job_trait.specs.Cycle.{all_passes, concluded, shown_with};
+ghost use Rattle.job.specs.Cycle.{all_passes, concluded, shown_with};
 ghost use Rattle.cycle_engine.specs.Answers.{IsCycle, left_by};
 
 use crate::desk::Desk;
 use crate::fault::{CycleFault, in_conclude};
 use crate::passes::{Passes, SoFar};
 use det_values::{Bytes, Container, DrawnElements};
-use job_trait::{Job, Pool};
+use job::{Job, Pool};
 use std::alloc::Global;
 use std::sync::Arc;
 

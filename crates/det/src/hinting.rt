@@ -1,9 +1,9 @@
 //! Lines behind the one line of an answer.
 use cli_words::read_words;
 use det_cli::{Answer, Status};
-use det_edges::{DirShelf, Sink, write_all};
-use hint_text::{Unread, can_reread, help_for, tell, tell_words, unwritten, words_fault};
-use hints::hint_of;
+use det_io::{DirShelf, Sink, write_all};
+use hints_on_files::hint_of;
+use hints_on_words::{Unread, can_reread, help_for, tell, tell_words, unwritten, words_fault};
 use std::alloc::Global;
 use std::io::Error;
 

@@ -6,7 +6,7 @@ mod hinting;
 mod terminal;
 
 use det_cli::{Answer, Host, Status, top};
-use det_edges::{DirShelf, Shelf, Sink, StdSink, write_all};
+use det_io::{DirShelf, Shelf, Sink, StdSink, write_all};
 use hinting::{give_hints, refuse_terminal};
 use probes::{Audience, CountProbe, FirstRefusalProbe, GapProbe, Probe};
 use std::alloc::AllocError;

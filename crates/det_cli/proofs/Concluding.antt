@@ -1,8 +1,8 @@
 -- What a status tells, by the answer that it stands for.
 use Rattle.std.proofs.Common.{◌≡◌, ℕ, List, refl, sym, ap, subst, ◌∙◌, inl, inr}
 use Rattle.std.specs.Prelude.{◌⊎◌, true, Option, Some, None, unwrap_or}
-use Rattle.det_edges.specs.Sink.{Grew}
-use Rattle.det_edges.specs.Shelf.{ShelfState}
+use Rattle.det_io.specs.Sink.{Grew}
+use Rattle.det_io.specs.Shelf.{ShelfState}
 use Rattle.probes.specs.Reports.{AudienceState}
 use Rattle.cli_answers.specs.declared.status.Status.{Status}
 use Rattle.cli_answers.specs.declared.status.Status.TheVariants as statuses

@@ -3,9 +3,9 @@ use Rattle.std.proofs.Common.{◌≡◌, ◌≤◌, ℕ, List, [], ◌∷◌, le
 use Rattle.std.specs.Prelude.{Option, Some, None, IfSome, Bool, true, false, Result, Ok, Err, OnOk}
 use Rattle.std.specs.Prelude.{OnErr, MatchOption}
 use Rattle.std.proofs.lemmas.List.{nil_from_length, length-map}
-use Rattle.det_edges.specs.Shelf.{ShelfState}
-use Rattle.det_edges.specs.Sink.{GrewByPrefix}
-use Rattle.det_edges.proofs.Growth.{grew-none}
+use Rattle.det_io.specs.Shelf.{ShelfState}
+use Rattle.det_io.specs.Sink.{GrewByPrefix}
+use Rattle.det_io.proofs.Growth.{grew-none}
 use Rattle.probes.specs.Reports.{AudienceState}
 use Rattle.cli_answers.specs.declared.answer.Answer.{Answer}
 use Rattle.cli_answers.specs.declared.answer.Answer.TheVariants.{BadWords}
@@ -16,12 +16,12 @@ use Rattle.cli_words.specs.Command.{CommandValue, name_at}
 use Rattle.cli_words.specs.Ranges.{IsInRange}
 use Rattle.record_text.specs.declared.part.ShowPart.{ShowPart}
 use Rattle.record_text.specs.declared.part.ShowPart.TheVariants as parts
-use Rattle.record_show.specs.Showing.{Kept}
-use Rattle.record_show.specs.Ended as showing
-use Rattle.record_show.specs.Ended.{IsGone}
-use Rattle.cmd_salvage.specs.Ended as salvaging
+use Rattle.cmd_records.specs.record_show.Showing.{Kept}
+use Rattle.cmd_records.specs.record_show.Ended as showing
+use Rattle.cmd_records.specs.record_show.Ended.{IsGone}
+use Rattle.cmd_records.specs.salvage_command.Ended as salvaging
 use Rattle.det_cli.specs.Texts.{help_text}
-use Rattle.record_show.specs.Text.{has_reports}
+use Rattle.cmd_records.specs.record_show.Text.{has_reports}
 use Rattle.det_cli.specs.Promise.{Runs, Refuses}
 
 -- a command by its word and its names

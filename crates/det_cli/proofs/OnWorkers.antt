@@ -9,10 +9,10 @@ use Rattle.cli_words.specs.Command.{CommandValue}
 use Rattle.manifest.specs.Values.{ManifestValue}
 use Rattle.cli_answers.specs.declared.answer.BadManifest.{BadManifest}
 use Rattle.cli_answers.specs.Outcome.{Outcome}
-use Rattle.cmd_record.specs.Outcomes.{record_outcome}
-use Rattle.cmd_record.proofs.ByManifest.{recorded_by}
-use Rattle.cmd_chain.specs.Chain.{chain_outcome}
-use Rattle.cmd_chain.specs.Clients.{chained_from}
+use Rattle.cmd_run.specs.record_command.Outcomes.{record_outcome}
+use Rattle.cmd_run.proofs.lemmas.record_command.ByManifest.{recorded_by}
+use Rattle.cmd_run.specs.chain_command.Chain.{chain_outcome}
+use Rattle.cmd_run.specs.chain_command.Clients.{chained_from}
 use Rattle.det_cli.specs.Outcome.{opened_by, outcome_by}
 use Rattle.det_cli.specs.Laws.{on_workers, IsSameOn, DifferInWorkers}
 

@@ -1,15 +1,15 @@
 -- A run of a command that writes a record, over a buffer and then over its sink.
 use Rattle.std.proofs.Common.{◌≡◌, ℕ, ◌≤◌, List, [], true, refl, sym, ap, subst, inl, inr}
 use Rattle.std.specs.Prelude.{◌⊎◌}
-use Rattle.det_edges.specs.Shelf.{ShelfState}
-use Rattle.det_edges.specs.Count.{Rose}
-use Rattle.det_edges.specs.Sink.{Grew, GrewShort}
-use Rattle.det_edges.proofs.Counts.{rose-after, rose-before}
-use Rattle.det_edges.proofs.Growth.{grew-none}
-use Rattle.det_edges.proofs.Opening.{asks-prefix-none}
-use Rattle.det_edges.proofs.Prefixes.{prefix-then, proper-prefix}
-use Rattle.sink_buffer.specs.Front.{TakesFront}
-use Rattle.sink_buffer.proofs.Fronts.{front-all, front-short}
+use Rattle.det_io.specs.Shelf.{ShelfState}
+use Rattle.det_io.specs.Count.{Rose}
+use Rattle.det_io.specs.Sink.{Grew, GrewShort}
+use Rattle.det_io.proofs.Counts.{rose-after, rose-before}
+use Rattle.det_io.proofs.Growth.{grew-none}
+use Rattle.det_io.proofs.Opening.{asks-prefix-none}
+use Rattle.det_io.proofs.Prefixes.{prefix-then, proper-prefix}
+use Rattle.det_io.specs.sink_buffer.Front.{TakesFront}
+use Rattle.det_io.proofs.lemmas.sink_buffer.Fronts.{front-all, front-short}
 use Rattle.probes.specs.Reports.{AudienceState}
 use Rattle.cli_words.specs.declared.table.CommandWord.{CommandWord}
 use Rattle.cli_words.specs.declared.table.CommandWord.TheVariants as words

@@ -1,12 +1,12 @@
 -- What a user may conclude from the exit status of a run of the program, and what stays the same
 -- whatever the number of workers is.
 use Rattle.std.specs.Prelude.{◌≡◌, ℕ, Bool, ◌⊎◌, ◌↔◌, List, [], Option, Some, None, Ok}
-use Rattle.det_edges.specs.Count.{Rose}
-use Rattle.det_edges.specs.Sink.{Grew}
-use Rattle.det_edges.specs.Shelf.{ShelfState}
+use Rattle.det_io.specs.Count.{Rose}
+use Rattle.det_io.specs.Sink.{Grew}
+use Rattle.det_io.specs.Shelf.{ShelfState}
 use Rattle.probes.specs.Reports.{AudienceState}
 use Rattle.manifest.specs.Values.{ManifestValue}
-use Rattle.cmd_setup.specs.Setup.{setup_of}
+use Rattle.run_setup.specs.Setup.{setup_of}
 use Rattle.cli_answers.specs.declared.status.Status.{Status}
 use Rattle.cli_answers.specs.declared.status.Status.TheVariants.{Done, Differs, BadWords}
 use Rattle.cli_answers.specs.declared.status.Status.TheVariants.{BadManifest, BadStimulus}

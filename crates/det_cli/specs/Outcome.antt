@@ -10,21 +10,21 @@ use Rattle.cli_words.specs.declared.table.CommandWord.TheVariants.{Replay, Check
 use Rattle.cli_words.specs.declared.table.CommandWord.TheVariants.{Compare, Vote, Salvage, Chain}
 use Rattle.cli_words.specs.declared.table.CommandWord.TheVariants.{Help, Version}
 use Rattle.cli_words.specs.Command.{CommandValue, name_at, number_in, files_of, part_of}
-use Rattle.record_show.specs.Text.{has_reports}
+use Rattle.cmd_records.specs.record_show.Text.{has_reports}
 use Rattle.probes.specs.Reports.{AudienceState}
-use Rattle.cmd_setup.specs.Setup.{setup_of}
-use Rattle.cmd_record.specs.Outcomes.{demo_outcome, demo_work}
-use Rattle.cmd_record.specs.Outcomes.{record_outcome, record_names, record_work}
-use Rattle.cmd_needs.specs.Needs.{needs_outcome, needs_work}
-use Rattle.cmd_show.specs.Show.{show_outcome}
-use Rattle.cmd_sim.specs.Sim.{sim_outcome}
-use Rattle.cmd_replay.specs.Replay.{replay_outcome}
-use Rattle.cmd_check.specs.Check.{check_outcome}
-use Rattle.cmd_upgrade.specs.Upgrade.{upgrade_outcome}
-use Rattle.cmd_compare.specs.Compare.{compare_outcome}
-use Rattle.cmd_vote.specs.Vote.{vote_outcome, dissent_outcome, vote_work}
-use Rattle.cmd_chain.specs.Chain.{chain_outcome, chain_names}
-use Rattle.cmd_salvage.specs.Salvage.{salvage_outcome, salvage_reports_outcome}
+use Rattle.run_setup.specs.Setup.{setup_of}
+use Rattle.cmd_run.specs.record_command.Outcomes.{demo_outcome, demo_work}
+use Rattle.cmd_run.specs.record_command.Outcomes.{record_outcome, record_names, record_work}
+use Rattle.cmd_run.specs.needs_command.Needs.{needs_outcome, needs_work}
+use Rattle.cmd_records.specs.show_command.Show.{show_outcome}
+use Rattle.cmd_run.specs.sim_command.Sim.{sim_outcome}
+use Rattle.cmd_rerun.specs.replay_command.Replay.{replay_outcome}
+use Rattle.cmd_rerun.specs.check_command.Check.{check_outcome}
+use Rattle.cmd_rerun.specs.upgrade_command.Upgrade.{upgrade_outcome}
+use Rattle.cmd_records.specs.compare_command.Compare.{compare_outcome}
+use Rattle.cmd_records.specs.vote_command.Vote.{vote_outcome, dissent_outcome, vote_work}
+use Rattle.cmd_run.specs.chain_command.Chain.{chain_outcome, chain_names}
+use Rattle.cmd_records.specs.salvage_command.Salvage.{salvage_outcome, salvage_reports_outcome}
 use Rattle.det_cli.specs.declared.texts.TheConstants.{VERSION}
 use Rattle.det_cli.specs.Texts.{help_text}
 

@@ -1,8 +1,8 @@
 -- What the program promises: first of a command's answer, then of an exit status.
 use Rattle.std.specs.Prelude.{◌≡◌, ℕ, MatchBool, MatchOption, true, false, List, []}
-use Rattle.det_edges.specs.Count.{Rose}
-use Rattle.det_edges.specs.Sink.{Grew, GrewByPrefix}
-use Rattle.det_edges.specs.Shelf.{ShelfState, AsksPrefix}
+use Rattle.det_io.specs.Count.{Rose}
+use Rattle.det_io.specs.Sink.{Grew, GrewByPrefix}
+use Rattle.det_io.specs.Shelf.{ShelfState, AsksPrefix}
 use Rattle.probes.specs.Reports.{AudienceState}
 use Rattle.cli_words.specs.declared.table.CommandWord.{CommandWord}
 use Rattle.cli_words.specs.declared.table.CommandWord.TheVariants.{Show, Sim, Check}
@@ -11,13 +11,13 @@ use Rattle.cli_words.specs.Command.{CommandValue, name_at, files_of, number_in, 
 use Rattle.cli_words.specs.Reading.{command_of}
 use Rattle.record_grammar.specs.Record.{items as items_in}
 use Rattle.record_reader.specs.Salvaged.{saved_of}
-use Rattle.record_show.specs.Text.{lines_of}
+use Rattle.cmd_records.specs.record_show.Text.{lines_of}
 use Rattle.record_text.specs.declared.part.ShowPart.TheVariants.{Reports}
-use Rattle.record_show.specs.Ended.{SawFirst}
+use Rattle.cmd_records.specs.record_show.Ended.{SawFirst}
 use Rattle.probes.specs.Shows.{SawRuns}
-use Rattle.cmd_vote.specs.Vote.{VoteBreaksOff}
-use Rattle.cmd_check.specs.Check as checking
-use Rattle.cmd_sim.specs.Sim.{sim_runs}
+use Rattle.cmd_records.specs.vote_command.Vote.{VoteBreaksOff}
+use Rattle.cmd_rerun.specs.check_command.Check as checking
+use Rattle.cmd_run.specs.sim_command.Sim.{sim_runs}
 use Rattle.cli_answers.specs.declared.answer.Answer.{Answer}
 use Rattle.cli_answers.specs.declared.answer.Answer.TheVariants.{Done, BadWords, ReadFault}
 use Rattle.cli_answers.specs.declared.answer.Answer.TheVariants.{OutOfMemory}

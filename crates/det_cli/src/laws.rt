@@ -1,17 +1,17 @@
 //! What follows from the program's promise, and a law of its outcomes. Each is a function that
 //! computes nothing.
 ghost use Rattle.std.specs.Prelude.{◌≡◌, ℕ, Bool, List, Option};
-ghost use Rattle.det_edges.specs.Count.{Rose};
-ghost use Rattle.det_edges.specs.Shelf.{ShelfState};
+ghost use Rattle.det_io.specs.Count.{Rose};
+ghost use Rattle.det_io.specs.Shelf.{ShelfState};
 ghost use Rattle.probes.specs.Reports.{AudienceState};
 ghost use Rattle.cli_answers.specs.declared.status.Status.{Status};
 ghost use Rattle.cli_words.specs.Command.{CommandValue};
-ghost use Rattle.cmd_record.specs.Outcomes.{record_outcome};
-ghost use Rattle.cmd_chain.specs.Chain.{chain_outcome};
+ghost use Rattle.cmd_run.specs.record_command.Outcomes.{record_outcome};
+ghost use Rattle.cmd_run.specs.chain_command.Chain.{chain_outcome};
 ghost use Rattle.det_cli.specs.Laws.{Concludes, IsSameOn, DifferInWorkers};
 ghost use Rattle.det_cli.specs.Promise.{IsPromised};
 
-use det_edges::Sink;
+use det_io::Sink;
 
 /// What a user may conclude from the exit status of a run that keeps the promise of `top`.
 pub fn answers<K: Sink, E: Sink>()
@@ -28,7 +28,7 @@ pub fn answers<K: Sink, E: Sink>()
 /// The number of workers changes no outcome. Two commands that differ only in the number after
 /// `--workers`, or in whether it stands there, open the same names and have the same outcome; and
 /// `record` has the same outcome of two manifests that tell the same but for their workers, as
-/// `chain` has of two pairs of such manifests.
+/// `cmd_run::chain` has of two pairs of such manifests.
 pub fn workers()
     ensures command { (number : Option ℕ) (c : CommandValue) (holds : List ℕ → List ℕ)
         (audience : AudienceState) → IsSameOn number c holds audience }

@@ -268,7 +268,7 @@ Exit statuses:
   6  read fault                9  no majority
 ";
 
-/// `chain`.
+/// `cmd_run::chain`.
 pub const CHAIN: &str = "\
 det chain MANIFEST MANIFEST STIM [--seed N] [--workers W] [--strict]
 

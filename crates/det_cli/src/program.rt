@@ -1,6 +1,6 @@
 //! The whole program.
 ghost use Rattle.std.specs.Prelude.{◌≡◌, true, map, option_map, MatchOption};
-ghost use Rattle.det_edges.specs.Count.{Rose};
+ghost use Rattle.det_io.specs.Count.{Rose};
 ghost use Rattle.cli_answers.specs.Ends.{can_end, writes_alone};
 ghost use Rattle.cli_answers.specs.Outcome.{Meets, text_outcome};
 ghost use Rattle.cli_words.specs.Names.{texts};
@@ -20,14 +20,14 @@ use crate::texts::{USAGE, VERSION};
 use cli_answers::{Answer, Status};
 use cli_words::laws::ranges;
 use cli_words::{Command, CommandWord, Options, read_words};
-use cmd_check::check;
-use cmd_compare::compare;
-use cmd_needs::needs;
-use cmd_salvage::{salvage, salvage_reports};
-use cmd_show::show;
-use cmd_sim::sim;
-use cmd_vote::{vote, vote_dissent};
-use det_edges::{Shelf, Sink, write_all};
+use cmd_records::compare_command::compare;
+use cmd_records::salvage_command::{salvage, salvage_reports};
+use cmd_records::show_command::show;
+use cmd_records::vote_command::{vote, vote_dissent};
+use cmd_rerun::check_command::check;
+use cmd_run::needs_command::needs;
+use cmd_run::sim_command::sim;
+use det_io::{Shelf, Sink, write_all};
 use probes::{Audience, Probe};
 use shipped_crews::Host;
 use std::alloc::Global;
@@ -36,7 +36,7 @@ use worker_pool::Gate;
 
 /// Runs the command that the words give, which are those after the program's name.
 ///
-/// `record`, `demo`, `sim`, `chain`, `replay`, `check` and `upgrade` run their cycles by
+/// `record`, `demo`, `sim`, `cmd_run::chain`, `replay`, `check` and `upgrade` run their cycles by
 /// workers on real threads. Only as many workers run as there are blocks of elements, and one at
 /// least. Each of these passes the gate; a worker beyond them isn't started and passes none.
 /// `show`, `sim`, `check` and `salvage` show the runs that they read or make to the audience.

@@ -1,8 +1,8 @@
 //! The commands that write a record. Its short frames are gathered to long writes.
 ghost use Rattle.std.specs.Prelude.{◌≡◌, ◌≤◌, [], true, IfSome};
 ghost use Rattle.std.specs.Option.{unwrap_or};
-ghost use Rattle.det_edges.specs.Count.{Rose};
-ghost use Rattle.sink_buffer.specs.Front.{TakesFront};
+ghost use Rattle.det_io.specs.Count.{Rose};
+ghost use Rattle.det_io.specs.sink_buffer.Front.{TakesFront};
 ghost use Rattle.manifest.specs.Limits.{IsWorkers};
 ghost use Rattle.cli_words.specs.Command.{command_seen};
 ghost use Rattle.cli_words.specs.Ranges.{IsInRange};
@@ -12,13 +12,13 @@ ghost use Rattle.det_cli.specs.Records.{writes_record};
 
 use cli_answers::Answer;
 use cli_words::{Command, CommandWord, Options};
-use cmd_chain::{ChainTask, chain};
-use cmd_record::{RecordTask, demo, record_stimulus};
-use cmd_replay::replay;
-use cmd_upgrade::upgrade;
-use det_edges::{Shelf, Sink, write_all};
+use cmd_rerun::replay_command::replay;
+use cmd_rerun::upgrade_command::upgrade;
+use cmd_run::chain_command::{ChainTask, chain};
+use cmd_run::record_command::{RecordTask, demo, record_stimulus};
+use det_io::sink_buffer::{Front, Gather, SinkBuffer, Start, buffer_room};
+use det_io::{Shelf, Sink, write_all};
 use shipped_crews::{Host, Workers};
-use sink_buffer::{Front, Gather, SinkBuffer, Start, buffer_room};
 use std::marker::Brand;
 use std::thread::Threads;
 use worker_pool::Gate;

@@ -1,7 +1,7 @@
 -- What a further call does to the list that a client comes from.
 use Rattle.std.proofs.Common.{◌≡◌, ℕ, zero, suc, ◌+◌, List, [], ◌∷◌, ◌++◌, None, Bool, true, false, cond, refl, sym, ap, ◌∙◌, append_assoc}
 use Rattle.std.proofs.Common.{arith, replicate, append-nil}
-use Rattle.element_random.specs.Words.{StandsFor, key}
+use Rattle.det_client.specs.element_random.Words.{StandsFor, key}
 use Rattle.det_client.specs.declared.activation.Activation.{Activation}
 use Rattle.det_client.specs.declared.activation.Activation.TheVariants.{RegisterServices, ServiceDiscovery, Init, Run, Terminate}
 use Rattle.det_client.specs.declared.activation.Next.{Next}

@@ -1,3 +1,4 @@
 pub mod RequestLists
 pub mod CallLists
 pub mod OwnStreams
+pub mod lemmas

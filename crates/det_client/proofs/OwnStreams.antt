@@ -1,6 +1,6 @@
 -- The own stream before and after its first word is drawn.
 use Rattle.std.proofs.Common.{◌≡◌, ℕ, refl, sym, subst, ◌∙◌}
-use Rattle.element_random.specs.Words.{Place, StandsFor}
+use Rattle.det_client.specs.element_random.Words.{Place, StandsFor}
 use Rattle.det_client.specs.State.{beginning}
 
 pub equal_places : (p q : Place) (k n : ℕ) → StandsFor p k n → StandsFor q k n → p ≡ q

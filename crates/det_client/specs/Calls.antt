@@ -1,7 +1,7 @@
 -- What a list of calls makes of a client: the requests that it was given, its seed, and how far its
 -- own stream is.
 use Rattle.std.specs.Prelude.{◌≡◌, ℕ, ◌+◌, List, [], ◌∷◌, ◌++◌, None, if◌then◌else◌, replicate}
-use Rattle.element_random.specs.Words.{key, word}
+use Rattle.det_client.specs.element_random.Words.{key, word}
 use Rattle.det_client.specs.declared.activation.Next.{Next}
 use Rattle.det_client.specs.declared.activation.Next.TheVariants.{Go}
 use Rattle.det_client.specs.State.{State, OwnAt}

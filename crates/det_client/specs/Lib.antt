@@ -2,3 +2,4 @@ pub mod State
 pub mod Life
 pub mod Step
 pub mod Calls
+pub mod element_random

@@ -1,6 +1,6 @@
 -- What a client keeps.
 use Rattle.std.specs.Prelude.{◌≡◌, ℕ, ◌+◌, ◌-◌, ◌^◌, Option, None, Some, if◌then◌else◌, nat_le}
-use Rattle.element_random.specs.Words.{Place, StandsFor, key, state_at}
+use Rattle.det_client.specs.element_random.Words.{Place, StandsFor, key, state_at}
 use Rattle.det_client.specs.declared.activation.Activation.{Activation}
 
 -- the last activation, the time of the cycle that it began, the number of that cycle, and the own

@@ -3,7 +3,7 @@
 ghost use Rattle.std.specs.Prelude.{◌≡◌, ℕ, ◌+◌, ◌^◌, ◌<◌, ◌≤◌, List, [], ◌∷◌, ◌++◌, None, Some};
 ghost use Rattle.std.specs.Prelude.{IfOk, OnErr, MatchResult, false, ◌==◌, if◌then◌else◌};
 ghost use Rattle.std.specs.Prelude.{replicate};
-ghost use Rattle.element_random.specs.Words.{key, word, StandsFor};
+ghost use Rattle.det_client.specs.element_random.Words.{key, word, StandsFor};
 ghost use Rattle.det_client.specs.State.{next_time, OwnAt, SameButSeed, own_place};
 ghost use Rattle.det_client.specs.Life.{Life, answer, cycle_of, time_of, is_stop};
 ghost use Rattle.det_client.specs.Step.{Stepped};
@@ -11,7 +11,7 @@ ghost use Rattle.det_client.specs.Calls.{Call, ComesFrom, seed_of, own_word, res
 ghost use Rattle.det_client.specs.Calls.Call.{waits, reseeds, draws};
 
 use crate::activation::{Activation, Next};
-use element_random::{ElementRandom, key};
+use crate::element_random::{ElementRandom, key};
 use std::marker::Model;
 
 /// No time is known: no cycle runs, its request carried no time, or the time exceeds a `u64`.

@@ -8,6 +8,7 @@
 
 mod activation;
 mod client;
+pub mod element_random;
 
 pub use activation::{Activation, Next};
 pub use client::{Client, MOST_CYCLES, NotAvailable};

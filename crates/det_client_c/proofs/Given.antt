@@ -1,9 +1,9 @@
 -- The one window of a client in C, as the window of the only event of a cache.
 use Rattle.std.proofs.Common.{◌≡◌, ℤ, List, [], ◌∷◌, ◌++◌, refl, ap, arith}
 use Rattle.det_values.specs.Values.{SampleValue, EventSpecValue}
-use Rattle.event_cache.specs.Rings.{Rings, joined, turned}
-use Rattle.event_cache.specs.Windows.{HasSeen, window, rings_from}
-use Rattle.event_cache.proofs.Rounds.{seen_arrived, seen_turned}
+use Rattle.job.specs.event_cache.Rings.{Rings, joined, turned}
+use Rattle.job.specs.event_cache.Windows.{HasSeen, window, rings_from}
+use Rattle.job.proofs.lemmas.event_cache.Rounds.{seen_arrived, seen_turned}
 
 pub arrived_more : (old new : Rings) (value : ℤ) → new ≡ joined old value
     → (spec : EventSpecValue) (rounds : List (List SampleValue)) (arrived : List SampleValue)

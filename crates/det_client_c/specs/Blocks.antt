@@ -1,6 +1,6 @@
 -- The blocks of a container, as large as those of a pass over it.
 use Rattle.std.specs.Prelude.{ℕ, ◌+◌, ◌*◌, min}
-use Rattle.job_trait.specs.Pass.{block_size}
+use Rattle.job.specs.Pass.{block_size}
 
 -- where block n of a container of `len` elements begins
 abbrev pub block_begin : ℕ → ℕ → ℕ

@@ -1,7 +1,7 @@
 -- What C's numbers stand for.
 use Rattle.std.specs.Prelude.{ℕ, ◌==◌, Option, None, Some, Bool, if◌then◌else◌}
-use Rattle.element_random.specs.Words.{Place}
-use Rattle.element_random.specs.declared.PassKeys.{PassKeys}
+use Rattle.det_client.specs.element_random.Words.{Place}
+use Rattle.det_client.specs.declared.element_random.PassKeys.{PassKeys}
 use Rattle.det_client.specs.State.{State}
 use Rattle.det_client.specs.declared.activation.Activation.{Activation}
 use Rattle.det_client.specs.declared.activation.Activation.TheVariants.{RegisterServices}

@@ -5,8 +5,8 @@ use Rattle.det_values.specs.Limits.{IsCapacity}
 use Rattle.det_values.specs.Values.{SampleValue, EventSpecValue}
 use Rattle.det_values.specs.declared.event.Policy.{Policy}
 use Rattle.det_values.specs.declared.event.Policy.TheVariants.{Last, Fresh}
-use Rattle.event_cache.specs.Rings.{Rings}
-use Rattle.event_cache.specs.Windows.{HasSeen}
+use Rattle.job.specs.event_cache.Rings.{Rings}
+use Rattle.job.specs.event_cache.Windows.{HasSeen}
 use Rattle.det_client_c.specs.declared.window.DetWindow.{DetWindow}
 
 -- the policy of a number

@@ -2,11 +2,11 @@
 
 ghost use Rattle.std.specs.Prelude.{◌≡◌, ℕ, ◌+◌, ◌-◌, ◌*◌, ◌/◌, ◌<◌, ◌≤◌, ◌↔◌, min, IsTrue, List};
 ghost use Rattle.std.specs.Prelude.{length, take, drop};
-ghost use Rattle.job_trait.specs.Pass.{block_size, block, taken, nothing};
-ghost use Rattle.job_trait.specs.Passes.{blocks_of};
+ghost use Rattle.job.specs.Pass.{block_size, block, taken, nothing};
+ghost use Rattle.job.specs.Passes.{blocks_of};
 ghost use Rattle.det_client_c.specs.Blocks.{block_begin, block_end};
 
-use job_trait::{Job, block_size};
+use job::{Job, block_size};
 
 /// Each element is in the block of its number divided by the size of blocks, and in no other one.
 pub fn each_element_once()

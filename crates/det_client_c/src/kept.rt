@@ -5,8 +5,8 @@ ghost use Rattle.det_client.specs.Calls.{Call, ComesFrom};
 ghost use Rattle.det_client_c.specs.Kept.{number_of, last_of_number, time_of_parts, state_of};
 ghost use Rattle.det_client_c.specs.Kept.{next_of};
 
+use det_client::element_random::ElementRandom;
 use det_client::{Activation, Client, Next};
-use element_random::ElementRandom;
 
 /// A stream of random words, as C keeps it.
 #[repr(C)]

@@ -2,11 +2,11 @@
 
 ghost use Rattle.std.specs.Prelude.{◌≡◌, ℕ, ◌+◌};
 ghost use Rattle.rand_xoshiro.specs.Xoshiro256.{next_state, plus_plus};
-ghost use Rattle.element_random.specs.Words.{key, word, state_at, AreKeysOf, StandsFor};
+ghost use Rattle.det_client.specs.element_random.Words.{key, word, state_at, AreKeysOf, StandsFor};
 ghost use Rattle.det_client_c.specs.Kept.{place_of, keys_of};
 
 use crate::kept::{DetPassKeys, DetRandom};
-use element_random::{PassKeys, key};
+use det_client::element_random::{PassKeys, key};
 use rand_core::SeedableRng;
 use rand_core::utils::NextWord;
 use rand_xoshiro::SplitMix64;

@@ -8,8 +8,8 @@ ghost use Rattle.std.specs.Prelude.{length, take, drop, IsTrue, false, ◌==◌,
 ghost use Rattle.circular_buffer.specs.Buffer.{keep_last};
 ghost use Rattle.det_values.specs.Limits.{IsCapacity, IsSampleValue};
 ghost use Rattle.det_values.specs.Values.{SampleValue, EventSpecValue};
-ghost use Rattle.event_cache.specs.Rings.{joined, turned};
-ghost use Rattle.event_cache.specs.Windows.{window as shown};
+ghost use Rattle.job.specs.event_cache.Rings.{joined, turned};
+ghost use Rattle.job.specs.event_cache.Windows.{window as shown};
 ghost use Rattle.det_client_c.specs.Windows.{policy_of, rings_of, FitsIn, WasGiven};
 
 /// The window of an event, as C keeps it.

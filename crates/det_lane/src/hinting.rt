@@ -1,7 +1,7 @@
 //! Lines behind the one line of an answer.
-use det_edges::Sink;
-use hint_text::{Help, Shown, WordKind, WordsFault, misplaced, tell, tell_words, unwritten};
-use lane_cli::LaneStatus;
+use det_io::Sink;
+use hints_on_words::{Help, Shown, WordKind, WordsFault, misplaced, tell, tell_words, unwritten};
+use lane::LaneStatus;
 use std::io::Error;
 
 /// What the words of a lane are.

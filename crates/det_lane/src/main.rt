@@ -4,10 +4,10 @@
 
 mod hinting;
 
-use children::{ChildShelf, ProcessSpawner};
-use det_edges::{Sink, StdSink, write_all};
+use det_io::{Sink, StdSink, write_all};
 use hinting::give_hints;
-use lane_cli::{LaneAnswer, LaneStatus, lane_top};
+use lane::child_processes::{ChildShelf, ProcessSpawner};
+use lane::{LaneAnswer, LaneStatus, lane_top};
 use std::alloc::AllocError;
 use std::env;
 use std::io::ErrorKind;

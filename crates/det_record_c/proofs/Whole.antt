@@ -9,7 +9,7 @@ use Rattle.record_grammar.specs.declared.item.Item.{Item}
 use Rattle.record_grammar.specs.declared.item.Item.TheVariants as items
 use Rattle.record_grammar.specs.Places.{after, layout_of}
 use Rattle.record_grammar.specs.Laws.{MayStand, AreItems, items_spelling}
-use Rattle.record_laws.proofs.Order.{in_order}
+use Rattle.record_grammar.proofs.lemmas.record_laws.Order.{in_order}
 use Rattle.det_record_c.specs.Statements.{IsWholeRecord, WholeRecord}
 
 -- ---- items behind a header are frames

@@ -1,8 +1,8 @@
 //! Lines behind the one line of an answer.
 use crate::misfit::words_fault;
-use det_edges::{DirShelf, Shelf, Sink};
-use hint_text::{Help, Unread, can_reread, tell, tell_words, unwritten};
-use hints::{Hint, events_of, manifest_hint, short_stimulus_hint};
+use det_io::{DirShelf, Shelf, Sink};
+use hints_on_files::{Hint, events_of, manifest_hint, short_stimulus_hint};
+use hints_on_words::{Help, Unread, can_reread, tell, tell_words, unwritten};
 use std::alloc::Global;
 use std::io::Error;
 use twin_cli::{TwinCommand, TwinStatus, Twins};

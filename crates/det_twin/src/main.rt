@@ -5,7 +5,7 @@
 mod hinting;
 mod misfit;
 
-use det_edges::{DirShelf, Sink, StdSink, write_all};
+use det_io::{DirShelf, Sink, StdSink, write_all};
 use hinting::give_hints;
 use std::alloc::AllocError;
 use std::env;

@@ -1,6 +1,6 @@
 //! At which word the words of `det_twin` stop being twins.
 use cli_words::number_of;
-use hint_text::{Shown, WordKind, WordsFault, misplaced};
+use hints_on_words::{Shown, WordKind, WordsFault, misplaced};
 
 /// What the words of twins are, before their options.
 const KINDS: [WordKind; 3] = [

@@ -1,5 +1,6 @@
 //! A list in blocks that are moved and never copied.
-ghost use Rattle.std.specs.Prelude.{◌≡◌, ℕ, ◌≤◌, ◌<◌, ◌+◌, ◌*◌, ◌%◌, ◌++◌, ◌∷◌, [], length, take, drop};
+ghost use Rattle.std.specs.Prelude.{◌≡◌, ℕ, ◌≤◌, ◌<◌, ◌+◌, ◌*◌, ◌%◌, ◌++◌, ◌∷◌, [], length, take};
+ghost use Rattle.std.specs.Prelude.{drop};
 ghost use Rattle.std.specs.Prelude.{slice_index_or, OnOk, OnErr, IfOk, IsTrue, ◌↔◌};
 ghost use Rattle.det_values.specs.Blocks.{joined, AreBlocks, held_by};
 

@@ -6,16 +6,16 @@ use Rattle.std.specs.List.{All}
 use Rattle.std.specs.Int.{w64, rotate_left, from_be_bytes}
 use Rattle.std.proofs.lemmas.Nat.{from_be_bytes-to_be_bytes_8}
 use Rattle.std.proofs.lemmas.List.FromFn.{length-map-range_with_len}
-use Rattle.element_random.specs.Words.{word}
-use Rattle.job_trait.specs.declared.answers.Concluded.{Concluded}
-use Rattle.job_trait.specs.Meaning.{Worked}
-use Rattle.job_trait.specs.Laws.{JobLaws, CoversBoth}
+use Rattle.det_client.specs.element_random.Words.{word}
+use Rattle.job.specs.declared.answers.Concluded.{Concluded}
+use Rattle.job.specs.Meaning.{Worked}
+use Rattle.job.specs.Laws.{JobLaws, CoversBoth}
 use Rattle.job_shared.specs.Bytes.{u64_bytes}
 use Rattle.job_shared.proofs.Answered.{ok_same}
 use Rattle.job_shared.proofs.Made.{made_all}
 use Rattle.job_heavy.specs.declared.heavy.Heavy.{Heavy}
 use Rattle.job_heavy.specs.declared.state.State.{State}
-use Rattle.job_heavy.specs.declared.job.NoGlobals.{NoGlobals}
+use Rattle.job_heavy.specs.declared.cycle.NoGlobals.{NoGlobals}
 use Rattle.job_heavy.specs.Meaning.{meaning, first_state, first_states, folded}
 use Rattle.job_heavy.specs.Ranges.{Own, Fit, IsCountOf, Covers}
 

@@ -1,7 +1,7 @@
 //! How many elements ran.
 
 ghost use Rattle.std.specs.Prelude.{◌≡◌, ◌+◌, IfOk};
-ghost use Rattle.job_trait.specs.Laws.{CoverTogether, CoversBoth};
+ghost use Rattle.job.specs.Laws.{CoverTogether, CoversBoth};
 ghost use Rattle.job_heavy.specs.Meaning.{output};
 ghost use Rattle.job_heavy.specs.Ranges.{IsCountOf};
 

@@ -2,8 +2,8 @@
 
 ghost use Rattle.std.specs.Prelude.{◌≡◌, ◌≤◌, MatchResult, None, Some};
 
+use job::BadParam;
 use job_shared::{natural_param, no_more};
-use job_trait::BadParam;
 
 /// A heavy job, by its parameter and the number of events, which it never reads.
 #[derive(Debug, Drop)]

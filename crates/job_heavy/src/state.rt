@@ -4,13 +4,13 @@ ghost use Rattle.std.specs.Prelude.{◌≡◌, ◌+◌, ◌<◌, ℕ, ◌≤◌,
 ghost use Rattle.std.specs.Vec.{vec_capacity, vec_len};
 ghost use Rattle.std.specs.List.{All};
 ghost use Rattle.det_values.specs.Spelling.{Grows};
-ghost use Rattle.element_random.specs.Words.{StandsFor};
+ghost use Rattle.det_client.specs.element_random.Words.{StandsFor};
 ghost use Rattle.job_heavy.specs.Meaning.{folded, first_states, shown};
 ghost use Rattle.job_heavy.specs.Ranges.{Own};
 
 use crate::Heavy;
+use det_client::element_random::ElementRandom;
 use det_values::{Container, OutOfMemory};
-use element_random::ElementRandom;
 use std::alloc::Global;
 
 /// An element: what the words that it drew were folded into.

@@ -6,7 +6,7 @@ use Rattle.std.specs.List.{All}
 use Rattle.std.proofs.lemmas.List.{length-map, map_more, take_all}
 use Rattle.std.proofs.lemmas.List.Elements.{All-nil, All-cons, All-head, All-tail, All-same}
 use Rattle.det_values.specs.Limits.{IsSampleValue}
-use Rattle.event_cache.specs.Windows.{AreWindows}
+use Rattle.job.specs.event_cache.Windows.{AreWindows}
 use Rattle.job_shared.specs.Samples.{newest_in, newest, all_newest, sample_of, IsSample, AreSamples}
 
 get_ok : (w : List ℤ) (i : ℕ) → All IsSampleValue w → IsSample (slice_get w i)

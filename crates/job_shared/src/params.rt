@@ -4,7 +4,7 @@ ghost use Rattle.std.specs.Prelude.{◌≡◌, ◌<◌, ◌≤◌, ◌^◌, leng
 ghost use Rattle.std.specs.Prelude.{IfOk, OnOk, IfErr};
 ghost use Rattle.job_shared.specs.Params.{param, is_param, natural_param};
 
-use job_trait::BadParam;
+use job::BadParam;
 
 /// The parameter at an index, where it is there and from `low` to `high`.
 pub fn whole_param(params: &[i64], index: u8, low: i64, high: i64) -> Result<i64, BadParam>

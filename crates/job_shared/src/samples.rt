@@ -1,11 +1,11 @@
 //! The newest samples of events.
 
 ghost use Rattle.std.specs.Prelude.{◌≡◌, ℕ, ◌≤◌, [], length, IfOk};
-ghost use Rattle.event_cache.specs.Rings.{windows};
+ghost use Rattle.job.specs.event_cache.Rings.{windows};
 ghost use Rattle.job_shared.specs.Samples.{newest, all_newest, sample_of, AreSamples, IsSample};
 
 use det_values::{Limited, OutOfMemory};
-use event_cache::EventCache;
+use job::event_cache::EventCache;
 use std::alloc::Global;
 
 /// The newest sample of each event, where it has one.

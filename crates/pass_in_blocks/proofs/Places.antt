@@ -4,7 +4,7 @@ use mathlib.Core.Logic.{dite}
 use native.Mathlib.Decide.{ℕ_discrete}
 use Rattle.std.proofs.lemmas.List.{get_or-set_same, get_or-set_other}
 use Rattle.det_values.specs.declared.frames.DrawnElement.{DrawnElement}
-use Rattle.job_trait.specs.Pass.{Passed, Refusal}
+use Rattle.job.specs.Pass.{Passed, Refusal}
 use Rattle.pass_in_blocks.specs.declared.answers.BlockAnswer.{BlockAnswer}
 use Rattle.pass_in_blocks.specs.Steps.{IsPlace, ArePlaces}
 

@@ -2,12 +2,12 @@
 use Rattle.std.proofs.Common.{◌≡◌, ℕ, ◌+◌, ◌*◌, ◌≤◌, List, [], ◌∷◌, ◌++◌, length, take, drop, Result, Ok, Err, append_assoc}
 use Rattle.std.proofs.Common.{sym, refl, ap, ◌∙◌, arith, length-take, take-add}
 use Rattle.std.proofs.lemmas.List.{take-append-drop}
-use Rattle.element_random.specs.Words.{key}
-use Rattle.job_trait.specs.Meaning.{Meaning, Worked}
-use Rattle.job_trait.specs.Laws.{JobLaws}
-use Rattle.job_trait.specs.Pass.{Passed, Refusal, block_size, in_block, more}
-use Rattle.job_trait.specs.Passes.{PassValue, pass_of, block_in}
-use Rattle.job_trait.proofs.Sizes.{next_begins}
+use Rattle.det_client.specs.element_random.Words.{key}
+use Rattle.job.specs.Meaning.{Meaning, Worked}
+use Rattle.job.specs.Laws.{JobLaws}
+use Rattle.job.specs.Pass.{Passed, Refusal, block_size, in_block, more}
+use Rattle.job.specs.Passes.{PassValue, pass_of, block_in}
+use Rattle.job.proofs.Sizes.{next_begins}
 use Rattle.pass_in_blocks.specs.Steps.{passed_by, beside, none_in, added_to, first_in}
 
 append_nil : {A : Type 0} (es : List A) → es ++ [] ≡ es

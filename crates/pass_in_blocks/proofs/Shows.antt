@@ -8,12 +8,12 @@ use Rattle.std.proofs.Math.Seq.{take-add}
 use Rattle.std.proofs.lemmas.List.{take_all}
 use Rattle.std.proofs.lemmas.List.Elements.{All-take, All-drop}
 use Rattle.det_values.specs.declared.frames.DrawnElement.{DrawnElement}
-use Rattle.job_trait.specs.Meaning.{Meaning}
-use Rattle.job_trait.specs.Laws.{JobLaws}
-use Rattle.job_trait.specs.Pass.{Passed, block_size, in_block}
-use Rattle.job_trait.specs.Cycle.{added, shown_with}
-use Rattle.job_trait.specs.Passes.{PassValue, IsReady, block_in, drawn_so_far}
-use Rattle.job_trait.proofs.Sizes.{next_begins, some, few}
+use Rattle.job.specs.Meaning.{Meaning}
+use Rattle.job.specs.Laws.{JobLaws}
+use Rattle.job.specs.Pass.{Passed, block_size, in_block}
+use Rattle.job.specs.Cycle.{added, shown_with}
+use Rattle.job.specs.Passes.{PassValue, IsReady, block_in, drawn_so_far}
+use Rattle.job.proofs.Sizes.{next_begins, some, few}
 use Rattle.pass_in_blocks.specs.Showing.{AreSpelled, shown_before, shown_by, shown_in, frame_before}
 use Rattle.pass_in_blocks.specs.Steps.{none_in, first_in}
 use Rattle.pass_in_blocks.proofs.Adding.{added-append, length-added, same_takes}

@@ -4,17 +4,17 @@ use Rattle.std.proofs.Common.{refl, sym, ap, ◌∙◌, subst, arith, length-app
 use Rattle.std.specs.List.{All}
 use Rattle.std.proofs.lemmas.List.{take_all}
 use Rattle.std.proofs.lemmas.List.Elements.{All-nil, All-head, All-tail, All-push, All-same, All-take, All-drop}
-use Rattle.element_random.specs.Words.{key}
-use Rattle.job_trait.specs.declared.pass.PassDone.{PassDone}
-use Rattle.job_trait.specs.declared.pass.PoolFault.{PoolFault}
-use Rattle.job_trait.specs.declared.pass.PoolFault.TheVariants.{Refused, OutOfMemory}
-use Rattle.job_trait.specs.Meaning.{Meaning, Worked}
-use Rattle.job_trait.specs.Laws.{JobLaws}
-use Rattle.job_trait.specs.Pass.{Passed, Refusal, block_size, in_block, more}
-use Rattle.job_trait.specs.Cycle.{shown_with}
-use Rattle.job_trait.specs.Passes.{PassValue, drawn_so_far, passed_of, IsPass, RefusedBelow, IsReady, IsAnswer, pass_of, block_in}
-use Rattle.job_trait.proofs.Sizes.{together}
-use Rattle.job_trait.proofs.Sizes.{some as block_some, few as block_few}
+use Rattle.det_client.specs.element_random.Words.{key}
+use Rattle.job.specs.declared.pass.PassDone.{PassDone}
+use Rattle.job.specs.declared.pass.PoolFault.{PoolFault}
+use Rattle.job.specs.declared.pass.PoolFault.TheVariants.{Refused, OutOfMemory}
+use Rattle.job.specs.Meaning.{Meaning, Worked}
+use Rattle.job.specs.Laws.{JobLaws}
+use Rattle.job.specs.Pass.{Passed, Refusal, block_size, in_block, more}
+use Rattle.job.specs.Cycle.{shown_with}
+use Rattle.job.specs.Passes.{PassValue, drawn_so_far, passed_of, IsPass, RefusedBelow, IsReady, IsAnswer, pass_of, block_in}
+use Rattle.job.proofs.Sizes.{together}
+use Rattle.job.proofs.Sizes.{some as block_some, few as block_few}
 use Rattle.pass_in_blocks.specs.Steps.{beside, HasRoom, CanJoin, none_in, added_to, first_in}
 use Rattle.pass_in_blocks.proofs.Running.{block_done, block_refuses}
 

@@ -7,8 +7,8 @@ use Rattle.std.proofs.lemmas.List.Concat.{flat_map-append}
 use Rattle.std.proofs.lemmas.List.Elements.{All-nil, All-cons, All-append}
 use Rattle.det_values.specs.Spelling.{an_element, spelled_drawn, spelled_all, IsDrawn}
 use Rattle.det_values.specs.declared.frames.DrawnElement.{DrawnElement}
-use Rattle.job_trait.specs.Meaning.{Meaning}
-use Rattle.job_trait.specs.Cycle.{shown_with}
+use Rattle.job.specs.Meaning.{Meaning}
+use Rattle.job.specs.Cycle.{shown_with}
 use Rattle.pass_in_blocks.specs.Showing.{AreSpelled}
 
 module _ {S G E L P : Type 0} (m : Meaning S G E L P) (j : S) where

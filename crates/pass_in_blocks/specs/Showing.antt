@@ -3,10 +3,10 @@ use Rattle.std.specs.Prelude.{◌≡◌, ℕ, List, [], ◌++◌, length, take, 
 use Rattle.std.specs.List.{All}
 use Rattle.det_values.specs.declared.frames.DrawnElement.{DrawnElement}
 use Rattle.det_values.specs.Spelling.{spelled_all, IsDrawn}
-use Rattle.job_trait.specs.Meaning.{Meaning}
-use Rattle.job_trait.specs.Pass.{Passed, Refusal, in_block}
-use Rattle.job_trait.specs.Cycle.{shown_with}
-use Rattle.job_trait.specs.Passes.{PassValue, block_in, drawn_so_far}
+use Rattle.job.specs.Meaning.{Meaning}
+use Rattle.job.specs.Pass.{Passed, Refusal, in_block}
+use Rattle.job.specs.Cycle.{shown_with}
+use Rattle.job.specs.Passes.{PassValue, block_in, drawn_so_far}
 
 -- these elements were spelled behind what stood there
 pub record AreSpelled (es : List DrawnElement) (old new : List ℕ) : Type 0 where

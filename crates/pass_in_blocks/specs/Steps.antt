@@ -1,15 +1,15 @@
 -- How a block is run element by element, and a pass is joined block by block.
 use Rattle.std.specs.Prelude.{◌≡◌, ℕ, ◌+◌, ◌%◌, ◌≤◌, ◌<◌, List, ◌++◌, length, take, slice_index_or}
 use Rattle.std.specs.Prelude.{Option, None, Some, Result, Ok, Err}
-use Rattle.element_random.specs.declared.PassKeys.{PassKeys}
-use Rattle.element_random.specs.Words.{AreKeysOf}
+use Rattle.det_client.specs.declared.element_random.PassKeys.{PassKeys}
+use Rattle.det_client.specs.element_random.Words.{AreKeysOf}
 use Rattle.det_values.specs.declared.frames.DrawnElement.{DrawnElement}
-use Rattle.job_trait.specs.Meaning.{Meaning}
-use Rattle.job_trait.specs.Laws.{CoverTogether}
-use Rattle.job_trait.specs.Passes.{PassValue}
-use Rattle.job_trait.specs.Pass.{Passed, Refusal, nothing, taken}
-use Rattle.job_trait.specs.declared.pass.PoolFault.{PoolFault}
-use Rattle.job_trait.specs.declared.pass.PoolFault.TheVariants.{Refused, OutOfMemory}
+use Rattle.job.specs.Meaning.{Meaning}
+use Rattle.job.specs.Laws.{CoverTogether}
+use Rattle.job.specs.Passes.{PassValue}
+use Rattle.job.specs.Pass.{Passed, Refusal, nothing, taken}
+use Rattle.job.specs.declared.pass.PoolFault.{PoolFault}
+use Rattle.job.specs.declared.pass.PoolFault.TheVariants.{Refused, OutOfMemory}
 use Rattle.pass_in_blocks.specs.declared.answers.BlockAnswer.{BlockAnswer}
 use Rattle.pass_in_blocks.specs.Answers.{answer_of, Shows}
 

@@ -1,16 +1,16 @@
 //! One block is run.
 ghost use Rattle.std.specs.Prelude.{◌≡◌, ◌+◌, ◌<◌, ◌++◌, ◌∷◌, [], length, take, drop, IfOk, OnOk};
 ghost use Rattle.std.specs.List.{All};
-ghost use Rattle.job_trait.specs.Passes.{IsReady, block_in, blocks_in};
+ghost use Rattle.job.specs.Passes.{IsReady, block_in, blocks_in};
 ghost use Rattle.pass_in_blocks.specs.Answers.{answer_of, Shows};
 ghost use Rattle.pass_in_blocks.specs.Showing.{shown_in};
 ghost use Rattle.pass_in_blocks.specs.Steps.{HasKeys, HasRoom, passed_by, added_to, IsAdded};
 
 use crate::answers::{BlockAnswer, BlockDone};
 use crate::showing::show_block;
+use det_client::element_random::{ElementRandom, PassKeys};
 use det_values::OutOfMemory;
-use element_random::{ElementRandom, PassKeys};
-use job_trait::{Job, JobFault, PassOf, PassRoom, PoolFault};
+use job::{Job, JobFault, PassOf, PassRoom, PoolFault};
 use std::alloc::Global;
 
 /// Adds an item at the end of a list.

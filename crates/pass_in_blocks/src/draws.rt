@@ -1,7 +1,7 @@
 //! The draws of several passes together.
 ghost use Rattle.std.specs.Prelude.{◌≡◌, ◌≤◌, length, IfOk};
 ghost use Rattle.std.specs.List.{All};
-ghost use Rattle.job_trait.specs.Cycle.{added};
+ghost use Rattle.job.specs.Cycle.{added};
 
 use det_values::{Container, OutOfMemory, Spares};
 

@@ -1,7 +1,8 @@
 //! The answer of a pass from its blocks.
-ghost use Rattle.std.specs.Prelude.{◌≡◌, ◌<◌, ◌≤◌, ◌+◌, ◌++◌, [], None, length, replicate, slice_set};
+ghost use Rattle.std.specs.Prelude.{◌≡◌, ◌<◌, ◌≤◌, ◌+◌, ◌++◌, [], None, length, replicate};
+ghost use Rattle.std.specs.Prelude.{slice_set};
 ghost use Rattle.std.specs.Prelude.{IfOk, OnOk};
-ghost use Rattle.job_trait.specs.Passes.{IsReady, IsAnswer, block_in, blocks_in, passed_of};
+ghost use Rattle.job.specs.Passes.{IsReady, IsAnswer, block_in, blocks_in, passed_of};
 ghost use Rattle.pass_in_blocks.specs.Answers.{left_by, answer_of, Shows, AreRight, AreShown};
 ghost use Rattle.pass_in_blocks.specs.Showing.{shown_in};
 ghost use Rattle.pass_in_blocks.specs.Steps.{beside, none_in, CanJoin, ArePlaces};
@@ -9,7 +10,7 @@ ghost use Rattle.pass_in_blocks.specs.Steps.{beside, none_in, CanJoin, ArePlaces
 use crate::answers::{BlockAnswer, BlockDone, BlockResult};
 use crate::block::{push, run_block};
 use det_values::{DrawnElements, OutOfMemory};
-use job_trait::{Job, PassDone, PassOf, PassRoom, PoolFault};
+use job::{Job, PassDone, PassOf, PassRoom, PoolFault};
 use std::alloc::Global;
 
 /// So many empty places.

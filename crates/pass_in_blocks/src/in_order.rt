@@ -1,7 +1,7 @@
 //! The pool of one thread.
 
 use crate::finish::finish_pass;
-use job_trait::{Job, PassDone, PassOf, PassRoom, Pool, PoolFault};
+use job::{Job, PassDone, PassOf, PassRoom, Pool, PoolFault};
 
 /// Runs one block after another on the caller's thread.
 #[derive(Drop)]

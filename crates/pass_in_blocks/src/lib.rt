@@ -1,6 +1,6 @@
 //! A pass of a job, block by block, whoever runs which block.
 //!
-//! A block is so many neighbouring elements as `job_trait::block_size` says, or those that are left.
+//! A block is so many neighbouring elements as `job::block_size` says, or those that are left.
 //! `run_block` runs one, and `finish_pass` makes the answer of the pass from the blocks that others
 //! have run, and runs the rest itself. Neither knows of a thread.
 #![tactic(auto)]

@@ -2,14 +2,14 @@
 ghost use Rattle.std.specs.Prelude.{◌≡◌, ◌<◌, ◌≤◌, ◌++◌, [], length, OnOk, IfOk, Ok};
 ghost use Rattle.std.specs.List.{All};
 ghost use Rattle.det_values.specs.Spelling.{an_element, spelled_drawn, spelled_all, IsDrawn};
-ghost use Rattle.job_trait.specs.Cycle.{shown_with};
-ghost use Rattle.job_trait.specs.Passes.{IsReady, block_in, blocks_in};
+ghost use Rattle.job.specs.Cycle.{shown_with};
+ghost use Rattle.job.specs.Passes.{IsReady, block_in, blocks_in};
 ghost use Rattle.pass_in_blocks.specs.Showing.{AreSpelled, shown_by, shown_in};
 ghost use Rattle.pass_in_blocks.specs.Steps.{passed_by};
 
 use crate::draws::block_sums;
 use det_values::{DrawnBlock, OutOfMemory, Spares};
-use job_trait::{Job, PassOf, PassRoom};
+use job::{Job, PassOf, PassRoom};
 
 /// Appends an element with its draws.
 #[inline(always)]

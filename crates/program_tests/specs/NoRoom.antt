@@ -1,6 +1,6 @@
 -- What a shelf shows that has no memory for a further slot.
 use Rattle.std.specs.Prelude.{None}
-use Rattle.det_edges.specs.Shelf.{ShelfState}
+use Rattle.det_io.specs.Shelf.{ShelfState}
 
 -- one slot was given, and nothing is told
 abbrev pub untold_slot : ShelfState

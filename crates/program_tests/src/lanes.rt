@@ -1,13 +1,13 @@
 //! Whole runs of `det_lane` over children in memory, and over a real process.
 ghost use Rattle.std.specs.Prelude.{◌≡◌, IfOk};
-ghost use Rattle.children.specs.MemSpawner.{mem_spawner_state};
+ghost use Rattle.lane.specs.child_processes.MemSpawner.{mem_spawner_state};
 
 use crate::files::{file, halves, number};
 use crate::running::{Wanted, are, fail_list, row_of, words_of};
 use crate::tables::lane_rows;
-use children::{ChildShelf, MemSpawner, ProcessSpawner, Script, Scripts};
-use det_edges::{FailList, MemSink};
-use lane_cli::lane_top;
+use det_io::{FailList, MemSink};
+use lane::child_processes::{ChildShelf, MemSpawner, ProcessSpawner, Script, Scripts};
+use lane::lane_top;
 use std::alloc::{AllocError, Global};
 use std::test::*;
 

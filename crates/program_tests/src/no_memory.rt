@@ -1,7 +1,7 @@
 //! Want of memory, which a shelf tells in place of a slot.
 use crate::running::{fail_list, words_of};
 use det_cli::{Host, top};
-use det_edges::{Failure, MemSink, Shelf, ShelfFailed, Slots};
+use det_io::{Failure, MemSink, Shelf, ShelfFailed, Slots};
 use probes::Audience;
 use std::alloc::{AllocError, Global};
 use std::sync::Arc;
@@ -15,8 +15,8 @@ struct NoRoom;
 
 impl Slots for NoRoom {
     ghost use Rattle.std.specs.Prelude.{◌≡◌, ◌<◌, ◌≤◌, length, IfOk, OnErr};
-    ghost use Rattle.det_edges.specs.Count.{Rose};
-    ghost use Rattle.det_edges.specs.Shelf.{Reads, moved, IsAtEnd};
+    ghost use Rattle.det_io.specs.Count.{Rose};
+    ghost use Rattle.det_io.specs.Shelf.{Reads, moved, IsAtEnd};
     ghost use Rattle.program_tests.specs.NoRoom.{untold_slot};
 
     ghost sees = { λ _. untold_slot };

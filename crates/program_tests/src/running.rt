@@ -3,7 +3,7 @@ ghost use Rattle.std.specs.Prelude.{◌<◌, ◌^◌};
 
 use crate::files::{file, halves, number, with_lines};
 use det_cli::{Host, top};
-use det_edges::{FailList, MemFile, MemFiles, MemShelf, MemSink};
+use det_io::{FailList, MemFile, MemFiles, MemShelf, MemSink};
 use probes::{Audience, CountProbe, FirstRefusalProbe, GapProbe, Probe};
 use sha2::{Digest, Sha256};
 use std::alloc::{AllocError, Global};

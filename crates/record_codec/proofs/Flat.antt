@@ -14,8 +14,8 @@ use Rattle.det_values.specs.Blocks.{joined}
 use Rattle.record_grammar.specs.Read.{Read, Got, ◌>>=◌, many}
 use Rattle.record_grammar.specs.Grammar.{drawn_at}
 use Rattle.record_grammar.proofs.Steady.{bind_got, got_is}
-use Rattle.record_laws.proofs.Lawful.{AreBytes-rest}
-use Rattle.record_laws.proofs.LawfulParts.{drawn_lawful}
+use Rattle.record_grammar.proofs.lemmas.record_laws.Lawful.{AreBytes-rest}
+use Rattle.record_grammar.proofs.lemmas.record_laws.LawfulParts.{drawn_lawful}
 use Rattle.record_grammar.specs.Spelling.{spelled_u16, spelled_element, spelled_drawn, IsDrawn, MayDraw}
 
 pub in_ranges : (format : Format) (es : List DrawnElement) → All flat.IsDrawn es → All (λ e. MayDraw format e.draws) es

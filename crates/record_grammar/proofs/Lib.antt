@@ -1,3 +1,4 @@
 pub mod Steady
 pub mod SteadyFields
 pub mod Leads
+pub mod lemmas

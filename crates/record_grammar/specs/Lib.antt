@@ -6,3 +6,4 @@ pub mod Record
 pub mod Leads
 pub mod Spelling
 pub mod Laws
+pub mod record_laws

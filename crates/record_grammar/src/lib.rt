@@ -6,6 +6,7 @@ mod fault;
 mod item;
 mod limits;
 mod place;
+pub mod record_laws;
 
 pub use fault::{Reason, RecordFault};
 pub use item::Item;

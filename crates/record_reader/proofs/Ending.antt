@@ -9,16 +9,16 @@ use Rattle.det_values.specs.declared.format.Format.{Format}
 use Rattle.det_values.specs.declared.format.Format.TheVariants.{One}
 use Rattle.det_values.specs.declared.frames.Frame.TheVariants.{Terminate}
 use Rattle.det_values.specs.Values.{ProfileValue}
-use Rattle.det_edges.specs.declared.failure.Failure.{Failure}
-use Rattle.det_edges.specs.declared.failure.Failure.TheVariants.{Read, Write, OutOfMemory}
-use Rattle.det_edges.specs.declared.failure.Stopped.{Stopped}
-use Rattle.det_edges.specs.declared.failure.Stopped.TheVariants.{Refused, Failed}
-use Rattle.det_edges.specs.Prefix.{IsPrefix, IsProperPrefix}
-use Rattle.det_edges.specs.Shelf.{IsAtEnd}
-use Rattle.det_edges.specs.Sink.{Grew}
-use Rattle.det_edges.specs.Traffic.{ShelfRun, SinkRun}
-use Rattle.det_edges.proofs.Growth.{grew-none, grew-then}
-use Rattle.det_edges.proofs.Prefixes.{prefix-none, prefix-same, prefix-then, proper-prefix, proper-length, proper-then, proper-behind}
+use Rattle.det_io.specs.declared.failure.Failure.{Failure}
+use Rattle.det_io.specs.declared.failure.Failure.TheVariants.{Read, Write, OutOfMemory}
+use Rattle.det_io.specs.declared.failure.Stopped.{Stopped}
+use Rattle.det_io.specs.declared.failure.Stopped.TheVariants.{Refused, Failed}
+use Rattle.det_io.specs.Prefix.{IsPrefix, IsProperPrefix}
+use Rattle.det_io.specs.Shelf.{IsAtEnd}
+use Rattle.det_io.specs.Sink.{Grew}
+use Rattle.det_io.specs.Traffic.{ShelfRun, SinkRun}
+use Rattle.det_io.proofs.Growth.{grew-none, grew-then}
+use Rattle.det_io.proofs.Prefixes.{prefix-none, prefix-same, prefix-then, proper-prefix, proper-length, proper-then, proper-behind}
 use Rattle.record_grammar.specs.declared.fault.RecordFault.{RecordFault}
 use Rattle.record_grammar.specs.declared.item.Item.{Item}
 use Rattle.record_grammar.specs.declared.item.Item.TheVariants as items
@@ -26,8 +26,8 @@ use Rattle.record_grammar.specs.Record.{items as items_in}
 use Rattle.record_grammar.specs.Spelling.{spelled, spelled_header, spelled_frame}
 use Rattle.record_reader.specs.declared.salvage.Salvage.{Salvage}
 use Rattle.record_reader.specs.declared.salvage.Salvaged.{Salvaged}
-use Rattle.item_reader.specs.StandsFor.{FoundFault, IsFaulty}
-use Rattle.item_reader.proofs.Needed.{while-weaker}
+use Rattle.record_reader.specs.item_reader.StandsFor.{FoundFault, IsFaulty}
+use Rattle.record_reader.proofs.lemmas.item_reader.Needed.{while-weaker}
 use Rattle.record_reader.specs.Taking.{AreAll, Took, RecordRead, ItemsRead}
 use Rattle.record_reader.specs.Salvaged.{kept, is_init, salvaged_from, salvaged, cycles_of, refused_of}
 use Rattle.record_reader.specs.Salvaged.{written_items}

@@ -3,11 +3,11 @@ use Rattle.std.proofs.Common.{◌≡◌, ◌≢◌, ℕ, ◌<◌, List, [], ◌�
 use Rattle.std.specs.List.{list_any}
 use Rattle.det_values.specs.Values.{ProfileValue}
 use Rattle.det_values.specs.declared.frames.Frame.{Frame}
-use Rattle.det_edges.specs.Shelf.{ShelfState, Reads, IsAtEnd}
-use Rattle.det_edges.specs.Traffic.{failure_in}
-use Rattle.det_edges.specs.declared.failure.Failure.TheVariants.{Read, Write, OutOfMemory}
-use Rattle.det_edges.specs.declared.failure.Stopped.{Stopped}
-use Rattle.det_edges.specs.declared.failure.Stopped.TheVariants.{Refused, Failed}
+use Rattle.det_io.specs.Shelf.{ShelfState, Reads, IsAtEnd}
+use Rattle.det_io.specs.Traffic.{failure_in}
+use Rattle.det_io.specs.declared.failure.Failure.TheVariants.{Read, Write, OutOfMemory}
+use Rattle.det_io.specs.declared.failure.Stopped.{Stopped}
+use Rattle.det_io.specs.declared.failure.Stopped.TheVariants.{Refused, Failed}
 use Rattle.record_grammar.specs.declared.fault.RecordFault.{RecordFault}
 use Rattle.record_grammar.specs.declared.place.Place.{Place}
 use Rattle.record_grammar.specs.declared.place.Place.TheVariants as places
@@ -20,9 +20,9 @@ use Rattle.record_view.specs.declared.view.FrameView.{FrameView}
 use Rattle.record_view.specs.declared.view.ItemView.{ItemView}
 use Rattle.record_view.specs.Shows.{item_view}
 use Rattle.record_view.proofs.Headers.{IsOfFrame, frame_there}
-use Rattle.item_reader.specs.declared.reader.ItemReader.{ItemReader}
-use Rattle.item_reader.specs.StandsFor as inner
-use Rattle.item_reader.specs.Held.{held}
+use Rattle.record_reader.specs.declared.item_reader.reader.ItemReader.{ItemReader}
+use Rattle.record_reader.specs.item_reader.StandsFor as inner
+use Rattle.record_reader.specs.item_reader.Held.{held}
 use Rattle.record_reader.specs.declared.frames.FrameReader.{FrameReader}
 use Rattle.record_reader.specs.declared.frames.OpenRecord.{OpenRecord}
 use Rattle.record_reader.specs.Frames.{StandsFor, HasRead, GaveFrame, IsHeader, HeaderIs, HasOpened}

@@ -18,9 +18,9 @@ use Rattle.record_grammar.specs.Record.{with_next, decoded, decoded_all}
 use Rattle.record_grammar.specs.Leads.{Leads}
 use Rattle.record_grammar.specs.Spelling.{CanSpell}
 use Rattle.record_grammar.proofs.Leads.{can_follow, leads_grow, all_leads, room_falls}
-use Rattle.record_laws.proofs.Whole.{nil_more}
-use Rattle.item_reader.specs.declared.reader.ItemReader.{ItemReader}
-use Rattle.item_reader.specs.StandsFor.{StandsFor, place_of, unread}
+use Rattle.record_grammar.proofs.lemmas.record_laws.Whole.{nil_more}
+use Rattle.record_reader.specs.declared.item_reader.reader.ItemReader.{ItemReader}
+use Rattle.record_reader.specs.item_reader.StandsFor.{StandsFor, place_of, unread}
 use Rattle.record_reader.specs.Taking.{AreFirst}
 use Rattle.record_reader.specs.Keeping.{format_after}
 use Rattle.record_reader.specs.Salvaged.{is_init}

@@ -6,3 +6,4 @@ pub mod Views
 pub mod Pieces
 pub mod Kept
 pub mod Ending
+pub mod lemmas

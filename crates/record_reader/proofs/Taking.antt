@@ -3,21 +3,21 @@ use Rattle.std.proofs.Common.{◌≡◌, ◌⊎◌, inl, inr, ℕ, ◌<◌, List
 use Rattle.std.proofs.Common.{◌∙◌, append_assoc, append-nil}
 use Rattle.std.specs.Prelude.{IfSome}
 use Rattle.std.specs.Option.{option_map}
-use Rattle.det_edges.specs.declared.failure.Failure.{Failure}
-use Rattle.det_edges.specs.declared.failure.Failure.TheVariants.{Read, Write, OutOfMemory}
-use Rattle.det_edges.specs.declared.failure.Stopped.{Stopped}
-use Rattle.det_edges.specs.declared.failure.Stopped.TheVariants.{Refused, Failed}
-use Rattle.det_edges.specs.Prefix.{IsPrefix}
-use Rattle.det_edges.specs.Shelf.{ShelfState, Reads, IsAtEnd}
-use Rattle.det_edges.specs.Sink.{Grew}
-use Rattle.det_edges.specs.Traffic.{ShelfRun, SinkRun, ShelfTraffic, SinkTraffic, failure_in}
-use Rattle.det_edges.proofs.Growth.{grew-none, grew-then, part-whole}
-use Rattle.det_edges.proofs.Prefixes.{prefix-behind}
-use Rattle.det_edges.proofs.SlotReads.{reads-none, reads-then}
+use Rattle.det_io.specs.declared.failure.Failure.{Failure}
+use Rattle.det_io.specs.declared.failure.Failure.TheVariants.{Read, Write, OutOfMemory}
+use Rattle.det_io.specs.declared.failure.Stopped.{Stopped}
+use Rattle.det_io.specs.declared.failure.Stopped.TheVariants.{Refused, Failed}
+use Rattle.det_io.specs.Prefix.{IsPrefix}
+use Rattle.det_io.specs.Shelf.{ShelfState, Reads, IsAtEnd}
+use Rattle.det_io.specs.Sink.{Grew}
+use Rattle.det_io.specs.Traffic.{ShelfRun, SinkRun, ShelfTraffic, SinkTraffic, failure_in}
+use Rattle.det_io.proofs.Growth.{grew-none, grew-then, part-whole}
+use Rattle.det_io.proofs.Prefixes.{prefix-behind}
+use Rattle.det_io.proofs.SlotReads.{reads-none, reads-then}
 use Rattle.record_grammar.specs.declared.fault.RecordFault.{RecordFault}
 use Rattle.record_grammar.specs.declared.item.Item.{Item}
 use Rattle.record_grammar.specs.Record.{items as items_in}
-use Rattle.item_reader.specs.StandsFor.{IsFaulty, FoundFault}
+use Rattle.record_reader.specs.item_reader.StandsFor.{IsFaulty, FoundFault}
 use Rattle.record_reader.specs.Taking.{AreFirst, Taking, Takes, Took, AreAll, RefusedBy, Finds, RecordRead, OfSlot, ItemsRead}
 
 -- ---- what a slot can have had

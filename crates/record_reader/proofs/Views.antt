@@ -1,27 +1,27 @@
 -- A loop that gives the items of a record to a taker, as views of the bytes that a reader holds: how it begins, goes on, and ends.
 use Rattle.std.proofs.Common.{◌≡◌, ℕ, inl, List, [], ◌∷◌, ◌++◌, Option, Some, None, Result, Ok, Err, refl, sym, ap, subst}
 use Rattle.std.proofs.Common.{◌∙◌, append_assoc, arith}
-use Rattle.det_edges.specs.declared.failure.Failure.{Failure}
-use Rattle.det_edges.specs.declared.failure.Failure.TheVariants.{Read, Write, OutOfMemory}
-use Rattle.det_edges.specs.declared.failure.Stopped.{Stopped}
-use Rattle.det_edges.specs.declared.failure.Stopped.TheVariants.{Refused, Failed}
-use Rattle.det_edges.specs.Prefix.{IsPrefix}
-use Rattle.det_edges.specs.Shelf.{ShelfState, Reads, IsAtEnd}
-use Rattle.det_edges.specs.Sink.{Grew}
-use Rattle.det_edges.specs.Traffic.{SinkRun, ShelfTraffic, SinkTraffic, failure_in}
-use Rattle.det_edges.proofs.Counts.{rose-before}
-use Rattle.det_edges.proofs.Growth.{grew-none, grew-then, part-whole}
-use Rattle.det_edges.proofs.Prefixes.{prefix-append, prefix-behind, prefix-same, prefix-then}
-use Rattle.det_edges.proofs.SlotReads.{reads-none, reads-then}
+use Rattle.det_io.specs.declared.failure.Failure.{Failure}
+use Rattle.det_io.specs.declared.failure.Failure.TheVariants.{Read, Write, OutOfMemory}
+use Rattle.det_io.specs.declared.failure.Stopped.{Stopped}
+use Rattle.det_io.specs.declared.failure.Stopped.TheVariants.{Refused, Failed}
+use Rattle.det_io.specs.Prefix.{IsPrefix}
+use Rattle.det_io.specs.Shelf.{ShelfState, Reads, IsAtEnd}
+use Rattle.det_io.specs.Sink.{Grew}
+use Rattle.det_io.specs.Traffic.{SinkRun, ShelfTraffic, SinkTraffic, failure_in}
+use Rattle.det_io.proofs.Counts.{rose-before}
+use Rattle.det_io.proofs.Growth.{grew-none, grew-then, part-whole}
+use Rattle.det_io.proofs.Prefixes.{prefix-append, prefix-behind, prefix-same, prefix-then}
+use Rattle.det_io.proofs.SlotReads.{reads-none, reads-then}
 use Rattle.record_grammar.specs.declared.fault.RecordFault.{RecordFault}
 use Rattle.record_grammar.specs.declared.item.Item.{Item}
 use Rattle.record_grammar.specs.declared.place.Place.TheVariants as places
 use Rattle.record_grammar.specs.Record.{items as items_in, fault_so_far}
 use Rattle.record_view.specs.declared.view.ItemView.{ItemView}
 use Rattle.record_view.specs.Shows.{IsSpelling}
-use Rattle.item_reader.specs.declared.reader.ItemReader.{ItemReader}
-use Rattle.item_reader.specs.StandsFor.{StandsFor, HasRead, ReadsIfNeeded, ItemIs, Holds, slot_of}
-use Rattle.item_reader.proofs.Needed.{while-weaker, while-then}
+use Rattle.record_reader.specs.declared.item_reader.reader.ItemReader.{ItemReader}
+use Rattle.record_reader.specs.item_reader.StandsFor.{StandsFor, HasRead, ReadsIfNeeded, ItemIs, Holds, slot_of}
+use Rattle.record_reader.proofs.lemmas.item_reader.Needed.{while-weaker, while-then}
 use Rattle.record_reader.specs.Taking.{AreFirst, IsNext, Taking, Takes, Took, RefusedBy, Finds, RecordRead, IsNeeded, ItemsRead}
 use Rattle.record_reader.proofs.Items.{are_first, more_items}
 use Rattle.record_reader.proofs.Taking.{at_none, all-before, step, Lifts, quiet-sink}

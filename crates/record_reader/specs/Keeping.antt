@@ -6,11 +6,11 @@ use Rattle.det_values.specs.declared.format.Format.{Format}
 use Rattle.det_values.specs.declared.format.Format.TheVariants.{One}
 use Rattle.det_values.specs.declared.frames.Frame.{Frame}
 use Rattle.det_values.specs.declared.frames.Frame.TheVariants.{Terminate}
-use Rattle.det_edges.specs.declared.failure.Failure.TheVariants.{Write, OutOfMemory}
-use Rattle.det_edges.specs.declared.failure.Stopped.{Stopped}
-use Rattle.det_edges.specs.declared.failure.Stopped.TheVariants.{Failed}
-use Rattle.det_edges.specs.Sink.{Grew, GrewShort}
-use Rattle.det_edges.specs.Traffic.{SinkRun}
+use Rattle.det_io.specs.declared.failure.Failure.TheVariants.{Write, OutOfMemory}
+use Rattle.det_io.specs.declared.failure.Stopped.{Stopped}
+use Rattle.det_io.specs.declared.failure.Stopped.TheVariants.{Failed}
+use Rattle.det_io.specs.Sink.{Grew, GrewShort}
+use Rattle.det_io.specs.Traffic.{SinkRun}
 use Rattle.record_grammar.specs.declared.fault.RecordFault.{RecordFault}
 use Rattle.record_grammar.specs.declared.item.Item.{Item}
 use Rattle.record_grammar.specs.declared.item.Item.TheVariants as items

@@ -6,3 +6,4 @@ pub mod Salvaged
 pub mod Kinds
 pub mod Keeping
 pub mod Salvages
+pub mod item_reader

@@ -1,18 +1,18 @@
 -- What salvaging comes to, by the bytes of a record.
 use Rattle.std.specs.Prelude.{◌≡◌, ◌⊎◌, ℕ, List, [], ◌++◌, Bool, true, Option, Some, None}
 use Rattle.std.specs.Prelude.{Result, Ok, Err}
-use Rattle.det_edges.specs.declared.failure.Failure.TheVariants.{Read, Write, OutOfMemory}
-use Rattle.det_edges.specs.declared.failure.Stopped.{Stopped}
-use Rattle.det_edges.specs.declared.failure.Stopped.TheVariants.{Refused, Failed}
-use Rattle.det_edges.specs.Prefix.{IsPrefix, IsProperPrefix}
-use Rattle.det_edges.specs.Shelf.{IsAtEnd}
-use Rattle.det_edges.specs.Sink.{Grew}
-use Rattle.det_edges.specs.Traffic.{ShelfRun, SinkRun}
+use Rattle.det_io.specs.declared.failure.Failure.TheVariants.{Read, Write, OutOfMemory}
+use Rattle.det_io.specs.declared.failure.Stopped.{Stopped}
+use Rattle.det_io.specs.declared.failure.Stopped.TheVariants.{Refused, Failed}
+use Rattle.det_io.specs.Prefix.{IsPrefix, IsProperPrefix}
+use Rattle.det_io.specs.Shelf.{IsAtEnd}
+use Rattle.det_io.specs.Sink.{Grew}
+use Rattle.det_io.specs.Traffic.{ShelfRun, SinkRun}
 use Rattle.record_grammar.specs.declared.fault.RecordFault.{RecordFault}
 use Rattle.record_grammar.specs.Record.{items as items_in, fault as fault_in, fault_so_far}
 use Rattle.record_reader.specs.declared.salvage.Salvaged.{Salvaged}
-use Rattle.item_reader.specs.Needed.{ReadsWhile}
-use Rattle.item_reader.specs.StandsFor.{IsFaulty}
+use Rattle.record_reader.specs.item_reader.Needed.{ReadsWhile}
+use Rattle.record_reader.specs.item_reader.StandsFor.{IsFaulty}
 use Rattle.record_reader.specs.Salvaged.{salvaged, saved_of, cycles_of, refused_of}
 use Rattle.record_reader.specs.Taking.{OfSlot}
 

@@ -1,13 +1,13 @@
 -- A record whose items are given to a taker, one after another: what it makes of them, and what a
 -- sink takes of it.
 use Rattle.std.specs.Prelude.{◌≡◌, ℕ, List, [], ◌∷◌, ◌++◌, Option, Some, None, Result, Ok, Err}
-use Rattle.det_edges.specs.declared.failure.Failure.TheVariants.{Read, Write, OutOfMemory}
-use Rattle.det_edges.specs.declared.failure.Stopped.{Stopped}
-use Rattle.det_edges.specs.declared.failure.Stopped.TheVariants.{Refused, Failed}
-use Rattle.det_edges.specs.Prefix.{IsPrefix, IsProperPrefix}
-use Rattle.det_edges.specs.Shelf.{Reads, IsAtEnd}
-use Rattle.det_edges.specs.Sink.{Grew, GrewByPrefix}
-use Rattle.det_edges.specs.Traffic.{ShelfRun, SinkRun}
+use Rattle.det_io.specs.declared.failure.Failure.TheVariants.{Read, Write, OutOfMemory}
+use Rattle.det_io.specs.declared.failure.Stopped.{Stopped}
+use Rattle.det_io.specs.declared.failure.Stopped.TheVariants.{Refused, Failed}
+use Rattle.det_io.specs.Prefix.{IsPrefix, IsProperPrefix}
+use Rattle.det_io.specs.Shelf.{Reads, IsAtEnd}
+use Rattle.det_io.specs.Sink.{Grew, GrewByPrefix}
+use Rattle.det_io.specs.Traffic.{ShelfRun, SinkRun}
 use Rattle.record_grammar.specs.declared.fault.RecordFault.{RecordFault}
 use Rattle.record_grammar.specs.declared.item.Item.{Item}
 use Rattle.record_grammar.specs.declared.place.Place.{Place}
@@ -16,8 +16,8 @@ use Rattle.record_grammar.specs.Leads.{Leads}
 use Rattle.record_grammar.specs.Record.{items as items_in, fault as fault_in, fault_so_far}
 use Rattle.record_view.specs.declared.view.ItemView.{ItemView}
 use Rattle.record_view.specs.Shows.{IsSpelling}
-use Rattle.item_reader.specs.Needed.{ReadsWhile}
-use Rattle.item_reader.specs.StandsFor.{FoundFault}
+use Rattle.record_reader.specs.item_reader.Needed.{ReadsWhile}
+use Rattle.record_reader.specs.item_reader.StandsFor.{FoundFault}
 
 -- these items come first of some record
 pub record AreFirst (given : List Item) : Type 0 where

@@ -1,5 +1,5 @@
 //! A sink that counts and digests what it takes.
-use det_edges::{Sink, SinkFailed};
+use det_io::{Sink, SinkFailed};
 use sha2::{Digest, Sha256};
 
 /// Takes everything, and keeps nothing of it but its SHA-256 state and a count. It never fails and
@@ -42,8 +42,8 @@ impl DigestSink {
 
 impl Sink for DigestSink {
     ghost use Rattle.std.specs.Prelude.{◌≡◌, ◌<◌, ◌≤◌, length, take, IsOk, IfOk, OnErr};
-    ghost use Rattle.det_edges.specs.Count.{Rose};
-    ghost use Rattle.det_edges.specs.Sink.{Grew, Same};
+    ghost use Rattle.det_io.specs.Count.{Rose};
+    ghost use Rattle.det_io.specs.Sink.{Grew, Same};
     ghost use Rattle.record_reader.specs.Digested.{Digested};
 
     ghost took = { Digested };

@@ -1,16 +1,16 @@
 //! Records in slots, whose header was read.
 ghost use Rattle.std.specs.Prelude.{◌≡◌, ◌<◌, ◌∷◌, [], ℕ, List, Option, Some};
 ghost use Rattle.det_values.specs.Values.{ProfileValue};
-ghost use Rattle.det_edges.specs.Traffic.{ShelfTraffic, shelf_run, failure_in};
+ghost use Rattle.det_io.specs.Traffic.{ShelfTraffic, shelf_run, failure_in};
 ghost use Rattle.record_grammar.specs.declared.item.Item.TheVariants as items;
 ghost use Rattle.record_view.specs.Shows.{item_view};
 ghost use Rattle.record_view.specs.declared.view.FrameKind.{FrameKind};
 ghost use Rattle.record_view.specs.declared.view.ItemKind.TheVariants as kinds;
 ghost use Rattle.record_reader.specs.Frames.{IsHeader, HasOpened};
 
-use det_edges::{Failure, Slots, Stopped};
+use crate::item_reader::ItemReader;
+use det_io::{Failure, Slots, Stopped};
 use det_values::Profile;
-use item_reader::ItemReader;
 use record_codec::profile_of;
 use record_grammar::RecordFault;
 use record_view::{FrameView, ItemView};
@@ -74,7 +74,7 @@ pub struct FrameReader {
 }
 
 impl FrameReader {
-    ghost use Rattle.det_edges.specs.Shelf.{IsAtEnd};
+    ghost use Rattle.det_io.specs.Shelf.{IsAtEnd};
     ghost use Rattle.det_values.specs.declared.frames.Frame.{Frame};
     ghost use Rattle.record_grammar.specs.declared.fault.RecordFault.{RecordFault};
     ghost use Rattle.record_grammar.specs.declared.item.Item.{Item};

@@ -5,6 +5,7 @@
 mod counting;
 mod digest_sink;
 mod frames;
+pub mod item_reader;
 mod salvage;
 mod salvaging;
 

@@ -4,7 +4,7 @@ ghost use Rattle.record_grammar.specs.Spelling.{AreBytes};
 ghost use Rattle.record_reader.specs.Kinds.{kept_bytes};
 
 use crate::counting::{begins_runs, refusals_of, runs_of};
-use det_edges::{Sink, Stopped, write_all};
+use det_io::{Sink, Stopped, write_all};
 use det_values::{Format, Frame};
 use record_codec::encode_frame;
 use record_grammar::RecordFault;
@@ -31,7 +31,7 @@ pub struct Salvage {
 
 impl Salvage {
     ghost use Rattle.std.specs.Prelude.{List, [], ◌∷◌};
-    ghost use Rattle.det_edges.specs.Traffic.{SinkTraffic, sink_run, failure_in};
+    ghost use Rattle.det_io.specs.Traffic.{SinkTraffic, sink_run, failure_in};
     ghost use Rattle.record_grammar.specs.declared.item.Item.{Item};
     ghost use Rattle.record_reader.specs.Taking.{IsNext, Takes};
     ghost use Rattle.record_reader.specs.Keeping.{Keeps, salvaging, Counted, Puts, FinishIs};

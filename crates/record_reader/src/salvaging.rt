@@ -1,16 +1,16 @@
 //! Salvaging a record that breaks off.
 ghost use Rattle.std.specs.Prelude.{◌≡◌, ℕ, ◌<◌, List, [], IfOk, IfSome, IsErrOf};
-ghost use Rattle.det_edges.specs.Traffic.{ShelfTraffic, SinkTraffic, shelf_run, sink_run};
-ghost use Rattle.det_edges.specs.Traffic.{failure_in};
+ghost use Rattle.det_io.specs.Traffic.{ShelfTraffic, SinkTraffic, shelf_run, sink_run};
+ghost use Rattle.det_io.specs.Traffic.{failure_in};
 ghost use Rattle.record_grammar.specs.declared.fault.RecordFault.{RecordFault};
-ghost use Rattle.item_reader.specs.StandsFor.{StandsFor, slot_of};
+ghost use Rattle.record_reader.specs.item_reader.StandsFor.{StandsFor, slot_of};
 ghost use Rattle.record_reader.specs.Taking.{ItemsRead};
 ghost use Rattle.record_reader.specs.Keeping.{Keeps, salvaging};
 ghost use Rattle.record_reader.specs.Salvages.{Salvages, HasNothing, Begins, Ended, settled_by};
 
+use crate::item_reader::ItemReader;
 use crate::salvage::{Salvage, Salvaged};
-use det_edges::{Sink, Slots, Stopped};
-use item_reader::ItemReader;
+use det_io::{Sink, Slots, Stopped};
 use record_grammar::RecordFault;
 use std::alloc::Global;
 

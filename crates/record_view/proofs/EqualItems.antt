@@ -2,8 +2,8 @@
 use Rattle.std.proofs.Common.{◌≡◌, ◌≤◌, ℕ, List, [], ◌∷◌, length, take, refl, sym, ap, subst, ◌∙◌, arith}
 use Rattle.std.proofs.lemmas.List.{append-nil}
 use Rattle.record_grammar.specs.Laws.{item_spelling}
-use Rattle.record_laws.proofs.InPlaces.{few_fit}
-use Rattle.record_laws.proofs.OneSpelling.{one_spelling}
+use Rattle.record_grammar.proofs.lemmas.record_laws.InPlaces.{few_fit}
+use Rattle.record_grammar.proofs.lemmas.record_laws.OneSpelling.{one_spelling}
 use Rattle.record_grammar.specs.declared.place.Place.{Place}
 use Rattle.record_grammar.specs.declared.item.Item.{Item}
 use Rattle.record_grammar.specs.Spelling.{AreBytes}

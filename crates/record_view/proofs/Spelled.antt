@@ -11,8 +11,8 @@ use Rattle.record_grammar.specs.Grammar.{item_at}
 use Rattle.record_grammar.specs.Places.{after}
 use Rattle.record_grammar.specs.Spelling.{AreBytes}
 use Rattle.record_grammar.specs.Laws.{MayStand, item_spelling}
-use Rattle.record_laws.proofs.InPlaces.{FewEvents}
-use Rattle.record_laws.proofs.Whole.{spelled_leads, leads_spelled}
+use Rattle.record_grammar.proofs.lemmas.record_laws.InPlaces.{FewEvents}
+use Rattle.record_grammar.proofs.lemmas.record_laws.Whole.{spelled_leads, leads_spelled}
 use Rattle.record_view.specs.Shows.{events_of}
 
 pub few_of : (place : Place) → events_of place ≤ 65536 → FewEvents place

@@ -5,18 +5,18 @@ use Rattle.det_values.specs.Values.{ProfileValue}
 use Rattle.det_values.specs.declared.frames.CycleInput.{CycleInput}
 use Rattle.det_values.specs.declared.frames.RunFrame.{RunFrame}
 use Rattle.det_values.specs.declared.frames.Frame.TheVariants.{Run, Terminate}
-use Rattle.det_edges.specs.Prefix.{IsPrefix}
-use Rattle.det_edges.specs.Sink.{Grew, GrewByPrefix, GrewShort, Same}
-use Rattle.det_edges.specs.Shelf.{ShelfState, Reads, IsAtEnd}
-use Rattle.det_edges.specs.Traffic.{ShelfRun, SinkRun}
-use Rattle.det_edges.specs.declared.failure.Failure.{Failure}
-use Rattle.det_edges.specs.declared.failure.Failure.TheVariants.{Read, Write, OutOfMemory}
-use Rattle.det_edges.specs.declared.failure.Stopped.{Stopped}
-use Rattle.det_edges.specs.declared.failure.Stopped.TheVariants.{Refused, Failed}
-use Rattle.det_edges.proofs.Prefixes.{prefix-none, prefix-same, prefix-then, prefix-append}
-use Rattle.det_edges.proofs.Growth.{grew-then, grew-same, grew-then-short, part-whole, part-wider, part-none, short-wider}
-use Rattle.det_edges.proofs.SlotReads.{reads-none}
-use Rattle.job_trait.specs.Meaning.{Meaning}
+use Rattle.det_io.specs.Prefix.{IsPrefix}
+use Rattle.det_io.specs.Sink.{Grew, GrewByPrefix, GrewShort, Same}
+use Rattle.det_io.specs.Shelf.{ShelfState, Reads, IsAtEnd}
+use Rattle.det_io.specs.Traffic.{ShelfRun, SinkRun}
+use Rattle.det_io.specs.declared.failure.Failure.{Failure}
+use Rattle.det_io.specs.declared.failure.Failure.TheVariants.{Read, Write, OutOfMemory}
+use Rattle.det_io.specs.declared.failure.Stopped.{Stopped}
+use Rattle.det_io.specs.declared.failure.Stopped.TheVariants.{Refused, Failed}
+use Rattle.det_io.proofs.Prefixes.{prefix-none, prefix-same, prefix-then, prefix-append}
+use Rattle.det_io.proofs.Growth.{grew-then, grew-same, grew-then-short, part-whole, part-wider, part-none, short-wider}
+use Rattle.det_io.proofs.SlotReads.{reads-none}
+use Rattle.job.specs.Meaning.{Meaning}
 use Rattle.cycle_engine.specs.Frames.{runs}
 use Rattle.record_grammar.specs.Spelling.{spelled_frame}
 use Rattle.stimulus.specs.declared.item.StimFault.{StimFault}
@@ -25,13 +25,13 @@ use Rattle.stimulus.proofs.Growing.{blocks_grow, bad_stays}
 use Rattle.probes.specs.Reports.{AudienceState}
 use Rattle.probes.specs.Shows.{Shows, ShowsPartly, ShowsFirst}
 use Rattle.probes.proofs.Shown.{shows-none}
-use Rattle.run_writer.specs.declared.counts.Counts.{Counts}
-use Rattle.run_writer.specs.declared.recording.Recording.{Recording}
-use Rattle.run_writer.specs.Record.{Counted, record_with, opening}
-use Rattle.run_writer.specs.Recording.{Cuts, Ran}
-use Rattle.run_writer.proofs.Growing.{runs-none, record-opened, record-next, record-ended, record-front}
-use Rattle.stimulus_reader.specs.declared.reader.StimulusReader.{StimulusReader}
-use Rattle.stimulus_reader.specs.StandsFor.{InputIs, IsNext, HasAll, IsWhole, IsBad, events_of}
+use Rattle.recorder.specs.declared.run_writer.counts.Counts.{Counts}
+use Rattle.recorder.specs.declared.run_writer.recording.Recording.{Recording}
+use Rattle.recorder.specs.run_writer.Record.{Counted, record_with, opening}
+use Rattle.recorder.specs.run_writer.Recording.{Cuts, Ran}
+use Rattle.recorder.proofs.lemmas.run_writer.Growing.{runs-none, record-opened, record-next, record-ended, record-front}
+use Rattle.stimulus.specs.declared.slot_reader.reader.StimulusReader.{StimulusReader}
+use Rattle.stimulus.specs.slot_reader.StandsFor.{InputIs, IsNext, HasAll, IsWhole, IsBad, events_of}
 use Rattle.recorder.specs.Record.{is_terminated, record_of}
 use Rattle.recorder.specs.Ends.{Finishes, Stops, Ended}
 use Rattle.recorder.specs.Recorded.{TookAll, IsShown, HasRun}

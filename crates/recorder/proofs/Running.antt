@@ -5,16 +5,16 @@ use Rattle.det_values.specs.Values.{ProfileValue}
 use Rattle.det_values.specs.declared.frames.CycleInput.{CycleInput}
 use Rattle.det_values.specs.declared.frames.RunFrame.{RunFrame}
 use Rattle.det_values.specs.declared.frames.Frame.TheVariants.{Run}
-use Rattle.det_edges.specs.Sink.{Grew}
-use Rattle.det_edges.specs.Shelf.{ShelfState, Reads, IsAtEnd}
-use Rattle.det_edges.specs.Traffic.{ShelfRun, SinkRun, ShelfTraffic, SinkTraffic, failure_in}
-use Rattle.det_edges.specs.declared.failure.Failure.{Failure}
-use Rattle.det_edges.specs.declared.failure.Failure.TheVariants.{Read, Write, OutOfMemory}
-use Rattle.det_edges.specs.declared.failure.Stopped.{Stopped}
-use Rattle.det_edges.specs.declared.failure.Stopped.TheVariants.{Refused, Failed}
-use Rattle.det_edges.proofs.Growth.{grew-then}
-use Rattle.det_edges.proofs.SlotReads.{reads-none, reads-then}
-use Rattle.job_trait.specs.Meaning.{Meaning}
+use Rattle.det_io.specs.Sink.{Grew}
+use Rattle.det_io.specs.Shelf.{ShelfState, Reads, IsAtEnd}
+use Rattle.det_io.specs.Traffic.{ShelfRun, SinkRun, ShelfTraffic, SinkTraffic, failure_in}
+use Rattle.det_io.specs.declared.failure.Failure.{Failure}
+use Rattle.det_io.specs.declared.failure.Failure.TheVariants.{Read, Write, OutOfMemory}
+use Rattle.det_io.specs.declared.failure.Stopped.{Stopped}
+use Rattle.det_io.specs.declared.failure.Stopped.TheVariants.{Refused, Failed}
+use Rattle.det_io.proofs.Growth.{grew-then}
+use Rattle.det_io.proofs.SlotReads.{reads-none, reads-then}
+use Rattle.job.specs.Meaning.{Meaning}
 use Rattle.cycle_engine.specs.Frames.{runs, frame_of, state_of}
 use Rattle.cycle_engine.proofs.Standing.{runs-append}
 use Rattle.record_grammar.specs.Spelling.{spelled_frame}
@@ -22,13 +22,13 @@ use Rattle.stimulus.specs.declared.item.StimFault.{StimFault}
 use Rattle.probes.specs.Reports.{AudienceState}
 use Rattle.probes.specs.Shows.{Shows}
 use Rattle.probes.proofs.Shown.{shows-none, shows-then}
-use Rattle.run_writer.specs.declared.counts.Counts.{Counts}
-use Rattle.run_writer.specs.declared.recording.Recording.{Recording}
-use Rattle.run_writer.specs.Record.{record_with, opening}
-use Rattle.run_writer.specs.Recording.{Cuts, Stands, Ran}
-use Rattle.run_writer.proofs.Growing.{runs-none, record-opened, record-next}
-use Rattle.stimulus_reader.specs.declared.reader.StimulusReader.{StimulusReader}
-use Rattle.stimulus_reader.specs.StandsFor.{StandsFor, InputIs, ReadsIfNeeded, slot_of, events_of}
+use Rattle.recorder.specs.declared.run_writer.counts.Counts.{Counts}
+use Rattle.recorder.specs.declared.run_writer.recording.Recording.{Recording}
+use Rattle.recorder.specs.run_writer.Record.{record_with, opening}
+use Rattle.recorder.specs.run_writer.Recording.{Cuts, Stands, Ran}
+use Rattle.recorder.proofs.lemmas.run_writer.Growing.{runs-none, record-opened, record-next}
+use Rattle.stimulus.specs.declared.slot_reader.reader.StimulusReader.{StimulusReader}
+use Rattle.stimulus.specs.slot_reader.StandsFor.{StandsFor, InputIs, ReadsIfNeeded, slot_of, events_of}
 
 -- what the reader answers, of all that it stands for
 abbrev pub Answered : Result (Option CycleInput) (Stopped StimFault) → ShelfState → ShelfState → StimulusReader → StimulusReader → Type 0

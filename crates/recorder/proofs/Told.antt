@@ -3,21 +3,21 @@ use Rattle.std.proofs.Common.{◌≡◌, ℕ, List, [], ◌++◌, refl, sym, ap,
 use Rattle.std.specs.Prelude.{Option, Some, None, Result, Ok, Err, IfSome, IfOk, OnOk}
 use Rattle.std.specs.Option.{option_map}
 use Rattle.det_values.specs.Values.{ProfileValue}
-use Rattle.det_edges.specs.Sink.{GrewByPrefix}
-use Rattle.det_edges.specs.Shelf.{ShelfState, Reads, IsAtEnd}
-use Rattle.det_edges.specs.Traffic.{ShelfRun, SinkRun}
-use Rattle.det_edges.specs.declared.failure.Failure.TheVariants.{Read, Write, OutOfMemory}
-use Rattle.det_edges.specs.declared.failure.Stopped.{Stopped}
-use Rattle.det_edges.specs.declared.failure.Stopped.TheVariants.{Refused, Failed}
-use Rattle.det_edges.proofs.Growth.{part-whole, short-part}
-use Rattle.job_trait.specs.Meaning.{Meaning}
+use Rattle.det_io.specs.Sink.{GrewByPrefix}
+use Rattle.det_io.specs.Shelf.{ShelfState, Reads, IsAtEnd}
+use Rattle.det_io.specs.Traffic.{ShelfRun, SinkRun}
+use Rattle.det_io.specs.declared.failure.Failure.TheVariants.{Read, Write, OutOfMemory}
+use Rattle.det_io.specs.declared.failure.Stopped.{Stopped}
+use Rattle.det_io.specs.declared.failure.Stopped.TheVariants.{Refused, Failed}
+use Rattle.det_io.proofs.Growth.{part-whole, short-part}
+use Rattle.job.specs.Meaning.{Meaning}
 use Rattle.cycle_engine.specs.Frames.{runs}
 use Rattle.stimulus.specs.declared.item.StimFault.{StimFault}
 use Rattle.stimulus.specs.Reading.{blocks}
 use Rattle.probes.specs.Reports.{AudienceState, reported}
 use Rattle.probes.specs.Shows.{Shows}
 use Rattle.probes.proofs.Shown.{all-reports}
-use Rattle.run_writer.specs.declared.counts.Counts.{Counts}
+use Rattle.recorder.specs.declared.run_writer.counts.Counts.{Counts}
 use Rattle.recorder.specs.Record.{record_of}
 use Rattle.recorder.specs.Ends.{Finishes, Stops, Answers, Ended}
 use Rattle.recorder.specs.Recorded.{HasRun, IsRecorded, UnlessCut}

@@ -1,11 +1,11 @@
 -- Where a recording begins.
 use Rattle.std.specs.Prelude.{◌≡◌, ◌<◌, [], length}
-use Rattle.det_edges.specs.Shelf.{ShelfState}
-use Rattle.job_trait.specs.Meaning.{Meaning}
-use Rattle.run_writer.specs.declared.recording.Recording.{Recording}
-use Rattle.run_writer.specs.Recording.{IsNew}
-use Rattle.stimulus_reader.specs.declared.reader.StimulusReader.{StimulusReader}
-use Rattle.stimulus_reader.specs.StandsFor.{StandsFor, slot_of, events_of}
+use Rattle.det_io.specs.Shelf.{ShelfState}
+use Rattle.job.specs.Meaning.{Meaning}
+use Rattle.recorder.specs.declared.run_writer.recording.Recording.{Recording}
+use Rattle.recorder.specs.run_writer.Recording.{IsNew}
+use Rattle.stimulus.specs.declared.slot_reader.reader.StimulusReader.{StimulusReader}
+use Rattle.stimulus.specs.slot_reader.StandsFor.{StandsFor, slot_of, events_of}
 
 -- nothing of the run was written, and nothing of its stimulus read
 pub record IsBegun {S G E L P : Type 0} (m : Meaning S G E L P) (recording : Recording S G E L P)

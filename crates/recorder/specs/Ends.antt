@@ -1,16 +1,16 @@
 -- How a recorded run ends.
 use Rattle.std.specs.Prelude.{◌≡◌, ◌⊎◌, ℕ, List, [], ◌++◌, length, true, false, Result, Ok, Err}
 use Rattle.det_values.specs.Values.{ProfileValue}
-use Rattle.det_edges.specs.Sink.{Grew, GrewByPrefix, GrewShort}
-use Rattle.det_edges.specs.declared.failure.Failure.TheVariants.{Read, Write, OutOfMemory}
-use Rattle.det_edges.specs.declared.failure.Stopped.{Stopped}
-use Rattle.det_edges.specs.declared.failure.Stopped.TheVariants.{Refused, Failed}
-use Rattle.job_trait.specs.Meaning.{Meaning}
+use Rattle.det_io.specs.Sink.{Grew, GrewByPrefix, GrewShort}
+use Rattle.det_io.specs.declared.failure.Failure.TheVariants.{Read, Write, OutOfMemory}
+use Rattle.det_io.specs.declared.failure.Stopped.{Stopped}
+use Rattle.det_io.specs.declared.failure.Stopped.TheVariants.{Refused, Failed}
+use Rattle.job.specs.Meaning.{Meaning}
 use Rattle.cycle_engine.specs.Frames.{runs}
 use Rattle.stimulus.specs.declared.item.StimFault.{StimFault}
 use Rattle.stimulus.specs.Reading.{Terminated, BadLine, blocks, ending, has_bad}
-use Rattle.run_writer.specs.declared.counts.Counts.{Counts}
-use Rattle.run_writer.specs.Record.{Counted, record_with}
+use Rattle.recorder.specs.declared.run_writer.counts.Counts.{Counts}
+use Rattle.recorder.specs.run_writer.Record.{Counted, record_with}
 use Rattle.recorder.specs.Record.{record_of}
 
 module _ {S G E L P : Type 0} (m : Meaning S G E L P) (profile : ProfileValue) where

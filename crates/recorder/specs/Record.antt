@@ -1,9 +1,9 @@
 -- The record of a stimulus: the run of a profile over the blocks of a text, spelled.
 use Rattle.std.specs.Prelude.{ℕ, List, length, Bool, true, false}
 use Rattle.det_values.specs.Values.{ProfileValue}
-use Rattle.job_trait.specs.Meaning.{Meaning}
+use Rattle.job.specs.Meaning.{Meaning}
 use Rattle.stimulus.specs.Reading.{Ending, Terminated, BadLine, blocks, ending}
-use Rattle.run_writer.specs.Record.{record_with}
+use Rattle.recorder.specs.run_writer.Record.{record_with}
 
 abbrev pub is_terminated : Ending → Bool
 is_terminated Terminated = true

@@ -3,21 +3,21 @@ use Rattle.std.specs.Prelude.{◌≡◌, ◌⊎◌, ℕ, List, [], length, false
 use Rattle.std.specs.Prelude.{OnOk}
 use Rattle.det_values.specs.Values.{ProfileValue}
 use Rattle.det_values.specs.declared.frames.CycleInput.{CycleInput}
-use Rattle.det_edges.specs.Prefix.{IsPrefix}
-use Rattle.det_edges.specs.Shelf.{Reads, IsAtEnd}
-use Rattle.det_edges.specs.Sink.{Grew, GrewByPrefix}
-use Rattle.det_edges.specs.Traffic.{ShelfRun, SinkRun}
-use Rattle.det_edges.specs.declared.failure.Failure.TheVariants.{Read, Write, OutOfMemory}
-use Rattle.det_edges.specs.declared.failure.Stopped.{Stopped}
-use Rattle.det_edges.specs.declared.failure.Stopped.TheVariants.{Refused, Failed}
-use Rattle.job_trait.specs.Meaning.{Meaning}
+use Rattle.det_io.specs.Prefix.{IsPrefix}
+use Rattle.det_io.specs.Shelf.{Reads, IsAtEnd}
+use Rattle.det_io.specs.Sink.{Grew, GrewByPrefix}
+use Rattle.det_io.specs.Traffic.{ShelfRun, SinkRun}
+use Rattle.det_io.specs.declared.failure.Failure.TheVariants.{Read, Write, OutOfMemory}
+use Rattle.det_io.specs.declared.failure.Stopped.{Stopped}
+use Rattle.det_io.specs.declared.failure.Stopped.TheVariants.{Refused, Failed}
+use Rattle.job.specs.Meaning.{Meaning}
 use Rattle.cycle_engine.specs.Frames.{runs}
 use Rattle.stimulus.specs.declared.item.StimFault.{StimFault}
 use Rattle.stimulus.specs.Reading.{blocks}
 use Rattle.probes.specs.Reports.{AudienceState, reported}
 use Rattle.probes.specs.Shows.{Shows, ShowsFirst}
-use Rattle.run_writer.specs.declared.counts.Counts.{Counts}
-use Rattle.run_writer.specs.Record.{record_with}
+use Rattle.recorder.specs.declared.run_writer.counts.Counts.{Counts}
+use Rattle.recorder.specs.run_writer.Record.{record_with}
 use Rattle.recorder.specs.Record.{record_of}
 use Rattle.recorder.specs.Ends.{Finishes, Stops, Ended}
 

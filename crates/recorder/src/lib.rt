@@ -2,5 +2,6 @@
 #![tactic(auto)]
 
 mod recording;
+pub mod run_writer;
 
 pub use recording::record_run;

@@ -1,17 +1,17 @@
 //! Runs a job over a stimulus and writes its record.
-ghost use Rattle.det_edges.specs.Traffic.{ShelfTraffic, SinkTraffic};
-ghost use Rattle.det_edges.specs.Traffic.{shelf_run, sink_run, failure_in};
+ghost use Rattle.det_io.specs.Traffic.{ShelfTraffic, SinkTraffic};
+ghost use Rattle.det_io.specs.Traffic.{shelf_run, sink_run, failure_in};
 ghost use Rattle.probes.specs.Shows.{seen};
-ghost use Rattle.stimulus_reader.specs.StandsFor.{slot_of};
+ghost use Rattle.stimulus.specs.slot_reader.StandsFor.{slot_of};
 ghost use Rattle.recorder.specs.Begun.{IsBegun};
 ghost use Rattle.recorder.specs.Recorded.{IsRecorded};
 
-use det_edges::{Sink, Slots, Stopped};
-use job_trait::{Job, Pool};
+use crate::run_writer::{Counts, Recording};
+use det_io::{Sink, Slots, Stopped};
+use job::{Job, Pool};
 use probes::{Audience, Probe};
-use run_writer::{Counts, Recording};
 use stimulus::StimFault;
-use stimulus_reader::StimulusReader;
+use stimulus::slot_reader::StimulusReader;
 
 /// Runs a job on a pool over the stimulus that a slot has left, and writes the record of its
 /// profile and of this text.

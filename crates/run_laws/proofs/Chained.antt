@@ -7,28 +7,28 @@ use Rattle.det_values.specs.Values.{ProfileValue}
 use Rattle.det_values.specs.declared.frames.CycleInput.{CycleInput}
 use Rattle.det_values.specs.declared.job_kind.JobKind.{JobKind}
 use Rattle.det_values.specs.declared.job_kind.JobKind.TheVariants.{Bank, Cloud, Guard}
-use Rattle.job_trait.specs.Meaning.{Meaning}
-use Rattle.job_bank.specs.Meaning as bank
-use Rattle.job_bank.specs.Ranges as bank_ranges
-use Rattle.job_bank.specs.Laws.{bank_laws}
-use Rattle.job_cloud.specs.Meaning as cloud
-use Rattle.job_cloud.specs.Ranges as cloud_ranges
-use Rattle.job_cloud.specs.Laws.{cloud_laws}
-use Rattle.job_guard.specs.Meaning as guard
-use Rattle.job_guard.specs.Ranges as guard_ranges
-use Rattle.job_guard.specs.Laws.{guard_laws}
-use Rattle.shipped_jobs.specs.Kinds.{by_kind}
+use Rattle.job.specs.Meaning.{Meaning}
+use Rattle.jobs.specs.bank.Meaning as bank
+use Rattle.jobs.specs.bank.Ranges as bank_ranges
+use Rattle.jobs.specs.bank.Laws.{bank_laws}
+use Rattle.jobs.specs.cloud.Meaning as cloud
+use Rattle.jobs.specs.cloud.Ranges as cloud_ranges
+use Rattle.jobs.specs.cloud.Laws.{cloud_laws}
+use Rattle.jobs.specs.guard.Meaning as guard
+use Rattle.jobs.specs.guard.Ranges as guard_ranges
+use Rattle.jobs.specs.guard.Laws.{guard_laws}
+use Rattle.jobs.specs.Kinds.{by_kind}
 use Rattle.cycle_engine.specs.Frames.{first_state, runs}
 use Rattle.cycle_engine.proofs.Standing.{length-runs}
 use Rattle.record_grammar.specs.Spelling.{IsHeader, IsInput}
-use Rattle.run_writer.specs.Record.{record_with}
+use Rattle.recorder.specs.run_writer.Record.{record_with}
 use Rattle.stimulus.specs.Reading.{blocks, ending}
 use Rattle.stimulus.proofs.Counting.{few_blocks}
 use Rattle.recorder.specs.Record.{is_terminated}
-use Rattle.chain.specs.Derived.{derived, derived_input}
+use Rattle.cmd_run.specs.chain.Derived.{derived, derived_input}
 use Rattle.manifest.specs.Meaning.{manifest_of}
-use Rattle.cmd_chain.specs.Chain.{chained}
-use Rattle.cmd_chain.specs.Clients.{Client, client_of, chained_by_kinds, chained_from}
+use Rattle.cmd_run.specs.chain_command.Chain.{chained}
+use Rattle.cmd_run.specs.chain_command.Clients.{Client, client_of, chained_by_kinds, chained_from}
 use Rattle.cli_answers.specs.Outcome.{Outcome}
 use Rattle.run_laws.specs.Statements.{IsRunRead, frames_by_kind}
 use Rattle.run_laws.specs.Chains.{passed_on, second_frames, IsChainRead, ChainIsRead}

@@ -6,24 +6,24 @@ use Rattle.det_values.specs.Values.{ProfileValue}
 use Rattle.det_values.specs.declared.frames.CycleInput.{CycleInput}
 use Rattle.det_values.specs.declared.job_kind.JobKind.{JobKind}
 use Rattle.det_values.specs.declared.job_kind.JobKind.TheVariants.{Bank, Cloud, Guard}
-use Rattle.job_trait.specs.Meaning.{Meaning}
-use Rattle.job_bank.specs.Meaning as bank
-use Rattle.job_cloud.specs.Meaning as cloud
-use Rattle.job_guard.specs.Meaning as guard
+use Rattle.job.specs.Meaning.{Meaning}
+use Rattle.jobs.specs.bank.Meaning as bank
+use Rattle.jobs.specs.cloud.Meaning as cloud
+use Rattle.jobs.specs.guard.Meaning as guard
 use Rattle.cycle_engine.specs.Frames.{frames}
 use Rattle.stimulus.specs.Reading.{blocks, ending}
 use Rattle.recorder.specs.Record.{is_terminated}
 use Rattle.manifest.specs.Profiles.{profile_of}
 use Rattle.manifest.specs.Meaning.{manifest_of}
-use Rattle.cmd_record.specs.Outcomes.{demo_profile, demo_outcome, record_outcome}
+use Rattle.cmd_run.specs.record_command.Outcomes.{demo_profile, demo_outcome, record_outcome}
 use Rattle.probes.specs.Reports.{AudienceState, reported}
 use Rattle.record_text.specs.Words.{number_line}
-use Rattle.checker.specs.Departure.{run_of}
-use Rattle.checker.specs.Verdict.{verdict_by}
+use Rattle.rerun.specs.checker.Departure.{run_of}
+use Rattle.rerun.specs.checker.Verdict.{verdict_by}
 use Rattle.cli_answers.specs.declared.answer.Answer.TheVariants.{Done}
 use Rattle.cli_answers.specs.Outcome.{Outcome}
-use Rattle.cmd_check.specs.Check.{outcome_by, checked_with, check_outcome}
-use Rattle.cmd_check.specs.Visited.{checked}
+use Rattle.cmd_rerun.specs.check_command.Check.{outcome_by, checked_with, check_outcome}
+use Rattle.cmd_rerun.specs.check_command.Visited.{checked}
 use Rattle.run_laws.proofs.NamedRuns.{checked_by}
 use Rattle.run_laws.specs.Statements.{IsRunRead, frames_by_kind, fault_if}
 use Rattle.run_laws.specs.Checks.{checked_of, RecordIsChecked, DemoIsChecked}

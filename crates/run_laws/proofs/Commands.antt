@@ -12,15 +12,15 @@ use Rattle.det_values.specs.declared.job_kind.JobKind.{JobKind}
 use Rattle.det_values.specs.declared.job_kind.JobKind.TheVariants.{Bank, Cloud, Guard}
 use Rattle.det_values.specs.Values.{ProfileValue, EventSpecValue}
 use Rattle.job_shared.proofs.Ranges.{wide_fits}
-use Rattle.job_bank.specs.Meaning as bank
-use Rattle.job_bank.specs.Ranges as bank_ranges
-use Rattle.job_bank.specs.Laws.{bank_laws}
-use Rattle.job_cloud.specs.Meaning as cloud
-use Rattle.job_cloud.specs.Ranges as cloud_ranges
-use Rattle.job_cloud.specs.Laws.{cloud_laws}
-use Rattle.job_guard.specs.Meaning as guard
-use Rattle.job_guard.specs.Ranges as guard_ranges
-use Rattle.job_guard.specs.Laws.{guard_laws}
+use Rattle.jobs.specs.bank.Meaning as bank
+use Rattle.jobs.specs.bank.Ranges as bank_ranges
+use Rattle.jobs.specs.bank.Laws.{bank_laws}
+use Rattle.jobs.specs.cloud.Meaning as cloud
+use Rattle.jobs.specs.cloud.Ranges as cloud_ranges
+use Rattle.jobs.specs.cloud.Laws.{cloud_laws}
+use Rattle.jobs.specs.guard.Meaning as guard
+use Rattle.jobs.specs.guard.Ranges as guard_ranges
+use Rattle.jobs.specs.guard.Laws.{guard_laws}
 use Rattle.record_grammar.specs.Spelling.{IsHeader, IsEvent}
 use Rattle.manifest.specs.Values.{ManifestValue}
 use Rattle.manifest.specs.Profiles.{profile_of}
@@ -28,10 +28,10 @@ use Rattle.manifest.specs.Meaning.{manifest_of}
 use Rattle.manifest.specs.declared.fault.ManifestFault.{ManifestFault}
 use Rattle.cli_answers.specs.declared.answer.BadManifest.{BadManifest}
 use Rattle.cli_answers.specs.declared.answer.BadManifest.TheVariants.{Parameter}
-use Rattle.shipped_jobs.specs.Kinds.{bad_param}
-use Rattle.cmd_setup.specs.Setup.{setup_from, setup_of}
-use Rattle.cmd_record.specs.Outcomes.{demo_profile, demo_outcome, recorded_by_kind}
-use Rattle.cmd_record.proofs.ByManifest.{recorded_by}
+use Rattle.jobs.specs.Kinds.{bad_param}
+use Rattle.run_setup.specs.Setup.{setup_from, setup_of}
+use Rattle.cmd_run.specs.record_command.Outcomes.{demo_profile, demo_outcome, recorded_by_kind}
+use Rattle.cmd_run.proofs.lemmas.record_command.ByManifest.{recorded_by}
 use Rattle.run_laws.specs.Statements.{frames_by_kind, IsRecordRead, RecordIsRead, DemoIsRead}
 use Rattle.run_laws.proofs.Shipped.{bank_spelled, cloud_spelled, guard_spelled}
 use Rattle.run_laws.proofs.Parameters.{bank_fits, cloud_fits, guard_fits}

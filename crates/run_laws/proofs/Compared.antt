@@ -4,15 +4,15 @@ use Rattle.std.specs.List.{AllByRecursion}
 use Rattle.record_grammar.specs.Record.{items}
 use Rattle.record_grammar.specs.Spelling.{AreBytes}
 use Rattle.record_reader.specs.Salvaged.{cycles_of}
-use Rattle.lockstep.specs.declared.verdict.BadCopy.{BadCopy}
-use Rattle.lockstep.specs.declared.verdict.Verdict.{Verdict}
-use Rattle.lockstep.specs.declared.verdict.Verdict.TheVariants.{Agree, Differ}
-use Rattle.lockstep.specs.Verdict.{verdict}
-use Rattle.lockstep.specs.Laws.{AreOneRecord}
-use Rattle.lockstep.proofs.Agreeing.{agrees, agreed}
+use Rattle.copies.specs.declared.verdict.BadCopy.{BadCopy}
+use Rattle.copies.specs.declared.verdict.Verdict.{Verdict}
+use Rattle.copies.specs.declared.verdict.Verdict.TheVariants.{Agree, Differ}
+use Rattle.copies.specs.Verdict.{verdict}
+use Rattle.copies.specs.Laws.{AreOneRecord}
+use Rattle.copies.proofs.Agreeing.{agrees, agreed}
 use Rattle.cli_answers.specs.declared.answer.Answer.TheVariants.{Done}
 use Rattle.cli_answers.specs.Outcome.{Outcome}
-use Rattle.cmd_compare.specs.Compare.{compared}
+use Rattle.cmd_records.specs.compare_command.Compare.{compared}
 use Rattle.run_laws.specs.Copies.{CopiesAreCompared}
 
 -- what is done is that copies agree

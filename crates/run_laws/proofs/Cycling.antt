@@ -5,13 +5,13 @@ use Rattle.std.specs.List.{All}
 use Rattle.std.proofs.lemmas.List.Elements.{All-nil, All-cons, All-head, All-tail, All-weaker}
 use Rattle.det_values.specs.declared.format.Format.TheVariants.{Two}
 use Rattle.det_values.specs.Values.{RefusedAtValue}
-use Rattle.event_cache.specs.Windows.{AreWindows}
-use Rattle.job_trait.specs.declared.answers.Concluded.{Concluded}
-use Rattle.job_trait.specs.Meaning.{Meaning, Prepared}
-use Rattle.job_trait.specs.Laws.{JobLaws, CoversSome}
-use Rattle.job_trait.specs.Pass.{Passed, Refusal, passed}
-use Rattle.job_trait.specs.Cycle.{State, Done, added, refused_in_prepare, refused_in_conclude, in_pool, shown_with, next_pass, first_pass}
-use Rattle.job_trait.specs.Cycle.{passes_on, all_passes, concluded, cycled, outcome_of, state_after}
+use Rattle.job.specs.event_cache.Windows.{AreWindows}
+use Rattle.job.specs.declared.answers.Concluded.{Concluded}
+use Rattle.job.specs.Meaning.{Meaning, Prepared}
+use Rattle.job.specs.Laws.{JobLaws, CoversSome}
+use Rattle.job.specs.Pass.{Passed, Refusal, passed}
+use Rattle.job.specs.Cycle.{State, Done, added, refused_in_prepare, refused_in_conclude, in_pool, shown_with, next_pass, first_pass}
+use Rattle.job.specs.Cycle.{passes_on, all_passes, concluded, cycled, outcome_of, state_after}
 use Rattle.record_grammar.specs.Spelling.{IsDrawn, IsRefusal, IsOutcome}
 use Rattle.run_laws.proofs.SpelledJob.{IsSpelledJob}
 use Rattle.run_laws.proofs.Passing.{IsKept, IsPassed, pass_kept}

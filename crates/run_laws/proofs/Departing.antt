@@ -2,10 +2,10 @@
 use Rattle.std.proofs.Common.{◌≡◌, ℕ, suc, List, [], ◌∷◌, ◌++◌, length, cond, Option, Some, None, refl, ap, ◌∙◌, arith}
 use Rattle.std.specs.Option.{is_none, option_or}
 use Rattle.det_values.specs.declared.frames.Frame.{Frame}
-use Rattle.lockstep.specs.declared.difference.Difference.{Difference}
-use Rattle.lockstep.specs.FirstDifference.{frame_difference}
-use Rattle.lockstep.proofs.FirstDifference.{frame-apart}
-use Rattle.checker.specs.Departure.{agreeing, departure_from}
+use Rattle.copies.specs.declared.difference.Difference.{Difference}
+use Rattle.copies.specs.FirstDifference.{frame_difference}
+use Rattle.copies.proofs.FirstDifference.{frame-apart}
+use Rattle.rerun.specs.checker.Departure.{agreeing, departure_from}
 
 -- a frame and itself have no difference
 no_difference : (number : ℕ) (frame : Frame) → frame_difference number frame frame ≡ None

@@ -8,14 +8,14 @@ use Rattle.record_grammar.specs.Record.{items as items_in}
 use Rattle.record_grammar.specs.Spelling.{AreBytes}
 use Rattle.record_reader.specs.Salvaged.{cycles_of}
 use Rattle.record_text.specs.Words.{number_line}
-use Rattle.lockstep.specs.Verdict.{shared}
-use Rattle.voter.specs.declared.outcome.Dissenter.{Dissenter}
-use Rattle.voter.specs.Majority.{is_record, is_majority, majority, dissent, spelled_items}
-use Rattle.voter.specs.Standing.{IsRecord}
-use Rattle.voter.proofs.Counting.{most-true, most-is, count-cons}
-use Rattle.voter.proofs.Held.{record-tells, record-yes, majority-is, majority-passes}
+use Rattle.copies.specs.Verdict.{shared}
+use Rattle.cmd_records.specs.declared.voter.outcome.Dissenter.{Dissenter}
+use Rattle.cmd_records.specs.voter.Majority.{is_record, is_majority, majority, dissent, spelled_items}
+use Rattle.cmd_records.specs.voter.Standing.{IsRecord}
+use Rattle.cmd_records.proofs.lemmas.voter.Counting.{most-true, most-is, count-cons}
+use Rattle.cmd_records.proofs.lemmas.voter.Held.{record-tells, record-yes, majority-is, majority-passes}
 use Rattle.cli_answers.specs.declared.answer.Answer.TheVariants.{Done}
-use Rattle.cmd_vote.specs.Vote.{voted_by, dissent_text, dissent_by}
+use Rattle.cmd_records.specs.vote_command.Vote.{voted_by, dissent_text, dissent_by}
 use Rattle.run_laws.specs.Votes.{others_than, AreNamed, AnsweredAlike, OthersAreNamed, NoneIsNamed}
 use Rattle.run_laws.proofs.Voted.{spelling, one-passes, same-bytes, equal-bytes}
 

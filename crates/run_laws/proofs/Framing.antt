@@ -14,10 +14,10 @@ use Rattle.det_values.specs.declared.frames.Outcome.TheVariants.{Finished, Refus
 use Rattle.det_values.specs.declared.frames.Frame.{Frame}
 use Rattle.det_values.specs.declared.frames.Frame.TheVariants as frames
 use Rattle.det_client.specs.State.{next_time}
-use Rattle.event_cache.specs.Windows.{AreWindows, windows_after}
-use Rattle.job_trait.specs.Meaning.{Meaning}
-use Rattle.job_trait.specs.Laws.{JobLaws}
-use Rattle.job_trait.specs.Cycle.{State, Done, outcome_of, state_after}
+use Rattle.job.specs.event_cache.Windows.{AreWindows, windows_after}
+use Rattle.job.specs.Meaning.{Meaning}
+use Rattle.job.specs.Laws.{JobLaws}
+use Rattle.job.specs.Cycle.{State, Done, outcome_of, state_after}
 use Rattle.cycle_engine.specs.Frames.{samples_of, job_of, first_state, cycle_of, frame_of, runs_behind, runs, init_of, frames as frames_of}
 use Rattle.cycle_engine.proofs.Standing.{length-runs}
 use Rattle.record_grammar.specs.Spelling.{IsHeader, IsSample, IsInput, IsElement, IsDrawn, IsOutcome, IsFrame, AreRun, spelled, Spells}

@@ -10,16 +10,16 @@ use Rattle.record_grammar.specs.declared.item.Item.{Item}
 use Rattle.record_grammar.specs.declared.item.Item.TheVariants as items
 use Rattle.record_grammar.specs.Record.{items as items_in, fault as fault_in}
 use Rattle.record_grammar.specs.Spelling.{AreBytes}
-use Rattle.record_show.specs.Text.{format_in}
-use Rattle.replayer.specs.Again.{inputs}
+use Rattle.cmd_records.specs.record_show.Text.{format_in}
+use Rattle.rerun.specs.replayer.Again.{inputs}
 use Rattle.probes.specs.Reports.{AudienceState}
-use Rattle.upgrader.specs.Upgraded.{in_format_two}
+use Rattle.rerun.specs.upgrader.Upgraded.{in_format_two}
 use Rattle.cli_answers.specs.declared.answer.Answer.TheVariants.{Done}
 use Rattle.cli_answers.specs.Outcome.{Outcome}
-use Rattle.recorded_run.specs.declared.bad_run.BadRun.{BadRun}
-use Rattle.recorded_run.specs.declared.bad_run.BadRun.TheVariants.{Fault, Profile}
-use Rattle.recorded_run.specs.Run.{RunValue, taking, kind_of, run_by, run_of}
-use Rattle.cmd_upgrade.specs.Visited.{upgraded_by_kind}
+use Rattle.run_setup.specs.declared.recorded_run.bad_run.BadRun.{BadRun}
+use Rattle.run_setup.specs.declared.recorded_run.bad_run.BadRun.TheVariants.{Fault, Profile}
+use Rattle.run_setup.specs.recorded_run.Run.{RunValue, taking, kind_of, run_by, run_of}
+use Rattle.cmd_rerun.specs.upgrade_command.Visited.{upgraded_by_kind}
 use Rattle.run_laws.proofs.NamedRuns.{run_with, replayed_by, checked_by, upgraded_by}
 use Rattle.run_laws.specs.Statements.{given_again}
 use Rattle.run_laws.specs.Checks.{IsGenuine, GenuineIsReplayed, GenuineIsUpgraded, FormatTwoStays}

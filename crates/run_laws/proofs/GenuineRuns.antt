@@ -6,17 +6,17 @@ use Rattle.det_values.specs.declared.frames.CycleInput.{CycleInput}
 use Rattle.det_values.specs.declared.frames.Frame.{Frame}
 use Rattle.det_values.specs.declared.job_kind.JobKind.{JobKind}
 use Rattle.det_values.specs.declared.job_kind.JobKind.TheVariants.{Bank, Cloud, Guard}
-use Rattle.job_trait.specs.Meaning.{Meaning}
-use Rattle.job_trait.specs.Laws.{JobLaws}
-use Rattle.job_bank.specs.Meaning as bank
-use Rattle.job_bank.specs.Ranges as bank_ranges
-use Rattle.job_bank.specs.Laws.{bank_laws}
-use Rattle.job_cloud.specs.Meaning as cloud
-use Rattle.job_cloud.specs.Ranges as cloud_ranges
-use Rattle.job_cloud.specs.Laws.{cloud_laws}
-use Rattle.job_guard.specs.Meaning as guard
-use Rattle.job_guard.specs.Ranges as guard_ranges
-use Rattle.job_guard.specs.Laws.{guard_laws}
+use Rattle.job.specs.Meaning.{Meaning}
+use Rattle.job.specs.Laws.{JobLaws}
+use Rattle.jobs.specs.bank.Meaning as bank
+use Rattle.jobs.specs.bank.Ranges as bank_ranges
+use Rattle.jobs.specs.bank.Laws.{bank_laws}
+use Rattle.jobs.specs.cloud.Meaning as cloud
+use Rattle.jobs.specs.cloud.Ranges as cloud_ranges
+use Rattle.jobs.specs.cloud.Laws.{cloud_laws}
+use Rattle.jobs.specs.guard.Meaning as guard
+use Rattle.jobs.specs.guard.Ranges as guard_ranges
+use Rattle.jobs.specs.guard.Laws.{guard_laws}
 use Rattle.cycle_engine.specs.Frames.{frames}
 use Rattle.record_grammar.specs.declared.fault.RecordFault.{RecordFault}
 use Rattle.record_grammar.specs.declared.item.Item.{Item}
@@ -24,22 +24,22 @@ use Rattle.record_grammar.specs.declared.item.Item.TheVariants as items
 use Rattle.record_grammar.specs.Record.{items as items_in, fault as fault_in}
 use Rattle.record_grammar.specs.Spelling.{AreBytes, SpellsWhole}
 use Rattle.record_grammar.specs.Laws.{items_of}
-use Rattle.record_laws.proofs.Spelled.{spelled_is_read}
-use Rattle.lockstep.specs.declared.difference.Difference.{Difference}
+use Rattle.record_grammar.proofs.lemmas.record_laws.Spelled.{spelled_is_read}
+use Rattle.copies.specs.declared.difference.Difference.{Difference}
 use Rattle.probes.specs.Reports.{AudienceState, reported}
-use Rattle.replayer.specs.Again.{inputs}
-use Rattle.checker.specs.Departure.{departure, checked_runs}
-use Rattle.checker.specs.Verdict.{verdict_by}
-use Rattle.upgrader.specs.Upgraded.{in_format_two, upgraded}
+use Rattle.rerun.specs.replayer.Again.{inputs}
+use Rattle.rerun.specs.checker.Departure.{departure, checked_runs}
+use Rattle.rerun.specs.checker.Verdict.{verdict_by}
+use Rattle.rerun.specs.upgrader.Upgraded.{in_format_two, upgraded}
 use Rattle.cli_answers.specs.declared.answer.Answer.TheVariants.{Done, Differs}
 use Rattle.cli_answers.specs.Answers.{by_fault}
 use Rattle.cli_answers.specs.Outcome.{Outcome}
-use Rattle.cmd_replay.specs.Replay.{replayed_with}
-use Rattle.cmd_replay.specs.Visited.{replayed}
-use Rattle.cmd_check.specs.Check.{outcome_by, checked_with}
-use Rattle.cmd_check.specs.Visited.{checked}
-use Rattle.cmd_upgrade.specs.Upgrade.{upgraded_with}
-use Rattle.cmd_upgrade.specs.Visited.{upgraded_by_kind}
+use Rattle.cmd_rerun.specs.replay_command.Replay.{replayed_with}
+use Rattle.cmd_rerun.specs.replay_command.Visited.{replayed}
+use Rattle.cmd_rerun.specs.check_command.Check.{outcome_by, checked_with}
+use Rattle.cmd_rerun.specs.check_command.Visited.{checked}
+use Rattle.cmd_rerun.specs.upgrade_command.Upgrade.{upgraded_with}
+use Rattle.cmd_rerun.specs.upgrade_command.Visited.{upgraded_by_kind}
 use Rattle.run_laws.specs.Statements.{IsRunRead, given_again}
 use Rattle.run_laws.proofs.SpelledJob.{IsSpelledJob}
 use Rattle.run_laws.proofs.Shipped.{bank_spelled, cloud_spelled, guard_spelled}

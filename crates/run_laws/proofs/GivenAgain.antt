@@ -7,8 +7,8 @@ use Rattle.manifest.specs.Values.{ManifestValue}
 use Rattle.manifest.specs.Profiles.{profile_of}
 use Rattle.cli_answers.specs.declared.answer.BadManifest.{BadManifest}
 use Rattle.manifest.specs.Meaning.{manifest_of}
-use Rattle.cmd_record.specs.Outcomes.{demo_profile, demo_outcome}
-use Rattle.cmd_record.proofs.ByManifest.{recorded_by}
+use Rattle.cmd_run.specs.record_command.Outcomes.{demo_profile, demo_outcome}
+use Rattle.cmd_run.proofs.lemmas.record_command.ByManifest.{recorded_by}
 use Rattle.run_laws.specs.Statements.{frames_by_kind, IsRecordRead, IsRecordReplayed, RecordIsReplayed, DemoIsReplayed}
 use Rattle.run_laws.proofs.Commands.{is_taken, record_read, demo_read}
 use Rattle.run_laws.proofs.Replayed.{kind_is_replayed}

@@ -6,13 +6,13 @@ use Rattle.det_values.specs.Values.{ProfileValue}
 use Rattle.det_values.specs.declared.format.Format.TheVariants.{Two}
 use Rattle.det_values.specs.declared.frames.CycleInput.{CycleInput}
 use Rattle.det_values.specs.declared.frames.Frame.{Frame}
-use Rattle.job_trait.specs.Meaning.{Meaning}
-use Rattle.job_trait.specs.Laws.{JobLaws}
+use Rattle.job.specs.Meaning.{Meaning}
+use Rattle.job.specs.Laws.{JobLaws}
 use Rattle.cycle_engine.specs.Frames.{frames}
 use Rattle.record_grammar.specs.Spelling.{IsHeader, SpellsWhole, spelled}
-use Rattle.run_writer.specs.Record.{record_with}
-use Rattle.replayer.specs.Again.{inputs}
-use Rattle.upgrader.specs.Upgraded.{in_format_two, upgraded_with, upgraded}
+use Rattle.recorder.specs.run_writer.Record.{record_with}
+use Rattle.rerun.specs.replayer.Again.{inputs}
+use Rattle.rerun.specs.upgrader.Upgraded.{in_format_two, upgraded_with, upgraded}
 use Rattle.run_laws.specs.Statements.{IsRunRead}
 use Rattle.run_laws.proofs.SpelledJob.{IsSpelledJob}
 use Rattle.run_laws.proofs.Reading.{run_is_read}

@@ -4,12 +4,12 @@ use Rattle.det_values.specs.Values.{ProfileValue}
 use Rattle.det_values.specs.declared.job_kind.JobKind.{JobKind}
 use Rattle.probes.specs.Reports.{AudienceState}
 use Rattle.cli_answers.specs.Outcome.{Outcome, refusal}
-use Rattle.recorded_run.specs.declared.bad_run.BadRun.{BadRun}
-use Rattle.recorded_run.specs.declared.bad_run.BadRun.TheVariants.{Profile}
-use Rattle.recorded_run.specs.Run.{RunValue, over_run, refused}
-use Rattle.cmd_replay.specs.Replay.{replayed_with}
-use Rattle.cmd_check.specs.Check.{checked_with}
-use Rattle.cmd_upgrade.specs.Upgrade.{upgraded_with}
+use Rattle.run_setup.specs.declared.recorded_run.bad_run.BadRun.{BadRun}
+use Rattle.run_setup.specs.declared.recorded_run.bad_run.BadRun.TheVariants.{Profile}
+use Rattle.run_setup.specs.recorded_run.Run.{RunValue, over_run, refused}
+use Rattle.cmd_rerun.specs.replay_command.Replay.{replayed_with}
+use Rattle.cmd_rerun.specs.check_command.Check.{checked_with}
+use Rattle.cmd_rerun.specs.upgrade_command.Upgrade.{upgraded_with}
 
 -- a profile with the kind that takes it
 abbrev pub run_with : Option JobKind → ProfileValue → Result RunValue BadRun

@@ -9,18 +9,18 @@ use Rattle.det_values.specs.declared.frames.CycleInput.{CycleInput}
 use Rattle.det_values.specs.declared.frames.RunFrame.{RunFrame}
 use Rattle.det_values.specs.declared.frames.Frame.{Frame}
 use Rattle.det_values.specs.declared.frames.Frame.TheVariants.{Register, Discover, Init, Run, Terminate}
-use Rattle.job_trait.specs.Meaning.{Meaning}
-use Rattle.job_trait.specs.Laws.{JobLaws}
+use Rattle.job.specs.Meaning.{Meaning}
+use Rattle.job.specs.Laws.{JobLaws}
 use Rattle.cycle_engine.specs.Frames.{first_state, init_of, runs, frames}
 use Rattle.cycle_engine.proofs.Standing.{length-runs, frames-ended}
 use Rattle.record_grammar.specs.Record.{items as items_in, fault as fault_in}
 use Rattle.record_grammar.specs.Laws.{items_of}
 use Rattle.record_grammar.specs.Spelling.{IsInput, SpellsWhole, spelled}
-use Rattle.record_laws.proofs.Spelled.{spelled_is_read}
-use Rattle.run_writer.specs.Record.{record_with}
-use Rattle.replayer.specs.Again.{input_in, inputs, again}
-use Rattle.checker.specs.Departure.{agreeing, departure_from, departure, run_of, frames_in, given_by, genuine_frames, checked_runs}
-use Rattle.checker.specs.Verdict.{check_verdict, verdict_by}
+use Rattle.record_grammar.proofs.lemmas.record_laws.Spelled.{spelled_is_read}
+use Rattle.recorder.specs.run_writer.Record.{record_with}
+use Rattle.rerun.specs.replayer.Again.{input_in, inputs, again}
+use Rattle.rerun.specs.checker.Departure.{agreeing, departure_from, departure, run_of, frames_in, given_by, genuine_frames, checked_runs}
+use Rattle.rerun.specs.checker.Verdict.{check_verdict, verdict_by}
 use Rattle.run_laws.specs.Statements.{IsRunRead, fault_if}
 use Rattle.run_laws.proofs.SpelledJob.{IsSpelledJob}
 use Rattle.run_laws.proofs.Departing.{departs_nowhere, all_agree, same_frames}

@@ -10,9 +10,9 @@ use Rattle.std.proofs.lemmas.Int.{ints}
 use Rattle.std.proofs.lemmas.List.Elements.{All-from_get_or}
 use Rattle.job_shared.specs.Params.{param, is_param}
 use Rattle.job_shared.proofs.Ranges.{wide_fits}
-use Rattle.job_bank.specs.Meaning as bank
-use Rattle.job_cloud.specs.Meaning as cloud
-use Rattle.job_guard.specs.Meaning as guard
+use Rattle.jobs.specs.bank.Meaning as bank
+use Rattle.jobs.specs.cloud.Meaning as cloud
+use Rattle.jobs.specs.guard.Meaning as guard
 
 abbrev Fits : ℤ → Type 0
 Fits z = FitsSigned w64 z

@@ -11,13 +11,13 @@ use Rattle.det_values.specs.declared.frames.CycleInput.{CycleInput}
 use Rattle.det_values.specs.declared.frames.Outcome.{Outcome}
 use Rattle.det_values.specs.declared.frames.Outcome.TheVariants.{Finished, Refused}
 use Rattle.det_values.specs.declared.frames.RunFrame.{RunFrame}
-use Rattle.job_trait.specs.Meaning.{Meaning}
-use Rattle.job_trait.specs.Cycle.{State, state_after}
+use Rattle.job.specs.Meaning.{Meaning}
+use Rattle.job.specs.Cycle.{State, state_after}
 use Rattle.cycle_engine.specs.Frames.{cycle_of, frame_of, runs_behind, first_state}
 use Rattle.record_grammar.specs.Spelling.{IsTime, IsInput}
-use Rattle.chain.specs.Derived.{sample_of, first_word, samples_from, samples_of, derived_input, derived}
-use Rattle.chain.proofs.Samples.{is_sample_value}
-use Rattle.chain.proofs.Samples.{known-samples, few-samples}
+use Rattle.cmd_run.specs.chain.Derived.{sample_of, first_word, samples_from, samples_of, derived_input, derived}
+use Rattle.cmd_run.proofs.lemmas.chain.Samples.{is_sample_value}
+use Rattle.cmd_run.proofs.lemmas.chain.Samples.{known-samples, few-samples}
 use Rattle.run_laws.proofs.Parameters.{below}
 
 abbrev InRange : SampleValue → Type 0

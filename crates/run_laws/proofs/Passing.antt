@@ -3,10 +3,10 @@ use Rattle.std.proofs.Common.{◌≡◌, ℕ, ◌+◌, ◌^◌, ◌<◌, ◌≤�
 use Rattle.std.proofs.Common.{length-append}
 use Rattle.std.specs.List.{All}
 use Rattle.std.proofs.lemmas.List.Elements.{All-nil, All-head, All-tail, All-push}
-use Rattle.element_random.specs.Words.{key}
-use Rattle.job_trait.specs.Meaning.{Meaning, Worked}
-use Rattle.job_trait.specs.Laws.{JobLaws, CoversSome}
-use Rattle.job_trait.specs.Pass.{Passed, Refusal, nothing, more, taken, passed}
+use Rattle.det_client.specs.element_random.Words.{key}
+use Rattle.job.specs.Meaning.{Meaning, Worked}
+use Rattle.job.specs.Laws.{JobLaws, CoversSome}
+use Rattle.job.specs.Pass.{Passed, Refusal, nothing, more, taken, passed}
 use Rattle.run_laws.proofs.SpelledJob.{IsSpelledJob}
 
 -- n elements that are the job's own, each with at most so many words, and a part that covers them

@@ -3,14 +3,14 @@ use Rattle.std.proofs.Common.{ℕ, ◌≤◌, List, length, Bool, true, false, a
 use Rattle.std.specs.List.{All}
 use Rattle.det_values.specs.declared.frames.CycleInput.{CycleInput}
 use Rattle.det_values.specs.Values.{ProfileValue}
-use Rattle.job_trait.specs.Meaning.{Meaning}
-use Rattle.job_trait.specs.Laws.{JobLaws}
+use Rattle.job.specs.Meaning.{Meaning}
+use Rattle.job.specs.Laws.{JobLaws}
 use Rattle.cycle_engine.specs.Frames.{frames, init_of, runs}
 use Rattle.record_grammar.specs.Spelling.{IsHeader, IsInput}
-use Rattle.record_laws.proofs.Spelled.{spelled_is_read}
+use Rattle.record_grammar.proofs.lemmas.record_laws.Spelled.{spelled_is_read}
 use Rattle.stimulus.specs.Reading.{blocks, ending}
 use Rattle.stimulus.proofs.Counting.{few_blocks}
-use Rattle.run_writer.specs.Record.{record_with}
+use Rattle.recorder.specs.run_writer.Record.{record_with}
 use Rattle.recorder.specs.Record.{is_terminated, record_of}
 use Rattle.run_laws.specs.Statements.{IsRunRead, IsRecordRead}
 use Rattle.run_laws.proofs.SpelledJob.{IsSpelledJob}

@@ -10,24 +10,24 @@ use Rattle.det_values.specs.declared.frames.Frame.{Frame}
 use Rattle.det_values.specs.declared.frames.Frame.TheVariants.{Register, Discover, Init, Run, Terminate}
 use Rattle.det_values.specs.declared.job_kind.JobKind.{JobKind}
 use Rattle.det_values.specs.declared.job_kind.JobKind.TheVariants.{Bank, Cloud, Guard}
-use Rattle.job_trait.specs.Meaning.{Meaning}
-use Rattle.job_bank.specs.Meaning as bank
-use Rattle.job_cloud.specs.Meaning as cloud
-use Rattle.job_guard.specs.Meaning as guard
+use Rattle.job.specs.Meaning.{Meaning}
+use Rattle.jobs.specs.bank.Meaning as bank
+use Rattle.jobs.specs.cloud.Meaning as cloud
+use Rattle.jobs.specs.guard.Meaning as guard
 use Rattle.cycle_engine.specs.Frames.{frames, init_of, runs}
 use Rattle.record_grammar.specs.declared.item.Item.TheVariants as items
 use Rattle.record_grammar.specs.Record.{fault as fault_in}
 use Rattle.record_grammar.specs.Spelling.{spelled}
 use Rattle.record_reader.specs.Salvaged.{kept, salvaged_from, salvaged}
-use Rattle.run_writer.specs.Record.{record_with}
+use Rattle.recorder.specs.run_writer.Record.{record_with}
 use Rattle.stimulus.specs.Reading.{blocks, ending}
 use Rattle.recorder.specs.Record.{is_terminated, record_of}
 use Rattle.manifest.specs.Values.{ManifestValue}
 use Rattle.manifest.specs.Profiles.{profile_of}
 use Rattle.cli_answers.specs.declared.answer.BadManifest.{BadManifest}
-use Rattle.cmd_record.specs.Outcomes.{demo_profile, demo_outcome, recorded_by_kind}
-use Rattle.cmd_record.proofs.ByManifest.{recorded_by}
-use Rattle.cmd_salvage.specs.Salvage.{outcome_by}
+use Rattle.cmd_run.specs.record_command.Outcomes.{demo_profile, demo_outcome, recorded_by_kind}
+use Rattle.cmd_run.proofs.lemmas.record_command.ByManifest.{recorded_by}
+use Rattle.cmd_records.specs.salvage_command.Salvage.{outcome_by}
 use Rattle.run_laws.specs.Statements.{frames_by_kind, IsRunRead, IsRecordRead}
 use Rattle.run_laws.specs.Salvages.{IsRecordSalvaged, RecordIsSalvaged, DemoIsSalvaged}
 use Rattle.run_laws.proofs.Commands.{record_read, demo_read}

@@ -10,24 +10,24 @@ use Rattle.det_values.specs.declared.frames.Frame.{Frame}
 use Rattle.det_values.specs.declared.frames.Frame.TheVariants.{Run, Terminate}
 use Rattle.det_values.specs.declared.job_kind.JobKind.{JobKind}
 use Rattle.det_values.specs.declared.job_kind.JobKind.TheVariants.{Bank, Cloud, Guard}
-use Rattle.job_trait.specs.Meaning.{Meaning}
-use Rattle.job_trait.specs.Cycle.{State, state_after}
-use Rattle.job_bank.specs.Meaning as bank
-use Rattle.job_cloud.specs.Meaning as cloud
-use Rattle.job_guard.specs.Meaning as guard
-use Rattle.shipped_jobs.specs.Kinds.{bad_param}
+use Rattle.job.specs.Meaning.{Meaning}
+use Rattle.job.specs.Cycle.{State, state_after}
+use Rattle.jobs.specs.bank.Meaning as bank
+use Rattle.jobs.specs.cloud.Meaning as cloud
+use Rattle.jobs.specs.guard.Meaning as guard
+use Rattle.jobs.specs.Kinds.{bad_param}
 use Rattle.cycle_engine.specs.Frames.{cycle_of, runs_behind, first_state, frames}
 use Rattle.record_grammar.specs.declared.item.Item.TheVariants as items
 use Rattle.record_grammar.specs.Record.{items as items_in, fault as fault_in}
 use Rattle.record_grammar.specs.Laws.{items_of}
-use Rattle.run_writer.specs.Record.{record_with}
+use Rattle.recorder.specs.run_writer.Record.{record_with}
 use Rattle.stimulus.specs.Reading.{blocks, ending}
 use Rattle.recorder.specs.Record.{is_terminated, record_of}
-use Rattle.replayer.specs.Again.{input_in, inputs, is_whole, again}
-use Rattle.recorded_run.specs.Run.{taking, run_of, run_by}
-use Rattle.cmd_replay.specs.Replay.{replayed_with}
-use Rattle.cmd_replay.specs.Visited.{replayed}
-use Rattle.cmd_record.specs.Outcomes.{recorded_by_kind}
+use Rattle.rerun.specs.replayer.Again.{input_in, inputs, is_whole, again}
+use Rattle.run_setup.specs.recorded_run.Run.{taking, run_of, run_by}
+use Rattle.cmd_rerun.specs.replay_command.Replay.{replayed_with}
+use Rattle.cmd_rerun.specs.replay_command.Visited.{replayed}
+use Rattle.cmd_run.specs.record_command.Outcomes.{recorded_by_kind}
 use Rattle.run_laws.proofs.NamedRuns.{run_with, replayed_by}
 use Rattle.run_laws.specs.Statements.{IsRunRead, IsRecordRead, IsRecordReplayed, given_again, frames_by_kind, fault_if}
 

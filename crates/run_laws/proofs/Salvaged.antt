@@ -17,13 +17,13 @@ use Rattle.record_grammar.specs.Places.{layout_of}
 use Rattle.record_grammar.specs.Record.{items as items_in, fault as fault_in}
 use Rattle.record_grammar.specs.Spelling.{AreBytes, spelled, SpellsWhole}
 use Rattle.record_grammar.specs.Laws.{AreItems, items_of, items_spelling}
-use Rattle.record_laws.proofs.Order.{in_order}
-use Rattle.record_laws.proofs.Spelled.{spelled_is_read}
-use Rattle.record_laws.proofs.Whole.{decoded_is}
+use Rattle.record_grammar.proofs.lemmas.record_laws.Order.{in_order}
+use Rattle.record_grammar.proofs.lemmas.record_laws.Spelled.{spelled_is_read}
+use Rattle.record_grammar.proofs.lemmas.record_laws.Whole.{decoded_is}
 use Rattle.record_reader.specs.Salvaged.{kept, is_init, salvaged_from, salvaged}
 use Rattle.record_reader.specs.InItems.{runs_in}
 use Rattle.cli_answers.specs.declared.answer.Answer.TheVariants.{Done}
-use Rattle.cmd_salvage.specs.Salvage.{outcome_by, salvage_outcome}
+use Rattle.cmd_records.specs.salvage_command.Salvage.{outcome_by, salvage_outcome}
 use Rattle.run_laws.specs.Salvages.{ended, InitIsEnough, IsMadeWhole, SalvagedIsWhole, WholeIsKept}
 use Rattle.run_laws.proofs.WholeRecords.{whole_run}
 

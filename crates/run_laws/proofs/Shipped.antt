@@ -5,23 +5,23 @@ use Rattle.std.specs.Prelude.{nat_le, nat_lt, unwrap_or}
 use Rattle.std.specs.List.{flat_map}
 use Rattle.std.specs.Int.{w16, w32, w64, bytes_high_first, byte_at, byte_len, cast_unsigned}
 use Rattle.std.proofs.lemmas.List.Elements.{All-nil, All-cons, All-append}
-use Rattle.job_trait.specs.declared.answers.Concluded.{Concluded}
-use Rattle.job_trait.specs.Meaning.{Worked}
+use Rattle.job.specs.declared.answers.Concluded.{Concluded}
+use Rattle.job.specs.Meaning.{Worked}
 use Rattle.record_grammar.specs.Spelling.{AreBytes}
 use Rattle.job_shared.specs.Samples.{newest}
 use Rattle.job_shared.specs.Bytes.{u16_bytes, u32_bytes, u64_bytes, i64_bytes}
-use Rattle.job_bank.specs.Meaning as bank
-use Rattle.job_bank.specs.declared.channel.Channel.{Channel as BankChannel}
-use Rattle.job_bank.specs.declared.summary.Summary.{Summary}
-use Rattle.job_bank.specs.declared.job.NoGlobals.{NoGlobals}
-use Rattle.job_cloud.specs.Meaning as cloud
-use Rattle.job_cloud.specs.declared.best.Best.{Best}
-use Rattle.job_cloud.specs.declared.job.Finished.{Finished}
-use Rattle.job_guard.specs.Meaning as guard
-use Rattle.job_guard.specs.Bounds.{contains}
-use Rattle.job_guard.specs.declared.guard.Guard.{Guard}
-use Rattle.job_guard.specs.declared.channel.Channel.{Channel as GuardChannel}
-use Rattle.job_guard.specs.declared.job.Total.{Total}
+use Rattle.jobs.specs.bank.Meaning as bank
+use Rattle.jobs.specs.declared.bank.channel.Channel.{Channel as BankChannel}
+use Rattle.jobs.specs.declared.bank.summary.Summary.{Summary}
+use Rattle.jobs.specs.declared.bank.cycle.NoGlobals.{NoGlobals}
+use Rattle.jobs.specs.cloud.Meaning as cloud
+use Rattle.jobs.specs.declared.cloud.best.Best.{Best}
+use Rattle.jobs.specs.declared.cloud.cycle.Finished.{Finished}
+use Rattle.jobs.specs.guard.Meaning as guard
+use Rattle.jobs.specs.guard.Bounds.{contains}
+use Rattle.jobs.specs.declared.guard.guard.Guard.{Guard}
+use Rattle.jobs.specs.declared.guard.channel.Channel.{Channel as GuardChannel}
+use Rattle.jobs.specs.declared.guard.cycle.Total.{Total}
 use Rattle.run_laws.proofs.SpelledJob.{IsSpelledJob}
 
 -- ---- bytes

@@ -5,14 +5,14 @@ use Rattle.det_values.specs.Values.{ProfileValue}
 use Rattle.det_values.specs.declared.frames.CycleInput.{CycleInput}
 use Rattle.det_values.specs.declared.frames.Frame.{Frame}
 use Rattle.record_text.specs.declared.part.ShowPart.TheVariants.{All}
-use Rattle.record_show.specs.Text.{text_from}
+use Rattle.cmd_records.specs.record_show.Text.{text_from}
 use Rattle.probes.specs.Reports.{AudienceState}
 use Rattle.cli_answers.specs.Answers.{by_fault}
-use Rattle.cmd_show.specs.Show.{show_outcome}
-use Rattle.job_bank.specs.Meaning as bank
+use Rattle.cmd_records.specs.show_command.Show.{show_outcome}
+use Rattle.jobs.specs.bank.Meaning as bank
 use Rattle.cycle_engine.specs.Frames.{frames}
 use Rattle.manifest.specs.Profiles.{profile_of}
-use Rattle.cmd_record.specs.Outcomes.{demo_profile, demo_outcome, record_outcome}
+use Rattle.cmd_run.specs.record_command.Outcomes.{demo_profile, demo_outcome, record_outcome}
 use Rattle.run_laws.specs.Statements.{IsRunRead, IsRecordRead, IsRecordShown, RecordIsShown, DemoIsShown, shown_of, fault_if}
 use Rattle.run_laws.specs.Statements.{frames_by_kind}
 use Rattle.run_laws.proofs.Commands.{record_read, demo_read}

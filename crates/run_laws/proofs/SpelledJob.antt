@@ -1,7 +1,7 @@
 -- What a record asks of a job beside its laws: texts are bytes, and a code has four of them.
 use Rattle.std.proofs.Common.{◌≡◌, ℕ, ℤ, ◌^◌, ◌<◌, List, Option, Ok, Err}
-use Rattle.job_trait.specs.declared.answers.Concluded.{Concluded}
-use Rattle.job_trait.specs.Meaning.{Meaning}
+use Rattle.job.specs.declared.answers.Concluded.{Concluded}
+use Rattle.job.specs.Meaning.{Meaning}
 use Rattle.record_grammar.specs.Spelling.{AreBytes}
 
 pub record IsSpelledJob {S G E L P : Type 0} (m : Meaning S G E L P) : Type 0 where

@@ -6,7 +6,7 @@ use Rattle.std.specs.List.{count_by, flat_map, starts_with, AllByRecursion}
 use Rattle.std.proofs.lemmas.Bool.Decides.{Decides-eqb}
 use Rattle.std.proofs.lemmas.List.{drop_at}
 use Rattle.std.proofs.lemmas.Slice.Eq.{starts_is}
-use Rattle.det_edges.specs.Prefix.{IsPrefix}
+use Rattle.det_io.specs.Prefix.{IsPrefix}
 use Rattle.det_values.specs.declared.frames.Frame.{Frame}
 use Rattle.record_grammar.specs.declared.place.Place.{Place}
 use Rattle.record_grammar.specs.declared.place.Place.TheVariants as places
@@ -17,17 +17,17 @@ use Rattle.record_grammar.specs.Record.{items as items_in}
 use Rattle.record_grammar.specs.Spelling.{AreBytes, spelled}
 use Rattle.record_grammar.specs.Laws.{AreItems, items_of, items_spelling}
 use Rattle.record_grammar.proofs.Leads.{all_at_more}
-use Rattle.record_laws.proofs.Order.{in_order}
-use Rattle.record_laws.proofs.Whole.{nil_more, all_leads_on, decoded_is}
-use Rattle.voter.specs.Majority.{majority, are_held, common, spelled_items}
+use Rattle.record_grammar.proofs.lemmas.record_laws.Order.{in_order}
+use Rattle.record_grammar.proofs.lemmas.record_laws.Whole.{nil_more, all_leads_on, decoded_is}
+use Rattle.cmd_records.specs.voter.Majority.{majority, are_held, common, spelled_items}
 use Rattle.record_reader.specs.InItems.{frame_in}
-use Rattle.voter.proofs.Counting.{most-true, most-is, count-cons}
-use Rattle.voter.proofs.Prefixes.{begins_with, begins-tells}
-use Rattle.voter.proofs.Held.{common-from, common-is}
-use Rattle.voter.proofs.Spelled.{spelled-prefix}
+use Rattle.cmd_records.proofs.lemmas.voter.Counting.{most-true, most-is, count-cons}
+use Rattle.cmd_records.proofs.lemmas.voter.Prefixes.{begins_with, begins-tells}
+use Rattle.cmd_records.proofs.lemmas.voter.Held.{common-from, common-is}
+use Rattle.cmd_records.proofs.lemmas.voter.Spelled.{spelled-prefix}
 use Rattle.cli_answers.specs.declared.answer.Answer.TheVariants.{NoMajority}
 use Rattle.cli_answers.specs.Outcome.{Outcome}
-use Rattle.cmd_vote.specs.Vote.{voted_by, vote_outcome}
+use Rattle.cmd_records.specs.vote_command.Vote.{voted_by, vote_outcome}
 use Rattle.run_laws.specs.Votes.{IsMajority, beginning_with, AreCommon, SplitIsCommon}
 use Rattle.run_laws.proofs.Voted.{fewer, one-passes, majority_is_written}
 use Rattle.run_laws.proofs.WholeRecords.{all_frames}

@@ -14,8 +14,8 @@ use Rattle.det_values.specs.declared.frames.Frame.{Frame}
 use Rattle.det_values.specs.declared.frames.Frame.TheVariants.{Register, Discover, Init, Run, Terminate}
 use Rattle.det_values.specs.declared.job_kind.JobKind.{JobKind}
 use Rattle.det_values.specs.declared.job_kind.JobKind.TheVariants.{Bank, Cloud, Guard}
-use Rattle.job_trait.specs.Meaning.{Meaning}
-use Rattle.job_cloud.specs.Meaning as cloud
+use Rattle.job.specs.Meaning.{Meaning}
+use Rattle.jobs.specs.cloud.Meaning as cloud
 use Rattle.cycle_engine.specs.Frames.{frames, init_of, runs}
 use Rattle.record_grammar.specs.declared.item.Item.{Item}
 use Rattle.record_grammar.specs.declared.item.Item.TheVariants as items
@@ -28,12 +28,12 @@ use Rattle.probes.specs.Reports.{AudienceState, reported}
 use Rattle.probes.specs.Shipped.{outcome_refused, is_refused}
 use Rattle.stimulus.specs.Made.{made}
 use Rattle.stimulus.specs.Reading.{blocks, ending}
-use Rattle.run_writer.specs.Record.{counted}
+use Rattle.recorder.specs.run_writer.Record.{counted}
 use Rattle.recorder.specs.Record.{is_terminated, record_of}
 use Rattle.cli_answers.specs.Outcome.{text_outcome}
-use Rattle.cmd_record.specs.Outcomes.{record_outcome, recorded_by_kind}
-use Rattle.cmd_record.proofs.ByManifest.{recorded_by}
-use Rattle.cmd_sim.specs.Sim.{sim_profile, runs_over, summary_over, sim_runs, summary_of, sim_text, sim_outcome}
+use Rattle.cmd_run.specs.record_command.Outcomes.{record_outcome, recorded_by_kind}
+use Rattle.cmd_run.proofs.lemmas.record_command.ByManifest.{recorded_by}
+use Rattle.cmd_run.specs.sim_command.Sim.{sim_profile, runs_over, summary_over, sim_runs, summary_of, sim_text, sim_outcome}
 use Rattle.run_laws.specs.Statements.{IsRecordRead, frames_by_kind}
 use Rattle.run_laws.specs.Sums.{summed_up, SimIsRecorded}
 use Rattle.run_laws.proofs.Commands.{record_read}

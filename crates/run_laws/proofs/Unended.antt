@@ -14,8 +14,8 @@ use Rattle.record_grammar.specs.Record.{fault, fault_from, early, ending_at}
 use Rattle.record_grammar.specs.Spelling.{Spells}
 use Rattle.record_grammar.specs.Laws.{AreItems, items_of}
 use Rattle.record_grammar.proofs.Leads.{all_at_more}
-use Rattle.record_laws.proofs.Order.{in_order}
-use Rattle.record_laws.proofs.Whole.{nil_more, all_leads_on}
+use Rattle.record_grammar.proofs.lemmas.record_laws.Order.{in_order}
+use Rattle.record_grammar.proofs.lemmas.record_laws.Whole.{nil_more, all_leads_on}
 
 abbrev begun_frames : List (List ℕ) → List RunFrame → List Frame
 begun_frames elements runs = frames.Register ∷ frames.Discover ∷ frames.Init elements ∷ map frames.Run runs

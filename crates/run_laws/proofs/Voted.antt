@@ -7,13 +7,13 @@ use Rattle.std.proofs.lemmas.Slice.Eq.{bytes_eq-Decides}
 use Rattle.record_grammar.specs.declared.item.Item.{Item}
 use Rattle.record_grammar.specs.Record.{items as items_in, fault as fault_in}
 use Rattle.record_grammar.specs.Spelling.{AreBytes}
-use Rattle.voter.specs.Majority.{is_record, is_majority, majority, spelled_items}
-use Rattle.voter.specs.Standing.{IsRecord}
-use Rattle.voter.proofs.Counting.{most-true, most-is, count-cons}
-use Rattle.voter.proofs.Held.{record-tells, record-yes, majority-is, majority-passes}
-use Rattle.voter.proofs.Spelled.{whole-spelled}
+use Rattle.cmd_records.specs.voter.Majority.{is_record, is_majority, majority, spelled_items}
+use Rattle.cmd_records.specs.voter.Standing.{IsRecord}
+use Rattle.cmd_records.proofs.lemmas.voter.Counting.{most-true, most-is, count-cons}
+use Rattle.cmd_records.proofs.lemmas.voter.Held.{record-tells, record-yes, majority-is, majority-passes}
+use Rattle.cmd_records.proofs.lemmas.voter.Spelled.{whole-spelled}
 use Rattle.cli_answers.specs.declared.answer.Answer.TheVariants.{Done}
-use Rattle.cmd_vote.specs.Vote.{voted_by, vote_outcome}
+use Rattle.cmd_records.specs.vote_command.Vote.{voted_by, vote_outcome}
 use Rattle.run_laws.specs.Votes.{IsMajority, MajorityIsWritten, DoneIsMajority}
 
 -- what passes one test of copies that are bytes passes the other

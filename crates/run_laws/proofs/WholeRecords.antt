@@ -15,10 +15,10 @@ use Rattle.record_grammar.specs.Places.{after, layout_of}
 use Rattle.record_grammar.specs.Record.{items as items_in, fault as fault_in}
 use Rattle.record_grammar.specs.Spelling.{AreBytes, IsInput, IsFrame, AreRun, SpellsWhole}
 use Rattle.record_grammar.specs.Laws.{MayStand, AreItems, IsWhole, items_of, items_spelling}
-use Rattle.record_laws.proofs.Order.{in_order}
-use Rattle.record_laws.proofs.Whole.{decoded_is}
-use Rattle.replayer.specs.Again.{input_in}
-use Rattle.checker.specs.Departure.{frames_in}
+use Rattle.record_grammar.proofs.lemmas.record_laws.Order.{in_order}
+use Rattle.record_grammar.proofs.lemmas.record_laws.Whole.{decoded_is}
+use Rattle.rerun.specs.replayer.Again.{input_in}
+use Rattle.rerun.specs.checker.Departure.{frames_in}
 use Rattle.record_reader.specs.InItems.{frame_in}
 
 -- ---- items behind a header

@@ -6,7 +6,7 @@ use Rattle.det_values.specs.Limits.{IsSampleValue}
 use Rattle.det_values.specs.Values.{SampleValue, EventSpecValue}
 use Rattle.det_values.specs.declared.event.Policy.{Policy}
 use Rattle.det_values.specs.declared.event.Policy.TheVariants.{Last, Fresh}
-use Rattle.event_cache.specs.Windows.{values_of, all_of, last_of, looked_at, window, windows_from, windows_after, AreWindows}
+use Rattle.job.specs.event_cache.Windows.{values_of, all_of, last_of, looked_at, window, windows_from, windows_after, AreWindows}
 
 abbrev IsGood : SampleValue → Type 0
 IsGood s = IsSampleValue s.value

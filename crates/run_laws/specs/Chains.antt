@@ -5,17 +5,17 @@ use Rattle.det_values.specs.Values.{ProfileValue}
 use Rattle.det_values.specs.declared.frames.CycleInput.{CycleInput}
 use Rattle.det_values.specs.declared.frames.Frame.{Frame}
 use Rattle.det_values.specs.declared.job_kind.JobKind.{JobKind}
-use Rattle.shipped_jobs.specs.Kinds.{by_kind}
+use Rattle.jobs.specs.Kinds.{by_kind}
 use Rattle.stimulus.specs.Reading.{blocks, ending}
 use Rattle.recorder.specs.Record.{is_terminated, record_of}
-use Rattle.chain.specs.Derived.{derived}
+use Rattle.cmd_run.specs.chain.Derived.{derived}
 use Rattle.manifest.specs.Values.{ManifestValue}
-use Rattle.cmd_setup.specs.Setup.{setup_of}
-use Rattle.cmd_record.specs.Outcomes.{recorded_by_kind}
-use Rattle.cmd_chain.specs.Chain.{chain_outcome}
-use Rattle.cmd_chain.specs.Clients.{Client, client_of}
+use Rattle.run_setup.specs.Setup.{setup_of}
+use Rattle.cmd_run.specs.record_command.Outcomes.{recorded_by_kind}
+use Rattle.cmd_run.specs.chain_command.Chain.{chain_outcome}
+use Rattle.cmd_run.specs.chain_command.Clients.{Client, client_of}
 use Rattle.probes.specs.Reports.{AudienceState}
-use Rattle.cmd_check.specs.Check.{check_outcome}
+use Rattle.cmd_rerun.specs.check_command.Check.{check_outcome}
 use Rattle.run_laws.specs.Statements.{frames_by_kind, fault_if, IsRunRead}
 use Rattle.run_laws.specs.Checks.{checked_of}
 
@@ -52,7 +52,7 @@ IsChainRead first second stimulus bytes =
     IsSecond first second (blocks (length first.profile.events) stimulus)
     (is_terminated (ending (length first.profile.events) stimulus)) bytes
 
--- this is so of what `chain` writes, where both manifests are taken
+-- this is so of what `cmd_run::chain` writes, where both manifests are taken
 abbrev pub ChainIsRead : Type 0
 ChainIsRead =
     (strict : Bool) (first second stimulus : List ℕ) (seed : Option ℕ) (m n : ManifestValue)

@@ -8,7 +8,7 @@ use Rattle.det_values.specs.declared.format.Format.TheVariants.{Two}
 use Rattle.det_values.specs.declared.frames.CycleInput.{CycleInput}
 use Rattle.det_values.specs.declared.frames.Frame.{Frame}
 use Rattle.det_values.specs.Values.{ProfileValue}
-use Rattle.job_bank.specs.Meaning as bank
+use Rattle.jobs.specs.bank.Meaning as bank
 use Rattle.cycle_engine.specs.Frames.{frames}
 use Rattle.record_grammar.specs.declared.fault.RecordFault.{RecordFault}
 use Rattle.record_grammar.specs.Record.{items}
@@ -17,18 +17,18 @@ use Rattle.stimulus.specs.Reading.{blocks, ending}
 use Rattle.recorder.specs.Record.{is_terminated}
 use Rattle.manifest.specs.Values.{ManifestValue}
 use Rattle.manifest.specs.Profiles.{profile_of}
-use Rattle.cmd_setup.specs.Setup.{setup_of}
-use Rattle.cmd_record.specs.Outcomes.{demo_profile, demo_outcome, record_outcome}
+use Rattle.run_setup.specs.Setup.{setup_of}
+use Rattle.cmd_run.specs.record_command.Outcomes.{demo_profile, demo_outcome, record_outcome}
 use Rattle.probes.specs.Reports.{AudienceState, reported}
 use Rattle.record_text.specs.Words.{number_line}
-use Rattle.record_show.specs.Text.{format_in}
-use Rattle.replayer.specs.Again.{inputs}
-use Rattle.checker.specs.Departure.{run_of}
+use Rattle.cmd_records.specs.record_show.Text.{format_in}
+use Rattle.rerun.specs.replayer.Again.{inputs}
+use Rattle.rerun.specs.checker.Departure.{run_of}
 use Rattle.cli_answers.specs.declared.answer.Answer.TheVariants.{Done, BadRecord}
 use Rattle.cli_answers.specs.Outcome.{Outcome, refusal}
-use Rattle.cmd_replay.specs.Replay.{replay_outcome}
-use Rattle.cmd_check.specs.Check.{check_outcome}
-use Rattle.cmd_upgrade.specs.Upgrade.{upgrade_outcome}
+use Rattle.cmd_rerun.specs.replay_command.Replay.{replay_outcome}
+use Rattle.cmd_rerun.specs.check_command.Check.{check_outcome}
+use Rattle.cmd_rerun.specs.upgrade_command.Upgrade.{upgrade_outcome}
 use Rattle.run_laws.specs.Statements.{frames_by_kind, fault_if, given_again}
 
 -- What `check` gives of the record of a run: where that was ended, the line that it is genuine with

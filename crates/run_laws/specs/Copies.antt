@@ -4,11 +4,11 @@ use Rattle.std.specs.List.{AllByRecursion}
 use Rattle.record_grammar.specs.Record.{items}
 use Rattle.record_grammar.specs.Spelling.{AreBytes}
 use Rattle.record_reader.specs.Salvaged.{cycles_of}
-use Rattle.lockstep.specs.declared.verdict.Verdict.TheVariants.{Agree}
-use Rattle.lockstep.specs.Laws.{AreOneRecord}
-use Rattle.verdict_text.specs.Verdicts.{verdict_line}
+use Rattle.copies.specs.declared.verdict.Verdict.TheVariants.{Agree}
+use Rattle.copies.specs.Laws.{AreOneRecord}
+use Rattle.copies.specs.verdict_text.Verdicts.{verdict_line}
 use Rattle.cli_answers.specs.declared.answer.Answer.TheVariants.{Done}
-use Rattle.cmd_compare.specs.Compare.{compare_outcome}
+use Rattle.cmd_records.specs.compare_command.Compare.{compare_outcome}
 
 -- Copies are answered with Done exactly where all of them are one whole record, and then the line
 -- that they agree tells the number of its runs.

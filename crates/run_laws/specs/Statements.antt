@@ -6,8 +6,8 @@ use Rattle.det_values.specs.declared.frames.CycleInput.{CycleInput}
 use Rattle.det_values.specs.declared.frames.Frame.{Frame}
 use Rattle.det_values.specs.declared.job_kind.JobKind.{JobKind}
 use Rattle.det_values.specs.Values.{ProfileValue}
-use Rattle.job_bank.specs.Meaning as bank
-use Rattle.shipped_jobs.specs.Kinds.{by_kind}
+use Rattle.jobs.specs.bank.Meaning as bank
+use Rattle.jobs.specs.Kinds.{by_kind}
 use Rattle.cycle_engine.specs.Frames.{frames}
 use Rattle.record_grammar.specs.declared.fault.Reason.TheVariants.{Truncated}
 use Rattle.record_grammar.specs.declared.fault.RecordFault.{RecordFault}
@@ -17,15 +17,15 @@ use Rattle.stimulus.specs.Reading.{blocks, ending}
 use Rattle.recorder.specs.Record.{is_terminated}
 use Rattle.manifest.specs.Values.{ManifestValue}
 use Rattle.manifest.specs.Profiles.{profile_of}
-use Rattle.cmd_setup.specs.Setup.{setup_of}
-use Rattle.cmd_record.specs.Outcomes.{demo_profile, demo_outcome, record_outcome}
+use Rattle.run_setup.specs.Setup.{setup_of}
+use Rattle.cmd_run.specs.record_command.Outcomes.{demo_profile, demo_outcome, record_outcome}
 use Rattle.probes.specs.Reports.{AudienceState}
 use Rattle.record_text.specs.declared.part.ShowPart.TheVariants.{All}
-use Rattle.record_show.specs.Text.{text_from}
+use Rattle.cmd_records.specs.record_show.Text.{text_from}
 use Rattle.cli_answers.specs.Outcome.{Outcome}
 use Rattle.cli_answers.specs.Answers.{by_fault}
-use Rattle.cmd_show.specs.Show.{show_outcome}
-use Rattle.cmd_replay.specs.Replay.{replay_outcome}
+use Rattle.cmd_records.specs.show_command.Show.{show_outcome}
+use Rattle.cmd_rerun.specs.replay_command.Replay.{replay_outcome}
 
 -- the frames of a run, by the kind of its job
 abbrev pub frames_by_kind : JobKind → ProfileValue → List CycleInput → Bool → List Frame

@@ -7,13 +7,13 @@ use Rattle.record_text.specs.Summaries.{summary_lines}
 use Rattle.record_reader.specs.InItems.{runs_in}
 use Rattle.probes.specs.Reports.{AudienceState, reported}
 use Rattle.stimulus.specs.Made.{made}
-use Rattle.run_writer.specs.Record.{counted}
+use Rattle.recorder.specs.run_writer.Record.{counted}
 use Rattle.manifest.specs.Values.{ManifestValue}
 use Rattle.manifest.specs.Profiles.{profile_of}
 use Rattle.cli_answers.specs.Outcome.{Outcome, text_outcome}
-use Rattle.cmd_setup.specs.Setup.{setup_of}
-use Rattle.cmd_record.specs.Outcomes.{record_outcome}
-use Rattle.cmd_sim.specs.Sim.{sim_profile, sim_outcome}
+use Rattle.run_setup.specs.Setup.{setup_of}
+use Rattle.cmd_run.specs.record_command.Outcomes.{record_outcome}
+use Rattle.cmd_run.specs.sim_command.Sim.{sim_profile, sim_outcome}
 
 -- the lines that sum up a record under a number, and what an audience reports of its cycles
 abbrev pub summed_up : AudienceState → ℕ → List ℕ → Outcome

@@ -3,17 +3,17 @@ use Rattle.std.specs.Prelude.{◌≡◌, ℕ, ◌+◌, ◌<◌, List, [], ◌∷
 use Rattle.std.specs.Prelude.{if◌then◌else◌, nat_eq}
 use Rattle.std.specs.List.{count_by, starts_with, AllByRecursion}
 use Rattle.std.specs.Str.{bytes_eq}
-use Rattle.det_edges.specs.Prefix.{IsPrefix}
+use Rattle.det_io.specs.Prefix.{IsPrefix}
 use Rattle.record_grammar.specs.declared.item.Item.{Item}
 use Rattle.record_grammar.specs.Record.{items, fault}
 use Rattle.record_grammar.specs.Spelling.{AreBytes}
 use Rattle.record_reader.specs.Salvaged.{cycles_of}
 use Rattle.record_text.specs.Words.{number_line}
-use Rattle.lockstep.specs.Laws.{AreOneRecord}
-use Rattle.voter.specs.declared.outcome.Dissenter.{Dissenter}
-use Rattle.voter.specs.Majority.{dissent, are_held, spelled_items}
+use Rattle.copies.specs.Laws.{AreOneRecord}
+use Rattle.cmd_records.specs.declared.voter.outcome.Dissenter.{Dissenter}
+use Rattle.cmd_records.specs.voter.Majority.{dissent, are_held, spelled_items}
 use Rattle.cli_answers.specs.declared.answer.Answer.TheVariants.{Done, NoMajority}
-use Rattle.cmd_vote.specs.Vote.{vote_outcome, dissent_text, dissent_outcome}
+use Rattle.cmd_records.specs.vote_command.Vote.{vote_outcome, dissent_text, dissent_outcome}
 
 -- ---- the majority
 

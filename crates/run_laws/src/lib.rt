@@ -69,7 +69,7 @@ pub fn dissenting()
 {}
 
 /// The record of the first client of a chain, which the command drops, is the one that `record`
-/// writes of the first manifest. What `chain` writes is read as the second manifest's profile and
+/// writes of the first manifest. What `cmd_run::chain` writes is read as the second manifest's profile and
 /// the frames of its run over the inputs that the first client passes on, and `check` finds it
 /// genuine; where a bad line ended the stimulus, it ends too early.
 pub fn chaining()

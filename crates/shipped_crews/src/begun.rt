@@ -1,14 +1,14 @@
 //! A run that has just begun, and its crew.
 ghost use Rattle.std.specs.Prelude.{◌≡◌, length, min, max, None, IfOk};
-ghost use Rattle.job_trait.specs.Passes.{blocks_of};
-ghost use Rattle.run_writer.specs.Recording.{IsNew};
+ghost use Rattle.job.specs.Passes.{blocks_of};
+ghost use Rattle.recorder.specs.run_writer.Recording.{IsNew};
 ghost use Rattle.worker_pool.specs.Crews.{room_name};
 
 use crate::workers::{Workers, busy};
 use cycle_engine::Engine;
 use det_values::{OutOfMemory, Profile};
-use job_trait::Job;
-use run_writer::{Recording, Runner};
+use job::Job;
+use recorder::run_writer::{Recording, Runner};
 use std::thread::Threads;
 use tickets::Room;
 use worker_pool::{Crew, CrewRoom, Gate};

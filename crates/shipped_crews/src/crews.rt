@@ -1,19 +1,19 @@
 //! A run of a shipped job, and a crew for it.
 ghost use Rattle.std.specs.Prelude.{◌≡◌, length, None, IfOk, OnErr};
-ghost use Rattle.det_edges.specs.Traffic.{shelf_run, sink_run};
+ghost use Rattle.det_io.specs.Traffic.{shelf_run, sink_run};
 ghost use Rattle.probes.specs.Shows.{seen};
-ghost use Rattle.run_writer.specs.Recording.{IsNew};
-ghost use Rattle.shipped_jobs.specs.Kinds.{bad_param, of_kind};
+ghost use Rattle.recorder.specs.run_writer.Recording.{IsNew};
+ghost use Rattle.jobs.specs.Kinds.{bad_param, of_kind};
 ghost use Rattle.worker_pool.specs.Crews.{room_name};
 
 use crate::begun::{Begun, begin, crewed, stop_crew};
 use crate::visit::Visit;
 use crate::workers::Workers;
-use det_edges::{Sink, Slots};
+use det_io::{Sink, Slots};
 use det_values::{JobKind, OutOfMemory, Profile};
-use job_trait::Job;
+use job::Job;
+use jobs::{Bank, Cloud, Guard};
 use probes::{Audience, Probe};
-use shipped_jobs::{Bank, Cloud, Guard};
 use std::marker::Brand;
 use std::thread::Threads;
 use tickets::Room;

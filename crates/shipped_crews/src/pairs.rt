@@ -1,19 +1,19 @@
 //! The runs of two shipped jobs, and a crew for each.
 ghost use Rattle.std.specs.Prelude.{◌≡◌, length, None, IfOk, OnErr};
-ghost use Rattle.det_edges.specs.Traffic.{shelf_run, sink_run};
-ghost use Rattle.run_writer.specs.Recording.{IsNew};
-ghost use Rattle.shipped_jobs.specs.Kinds.{bad_param, of_kind};
+ghost use Rattle.det_io.specs.Traffic.{shelf_run, sink_run};
+ghost use Rattle.recorder.specs.run_writer.Recording.{IsNew};
+ghost use Rattle.jobs.specs.Kinds.{bad_param, of_kind};
 ghost use Rattle.worker_pool.specs.Crews.{room_name};
 
 use crate::begun::{Begun, begin, crewed, stop_crew};
 use crate::crews::ShippedRun;
 use crate::visit_two::VisitTwo;
 use crate::workers::Workers;
-use det_edges::{Sink, Slots};
+use det_io::{Sink, Slots};
 use det_values::{JobKind, OutOfMemory};
-use job_trait::{Job, Pool};
-use run_writer::Runner;
-use shipped_jobs::{Bank, Cloud, Guard};
+use job::{Job, Pool};
+use jobs::{Bank, Cloud, Guard};
+use recorder::run_writer::Runner;
 use std::marker::Brand;
 use std::thread::Threads;
 use tickets::Room;

@@ -1,19 +1,19 @@
 //! What is done with a run, whatever its job.
-use det_edges::{Sink, Slots};
-use job_trait::{Job, Pool};
+use det_io::{Sink, Slots};
+use job::{Job, Pool};
 use probes::{Audience, Probe};
-use run_writer::Recording;
+use recorder::run_writer::Recording;
 
 /// Something that is done with the recording of a run, of which nothing was written yet, and with a
 /// pool for its passes.
 pub trait Visit: Drop + Sized {
     ghost use Rattle.det_values.specs.Values.{ProfileValue};
-    ghost use Rattle.det_edges.specs.Shelf.{ShelfState};
-    ghost use Rattle.det_edges.specs.Traffic.{ShelfRun, SinkRun, shelf_run, sink_run};
-    ghost use Rattle.job_trait.specs.Meaning.{Meaning};
+    ghost use Rattle.det_io.specs.Shelf.{ShelfState};
+    ghost use Rattle.det_io.specs.Traffic.{ShelfRun, SinkRun, shelf_run, sink_run};
+    ghost use Rattle.job.specs.Meaning.{Meaning};
     ghost use Rattle.probes.specs.Reports.{AudienceState};
     ghost use Rattle.probes.specs.Shows.{seen};
-    ghost use Rattle.run_writer.specs.Recording.{IsNew};
+    ghost use Rattle.recorder.specs.run_writer.Recording.{IsNew};
 
     type Answer;
 

@@ -1,16 +1,16 @@
 //! What is done with two runs, whatever their jobs.
-use det_edges::{Sink, Slots};
-use job_trait::{Job, Pool};
-use run_writer::Runner;
+use det_io::{Sink, Slots};
+use job::{Job, Pool};
+use recorder::run_writer::Runner;
 
 /// Something that is done with two runs side by side, of which nothing was written yet, and with a
 /// pool for the passes of each.
 pub trait VisitTwo: Drop + Sized {
     ghost use Rattle.det_values.specs.Values.{ProfileValue};
-    ghost use Rattle.det_edges.specs.Shelf.{ShelfState};
-    ghost use Rattle.det_edges.specs.Traffic.{ShelfRun, SinkRun, shelf_run, sink_run};
-    ghost use Rattle.job_trait.specs.Meaning.{Meaning};
-    ghost use Rattle.run_writer.specs.Recording.{IsNew};
+    ghost use Rattle.det_io.specs.Shelf.{ShelfState};
+    ghost use Rattle.det_io.specs.Traffic.{ShelfRun, SinkRun, shelf_run, sink_run};
+    ghost use Rattle.job.specs.Meaning.{Meaning};
+    ghost use Rattle.recorder.specs.run_writer.Recording.{IsNew};
 
     type Answer;
 

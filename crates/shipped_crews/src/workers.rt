@@ -1,8 +1,8 @@
 //! The workers of a run, and the machine that they run on.
 ghost use Rattle.std.specs.Prelude.{◌≡◌, ◌≤◌, min, max};
-ghost use Rattle.job_trait.specs.Passes.{blocks_of};
+ghost use Rattle.job.specs.Passes.{blocks_of};
 
-use job_trait::block_count;
+use job::block_count;
 use std::alloc::Global;
 use std::sync::Arc;
 

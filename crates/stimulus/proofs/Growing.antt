@@ -4,7 +4,7 @@ use Rattle.std.proofs.Common.{subst, arith, append_assoc, append-nil, length-app
 use Rattle.std.proofs.lemmas.Bool.Decides.{nat_tests}
 use Rattle.std.specs.List.{onto_first, All}
 use Rattle.std.proofs.lemmas.List.Elements.{All-nil, All-cons, All-head, All-tail}
-use Rattle.det_edges.specs.Prefix.{IsPrefix}
+use Rattle.det_io.specs.Prefix.{IsPrefix}
 use Rattle.det_values.specs.declared.frames.CycleInput.{CycleInput}
 use Rattle.stimulus.specs.declared.item.StimItem.{StimItem}
 use Rattle.stimulus.specs.declared.item.StimItem.TheVariants as items

@@ -12,3 +12,4 @@ pub mod Signed
 pub mod Writing
 pub mod Places
 pub mod Heads
+pub mod lemmas

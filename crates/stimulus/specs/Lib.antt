@@ -9,3 +9,4 @@ pub mod StandsFor
 pub mod Steps
 pub mod Made
 pub mod Good
+pub mod slot_reader

@@ -3,7 +3,7 @@ ghost use Rattle.std.specs.Prelude.{◌≡◌, ℕ, ◌^◌, ◌<◌, ◌≤◌,
 ghost use Rattle.std.specs.List.{All};
 ghost use Rattle.std.specs.Fmt.{decimal, signed_decimal};
 ghost use Rattle.det_values.specs.Limits.{IsSampleValue};
-ghost use Rattle.det_edges.specs.Prefix.{IsPrefix};
+ghost use Rattle.det_io.specs.Prefix.{IsPrefix};
 ghost use Rattle.stimulus.specs.Limits.{IsInput, IsLine};
 ghost use Rattle.stimulus.specs.Numbers.{number, value_of};
 ghost use Rattle.stimulus.specs.Lines.{line_of, spelling};

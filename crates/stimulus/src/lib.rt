@@ -8,6 +8,7 @@ mod line;
 mod made;
 mod number;
 mod reader;
+pub mod slot_reader;
 mod state;
 
 pub use item::{StimError, StimFault, StimItem};

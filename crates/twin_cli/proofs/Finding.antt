@@ -4,22 +4,22 @@ use Rattle.std.specs.Prelude.{◌≢◌, true, nat_lt, Some, Result, Ok, Err, Is
 use Rattle.std.proofs.lemmas.Bool.{lt-ltb}
 use Rattle.det_values.specs.Values.{ProfileValue}
 use Rattle.det_values.specs.declared.job_kind.JobKind.{JobKind}
-use Rattle.det_edges.specs.Count.{Rose}
-use Rattle.det_edges.specs.Shelf.{ShelfState, Asks, AsksPrefix}
-use Rattle.det_edges.specs.Traffic.{failure_in, IfRefused}
-use Rattle.det_edges.specs.declared.failure.Failure.TheVariants as failures
-use Rattle.det_edges.specs.declared.failure.Stopped.{Stopped}
-use Rattle.det_edges.specs.declared.failure.Stopped.TheVariants.{Refused, Failed}
-use Rattle.det_edges.specs.declared.reading.TooLong.{TooLong}
-use Rattle.det_edges.proofs.Counts.{rose-before}
-use Rattle.det_edges.proofs.Opening.{asks-all, asks-prefix-none, asks-then-prefix}
-use Rattle.shipped_jobs.proofs.ByKinds.{by_kind-has}
+use Rattle.det_io.specs.Count.{Rose}
+use Rattle.det_io.specs.Shelf.{ShelfState, Asks, AsksPrefix}
+use Rattle.det_io.specs.Traffic.{failure_in, IfRefused}
+use Rattle.det_io.specs.declared.failure.Failure.TheVariants as failures
+use Rattle.det_io.specs.declared.failure.Stopped.{Stopped}
+use Rattle.det_io.specs.declared.failure.Stopped.TheVariants.{Refused, Failed}
+use Rattle.det_io.specs.declared.reading.TooLong.{TooLong}
+use Rattle.det_io.proofs.Counts.{rose-before}
+use Rattle.det_io.proofs.Opening.{asks-all, asks-prefix-none, asks-then-prefix}
+use Rattle.jobs.proofs.ByKinds.{by_kind-has}
 use Rattle.manifest.specs.Values.{ManifestValue}
 use Rattle.manifest.specs.Profiles.{profile_of}
-use Rattle.lockstep.specs.declared.verdict.Verdict.{Verdict}
+use Rattle.copies.specs.declared.verdict.Verdict.{Verdict}
 use Rattle.cli_answers.specs.declared.answer.BadManifest as refusals
 use Rattle.cli_answers.specs.Outcome.{OutcomeIn, Tells, told}
-use Rattle.cmd_setup.specs.Setup.{setup_of}
+use Rattle.run_setup.specs.Setup.{setup_of}
 use Rattle.twin_cli.specs.declared.answer.TwinAnswer.{TwinAnswer}
 use Rattle.twin_cli.specs.declared.answer.TwinAnswer.TheVariants.{BadWords, LongStimulus, ReadFault, WriteFault}
 use Rattle.twin_cli.specs.Answers.{without_manifest, without_text}

@@ -1,13 +1,13 @@
 -- How twins meet their outcome.
 use Rattle.std.proofs.Common.{◌≡◌, ◌⊎◌, inl, inr, ℕ, List, [], true, false, refl, ap, subst, ◌∙◌}
 use Rattle.std.specs.Prelude.{◌≢◌, Option, Some, None, Result, Err}
-use Rattle.det_edges.specs.Shelf.{ShelfState}
-use Rattle.det_edges.specs.Sink.{Grew, GrewByPrefix}
-use Rattle.det_edges.specs.declared.failure.Failure.{Failure}
-use Rattle.det_edges.proofs.Growth.{grew-none, same-none, part-none, part-whole, part-wider}
-use Rattle.det_edges.proofs.Opening.{asks-prefix-none}
-use Rattle.det_edges.proofs.Prefixes.{prefix-none}
-use Rattle.lockstep.specs.declared.verdict.Verdict.{Verdict}
+use Rattle.det_io.specs.Shelf.{ShelfState}
+use Rattle.det_io.specs.Sink.{Grew, GrewByPrefix}
+use Rattle.det_io.specs.declared.failure.Failure.{Failure}
+use Rattle.det_io.proofs.Growth.{grew-none, same-none, part-none, part-whole, part-wider}
+use Rattle.det_io.proofs.Opening.{asks-prefix-none}
+use Rattle.det_io.proofs.Prefixes.{prefix-none}
+use Rattle.copies.specs.declared.verdict.Verdict.{Verdict}
 use Rattle.cli_answers.specs.Outcome.{OutcomeIn, MeetsBy, Tells, told}
 use Rattle.twin_cli.specs.declared.answer.TwinAnswer.{TwinAnswer}
 use Rattle.twin_cli.specs.declared.answer.TwinAnswer.TheVariants.{BadWords, ReadFault, WriteFault, OutOfMemory}

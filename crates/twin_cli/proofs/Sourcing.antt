@@ -3,22 +3,22 @@ use Rattle.std.proofs.Common.{◌≡◌, ℕ, List, [], ◌∷◌, ◌++◌, ref
 use Rattle.std.specs.List.{All}
 use Rattle.std.specs.Prelude.{◌⊎◌, ◌<◌, true, Option, Some, None, Result, Ok, Err}
 use Rattle.det_values.specs.declared.frames.CycleInput.{CycleInput}
-use Rattle.det_edges.specs.Count.{Rose}
-use Rattle.det_edges.specs.Shelf.{ShelfState, Reads, IsAtEnd}
-use Rattle.det_edges.specs.TextShelf.{one_slot, text_shelf_state}
-use Rattle.det_edges.specs.Traffic.{failure_in, IfRefused}
-use Rattle.det_edges.specs.declared.failure.Failure.TheVariants.{Read, Write, OutOfMemory}
-use Rattle.det_edges.specs.declared.failure.Stopped.{Stopped}
-use Rattle.det_edges.specs.declared.failure.Stopped.TheVariants.{Refused, Failed}
-use Rattle.det_edges.proofs.Counts.{rose-none}
-use Rattle.det_edges.proofs.SlotReads.{reads-none, reads-then, reads-told, reads-all}
+use Rattle.det_io.specs.Count.{Rose}
+use Rattle.det_io.specs.Shelf.{ShelfState, Reads, IsAtEnd}
+use Rattle.det_io.specs.TextShelf.{one_slot, text_shelf_state}
+use Rattle.det_io.specs.Traffic.{failure_in, IfRefused}
+use Rattle.det_io.specs.declared.failure.Failure.TheVariants.{Read, Write, OutOfMemory}
+use Rattle.det_io.specs.declared.failure.Stopped.{Stopped}
+use Rattle.det_io.specs.declared.failure.Stopped.TheVariants.{Refused, Failed}
+use Rattle.det_io.proofs.Counts.{rose-none}
+use Rattle.det_io.proofs.SlotReads.{reads-none, reads-then, reads-told, reads-all}
 use Rattle.stimulus.specs.declared.item.StimFault.{StimFault}
 use Rattle.stimulus.specs.Reading.{BadLine, blocks, ending, ending_of, has_bad}
 use Rattle.stimulus.proofs.Growing.{bad_stays, blocks_within}
-use Rattle.stimulus_reader.specs.declared.reader.StimulusReader.{StimulusReader}
-use Rattle.stimulus_reader.specs.StandsFor.{StandsFor, InputIs, IsBad, ReadsIfNeeded, slot_of, events_of}
+use Rattle.stimulus.specs.declared.slot_reader.reader.StimulusReader.{StimulusReader}
+use Rattle.stimulus.specs.slot_reader.StandsFor.{StandsFor, InputIs, IsBad, ReadsIfNeeded, slot_of, events_of}
 use Rattle.twin_cli.specs.declared.text_inputs.TextInputs.{TextInputs}
-use Rattle.cmd_setup.specs.Setup.{IsCalm}
+use Rattle.run_setup.specs.Setup.{IsCalm}
 use Rattle.twin_cli.specs.TextInputs.{IsBehind, Gives, IsWhole, Comes}
 
 -- what a reader answers, of all that it stands for

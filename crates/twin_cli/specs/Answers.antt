@@ -1,10 +1,10 @@
 -- What an answer of `det_twin` tells: its exit status, and its line for `err`.
 use Rattle.std.specs.Prelude.{ℕ, List, [], Bool, true, false, codes}
-use Rattle.det_edges.specs.declared.failure.Failure.{Failure}
-use Rattle.det_edges.specs.declared.failure.Failure.TheVariants as failures
-use Rattle.det_edges.specs.declared.failure.Stopped.{Stopped}
-use Rattle.det_edges.specs.declared.failure.Stopped.TheVariants.{Refused, Failed}
-use Rattle.det_edges.specs.declared.reading.TooLong as texts
+use Rattle.det_io.specs.declared.failure.Failure.{Failure}
+use Rattle.det_io.specs.declared.failure.Failure.TheVariants as failures
+use Rattle.det_io.specs.declared.failure.Stopped.{Stopped}
+use Rattle.det_io.specs.declared.failure.Stopped.TheVariants.{Refused, Failed}
+use Rattle.det_io.specs.declared.reading.TooLong as texts
 use Rattle.stimulus.specs.declared.item.StimFault.{StimFault}
 use Rattle.cli_answers.specs.Answers.{err_line}
 use Rattle.cli_answers.specs.declared.answer.BadManifest as refusals

@@ -1,9 +1,9 @@
 -- What twins find of a manifest and of a stimulus.
 use Rattle.std.specs.Prelude.{◌≡◌, ◌≢◌, ◌⊎◌, Result, Ok, Err, Some}
-use Rattle.det_edges.specs.Count.{Rose}
-use Rattle.det_edges.specs.Shelf.{ShelfState, AsksPrefix}
-use Rattle.lockstep.specs.declared.verdict.Verdict.{Verdict}
-use Rattle.verdict_text.specs.Verdicts.{verdict_line}
+use Rattle.det_io.specs.Count.{Rose}
+use Rattle.det_io.specs.Shelf.{ShelfState, AsksPrefix}
+use Rattle.copies.specs.declared.verdict.Verdict.{Verdict}
+use Rattle.copies.specs.verdict_text.Verdicts.{verdict_line}
 use Rattle.cli_answers.specs.Outcome.{OutcomeIn, Tells, told}
 use Rattle.twin_cli.specs.declared.answer.TwinAnswer.{TwinAnswer}
 use Rattle.twin_cli.specs.declared.answer.TwinAnswer.TheVariants.{BadWords, ReadFault}

@@ -4,19 +4,19 @@ use Rattle.std.specs.Prelude.{if◌then◌else◌, Result, Ok, Err}
 use Rattle.det_values.specs.Values.{ProfileValue}
 use Rattle.det_values.specs.declared.frames.Frame.{Frame}
 use Rattle.det_values.specs.declared.job_kind.JobKind.{JobKind}
-use Rattle.job_trait.specs.Meaning.{Meaning}
-use Rattle.shipped_jobs.specs.Kinds.{by_kind}
+use Rattle.job.specs.Meaning.{Meaning}
+use Rattle.jobs.specs.Kinds.{by_kind}
 use Rattle.stimulus.specs.Reading.{Ending, Terminated, BadLine, blocks, ending}
 use Rattle.manifest.specs.Values.{ManifestValue}
 use Rattle.manifest.specs.Profiles.{profile_of}
-use Rattle.lockstep.specs.declared.verdict.Verdict.{Verdict}
-use Rattle.lockstep.specs.declared.verdict.Verdict.TheVariants.{Agree, Differ}
-use Rattle.verdict_text.specs.Verdicts.{verdict_line}
+use Rattle.copies.specs.declared.verdict.Verdict.{Verdict}
+use Rattle.copies.specs.declared.verdict.Verdict.TheVariants.{Agree, Differ}
+use Rattle.copies.specs.verdict_text.Verdicts.{verdict_line}
 use Rattle.cli_answers.specs.declared.answer.BadManifest as refusals
 use Rattle.cli_answers.specs.Outcome.{OutcomeIn}
 use Rattle.cli_words.specs.declared.text_word.TextWord.{TextWord}
 use Rattle.cli_words.specs.declared.text_word.TextWord.TheVariants.{Help, Version}
-use Rattle.cmd_setup.specs.Setup.{setup_of}
+use Rattle.run_setup.specs.Setup.{setup_of}
 use Rattle.twins.specs.Tampers.{turned_at}
 use Rattle.twins.specs.Verdict.{twin_verdict}
 use Rattle.twin_cli.specs.declared.answer.TwinAnswer.{TwinAnswer}
@@ -24,7 +24,7 @@ use Rattle.twin_cli.specs.declared.answer.TwinAnswer.TheVariants.{Done, Differs,
 use Rattle.twin_cli.specs.declared.answer.TwinAnswer.TheVariants.{BadManifest, BadStimulus}
 use Rattle.twin_cli.specs.declared.answer.TwinAnswer.TheVariants.{LongStimulus}
 use Rattle.twin_cli.specs.declared.texts.TheConstants.{USAGE, VERSION}
-use Rattle.twin_cli.specs.declared.copies.Flip.{Flip}
+use Rattle.twin_cli.specs.declared.options.Flip.{Flip}
 use Rattle.twin_cli.specs.Words.{TwinsValue, CommandValue, printing, run}
 
 -- a text and an answer

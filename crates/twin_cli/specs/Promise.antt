@@ -1,8 +1,8 @@
 -- What the program `det_twin` promises.
 use Rattle.std.specs.Prelude.{◌≡◌, ℕ, List, Option, None}
-use Rattle.det_edges.specs.Count.{Rose}
-use Rattle.det_edges.specs.Shelf.{ShelfState, AsksPrefix}
-use Rattle.det_edges.specs.Sink.{Grew, GrewByPrefix}
+use Rattle.det_io.specs.Count.{Rose}
+use Rattle.det_io.specs.Shelf.{ShelfState, AsksPrefix}
+use Rattle.det_io.specs.Sink.{Grew, GrewByPrefix}
 use Rattle.cli_answers.specs.Outcome.{MeetsBy, Tells, told}
 use Rattle.twin_cli.specs.declared.answer.TwinAnswer.{TwinAnswer}
 use Rattle.twin_cli.specs.declared.answer.TwinAnswer.TheVariants.{BadWords}

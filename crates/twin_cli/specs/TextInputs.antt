@@ -2,14 +2,14 @@
 use Rattle.std.specs.Prelude.{◌≡◌, ℕ, ◌≤◌, List, [], ◌∷◌, ◌++◌, length, Option, Some, None, Result}
 use Rattle.std.specs.Prelude.{Ok, Err}
 use Rattle.det_values.specs.declared.frames.CycleInput.{CycleInput}
-use Rattle.det_edges.specs.Shelf.{Reads}
-use Rattle.det_edges.specs.TextShelf.{one_slot, text_shelf_state}
-use Rattle.det_edges.specs.declared.failure.Failure.TheVariants.{OutOfMemory}
-use Rattle.det_edges.specs.declared.failure.Stopped.{Stopped}
-use Rattle.det_edges.specs.declared.failure.Stopped.TheVariants.{Refused, Failed}
+use Rattle.det_io.specs.Shelf.{Reads}
+use Rattle.det_io.specs.TextShelf.{one_slot, text_shelf_state}
+use Rattle.det_io.specs.declared.failure.Failure.TheVariants.{OutOfMemory}
+use Rattle.det_io.specs.declared.failure.Stopped.{Stopped}
+use Rattle.det_io.specs.declared.failure.Stopped.TheVariants.{Refused, Failed}
 use Rattle.stimulus.specs.declared.item.StimFault.{StimFault}
 use Rattle.stimulus.specs.Reading.{Terminated, BadLine, blocks, ending}
-use Rattle.stimulus_reader.specs.StandsFor.{StandsFor, events_of}
+use Rattle.stimulus.specs.slot_reader.StandsFor.{StandsFor, events_of}
 use Rattle.twin_cli.specs.declared.text_inputs.TextInputs.{TextInputs}
 
 module _ (text : List ℕ) (events : ℕ) where

@@ -6,11 +6,11 @@ use Rattle.cli_words.specs.declared.text_word.TextWord.{TextWord}
 use Rattle.cli_words.specs.Alone.{copies_of, text_word}
 use Rattle.cli_words.specs.Names.{is_name}
 use Rattle.cli_words.specs.Number.{number_of}
-use Rattle.twin_cli.specs.declared.copies.Twins as code
+use Rattle.twin_cli.specs.declared.options.Twins as code
 use Rattle.twin_cli.specs.declared.words.TwinCommand as commands
 use Rattle.twin_cli.specs.declared.words.TwinCommand.TheVariants.{Text, Run}
-use Rattle.twin_cli.specs.declared.copies.Options.{Options}
-use Rattle.twin_cli.specs.declared.copies.Flip.{Flip}
+use Rattle.twin_cli.specs.declared.options.Options.{Options}
+use Rattle.twin_cli.specs.declared.options.Flip.{Flip}
 
 -- copies of the run of a manifest over a stimulus
 pub record TwinsValue : Type 0 where

@@ -4,7 +4,7 @@ ghost use Rattle.twin_cli.specs.Answers.{line_of, status_of};
 
 use crate::status::TwinStatus;
 use cli_answers::{Answer, BadManifest, Line};
-use det_edges::{Failure, Stopped, TooLong};
+use det_io::{Failure, Stopped, TooLong};
 use stimulus::StimFault;
 
 /// How twins ended.

@@ -2,14 +2,14 @@
 ghost use Rattle.std.specs.Prelude.{◌≡◌, ℕ, ◌≤◌, ◌<◌, List, length, IfOk, IfErr, IsSome, Some};
 ghost use Rattle.std.specs.Prelude.{◌∷◌, []};
 ghost use Rattle.std.specs.List.{All};
-ghost use Rattle.det_edges.specs.Shelf.{Asks};
-ghost use Rattle.det_edges.specs.Traffic.{ShelfTraffic, shelf_run, failure_in, IfRefused};
+ghost use Rattle.det_io.specs.Shelf.{Asks};
+ghost use Rattle.det_io.specs.Traffic.{ShelfTraffic, shelf_run, failure_in, IfRefused};
 ghost use Rattle.stimulus.specs.Reading.{Terminated, BadLine, blocks, ending};
 ghost use Rattle.cli_answers.specs.Outcome.{told};
-ghost use Rattle.cmd_setup.specs.Setup.{IsCalm};
+ghost use Rattle.run_setup.specs.Setup.{IsCalm};
 
 use crate::text_inputs::TextInputs;
-use det_edges::{Failure, Shelf, Stopped, TooLong, read_limited};
+use det_io::{Failure, Shelf, Stopped, TooLong, read_limited};
 use det_values::Bytes;
 use std::alloc::Global;
 use stimulus::StimFault;

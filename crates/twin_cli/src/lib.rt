@@ -7,8 +7,8 @@
 #![tactic(auto)]
 
 mod answer;
-mod copies;
 mod inputs;
+mod options;
 mod program;
 mod running;
 mod status;
@@ -17,7 +17,7 @@ mod texts;
 mod words;
 
 pub use answer::TwinAnswer;
-pub use copies::{Flip, Options, Twins};
+pub use options::{Flip, Options, Twins};
 pub use program::twin_top;
 pub use status::TwinStatus;
 pub use texts::{USAGE, VERSION};

@@ -1,6 +1,6 @@
 //! The whole program.
 ghost use Rattle.std.specs.Prelude.{◌≡◌, ◌≢◌, true, Err};
-ghost use Rattle.det_edges.specs.Count.{Rose};
+ghost use Rattle.det_io.specs.Count.{Rose};
 ghost use Rattle.cli_words.specs.Names.{texts};
 ghost use Rattle.cli_answers.specs.Outcome.{MeetsBy};
 ghost use Rattle.twin_cli.specs.Answers.{failed, has_text};
@@ -14,12 +14,12 @@ use crate::running::find;
 use crate::status::TwinStatus;
 use crate::texts::text_of;
 use crate::words::TwinCommand;
-use det_edges::{Shelf, Sink, write_all};
-use lockstep::Verdict;
+use copies::Verdict;
+use copies::verdict_text::verdict_line;
+use det_io::{Shelf, Sink, write_all};
 use std::alloc::Global;
 use std::sync::Wait;
 use std::thread::Threads;
-use verdict_text::verdict_line;
 
 /// Runs the command that the words give, which are those after the program's name.
 ///

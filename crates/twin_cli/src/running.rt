@@ -1,24 +1,24 @@
 //! The job of a manifest, run in copies over a stimulus.
 ghost use Rattle.std.specs.Prelude.{◌≡◌, ◌≢◌, ◌≤◌, ◌<◌, length, IfOk, None, Err};
 ghost use Rattle.std.specs.List.{All};
-ghost use Rattle.det_edges.specs.Shelf.{Asks};
+ghost use Rattle.det_io.specs.Shelf.{Asks};
 ghost use Rattle.manifest.specs.Profiles.{profile_of};
-ghost use Rattle.shipped_jobs.specs.Kinds.{bad_param, of_kind};
-ghost use Rattle.cmd_setup.specs.Setup.{IsGood};
+ghost use Rattle.jobs.specs.Kinds.{bad_param, of_kind};
+ghost use Rattle.run_setup.specs.Setup.{IsGood};
 ghost use Rattle.twins.specs.Verdict.{twin_verdict};
 ghost use Rattle.twin_cli.specs.Finding.{Finds, Found};
 ghost use Rattle.twin_cli.specs.Outcome.{twinned_by_kind};
 ghost use Rattle.twin_cli.specs.Words.{twins_seen};
 
 use crate::answer::TwinAnswer;
-use crate::copies::{Flip, Twins};
 use crate::inputs::{inputs_of, read_text};
-use cmd_setup::read_setup;
-use det_edges::Shelf;
+use crate::options::{Flip, Twins};
+use copies::Verdict;
+use det_io::Shelf;
 use det_values::{Bytes, Frame, JobKind, OutOfMemory};
-use lockstep::Verdict;
+use jobs::{Bank, Cloud, Guard};
 use manifest::Manifest;
-use shipped_jobs::{Bank, Cloud, Guard};
+use run_setup::read_setup;
 use std::alloc::Global;
 use std::sync::Wait;
 use std::thread::Threads;

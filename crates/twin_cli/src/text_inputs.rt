@@ -1,12 +1,12 @@
 //! A text in memory that gives the inputs of its stimulus.
 ghost use Rattle.std.specs.Prelude.{◌≡◌};
-ghost use Rattle.stimulus_reader.specs.StandsFor.{slot_of};
+ghost use Rattle.stimulus.specs.slot_reader.StandsFor.{slot_of};
 
-use det_edges::{Stopped, TextShelf};
+use det_io::{Stopped, TextShelf};
 use det_values::{Bytes, CycleInput};
 use std::alloc::Global;
 use stimulus::StimFault;
-use stimulus_reader::StimulusReader;
+use stimulus::slot_reader::StimulusReader;
 
 /// A text, and the reader of its stimulus.
 #[derive(Drop)]

@@ -4,7 +4,7 @@ ghost use Rattle.cli_words.specs.Names.{texts};
 ghost use Rattle.twin_cli.specs.Words.{alone, both, command_of, command_seen};
 ghost use Rattle.twin_cli.specs.Words.{flip_in, flip_of, flipping, is_strict, options_of, twins_of};
 
-use crate::copies::{Flip, Options, Twins};
+use crate::options::{Flip, Options, Twins};
 use cli_words::{TextWord, copies_of, is_name, number_of};
 
 /// What the words after the program's name ask for.

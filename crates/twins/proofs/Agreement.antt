@@ -8,11 +8,11 @@ use Rattle.std.proofs.lemmas.Option.{slice_get-get_or}
 use Rattle.det_values.specs.declared.frames.Frame.{Frame}
 use Rattle.record_grammar.specs.declared.item.Item.TheVariants as items
 use Rattle.frame_queue.specs.declared.row.Row.{Row}
-use Rattle.lockstep.specs.declared.row.Row.TheVariants as reads
-use Rattle.lockstep.specs.declared.verdict.Verdict.{Verdict}
-use Rattle.lockstep.specs.declared.verdict.Verdict.TheVariants.{Differ}
-use Rattle.lockstep.specs.Verdict.{row_difference, first_other}
-use Rattle.lockstep.proofs.Judging.{item-apart, none-other}
+use Rattle.copies.specs.declared.row.Row.TheVariants as reads
+use Rattle.copies.specs.declared.verdict.Verdict.{Verdict}
+use Rattle.copies.specs.declared.verdict.Verdict.TheVariants.{Differ}
+use Rattle.copies.specs.Verdict.{row_difference, first_other}
+use Rattle.copies.proofs.Judging.{item-apart, none-other}
 use Rattle.twins.specs.Laws.{frames_in}
 use Rattle.twins.specs.Verdict.{as_read, row_at, row_verdict, first_verdict}
 use Rattle.twins.proofs.Verdicts.{first-none}

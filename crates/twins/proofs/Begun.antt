@@ -7,9 +7,9 @@ use Rattle.std.proofs.lemmas.List.FromFn.{map-range_with_len_more, length-range_
 use Rattle.det_values.specs.Values.{ProfileValue}
 use Rattle.det_values.specs.declared.frames.CycleInput.{CycleInput}
 use Rattle.det_values.specs.declared.frames.Frame.{Frame}
-use Rattle.job_trait.specs.Meaning.{Meaning}
+use Rattle.job.specs.Meaning.{Meaning}
 use Rattle.frame_queue.specs.declared.queue.FrameQueue.{FrameQueue}
-use Rattle.twins.specs.declared.copies.Copies.{Copies}
+use Rattle.twins.specs.declared.twin_copies.Copies.{Copies}
 use Rattle.twins.specs.declared.taker.Intake.{Intake}
 use Rattle.twins.specs.declared.twin.Twin.{Twin}
 use Rattle.twins.specs.Copies.{AreCopies}

@@ -1,7 +1,7 @@
 -- Queues are closed, the last one first.
 use Rattle.std.proofs.Common.{◌≡◌, List, [], ◌∷◌, ◌++◌, sym, ap, ◌∙◌, append_assoc}
 use Rattle.std.proofs.lemmas.List.{append-nil}
-use Rattle.det_edges.specs.Prefix.{IsPrefix}
+use Rattle.det_io.specs.Prefix.{IsPrefix}
 use Rattle.frame_queue.specs.Queues.{sent_of}
 use Rattle.twins.specs.declared.taker.Intake.{Intake}
 use Rattle.twins.specs.declared.twin.Twin.{Twin}

@@ -7,9 +7,9 @@ use Rattle.std.proofs.lemmas.List.{length-set, get_or-drop, drop-set-lt, drop-dr
 use Rattle.std.proofs.lemmas.List.Elements.{All-get_or}
 use Rattle.frame_queue.specs.declared.row.Row.{Row}
 use Rattle.frame_queue.specs.declared.queue.FrameQueue.{FrameQueue}
-use Rattle.lockstep.specs.declared.verdict.Verdict.{Verdict}
-use Rattle.lockstep.specs.declared.verdict.Verdict.TheVariants.{Differ}
-use Rattle.lockstep.specs.Verdict.{row_difference}
+use Rattle.copies.specs.declared.verdict.Verdict.{Verdict}
+use Rattle.copies.specs.declared.verdict.Verdict.TheVariants.{Differ}
+use Rattle.copies.specs.Verdict.{row_difference}
 use Rattle.twins.specs.declared.taker.Intake.{Intake}
 use Rattle.twins.specs.Intakes.{IsIntakeOf, rows_in}
 use Rattle.twins.specs.Pairs.{EachPair}

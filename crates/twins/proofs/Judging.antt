@@ -7,18 +7,18 @@ use Rattle.std.specs.Option.{unwrap_or}
 use Rattle.std.specs.List.{All, range_with_len}
 use Rattle.std.proofs.lemmas.Bool.Decides.{eqb_tells}
 use Rattle.std.proofs.lemmas.List.Elements.{All-get_or}
-use Rattle.det_edges.specs.Prefix.{IsPrefix}
-use Rattle.det_edges.proofs.Prefixes.{prefix-then}
+use Rattle.det_io.specs.Prefix.{IsPrefix}
+use Rattle.det_io.proofs.Prefixes.{prefix-then}
 use Rattle.det_values.specs.Values.{ProfileValue}
 use Rattle.det_values.specs.declared.frames.CycleInput.{CycleInput}
 use Rattle.det_values.specs.declared.frames.Frame.{Frame}
-use Rattle.job_trait.specs.Meaning.{Meaning}
+use Rattle.job.specs.Meaning.{Meaning}
 use Rattle.cycle_engine.specs.Frames.{frames}
 use Rattle.frame_queue.specs.declared.row.Row.{Row}
 use Rattle.frame_queue.specs.declared.queue.FrameQueue.{FrameQueue}
 use Rattle.frame_queue.specs.Queues.{sent_of}
-use Rattle.lockstep.specs.declared.verdict.Verdict.{Verdict}
-use Rattle.lockstep.specs.declared.verdict.Verdict.TheVariants.{Agree}
+use Rattle.copies.specs.declared.verdict.Verdict.{Verdict}
+use Rattle.copies.specs.declared.verdict.Verdict.TheVariants.{Agree}
 use Rattle.twins.specs.declared.taker.Intake.{Intake}
 use Rattle.twins.specs.declared.taker.Taker.{Taker}
 use Rattle.twins.specs.Intakes.{rows_in}

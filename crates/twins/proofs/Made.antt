@@ -10,8 +10,8 @@ use Rattle.det_values.specs.declared.frames.CycleInput.{CycleInput}
 use Rattle.det_values.specs.declared.frames.RunFrame.{RunFrame}
 use Rattle.det_values.specs.declared.frames.Frame.{Frame}
 use Rattle.det_values.specs.declared.frames.Frame.TheVariants.{Init, Run, Terminate}
-use Rattle.job_trait.specs.Meaning.{Meaning}
-use Rattle.job_trait.specs.Cycle.{state_after}
+use Rattle.job.specs.Meaning.{Meaning}
+use Rattle.job.specs.Cycle.{state_after}
 use Rattle.cycle_engine.specs.Engine.{EngineState, StandsFor}
 use Rattle.cycle_engine.specs.Frames.{frames, frame_of, state_of, runs, runs_behind, first_state, cycle_of}
 use Rattle.cycle_engine.proofs.Standing.{runs_behind-append, length-runs, init_is}

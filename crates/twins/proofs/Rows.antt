@@ -5,7 +5,7 @@ use Rattle.std.specs.List.{slice_get}
 use Rattle.std.proofs.lemmas.List.{take-append-drop}
 use Rattle.std.proofs.lemmas.Option.{slice_get_within, get_or_from_slice_get}
 use Rattle.std.proofs.Math.Seq.{take-suc}
-use Rattle.det_edges.specs.Prefix.{IsPrefix}
+use Rattle.det_io.specs.Prefix.{IsPrefix}
 use Rattle.det_values.specs.declared.frames.Frame.{Frame}
 use Rattle.frame_queue.specs.declared.row.Row.{Row}
 use Rattle.twins.specs.Verdict.{rows_from, row_at, as_read}

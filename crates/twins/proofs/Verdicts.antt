@@ -5,10 +5,10 @@ use Rattle.std.specs.Option.{option_or, option_map}
 use Rattle.std.proofs.lemmas.Bool.Decides.{eqb_tells}
 use Rattle.std.proofs.lemmas.List.{length-map, map-append}
 use Rattle.frame_queue.specs.declared.row.Row.{Row}
-use Rattle.lockstep.specs.declared.row.Row.{Row as Read}
-use Rattle.lockstep.specs.declared.verdict.Verdict.{Verdict}
-use Rattle.lockstep.specs.declared.verdict.Verdict.TheVariants.{Differ}
-use Rattle.lockstep.specs.Verdict.{row_difference, first_other}
+use Rattle.copies.specs.declared.row.Row.{Row as Read}
+use Rattle.copies.specs.declared.verdict.Verdict.{Verdict}
+use Rattle.copies.specs.declared.verdict.Verdict.TheVariants.{Differ}
+use Rattle.copies.specs.Verdict.{row_difference, first_other}
 use Rattle.twins.specs.Verdict.{row_at, row_verdict, first_verdict}
 
 or-none : {X : Type 0} (o : Option X) → option_or o None ≡ o

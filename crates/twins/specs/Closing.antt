@@ -1,6 +1,6 @@
 -- What is known of copies whose queues are closed.
 use Rattle.std.specs.Prelude.{List}
-use Rattle.det_edges.specs.Prefix.{IsPrefix}
+use Rattle.det_io.specs.Prefix.{IsPrefix}
 use Rattle.frame_queue.specs.declared.queue.FrameQueue.{FrameQueue}
 use Rattle.frame_queue.specs.Queues.{sent_of, IsSenderOf}
 use Rattle.twins.specs.declared.taker.Intake.{Intake}

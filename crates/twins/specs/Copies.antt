@@ -4,8 +4,8 @@ use Rattle.std.specs.List.{range_with_len}
 use Rattle.det_values.specs.Values.{ProfileValue}
 use Rattle.det_values.specs.declared.frames.CycleInput.{CycleInput}
 use Rattle.det_values.specs.declared.frames.Frame.{Frame}
-use Rattle.job_trait.specs.Meaning.{Meaning}
-use Rattle.twins.specs.declared.copies.Copies.{Copies}
+use Rattle.job.specs.Meaning.{Meaning}
+use Rattle.twins.specs.declared.twin_copies.Copies.{Copies}
 use Rattle.twins.specs.Sending.{AreTwins, numbers_of}
 use Rattle.twins.specs.Taking.{AreIntakes, HaveTaken}
 

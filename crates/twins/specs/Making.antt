@@ -5,7 +5,7 @@ use Rattle.std.specs.List.{All, slice_get}
 use Rattle.det_values.specs.Values.{ProfileValue}
 use Rattle.det_values.specs.declared.frames.CycleInput.{CycleInput}
 use Rattle.det_values.specs.declared.frames.Frame.{Frame}
-use Rattle.job_trait.specs.Meaning.{Meaning}
+use Rattle.job.specs.Meaning.{Meaning}
 use Rattle.cycle_engine.specs.Engine.{EngineState, StandsFor}
 use Rattle.cycle_engine.specs.Frames.{frames}
 use Rattle.frame_queue.specs.declared.row.Row.{Row}

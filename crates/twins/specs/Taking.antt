@@ -4,7 +4,7 @@ use Rattle.std.specs.Prelude.{Option, Some, None}
 use Rattle.std.specs.List.{All}
 use Rattle.frame_queue.specs.declared.row.Row.{Row}
 use Rattle.frame_queue.specs.declared.queue.FrameQueue.{FrameQueue}
-use Rattle.lockstep.specs.declared.verdict.Verdict.{Verdict}
+use Rattle.copies.specs.declared.verdict.Verdict.{Verdict}
 use Rattle.twins.specs.declared.taker.Intake.{Intake}
 use Rattle.twins.specs.declared.taker.Taker.{Taker}
 use Rattle.twins.specs.Intakes.{IsIntakeOf, rows_in}

@@ -6,15 +6,15 @@ use Rattle.std.specs.List.{slice_get, range_with_len}
 use Rattle.det_values.specs.Values.{ProfileValue}
 use Rattle.det_values.specs.declared.frames.CycleInput.{CycleInput}
 use Rattle.det_values.specs.declared.frames.Frame.{Frame}
-use Rattle.job_trait.specs.Meaning.{Meaning}
+use Rattle.job.specs.Meaning.{Meaning}
 use Rattle.cycle_engine.specs.Frames.{frames}
 use Rattle.frame_queue.specs.declared.row.Row.{Row}
 use Rattle.record_grammar.specs.declared.item.Item.TheVariants as items
-use Rattle.lockstep.specs.declared.row.Row.{Row as Read}
-use Rattle.lockstep.specs.declared.row.Row.TheVariants as reads
-use Rattle.lockstep.specs.declared.verdict.Verdict.{Verdict}
-use Rattle.lockstep.specs.declared.verdict.Verdict.TheVariants.{Agree}
-use Rattle.lockstep.specs.Verdict.{first_other}
+use Rattle.copies.specs.declared.row.Row.{Row as Read}
+use Rattle.copies.specs.declared.row.Row.TheVariants as reads
+use Rattle.copies.specs.declared.verdict.Verdict.{Verdict}
+use Rattle.copies.specs.declared.verdict.Verdict.TheVariants.{Agree}
+use Rattle.copies.specs.Verdict.{first_other}
 
 -- ---- what copies send
 

@@ -5,7 +5,7 @@ ghost use Rattle.twins.specs.Taking.{AreIntakes};
 use crate::taker::Intake;
 use crate::twin::Twin;
 use frame_queue::FrameQueue;
-use job_trait::Job;
+use job::Job;
 
 /// Closes the queues of all copies. From then on it is known that what was taken of a copy is the
 /// first of what it sent.

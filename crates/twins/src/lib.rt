@@ -2,7 +2,6 @@
 #![tactic(auto)]
 
 mod closing;
-mod copies;
 mod exchange;
 mod flipping;
 pub mod laws;
@@ -17,6 +16,7 @@ mod taker;
 mod tamper;
 mod threads;
 mod twin;
+mod twin_copies;
 
 pub use flipping::FlipTamper;
 pub use run::{Inputs, TwinRun};

@@ -6,7 +6,7 @@ use crate::TwinRun;
 use crate::twin::Twin;
 use cycle_engine::Desk;
 use det_values::{Frame, OutOfMemory};
-use job_trait::Job;
+use job::Job;
 use pass_in_blocks::InOrder;
 use std::alloc::Global;
 

@@ -1,15 +1,15 @@
 //! Rows of all copies are taken and compared, one round after another.
 ghost use Rattle.std.specs.Prelude.{◌≡◌, ◌≤◌, ◌<◌, ◌+◌, length, IfNone, Some};
 ghost use Rattle.std.specs.Option.{option_map};
-ghost use Rattle.lockstep.specs.declared.verdict.Verdict.TheVariants.{Differ};
-ghost use Rattle.lockstep.specs.Verdict.{row_difference};
+ghost use Rattle.copies.specs.declared.verdict.Verdict.TheVariants.{Differ};
+ghost use Rattle.copies.specs.Verdict.{row_difference};
 ghost use Rattle.twins.specs.Pairs.{EachPair};
 ghost use Rattle.twins.specs.Verdict.{as_read, row_verdict};
 ghost use Rattle.twins.specs.Taking.{AreIntakes, HaveTaken, TookOne, taken_by, Agreed, Judged};
 
 use crate::taker::{Intake, Taker};
+use copies::{Verdict, first_difference};
 use frame_queue::{FrameQueue, Row};
-use lockstep::{Verdict, first_difference};
 use std::sync::Wait;
 
 impl Taker {

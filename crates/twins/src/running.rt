@@ -1,19 +1,19 @@
 //! Copies of a run are compared while they run.
 ghost use Rattle.std.specs.Prelude.{◌≡◌, ◌≤◌, length, IfOk, None};
 ghost use Rattle.std.specs.Option.{unwrap_or};
-ghost use Rattle.lockstep.specs.declared.verdict.Verdict.TheVariants.{Agree};
+ghost use Rattle.copies.specs.declared.verdict.Verdict.TheVariants.{Agree};
 ghost use Rattle.twins.specs.Copies.{AreCopies};
 ghost use Rattle.twins.specs.Making.{AreKnown};
 ghost use Rattle.twins.specs.Verdict.{twin_verdict};
 
 use crate::closing::close_all;
-use crate::copies::Copies;
 use crate::exchange::exchange_all;
 use crate::sides::Sides;
+use crate::twin_copies::Copies;
 use crate::{Tamper, TwinRun};
+use copies::Verdict;
 use det_values::OutOfMemory;
-use job_trait::Job;
-use lockstep::Verdict;
+use job::Job;
 use std::alloc::Global;
 use std::sync::Wait;
 use std::thread::Threads;

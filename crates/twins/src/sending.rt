@@ -7,7 +7,7 @@ use crate::twin::Twin;
 use crate::{Tamper, TwinRun};
 use det_values::OutOfMemory;
 use frame_queue::{FrameQueue, Row};
-use job_trait::Job;
+use job::Job;
 use std::alloc::Global;
 use std::sync::Wait;
 

@@ -6,7 +6,7 @@ use crate::pushing::push;
 use crate::taker::{Intake, Taker};
 use crate::twin::Twin;
 use det_values::OutOfMemory;
-use job_trait::Job;
+use job::Job;
 
 /// Copies of a run, and what takes their rows.
 #[derive(Drop)]

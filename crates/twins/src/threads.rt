@@ -7,7 +7,7 @@ ghost use Rattle.twins.specs.Sending.{AreTwins, numbers_of};
 use crate::twin::Twin;
 use crate::{Tamper, TwinRun};
 use frame_queue::FrameQueue;
-use job_trait::Job;
+use job::Job;
 use std::alloc::Global;
 use std::sync::Wait;
 use std::thread::{Threads, join};

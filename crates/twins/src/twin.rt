@@ -2,7 +2,7 @@
 
 use cycle_engine::Engine;
 use frame_queue::Sender;
-use job_trait::Job;
+use job::Job;
 
 /// A copy of a run: its engine, and its end of its queue.
 #[derive(Drop)]

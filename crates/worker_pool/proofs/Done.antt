@@ -6,7 +6,7 @@ use Rattle.worker_pool.specs.declared.view.Mark.{Mark}
 use Rattle.worker_pool.specs.declared.view.Mark.TheVariants.{Open, Finished, Reported, Skipped}
 use Rattle.worker_pool.specs.declared.view.PoolEntry.{PoolEntry}
 use Rattle.worker_pool.specs.declared.view.PoolView.{PoolView}
-use Rattle.job_trait.specs.Pass.{Passed, Refusal}
+use Rattle.job.specs.Pass.{Passed, Refusal}
 use Rattle.pass_in_blocks.specs.declared.answers.BlockResult.{BlockResult}
 use Rattle.pass_in_blocks.specs.declared.answers.BlockAnswer.{BlockAnswer}
 use Rattle.pass_in_blocks.specs.Answers.{answer_of}

@@ -4,10 +4,10 @@ use Rattle.std.proofs.Common.{subst, inl, inr, ⊎_elim, arith}
 use mathlib.Core.Option.{some}
 use lib.ListN.{get_elem?}
 use Rattle.std.proofs.lemmas.Bool.{lt-ltb, ltb-true}
-use Rattle.job_trait.specs.Meaning.{Meaning}
-use Rattle.job_trait.specs.Passes.{blocks_of}
-use Rattle.job_trait.proofs.Sizes.{few_blocks}
-use Rattle.job_trait.specs.Pass.{Passed, Refusal, passed, block}
+use Rattle.job.specs.Meaning.{Meaning}
+use Rattle.job.specs.Passes.{blocks_of}
+use Rattle.job.proofs.Sizes.{few_blocks}
+use Rattle.job.specs.Pass.{Passed, Refusal, passed, block}
 use Rattle.worker_pool.specs.declared.view.Mark.{Mark}
 use Rattle.worker_pool.specs.declared.view.Mark.TheVariants.{Open, Finished, Reported, Skipped}
 use Rattle.worker_pool.specs.Views.{no_block}

@@ -5,11 +5,11 @@ use mathlib.Core.Logic.{dite}
 use native.Mathlib.Decide.{ℕ_discrete}
 use Rattle.std.proofs.Math.Seq.{take-add}
 use Rattle.std.proofs.lemmas.List.{take_all}
-use Rattle.element_random.specs.Words.{key}
-use Rattle.job_trait.specs.Meaning.{Meaning}
-use Rattle.job_trait.specs.Pass.{Passed, Refusal, nothing, more, taken, passed, block, block_size, in_block}
-use Rattle.job_trait.proofs.Sizes.{begins, covers}
-use Rattle.job_trait.specs.Passes.{blocks_of}
+use Rattle.det_client.specs.element_random.Words.{key}
+use Rattle.job.specs.Meaning.{Meaning}
+use Rattle.job.specs.Pass.{Passed, Refusal, nothing, more, taken, passed, block, block_size, in_block}
+use Rattle.job.proofs.Sizes.{begins, covers}
+use Rattle.job.specs.Passes.{blocks_of}
 use Rattle.pass_in_blocks.specs.Steps.{beside}
 use Rattle.worker_pool.specs.Gather.{refuses, left_by, together}
 

@@ -1,11 +1,12 @@
 -- A worker's share of a pass, and two of them together.
-use Rattle.std.proofs.Common.{◌≡◌, ℕ, ◌≤◌, ◌⊎◌, List, [], ◌∷◌, ◌++◌, map, Result, Ok, Err, IfOk, sym, ap, ◌∙◌, subst, inl, inr, ⊎_elim, arith}
+use Rattle.std.proofs.Common.{◌≡◌, ℕ, ◌≤◌, ◌⊎◌, List, [], ◌∷◌, ◌++◌, map, Result, Ok, Err, IfOk, sym, ap, ◌∙◌, subst, inl, inr, ⊎_elim}
+use Rattle.std.proofs.Common.{arith}
 use mathlib.Core.List.{map-append}
 use Rattle.std.specs.Global.{Global}
 use Rattle.std.specs.declared.vec.Vec.{Vec}
 use Rattle.det_values.specs.declared.out_of_memory.OutOfMemory.{OutOfMemory}
-use Rattle.job_trait.specs.Meaning.{Meaning}
-use Rattle.job_trait.specs.Pass.{Passed, Refusal}
+use Rattle.job.specs.Meaning.{Meaning}
+use Rattle.job.specs.Pass.{Passed, Refusal}
 use Rattle.pass_in_blocks.specs.declared.answers.BlockResult.{BlockResult}
 use Rattle.worker_pool.specs.declared.seat.PassSeat.{PassSeat}
 use Rattle.worker_pool.specs.declared.task.Task.{Task}

@@ -1,6 +1,6 @@
 -- What an ended machine gathers from the answers of the blocks.
 use Rattle.std.specs.Prelude.{ℕ, zero, suc, Bool, cond, ltb, [], Result, Ok, Err, is_err}
-use Rattle.job_trait.specs.Pass.{Passed, Refusal}
+use Rattle.job.specs.Pass.{Passed, Refusal}
 use Rattle.pass_in_blocks.specs.Steps.{beside}
 use Rattle.worker_pool.specs.Machine.{Machine}
 

@@ -3,8 +3,8 @@ use Rattle.std.specs.Prelude.{◌≡◌, ℕ, List, [], ◌∷◌, ◌++◌, ◌
 use Rattle.std.specs.List.{All}
 use Rattle.std.specs.Global.{Global}
 use Rattle.std.specs.declared.vec.Vec.{Vec}
-use Rattle.job_trait.specs.Meaning.{Meaning}
-use Rattle.job_trait.specs.Passes.{IsReady, block_in, blocks_in}
+use Rattle.job.specs.Meaning.{Meaning}
+use Rattle.job.specs.Passes.{IsReady, block_in, blocks_in}
 use Rattle.pass_in_blocks.specs.Answers.{IsRight, Shows}
 use Rattle.pass_in_blocks.specs.Showing.{shown_in}
 use Rattle.pass_in_blocks.specs.declared.answers.BlockResult.{BlockResult}

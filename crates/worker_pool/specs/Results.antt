@@ -1,6 +1,6 @@
 -- What a worker has done: the marks of its entries, and its results.
 use Rattle.std.specs.Prelude.{◌≡◌, ℕ, ◌+◌, ◌≤◌, ◌⊎◌, true, false, List, [], ◌∷◌, ◌++◌, map, Result}
-use Rattle.job_trait.specs.Pass.{Passed, Refusal}
+use Rattle.job.specs.Pass.{Passed, Refusal}
 use Rattle.worker_pool.specs.declared.view.Mark.{Mark}
 use Rattle.worker_pool.specs.declared.view.Mark.TheVariants.{Open, Finished, Reported, Skipped}
 use Rattle.worker_pool.specs.declared.view.PoolEntry.{PoolEntry}

@@ -1,7 +1,7 @@
 //! Memory in which the workers of a crew run their blocks.
 
 use crate::line::{Line, clear_line};
-use job_trait::{Job, PassRoom};
+use job::{Job, PassRoom};
 use pass_in_blocks::{BlockAnswer, BlockResult};
 use std::alloc::Global;
 use std::mem;

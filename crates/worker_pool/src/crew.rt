@@ -1,6 +1,6 @@
 //! A crew: threads that are kept from pass to pass.
 ghost use Rattle.std.specs.Prelude.{◌+◌, ◌<◌, ◌≤◌, ◌^◌, length, IfOk};
-ghost use Rattle.job_trait.specs.Passes.{IsReady, IsAnswer, block_in, blocks_in};
+ghost use Rattle.job.specs.Passes.{IsReady, IsAnswer, block_in, blocks_in};
 ghost use Rattle.pass_in_blocks.specs.Answers.{AreRight, AreShown};
 ghost use Rattle.pass_in_blocks.specs.Showing.{shown_in};
 
@@ -11,7 +11,7 @@ use crate::lines::work_together;
 use crate::seat::PassTable;
 use crate::task::{HeldPass, Task};
 use det_values::OutOfMemory;
-use job_trait::{Job, PassDone, PassOf, PassRoom, Pool, PoolFault};
+use job::{Job, PassDone, PassOf, PassRoom, Pool, PoolFault};
 use pass_in_blocks::{BlockResult, finish_pass};
 use std::alloc::Global;
 use std::marker::Model;

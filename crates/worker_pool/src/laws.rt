@@ -4,8 +4,8 @@ ghost use Rattle.std.specs.Prelude.{◌≡◌, ◌≢◌, ℕ, ◌+◌, ◌<◌,
 ghost use Rattle.std.specs.Prelude.{slice_index, slice_set, Result};
 ghost use mathlib.Core.Option.{some};
 ghost use lib.ListN.{get_elem?};
-ghost use Rattle.job_trait.specs.Passes.{blocks_of};
-ghost use Rattle.job_trait.specs.Pass.{Passed, Refusal, passed as passed_in_order, block};
+ghost use Rattle.job.specs.Passes.{blocks_of};
+ghost use Rattle.job.specs.Pass.{Passed, Refusal, passed as passed_in_order, block};
 ghost use Rattle.worker_pool.specs.Gather.{gather, refuses};
 ghost use Rattle.worker_pool.specs.Machine.{Machine, Event, claim, finish, look, report, Has};
 ghost use Rattle.worker_pool.specs.Machine.{after, next, start, Leads, HasEnded};
@@ -18,7 +18,7 @@ ghost use Rattle.worker_pool.specs.Rule.{PoolState};
 ghost use Rattle.worker_pool.specs.Shown.{At, Becomes};
 ghost use Rattle.worker_pool.specs.Moves.{begun, moved, regrouped};
 
-use job_trait::Job;
+use job::Job;
 
 /// A table that is made shows the machine's start. Each kind of step keeps the rule, and changes
 /// the state that the table shows as one event of the machine does. A claim in vain, a load that

@@ -14,7 +14,7 @@ use crate::seat::PassSeat;
 use crate::task::Task;
 use crate::work::work_blocks;
 use det_values::OutOfMemory;
-use job_trait::{Job, PassRoom};
+use job::{Job, PassRoom};
 use pass_in_blocks::BlockResult;
 use rtrb::{Consumer, Producer};
 use std::alloc::Global;

@@ -10,7 +10,7 @@ use crate::line::{Line, give, take_reply, work_at};
 use crate::seat::PassSeat;
 use crate::task::Task;
 use det_values::OutOfMemory;
-use job_trait::{Job, PassRoom};
+use job::{Job, PassRoom};
 use pass_in_blocks::BlockResult;
 use std::alloc::Global;
 use std::sync::Arc;

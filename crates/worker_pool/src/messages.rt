@@ -4,7 +4,7 @@ use crate::bench::Bench;
 use crate::seat::PassSeat;
 use crate::task::Task;
 use det_values::OutOfMemory;
-use job_trait::{Job, PassRoom};
+use job::{Job, PassRoom};
 use pass_in_blocks::BlockResult;
 use rtrb::Protocol;
 use std::alloc::Global;

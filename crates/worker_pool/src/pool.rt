@@ -1,12 +1,12 @@
 //! One pass on threads of its own.
 ghost use Rattle.std.specs.Prelude.{◌≡◌, ◌≤◌};
-ghost use Rattle.job_trait.specs.Passes.{IsReady, IsAnswer};
+ghost use Rattle.job.specs.Passes.{IsReady, IsAnswer};
 ghost use Rattle.worker_pool.specs.Crews.{room_name};
 
 use crate::crew::Crew;
 use crate::gate::Gate;
 use crate::room::CrewRoom;
-use job_trait::{Job, PassDone, PassOf, PassRoom, Pool, PoolFault};
+use job::{Job, PassDone, PassOf, PassRoom, Pool, PoolFault};
 use std::alloc::Global;
 use std::marker::Brand;
 use std::sync::Arc;

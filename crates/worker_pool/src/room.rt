@@ -1,7 +1,7 @@
 //! What a crew is made of.
 use crate::task::Task;
 use det_values::OutOfMemory;
-use job_trait::Job;
+use job::Job;
 use std::alloc::Global;
 use tickets::Office;
 

@@ -9,7 +9,7 @@ use crate::line::{Line, MOST_REPLIES, serve};
 use crate::messages::{ReplyFits, WorkFits};
 use crate::room::CrewRoom;
 use det_values::OutOfMemory;
-use job_trait::Job;
+use job::Job;
 use rtrb::RingBuffer;
 use std::alloc::Global;
 use std::sync::Arc;

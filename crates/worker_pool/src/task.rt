@@ -3,7 +3,7 @@ ghost use Rattle.std.specs.Prelude.{◌≡◌, IfOk};
 
 use crate::seat::PassTable;
 use det_values::{Container, OutOfMemory};
-use job_trait::{Job, PassOf};
+use job::{Job, PassOf};
 use std::alloc::Global;
 use std::marker::Model;
 use std::sync::Arc;
@@ -24,7 +24,7 @@ pub struct HeldPass<J: Job> {
 
 impl<J: Job> Model for HeldPass<J> {
     ghost use Rattle.std.specs.Arc.{arc_value};
-    ghost use Rattle.job_trait.specs.Passes.{PassValue};
+    ghost use Rattle.job.specs.Passes.{PassValue};
 
     ghost Value = { PassValue J J.Element J.Plan J.Part };
 

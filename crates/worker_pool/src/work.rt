@@ -1,6 +1,6 @@
 //! What one worker does.
 ghost use Rattle.std.specs.Prelude.{◌≡◌, [], ◌+◌, ◌<◌, ◌≤◌, ◌⊎◌, IfOk, OnErr, IsTrue};
-ghost use Rattle.job_trait.specs.Passes.{IsReady, block_in, blocks_in};
+ghost use Rattle.job.specs.Passes.{IsReady, block_in, blocks_in};
 ghost use Rattle.pass_in_blocks.specs.Answers.{AreRight, AreShown};
 ghost use Rattle.pass_in_blocks.specs.Showing.{shown_in};
 ghost use Rattle.worker_pool.specs.declared.view.PoolView.{PoolView};
@@ -10,7 +10,7 @@ ghost use Rattle.worker_pool.specs.Views.{taken, IsNew};
 
 use crate::seat::{PassSeat, PassTable};
 use det_values::OutOfMemory;
-use job_trait::{Job, PassOf, PassRoom};
+use job::{Job, PassOf, PassRoom};
 use pass_in_blocks::{BlockResult, BlockResults, run_block};
 
 /// Tries the next block, runs it, and says whether to go on. A block above a known refusal is

@@ -1,7 +1,7 @@
 use Rattle.std.proofs.Common.{◌≡◌, List, [], length, take}
 use Rattle.det_values.specs.Values.{SampleValue, EventSpecValue}
-use Rattle.event_cache.specs.Rings.{windows}
-use Rattle.event_cache.specs.Windows.{HasSeen}
+use Rattle.job.specs.event_cache.Rings.{windows}
+use Rattle.job.specs.event_cache.Windows.{HasSeen}
 use Rattle.cycle_engine.proofs.engine.feed.Given as goal
 
 abbrev pub invariant-loop-sample : goal.invariant-loop-sample

@@ -1,6 +1,6 @@
 use Rattle.std.proofs.Common.{[], ◌∷◌, true, false, refl, sym, ◌∙◌, arith}
 use Rattle.std.specs.Prelude.{Some, None}
-use Rattle.det_edges.proofs.Opening.{asks-all, asks-prefix-none}
+use Rattle.det_io.proofs.Opening.{asks-all, asks-prefix-none}
 use Rattle.cli_answers.proofs.Keeping.{keeps-same}
 use Rattle.cli_answers.proofs.Meeting.{meets-under}
 use Rattle.cli_words.specs.declared.table.CommandWord.TheVariants as words

@@ -1,5 +1,5 @@
 use Rattle.std.proofs.Common.{List, ℕ, ◌∙◌, subst}
-use Rattle.det_edges.specs.Sink.{Grew, GrewByPrefix}
+use Rattle.det_io.specs.Sink.{Grew, GrewByPrefix}
 use Rattle.det_cli.proofs.Joining.{whole-unless}
 use Rattle.det_cli.proofs.program.top.Goals as goal
 

@@ -1,8 +1,8 @@
 use Rattle.std.proofs.Common.{◌≡◌, ℕ, ◌+◌, ◌-◌, ◌*◌, ◌<◌, List, length, min, take, drop, sym, ap, ◌∙◌, arith, length-drop}
 use Rattle.std.proofs.lemmas.List.{take_min}
-use Rattle.job_trait.specs.Passes.{blocks_of}
-use Rattle.job_trait.specs.Pass.{block_size, taken, nothing, in_block}
-use Rattle.job_trait.proofs.Sizes.{begins}
+use Rattle.job.specs.Passes.{blocks_of}
+use Rattle.job.specs.Pass.{block_size, taken, nothing, in_block}
+use Rattle.job.proofs.Sizes.{begins}
 use Rattle.det_client_c.specs.Blocks.{block_begin, block_end}
 use Rattle.det_client_c.proofs.blocks.blocks_of_a_pass.Goals as goal
 

@@ -1,6 +1,6 @@
 use Rattle.std.proofs.Common.{◌≡◌, ℕ, ◌+◌, ◌*◌, ◌/◌, ◌<◌, ◌≤◌, ◌⊎◌, inl, inr, min, subst, sym, arith}
-use Rattle.job_trait.specs.Pass.{block_size}
-use Rattle.job_trait.proofs.Sizes.{sizes}
+use Rattle.job.specs.Pass.{block_size}
+use Rattle.job.proofs.Sizes.{sizes}
 use Rattle.det_client_c.proofs.blocks.each_element_once.Goals as goal
 
 -- element i is in the block of number i / w

@@ -1,7 +1,7 @@
 use Rattle.std.proofs.Common.{◌≡◌, ℕ, [], ◌∷◌, ap, ◌∙◌}
 use Rattle.rand_core.specs.Steps.{first_words}
 use Rattle.rand_xoshiro.specs.SplitMix64.{mix_u64, next_state}
-use Rattle.element_random.specs.Words.{state_at}
+use Rattle.det_client.specs.element_random.Words.{state_at}
 use Rattle.det_client_c.proofs.random.first_state.Goals as goal
 
 pub returns : goal.returns

@@ -1,5 +1,5 @@
 use Rattle.std.proofs.Common.{[], ◌∷◌, sym, ◌∙◌}
-use Rattle.event_cache.proofs.Rounds.{empty_rings}
+use Rattle.job.proofs.lemmas.event_cache.Rounds.{empty_rings}
 use Rattle.det_client_c.proofs.window.det_window_new.Goals as goal
 
 pub returns-clause-made : goal.returns-clause-made

@@ -1,5 +1,5 @@
 use Rattle.std.proofs.Common.{arith}
-use Rattle.event_cache.specs.Rings.{windows}
+use Rattle.job.specs.event_cache.Rings.{windows}
 use Rattle.job_shared.proofs.Windows.{samples_whole}
 use Rattle.job_shared.proofs.samples.newest_samples.Goals as goal
 

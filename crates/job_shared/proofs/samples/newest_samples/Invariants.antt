@@ -1,5 +1,5 @@
 use Rattle.std.proofs.Common.{◌≡◌, length, take}
-use Rattle.event_cache.specs.Rings.{windows}
+use Rattle.job.specs.event_cache.Rings.{windows}
 use Rattle.job_shared.specs.Samples.{all_newest}
 use Rattle.job_shared.proofs.samples.newest_samples.Given as goal
 

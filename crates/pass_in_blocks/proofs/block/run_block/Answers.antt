@@ -1,5 +1,5 @@
 use Rattle.std.proofs.Common.{rules, ◌≡◌, ◌+◌, ◌*◌, length, take, drop, List, ap, ◌∙◌, sym, refl, arith}
-use Rattle.job_trait.specs.Pass.{block_size, in_block}
+use Rattle.job.specs.Pass.{block_size, in_block}
 use Rattle.pass_in_blocks.specs.Steps.{passed_by, none_in, added_to}
 use Rattle.pass_in_blocks.proofs.Running.{goes_on, stops}
 use Rattle.pass_in_blocks.proofs.Sound.{in_pass, has_room}

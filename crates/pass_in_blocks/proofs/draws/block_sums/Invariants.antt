@@ -1,5 +1,5 @@
 use Rattle.std.proofs.Common.{◌≡◌, ◌++◌, length, drop}
-use Rattle.job_trait.specs.Cycle.{added}
+use Rattle.job.specs.Cycle.{added}
 use Rattle.pass_in_blocks.proofs.draws.block_sums.Given as goal
 
 abbrev pub invariant-loop-i : goal.invariant-loop-i

@@ -1,5 +1,5 @@
 use Rattle.std.proofs.Common.{◌≡◌, ◌*◌, take}
-use Rattle.job_trait.specs.Cycle.{added}
+use Rattle.job.specs.Cycle.{added}
 use Rattle.pass_in_blocks.proofs.draws.sums.Given as goal
 
 abbrev pub invariant-loop-b : goal.invariant-loop-b

@@ -1,7 +1,7 @@
 use Rattle.std.proofs.Common.{rules, ◌≡◌, ◌+◌, ◌*◌, ◌≤◌, ◌<◌, ◌∙◌, ◌++◌, Ok, length, ap, sym, subst, refl, arith}
-use Rattle.job_trait.specs.Pass.{block_size}
-use Rattle.job_trait.specs.Passes.{block_in, blocks_of, passed_of}
-use Rattle.job_trait.proofs.Sizes.{begins, covers}
+use Rattle.job.specs.Pass.{block_size}
+use Rattle.job.specs.Passes.{block_in, blocks_of, passed_of}
+use Rattle.job.proofs.Sizes.{begins, covers}
 use Rattle.pass_in_blocks.specs.Answers.{left_by}
 use Rattle.pass_in_blocks.specs.Showing.{shown_in, frame_before}
 use Rattle.pass_in_blocks.specs.Steps.{beside, first_in, CanJoin}

@@ -1,6 +1,6 @@
 use Rattle.std.proofs.Common.{◌≡◌, ◌*◌, length, Ok}
-use Rattle.job_trait.specs.Pass.{block_size}
-use Rattle.job_trait.specs.Passes.{block_in, passed_of}
+use Rattle.job.specs.Pass.{block_size}
+use Rattle.job.specs.Passes.{block_in, passed_of}
 use Rattle.pass_in_blocks.specs.Showing.{shown_in, frame_before}
 use Rattle.pass_in_blocks.specs.Steps.{first_in, ArePlaces}
 use Rattle.pass_in_blocks.proofs.finish.finish_pass.Given as goal

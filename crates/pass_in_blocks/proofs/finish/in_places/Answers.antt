@@ -1,6 +1,6 @@
 use Rattle.std.proofs.Common.{rules, ◌≡◌, slice_set, length, Some, ap, sym, subst, arith, length-set}
 use Rattle.std.proofs.lemmas.List.Elements.{All-pop}
-use Rattle.job_trait.specs.Passes.{block_in, blocks_in}
+use Rattle.job.specs.Passes.{block_in, blocks_in}
 use Rattle.pass_in_blocks.specs.Answers.{IsRight, Shows}
 use Rattle.pass_in_blocks.specs.Showing.{shown_in}
 use Rattle.pass_in_blocks.specs.Steps.{ArePlaces}

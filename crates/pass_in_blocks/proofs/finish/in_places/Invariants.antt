@@ -1,5 +1,5 @@
 use Rattle.std.proofs.Common.{◌≤◌, length, vec_len}
-use Rattle.job_trait.specs.Passes.{block_in, blocks_in}
+use Rattle.job.specs.Passes.{block_in, blocks_in}
 use Rattle.pass_in_blocks.specs.Answers.{AreRight, AreShown}
 use Rattle.pass_in_blocks.specs.Showing.{shown_in}
 use Rattle.pass_in_blocks.specs.Steps.{ArePlaces}

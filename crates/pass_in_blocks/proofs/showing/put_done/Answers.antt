@@ -1,7 +1,7 @@
 use Rattle.std.proofs.Common.{◌≡◌, ◌≤◌, ℕ, List, length, refl, sym, ap, ◌∙◌, subst}
 use Rattle.std.specs.List.{All}
-use Rattle.job_trait.specs.Cycle.{added}
-use Rattle.job_trait.proofs.Sizes.{begins}
+use Rattle.job.specs.Cycle.{added}
+use Rattle.job.proofs.Sizes.{begins}
 use Rattle.pass_in_blocks.specs.Steps.{passed_by}
 use Rattle.pass_in_blocks.proofs.Adding.{length-added}
 use Rattle.pass_in_blocks.proofs.Shows.{own_done, level_done, few_done, earlier_level, earlier_few, shows_sums, shows_plain}

@@ -1,6 +1,6 @@
 use Rattle.std.proofs.Common.{rules, ◌≡◌, ◌++◌, [], true, if◌then◌else◌, ap, sym, subst, ◌∙◌, arith}
-use Rattle.job_trait.specs.Passes.{block_in}
-use Rattle.job_trait.proofs.Sizes.{begins}
+use Rattle.job.specs.Passes.{block_in}
+use Rattle.job.proofs.Sizes.{begins}
 use Rattle.det_values.specs.Spelling.{spelled_all}
 use Rattle.pass_in_blocks.specs.Showing.{shown_by}
 use Rattle.pass_in_blocks.proofs.Shows.{own_done, some_done, few_elements, block_shown}

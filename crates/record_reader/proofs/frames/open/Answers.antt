@@ -1,13 +1,13 @@
 use Rattle.std.proofs.Common.{◌≡◌, Option, Some, Result, Ok, Err, refl, subst}
-use Rattle.det_edges.specs.Shelf.{IsAtEnd}
-use Rattle.det_edges.specs.Traffic.{failure_in}
-use Rattle.det_edges.specs.declared.failure.Failure.TheVariants.{Write}
-use Rattle.det_edges.specs.declared.failure.Stopped.{Stopped}
+use Rattle.det_io.specs.Shelf.{IsAtEnd}
+use Rattle.det_io.specs.Traffic.{failure_in}
+use Rattle.det_io.specs.declared.failure.Failure.TheVariants.{Write}
+use Rattle.det_io.specs.declared.failure.Stopped.{Stopped}
 use Rattle.record_grammar.specs.declared.fault.RecordFault.{RecordFault}
 use Rattle.record_grammar.specs.declared.item.Item.TheVariants as items
 use Rattle.record_view.specs.declared.view.ItemView.{ItemView}
-use Rattle.item_reader.proofs.Passing.{passed-on}
-use Rattle.item_reader.specs.StandsFor as inner
+use Rattle.record_reader.proofs.lemmas.item_reader.Passing.{passed-on}
+use Rattle.record_reader.specs.item_reader.StandsFor as inner
 use Rattle.record_reader.specs.declared.frames.OpenRecord.{OpenRecord}
 use Rattle.record_reader.specs.Frames.{HasOpened}
 use Rattle.record_reader.proofs.FrameReading.{is_header, header_given, opened, stopped, writes_nothing, no_memory}

@@ -1,12 +1,12 @@
 use Rattle.std.proofs.Common.{refl, Option, Result, Ok, Err, subst, rules}
-use Rattle.det_edges.specs.declared.failure.Stopped.{Stopped}
-use Rattle.det_edges.specs.Traffic.{SinkTraffic, ShelfTraffic, shelf_run, sink_run, failure_in}
+use Rattle.det_io.specs.declared.failure.Stopped.{Stopped}
+use Rattle.det_io.specs.Traffic.{SinkTraffic, ShelfTraffic, shelf_run, sink_run, failure_in}
 use Rattle.record_grammar.specs.declared.fault.RecordFault.{RecordFault}
 use Rattle.record_view.specs.declared.view.ItemView.{ItemView}
-use Rattle.item_reader.specs.StandsFor.{GaveView, RoomFell, slot_of, room}
+use Rattle.record_reader.specs.item_reader.StandsFor.{GaveView, RoomFell, slot_of, room}
 use Rattle.record_reader.specs.Keeping.{salvaging}
 use Rattle.record_reader.specs.Taking.{ItemsRead}
-use Rattle.item_reader.proofs.Passing.{passed-on}
+use Rattle.record_reader.proofs.lemmas.item_reader.Passing.{passed-on}
 use Rattle.record_reader.proofs.Taking.{lifts-same, no-read}
 use Rattle.record_reader.proofs.Views.{Answered, answered, next-given, running-next, all-taken, reader-stopped, taker-stopped}
 use Rattle.record_reader.proofs.Views.{shelf-then, same-failure, no-write, none-left}

@@ -1,6 +1,6 @@
 use Rattle.std.proofs.Common.{None}
-use Rattle.det_edges.specs.Traffic.{ShelfTraffic, SinkTraffic, shelf_run, sink_run}
-use Rattle.item_reader.specs.StandsFor.{slot_of, room}
+use Rattle.det_io.specs.Traffic.{ShelfTraffic, SinkTraffic, shelf_run, sink_run}
+use Rattle.record_reader.specs.item_reader.StandsFor.{slot_of, room}
 use Rattle.record_reader.specs.Keeping.{salvaging}
 use Rattle.record_reader.proofs.Views.{Running}
 use Rattle.record_reader.proofs.salvaging.keep_all.Given as goal

@@ -1,12 +1,12 @@
 use Rattle.std.proofs.Common.{sym, ◌∙◌, Result}
-use Rattle.det_edges.specs.declared.failure.Stopped.{Stopped}
-use Rattle.det_edges.specs.Traffic.{shelf_run, sink_run}
+use Rattle.det_io.specs.declared.failure.Stopped.{Stopped}
+use Rattle.det_io.specs.Traffic.{shelf_run, sink_run}
 use Rattle.record_grammar.specs.declared.fault.RecordFault.{RecordFault}
 use Rattle.record_reader.specs.declared.salvage.Salvaged.{Salvaged}
-use Rattle.item_reader.specs.StandsFor.{slot_of}
+use Rattle.record_reader.specs.item_reader.StandsFor.{slot_of}
 use Rattle.record_reader.specs.Salvages.{Ended}
 use Rattle.record_reader.proofs.Ending.{ended-finished, ended-stopped, told-ok, told-nothing, told-part}
-use Rattle.item_reader.proofs.Passing.{passed-on}
+use Rattle.record_reader.proofs.lemmas.item_reader.Passing.{passed-on}
 use Rattle.record_reader.proofs.salvaging.salvage_run.Given as given
 use Rattle.record_reader.proofs.salvaging.salvage_run.Goals as goal
 

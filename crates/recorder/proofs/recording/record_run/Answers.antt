@@ -4,15 +4,15 @@ use Rattle.std.specs.List.{All}
 use Rattle.std.proofs.lemmas.Result.{err_from_is_err_and}
 use Rattle.det_values.specs.Values.{ProfileValue, SampleValue}
 use Rattle.det_values.specs.declared.frames.Frame.TheVariants.{Run, Terminate}
-use Rattle.det_edges.specs.Shelf.{IsAtEnd}
-use Rattle.det_edges.specs.Sink.{Grew}
-use Rattle.det_edges.specs.Traffic.{shelf_run, sink_run}
+use Rattle.det_io.specs.Shelf.{IsAtEnd}
+use Rattle.det_io.specs.Sink.{Grew}
+use Rattle.det_io.specs.Traffic.{shelf_run, sink_run}
 use Rattle.cycle_engine.specs.Frames.{runs}
 use Rattle.record_grammar.specs.Spelling.{spelled_frame}
-use Rattle.run_writer.specs.Record.{Counted, record_with}
-use Rattle.run_writer.specs.Recording.{Cuts, Ran}
-use Rattle.stimulus_reader.specs.StandsFor.{IsNext, IsWhole, slot_of}
-use Rattle.stimulus_reader.proofs.Reading.{none-of}
+use Rattle.recorder.specs.run_writer.Record.{Counted, record_with}
+use Rattle.recorder.specs.run_writer.Recording.{Cuts, Ran}
+use Rattle.stimulus.specs.slot_reader.StandsFor.{IsNext, IsWhole, slot_of}
+use Rattle.stimulus.proofs.lemmas.slot_reader.Reading.{none-of}
 use Rattle.recorder.proofs.Running.{next_run, answered-as, running-opened, next-read, running-next, few-cycles, no-write, no-read}
 use Rattle.recorder.proofs.Ending.{open-failed, reading-stopped, cycle-failed, show-failed, close-failed, closed}
 use Rattle.recorder.proofs.Told.{recorded}

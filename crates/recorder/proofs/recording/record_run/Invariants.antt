@@ -1,8 +1,8 @@
 use Rattle.std.proofs.Common.{◌≡◌, ◌-◌, ℕ, List, None}
 use Rattle.det_values.specs.declared.frames.CycleInput.{CycleInput}
-use Rattle.det_edges.specs.Traffic.{ShelfTraffic, SinkTraffic, shelf_run, sink_run}
+use Rattle.det_io.specs.Traffic.{ShelfTraffic, SinkTraffic, shelf_run, sink_run}
 use Rattle.probes.specs.Shows.{seen}
-use Rattle.stimulus_reader.specs.StandsFor.{slot_of, events_of}
+use Rattle.stimulus.specs.slot_reader.StandsFor.{slot_of, events_of}
 use Rattle.recorder.proofs.Running.{Running}
 use Rattle.recorder.proofs.recording.record_run.Given as goal
 

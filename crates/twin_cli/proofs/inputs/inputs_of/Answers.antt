@@ -1,6 +1,6 @@
 use Rattle.std.proofs.Common.{[], ◌∷◌, sym, arith, length-append}
 use Rattle.std.proofs.lemmas.Result.{err_from_is_err_and}
-use Rattle.stimulus_reader.proofs.Reading.{none-of}
+use Rattle.stimulus.proofs.lemmas.slot_reader.Reading.{none-of}
 use Rattle.twin_cli.proofs.Sourcing.{gives, whole, stopped-line, stopped-calm, known-inputs}
 use Rattle.twin_cli.proofs.inputs.inputs_of.Goals as goal
 

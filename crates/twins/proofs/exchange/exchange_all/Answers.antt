@@ -1,5 +1,5 @@
 use Rattle.std.proofs.Common.{◌≡◌, Option, None, refl, rules, subst, ◌∙◌, arith}
-use Rattle.lockstep.specs.declared.verdict.Verdict.{Verdict}
+use Rattle.copies.specs.declared.verdict.Verdict.{Verdict}
 use Rattle.twins.specs.Taking.{Judged}
 use Rattle.twins.proofs.exchange.exchange_all.Goals as goal
 

@@ -1,7 +1,7 @@
 use Rattle.std.proofs.Common.{◌≡◌, ◌+◌, ◌-◌, ap, sym, ◌∙◌, arith}
 use Rattle.std.specs.Option.{option_map}
-use Rattle.lockstep.specs.declared.verdict.Verdict.TheVariants.{Differ}
-use Rattle.lockstep.specs.FirstDifference.{frame_difference}
+use Rattle.copies.specs.declared.verdict.Verdict.TheVariants.{Differ}
+use Rattle.copies.specs.FirstDifference.{frame_difference}
 use Rattle.twins.proofs.rounds.parted.Goals as goal
 
 pub returns-in-Some : goal.returns-in-Some

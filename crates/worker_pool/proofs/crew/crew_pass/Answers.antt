@@ -1,6 +1,6 @@
 use Rattle.std.proofs.Common.{◌≡◌, ℕ, ◌<◌, ◌≤◌, List, length, take, arith, length-take}
 use Rattle.std.proofs.lemmas.List.Elements.{All-nil, All-same}
-use Rattle.job_trait.specs.Passes.{block_in, blocks_in}
+use Rattle.job.specs.Passes.{block_in, blocks_in}
 use Rattle.pass_in_blocks.specs.Answers.{IsRight, Shows}
 use Rattle.pass_in_blocks.specs.Showing.{shown_in}
 use Rattle.worker_pool.proofs.crew.crew_pass.Goals as goal

@@ -1,7 +1,7 @@
 use Rattle.std.proofs.Common.{IfOk, ◌∙◌, sym, ap, subst}
 use Rattle.std.specs.List.{All}
 use Rattle.std.proofs.lemmas.Result.{IfOk-weaker}
-use Rattle.job_trait.specs.Passes.{IsReady, block_in, blocks_in}
+use Rattle.job.specs.Passes.{IsReady, block_in, blocks_in}
 use Rattle.pass_in_blocks.specs.Answers.{IsRight, Shows}
 use Rattle.pass_in_blocks.specs.Showing.{shown_in}
 use Rattle.worker_pool.specs.Handles.{IsAt}

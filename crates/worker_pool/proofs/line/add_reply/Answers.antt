@@ -1,7 +1,7 @@
 use Rattle.std.proofs.Common.{◌∙◌}
 use Rattle.std.proofs.lemmas.List.Elements.{All-append, All-same}
 use Rattle.std.proofs.lemmas.Result.{on_ok_weaker}
-use Rattle.job_trait.specs.Passes.{block_in}
+use Rattle.job.specs.Passes.{block_in}
 use Rattle.worker_pool.specs.Handles.{view_of, block_count}
 use Rattle.worker_pool.specs.Messages.{IsOf}
 use Rattle.worker_pool.proofs.Shares.{brought, share_joined}

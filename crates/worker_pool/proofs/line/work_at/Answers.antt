@@ -1,6 +1,6 @@
 use Rattle.std.proofs.Common.{◌∙◌, sym, ap, subst}
 use Rattle.std.proofs.lemmas.List.Elements.{All-same}
-use Rattle.job_trait.specs.Passes.{IsReady, block_in, blocks_in}
+use Rattle.job.specs.Passes.{IsReady, block_in, blocks_in}
 use Rattle.pass_in_blocks.specs.Answers.{AreRight, AreShown}
 use Rattle.pass_in_blocks.specs.Showing.{shown_in}
 use Rattle.worker_pool.specs.Handles.{view_of, block_count}

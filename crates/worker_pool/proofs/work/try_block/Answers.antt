@@ -1,7 +1,7 @@
 use Rattle.std.proofs.Common.{◌≡◌, ◌<◌, length, true≢false, refl, sym, ◌∙◌, inl, inr, arith}
 use Rattle.std.proofs.lemmas.List.Elements.{All-push, All-same}
-use Rattle.job_trait.specs.Passes.{block_in}
-use Rattle.job_trait.proofs.Sizes.{few_blocks}
+use Rattle.job.specs.Passes.{block_in}
+use Rattle.job.proofs.Sizes.{few_blocks}
 use Rattle.pass_in_blocks.specs.Answers.{Shows}
 use Rattle.pass_in_blocks.specs.declared.answers.BlockResult.{BlockResult}
 use Rattle.pass_in_blocks.specs.Showing.{shown_in}

@@ -1,5 +1,5 @@
 use Rattle.std.proofs.Common.{◌≤◌, arith}
-use Rattle.job_trait.specs.Passes.{block_in, blocks_in}
+use Rattle.job.specs.Passes.{block_in, blocks_in}
 use Rattle.worker_pool.specs.Handles.{view_of, block_count}
 use Rattle.worker_pool.proofs.Right.{right_of}
 use Rattle.worker_pool.proofs.work.work_blocks.Goals as goal

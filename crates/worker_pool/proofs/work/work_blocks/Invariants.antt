@@ -1,5 +1,5 @@
 use Rattle.std.proofs.Common.{◌≡◌, ◌≤◌, ◌-◌}
-use Rattle.job_trait.specs.Passes.{block_in}
+use Rattle.job.specs.Passes.{block_in}
 use Rattle.pass_in_blocks.specs.Answers.{AreShown}
 use Rattle.pass_in_blocks.specs.Showing.{shown_in}
 use Rattle.worker_pool.specs.Results.{Works}

@@ -1,5 +1,5 @@
 use Rattle.std.proofs.Common.{ap, List, ℕ}
-use Rattle.job_trait.specs.Passes.{drawn_so_far}
+use Rattle.job.specs.Passes.{drawn_so_far}
 use Rattle.pass_in_blocks.proofs.Shows.{as_added}
 use Rattle.cycle_engine.proofs.draws.Draws.of.Goals as goal
 

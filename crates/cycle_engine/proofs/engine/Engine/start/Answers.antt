@@ -1,7 +1,7 @@
 use Rattle.std.proofs.Common.{List, [], length, arith, ap, ◌∙◌, subst}
 use Rattle.det_values.specs.Values.{EventSpecValue}
 use Rattle.det_client.specs.Life.{following}
-use Rattle.event_cache.specs.Windows.{HasSeen}
+use Rattle.job.specs.event_cache.Windows.{HasSeen}
 use Rattle.std.specs.Arc.{arc_value}
 use Rattle.cycle_engine.proofs.Beginning.{comes-to-init, events-made, begins-run, all_own}
 use Rattle.cycle_engine.proofs.engine.Engine.start.Goals as goal

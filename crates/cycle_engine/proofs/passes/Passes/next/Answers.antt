@@ -1,5 +1,5 @@
 use Rattle.std.proofs.Common.{◌≡◌, ℕ, ◌+◌, ◌*◌, List, length, arith, ◌∙◌, ap, sym}
-use Rattle.job_trait.specs.Cycle.{added, shown_with}
+use Rattle.job.specs.Cycle.{added, shown_with}
 use Rattle.pass_in_blocks.proofs.Adding.{length-added, All-added}
 use Rattle.cycle_engine.proofs.passes.Passes.next.Goals as goal
 

@@ -1,5 +1,5 @@
 use Rattle.std.proofs.Common.{◌≡◌, suc, ◌+◌, ◌-◌, Ok, ◌∙◌, ap, arith}
-use Rattle.job_trait.specs.Cycle.{passes_on}
+use Rattle.job.specs.Cycle.{passes_on}
 use Rattle.cycle_engine.specs.Answers.{left_by}
 use Rattle.cycle_engine.proofs.passes.Passes.run.Goals as goal
 

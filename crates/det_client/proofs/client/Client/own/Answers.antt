@@ -1,5 +1,5 @@
 use Rattle.std.proofs.Common.{◌≡◌, ap, sym, subst, ◌∙◌}
-use Rattle.element_random.specs.Words.{StandsFor}
+use Rattle.det_client.specs.element_random.Words.{StandsFor}
 use Rattle.det_client.specs.State.{own_place}
 use Rattle.det_client.proofs.OwnStreams.{is_beginning}
 use Rattle.det_client.proofs.client.Client.own.Goals as goal

@@ -2,7 +2,7 @@ use Rattle.std.proofs.Common.{sym, subst}
 use Rattle.record_grammar.specs.declared.item.Item.TheVariants as items
 use Rattle.record_view.specs.declared.view.ItemView.{ItemView}
 use Rattle.record_view.specs.Shows.{IsSpelling}
-use Rattle.item_reader.specs.StandsFor as inner
+use Rattle.record_reader.specs.item_reader.StandsFor as inner
 use Rattle.record_reader.proofs.frames.FrameReader.bytes.Goals as goal
 
 pub returns : goal.returns

@@ -1,9 +1,9 @@
 use Rattle.std.proofs.Common.{Option, Some, None, Ok, sym, subst}
-use Rattle.det_edges.specs.Shelf.{IsAtEnd}
+use Rattle.det_io.specs.Shelf.{IsAtEnd}
 use Rattle.record_grammar.specs.declared.item.Item.{Item}
 use Rattle.record_grammar.specs.declared.item.Item.TheVariants as items
 use Rattle.record_view.specs.declared.view.ItemView.{ItemView}
-use Rattle.item_reader.specs.StandsFor as inner
+use Rattle.record_reader.specs.item_reader.StandsFor as inner
 use Rattle.record_reader.specs.Frames.{FrameIs, slot_of}
 use Rattle.record_reader.proofs.FrameReading.{has_read, gave_frame, held_frame}
 use Rattle.record_reader.proofs.frames.FrameReader.next.Goals as goal

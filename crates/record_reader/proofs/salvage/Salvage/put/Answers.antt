@@ -1,12 +1,12 @@
 use Rattle.std.proofs.Common.{◌++◌, Result, subst}
-use Rattle.det_edges.specs.declared.failure.Stopped.{Stopped}
-use Rattle.det_edges.specs.Sink.{Grew, GrewShort}
-use Rattle.det_edges.specs.Traffic.{sink_run}
-use Rattle.det_edges.proofs.Growth.{short-wider, grew-then-short}
-use Rattle.det_edges.proofs.Prefixes.{prefix-append}
+use Rattle.det_io.specs.declared.failure.Stopped.{Stopped}
+use Rattle.det_io.specs.Sink.{Grew, GrewShort}
+use Rattle.det_io.specs.Traffic.{sink_run}
+use Rattle.det_io.proofs.Growth.{short-wider, grew-then-short}
+use Rattle.det_io.proofs.Prefixes.{prefix-append}
 use Rattle.record_grammar.specs.declared.fault.RecordFault.{RecordFault}
 use Rattle.record_reader.specs.Keeping.{Puts}
-use Rattle.item_reader.proofs.Passing.{passed-on}
+use Rattle.record_reader.proofs.lemmas.item_reader.Passing.{passed-on}
 use Rattle.record_reader.proofs.salvage.Salvage.put.Goals as goal
 
 pub returns-in_err-write_all-clause-puts : goal.returns-in_err-write_all-clause-puts

@@ -1,5 +1,0 @@
-pub mod Departing
-pub mod Records
-pub mod Spellings
-pub mod Running
-mod Ending

@@ -1,4 +1,0 @@
-mod Items
-mod Reading
-mod Scripted
-mod Untold

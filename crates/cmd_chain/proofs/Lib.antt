@@ -1,3 +1,0 @@
-mod Chained
-mod Second
-mod First

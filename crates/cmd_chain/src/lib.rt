@@ -1,8 +1,0 @@
-//! The command `chain`: a client over a stimulus, and a second one over the outputs of the first.
-#![tactic(auto)]
-
-mod chaining;
-mod over_stimulus;
-mod visiting;
-
-pub use chaining::{ChainTask, chain};

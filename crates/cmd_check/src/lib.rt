@@ -1,8 +1,0 @@
-//! The command that runs the inputs of a record again and tells where the record departs from it.
-#![tactic(auto)]
-
-mod checking;
-mod printing;
-mod visiting;
-
-pub use checking::check;

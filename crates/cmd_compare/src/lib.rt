@@ -1,6 +1,0 @@
-//! The command `compare`.
-#![tactic(auto)]
-
-mod comparing;
-
-pub use comparing::compare;

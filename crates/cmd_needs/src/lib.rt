@@ -1,7 +1,0 @@
-//! The command `needs`: the lines of a manifest, where its job takes its parameters.
-#![tactic(auto)]
-
-mod command;
-mod lines;
-
-pub use command::needs;

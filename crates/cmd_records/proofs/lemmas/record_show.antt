@@ -1,0 +1,6 @@
+pub mod Lines
+pub mod Parts
+pub mod Formats
+pub mod Gone
+pub mod Taken
+pub mod Answering

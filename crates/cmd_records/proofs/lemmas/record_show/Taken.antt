@@ -1,0 +1,172 @@
+-- An item that is printed and shown.
+use Rattle.std.proofs.Common.{◌≡◌, ◌≤◌, ◌<◌, ℕ, ◌+◌, List, [], ◌∷◌, ◌++◌, length, Bool, true, cond, Option, Some, None, Ok, Err}
+use Rattle.std.proofs.Common.{refl, sym, ap, subst, ◌∙◌, length-append, arith}
+use Rattle.std.specs.Prelude.{IfNone}
+use Rattle.det_values.specs.declared.format.Format.{Format}
+use Rattle.det_values.specs.declared.format.Format.TheVariants.{One}
+use Rattle.det_values.specs.declared.frames.RunFrame.{RunFrame}
+use Rattle.det_io.specs.declared.failure.Failure.TheVariants.{Read, Write, OutOfMemory}
+use Rattle.det_io.specs.declared.failure.Stopped.{Stopped}
+use Rattle.det_io.specs.declared.failure.Stopped.TheVariants.{Refused, Failed}
+use Rattle.det_io.specs.Traffic.{SinkRun}
+use Rattle.det_io.proofs.Prefixes.{prefix-same}
+use Rattle.record_grammar.specs.declared.fault.RecordFault.{RecordFault}
+use Rattle.record_grammar.specs.declared.item.Item.{Item}
+use Rattle.record_grammar.specs.declared.item.Item.TheVariants as items
+use Rattle.det_values.specs.declared.frames.Frame.TheVariants.{Register, Discover, Init, Run, Terminate}
+use Rattle.record_grammar.specs.declared.place.Place.TheVariants as places
+use Rattle.record_grammar.specs.Places.{format_of}
+use Rattle.record_grammar.proofs.Leads.{can_follow}
+use Rattle.record_view.specs.declared.view.ItemView.{ItemView}
+use Rattle.record_view.specs.Shows.{IsSpelling}
+use Rattle.record_reader.specs.Kinds.{runs_of}
+use Rattle.record_reader.specs.Taking.{AreFirst, IsNext, Takes, Wrote}
+use Rattle.record_reader.proofs.Items.{next_is, few_first}
+use Rattle.record_reader.proofs.Kept.{adds}
+use Rattle.record_text.specs.declared.part.ShowPart.{ShowPart}
+use Rattle.record_text.specs.declared.part.ShowPart.TheVariants.{All, Reports, Cycle}
+use Rattle.probes.specs.Reports.{AudienceState}
+use Rattle.probes.specs.Shows.{Shows}
+use Rattle.probes.proofs.Shown.{shows-none, shows-then}
+use Rattle.cmd_records.specs.declared.record_show.printing.Printer.{Printer}
+use Rattle.cmd_records.specs.record_show.Text.{lines_of}
+use Rattle.record_reader.specs.InItems.{runs_in}
+use Rattle.record_reader.specs.InItems.{run_in}
+use Rattle.cmd_records.specs.record_show.Showing.{format_by, format_behind, is_printed, lines_at, printed_of, Watched, Kept, IsFailed}
+use Rattle.cmd_records.specs.record_show.Showing.{AreShown, showing}
+use Rattle.cmd_records.proofs.lemmas.record_show.Lines.{runs_next}
+use Rattle.cmd_records.proofs.lemmas.record_show.Parts.{part-next, headed-next}
+use Rattle.cmd_records.proofs.lemmas.record_show.Formats.{format_there}
+
+pub watched-none : (part : ShowPart) (audience : AudienceState) → Watched part audience audience []
+watched-none All audience = shows-none audience
+watched-none Reports audience = shows-none audience
+watched-none (Cycle number) audience = refl
+
+watched-then : (part : ShowPart) (first mid now : AudienceState) (shown more : List RunFrame) → Watched part first mid shown
+    → Watched part mid now more → Watched part first now (shown ++ more)
+watched-then All first mid now shown more p q = shows-then p q
+watched-then Reports first mid now shown more p q = shows-then p q
+watched-then (Cycle number) first mid now shown more p q = q ∙ p
+
+pub kept-same : (part : ShowPart) (audience : AudienceState) → Kept part audience audience
+kept-same All audience = tt
+kept-same Reports audience = tt
+kept-same (Cycle number) audience = refl
+
+pub kept-then : (part : ShowPart) (first mid now : AudienceState) → Kept part first mid → Kept part mid now → Kept part first now
+kept-then All first mid now p q = tt
+kept-then Reports first mid now p q = tt
+kept-then (Cycle number) first mid now p q = q ∙ p
+
+runs_few : (x : Item) → length (run_in x) ≤ 1
+runs_few (items.Header p) = omega arith
+runs_few (items.Frame Register) = omega arith
+runs_few (items.Frame Discover) = omega arith
+runs_few (items.Frame (Init elements)) = omega arith
+runs_few (items.Frame (Run run)) = omega arith
+runs_few (items.Frame Terminate) = omega arith
+
+-- there are no more runs than items
+fewer_runs : (xs : List Item) → length (runs_in xs) ≤ length xs
+fewer_runs [] = omega arith
+fewer_runs (x ∷ xs) = let all = length-append (run_in x) (runs_in xs) in let one = runs_few x in let others = fewer_runs xs in
+    omega (arith, all, one, others)
+
+-- there is room to count one more
+pub shown-room : {part : ShowPart} (printer : Printer) (first now : AudienceState) (given : List Item) (item : Item)
+    → AreShown part first now printer given → AreFirst (given ++ item ∷ []) → printer.cycles < 4294967295
+shown-room printer first now given item h are_first =
+    let few = few_first (given ++ item ∷ []) are_first in let all = length-append given (item ∷ []) in let runs = fewer_runs given in
+    let cycles = h.cycles in omega (arith, few, all, runs, cycles)
+
+-- ---- an item by its view
+
+-- as many runs as an item of its kind adds
+pub counted : (view : ItemView) (item : Item) (bytes : List ℕ) → IsSpelling view item bytes → runs_of view.span.kind ≡ length (run_in item)
+counted view item bytes h = (adds view.place view.span.kind view.span.len bytes item h.shows.parts).runs
+
+-- the lines of a header hang on no format, and those of a frame on that of its place
+in_format : (part : ShowPart) (number : ℕ) (given : List Item) (item : Item) (view : ItemView) (bytes : List ℕ)
+    → IsNext given item view bytes
+    → printed_of part (format_of view.place) number item ≡ printed_of part (format_by (format_behind One given) item) number item
+in_format part number given (items.Header p) view bytes next = refl
+in_format part number given (items.Frame f) view bytes next =
+    ap (λ (format : Format). printed_of part format number (items.Frame f))
+    (format_there given places.Header view.place next.after.0 next.after.1 (items.Frame f) next.after.2
+    (can_follow view.place bytes (items.Frame f) _ next.spelling.shows.read))
+
+module _ (part : ShowPart) (first mid : AudienceState) (given : List Item) (item : Item) (view : ItemView) (bytes : List ℕ)
+    (old new : Printer) (runs : ℕ)
+    (h : AreShown part first mid old given) (next : IsNext given item view bytes) (part_stays : new.part ≡ old.part)
+    (count : new.cycles ≡ old.cycles + runs) (of_kind : runs ≡ runs_of view.span.kind) where
+  -- what the item adds to the lines
+  abbrev more : List ℕ
+  more = printed_of part (format_by (format_behind One given) item) (length (runs_in given) + length (run_in item)) item
+
+  -- what is printed, by the printer before
+  abbrev printed : List ℕ
+  printed = printed_of old.part (format_of view.place) (old.cycles + runs) item
+
+  cycles_is : old.cycles + runs ≡ length (runs_in given) + length (run_in item)
+  cycles_is = ap (λ (n : ℕ). n + runs) h.cycles
+      ∙ ap (λ (n : ℕ). length (runs_in given) + n) (of_kind ∙ counted view item bytes next.spelling)
+
+  more_is : printed ≡ more
+  more_is = ap (λ (p : ShowPart). printed_of p (format_of view.place) (old.cycles + runs) item) h.part_is
+      ∙ ap (λ (n : ℕ). printed_of part (format_of view.place) n item) cycles_is
+      ∙ in_format part (length (runs_in given) + length (run_in item)) given item view bytes next
+
+  shown : (now : AudienceState) → Watched part mid now (run_in item) → AreShown part first now new (given ++ item ∷ [])
+  shown now watched = record {
+    part_is = part_stays ∙ h.part_is;
+    headed = headed-next given item (next_is given item next.first) h.headed;
+    cycles = count ∙ cycles_is ∙ sym (length-append (runs_in given) (run_in item)) ∙ ap length (sym (runs_next given item));
+    watched = subst (Watched part first now) (sym (runs_next given item))
+        (watched-then part first mid now (runs_in given) (run_in item) h.watched watched);
+  }
+
+  all : lines_of part (given ++ item ∷ []) ≡ lines_of part given ++ more
+  all = part-next part given item (next_is given item next.first) h.headed
+
+  -- it was printed and shown
+  pub taken : (u v : Unit {0}) (now : AudienceState) (out : SinkRun)
+      → Wrote {E = RecordFault} (Ok u) [] printed out
+      → Watched part mid now (run_in item)
+      → Takes (Ok v) (showing part first now new) given item [] out
+  taken u v now out wrote watched = record {
+    more = more;
+    all = all;
+    wrote = subst (λ (bytes : List ℕ). Wrote {E = RecordFault} (Ok u) [] bytes out) more_is wrote;
+    after = shown now watched;
+  }
+
+  -- it couldn't be printed
+  pub unwritten : (stop : Stopped RecordFault) (out : SinkRun)
+      → Wrote (Err stop) [] printed out → IsFailed (Err stop)
+      → Takes (Err stop) (showing part first mid new) given item [] out
+  unwritten (Refused f) out wrote fails = absurd fails
+  unwritten (Failed Read) out wrote fails = absurd fails
+  unwritten (Failed Write) out wrote fails = record {
+    more = more;
+    all = all;
+    wrote = subst (λ (bytes : List ℕ). Wrote {E = RecordFault} (Err (Failed Write)) [] bytes out) more_is wrote;
+    after = h.watched;
+  }
+  unwritten (Failed OutOfMemory) out wrote fails = record {
+    more = more;
+    all = all;
+    wrote = subst (λ (bytes : List ℕ). Wrote {E = RecordFault} (Err (Failed OutOfMemory)) [] bytes out) more_is wrote;
+    after = tt;
+  }
+
+  -- it was printed and couldn't be shown
+  pub unshown : (u : Unit {0}) (now : AudienceState) (out : SinkRun)
+      → Wrote {E = RecordFault} (Ok u) [] printed out
+      → Takes (Err (Failed OutOfMemory)) (showing part first now new) given item [] out
+  unshown u now out wrote = record {
+    more = more;
+    all = all;
+    wrote = (more, prefix-same more, subst (λ (bytes : List ℕ). Wrote {E = RecordFault} (Ok u) [] bytes out) more_is wrote);
+    after = tt;
+  }

@@ -1,0 +1,43 @@
+-- What `salvage` gives by the bytes of a record: the record made whole, or reports of its runs.
+use Rattle.std.specs.Prelude.{ℕ, List, [], ◌++◌, Option, Some, None, Result, Ok, Err, codes}
+use Rattle.std.specs.Option.{option_map}
+use Rattle.det_io.specs.declared.failure.Stopped.{Stopped}
+use Rattle.det_io.specs.declared.failure.Stopped.TheVariants.{Refused, Failed}
+use Rattle.record_grammar.specs.declared.fault.RecordFault.{RecordFault}
+use Rattle.record_grammar.specs.declared.item.Item.{Item}
+use Rattle.record_grammar.specs.Record.{items as items_in, fault as fault_in}
+use Rattle.record_text.specs.Words.{number_line}
+use Rattle.record_reader.specs.Salvaged.{salvaged, cycles_of}
+use Rattle.record_reader.specs.InItems.{runs_in}
+use Rattle.probes.specs.Reports.{AudienceState, reported}
+use Rattle.cli_answers.specs.declared.answer.Answer.{Answer}
+use Rattle.cli_answers.specs.declared.answer.Answer.TheVariants.{Done, BadRecord}
+use Rattle.cli_answers.specs.Answers.{failed, by_fault}
+use Rattle.cli_answers.specs.Outcome.{Outcome, text_outcome, refusal}
+
+-- the bytes that are given where something is saved, and else the fault that a record has of which
+-- nothing is
+abbrev pub outcome_by : Option (List ℕ) → Option RecordFault → Outcome
+outcome_by (Some bytes) end = text_outcome bytes
+outcome_by None end = refusal (by_fault end)
+
+-- the salvaged record
+abbrev pub salvage_outcome : List ℕ → Outcome
+salvage_outcome record_bytes = outcome_by (salvaged record_bytes) (fault_in record_bytes)
+
+-- how many runs are saved of these items, and what an audience reports of them
+abbrev pub salvaged_text : AudienceState → List Item → List ℕ
+salvaged_text audience xs =
+    number_line (codes "salvaged") (cycles_of xs) ++ reported audience (runs_in xs)
+
+-- this text in place of the salvaged record
+abbrev pub salvage_reports_outcome : AudienceState → List ℕ → Outcome
+salvage_reports_outcome audience record_bytes =
+    outcome_by (option_map (λ saved. salvaged_text audience (items_in record_bytes))
+    (salvaged record_bytes)) (fault_in record_bytes)
+
+-- what a command answers by the end of the salvaging
+abbrev pub answer_of : {T : Type 0} → Result T (Stopped RecordFault) → Answer
+answer_of (Ok value) = Done
+answer_of (Err (Refused f)) = BadRecord 0 f
+answer_of (Err (Failed failure)) = failed failure

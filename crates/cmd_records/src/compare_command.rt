@@ -1,0 +1,5 @@
+//! The command `compare`.
+
+mod comparing;
+
+pub use comparing::compare;

@@ -1,0 +1,5 @@
+//! The command that prints a record as text, with the reports of its runs.
+
+mod showing;
+
+pub use showing::show;

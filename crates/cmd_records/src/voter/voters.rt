@@ -1,0 +1,178 @@
+//! All copies, read side by side.
+ghost use Rattle.std.specs.Prelude.{◌≡◌, ℕ, ◌+◌, ◌<◌, ◌≤◌, List, [], ◌++◌, IfOk, OnOk, map};
+ghost use Rattle.std.specs.Prelude.{length, true};
+ghost use Rattle.std.specs.List.{count_by};
+ghost use Rattle.det_io.specs.Shelf.{ShelfState};
+ghost use Rattle.det_io.specs.Traffic.{ShelfTraffic, SinkTraffic, shelf_run, sink_run};
+ghost use Rattle.det_io.specs.Traffic.{failure_in};
+ghost use Rattle.record_grammar.specs.declared.item.Item.{Item};
+ghost use Rattle.record_grammar.specs.declared.place.Place.{Place};
+ghost use Rattle.record_grammar.specs.Laws.{MayStand, item_spelling};
+ghost use Rattle.record_grammar.specs.Spelling.{AreBytes};
+ghost use Rattle.copies.specs.Compared.{AreDifferent, AreGiven, ReadsAmong};
+ghost use Rattle.copies.specs.Needed.{AllNeeded};
+ghost use Rattle.cmd_records.specs.voter.Majority.{is_most};
+ghost use Rattle.cmd_records.specs.voter.Rows.{is_in_step, voter_slot};
+ghost use Rattle.cmd_records.specs.voter.Standing.{Stand, RowTaken, IsHeldIn, held_in, Counts};
+ghost use Rattle.cmd_records.specs.voter.Standing.{Writes};
+ghost use Rattle.cmd_records.specs.voter.Standing.{TellsVote, dissenter, dissenters};
+
+use crate::voter::majority::{most_held, part};
+use crate::voter::reading::{RowView, Voter, read_rows, voters_at};
+use crate::voter::{Dissent, Dissenter, NoMajority, Vote};
+use copies::runs_of;
+use det_io::{Sink, Slots, Stopped, write_all};
+use det_values::OutOfMemory;
+use record_view::{ItemView, events_at};
+use std::alloc::Global;
+
+/// The copies, and the rows that more than half of them hold together.
+#[derive(Drop)]
+pub struct Voters {
+    pub voters: Vec<Voter>,
+    /// How many rows were held.
+    pub rows: u32,
+    /// How many of them were Run frames.
+    pub cycles: u32,
+}
+
+/// An item that more than half of the copies hold.
+#[derive(Clone, Copy, Drop)]
+pub struct HeldItem {
+    /// The first copy that holds it.
+    pub copy: usize,
+    /// Where its parts are in the bytes that the reader of that copy holds.
+    pub view: ItemView,
+}
+
+impl Voters {
+    /// Copies of which nothing is read.
+    pub fn at(alloc: Global, slots: &[u32]) -> Result<Voters, OutOfMemory>
+        requires { 1 ≤ length slots.now }
+        ensures { IfOk result (λ voters. (state : ShelfState)
+            → Stand state state [] slots.now voters) }
+    {
+        Ok(Voters {
+            voters: voters_at(alloc, slots)?,
+            rows: 0,
+            cycles: 0,
+        })
+    }
+
+    /// The next item that more than half of the copies hold, or None at the end of their record.
+    /// The copies that don't hold it leave.
+    pub fn next_row<S: Slots>(
+        &mut self,
+        shelf: &mut S,
+    ) -> Result<Option<HeldItem>, Stopped<NoMajority>>
+        requires given { AreGiven (S.sees shelf.old) (map voter_slot self.old.voters.items) }
+        requires rows { self.old.rows < 4294967295 }
+        requires cycles { self.old.cycles ≤ self.old.rows }
+        requires few { length self.old.voters.items ≤ 7 }
+        requires stand { (first : ShelfState) × (given : List Item) × (slots : List ℕ)
+            × AreDifferent slots × Stand first (S.sees shelf.old) given slots self.old }
+        ensures row { (first : ShelfState) (given : List Item) (slots : List ℕ)
+            → AreDifferent slots → Stand first (S.sees shelf.old) given slots self.old
+            → RowTaken result first (S.sees shelf.new) given slots self.new }
+        ensures needed { (first : ShelfState) (given : List Item) (slots : List ℕ)
+            → AreDifferent slots → Stand first (S.sees shelf.old) given slots self.old
+            → AllNeeded first (S.sees shelf.new) (length given) slots }
+        ensures reads { ReadsAmong (S.sees shelf.old) (S.sees shelf.new)
+            (map voter_slot self.old.voters.items) }
+        ensures traffic { ShelfTraffic (shelf_run S.sees S.stays shelf.old shelf.new)
+            (failure_in result) }
+    {
+        read_rows(&mut self.voters, shelf)?;
+        let Some(holders) = most_held(&self.voters) else {
+            return Err(Stopped::Refused(NoMajority { row: self.rows }));
+        };
+        part(&mut self.voters, &holders.same, self.rows);
+        let item = held_in(holders.first, self.voters[holders.first].row);
+        self.count(item);
+        Ok(item)
+    }
+
+    /// Counts an item that is held.
+    fn count(&mut self, item: Option<HeldItem>)
+        requires rows { self.old.rows < 4294967295 }
+        requires cycles { self.old.cycles ≤ self.old.rows }
+        ensures { Counts item self.old self.new }
+    {
+        if let Some(item) = item {
+            self.rows += 1;
+            self.cycles += runs_of(item.view.span.kind);
+        }
+    }
+
+    /// Writes the bytes of an item that is held, as they were read.
+    pub fn write<K: Sink>(&self, item: HeldItem, sink: &mut K) -> Result<(), Stopped<NoMajority>>
+        requires { (place : Place) × (x : Item) × IsHeldIn self.now.voters.items item place x }
+        ensures writes { (place : Place) (x : Item) → IsHeldIn self.now.voters.items item place x
+            → Writes result (item_spelling place x)
+            (sink_run K.took K.faults sink.old sink.new) × MayStand place x }
+        ensures traffic { SinkTraffic (sink_run K.took K.faults sink.old sink.new)
+            (failure_in result) }
+    {
+        let _events = events_at(item.view.place);
+        write_bytes(self.voters[item.copy].reader.bytes(item.view), sink)
+    }
+
+    /// The vote behind the end of the majority's record.
+    pub fn outcome(&self, alloc: Global) -> Result<Vote, Stopped<NoMajority>>
+        requires most { is_most (count_by is_in_step self.now.voters.items)
+            (length self.now.voters.items) ≡ true }
+        requires few { length self.now.voters.items ≤ 7 }
+        ensures { TellsVote result self.now }
+    {
+        let dissent = dissent_of(alloc, &self.voters)?;
+        Ok(Vote {
+            cycles: self.cycles,
+            dissent,
+        })
+    }
+}
+
+/// The item of the row that this copy holds; None at the end of a whole record.
+fn held_in(copy: usize, row: Option<RowView>) -> Option<HeldItem>
+    ensures { result ≡ held_in copy row }
+{
+    match row {
+        Some(RowView::Item(view)) => Some(HeldItem { copy, view }),
+        Some(RowView::Whole) | Some(RowView::Fault) | None => None,
+    }
+}
+
+/// Its second clause says what a slice is known for.
+fn write_bytes<K: Sink>(bytes: &[u8], sink: &mut K) -> Result<(), Stopped<NoMajority>>
+    ensures writes { Writes result bytes.now (sink_run K.took K.faults sink.old sink.new) }
+    ensures bytes { AreBytes bytes.now }
+    ensures traffic { SinkTraffic (sink_run K.took K.faults sink.old sink.new)
+        (failure_in result) }
+{
+    write_all(sink, bytes)?;
+    Ok(())
+}
+
+/// The copies that left, in their order.
+fn dissent_of(alloc: Global, voters: &[Voter]) -> Result<Dissent, OutOfMemory>
+    requires few { length (dissenters 0 voters.now) ≤ 3 }
+    requires short { length voters.now ≤ 7 }
+    ensures { IfOk result (λ dissent. dissent ≡ dissenters 0 voters.now) }
+{
+    let mut dissent = Dissent::new(alloc);
+    'voters: for index in 0..voters.len() {
+        add_left(&mut dissent, index as u32, voters[index].left)?;
+    }
+    Ok(dissent)
+}
+
+/// Adds a copy, if it left.
+fn add_left(dissent: &mut Dissent, copy: u32, left: Option<u32>) -> Result<(), OutOfMemory>
+    requires { length dissent.old + length (dissenter left copy) ≤ 3 }
+    ensures { OnOk result (dissent.new ≡ dissent.old ++ dissenter left copy) }
+{
+    match left {
+        Some(row) => dissent.push(Dissenter { copy, row }),
+        None => Ok(()),
+    }
+}

@@ -1,0 +1,51 @@
+//! Copies of a record, voted into one.
+ghost use Rattle.std.specs.Prelude.{◌≡◌, ℕ, ◌≤◌, List, length};
+ghost use Rattle.det_io.specs.Traffic.{ShelfTraffic, SinkTraffic};
+ghost use Rattle.det_io.specs.Traffic.{shelf_run, sink_run, failure_in};
+ghost use Rattle.copies.specs.Compared.{AreDifferent, AreGiven, AreLeft, ReadsAmong};
+ghost use Rattle.copies.specs.Needed.{AllNeeded};
+ghost use Rattle.cmd_records.specs.voter.Majority.{voted_items};
+ghost use Rattle.cmd_records.specs.voter.Voted.{HasVoted};
+
+use crate::voter::voters::Voters;
+use crate::voter::{NoMajority, Vote};
+use det_io::{Sink, Slots, Stopped};
+use std::alloc::Global;
+
+/// Votes the copies of a record in these slots into one, row by row: a row is the header or a
+/// frame, or how the record ends, and a fault equals nothing. Each row that more than half of all
+/// copies hold behind equal rows is written as it is read. A copy that differs from it isn't read
+/// further. At most one row of each copy is held at a time, in the bytes in which it was read.
+///
+/// `Refused` tells the first row that not more than half of the copies hold; what was written
+/// before it stands.
+pub fn vote<S: Slots, K: Sink>(
+    alloc: Global,
+    shelf: &mut S,
+    slots: &[u32],
+    sink: &mut K,
+) -> Result<Vote, Stopped<NoMajority>>
+    requires some { 3 ≤ length slots.now }
+    requires few { length slots.now ≤ 7 }
+    requires given { AreGiven (S.sees shelf.old) slots.now }
+    requires different { AreDifferent slots.now }
+    ensures voted { HasVoted result (S.sees shelf.old) (S.sees shelf.new) slots.now
+        (sink_run K.took K.faults sink.old sink.new) }
+    // No byte of a copy is read behind the row that decides: before the last piece of it was read,
+    // no row behind the items that are voted was shown.
+    ensures needed { (copies : List (List ℕ)) → AreLeft (S.sees shelf.old) slots.now copies
+        → AllNeeded (S.sees shelf.old) (S.sees shelf.new) (length (voted_items copies)) slots.now }
+    ensures reads { ReadsAmong (S.sees shelf.old) (S.sees shelf.new) slots.now }
+    ensures shelf_traffic { ShelfTraffic (shelf_run S.sees S.stays shelf.old shelf.new)
+        (failure_in result) }
+    ensures sink_traffic { SinkTraffic (sink_run K.took K.faults sink.old sink.new)
+        (failure_in result) }
+{
+    let mut voters = Voters::at(alloc, slots)?;
+    'rows: loop {
+        let Some(item) = voters.next_row(shelf)? else {
+            return voters.outcome(alloc);
+        };
+        voters.write(item, sink)?;
+    }
+}

@@ -1,7 +1,0 @@
-//! The command that runs the inputs of a record again.
-#![tactic(auto)]
-
-mod replaying;
-mod visiting;
-
-pub use replaying::replay;

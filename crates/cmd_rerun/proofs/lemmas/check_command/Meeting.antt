@@ -1,0 +1,180 @@
+-- A record that was checked meets the outcome of its bytes.
+use Rattle.std.proofs.Common.{◌≡◌, ℕ, List, [], ◌∷◌, ◌++◌, refl, sym, ap, subst, inl, inr}
+use Rattle.std.specs.Prelude.{Option, Some, Result, Ok, Err, IfSome}
+use Rattle.det_values.specs.Values.{ProfileValue}
+use Rattle.det_values.specs.declared.job_kind.JobKind.{JobKind}
+use Rattle.det_io.specs.Count.{Rose}
+use Rattle.det_io.specs.Shelf.{Reads}
+use Rattle.det_io.specs.Sink.{Same}
+use Rattle.det_io.specs.Traffic.{ShelfRun, SinkRun}
+use Rattle.det_io.proofs.Growth.{same-then-grew, grew-same}
+use Rattle.det_io.specs.declared.failure.Failure.TheVariants as failures
+use Rattle.det_io.specs.declared.failure.Stopped.{Stopped}
+use Rattle.det_io.specs.declared.failure.Stopped.TheVariants.{Refused, Failed}
+use Rattle.job.specs.Meaning.{Meaning}
+use Rattle.jobs.specs.Kinds.{of_kind}
+use Rattle.jobs.proofs.ByKinds.{by_kind-then, of_kind-gives}
+use Rattle.record_grammar.specs.declared.fault.RecordFault.{RecordFault}
+use Rattle.record_grammar.specs.declared.item.Item.TheVariants.{Header}
+use Rattle.record_reader.specs.declared.frames.FrameReader.{FrameReader}
+use Rattle.record_reader.specs.Frames.{StandsFor, slot_of}
+use Rattle.probes.specs.Reports.{AudienceState, reported}
+use Rattle.rerun.specs.declared.checker.verdict.CheckVerdict.{CheckVerdict}
+use Rattle.rerun.specs.checker.Departure.{checked_runs}
+use Rattle.rerun.specs.checker.Checked.{Answers}
+use Rattle.cli_answers.specs.declared.answer.Answer.{Answer}
+use Rattle.cli_answers.specs.declared.answer.Answer.TheVariants.{BadRecord, OutOfMemory}
+use Rattle.cli_answers.specs.Answers.{stopped}
+use Rattle.cli_answers.specs.Outcome.{Outcome, Meets, refusal}
+use Rattle.cli_answers.proofs.Meeting.{meets-read-fault, meets-no-memory, meets-refusal}
+use Rattle.run_setup.specs.declared.recorded_run.bad_run.BadRun.{BadRun}
+use Rattle.run_setup.specs.recorded_run.Run.{RunValue, over_run, refused}
+use Rattle.cmd_rerun.specs.check_command.Check.{outcome_by, checked_with}
+use Rattle.cmd_rerun.specs.check_command.Visited.{checked, IsUntouched, HasChecked}
+
+-- the outcome by the run that a record's header names
+abbrev pub checked_by : AudienceState → List ℕ → Result RunValue BadRun → Outcome
+checked_by audience record_bytes named =
+    over_run (λ S G E L P m profile. checked_with m profile audience record_bytes) (λ why. refusal (refused why)) named
+
+at-told : (left : Option (List ℕ)) (rest : List ℕ) (P : List ℕ → Type 0) → left ≡ Some rest → IfSome left P → P rest
+at-told left rest P e p = rw e at p
+
+-- what was printed is the outcome, where the rest of the record is told
+meets-printed : {wanted printed : Outcome} {tells rose other : Type 0} {before after : List ℕ → Type 0} {answer : Answer}
+    → (tells → wanted ≡ printed) → Meets printed (Unit {0}) ⊥ other before after answer
+    → Meets wanted tells rose other before after answer
+meets-printed is m = record {
+  part = λ t. rw (is t) (m.part tt);
+  whole = λ t. rw (is t) (m.whole tt);
+  read_fault = λ e. absurd (m.read_fault e);
+  write_fault = m.write_fault;
+}
+
+-- nothing was written before or behind what was
+same-first : {wanted : Outcome} {tells rose other : Type 0} {before mid after : List ℕ → Type 0} {answer : Answer} → Same before mid
+    → Meets wanted tells rose other mid after answer → Meets wanted tells rose other before after answer
+same-first same m = record {
+  part = λ t. let p = m.part t in (p.0, p.1, same-then-grew same p.2);
+  whole = λ t. elim (m.whole t) [
+    | inl read ↦ inl read
+    | inr more ↦ inr (elim more [
+      | inl write ↦ inl write
+      | inr rest ↦ inr (elim rest [
+        | inl memory ↦ inl memory
+        | inr all ↦ inr (all.0, same-then-grew same all.1)
+      ])
+    ])
+  ];
+  read_fault = m.read_fault;
+  write_fault = m.write_fault;
+}
+
+same-last : {wanted : Outcome} {tells rose other : Type 0} {before mid after : List ℕ → Type 0} {answer : Answer} → Same mid after
+    → Meets wanted tells rose other before mid answer → Meets wanted tells rose other before after answer
+same-last same m = record {
+  part = λ t. let p = m.part t in (p.0, p.1, grew-same p.2 same);
+  whole = λ t. elim (m.whole t) [
+    | inl read ↦ inl read
+    | inr more ↦ inr (elim more [
+      | inl write ↦ inl write
+      | inr rest ↦ inr (elim rest [
+        | inl memory ↦ inl memory
+        | inr all ↦ inr (all.0, grew-same all.1 same)
+      ])
+    ])
+  ];
+  read_fault = m.read_fault;
+  write_fault = m.write_fault;
+}
+
+module _ {S G E L P : Type 0} (m : Meaning S G E L P) (profile : ProfileValue) (frames : FrameReader) (read : List ℕ)
+    (stands : StandsFor frames read (Header profile ∷ [])) (shelf : ShelfRun) (sink : SinkRun) (old now : AudienceState) where
+  -- what an answer says of the record, where the rest of it is told
+  pub answers : (result : Result CheckVerdict (Stopped RecordFault)) (rest : List ℕ)
+      → HasChecked m profile frames shelf sink old now result → shelf.first.left (slot_of frames) ≡ Some rest
+      → Answers m profile old now result (read ++ rest)
+  answers result rest h told =
+      at-told (shelf.first.left (slot_of frames)) rest (λ more. Answers m profile old now result (read ++ more)) told
+      (h.checked read stands).told
+
+  outcome-is : (verdict : CheckVerdict) (rest : List ℕ) → HasChecked m profile frames shelf sink old now (Ok verdict)
+      → shelf.first.left (slot_of frames) ≡ Some rest
+      → checked_with m profile old (read ++ rest) ≡ outcome_by (Ok verdict) (reported now [])
+  outcome-is verdict rest h told = let a = answers (Ok verdict) rest h told in λ i. outcome_by (a.0 i) (sym a.1 i)
+
+  -- a check writes nothing
+  pub no-write : HasChecked m profile frames shelf sink old now (Err (Failed failures.Write)) → ⊥
+  no-write h = (h.checked read stands).run.1.answers.each [] (λ end. refl)
+
+  met-stopped : (stop : Stopped RecordFault) (rest : List ℕ) (failed : Type 0)
+      → HasChecked m profile frames shelf sink old now (Err stop)
+      → Meets (checked_with m profile old (read ++ rest)) (shelf.first.left (slot_of frames) ≡ Some rest)
+      (Rose shelf.first.faults shelf.last.faults) failed sink.before sink.before (stopped stop)
+  met-stopped (Refused fault) rest failed h =
+      meets-refusal (checked_with m profile old (read ++ rest)) (shelf.first.left (slot_of frames) ≡ Some rest)
+      (Rose shelf.first.faults shelf.last.faults) failed sink.before (BadRecord 0 fault) (λ e. cc) (λ e. cc)
+      (λ told. ap (λ (v : Result CheckVerdict RecordFault). outcome_by v (reported old (checked_runs m profile (read ++ rest))))
+      (answers (Err (Refused fault)) rest h told).0)
+  met-stopped (Failed failures.Read) rest failed h =
+      meets-read-fault (checked_with m profile old (read ++ rest)) (shelf.first.left (slot_of frames) ≡ Some rest)
+      (Rose shelf.first.faults shelf.last.faults) failed sink.before (h.traffic.cause refl)
+  met-stopped (Failed failures.Write) rest failed h = absurd (no-write h)
+  met-stopped (Failed failures.OutOfMemory) rest failed h =
+      meets-no-memory (checked_with m profile old (read ++ rest)) (shelf.first.left (slot_of frames) ≡ Some rest)
+      (Rose shelf.first.faults shelf.last.faults) failed sink.before
+
+-- with the job of a kind
+module _ (kind : JobKind) (profile : ProfileValue) (frames : FrameReader) (read : List ℕ)
+    (stands : StandsFor frames read (Header profile ∷ [])) (shelf : ShelfRun) (sink : SinkRun) (old now : AudienceState)
+    (result : Result CheckVerdict (Stopped RecordFault))
+    (visited : of_kind (λ S G E L P m. HasChecked m profile frames shelf sink old now result) kind) where
+  untouched : IsUntouched sink
+  untouched = of_kind-gives (λ S G E L P m. HasChecked m profile frames shelf sink old now result) (IsUntouched sink)
+      (λ S G E L P m h. h.untouched) kind visited
+
+  -- the line of a verdict was printed, and the reports
+  pub met-verdict : (verdict : CheckVerdict) (rest : List ℕ) (last : List ℕ → Type 0) (faults : ℕ) (answer : Answer) → result ≡ Ok verdict
+      → Meets (outcome_by (Ok verdict) (reported now [])) (Unit {0}) ⊥ (Rose sink.faults_after faults) sink.after last answer
+      → Meets (checked kind profile old (read ++ rest)) (shelf.first.left (slot_of frames) ≡ Some rest)
+      (Rose shelf.first.faults shelf.last.faults) (Rose sink.faults_before faults) sink.before last answer
+  met-verdict verdict rest last faults answer is met =
+      meets-printed (by_kind-then (λ S G E L P m. checked_with m profile old (read ++ rest))
+      (λ S G E L P m. HasChecked m profile frames shelf sink old now result)
+      (λ wanted. shelf.first.left (slot_of frames) ≡ Some rest → wanted ≡ outcome_by (Ok verdict) (reported now []))
+      (λ S G E L P m h. outcome-is m profile frames read stands shelf sink old now verdict rest
+      (subst (λ (r : Result CheckVerdict (Stopped RecordFault)). HasChecked m profile frames shelf sink old now r) is h)) kind visited)
+      (same-first untouched.took
+      (subst (λ (k : ℕ). Meets (outcome_by (Ok verdict) (reported now [])) (Unit {0}) ⊥ (Rose k faults) sink.after last answer)
+      untouched.faults met))
+
+  -- the check stopped, and nothing was printed
+  pub met-stop : (stop : Stopped RecordFault) (rest : List ℕ) (failed : Type 0) (answer : Answer) → result ≡ Err stop
+      → answer ≡ stopped stop
+      → Meets (checked kind profile old (read ++ rest)) (shelf.first.left (slot_of frames) ≡ Some rest)
+      (Rose shelf.first.faults shelf.last.faults) failed sink.before sink.after answer
+  met-stop stop rest failed answer is answered =
+      rw answered (same-last untouched.took
+      (by_kind-then (λ S G E L P m. checked_with m profile old (read ++ rest))
+      (λ S G E L P m. HasChecked m profile frames shelf sink old now result)
+      (λ wanted. Meets wanted (shelf.first.left (slot_of frames) ≡ Some rest) (Rose shelf.first.faults shelf.last.faults) failed sink.before
+      sink.before (stopped stop))
+      (λ S G E L P m h. met-stopped m profile frames read stands shelf sink old now stop rest failed
+      (subst (λ (r : Result CheckVerdict (Stopped RecordFault)). HasChecked m profile frames shelf sink old now r) is h)) kind visited))
+
+  -- memory couldn't be had, and nothing was printed
+  pub met-unprinted : (rest : List ℕ) (failed : Type 0)
+      → Meets (checked kind profile old (read ++ rest)) (shelf.first.left (slot_of frames) ≡ Some rest)
+      (Rose shelf.first.faults shelf.last.faults) failed sink.before sink.after OutOfMemory
+  met-unprinted rest failed =
+      same-last untouched.took (meets-no-memory (checked kind profile old (read ++ rest)) (shelf.first.left (slot_of frames) ≡ Some rest)
+      (Rose shelf.first.faults shelf.last.faults) failed sink.before)
+
+  -- all that it read was of its slot
+  abbrev ReadsSlot : Type 0
+  ReadsSlot = (more : List ℕ) × Reads shelf.first shelf.last (slot_of frames) more
+
+  pub reads-by-kind : ReadsSlot
+  reads-by-kind =
+      of_kind-gives (λ S G E L P m. HasChecked m profile frames shelf sink old now result) ReadsSlot
+      (λ S G E L P m h. let run = (h.checked read stands).run in (run.0, run.1.answers.reads)) kind visited

@@ -1,0 +1,3 @@
+pub mod check_command
+pub mod replay_command
+pub mod upgrade_command

@@ -1,0 +1,34 @@
+-- What `replay` gives by the bytes of a record: the record that its inputs give now.
+use Rattle.std.specs.Prelude.{ℕ, List, Result, Ok, Err}
+use Rattle.det_values.specs.Values.{ProfileValue}
+use Rattle.det_io.specs.declared.failure.Stopped.{Stopped}
+use Rattle.det_io.specs.declared.failure.Stopped.TheVariants.{Refused, Failed}
+use Rattle.job.specs.Meaning.{Meaning}
+use Rattle.record_grammar.specs.declared.fault.RecordFault.{RecordFault}
+use Rattle.record_grammar.specs.Record.{fault as fault_in}
+use Rattle.recorder.specs.declared.run_writer.counts.Counts.{Counts}
+use Rattle.rerun.specs.replayer.Again.{again}
+use Rattle.cli_answers.specs.declared.answer.Answer.{Answer}
+use Rattle.cli_answers.specs.declared.answer.Answer.TheVariants.{Done, BadRecord}
+use Rattle.cli_answers.specs.Answers.{failed, by_fault}
+use Rattle.cli_answers.specs.Outcome.{Outcome, refusal}
+use Rattle.run_setup.specs.recorded_run.Run.{run_of, over_run, refused}
+
+-- the record that the inputs of a record give, and the fault where theirs ends
+abbrev pub replayed_with : {S G E L P : Type 0} → Meaning S G E L P → ProfileValue → List ℕ
+    → Outcome
+replayed_with m profile record_bytes = record {
+  answer = by_fault (fault_in record_bytes);
+  bytes = again m profile record_bytes;
+}
+
+-- the same with the run that the record's header names, or the refusal of that
+abbrev pub replay_outcome : List ℕ → Outcome
+replay_outcome record_bytes = over_run (λ S G E L P m profile. replayed_with m profile record_bytes)
+    (λ why. refusal (refused why)) (run_of record_bytes)
+
+-- what a command answers by the end of the replay
+abbrev pub answer_of : Result Counts (Stopped RecordFault) → Answer
+answer_of (Ok counts) = Done
+answer_of (Err (Refused fault)) = BadRecord 0 fault
+answer_of (Err (Failed failure)) = failed failure

@@ -1,0 +1,6 @@
+//! The commands that run the inputs of a record again: `replay`, `check` and `upgrade`.
+#![tactic(auto)]
+
+pub mod check_command;
+pub mod replay_command;
+pub mod upgrade_command;

@@ -1,0 +1,101 @@
+//! The command `replay`.
+ghost use Rattle.std.specs.Prelude.{◌≡◌, ℕ, List, ◌∷◌, [], ◌++◌, true, length, None, Some};
+ghost use Rattle.det_io.specs.Count.{Rose};
+ghost use Rattle.det_io.specs.Shelf.{AsksPrefix, Reads};
+ghost use Rattle.record_grammar.specs.declared.item.Item.TheVariants as items;
+ghost use Rattle.record_reader.specs.Frames.{StandsFor, IsOpen, slot_of};
+ghost use Rattle.jobs.specs.Kinds.{bad_param};
+ghost use Rattle.cli_answers.specs.Ends.{can_end, reads_records};
+ghost use Rattle.cli_answers.specs.Outcome.{Meets, Tells, told};
+ghost use Rattle.cli_answers.specs.Slots.{KeepsSlots};
+ghost use Rattle.cmd_rerun.specs.replay_command.Replay.{replay_outcome, answer_of};
+ghost use Rattle.cmd_rerun.specs.replay_command.Visited.{replayed};
+
+use crate::replay_command::visiting::Replay;
+use cli_answers::Answer;
+use det_io::{Shelf, Sink, Slots, Stopped};
+use probes::Audience;
+use record_grammar::RecordFault;
+use recorder::run_writer::Counts;
+use run_setup::recorded_run::{RecordedRun, read_run, without_run};
+use shipped_crews::{ShippedRun, Workers, with_crew};
+use std::thread::Threads;
+use worker_pool::Gate;
+
+/// What a replay is answered. The one record that is read is copy 0.
+fn answer_of(replayed: Result<Counts, Stopped<RecordFault>>) -> Answer
+    ensures is { result ≡ answer_of replayed }
+    ensures ends { can_end reads_records result ≡ true }
+{
+    match replayed {
+        Ok(_) => Answer::Done,
+        Err(Stopped::Refused(fault)) => Answer::BadRecord { copy: 0, fault },
+        Err(Stopped::Failed(failure)) => Answer::from(failure),
+    }
+}
+
+/// Runs a record's job over the rest of the record, by a crew. Nobody looks at the runs.
+fn replay_by_crew<S, K, R, G>(
+    workers: &Workers<'_, R, G>,
+    run: RecordedRun,
+    shelf: &mut S,
+    out: &mut K,
+) -> Answer
+where
+    S: Slots,
+    K: Sink,
+    R: Threads,
+    G: Gate + Send + Sync + 'static,
+    requires good { bad_param run.kind run.profile.params (length run.profile.events) ≡ None }
+    requires opened { IsOpen run.frames run.profile (S.sees shelf.old) }
+    ensures meets { (read rest : List ℕ) → StandsFor run.frames read (items.Header run.profile ∷ [])
+        → Meets (replayed run.kind run.profile (read ++ rest))
+        ((S.sees shelf.old).left (slot_of run.frames) ≡ Some rest)
+        (Rose (S.sees shelf.old).faults (S.sees shelf.new).faults)
+        (Rose (K.faults out.old) (K.faults out.new)) (K.took out.old) (K.took out.new) result }
+    ensures ends { can_end reads_records result ≡ true }
+    ensures reads { (read : List ℕ)
+        × Reads (S.sees shelf.old) (S.sees shelf.new) (slot_of run.frames) read }
+{
+    let RecordedRun {
+        kind,
+        profile,
+        frames,
+    } = run;
+    let mut nobody = Audience::of(workers.alloc, Vec::new(workers.alloc));
+    let run = ShippedRun { kind, profile };
+    let visitor = Replay { frames };
+    match with_crew(workers, run, visitor, shelf, out, &mut nobody) {
+        Ok(replayed) => answer_of(replayed),
+        Err(_) => Answer::OutOfMemory,
+    }
+}
+
+/// Runs the job of the record under this name again over its inputs, and writes the record that
+/// they give, whatever outcomes the record holds. Where the record has a fault, the runs of all
+/// inputs before it are written, and no Terminate. Where no shipped job takes what the header
+/// says, nothing is written.
+pub fn replay<S, K, R, G>(
+    workers: &Workers<'_, R, G>,
+    recorded: &str,
+    shelf: &mut S,
+    out: &mut K,
+) -> Answer
+where
+    S: Shelf,
+    K: Sink,
+    R: Threads,
+    G: Gate + Send + Sync + 'static,
+    ensures meets { Meets (replay_outcome (told (S.sees shelf.old) recorded.now))
+        (Tells (S.sees shelf.old) (recorded.now ∷ []))
+        (Rose (S.sees shelf.old).faults (S.sees shelf.new).faults)
+        (Rose (K.faults out.old) (K.faults out.new)) (K.took out.old) (K.took out.new) result }
+    ensures ends { can_end reads_records result ≡ true }
+    ensures asked { AsksPrefix (S.sees shelf.old) (S.sees shelf.new) (recorded.now ∷ []) }
+    ensures earlier { KeepsSlots (S.sees shelf.old) (S.sees shelf.new) }
+{
+    match read_run(workers.alloc, recorded, shelf) {
+        Ok(run) => replay_by_crew(workers, run, shelf, out),
+        Err(end) => without_run(end),
+    }
+}

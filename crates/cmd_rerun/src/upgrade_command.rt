@@ -1,0 +1,6 @@
+//! The command that writes a record of the same run in format 2.
+
+mod upgrading;
+mod visiting;
+
+pub use upgrading::upgrade;

@@ -1,0 +1,120 @@
+//! The command `upgrade`.
+ghost use Rattle.std.specs.Prelude.{◌≡◌, ℕ, List, ◌∷◌, [], ◌++◌, true, length};
+ghost use Rattle.std.specs.Prelude.{None, Some};
+ghost use Rattle.det_io.specs.Count.{Rose};
+ghost use Rattle.det_io.specs.Shelf.{AsksPrefix, Reads};
+ghost use Rattle.record_grammar.specs.declared.item.Item.TheVariants as items;
+ghost use Rattle.record_reader.specs.Frames.{IsOpen, StandsFor, slot_of};
+ghost use Rattle.jobs.specs.Kinds.{bad_param};
+ghost use Rattle.rerun.specs.upgrader.Upgraded.{in_format_two};
+ghost use Rattle.cli_answers.specs.Ends.{can_end, compares_records};
+ghost use Rattle.cli_answers.specs.Outcome.{Meets, Tells, told};
+ghost use Rattle.cli_answers.specs.Slots.{KeepsSlots};
+ghost use Rattle.cmd_rerun.specs.upgrade_command.Upgrade.{upgrade_outcome};
+ghost use Rattle.cmd_rerun.specs.upgrade_command.Visited.{upgraded_by_kind};
+ghost use Rattle.cmd_rerun.specs.upgrade_command.Upgrade.{answer_of};
+ghost use Rattle.cmd_rerun.specs.upgrade_command.Visited.{CanUpgrade};
+
+use crate::upgrade_command::visiting::Upgrade;
+use cli_answers::Answer;
+use det_io::{Shelf, Sink, Slots, Stopped};
+use det_values::{Format, Profile};
+use probes::Audience;
+use record_grammar::RecordFault;
+use rerun::checker::CheckVerdict;
+use rerun::upgrader::Original;
+use run_setup::recorded_run::{RecordedRun, read_run, without_run};
+use shipped_crews::{ShippedRun, Workers, with_crew};
+use std::thread::Threads;
+use worker_pool::Gate;
+
+/// What an upgrade is answered.
+fn answer_of(upgraded: Result<CheckVerdict, Stopped<RecordFault>>) -> Answer
+    ensures is { result ≡ answer_of upgraded }
+    ensures ends { can_end compares_records result ≡ true }
+{
+    match upgraded {
+        Ok(CheckVerdict::Genuine { .. }) => Answer::Done,
+        Ok(CheckVerdict::Departs(_)) => Answer::Differs,
+        Err(stop) => Answer::from(stop),
+    }
+}
+
+/// The same profile in format 2.
+fn in_format_two(profile: Profile) -> Profile
+    ensures { result ≡ in_format_two profile }
+{
+    Profile {
+        format: Format::Two,
+        ..profile
+    }
+}
+
+/// Runs a record's job over the rest of the record, by a crew. Nobody looks at the runs.
+fn upgrade_by_crew<S, K, R, G>(
+    workers: &Workers<'_, R, G>,
+    run: RecordedRun,
+    shelf: &mut S,
+    out: &mut K,
+) -> Answer
+where
+    S: Slots,
+    K: Sink,
+    R: Threads,
+    G: Gate + Send + Sync + 'static,
+    requires good { bad_param run.kind run.profile.params (length run.profile.events) ≡ None }
+    requires opened { IsOpen run.frames run.profile (S.sees shelf.old) }
+    ensures meets { (read rest : List ℕ) → StandsFor run.frames read (items.Header run.profile ∷ [])
+        → Meets (upgraded_by_kind run.kind run.profile (read ++ rest))
+        ((S.sees shelf.old).left (slot_of run.frames) ≡ Some rest)
+        (Rose (S.sees shelf.old).faults (S.sees shelf.new).faults)
+        (Rose (K.faults out.old) (K.faults out.new)) (K.took out.old) (K.took out.new) result }
+    ensures ends { can_end compares_records result ≡ true }
+    ensures reads { (read : List ℕ)
+        × Reads (S.sees shelf.old) (S.sees shelf.new) (slot_of run.frames) read }
+{
+    let RecordedRun {
+        kind,
+        profile,
+        frames,
+    } = run;
+    let mut nobody = Audience::of(workers.alloc, Vec::new(workers.alloc));
+    let format = profile.format;
+    let profile = in_format_two(profile);
+    let run = ShippedRun { kind, profile };
+    let original = Original { format, frames };
+    let visitor = Upgrade { original };
+    match with_crew(workers, run, visitor, shelf, out, &mut nobody) {
+        Ok(upgraded) => answer_of(upgraded),
+        Err(_) => Answer::OutOfMemory,
+    }
+}
+
+/// Runs the job of the record under this name again over its inputs, and writes the record of that
+/// run in format 2, up to the first frame that isn't what the inputs give. Where the record has a
+/// fault, the frames before it are written, and no Terminate. Where no shipped job takes what the
+/// header says, nothing is written.
+pub fn upgrade<S, K, R, G>(
+    workers: &Workers<'_, R, G>,
+    recorded: &str,
+    shelf: &mut S,
+    out: &mut K,
+) -> Answer
+where
+    S: Shelf,
+    K: Sink,
+    R: Threads,
+    G: Gate + Send + Sync + 'static,
+    ensures meets { Meets (upgrade_outcome (told (S.sees shelf.old) recorded.now))
+        (Tells (S.sees shelf.old) (recorded.now ∷ []))
+        (Rose (S.sees shelf.old).faults (S.sees shelf.new).faults)
+        (Rose (K.faults out.old) (K.faults out.new)) (K.took out.old) (K.took out.new) result }
+    ensures ends { can_end compares_records result ≡ true }
+    ensures asked { AsksPrefix (S.sees shelf.old) (S.sees shelf.new) (recorded.now ∷ []) }
+    ensures earlier { KeepsSlots (S.sees shelf.old) (S.sees shelf.new) }
+{
+    match read_run(workers.alloc, recorded, shelf) {
+        Ok(run) => upgrade_by_crew(workers, run, shelf, out),
+        Err(end) => without_run(end),
+    }
+}

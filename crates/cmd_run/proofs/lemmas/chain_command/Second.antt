@@ -1,0 +1,44 @@
+-- The outcome behind a first client is that of the second manifest's.
+use Rattle.std.proofs.Common.{◌≡◌, ℕ, Bool, List, [], refl, sym, ap, ◌∙◌}
+use Rattle.std.specs.Prelude.{Ok, Err, Some, IsSome}
+use Rattle.std.specs.Option.{unwrap_or}
+use Rattle.det_values.specs.Values.{ProfileValue}
+use Rattle.det_values.specs.declared.job_kind.JobKind.{JobKind}
+use Rattle.det_io.specs.Shelf.{ShelfState}
+use Rattle.det_io.specs.Traffic.{failure_in, IfRefused}
+use Rattle.det_io.specs.declared.failure.Failure.TheVariants.{Read, Write}
+use Rattle.det_io.specs.declared.failure.Stopped.{Stopped}
+use Rattle.manifest.specs.Values.{ManifestValue}
+use Rattle.manifest.specs.Profiles.{profile_of}
+use Rattle.cli_answers.specs.Answers.{without_manifest}
+use Rattle.cli_answers.specs.declared.answer.BadManifest.{BadManifest}
+use Rattle.cli_answers.specs.Outcome.{Meets, Tells, told}
+use Rattle.run_setup.specs.Setup.{setup_of}
+use Rattle.run_setup.proofs.Ending.{meets-end}
+use Rattle.cmd_run.specs.record_command.Outcomes.{record_names}
+use Rattle.cmd_run.proofs.lemmas.record_command.ByManifest.{is-told, bad-told}
+use Rattle.cmd_run.specs.chain_command.Clients.{Client, chained_behind, chained_by_kinds}
+
+module _ (strict : Bool) (first : ShelfState) (name stimulus : List ℕ) (seed : ℕ) (client : Client) where
+  -- the same outcome, where the manifest and the stimulus are told
+  pub by-told : (m : ManifestValue) → (IsSome (first.holds name) → setup_of strict (told first name) ≡ Ok m) → (mid : ShelfState)
+      (kind : JobKind) (p : ProfileValue) → mid.holds ≡ first.holds → kind ≡ m.kind → p ≡ profile_of m seed
+      → Tells first (record_names name stimulus (setup_of strict (told first name)))
+      → chained_behind seed client (told first stimulus) (setup_of strict (told first name))
+      ≡ chained_by_kinds client (record { kind = kind; profile = p }) (told mid stimulus)
+  by-told m is mid kind p holds same profile tells =
+      ap (chained_behind seed client (told first stimulus)) (is-told strict first name stimulus m is tells)
+      ∙ ap (λ k. chained_by_kinds client (record { kind = k; profile = profile_of m seed }) (told first stimulus)) (sym same)
+      ∙ ap (λ q. chained_by_kinds client (record { kind = kind; profile = q }) (told first stimulus)) (sym profile)
+      ∙ ap (λ h. chained_by_kinds client (record { kind = kind; profile = p }) (unwrap_or (h stimulus) [])) (sym holds)
+
+  -- a manifest that is refused, or couldn't be read
+  pub met-end : (rose failed : Type 0) (before : List ℕ → Type 0) (end : Stopped BadManifest)
+      → IfRefused end (λ why. IsSome (first.holds name) → setup_of strict (told first name) ≡ Err why)
+      → (failure_in {A = ManifestValue} (Err end) ≡ Some Read → rose) → (failure_in {A = ManifestValue} (Err end) ≡ Some Write → ⊥)
+      → Meets (chained_behind seed client (told first stimulus) (setup_of strict (told first name)))
+      (Tells first (record_names name stimulus (setup_of strict (told first name)))) rose failed before before (without_manifest end)
+  met-end rose failed before end bad read write =
+      meets-end (chained_behind seed client (told first stimulus)) (λ why. refl) strict (told first name)
+      (Tells first (record_names name stimulus (setup_of strict (told first name)))) rose failed before end
+      (bad-told strict first name stimulus end bad) read write

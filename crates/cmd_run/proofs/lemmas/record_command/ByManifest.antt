@@ -1,0 +1,107 @@
+-- The outcomes of `demo` and `record` are those of their profiles.
+use Rattle.std.proofs.Common.{◌≡◌, ℕ, Bool, List, [], ◌∷◌, length, refl, sym, ap, subst, ◌∙◌, arith}
+use Rattle.std.specs.Prelude.{Option, Some, None, Result, Ok, Err, IsSome}
+use Rattle.std.specs.Option.{unwrap_or}
+use Rattle.det_values.specs.Values.{ProfileValue}
+use Rattle.det_io.specs.Shelf.{ShelfState, Asks, AsksPrefix}
+use Rattle.det_io.specs.Traffic.{failure_in, IfRefused}
+use Rattle.det_io.specs.declared.failure.Failure.TheVariants.{Read, Write}
+use Rattle.det_io.specs.declared.failure.Stopped.{Stopped}
+use Rattle.det_io.specs.declared.failure.Stopped.TheVariants.{Refused, Failed}
+use Rattle.det_io.proofs.Opening.{asks-all, asks-prefix-none, asks-then-prefix}
+use Rattle.det_values.specs.declared.job_kind.JobKind.{JobKind}
+use Rattle.det_values.specs.declared.job_kind.JobKind.TheVariants.{Bank}
+use Rattle.jobs.specs.Kinds.{bad_param}
+use Rattle.manifest.specs.Values.{ManifestValue}
+use Rattle.manifest.specs.Profiles.{profile_of}
+use Rattle.cli_answers.specs.Answers.{without_manifest}
+use Rattle.cli_answers.specs.declared.answer.BadManifest.{BadManifest}
+use Rattle.cli_answers.specs.Outcome.{Outcome, Meets, Tells, told}
+use Rattle.run_setup.specs.Setup.{setup_of, with_manifest}
+use Rattle.run_setup.proofs.Ending.{meets-end}
+use Rattle.cmd_run.specs.record_command.Outcomes.{demo_profile, demo_outcome, recorded_by_kind}
+use Rattle.cmd_run.specs.record_command.Outcomes.{record_names, record_outcome}
+
+-- a manifest's profile with a seed, over a stimulus, or the refusal of the manifest
+abbrev pub recorded_by : ℕ → List ℕ → Result ManifestValue BadManifest → Outcome
+recorded_by seed stimulus = with_manifest (λ m. recorded_by_kind m.kind (profile_of m seed) stimulus)
+
+-- the first of some told names, and the second
+pub tells-first : (shelf : ShelfState) (name : List ℕ) (names : List (List ℕ)) → Tells shelf (name ∷ names) → IsSome (shelf.holds name)
+tells-first shelf name names t = t 0 name (omega arith)
+
+pub tells-second : (shelf : ShelfState) (first name : List ℕ) (names : List (List ℕ)) → Tells shelf (first ∷ name ∷ names)
+    → IsSome (shelf.holds name)
+tells-second shelf first name names t = t 1 name (omega arith)
+
+-- the outcome of the built-in profile
+pub is-demo_outcome : (p : ProfileValue) (text : List ℕ) → p ≡ demo_profile → demo_outcome text ≡ recorded_by_kind Bank p text
+unfolding demo_outcome
+is-demo_outcome p text is = sym (ap (λ q. recorded_by_kind Bank q text) is)
+
+-- its job takes its parameters
+pub demo-good : (p : ProfileValue) → p ≡ demo_profile → bad_param Bank p.params (length p.events) ≡ None
+demo-good p is = ap (λ q. bad_param Bank q.params (length q.events)) is
+
+module _ (strict : Bool) (first : ShelfState) (name stimulus : List ℕ) where
+  -- the names that are opened, by what the manifest is
+  abbrev names : Result ManifestValue BadManifest → List (List ℕ)
+  names read = record_names name stimulus read
+
+  -- the manifest is always among them
+  pub tells-manifest : (read : Result ManifestValue BadManifest) → Tells first (names read) → IsSome (first.holds name)
+  tells-manifest (Ok m) tells = tells-first first name (stimulus ∷ []) tells
+  tells-manifest (Err why) tells = tells-first first name [] tells
+
+  -- what was asked for where the manifest was read alone
+  pub asked-manifest : (last : ShelfState) (read : Result ManifestValue BadManifest) → Asks first last (name ∷ [])
+      → AsksPrefix first last (names read)
+  asked-manifest last (Ok m) asked =
+      asks-then-prefix first last last (name ∷ []) (stimulus ∷ []) asked (asks-prefix-none last last (stimulus ∷ []) refl)
+  asked-manifest last (Err why) asked = asks-all first last (name ∷ []) asked
+
+  module _ (m : ManifestValue) (is : IsSome (first.holds name) → setup_of strict (told first name) ≡ Ok m) where
+    -- where the manifest is told it is this one
+    pub is-told : Tells first (names (setup_of strict (told first name))) → setup_of strict (told first name) ≡ Ok m
+    is-told tells = is (tells-manifest (setup_of strict (told first name)) tells)
+
+    -- so both names are opened
+    pub tells-both : Tells first (names (setup_of strict (told first name))) → Tells first (name ∷ stimulus ∷ [])
+    tells-both tells = subst (λ r. Tells first (names r)) (is-told tells) tells
+
+    pub asked-both : (last : ShelfState) → AsksPrefix first last (name ∷ stimulus ∷ [])
+        → Tells first (names (setup_of strict (told first name)))
+        → AsksPrefix first last (names (setup_of strict (told first name)))
+    asked-both last asked tells = subst (λ r. AsksPrefix first last (names r)) (sym (is-told tells)) asked
+
+    -- the same outcome, where the manifest and the stimulus are told
+    pub by-told : (mid : ShelfState) (seed : Option ℕ) (kind : JobKind) (p : ProfileValue) → mid.holds ≡ first.holds
+        → kind ≡ m.kind → p ≡ profile_of m (unwrap_or seed 0) → Tells first (names (setup_of strict (told first name)))
+        → record_outcome strict (told first name) (told first stimulus) seed ≡ recorded_by_kind kind p (told mid stimulus)
+    by-told mid seed kind p holds same profile tells =
+        ap (recorded_by (unwrap_or seed 0) (told first stimulus)) (is-told tells)
+        ∙ ap (λ k. recorded_by_kind k (profile_of m (unwrap_or seed 0)) (told first stimulus)) (sym same)
+        ∙ ap (λ q. recorded_by_kind kind q (told first stimulus)) (sym profile)
+        ∙ ap (λ h. recorded_by_kind kind p (unwrap_or (h stimulus) [])) (sym holds)
+
+    -- the stimulus is told behind the manifest
+    pub still-told : (mid : ShelfState) → mid.holds ≡ first.holds → Tells first (names (setup_of strict (told first name)))
+        → IsSome (mid.holds stimulus)
+    still-told mid holds tells = subst (λ h. IsSome (h stimulus)) (sym holds) (tells-second first name stimulus [] (tells-both tells))
+
+  -- where the manifest is told it is refused so
+  pub bad-told : (end : Stopped BadManifest)
+      → IfRefused end (λ why. IsSome (first.holds name) → setup_of strict (told first name) ≡ Err why)
+      → IfRefused end (λ why. Tells first (names (setup_of strict (told first name))) → setup_of strict (told first name) ≡ Err why)
+  bad-told (Refused why) bad = λ tells. bad (tells-manifest (setup_of strict (told first name)) tells)
+  bad-told (Failed failure) bad = bad
+
+  -- a manifest that is refused, or couldn't be read
+  pub met-end : (seed : Option ℕ) (rose failed : Type 0) (before : List ℕ → Type 0) (end : Stopped BadManifest)
+      → IfRefused end (λ why. IsSome (first.holds name) → setup_of strict (told first name) ≡ Err why)
+      → (failure_in {A = ManifestValue} (Err end) ≡ Some Read → rose) → (failure_in {A = ManifestValue} (Err end) ≡ Some Write → ⊥)
+      → Meets (record_outcome strict (told first name) (told first stimulus) seed)
+      (Tells first (names (setup_of strict (told first name)))) rose failed before before (without_manifest end)
+  met-end seed rose failed before end bad read write =
+      meets-end (recorded_by (unwrap_or seed 0) (told first stimulus)) (λ why. refl) strict (told first name)
+      (Tells first (names (setup_of strict (told first name)))) rose failed before end (bad-told end bad) read write

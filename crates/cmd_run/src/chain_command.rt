@@ -1,0 +1,7 @@
+//! The command `cmd_run::chain`: a client over a stimulus, and a second one over the outputs of the first.
+
+mod chaining;
+mod over_stimulus;
+mod visiting;
+
+pub use chaining::{ChainTask, chain};

@@ -1,0 +1,73 @@
+//! Chains two shipped jobs over a stimulus.
+ghost use Rattle.std.specs.Prelude.{◌≡◌, ◌∷◌, [], IsSome, None, length, true};
+ghost use Rattle.det_io.specs.Count.{Rose};
+ghost use Rattle.det_io.specs.Shelf.{AsksPrefix};
+ghost use Rattle.jobs.specs.Kinds.{bad_param};
+ghost use Rattle.cli_answers.specs.Ends.{can_end};
+ghost use Rattle.cli_answers.specs.Outcome.{Meets, told};
+ghost use Rattle.cli_answers.specs.Slots.{KeepsSlots};
+ghost use Rattle.cmd_run.specs.record_command.Outcomes.{record_work};
+ghost use Rattle.cmd_run.specs.chain_command.Chain.{answer_of};
+ghost use Rattle.cmd_run.specs.chain_command.Clients.{chained_by_kinds};
+
+use crate::chain::ChainCounts;
+use crate::chain_command::visiting::StimulusIn;
+use cli_answers::Answer;
+use det_io::{Discard, Shelf, Sink, Stopped};
+use shipped_crews::{StaffedRun, with_two_crews};
+use std::thread::Threads;
+use stimulus::StimFault;
+use worker_pool::Gate;
+
+/// What a run of a chain is answered.
+fn answer_of(chained: Result<ChainCounts, Stopped<StimFault>>) -> Answer
+    ensures is { result ≡ answer_of chained }
+    ensures ends { can_end record_work result ≡ true }
+{
+    match chained {
+        Ok(_) => Answer::Done,
+        Err(Stopped::Refused(fault)) => Answer::BadStimulus { line: fault.line },
+        Err(Stopped::Failed(failure)) => Answer::from(failure),
+    }
+}
+
+/// Chains two clients over the stimulus under a name. Nobody takes the first one's record.
+pub(crate) fn chain_named<S, K, R, G>(
+    first: StaffedRun<'_, R, G>,
+    second: StaffedRun<'_, R, G>,
+    stimulus: &str,
+    shelf: &mut S,
+    out: &mut K,
+) -> Answer
+where
+    S: Shelf,
+    K: Sink,
+    R: Threads,
+    G: Gate + Send + Sync + 'static,
+    requires first { bad_param first.run.kind first.run.profile.params
+        (length first.run.profile.events) ≡ None }
+    requires second { bad_param second.run.kind second.run.profile.params
+        (length second.run.profile.events) ≡ None }
+    ensures meets { Meets
+        (chained_by_kinds
+        (record { kind = first.entry.run.kind; profile = first.entry.run.profile })
+        (record { kind = second.entry.run.kind; profile = second.entry.run.profile })
+        (told (S.sees shelf.old) stimulus.now))
+        (IsSome ((S.sees shelf.old).holds stimulus.now))
+        (Rose (S.sees shelf.old).faults (S.sees shelf.new).faults)
+        (Rose (K.faults out.old) (K.faults out.new)) (K.took out.old) (K.took out.new) result }
+    ensures ends { can_end record_work result ≡ true }
+    ensures asked { AsksPrefix (S.sees shelf.old) (S.sees shelf.new) (stimulus.now ∷ []) }
+    ensures earlier { KeepsSlots (S.sees shelf.old) (S.sees shelf.new) }
+{
+    let slot = match shelf.open_input(stimulus) {
+        Ok(slot) => slot,
+        Err(failure) => return Answer::from(failure),
+    };
+    let events = first.run.profile.events.len() as u16;
+    let stimulus = StimulusIn { slot, events };
+    match with_two_crews(first, second, stimulus, shelf, &mut Discard, out) {
+        Ok(chained) => answer_of(chained),
+        Err(_) => Answer::OutOfMemory,
+    }
+}

@@ -1,0 +1,40 @@
+//! The chain as what is done with two runs.
+use crate::chain::{ChainCounts, chain_run};
+use det_io::{Sink, Slots, Stopped};
+use job::{Job, Pool};
+use recorder::run_writer::Runner;
+use shipped_crews::VisitTwo;
+use stimulus::StimFault;
+use stimulus::slot_reader::StimulusReader;
+
+/// Chains two clients over the stimulus in a slot, which names so many events.
+#[derive(Drop)]
+pub(crate) struct StimulusIn {
+    pub slot: u32,
+    pub events: u16,
+}
+
+impl VisitTwo for StimulusIn {
+    ghost use Rattle.cmd_run.specs.chain_command.Visited.{CanChain, HasChained};
+
+    type Answer = Result<ChainCounts, Stopped<StimFault>>;
+
+    ghost Can = { λ stimulus first second shelf.
+        CanChain stimulus.slot stimulus.events first shelf };
+
+    ghost Gives = { λ s g e l p m first t h f k q n second stimulus shelf first_sink second_sink
+        result. HasChained m first n second stimulus.slot shelf first_sink second_sink result };
+
+    fn visit_two<A: Job, P: Pool<A>, B: Job, Q: Pool<B>, S: Slots, K: Sink, L: Sink>(
+        self,
+        first: &mut Runner<A, P>,
+        second: &mut Runner<B, Q>,
+        shelf: &mut S,
+        first_sink: &mut K,
+        second_sink: &mut L,
+    ) -> Result<ChainCounts, Stopped<StimFault>> {
+        let alloc = first.recording.alloc();
+        let mut stimulus = StimulusReader::at(alloc, self.slot, self.events);
+        chain_run(first, second, &mut stimulus, shelf, first_sink, second_sink)
+    }
+}

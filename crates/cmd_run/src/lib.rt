@@ -1,0 +1,9 @@
+//! The commands that take a manifest or make one: `record`, `chain`, `sim` and `needs`.
+#![tactic(auto)]
+
+pub mod chain;
+pub mod chain_command;
+pub mod crew_recorder;
+pub mod needs_command;
+pub mod record_command;
+pub mod sim_command;

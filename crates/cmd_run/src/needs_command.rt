@@ -1,0 +1,6 @@
+//! The command `needs`: the lines of a manifest, where its job takes its parameters.
+
+mod command;
+mod lines;
+
+pub use command::needs;

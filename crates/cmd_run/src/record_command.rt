@@ -1,0 +1,11 @@
+//! The commands `demo` and `record`: the record of a stimulus, by the built-in profile or by a
+//! manifest.
+
+mod built_in;
+mod by_manifest;
+mod over_stimulus;
+mod staffing;
+
+pub use built_in::demo;
+pub use by_manifest::{RecordTask, record_stimulus};
+pub use staffing::staffed;

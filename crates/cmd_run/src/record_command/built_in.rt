@@ -1,0 +1,81 @@
+//! The command `demo`.
+ghost use Rattle.std.specs.Prelude.{◌≡◌, ◌∷◌, [], IfOk, true};
+ghost use Rattle.det_io.specs.Count.{Rose};
+ghost use Rattle.det_io.specs.Shelf.{AsksPrefix};
+ghost use Rattle.cli_answers.specs.Ends.{can_end};
+ghost use Rattle.cli_answers.specs.Outcome.{Meets, Tells, told};
+ghost use Rattle.cli_answers.specs.Slots.{KeepsSlots};
+ghost use Rattle.cmd_run.specs.record_command.Outcomes.{demo_outcome, demo_profile, demo_work};
+
+use crate::record_command::over_stimulus::record_named;
+use cli_answers::Answer;
+use det_io::{Shelf, Sink};
+use det_values::{
+    EventName, EventSpec, Events, Format, JobKind, OutOfMemory, Params, Policy, Profile,
+};
+use shipped_crews::{Host, ShippedRun};
+use std::alloc::Global;
+use std::thread::Threads;
+use worker_pool::Gate;
+
+fn demo_events(alloc: Global) -> Result<Events, OutOfMemory>
+    ensures { IfOk result (λ events. events ≡ demo_profile.events) }
+{
+    let mut events = Events::new(alloc);
+    let Some(name) = EventName::of(b"x") else {
+        unreachable!()
+    };
+    events.push(EventSpec {
+        capacity: 2,
+        name,
+        policy: Policy::Last,
+    })?;
+    Ok(events)
+}
+
+fn demo_params(alloc: Global) -> Result<Params, OutOfMemory>
+    ensures { IfOk result (λ params. params ≡ demo_profile.params) }
+{
+    let mut params = Params::new(alloc);
+    params.extend_from_slice(&[4, 2])?;
+    Ok(params)
+}
+
+fn demo_profile(alloc: Global) -> Result<Profile, OutOfMemory>
+    ensures { IfOk result (λ profile. profile ≡ demo_profile) }
+{
+    let params = demo_params(alloc)?;
+    let events = demo_events(alloc)?;
+    Ok(Profile {
+        format: Format::Two,
+        job: JobKind::Bank.number(),
+        seed: 0,
+        cycle_time: 10_000_000,
+        params,
+        events,
+    })
+}
+
+/// Writes the record of the built-in profile over the stimulus of this name.
+pub fn demo<S, K, R, G>(host: &Host<'_, R, G>, stimulus: &str, shelf: &mut S, out: &mut K) -> Answer
+where
+    S: Shelf,
+    K: Sink,
+    R: Threads,
+    G: Gate + Send + Sync + 'static,
+    ensures meets { Meets (demo_outcome (told (S.sees shelf.old) stimulus.now))
+        (Tells (S.sees shelf.old) (stimulus.now ∷ []))
+        (Rose (S.sees shelf.old).faults (S.sees shelf.new).faults)
+        (Rose (K.faults out.old) (K.faults out.new))
+        (K.took out.old) (K.took out.new) result }
+    ensures ends { can_end demo_work result ≡ true }
+    ensures asked { AsksPrefix (S.sees shelf.old) (S.sees shelf.new) (stimulus.now ∷ []) }
+    ensures earlier { KeepsSlots (S.sees shelf.old) (S.sees shelf.new) }
+{
+    let Ok(profile) = demo_profile(host.alloc) else {
+        return Answer::OutOfMemory;
+    };
+    let kind = JobKind::Bank;
+    let run = ShippedRun { kind, profile };
+    record_named(&host.workers(1), run, stimulus, shelf, out)
+}

@@ -1,0 +1,49 @@
+//! The run of a manifest, and the workers for it.
+ghost use Rattle.std.specs.Prelude.{◌≡◌, length, None, IfOk, IfSome};
+ghost use Rattle.std.specs.Option.{unwrap_or};
+ghost use Rattle.manifest.specs.Limits.{IsWorkers};
+ghost use Rattle.manifest.specs.Profiles.{profile_of};
+ghost use Rattle.jobs.specs.Kinds.{bad_param};
+ghost use Rattle.run_setup.specs.Setup.{IsGood};
+
+use det_values::OutOfMemory;
+use manifest::Manifest;
+use shipped_crews::{Host, ShippedRun, StaffedRun};
+
+/// The number of workers that is given, or else the manifest's.
+fn workers_or(given: Option<u32>, own: u32) -> u32
+    requires given { IfSome given IsWorkers }
+    requires own { IsWorkers own }
+    ensures chosen { result ≡ unwrap_or given own }
+    ensures fits { IsWorkers result }
+{
+    match given {
+        Some(workers) => workers,
+        None => own,
+    }
+}
+
+/// The run of a manifest, and the workers for it. The seed is 0 where none is given, and there are
+/// as many workers as the manifest says where no number is given.
+pub fn staffed<'h, R, G>(
+    host: &Host<'h, R, G>,
+    setup: &Manifest,
+    seed: Option<u64>,
+    workers: Option<u32>,
+) -> Result<StaffedRun<'h, R, G>, OutOfMemory>
+    requires good { IsGood setup.now }
+    requires workers { IfSome workers IsWorkers }
+    ensures kind { IfOk result (λ staffed. staffed.run.kind ≡ setup.now.kind) }
+    ensures profile { IfOk result (λ staffed.
+        staffed.run.profile ≡ profile_of setup.now (unwrap_or seed 0)) }
+    ensures good { IfOk result (λ staffed. bad_param staffed.run.kind staffed.run.profile.params
+        (length staffed.run.profile.events) ≡ None) }
+    ensures workers { IfOk result (λ staffed.
+        staffed.workers.count ≡ unwrap_or workers setup.now.workers) }
+{
+    let profile = setup.profile(host.alloc, seed.unwrap_or(0))?;
+    let kind = setup.kind();
+    let workers = host.workers(workers_or(workers, setup.workers()));
+    let run = ShippedRun { kind, profile };
+    Ok(StaffedRun { run, workers })
+}

@@ -1,0 +1,61 @@
+//! The profile of `sim`.
+ghost use Rattle.std.specs.Prelude.{◌≡◌, IfOk};
+ghost use Rattle.cmd_run.specs.sim_command.Sim.{newest_of, sim_profile};
+
+use det_values::{
+    EventName, EventSpec, Events, Format, JobKind, OutOfMemory, Params, Policy, Profile,
+};
+use std::alloc::Global;
+
+fn newest_of(name: EventName) -> EventSpec
+    ensures { result ≡ newest_of name }
+{
+    EventSpec {
+        capacity: 1,
+        name,
+        policy: Policy::Last,
+    }
+}
+
+fn sim_events(alloc: Global) -> Result<Events, OutOfMemory>
+    ensures { IfOk result (λ events. events ≡ (sim_profile 0).events) }
+{
+    let mut events = Events::new(alloc);
+    let Some(x) = EventName::of(b"x") else {
+        unreachable!()
+    };
+    let Some(y) = EventName::of(b"y") else {
+        unreachable!()
+    };
+    let Some(hold) = EventName::of(b"hold") else {
+        unreachable!()
+    };
+    events.push(newest_of(x))?;
+    events.push(newest_of(y))?;
+    events.push(newest_of(hold))?;
+    Ok(events)
+}
+
+fn sim_params(alloc: Global) -> Result<Params, OutOfMemory>
+    ensures { IfOk result (λ params. params ≡ (sim_profile 0).params) }
+{
+    let mut params = Params::new(alloc);
+    params.extend_from_slice(&[10_000, 1_000, 50, 4_000_000_000_000])?;
+    Ok(params)
+}
+
+/// The cloud that runs over the stimulus of a number.
+pub(crate) fn sim_profile(alloc: Global, number: u64) -> Result<Profile, OutOfMemory>
+    ensures { IfOk result (λ profile. profile ≡ sim_profile number) }
+{
+    let params = sim_params(alloc)?;
+    let events = sim_events(alloc)?;
+    Ok(Profile {
+        format: Format::Two,
+        job: JobKind::Cloud.number(),
+        seed: number,
+        cycle_time: 10_000_000,
+        params,
+        events,
+    })
+}

@@ -1,3 +1,0 @@
-mod Watched
-mod Ending
-mod Meeting

@@ -1,7 +1,0 @@
-//! Reads the manifest under a name of a shelf, and judges its parameters by its job.
-#![tactic(auto)]
-
-mod judging;
-mod setup;
-
-pub use setup::read_setup;

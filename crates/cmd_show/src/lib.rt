@@ -1,6 +1,0 @@
-//! The command that prints a record as text, with the reports of its runs.
-#![tactic(auto)]
-
-mod showing;
-
-pub use showing::show;

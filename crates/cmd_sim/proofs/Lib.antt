@@ -1,3 +1,0 @@
-mod Whole
-mod Running
-mod Simulated

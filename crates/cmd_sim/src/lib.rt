@@ -1,8 +1,0 @@
-//! The command `sim`: a summary of a run over a made stimulus, and the reports of its cycles.
-#![tactic(auto)]
-
-mod profile;
-mod run;
-mod simulating;
-
-pub use simulating::sim;

@@ -1,7 +1,0 @@
-//! The command that writes a record of the same run in format 2.
-#![tactic(auto)]
-
-mod upgrading;
-mod visiting;
-
-pub use upgrading::upgrade;

@@ -1,7 +1,0 @@
-//! The command `vote`: the record of the majority of several copies.
-#![tactic(auto)]
-
-mod text;
-mod voting;
-
-pub use voting::{vote, vote_dissent};

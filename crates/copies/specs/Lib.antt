@@ -1,0 +1,10 @@
+pub mod FirstDifference
+pub mod Rows
+pub mod Verdict
+pub mod Needed
+pub mod Views
+pub mod ItemRows
+pub mod Compared
+pub mod Copies
+pub mod Laws
+pub mod verdict_text

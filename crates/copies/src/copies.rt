@@ -1,0 +1,101 @@
+//! Copies that are read side by side.
+ghost use Rattle.std.specs.Prelude.{◌≡◌, ℕ, ◌<◌, ◌≤◌, List, [], ◌∷◌, Some, IfOk, map, length};
+ghost use Rattle.det_io.specs.Shelf.{ShelfState};
+ghost use Rattle.det_io.specs.Traffic.{ShelfTraffic, shelf_run, failure_in};
+ghost use Rattle.record_grammar.specs.declared.item.Item.{Item};
+ghost use Rattle.record_reader.specs.item_reader.StandsFor.{room};
+ghost use Rattle.copies.specs.Compared.{AreDifferent, AreGiven, ReadsAmong};
+ghost use Rattle.copies.specs.Needed.{AllNeeded};
+ghost use Rattle.copies.specs.Copies.{slots_of, Stand};
+ghost use Rattle.copies.specs.Copies.{RowRead, IsCounted, runs_of};
+
+use crate::reading::{item_bytes, next_of_copy, read_others, readers_at};
+use crate::{BadCopy, Verdict};
+use det_io::{Slots, Stopped};
+use det_values::OutOfMemory;
+use record_reader::item_reader::ItemReader;
+use record_view::{FrameKind, ItemKind, ItemView};
+use std::alloc::Global;
+
+/// Copies behind equal items, one reader each.
+#[derive(Drop)]
+pub struct Copies {
+    /// The reader of copy 0, which the others are held against.
+    pub first: ItemReader,
+    pub others: Vec<ItemReader>,
+    /// How many rows were read.
+    pub rows: u32,
+    /// How many of them were Run frames.
+    pub cycles: u32,
+}
+
+impl Copies {
+    /// Copies of which nothing is read.
+    pub fn at(alloc: Global, slots: &[u32]) -> Result<Copies, OutOfMemory>
+        requires { 1 ≤ length slots.now }
+        ensures { IfOk result (λ copies. (state : ShelfState)
+            → Stand state state [] slots.now copies) }
+    {
+        Ok(Copies {
+            first: ItemReader::new(alloc, slots[0]),
+            others: readers_at(alloc, &slots[1..])?,
+            rows: 0,
+            cycles: 0,
+        })
+    }
+
+    /// Reads a row of every copy. None where all hold an equal item. The item of copy 0 alone is
+    /// held, and of another copy an item that isn't the same.
+    pub fn read_row<S: Slots>(&mut self, shelf: &mut S) -> Result<Option<Verdict>, Stopped<BadCopy>>
+        requires given { AreGiven (S.sees shelf.old) (slots_of self.old) }
+        requires few { length self.old.others.items ≤ 7 }
+        requires rows { self.old.rows < 4294967295 }
+        requires cycles { self.old.cycles ≤ self.old.rows }
+        requires stand { (first : ShelfState) × (given : List Item) × (slots : List ℕ)
+            × AreDifferent slots × Stand first (S.sees shelf.old) given slots self.old }
+        ensures row { (first : ShelfState) (given : List Item) (slots : List ℕ)
+            → AreDifferent slots → Stand first (S.sees shelf.old) given slots self.old
+            → RowRead result first (S.sees shelf.new) given slots (room self.old.first) self.new }
+        ensures needed { (first : ShelfState) (given : List Item) (slots : List ℕ)
+            → AreDifferent slots → Stand first (S.sees shelf.old) given slots self.old
+            → AllNeeded first (S.sees shelf.new) (length given) slots }
+        ensures reads { ReadsAmong (S.sees shelf.old) (S.sees shelf.new) (slots_of self.old) }
+        ensures traffic { ShelfTraffic (shelf_run S.sees S.stays shelf.old shelf.new)
+            (failure_in result) }
+    {
+        let item = next_of_copy(&mut self.first, shelf, 0)?;
+        let bytes = item_bytes(&self.first, item);
+        let found = read_others(&mut self.others, shelf, self.rows, item, bytes)?;
+        Ok(self.go_on(item, found))
+    }
+
+    /// Counts an item that all copies hold.
+    fn go_on(&mut self, item: Option<ItemView>, found: Option<Verdict>) -> Option<Verdict>
+        requires rows { self.old.rows < 4294967295 }
+        requires cycles { self.old.cycles ≤ self.old.rows }
+        ensures { IsCounted item found result self.old self.new }
+    {
+        if found.is_some() {
+            return found;
+        }
+        let Some(item) = item else {
+            return Some(Verdict::Agree {
+                cycles: self.cycles,
+            });
+        };
+        self.rows += 1;
+        self.cycles += runs_of(item.span.kind);
+        None
+    }
+}
+
+/// How many cycles an item of this kind is.
+pub fn runs_of(kind: ItemKind) -> u32
+    ensures value { result ≡ runs_of kind }
+    ensures most { result ≤ 1 }
+{
+    match kind {
+        ItemKind::Frame(FrameKind::Run { .. }) => 1,
+        _ => 0,
+    }
+}

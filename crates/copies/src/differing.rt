@@ -1,0 +1,62 @@
+//! How the rows of two copies differ.
+ghost use Rattle.std.specs.Prelude.{◌≡◌};
+ghost use Rattle.std.specs.Option.{option_map};
+ghost use Rattle.record_grammar.specs.declared.item.Item.{Item};
+ghost use Rattle.record_view.specs.Shows.{IsSpelling};
+ghost use Rattle.copies.specs.declared.verdict.Verdict.TheVariants.{Differ};
+ghost use Rattle.copies.specs.Copies.{DifferenceIs, OtherIsHeld, end_difference};
+
+use crate::views::item_difference;
+use crate::{Difference, Verdict};
+use record_reader::item_reader::{ItemReader, Like};
+use record_view::ItemView;
+
+/// The copy whose row is held against that of copy 0, and the number of the row.
+#[derive(Clone, Copy, Drop)]
+pub struct Place {
+    pub copy: u32,
+    pub row: u32,
+}
+
+/// The verdict where the row of this copy differs from that of copy 0.
+pub fn differing(copy: u32, difference: Option<Difference>) -> Option<Verdict>
+    ensures { result ≡ option_map (Differ copy) difference }
+{
+    match difference {
+        Some(at) => Some(Verdict::Differ { copy, at }),
+        None => None,
+    }
+}
+
+/// How the row that a reader gave last differs from the item of these bytes in copy 0. The parts
+/// of two items are looked at only where their bytes aren't the same.
+pub fn difference_at(
+    row: u32,
+    view: ItemView,
+    bytes: &[u8],
+    like: Like,
+    reader: &ItemReader,
+) -> Option<Difference>
+    requires item { (item : Item) × IsSpelling view item bytes.now }
+    requires other { OtherIsHeld like reader.now }
+    ensures { (item : Item) → IsSpelling view item bytes.now
+        → DifferenceIs result row item like reader.now }
+{
+    match like {
+        Like::Same => None,
+        Like::Other(None) => Some(Difference::Kind(row.saturating_sub(1))),
+        Like::Other(Some(other)) => {
+            item_difference(row, view, bytes, other, reader.bytes(other))
+        }
+    }
+}
+
+/// How a row differs from the end of the record of copy 0.
+pub fn end_difference(row: u32, next: Option<ItemView>) -> Option<Difference>
+    ensures { result ≡ end_difference row next }
+{
+    match next {
+        Some(_) => Some(Difference::Kind(row.saturating_sub(1))),
+        None => None,
+    }
+}

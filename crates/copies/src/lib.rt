@@ -1,0 +1,21 @@
+//! Copies of a record, read side by side up to the first place where they part.
+#![tactic(auto)]
+
+mod comparing;
+mod copies;
+mod difference;
+mod differing;
+mod frames;
+pub mod laws;
+mod reading;
+mod row;
+mod verdict;
+pub mod verdict_text;
+mod views;
+
+pub use comparing::compare;
+pub use copies::runs_of;
+pub use difference::Difference;
+pub use frames::first_difference;
+pub use row::Row;
+pub use verdict::{BadCopy, Verdict};

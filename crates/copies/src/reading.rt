@@ -1,0 +1,209 @@
+//! Rows of copies, read one copy after another.
+ghost use Rattle.std.specs.Prelude.{◌≡◌, ℕ, ◌<◌, ◌≤◌, List, [], ◌∷◌, IfOk, map, length};
+ghost use Rattle.std.specs.Prelude.{Option, Some};
+ghost use Rattle.det_io.specs.Shelf.{ShelfState};
+ghost use Rattle.det_io.specs.Traffic.{ShelfTraffic, shelf_run, failure_in};
+ghost use Rattle.record_grammar.specs.declared.item.Item.{Item};
+ghost use Rattle.record_reader.specs.item_reader.StandsFor.{StandsFor, slot_of, room};
+ghost use Rattle.copies.specs.Compared.{AreDifferent, AreGiven, ReadsAmong};
+ghost use Rattle.copies.specs.Needed.{GaveNeeded, AllNeeded};
+ghost use Rattle.copies.specs.ItemRows.{ReaderBehind, ReadersBehind, IsHeldAs, IsSpelledBy};
+ghost use Rattle.record_view.specs.Shows.{IsSpelling};
+ghost use Rattle.copies.specs.Copies.{row_of, copy_answer, CopyNext, CopyLike, CopyHeld};
+ghost use Rattle.copies.specs.Copies.{RoomFellIf, OthersRead};
+
+use crate::differing::{Place, difference_at, differing, end_difference};
+use crate::{BadCopy, Difference, Verdict};
+use det_io::{Slots, Stopped};
+use det_values::OutOfMemory;
+use record_grammar::RecordFault;
+use record_reader::item_reader::{ItemReader, Like};
+use record_view::ItemView;
+use std::alloc::Global;
+
+/// A reader for each slot.
+pub fn readers_at(alloc: Global, slots: &[u32]) -> Result<Vec<ItemReader>, OutOfMemory>
+    ensures { IfOk result (λ readers. (state : ShelfState)
+        → ReadersBehind state state [] slots.now readers.items) }
+{
+    let mut readers = Vec::new(alloc);
+    'slots: for slot in slots {
+        if readers.push(ItemReader::new(alloc, *slot)).is_err() {
+            return Err(OutOfMemory);
+        }
+    }
+    Ok(readers)
+}
+
+/// The next item of a copy, or None behind the last one of a whole record.
+pub fn next_of_copy<S: Slots>(
+    reader: &mut ItemReader,
+    shelf: &mut S,
+    copy: u32,
+) -> Result<Option<ItemView>, Stopped<BadCopy>>
+    requires { slot_of reader.old < (S.sees shelf.old).slots }
+    ensures row { (first : ShelfState) (given : List Item) (slot : ℕ)
+        → ReaderBehind first (S.sees shelf.old) given slot reader.old
+        → CopyNext result copy first (S.sees shelf.new) given slot reader.new }
+    ensures room { (read : List ℕ) (given : List Item) → StandsFor reader.old read given
+        → RoomFellIf result (room reader.old) (room reader.new) }
+    ensures needed { (first : ShelfState) (given : List Item) (slot : ℕ)
+        → ReaderBehind first (S.sees shelf.old) given slot reader.old
+        → GaveNeeded first (S.sees shelf.new) (length given) slot }
+    ensures reads { ReadsAmong (S.sees shelf.old) (S.sees shelf.new) (slot_of reader.old ∷ []) }
+    ensures slot { slot_of reader.new ≡ slot_of reader.old }
+    ensures traffic { ShelfTraffic (shelf_run S.sees S.stays shelf.old shelf.new)
+        (failure_in result) }
+{
+    of_copy(copy, reader.next(shelf))
+}
+
+/// A fault of a copy is refused.
+fn of_copy<T>(copy: u32, answer: Result<T, Stopped<RecordFault>>) -> Result<T, Stopped<BadCopy>>
+    ensures { result ≡ copy_answer copy answer }
+{
+    match answer {
+        Ok(row) => Ok(row),
+        Err(Stopped::Refused(fault)) => Err(Stopped::Refused(BadCopy { copy, fault })),
+        Err(Stopped::Failed(failure)) => Err(Stopped::Failed(failure)),
+    }
+}
+
+/// What comes next in a copy, held against the item of these bytes.
+fn like_of_copy<S: Slots>(
+    reader: &mut ItemReader,
+    shelf: &mut S,
+    copy: u32,
+    view: ItemView,
+    bytes: &[u8],
+) -> Result<Like, Stopped<BadCopy>>
+    requires slot { slot_of reader.old < (S.sees shelf.old).slots }
+    requires item { (item : Item) × IsSpelling view item bytes.now }
+    ensures like { (first : ShelfState) (given : List Item) (slot : ℕ) (item : Item)
+        → ReaderBehind first (S.sees shelf.old) given slot reader.old
+        → IsSpelling view item bytes.now
+        → CopyLike result copy item first (S.sees shelf.new) given slot reader.new }
+    ensures needed { (first : ShelfState) (given : List Item) (slot : ℕ)
+        → ReaderBehind first (S.sees shelf.old) given slot reader.old
+        → GaveNeeded first (S.sees shelf.new) (length given) slot }
+    ensures reads { ReadsAmong (S.sees shelf.old) (S.sees shelf.new) (slot_of reader.old ∷ []) }
+    ensures slot { slot_of reader.new ≡ slot_of reader.old }
+    ensures traffic { ShelfTraffic (shelf_run S.sees S.stays shelf.old shelf.new)
+        (failure_in result) }
+{
+    of_copy(copy, reader.next_like(view, bytes, shelf))
+}
+
+/// The bytes of the item that a reader gave last, and none where it gave the end.
+pub fn item_bytes(reader: &ItemReader, item: Option<ItemView>) -> &[u8]
+    requires { (row : Option Item) × IsHeldAs item reader.now row }
+    ensures { (row : Option Item) → IsHeldAs item reader.now row
+        → IsSpelledBy item result.now row }
+{
+    match item {
+        Some(view) => reader.bytes(view),
+        None => &[],
+    }
+}
+
+/// Reads a row of a copy, and holds it against that of copy 0: the item of these bytes, or the end
+/// of a whole record.
+fn hold_against<S: Slots>(
+    reader: &mut ItemReader,
+    shelf: &mut S,
+    place: Place,
+    item: Option<ItemView>,
+    bytes: &[u8],
+) -> Result<Option<Difference>, Stopped<BadCopy>>
+    requires slot { slot_of reader.old < (S.sees shelf.old).slots }
+    requires behind { (first : ShelfState) × (given : List Item) × (slot : ℕ)
+        × ReaderBehind first (S.sees shelf.old) given slot reader.old }
+    requires item { (row : Option Item) × IsSpelledBy item bytes.now row }
+    ensures row { (first : ShelfState) (given : List Item) (slot : ℕ) (row : Option Item)
+        → ReaderBehind first (S.sees shelf.old) given slot reader.old
+        → IsSpelledBy item bytes.now row → place.row ≡ length given
+        → CopyHeld result place.copy (row_of row) first (S.sees shelf.new) given slot reader.new }
+    ensures needed { (first : ShelfState) (given : List Item) (slot : ℕ)
+        → ReaderBehind first (S.sees shelf.old) given slot reader.old
+        → GaveNeeded first (S.sees shelf.new) (length given) slot }
+    ensures reads { ReadsAmong (S.sees shelf.old) (S.sees shelf.new) (slot_of reader.old ∷ []) }
+    ensures slot { slot_of reader.new ≡ slot_of reader.old }
+    ensures traffic { ShelfTraffic (shelf_run S.sees S.stays shelf.old shelf.new)
+        (failure_in result) }
+{
+    match item {
+        Some(view) => hold_item(reader, shelf, place, view, bytes),
+        None => {
+            let next = next_of_copy(reader, shelf, place.copy)?;
+            Ok(end_difference(place.row, next))
+        }
+    }
+}
+
+/// The same where copy 0 holds an item.
+fn hold_item<S: Slots>(
+    reader: &mut ItemReader,
+    shelf: &mut S,
+    place: Place,
+    view: ItemView,
+    bytes: &[u8],
+) -> Result<Option<Difference>, Stopped<BadCopy>>
+    requires slot { slot_of reader.old < (S.sees shelf.old).slots }
+    requires behind { (first : ShelfState) × (given : List Item) × (slot : ℕ)
+        × ReaderBehind first (S.sees shelf.old) given slot reader.old }
+    requires item { (item : Item) × IsSpelling view item bytes.now }
+    ensures row { (first : ShelfState) (given : List Item) (slot : ℕ) (item : Item)
+        → ReaderBehind first (S.sees shelf.old) given slot reader.old
+        → IsSpelling view item bytes.now → place.row ≡ length given
+        → CopyHeld result place.copy (row_of (Some item)) first (S.sees shelf.new) given slot
+        reader.new }
+    ensures needed { (first : ShelfState) (given : List Item) (slot : ℕ)
+        → ReaderBehind first (S.sees shelf.old) given slot reader.old
+        → GaveNeeded first (S.sees shelf.new) (length given) slot }
+    ensures reads { ReadsAmong (S.sees shelf.old) (S.sees shelf.new) (slot_of reader.old ∷ []) }
+    ensures slot { slot_of reader.new ≡ slot_of reader.old }
+    ensures traffic { ShelfTraffic (shelf_run S.sees S.stays shelf.old shelf.new)
+        (failure_in result) }
+{
+    let like = like_of_copy(reader, shelf, place.copy, view, bytes)?;
+    Ok(difference_at(place.row, view, bytes, like, reader))
+}
+
+/// Reads a row of the copies behind copy 0, and tells the least that differs from the row of copy
+/// 0: the item of these bytes, or the end of a whole record.
+pub fn read_others<S: Slots>(
+    readers: &mut [ItemReader],
+    shelf: &mut S,
+    row: u32,
+    item: Option<ItemView>,
+    bytes: &[u8],
+) -> Result<Option<Verdict>, Stopped<BadCopy>>
+    requires given { AreGiven (S.sees shelf.old) (map slot_of readers.old) }
+    requires few { length readers.old ≤ 7 }
+    requires stand { (first : ShelfState) × (given : List Item) × (slots : List ℕ)
+        × AreDifferent slots × ReadersBehind first (S.sees shelf.old) given slots readers.old
+        × (row ≡ length given) }
+    requires item { (ours : Option Item) × IsSpelledBy item bytes.now ours }
+    ensures others { (first : ShelfState) (given : List Item) (slots : List ℕ)
+        (ours : Option Item) → IsSpelledBy item bytes.now ours
+        → AreDifferent slots → ReadersBehind first (S.sees shelf.old) given slots readers.old
+        → row ≡ length given
+        → OthersRead result (row_of ours) first (S.sees shelf.new) given slots readers.new }
+    ensures needed { (first : ShelfState) (given : List Item) (slots : List ℕ)
+        (ours : Option Item) → IsSpelledBy item bytes.now ours
+        → AreDifferent slots → ReadersBehind first (S.sees shelf.old) given slots readers.old
+        → row ≡ length given → AllNeeded first (S.sees shelf.new) (length given) slots }
+    ensures reads { ReadsAmong (S.sees shelf.old) (S.sees shelf.new) (map slot_of readers.old) }
+    ensures slots { map slot_of readers.new ≡ map slot_of readers.old }
+    ensures traffic { ShelfTraffic (shelf_run S.sees S.stays shelf.old shelf.new)
+        (failure_in result) }
+{
+    let mut found = None;
+    'others: for index in 0..readers.len() {
+        let copy = index as u32 + 1;
+        let place = Place { copy, row };
+        let difference = hold_against(&mut readers[index], shelf, place, item, bytes)?;
+        found = found.or(differing(copy, difference));
+    }
+    Ok(found)
+}

@@ -1,6 +1,0 @@
-//! A stimulus recorded on several threads, which are kept from its first cycle to its last.
-#![tactic(auto)]
-
-mod recording;
-
-pub use recording::record_by_crew;

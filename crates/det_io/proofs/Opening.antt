@@ -1,0 +1,98 @@
+-- Names that are opened one after another, and reads between them.
+use Rattle.std.proofs.Common.{◌≡◌, ◌≢◌, ◌<◌, ◌≤◌, ℕ, List, [], ◌++◌, append_assoc, refl, sym, ◌∙◌, ap, arith}
+use Rattle.std.proofs.lemmas.List.{append-nil}
+use Rattle.std.specs.Prelude.{Some}
+use Rattle.det_io.specs.Prefix.{IsPrefix}
+use Rattle.det_io.specs.Shelf.{ShelfState, Reads, Opens, SlotsStay, Asks, AsksPrefix}
+use Rattle.det_io.proofs.Prefixes.{prefix-none, prefix-same, prefix-behind, prefix-then}
+
+-- a shelf whose names stay was asked for none
+pub asks-kept : {before after : ShelfState} → after.asked ≡ before.asked → Asks before after []
+asks-kept same = record { told = λ all h. (all, sym same ∙ h, append-nil all) }
+
+-- a shelf that stays was asked for no name
+pub asks-none : (state : ShelfState) → Asks state state []
+asks-none state = asks-kept refl
+
+-- a shelf that was read was asked for no name
+pub asks-reads : {before after : ShelfState} {slot : ℕ} {bytes : List ℕ} → Reads before after slot bytes → Asks before after []
+asks-reads p = asks-kept p.asked
+
+-- names asked for one after another are asked for in this order
+pub asks-then : {before mid after : ShelfState} {a b : List (List ℕ)} → Asks before mid a → Asks mid after b → Asks before after (a ++ b)
+asks-then {a = a} {b = b} p q = record {
+  told = λ all h.
+      let later = q.told all h in
+      let earlier = p.told later.0 later.1 in
+      (earlier.0, earlier.1, sym (append_assoc earlier.0 a b) ∙ ap (λ l. l ++ b) earlier.2 ∙ later.2);
+}
+
+-- reads after opens ask for no further name
+pub asks-then-kept : {before mid after : ShelfState} {names : List (List ℕ)} → Asks before mid names → after.asked ≡ mid.asked
+    → Asks before after names
+asks-then-kept p same = record { told = λ all h. p.told all (sym same ∙ h) }
+
+-- reads before opens ask for no further name
+pub kept-then-asks : {before mid after : ShelfState} {names : List (List ℕ)} → mid.asked ≡ before.asked → Asks mid after names
+    → Asks before after names
+kept-then-asks same p = record { told = λ all h. let t = p.told all h in (t.0, sym same ∙ t.1, t.2) }
+
+-- where a shelf is asked for no name and tells its names afterwards, it tells the same before
+pub asks-no-name : {before after : ShelfState} (all : List (List ℕ)) → Asks before after [] → after.asked ≡ Some all
+    → before.asked ≡ Some all
+asks-no-name all p h = let t = p.told all h in t.1 ∙ ap Some (sym (append-nil t.0) ∙ t.2)
+
+-- all the names are a prefix of themselves
+pub asks-all : (before after : ShelfState) (names : List (List ℕ)) → Asks before after names → AsksPrefix before after names
+asks-all before after names p = (names, prefix-same names, p)
+
+-- no name is a prefix of any names
+pub asks-prefix-none : (before after : ShelfState) (names : List (List ℕ)) → after.asked ≡ before.asked → AsksPrefix before after names
+asks-prefix-none before after names same = ([], prefix-none names, asks-kept same)
+
+-- after these names a prefix of those: a prefix of both in a row
+pub asks-then-prefix : (before mid after : ShelfState) (a b : List (List ℕ)) → Asks before mid a → AsksPrefix mid after b
+    → AsksPrefix before after (a ++ b)
+asks-then-prefix before mid after a b p q = (a ++ q.0, prefix-behind a q.0 b q.1, asks-then p q.2)
+
+-- a prefix of a prefix of the names is a prefix of the names
+pub asks-prefix-wider : (before after : ShelfState) (a b : List (List ℕ)) → AsksPrefix before after a → IsPrefix a b
+    → AsksPrefix before after b
+asks-prefix-wider before after a b p q = (p.0, prefix-then p.0 a b p.1 q, p.2)
+
+-- reads after opens leave the prefix of the names
+pub asks-prefix-then-kept : (before mid after : ShelfState) (names : List (List ℕ)) → AsksPrefix before mid names → after.asked ≡ mid.asked
+    → AsksPrefix before after names
+asks-prefix-then-kept before mid after names p same = (p.0, p.1, asks-then-kept p.2 same)
+
+-- slots stay where nothing happens
+pub slots-stay-same : (state : ShelfState) → SlotsStay state state
+slots-stay-same state = record { slots = refl; left = refl }
+
+-- slots that stay twice stay over both
+pub slots-stay-then : {before mid after : ShelfState} → SlotsStay before mid → SlotsStay mid after → SlotsStay before after
+slots-stay-then p q = record { slots = q.slots ∙ p.slots; left = q.left ∙ p.left }
+
+-- an open leaves what a slot given earlier has left
+pub opens-other : {before after : ShelfState} {name : List ℕ} {slot : ℕ} (k : ℕ) → Opens before after name slot → k < before.slots
+    → after.left k ≡ before.left k
+opens-other k p h = p.others k (λ e. let n = p.number in omega arith)
+
+-- an open leaves the slots given earlier, and the new slot is one more
+pub opens-given : {before after : ShelfState} {name : List ℕ} {slot : ℕ} (k : ℕ) → Opens before after name slot → k ≤ before.slots
+    → k < after.slots
+opens-given k p h = rw p.slots (omega arith)
+
+-- the new slot is given
+pub opens-new : {before after : ShelfState} {name : List ℕ} {slot : ℕ} → Opens before after name slot → slot < after.slots
+opens-new p = rw (p.slots, p.number) (omega arith)
+
+-- two slots opened one after the other differ
+pub opens-apart : {before after : ShelfState} {name : List ℕ} {slot : ℕ} (k : ℕ) → Opens before after name slot → k < before.slots
+    → k ≢ slot
+opens-apart k p h = λ e. let n = p.number in omega arith
+
+-- where the bytes under a name are told, the new slot has them all left
+pub opens-left : {before after : ShelfState} {name : List ℕ} {slot : ℕ} (bytes : List ℕ) → Opens before after name slot
+    → before.holds name ≡ Some bytes → after.left slot ≡ Some bytes
+opens-left bytes p told = let l = p.left in let h = rw told at l in h

@@ -1,0 +1,1 @@
+pub mod sink_buffer

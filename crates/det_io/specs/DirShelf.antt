@@ -1,0 +1,17 @@
+-- What a shelf over a folder shows: how many slots it has given and how often it has failed.
+use Rattle.std.specs.Prelude.{ℕ, None, vec_len}
+use Rattle.det_io.specs.Shelf.{ShelfState}
+use Rattle.det_io.specs.declared.dir_shelf.DirShelf.{DirShelf}
+
+-- a shelf that tells neither bytes nor names
+abbrev pub untold : ℕ → ℕ → ShelfState
+untold slots faults = record {
+  slots = slots;
+  faults = faults;
+  holds = λ name. None;
+  asked = None;
+  left = λ slot. None;
+}
+
+abbrev pub dir_shelf_state : {R A B : Type 0} → DirShelf R A B → ShelfState
+dir_shelf_state s = untold (vec_len s.files) s.faults

@@ -1,0 +1,12 @@
+pub mod Count
+pub mod DirShelf
+pub mod MemShelf
+pub mod MemSink
+pub mod PlannedCalls
+pub mod Prefix
+pub mod Shelf
+pub mod Sink
+pub mod StdSink
+pub mod TextShelf
+pub mod Traffic
+pub mod sink_buffer

@@ -1,0 +1,17 @@
+-- What a shelf over one text shows.
+use Rattle.std.specs.Prelude.{ℕ, List, [], ◌∷◌, drop, None, slice_get}
+use Rattle.det_io.specs.Shelf.{ShelfState}
+use Rattle.det_io.specs.declared.text_shelf.TextShelf.{TextShelf}
+
+-- one slot, slot 0, which has these bytes left; names are not told
+abbrev pub one_slot : List ℕ → ShelfState
+one_slot rest = record {
+  slots = 1;
+  faults = 0;
+  holds = λ name. None;
+  asked = None;
+  left = slice_get (rest ∷ []);
+}
+
+abbrev pub text_shelf_state : TextShelf → ShelfState
+text_shelf_state s = one_slot (drop s.at s.bytes)

@@ -1,0 +1,35 @@
+//! Looks files up in a list of files.
+ghost use Rattle.std.specs.Prelude.{◌≡◌, ◌<◌, ◌≤◌, ◌+◌, ◌^◌, min, length, take, IfSome};
+ghost use Rattle.det_io.specs.MemShelf.{index_of, rest_of};
+
+use super::MemFile;
+use super::place::Place;
+use crate::copying::copy_front;
+
+// The index of the first file with this name.
+pub(super) fn index_of(files: &[MemFile], name: &str) -> Option<usize>
+    ensures value { result ≡ index_of files.now name.now }
+    ensures within { IfSome result (λ i. i < length files.now) }
+{
+    files.iter().position(|file| file.name.as_str() == name)
+}
+
+// What a place has left. A place past the end of its file has nothing left.
+fn rest_at(files: &[MemFile], place: Place) -> &[u8]
+    ensures rest { result.now ≡ rest_of files.now place }
+    ensures fits { place.at + length result.now < 2 ^ 64 }
+{
+    match files.get(place.file) {
+        Some(file) if place.at <= file.bytes.len() => &file.bytes.as_slice()[place.at..],
+        _ => &[],
+    }
+}
+
+// Copies what a place has left, at most `most` bytes, and answers how many.
+pub(super) fn copy_from(files: &[MemFile], place: Place, buf: &mut [u8], most: usize) -> usize
+    ensures count { result ≡ min (min (length buf.old) most) (length (rest_of files.now place)) }
+    ensures fits { place.at + result < 2 ^ 64 }
+    ensures front { take result buf.new ≡ take result (rest_of files.now place) }
+{
+    copy_front(rest_at(files, place), buf, most)
+}

@@ -1,0 +1,13 @@
+//! A buffer in front of a sink, which gathers short pieces to long writes.
+
+mod buffer;
+mod front;
+mod gather;
+mod passing;
+mod start;
+
+pub use buffer::SinkBuffer;
+pub use front::Front;
+pub use gather::Gather;
+pub use passing::{BUFFER_ROOM, buffer_room};
+pub use start::Start;

@@ -1,0 +1,58 @@
+//! A sink with what is held in front of it.
+ghost use Rattle.std.specs.Prelude.{◌<◌, ◌≤◌, vec_len, vec_capacity};
+
+use crate::sink_buffer::passing::{append, pass};
+use crate::sink_buffer::{BUFFER_ROOM, Gather};
+use crate::{Sink, SinkFailed};
+
+/// A piece of so many bytes goes to the sink as it is where nothing is held.
+const LONG: usize = 4_096;
+
+/// A sink with what is held in front of it. Whoever takes it apart writes to the sink what is held,
+/// else that is lost.
+///
+/// Short pieces are held until there is no room for the next one, and then go to the sink in one
+/// write. It makes at most one write for a piece, and asks for no memory.
+#[derive(Drop)]
+pub struct Front<'a, 'r, K: Sink> {
+    pub sink: &'a mut K,
+    pub held: &'r mut Vec<u8>,
+    pub ghost within: { vec_len held.now < 65536 },
+    pub ghost has_room: { 65536 ≤ vec_capacity held.now },
+}
+
+impl<'a, 'r, K: Sink> Front<'a, 'r, K> {
+    ghost use Rattle.std.specs.Prelude.{◌≡◌, ◌≤◌, [], vec_capacity};
+
+    /// A front in which nothing is held, over the memory of `buffer_room`.
+    pub fn new(sink: &'a mut K, held: &'r mut Vec<u8>) -> Front<'a, 'r, K>
+        requires none { held.old.items ≡ [] }
+        requires room { 65536 ≤ vec_capacity held.old }
+        ensures same_sink { result.sink.ghost_name ≡ sink.entry.ghost_name }
+        ensures sink { result.sink.now ≡ sink.old }
+        ensures none { result.held.now.items ≡ [] }
+    {
+        Front { sink, held }
+    }
+}
+
+impl<K: Sink> Gather for Front<'_, '_, K> {
+    ghost name = { λ s. s.sink.ghost_name };
+
+    ghost took = { λ s. K.took s.sink.now };
+
+    ghost held = { λ s. s.held.now.items };
+
+    ghost faults = { λ s. K.faults s.sink.now };
+
+    fn gather(&mut self, piece: &[u8]) -> Result<usize, SinkFailed> {
+        if piece.len() < LONG && piece.len() < BUFFER_ROOM - self.held.len() {
+            append(self.held, piece);
+            return Ok(piece.len());
+        }
+        if self.held.is_empty() {
+            return self.sink.write(piece);
+        }
+        pass(self.sink, self.held, piece)
+    }
+}

@@ -1,0 +1,56 @@
+//! A writer of std as a sink.
+use crate::trying::write_trying;
+use crate::{Sink, SinkFailed};
+use std::io::{Error, Write};
+
+/// Writes to a writer. It tells no bytes. Each failure of the writer is a fault, and so is a write
+/// that takes nothing of a piece that isn't empty. A write that is interrupted is tried again, up
+/// to 1,000 times in all.
+#[derive(Drop)]
+pub struct StdSink<W> {
+    writer: W,
+    faults: u64,
+    failed: Option<Error>,
+}
+
+impl<W: Write + Drop> StdSink<W> {
+    ghost use Rattle.std.specs.Prelude.{◌≡◌};
+    ghost use Rattle.det_io.specs.StdSink.{std_sink_faults};
+
+    /// A sink over this writer.
+    pub fn new(writer: W) -> StdSink<W>
+        ensures { std_sink_faults result ≡ 0 }
+    {
+        StdSink {
+            writer,
+            faults: 0,
+            failed: None,
+        }
+    }
+
+    /// Why the last write that failed did so. None where none failed.
+    pub fn failed(&self) -> Option<Error>
+        ensures { result ≡ self.now.failed }
+    {
+        self.failed
+    }
+}
+
+impl<W: Write + Drop> Sink for StdSink<W> {
+    ghost use Rattle.det_io.specs.StdSink.{NothingTold, std_sink_faults};
+
+    ghost took = { λ _ m. NothingTold m };
+
+    ghost faults = { λ s. std_sink_faults s };
+
+    fn write(&mut self, piece: &[u8]) -> Result<usize, SinkFailed> {
+        match write_trying(&mut self.writer, piece) {
+            Ok(n) => Ok(n),
+            Err(error) => {
+                self.faults = self.faults.saturating_add(1);
+                self.failed = Some(error);
+                Err(SinkFailed)
+            }
+        }
+    }
+}

@@ -1,8 +1,0 @@
-use Rattle.std.proofs.Common.{ℕ, ap, ◌∙◌}
-use Rattle.rand_xoshiro.specs.SplitMix64.{mix_u64}
-use Rattle.element_random.specs.Words.{mixed}
-use Rattle.element_random.proofs.mix.Goals as goal
-
-pub returns : goal.returns
-unfolding mixed
-returns c = ap (λ (p : ℕ × ℕ). p.0) c.next_word.ensures ∙ ap (λ x. (mix_u64 x).0) c.seed_from_u64.ensures.same

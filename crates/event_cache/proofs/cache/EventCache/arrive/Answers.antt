@@ -1,8 +1,0 @@
-use Rattle.std.proofs.Common.{rules}
-use Rattle.event_cache.proofs.Rounds.{joined_fit}
-use Rattle.event_cache.proofs.cache.EventCache.arrive.Goals as goal
-
-pub invariant_of-self : goal.invariant_of-self
-invariant_of-self c =
-    joined_fit c.self.inside.rings.items _ c.index_mut.result.now _ _ (search rules) c.index_mut.ensures.value c.arrive.ensures
-    (search rules) c.self.invariant

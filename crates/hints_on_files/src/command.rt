@@ -1,0 +1,69 @@
+//! Which files of a command are looked at again.
+ghost use Rattle.std.specs.Prelude.{◌≡◌, true, IfSome};
+ghost use Rattle.hints_on_files.specs.Kinds.{fits, is_of_manifest, is_of_record, is_of_stimulus};
+
+use crate::hint::Hint;
+use crate::manifests::manifest_hint;
+use crate::records::{copies_hint, run_hint};
+use crate::stimuli::{events_of, stimulus_hint};
+use cli_answers::Status;
+use cli_words::{Command, CommandWord};
+use det_io::Shelf;
+use std::alloc::Global;
+
+/// On a manifest of a command that was refused.
+fn on_manifest<S: Shelf>(alloc: Global, command: &Command<'_>, shelf: &mut S) -> Option<Hint>
+    ensures { IfSome result (λ hint. is_of_manifest hint ≡ true) }
+{
+    let strict = command.options.strict;
+    let names = command.names.as_slice();
+    let manifests = match command.word {
+        CommandWord::Record | CommandWord::Needs => names.get(..1)?,
+        CommandWord::Chain => names.get(..2)?,
+        _ => return None,
+    };
+    manifest_hint(alloc, manifests, strict, shelf)
+}
+
+/// On a stimulus of a command that was refused. The client of `demo` has one event.
+fn on_stimulus<S: Shelf>(alloc: Global, command: &Command<'_>, shelf: &mut S) -> Option<Hint>
+    ensures { IfSome result (λ hint. is_of_stimulus hint ≡ true) }
+{
+    let (stimulus, events) = match command.word {
+        CommandWord::Demo => (command.name(0), 1),
+        CommandWord::Record => (command.name(1), events_of(alloc, command.name(0), shelf)?),
+        CommandWord::Chain => (command.name(2), events_of(alloc, command.name(0), shelf)?),
+        _ => return None,
+    };
+    stimulus_hint(alloc, stimulus, events, shelf)
+}
+
+/// On a record of a command that was refused.
+fn on_record<S: Shelf>(alloc: Global, command: &Command<'_>, shelf: &mut S) -> Option<Hint>
+    ensures { IfSome result (λ hint. is_of_record hint ≡ true) }
+{
+    match command.word {
+        CommandWord::Replay | CommandWord::Check | CommandWord::Upgrade => {
+            run_hint(alloc, command.name(0), shelf)
+        }
+        _ => copies_hint(alloc, command.names.as_slice(), shelf),
+    }
+}
+
+/// What is wrong with the file of a command of `det` that ended with this status. None where no
+/// file was refused, and where it can't be read again.
+pub fn hint_of<S: Shelf>(
+    alloc: Global,
+    command: &Command<'_>,
+    status: Status,
+    shelf: &mut S,
+) -> Option<Hint>
+    ensures { IfSome result (λ hint. fits status hint ≡ true) }
+{
+    match status {
+        Status::BadManifest => on_manifest(alloc, command, shelf),
+        Status::BadStimulus => on_stimulus(alloc, command, shelf),
+        Status::BadRecord => on_record(alloc, command, shelf),
+        _ => None,
+    }
+}

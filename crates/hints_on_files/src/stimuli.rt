@@ -1,0 +1,118 @@
+//! What is wrong with a stimulus.
+ghost use Rattle.std.specs.Prelude.{◌≡◌, ◌≤◌, true, IfSome};
+ghost use Rattle.stimulus.specs.Reading.{BadLine, ending};
+ghost use Rattle.hints_on_files.specs.Kinds.{is_of_stimulus};
+
+use crate::files::{front_under, whole_under};
+use crate::hint::Hint;
+use crate::stimulus_line::wanted_at;
+use crate::stimulus_place::{cut, place_of};
+use crate::wanted::Wanted;
+use det_io::Shelf;
+use manifest::{MOST_BYTES, read_manifest};
+use std::alloc::Global;
+use stimulus::{StimError, StimReader};
+
+/// The number of events that a manifest names.
+pub fn events_of<S: Shelf>(alloc: Global, name: &str, shelf: &mut S) -> Option<u16>
+    ensures { IfSome result (λ events. events ≤ 256) }
+{
+    let text = whole_under(alloc, name, MOST_BYTES, shelf).ok()?;
+    let manifest = read_manifest(alloc, &text).ok()?;
+    Some(manifest.events().len() as u16)
+}
+
+/// The bad line of a text, counted from 1, for a profile with so many events.
+fn bad_line(alloc: Global, text: &[u8], events: u16) -> Option<u64>
+    ensures { IfSome result (λ line. ending events text.now ≡ BadLine line) }
+{
+    let mut reader = StimReader::new(alloc, events);
+    if reader.feed(text).is_err() {
+        return None;
+    }
+    for _ in 0..=text.len() {
+        match reader.next_cycle() {
+            Ok(Some(_)) => {}
+            Ok(None) => {
+                return match reader.finish() {
+                    Ok(()) => None,
+                    Err(fault) => Some(fault.line),
+                };
+            }
+            Err(StimError::Bad(fault)) => return Some(fault.line),
+            Err(StimError::OutOfMemory) => return None,
+        }
+    }
+    None
+}
+
+/// What is wanted in place of the bad line of a text. A last line without a line feed may be good
+/// but for that.
+fn wanted_in(alloc: Global, mut text: Vec<u8>, events: u16) -> Option<Wanted> {
+    let line = bad_line(alloc, &text, events)?;
+    let (place, rest) = place_of(&text, line);
+    let wanted = wanted_at(place, events, rest);
+    if rest.is_empty() || cut(rest).1.is_some() {
+        return Some(wanted);
+    }
+    text.push(b'\n').ok()?;
+    match bad_line(alloc, &text, events) {
+        Some(same) if same == line => Some(wanted),
+        _ => Some(Wanted::LineFeed),
+    }
+}
+
+/// What is wanted in place of the bad line of a longer text, of which these are whole lines. None
+/// where it isn't among them.
+fn wanted_before(alloc: Global, text: &[u8], events: u16) -> Option<Wanted> {
+    let line = bad_line(alloc, text, events)?;
+    let (place, rest) = place_of(text, line);
+    if rest.is_empty() {
+        return None;
+    }
+    Some(wanted_at(place, events, rest))
+}
+
+/// The whole lines of a text.
+fn whole_lines(text: &[u8]) -> &[u8] {
+    match text.iter().rposition(|byte| *byte == b'\n') {
+        Some(last) => &text[..last + 1],
+        None => &text[..0],
+    }
+}
+
+/// What is wanted in place of the bad line of the stimulus under a name. It is looked for in the
+/// first 1,048,576 bytes.
+pub fn stimulus_hint<S: Shelf>(
+    alloc: Global,
+    name: &str,
+    events: u16,
+    shelf: &mut S,
+) -> Option<Hint>
+    ensures { IfSome result (λ hint. is_of_stimulus hint ≡ true) }
+{
+    let front = front_under(alloc, name, shelf)?;
+    let wanted = if front.is_whole {
+        wanted_in(alloc, front.bytes, events)?
+    } else {
+        wanted_before(alloc, whole_lines(&front.bytes), events)?
+    };
+    Some(Hint::Stimulus(wanted))
+}
+
+/// The same of a stimulus that may have no more bytes than that.
+pub fn short_stimulus_hint<S: Shelf>(
+    alloc: Global,
+    name: &str,
+    events: u16,
+    shelf: &mut S,
+) -> Option<Hint>
+    ensures { IfSome result (λ hint. is_of_stimulus hint ≡ true) }
+{
+    let front = front_under(alloc, name, shelf)?;
+    if !front.is_whole {
+        return Some(Hint::LongStimulus);
+    }
+    let wanted = wanted_in(alloc, front.bytes, events)?;
+    Some(Hint::Stimulus(wanted))
+}

@@ -1,0 +1,54 @@
+//! Where a text stops being TOML.
+ghost use Rattle.std.specs.Prelude.{◌≤◌, ◌+◌, Some, IfSome, length};
+ghost use Rattle.hints_on_files.specs.Texts.{toml_text};
+
+use std::alloc::Global;
+use std::fmt;
+use std::fmt::{Display, Formatter, Write};
+
+/// The line, counted from 1, at which a text stops being TOML.
+#[derive(Clone, Copy)]
+pub struct TomlLine {
+    pub line: usize,
+}
+
+impl Display for TomlLine {
+    ghost output = { λ at. Some (toml_text at) };
+
+    fn fmt<W: Write>(&self, f: &mut Formatter<W>) -> fmt::Result {
+        let line = self.line;
+        write!(f, "line {line}")
+    }
+}
+
+/// The line, counted from 1, behind these bytes.
+fn line_behind(before: &[u8]) -> usize
+    ensures first { 1 ≤ result }
+    ensures last { result ≤ 1 + length before.now }
+{
+    let mut line: usize = 1;
+    for byte in before {
+        if *byte == b'\n' {
+            line = line.saturating_add(1);
+        }
+    }
+    line
+}
+
+impl TomlLine {
+    /// None where the bytes are TOML, and where there is no memory.
+    pub fn of(alloc: Global, bytes: &[u8]) -> Option<TomlLine>
+        ensures first { IfSome result (λ at. 1 ≤ at.line) }
+        ensures last { IfSome result (λ at. at.line ≤ 1 + length bytes.now) }
+    {
+        let place = match std::str::from_utf8(bytes) {
+            Err(error) => error.valid_up_to(),
+            Ok(text) => match toml::table_from_str(alloc, text) {
+                Ok(_) => return None,
+                Err(error) => error.span()?.start,
+            },
+        };
+        let line = line_behind(bytes.get(..place)?);
+        Some(TomlLine { line })
+    }
+}

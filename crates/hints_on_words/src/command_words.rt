@@ -1,0 +1,210 @@
+//! At which word the words of `det` stop being a command.
+ghost use Rattle.std.specs.Prelude.{◌≡◌, ◌↔◌, IsNone, IsSome, codes, option_map};
+ghost use Rattle.cli_words.specs.Names.{texts};
+ghost use Rattle.cli_words.specs.Reading.{command_of};
+ghost use Rattle.hints_on_words.specs.Pages.{page_of, page_word};
+
+use crate::fault::WordsFault;
+use crate::help::Help;
+use crate::shown::Shown;
+use cli_words::{CommandWord, NameKind, OptionWord, Row, is_name, meant, number_of, read_words};
+
+/// What is told behind the word of a command so far.
+#[derive(Clone, Copy)]
+struct Told {
+    row: Row,
+    names: usize,
+    /// The option whose value is the next word.
+    awaited: Option<OptionWord>,
+}
+
+fn is_name_of(kind: NameKind, word: &str) -> bool {
+    is_name(word)
+        && match kind {
+            NameKind::File => true,
+            NameKind::Number => number_of(word).is_some(),
+            NameKind::Command => CommandWord::of(word).is_some(),
+        }
+}
+
+/// Whether a word is a value of an option.
+fn is_value_of(option: OptionWord, word: &str) -> bool {
+    match (option.row().range, number_of(word)) {
+        (Some((least, most)), Some(number)) => least <= number && number <= most,
+        _ => false,
+    }
+}
+
+/// Whether a word is one of the words.
+fn is_among(words: &[String], word: &str) -> bool {
+    words.iter().any(|other| other.as_str() == word)
+}
+
+impl Told {
+    /// The option of the command that a word is.
+    fn option(&self, word: &str) -> Option<OptionWord> {
+        match OptionWord::of(word) {
+            Some(option) if self.row.options.has(option) => Some(option),
+            _ => None,
+        }
+    }
+
+    /// What is told with a word more, behind these ones. None where it can't stand there. An option
+    /// that was told stands among the words, and no name or value looks like one.
+    fn with_word(self, earlier: &[String], word: &str) -> Option<Told> {
+        if let Some(option) = self.awaited {
+            let awaited = None;
+            return if is_value_of(option, word) {
+                Some(Told { awaited, ..self })
+            } else {
+                None
+            };
+        }
+        match self.option(word) {
+            Some(_) if is_among(earlier, word) => None,
+            Some(option) => {
+                let awaited = if option.row().range.is_some() {
+                    Some(option)
+                } else {
+                    None
+                };
+                Some(Told { awaited, ..self })
+            }
+            None if is_name_of(self.row.names, word) && self.names < self.row.most => {
+                let names = self.names + 1;
+                Some(Told { names, ..self })
+            }
+            None => None,
+        }
+    }
+
+    /// Why a word can't stand at this number.
+    fn refusal<'a>(&self, number: usize, word: &'a str) -> WordsFault<'a> {
+        let word = Shown::of(word);
+        let Some(option) = self.awaited else {
+            return WordsFault::At { number, word };
+        };
+        let row = option.row();
+        match row.range {
+            Some((least, most)) => WordsFault::OutOfRange {
+                number,
+                word,
+                taker: row.word,
+                least,
+                most,
+            },
+            None => WordsFault::At { number, word },
+        }
+    }
+
+    /// What is missing where all words were read.
+    fn lack(&self) -> WordsFault<'static> {
+        if let Some(option) = self.awaited {
+            return WordsFault::MissingBehind {
+                what: "a value",
+                taker: option.row().word,
+            };
+        }
+        if self.names < self.row.least {
+            return WordsFault::MissingBehind {
+                what: "a name",
+                taker: self.row.word,
+            };
+        }
+        WordsFault::Both {
+            one: OptionWord::Reports.row().word,
+            other: OptionWord::Cycle.row().word,
+        }
+    }
+}
+
+/// Why the words from the second one on don't go on with the command of the first one.
+fn fault_behind(row: Row, words: &[String]) -> WordsFault<'_> {
+    let mut told = Told {
+        row,
+        names: 0,
+        awaited: None,
+    };
+    for place in 1..words.len() {
+        let word = words[place].as_str();
+        match told.with_word(&words[1..place], word) {
+            Some(next) => told = next,
+            None => return told.refusal(place + 1, word),
+        }
+    }
+    told.lack()
+}
+
+fn fault_at(number: usize, word: &str) -> WordsFault<'_> {
+    let word = Shown::of(word);
+    WordsFault::At { number, word }
+}
+
+/// The first word that is no command, or one behind it.
+fn fault_from<'a>(first: &'a str, words: &'a [String]) -> WordsFault<'a> {
+    match CommandWord::of(first) {
+        Some(command) => fault_behind(command.row(), words),
+        None => fault_at(1, first),
+    }
+}
+
+/// Of two words one of which is a word for help, the one that is in the way.
+fn fault_of_two<'a>(first: &'a str, second: &'a str, words: &'a [String]) -> WordsFault<'a> {
+    if first == "help" {
+        return fault_at(2, second);
+    }
+    if second == "--help" {
+        return match CommandWord::of(meant(first)) {
+            Some(_) => fault_at(2, second),
+            None => fault_at(1, first),
+        };
+    }
+    fault_from(first, words)
+}
+
+/// Why the words after the program's name are no command of `det`. None where they are one.
+pub fn words_fault(words: &[String]) -> Option<WordsFault<'_>>
+    ensures { IsNone result ↔ IsSome (command_of (texts words.now)) }
+{
+    if read_words(words).is_some() {
+        return None;
+    }
+    Some(match words {
+        [] => WordsFault::Missing { what: "a command" },
+        [word] => fault_from(meant(word.as_str()), words),
+        [first, second] => fault_of_two(first.as_str(), second.as_str(), words),
+        [first, _, _, ..] => fault_from(first.as_str(), words),
+    })
+}
+
+/// The word of a command that has a page of its own.
+fn page_of(command: CommandWord) -> Option<&'static str>
+    ensures { option_map (λ word. word.now) result ≡ page_of command }
+{
+    match command {
+        CommandWord::Help | CommandWord::Version => None,
+        _ => Some(command.row().word),
+    }
+}
+
+/// The first word, where it is a command with a page.
+fn page_word(words: &[String]) -> Option<&'static str>
+    ensures { option_map (λ word. word.now) result ≡ page_word (texts words.now) }
+{
+    match words {
+        [] => None,
+        [first, ..] => page_of(CommandWord::of(first.as_str())?),
+    }
+}
+
+/// Where the words that `det` takes are told: on the page of the command, where the first word is
+/// one that has a page.
+pub fn help_for(words: &[String]) -> Help
+    ensures program { result.program.now ≡ codes "det" }
+    ensures page { option_map (λ word. word.now) result.command ≡ page_word (texts words.now) }
+{
+    Help {
+        program: "det",
+        command: page_word(words),
+    }
+}

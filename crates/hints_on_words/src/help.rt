@@ -1,0 +1,25 @@
+//! Where help is found.
+ghost use Rattle.std.specs.Prelude.{Some};
+ghost use Rattle.hints_on_words.specs.Texts.{help_text};
+
+use std::fmt;
+use std::fmt::{Display, Formatter, Write};
+
+/// The words that print what a program, or one of its commands, takes.
+#[derive(Clone, Copy)]
+pub struct Help {
+    pub program: &'static str,
+    pub command: Option<&'static str>,
+}
+
+impl Display for Help {
+    ghost output = { λ help. Some (help_text help) };
+
+    fn fmt<W: Write>(&self, f: &mut Formatter<W>) -> fmt::Result {
+        let program = self.program;
+        match self.command {
+            Some(command) => write!(f, "see {program} {command} --help"),
+            None => write!(f, "see {program} --help"),
+        }
+    }
+}

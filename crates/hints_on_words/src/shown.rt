@@ -1,0 +1,65 @@
+//! What is shown of bytes that others chose.
+ghost use Rattle.std.specs.Prelude.{◌≡◌, Some, take};
+ghost use Rattle.hints_on_words.specs.Texts.{dots, printable, shown_text};
+
+use std::fmt;
+use std::fmt::{Display, Formatter, Write};
+
+/// How many bytes are shown.
+const MOST: usize = 64;
+
+/// The first 64 of some bytes, with a `?` for each that isn't a printable ASCII character, and two
+/// dots where there are more.
+#[derive(Clone, Copy)]
+pub struct Shown<'a> {
+    pub bytes: &'a [u8],
+}
+
+impl<'a> Shown<'a> {
+    /// The bytes of a text.
+    pub fn of(text: &'a str) -> Shown<'a>
+        ensures { result.bytes.now ≡ text.now }
+    {
+        Shown {
+            bytes: text.as_bytes(),
+        }
+    }
+}
+
+fn printable(byte: u8) -> char
+    ensures { result ≡ printable byte }
+{
+    match byte {
+        b' '..=b'~' => byte as char,
+        _ => '?',
+    }
+}
+
+/// The bytes that are shown.
+fn front(bytes: &[u8]) -> &[u8]
+    ensures { result.now ≡ take 64 bytes.now }
+{
+    if bytes.len() > MOST {
+        &bytes[..MOST]
+    } else {
+        bytes
+    }
+}
+
+/// What stands for the bytes that aren't shown.
+fn dots(bytes: &[u8]) -> &'static str
+    ensures { result.now ≡ dots bytes.now }
+{
+    if bytes.len() > MOST { ".." } else { "" }
+}
+
+impl Display for Shown<'_> {
+    ghost output = { λ shown. Some (shown_text shown.bytes.now) };
+
+    fn fmt<W: Write>(&self, f: &mut Formatter<W>) -> fmt::Result {
+        for byte in front(self.bytes) {
+            f.write_char(printable(*byte))?;
+        }
+        f.write_str(dots(self.bytes))
+    }
+}

@@ -1,0 +1,3 @@
+pub mod Sizes
+mod Putting
+pub mod lemmas

@@ -1,0 +1,59 @@
+-- One pass over the elements of a container, taken one after another: what RunWorkerPool of the
+-- AUTOSAR Adaptive Platform does over a container, whatever its workers do. No worker stands here.
+use Rattle.std.specs.Prelude.{ℕ, ◌+◌, ◌*◌, List, [], ◌∷◌, ◌++◌, length, take, drop, Result, Ok, Err}
+use Rattle.std.specs.Prelude.{nat_le, if◌then◌else◌}
+use Rattle.det_client.specs.element_random.Words.{key}
+use Rattle.job.specs.Meaning.{Meaning, Worked}
+
+-- the new elements, the words that each drew, and the parts joined
+pub record Passed (E P : Type 0) : Type 0 where
+  pub elements : List E
+  pub draws : List ℕ
+  pub part : P
+
+-- How many elements a block has, but for the last one, where they are so many: 64 while all workers are to get some,
+-- 256 where a block is soon done beside what its claim costs.
+unfoldable pub block_size : ℕ → ℕ
+block_size n = if nat_le n 4096 then 64 else 256
+
+-- of a list with a value for each of n elements, those of block b
+abbrev pub in_block : {X : Type 0} → ℕ → ℕ → List X → List X
+in_block n b xs = take (block_size n) (drop (block_size n * b) xs)
+
+-- the least element that refuses, and its code
+pub record Refusal : Type 0 where
+  pub element : ℕ
+  pub code : ℕ
+
+module _ {S G E L P : Type 0} (m : Meaning S G E L P) (j : S) (plan : L) (carry : P)
+    (seed cycle pass : ℕ) where
+  -- what stands before any element
+  abbrev pub nothing : Passed E P
+  nothing = record { elements = []; draws = []; part = m.unit_part j }
+
+  -- one element's answer added
+  abbrev pub more : Passed E P → Worked E P → ℕ → Passed E P
+  more done w drawn = record {
+    elements = done.elements ++ w.element ∷ [];
+    draws = done.draws ++ drawn ∷ [];
+    part = m.joined j done.part w.part;
+  }
+
+  -- the elements from number i on, one after another, added to what is done; the first refusal ends
+  -- it
+  abbrev pub taken : ℕ → List E → Passed E P → Result (Passed E P) Refusal
+  taken i [] done = Ok done
+  taken i (e ∷ es) done =
+      elim (m.worked j plan carry pass e (key seed cycle pass i)) [
+        | Ok w ↦ taken (i + 1) es (more done w (m.drawn j plan carry pass e
+            (key seed cycle pass i)))
+        | Err code ↦ Err (record { element = i; code = code })
+      ]
+
+  -- all elements
+  abbrev pub passed : List E → Result (Passed E P) Refusal
+  passed es = taken 0 es nothing
+
+  -- the elements of block b
+  abbrev pub block : ℕ → List E → Result (Passed E P) Refusal
+  block b es = taken (block_size (length es) * b) (in_block (length es) b es) nothing

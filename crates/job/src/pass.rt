@@ -1,0 +1,148 @@
+//! A pass that is to be run, and what it gives.
+ghost use Rattle.std.specs.Prelude.{◌≡◌, ◌≤◌, ◌<◌, ◌*◌, ◌⊎◌, [], length, None, IfSome};
+ghost use Rattle.job.specs.Pass.{block_size, in_block};
+ghost use Rattle.job.specs.Passes.{blocks_in};
+
+use crate::Job;
+use crate::blocks::{block_count, block_size};
+use det_values::{Container, DrawnElements, OutOfMemory};
+use std::alloc::Global;
+use std::marker::Model;
+use std::sync::Arc;
+
+/// A pass that is to be run. Its data have owners, so that threads may hold them as long as they
+/// like: one that does takes an owner of its own.
+#[derive(Drop)]
+pub struct PassOf<'p, J: Job> {
+    pub job: &'p Arc<J, Global>,
+    pub plan: &'p Arc<J::Plan, Global>,
+    /// The part of the pass before, or the unit in the first one.
+    pub carry: &'p Arc<J::Part, Global>,
+    /// The pass' number in its cycle, counted from 0.
+    pub number: u8,
+    pub elements: &'p Arc<Container<J::Element>, Global>,
+    pub seed: u64,
+    /// The cycle's number, counted from 1.
+    pub cycle: u32,
+    /// The words that each element drew in the passes before. The first pass has none.
+    pub earlier: &'p Arc<Container<u32>, Global>,
+    /// Whether the new elements are to be shown, as those of a cycle's last pass are.
+    pub shows: bool,
+}
+
+impl<'p, J: Job> Model for PassOf<'p, J> {
+    ghost use Rattle.std.specs.Arc.{arc_value};
+    ghost use Rattle.job.specs.Passes.{PassValue};
+
+    ghost Value = { PassValue J J.Element J.Plan J.Part };
+
+    ghost view = { λ p. record {
+      job = arc_value p.job.now;
+      plan = arc_value p.plan.now;
+      carry = arc_value p.carry.now;
+      number = p.number;
+      elements = arc_value p.elements.now;
+      seed = p.seed;
+      cycle = p.cycle;
+      earlier = arc_value p.earlier.now;
+      shows = p.shows;
+    } };
+}
+
+impl<'p, J: Job> PassOf<'p, J> {
+    /// Its job.
+    #[inline(always)]
+    pub fn job(&self) -> &J
+        ensures { result.now ≡ self.now.job }
+    {
+        &**self.job
+    }
+
+    /// Whether its new elements are to be shown.
+    pub fn shows(&self) -> bool
+        ensures { result ≡ self.now.shows }
+    {
+        self.shows
+    }
+
+    /// The number of its elements.
+    pub fn count(&self) -> usize
+        ensures count { result ≡ length self.now.elements }
+        ensures few { result ≤ 65536 }
+    {
+        self.elements.len()
+    }
+
+    /// The number of its blocks.
+    pub fn blocks(&self) -> u32
+        ensures blocks { result ≡ blocks_in self.now }
+        ensures few { result ≤ 256 }
+    {
+        block_count(self.count())
+    }
+
+    /// The number of the first element of a block.
+    pub fn first_in(&self, block: u32) -> u32
+        requires { block < blocks_in self.now }
+        ensures first { result ≡ block_size (length self.now.elements) * block }
+        ensures inside { result < length self.now.elements }
+    {
+        block_size(self.count()) as u32 * block
+    }
+
+    /// The elements of a block.
+    pub fn block(&self, number: u32) -> &[J::Element]
+        requires { number < blocks_in self.now }
+        ensures { result.now ≡ in_block (length self.now.elements) number self.now.elements }
+    {
+        let size = block_size(self.count());
+        self.elements.part(size * number as usize, size)
+    }
+
+    /// The words that the elements of a block drew in the passes before, if there were any.
+    pub fn earlier_block(&self, number: u32) -> Option<&[u32]>
+        requires inside { number < blocks_in self.now }
+        requires level { (self.now.earlier ≡ []) ⊎ (length self.now.earlier ≡ length self.now.elements) }
+        ensures none { result ≡ None → self.now.earlier ≡ [] }
+        ensures some { IfSome result (λ draws. (draws.now
+            ≡ in_block (length self.now.elements) number self.now.earlier)
+            × (length self.now.earlier ≡ length self.now.elements)) }
+    {
+        if self.earlier.is_empty() {
+            return None;
+        }
+        let size = block_size(self.count());
+        Some(self.earlier.part(size * number as usize, size))
+    }
+}
+
+/// What a pass leaves: the new elements, the parts joined, and the number of words that each
+/// element drew in it. Where the pass shows its elements, `shown` are they, each with the words
+/// that it drew in all passes up to this one.
+#[derive(Drop)]
+pub struct PassDone<E, P> {
+    pub elements: Container<E>,
+    pub draws: Container<u32>,
+    pub part: P,
+    pub shown: DrawnElements,
+}
+
+/// Why a pass gives no new elements.
+#[derive(Clone, Copy, Debug, PartialEq, Eq, Drop)]
+pub enum PoolFault {
+    /// The least element that refuses, and its code.
+    Refused { element: u32, code: u32 },
+    /// Memory could not be had.
+    OutOfMemory,
+}
+
+impl From<OutOfMemory> for PoolFault {
+    ghost use Rattle.std.specs.Prelude.{◌≡◌};
+    ghost use Rattle.job.specs.declared.pass.PoolFault.TheVariants as faults;
+
+    ghost from_gives = { λ _ fault. fault ≡ faults.OutOfMemory };
+
+    fn from(_: OutOfMemory) -> PoolFault {
+        PoolFault::OutOfMemory
+    }
+}

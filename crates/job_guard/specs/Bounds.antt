@@ -1,6 +1,0 @@
--- The range of samples that a channel holds.
-use Rattle.std.specs.Prelude.{ℤ, Bool, ◌&&◌, int_le}
-use Rattle.job_guard.specs.declared.bounds.Bounds.{Bounds}
-
-abbrev pub contains : Bounds → ℤ → Bool
-contains b value = int_le b.low value && int_le value b.high

@@ -1,0 +1,120 @@
+//! The heavy job as a job.
+
+use crate::count::{both, output};
+use crate::state::{first_states, fold_words, put_state};
+use crate::{Heavy, State};
+use det_client::Client;
+use det_client::element_random::ElementRandom;
+use det_values::{Bytes, Container, OutOfMemory, Params};
+use job::event_cache::EventCache;
+use job::{BadParam, Concluded, Job, JobFault, Started};
+use std::alloc::Global;
+
+/// Nothing is kept between cycles beside the elements.
+#[derive(Clone, Copy, Debug, PartialEq, Eq, Drop)]
+pub struct NoGlobals;
+
+/// Nothing is told to the passes.
+#[derive(Clone, Copy, Debug, PartialEq, Eq, Drop)]
+pub struct NoPlan;
+
+impl Job for Heavy {
+    ghost use Rattle.job_heavy.specs.Meaning.{meaning};
+    ghost use Rattle.job_heavy.specs.Ranges.{Covers, Own, Fit};
+    ghost use Rattle.job_heavy.specs.Laws.{heavy_laws};
+
+    type Globals = NoGlobals;
+
+    type Element = State;
+
+    type Plan = NoPlan;
+
+    /// How many elements ran.
+    type Part = u64;
+
+    ghost meaning = { meaning };
+
+    ghost Covers = { Covers };
+
+    ghost Own = { Own };
+
+    ghost Fit = { Fit };
+
+    ghost laws = { heavy_laws };
+
+    fn make(params: &Params, events: u16) -> Result<Heavy, BadParam> {
+        Heavy::of_params(params.as_slice(), events)
+    }
+
+    fn start(
+        &self,
+        alloc: Global,
+        _client: &mut Client,
+    ) -> Result<Started<NoGlobals, State>, OutOfMemory> {
+        Ok(Started {
+            globals: NoGlobals,
+            elements: first_states(alloc, self)?,
+        })
+    }
+
+    fn prepare(
+        &self,
+        _alloc: Global,
+        _globals: &NoGlobals,
+        _elements: &Container<State>,
+        _cache: &EventCache,
+        _client: &mut Client,
+        _spare: &mut Option<NoPlan>,
+    ) -> Result<NoPlan, JobFault> {
+        Ok(NoPlan)
+    }
+
+    fn passes(&self, _plan: &NoPlan) -> u8 {
+        1
+    }
+
+    fn unit(&self, _alloc: Global, _spare: &mut Option<u64>) -> u64 {
+        0
+    }
+
+    fn run(
+        &self,
+        _alloc: Global,
+        _plan: &NoPlan,
+        _carry: &u64,
+        _pass: u8,
+        element: &State,
+        random: &mut ElementRandom,
+        part: &mut u64,
+    ) -> Result<State, JobFault> {
+        *part = both(*part, 1);
+        Ok(State {
+            folded: fold_words(element.folded, random),
+        })
+    }
+
+    fn merge(&self, left: &mut u64, right: &mut u64) -> Result<(), OutOfMemory> {
+        *left = both(*left, *right);
+        Ok(())
+    }
+
+    #[inline(always)]
+    fn put_element(&self, element: &State, out: &mut Vec<u8>) -> Result<(), OutOfMemory> {
+        put_state(element, out)
+    }
+
+    fn conclude(
+        &self,
+        alloc: Global,
+        _globals: &NoGlobals,
+        _plan: &NoPlan,
+        part: &u64,
+        spare: &mut Option<Bytes>,
+    ) -> Result<Concluded<NoGlobals>, JobFault> {
+        let spare = spare.take().unwrap_or(Bytes::new(alloc));
+        Ok(Concluded {
+            globals: NoGlobals,
+            output: output(*part, spare)?,
+        })
+    }
+}

@@ -1,0 +1,9 @@
+use Rattle.std.proofs.Common.{◌≡◌, Some, rules}
+use Rattle.jobs.specs.bank.Meaning.{joined}
+use Rattle.jobs.specs.bank.Laws.{parts_joined}
+use Rattle.jobs.proofs.bank.summary.joined.Goals as goal
+
+pub returns-in-Some-right-clause-covers : goal.returns-in-Some-right-clause-covers
+returns-in-Some-right-clause-covers c =
+    let e : Some c.both.result ≡ joined c.args.left c.args.right = search (rules, c.both.ensures) in
+    parts_joined c.args.left c.args.right (Some c.both.result) e

@@ -1,0 +1,4 @@
+pub mod Kinds
+pub mod bank
+pub mod cloud
+pub mod guard

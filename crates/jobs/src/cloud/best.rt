@@ -1,0 +1,98 @@
+//! The particle that stands nearest to the target.
+
+ghost use Rattle.std.specs.Prelude.{◌≡◌, IfOk};
+ghost use Rattle.job.specs.Laws.{CoverTogether, CoversBoth};
+ghost use Rattle.jobs.specs.cloud.Meaning.{best_of, is_better, joined, is_far, output};
+ghost use Rattle.jobs.specs.cloud.Ranges.{IsPlace, IsBestOf, IsPartOf};
+
+use crate::cloud::particle::distance;
+use crate::cloud::{Particle, Target};
+use det_values::{Bytes, OutOfMemory};
+use job_shared::empty_output;
+
+/// The best particle: its distance from the target, its number, and its coordinates.
+#[derive(Clone, Copy, Debug, PartialEq, Eq, Drop)]
+pub struct Best {
+    pub(crate) distance: u64,
+    pub(crate) number: u32,
+    pub(crate) x: i64,
+    pub(crate) y: i64,
+}
+
+/// The best of one particle.
+#[inline(always)]
+pub(crate) fn best_of(target: Target, particle: Particle) -> Best
+    requires target { IsPlace target.tx target.ty }
+    requires place { IsPlace particle.x particle.y }
+    ensures best { result ≡ best_of target particle }
+    ensures one { IsBestOf result 1 }
+{
+    Best {
+        distance: distance(target, particle.x, particle.y),
+        number: particle.number,
+        x: particle.x,
+        y: particle.y,
+    }
+}
+
+/// Whether one is better than another: nearer, or as near and of a lesser number.
+#[inline(always)]
+fn is_better(best: Best, other: Best) -> bool
+    ensures { result ≡ is_better best other }
+{
+    best.distance < other.distance
+        || (best.distance == other.distance && best.number < other.number)
+}
+
+/// The best of two; the left one where neither is better.
+#[inline(always)]
+pub(crate) fn joined(left: Option<Best>, right: Option<Best>) -> Option<Best>
+    requires { CoverTogether IsPartOf left right }
+    ensures joined { result ≡ joined left right }
+    ensures covers { CoversBoth IsPartOf left right result }
+{
+    match left {
+        None => right,
+        Some(first) => match right {
+            None => Some(first),
+            Some(second) => Some(if is_better(second, first) {
+                second
+            } else {
+                first
+            }),
+        },
+    }
+}
+
+/// Whether the best particle is farther than allowed.
+pub(crate) fn is_far(far: u64, part: Option<Best>) -> bool
+    ensures { result ≡ is_far far part }
+{
+    match part {
+        Some(best) => best.distance > far,
+        None => false,
+    }
+}
+
+/// The best particle's number, coordinates and distance, all 0 where there is none, and the number
+/// of finished cycles: 32 bytes.
+pub(crate) fn output(part: Option<Best>, finished: u32, spare: Bytes) -> Result<Bytes, OutOfMemory>
+    ensures { IfOk result (λ bytes. bytes ≡ output part finished) }
+{
+    let best = match part {
+        Some(best) => best,
+        None => Best {
+            distance: 0,
+            number: 0,
+            x: 0,
+            y: 0,
+        },
+    };
+    let mut bytes = empty_output(spare, 32)?;
+    bytes.extend_from_slice(&best.number.to_be_bytes())?;
+    bytes.extend_from_slice(&best.x.to_be_bytes())?;
+    bytes.extend_from_slice(&best.y.to_be_bytes())?;
+    bytes.extend_from_slice(&best.distance.to_be_bytes())?;
+    bytes.extend_from_slice(&finished.to_be_bytes())?;
+    Ok(bytes)
+}

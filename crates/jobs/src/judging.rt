@@ -1,0 +1,31 @@
+//! Parameters judged by the job of a kind.
+ghost use Rattle.std.specs.Prelude.{◌≡◌};
+ghost use Rattle.jobs.specs.Kinds.{bad_param};
+
+use crate::bank::Bank;
+use crate::cloud::Cloud;
+use crate::guard::Guard;
+use det_values::{JobKind, Params};
+use job::Job;
+
+/// The least parameter that a job refuses.
+fn refused<J: Job>(params: &Params, events: u16) -> Option<u8>
+    ensures { result ≡ J.meaning.bad_param params.now events }
+{
+    match J::make(params, events) {
+        Ok(_) => None,
+        Err(bad) => Some(bad.index),
+    }
+}
+
+/// The least parameter, counted from 0, that the job of a kind refuses beside this number of
+/// events. It takes no memory.
+pub fn bad_param(kind: JobKind, params: &Params, events: u16) -> Option<u8>
+    ensures { result ≡ bad_param kind params.now events }
+{
+    match kind {
+        JobKind::Bank => refused::<Bank>(params, events),
+        JobKind::Cloud => refused::<Cloud>(params, events),
+        JobKind::Guard => refused::<Guard>(params, events),
+    }
+}

@@ -1,0 +1,12 @@
+//! The jobs that the product ships: the filter bank, the particle cloud and the guard.
+#![tactic(auto)]
+
+pub mod bank;
+pub mod cloud;
+pub mod guard;
+mod judging;
+
+pub use crate::bank::Bank;
+pub use crate::cloud::Cloud;
+pub use crate::guard::Guard;
+pub use judging::bad_param;

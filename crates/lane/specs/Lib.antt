@@ -1,0 +1,8 @@
+pub mod Answers
+pub mod Children
+pub mod Judging
+pub mod Outcome
+pub mod Promise
+pub mod Watched
+pub mod Words
+pub mod child_processes

@@ -1,0 +1,31 @@
+-- What a spawner of processes shows.
+use Rattle.std.specs.Prelude.{◌≡◌, ℕ, ◌<◌, pos, List, Bool, Some, slice_get, option_and_then}
+use Rattle.std.specs.Prelude.{vec_len, vec_capacity}
+use Rattle.std.specs.declared.io.traits.Read.{Ghosts as ReadGhosts}
+use Rattle.std.specs.declared.io.traits.Write.{Ghosts as WriteGhosts}
+use Rattle.lane.specs.child_processes.Spawners.{SpawnerState}
+use Rattle.lane.specs.child_processes.Processes.{untold, code_of}
+use Rattle.lane.specs.declared.child_processes.process_spawner.ProcessSpawner.{ProcessSpawner}
+
+-- for each child, whether it was given to `finish`
+abbrev pub finished_of : {R A B C D : Type 0} {w : WriteGhosts B} {r : ReadGhosts C}
+    {e : ReadGhosts D} → ProcessSpawner R A B C D w r e → List Bool
+finished_of s = s.finished.items
+
+abbrev pub process_state : {R A B C D : Type 0} {w : WriteGhosts B} {r : ReadGhosts C}
+    {e : ReadGhosts D} → ProcessSpawner R A B C D w r e → SpawnerState
+process_state s = untold s.finished.items s.faults
+
+-- a child's process was waited for, and ended with this exit status
+abbrev pub EndedWith : {R A B C D : Type 0} {w : WriteGhosts B} {r : ReadGhosts C}
+    {e : ReadGhosts D} → ProcessSpawner R A B C D w r e → ℕ → ℕ → Type 0
+EndedWith s child status =
+    option_and_then code_of (slice_get s.children.items child) ≡ Some (pos status)
+
+-- there is room for one more child
+pub record HasRoom {R A B C D : Type 0} {w : WriteGhosts B} {r : ReadGhosts C} {e : ReadGhosts D}
+    (s : ProcessSpawner R A B C D w r e) : Type 0 where
+  pub children : vec_len s.children < vec_capacity s.children
+  pub outputs : vec_len s.outputs < vec_capacity s.outputs
+  pub at_end : vec_len s.at_end < vec_capacity s.at_end
+  pub finished : vec_len s.finished < vec_capacity s.finished

@@ -1,0 +1,24 @@
+-- What is told of processes: how many were started, which of them were given to `finish`, how often
+-- a call failed, and how one ended.
+use Rattle.std.specs.Prelude.{ℕ, ℤ, List, Bool, false, Option, None, length, slice_index_or}
+use Rattle.std.specs.Prelude.{option_and_then}
+use Rattle.std.specs.Process.{child_status, exit_code}
+use Rattle.std.specs.declared.process.child.Child.{Child}
+use Rattle.lane.specs.child_processes.Spawners.{SpawnerState}
+
+-- a spawner that tells neither words nor bytes nor statuses
+abbrev pub untold : List Bool → ℕ → SpawnerState
+untold finished faults = record {
+  children = length finished;
+  faults = faults;
+  words = λ child. None;
+  finished = λ child. slice_index_or finished child false;
+  asked = None;
+  gives = λ words. None;
+  ends = λ words. None;
+  left = λ child. None;
+}
+
+-- the exit status of a process, once it was waited for, where it has one
+abbrev pub code_of : {P I O E : Type 0} → Child P I O E → Option ℤ
+code_of process = option_and_then exit_code (child_status process)

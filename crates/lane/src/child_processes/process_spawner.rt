@@ -1,0 +1,219 @@
+//! Processes of the system as children.
+ghost use Rattle.std.specs.Prelude.{◌≡◌, ◌<◌, ◌≤◌, length, vec_len, pos, Some, IfOk};
+ghost use Rattle.lane.specs.child_processes.Processes.{code_of};
+
+use crate::child_processes::{SpawnFailed, Spawner};
+use det_io::{push_within, read_trying};
+use std::alloc::Global;
+use std::io::{self, BufReader};
+use std::process::{Child, Command, OpenProcess, Processes, Stdio};
+
+/// How many bytes of a child's output are read at once, at most: what a pipe of Linux holds. So the
+/// child can fill it again while they are looked at.
+const READ_AHEAD: usize = 65_536;
+
+/// The output of a child.
+type Output<R> = BufReader<<<R as Processes>::Started as OpenProcess>::Stdout>;
+
+/// Starts programs of the system. A child's input is empty, its output is a pipe, and what it
+/// writes to standard error is dropped. It tells neither words nor bytes nor statuses.
+///
+/// Each failure of the system is a fault, and so are want of memory for one more child or its
+/// words, and an end without an exit status, as after a signal. A read that is interrupted is tried
+/// again, up to 1,000 times in all.
+///
+/// - A name without a slash is looked for in `PATH`.
+/// - `read` waits until a child writes or closes its output, and `finish` until it ends. Both can
+///   wait for ever, which no contract says.
+/// - A process that a child started and that holds the pipe can delay the end of a read beyond the
+///   child's own end.
+/// - `finish` kills a child of whose output no read has met the end. If that child was about to end
+///   by itself, whether it has a status depends on what comes first.
+/// - A spawner that is dropped leaves the children running that weren't given to `finish`.
+#[derive(Drop)]
+pub struct ProcessSpawner<R: Processes> {
+    rt: R,
+    alloc: Global,
+    children: Vec<Child<R::Started>>,
+    // What they write. A child that was given to `finish` has none.
+    outputs: Vec<Option<Output<R>>>,
+    // Of which children a read met the end of the output.
+    at_end: Vec<bool>,
+    // Which children were given to `finish`.
+    finished: Vec<bool>,
+    faults: u64,
+    ghost one_child_each: { vec_len children ≡ vec_len finished },
+    ghost one_output_each: { vec_len outputs ≡ vec_len finished },
+    ghost one_end_each: { vec_len at_end ≡ vec_len finished },
+}
+
+impl<R: Processes + Copy> ProcessSpawner<R> {
+    ghost use Rattle.std.specs.Prelude.{◌≡◌, []};
+    ghost use Rattle.lane.specs.child_processes.Processes.{untold};
+    ghost use Rattle.lane.specs.child_processes.ProcessSpawner.{process_state};
+
+    /// A spawner without children.
+    pub fn new(rt: &R, alloc: Global) -> ProcessSpawner<R>
+        ensures { process_state result ≡ untold [] 0 }
+    {
+        ProcessSpawner {
+            rt: *rt,
+            alloc,
+            children: Vec::new(alloc),
+            outputs: Vec::new(alloc),
+            at_end: Vec::new(alloc),
+            finished: Vec::new(alloc),
+            faults: 0,
+        }
+    }
+}
+
+impl<R: Processes> ProcessSpawner<R> {
+    ghost use Rattle.std.specs.Prelude.{◌≡◌, ◌≤◌, ◌++◌, ◌∷◌, [], length, false, IfSome, IfNone};
+    ghost use Rattle.std.specs.Prelude.{OnErr};
+    ghost use Rattle.det_io.specs.Count.{Rose};
+    ghost use Rattle.lane.specs.child_processes.Spawners.{Starts, words_of};
+    ghost use Rattle.lane.specs.child_processes.Processes.{untold};
+    ghost use Rattle.lane.specs.child_processes.ProcessSpawner.{process_state, finished_of};
+    ghost use Rattle.lane.specs.child_processes.ProcessSpawner.{HasRoom};
+
+    // Keeps a child that was started.
+    fn keep(&mut self, child: Child<R::Started>, output: Output<R>)
+        requires { HasRoom self.old }
+        ensures { process_state self.new
+            ≡ untold (finished_of self.old ++ false ∷ []) (process_state self.old).faults }
+    {
+        push_within(&mut self.children, child);
+        push_within(&mut self.outputs, Some(output));
+        push_within(&mut self.at_end, false);
+        push_within(&mut self.finished, false);
+    }
+
+    // Starts a child. The room for it in the lists is taken first.
+    fn add(&mut self, words: &[String]) -> Option<u32>
+        requires { 0 < length words.now }
+        ensures starts { IfSome result
+            (Starts (process_state self.old) (process_state self.new) (words_of words.now)) }
+        ensures stay { IfNone result (process_state self.new ≡ process_state self.old) }
+        ensures faults { self.new.faults ≡ self.old.faults }
+    {
+        let number = u32::try_from(self.children.len()).ok()?;
+        self.children.reserve(1).ok()?;
+        self.outputs.reserve(1).ok()?;
+        self.at_end.reserve(1).ok()?;
+        self.finished.reserve(1).ok()?;
+        let mut child = launch(&self.rt, self.alloc, words).ok()?;
+        let Some(output) = output_of::<R>(self.alloc, &mut child) else {
+            let _ = end_of::<R>(&mut child, false);
+            return None;
+        };
+        self.keep(child, output);
+        Some(number)
+    }
+
+    // Hands an answer on, and counts it where it is a failure.
+    fn counted<T>(&mut self, answer: Result<T, SpawnFailed>) -> Result<T, SpawnFailed>
+        ensures answer { result ≡ answer }
+        ensures children { self.new.children ≡ self.old.children }
+        ensures finished { finished_of self.new ≡ finished_of self.old }
+        ensures cause { OnErr answer (Rose self.old.faults self.new.faults) }
+        ensures counted { self.old.faults ≤ self.new.faults }
+    {
+        if answer.is_err() {
+            self.faults = self.faults.saturating_add(1);
+        }
+        answer
+    }
+}
+
+impl<R: Processes + Copy> Spawner for ProcessSpawner<R> {
+    ghost use Rattle.std.specs.Prelude.{◌≡◌, ◌<◌, ◌≤◌, true, false, IfOk, OnErr};
+    ghost use Rattle.det_io.specs.Count.{Rose};
+    ghost use Rattle.lane.specs.child_processes.Spawners.{Finishes, Fixed, StatusIs};
+    ghost use Rattle.lane.specs.child_processes.ProcessSpawner.{process_state, EndedWith};
+
+    ghost sees = { λ s. process_state s };
+
+    fn start(&mut self, words: &[String]) -> Result<u32, SpawnFailed> {
+        let number = self.add(words).ok_or(SpawnFailed);
+        self.counted(number)
+    }
+
+    fn read(&mut self, child: u32, buf: &mut [u8]) -> Result<usize, SpawnFailed> {
+        let index = child as usize;
+        if self.finished[index] {
+            return Ok(0);
+        }
+        let moved = read_output::<R>(&mut self.outputs[index], buf);
+        if moved == Ok(0) && !buf.is_empty() {
+            self.at_end[index] = true;
+        }
+        self.counted(moved)
+    }
+
+    fn finish(&mut self, child: u32) -> Result<u8, SpawnFailed>
+        requires started { child < (process_state self.old).children }
+        requires running { (process_state self.old).finished child ≡ false }
+        ensures finishes { Finishes (process_state self.old) (process_state self.new) child }
+        ensures fixed { Fixed (process_state self.old) (process_state self.new) }
+        ensures status { IfOk result (StatusIs (process_state self.old) child) }
+        ensures cause { OnErr result
+            (Rose (process_state self.old).faults (process_state self.new).faults) }
+        ensures counted { (process_state self.old).faults ≤ (process_state self.new).faults }
+
+        ensures ended { IfOk result (EndedWith self.new child) }
+    {
+        let index = child as usize;
+        self.finished[index] = true;
+        let is_at_end = self.at_end[index];
+        self.outputs[index] = None;
+        let status = end_of::<R>(&mut self.children[index], is_at_end);
+        self.counted(status)
+    }
+}
+
+fn launch<R: Processes>(rt: &R, alloc: Global, words: &[String]) -> io::Result<Child<R::Started>>
+    requires { 0 < length words.now }
+{
+    let mut command = Command::new(alloc, words[0].as_str())?;
+    for word in &words[1..] {
+        command.arg(word.as_str())?;
+    }
+    command
+        .stdin(Stdio::null())
+        .stdout(Stdio::piped())
+        .stderr(Stdio::null())
+        .spawn(rt)
+}
+
+// The output of a child that was just started; none where there is no memory to read it ahead.
+fn output_of<R: Processes>(alloc: Global, child: &mut Child<R::Started>) -> Option<Output<R>> {
+    let pipe = child.stdout.take()?;
+    BufReader::with_capacity(alloc, READ_AHEAD, pipe).ok()
+}
+
+// One read of what a child writes. A child without an output has failed.
+fn read_output<R: Processes>(
+    output: &mut Option<Output<R>>,
+    buf: &mut [u8],
+) -> Result<usize, SpawnFailed>
+    ensures { IfOk result (λ n. n ≤ length buf.old) }
+{
+    match output.as_mut() {
+        Some(output) => read_trying(output, buf).map_err(|_| SpawnFailed),
+        None => Err(SpawnFailed),
+    }
+}
+
+// Waits for the end of a child of which nothing more is read. One that may still write is stopped
+// first.
+fn end_of<R: Processes>(child: &mut Child<R::Started>, is_at_end: bool) -> Result<u8, SpawnFailed>
+    ensures { IfOk result (λ status. code_of child.new ≡ Some (pos status)) }
+{
+    if !is_at_end {
+        let _ = child.kill();
+    }
+    let status = child.wait().map_err(|_| SpawnFailed)?;
+    let code = status.code().ok_or(SpawnFailed)?;
+    u8::try_from(code).map_err(|_| SpawnFailed)
+}

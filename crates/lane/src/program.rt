@@ -1,0 +1,139 @@
+//! The whole program.
+ghost use Rattle.std.specs.Prelude.{◌≡◌, true, Err};
+ghost use Rattle.det_io.specs.Count.{Rose};
+ghost use Rattle.cli_words.specs.Names.{texts};
+ghost use Rattle.cli_answers.specs.Outcome.{MeetsBy};
+ghost use Rattle.lane.specs.Answers.{failed, has_text};
+ghost use Rattle.lane.specs.Outcome.{telling};
+ghost use Rattle.lane.specs.Promise.{IsPromised, Runs};
+ghost use Rattle.lane.specs.Watched.{answer_to, found_by, Watched};
+ghost use Rattle.lane.specs.Words.{command_of, lane_seen};
+
+use crate::answer::LaneAnswer;
+use crate::child_processes::{ChildShelf, Spawner};
+use crate::judging::judged;
+use crate::lane::Lane;
+use crate::running::{finish_all, start_all};
+use crate::status::LaneStatus;
+use crate::texts::text_of;
+use crate::words::LaneCommand;
+use copies::verdict_text::verdict_line;
+use copies::{Verdict, compare};
+use det_io::{Sink, write_all};
+use std::alloc::Global;
+
+/// The slots of the children: slot k is child k.
+const SLOTS: [u32; 8] = [0, 1, 2, 3, 4, 5, 6, 7];
+
+/// Runs the command that the words give, which are those after the program's name.
+///
+/// All children are started before one is read, and all are finished before the line is written. A
+/// child whose output isn't read to its end is stopped by its spawner. Where a child can't be
+/// started, or there is no memory for its words, those before it are finished.
+///
+/// A start or a read that fails is a spawn fault. So is an end that fails where the exit status
+/// counts: of every child where the copies agree, also where another child ended with a status that
+/// isn't 0, and of the copy whose record breaks off. Any other end may fail.
+///
+/// `read` and `finish` of a spawner of processes can wait for ever, so that this call returns isn't
+/// promised.
+pub fn lane_top<P: Spawner, K: Sink, E: Sink>(
+    alloc: Global,
+    words: &[String],
+    children: &mut ChildShelf<P>,
+    out: &mut K,
+    err: &mut E,
+) -> LaneStatus
+    requires { (P.sees children.old.spawner).children ≡ 0 }
+    ensures { IsPromised (texts words.now) (P.sees children.old.spawner)
+        (P.sees children.new.spawner) (Rose (K.faults out.old) (K.faults out.new))
+        (K.took out.old) (K.took out.new) (Rose (E.faults err.old) (E.faults err.new))
+        (E.took err.old) (E.took err.new) result }
+{
+    let answer = run(alloc, words, children, out);
+    let line = answer.line();
+    let _ = write_all(err, line.as_slice());
+    answer.status()
+}
+
+fn run<P: Spawner, K: Sink>(
+    alloc: Global,
+    words: &[String],
+    children: &mut ChildShelf<P>,
+    out: &mut K,
+) -> LaneAnswer
+    requires { (P.sees children.old.spawner).children ≡ 0 }
+    ensures { Runs (command_of (texts words.now)) (P.sees children.old.spawner)
+        (P.sees children.new.spawner) (Rose (K.faults out.old) (K.faults out.new))
+        (K.took out.old) (K.took out.new) result }
+{
+    match LaneCommand::of(words) {
+        Some(LaneCommand::Text(word)) => print(text_of(word).as_bytes(), LaneAnswer::Done, out),
+        Some(LaneCommand::Run(lane)) => {
+            let found = watch(alloc, &lane, children);
+            tell(alloc, found, out)
+        }
+        None => LaneAnswer::BadWords,
+    }
+}
+
+/// Starts the children, compares their outputs and finishes them. None is left running.
+fn watch<P: Spawner>(
+    alloc: Global,
+    lane: &Lane<'_>,
+    children: &mut ChildShelf<P>,
+) -> Result<Verdict, LaneAnswer>
+    requires { (P.sees children.old.spawner).children ≡ 0 }
+    ensures { Watched (P.sees children.old.spawner) (P.sees children.new.spawner)
+        (lane_seen lane.now) result }
+{
+    let started = start_all(alloc, lane, &mut children.spawner);
+    if let Some(failure) = started.failure {
+        finish_all(&mut children.spawner, started.count);
+        return Err(LaneAnswer::from(failure));
+    }
+    let compared = compare(alloc, children, &SLOTS[..lane.copies as usize]);
+    let statuses = finish_all(&mut children.spawner, lane.copies);
+    judged(compared, &statuses[..lane.copies as usize])
+}
+
+/// Prints the line of a verdict.
+fn tell<K: Sink>(alloc: Global, found: Result<Verdict, LaneAnswer>, out: &mut K) -> LaneAnswer
+    requires writes_nothing { found ≡ Err LaneAnswer.WriteFault → ⊥ }
+    requires words { found ≡ Err LaneAnswer.BadWords → ⊥ }
+    ensures meets { MeetsBy failed (found_by found) (Unit {0}) (found ≡ Err LaneAnswer.SpawnFault)
+        (Rose (K.faults out.old) (K.faults out.new)) (K.took out.old) (K.took out.new) result }
+    ensures words { result ≡ LaneAnswer.BadWords → ⊥ }
+{
+    let verdict = match found {
+        Ok(verdict) => verdict,
+        Err(answer) => return answer,
+    };
+    let Ok(line) = verdict_line(alloc, &verdict) else {
+        return LaneAnswer::OutOfMemory;
+    };
+    print(&line, answer_to(verdict), out)
+}
+
+fn answer_to(verdict: Verdict) -> LaneAnswer
+    ensures is { result ≡ answer_to verdict }
+    ensures text { has_text result ≡ true }
+{
+    match verdict {
+        Verdict::Agree { .. } => LaneAnswer::Done,
+        Verdict::Differ { .. } => LaneAnswer::Differs,
+    }
+}
+
+/// Writes a text, and answers this where all of it was written.
+fn print<K: Sink>(text: &[u8], answer: LaneAnswer, out: &mut K) -> LaneAnswer
+    requires { has_text answer ≡ true }
+    ensures meets { MeetsBy failed (telling answer text.now) (Unit {0}) ⊥
+        (Rose (K.faults out.old) (K.faults out.new)) (K.took out.old) (K.took out.new) result }
+    ensures words { result ≡ LaneAnswer.BadWords → ⊥ }
+{
+    match write_all(out, text) {
+        Ok(()) => answer,
+        Err(_) => LaneAnswer::WriteFault,
+    }
+}

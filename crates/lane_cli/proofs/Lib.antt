@@ -1,5 +1,0 @@
-pub mod Asking
-pub mod Slots
-pub mod Statuses
-pub mod Telling
-pub mod Meeting

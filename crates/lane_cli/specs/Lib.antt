@@ -1,7 +1,0 @@
-pub mod Answers
-pub mod Children
-pub mod Judging
-pub mod Outcome
-pub mod Promise
-pub mod Watched
-pub mod Words

@@ -1,6 +1,0 @@
-//! Names that are opened one after another.
-#![tactic(auto)]
-
-mod opening;
-
-pub use opening::open_all;

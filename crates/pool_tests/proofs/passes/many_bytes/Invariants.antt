@@ -1,5 +1,0 @@
-use Rattle.std.proofs.Common.{◌≡◌, length}
-use Rattle.pool_tests.proofs.passes.many_bytes.Given as goal
-
-abbrev pub invariant-each : goal.invariant-each
-invariant-each g l = length l.bytes.items ≡ l.i

@@ -1,0 +1,47 @@
+-- The next item of a record, held against one of another record that stands in the same place.
+use Rattle.std.specs.Prelude.{◌≡◌, ℕ, ◌<◌, List, [], ◌∷◌, ◌++◌, Result, Ok, Err}
+use Rattle.det_io.specs.declared.failure.Failure.TheVariants.{Read, Write, OutOfMemory}
+use Rattle.det_io.specs.declared.failure.Stopped.{Stopped}
+use Rattle.det_io.specs.declared.failure.Stopped.TheVariants.{Refused, Failed}
+use Rattle.record_grammar.specs.declared.fault.RecordFault.{RecordFault}
+use Rattle.record_grammar.specs.declared.place.Place.{Place}
+use Rattle.record_grammar.specs.declared.item.Item.{Item}
+use Rattle.record_grammar.specs.Record.{items as items_in}
+use Rattle.record_view.specs.declared.view.ItemView.{ItemView}
+use Rattle.record_view.specs.Shows.{IsSpelling}
+use Rattle.record_reader.specs.declared.item_reader.reader.ItemReader.{ItemReader}
+use Rattle.record_reader.specs.declared.item_reader.like.Like.{Like}
+use Rattle.record_reader.specs.declared.item_reader.like.Like.TheVariants as likes
+use Rattle.record_reader.specs.item_reader.StandsFor.{StandsFor, ItemIs, RoomFell}
+
+-- the items that were read don't go on with the item of these bytes
+abbrev pub IsOther : ItemView → List ℕ → List ℕ → List Item → Type 0
+IsOther view bytes read given = (item : Item) (others : List Item) → IsSpelling view item bytes
+    → items_in read ≡ given ++ item ∷ others → ⊥
+
+-- The same item was given; or what is told is given, and it is another one, where the other
+-- record's item stands in the place in which the reader was.
+abbrev pub LikeIs : Result Like (Stopped RecordFault) → ItemView → List ℕ → Place → ItemReader
+    → Type 0 → List ℕ → List Item → Type 0
+LikeIs (Ok likes.Same) view bytes place r at_end read given =
+    (item : Item) → IsSpelling view item bytes → StandsFor r read (given ++ item ∷ [])
+LikeIs (Ok (likes.Other row)) view bytes place r at_end read given =
+    ItemIs (Ok row) r at_end read given × (place ≡ view.place → IsOther view bytes read given)
+LikeIs (Err (Refused f)) view bytes place r at_end read given =
+    ItemIs (Err (Refused f)) r at_end read given
+LikeIs (Err (Failed Read)) view bytes place r at_end read given = StandsFor r read given
+LikeIs (Err (Failed Write)) view bytes place r at_end read given = ⊥
+LikeIs (Err (Failed OutOfMemory)) view bytes place r at_end read given = Unit {0}
+
+-- an item leaves fewer that may come, and any other answer leaves as many
+abbrev pub LikeFell : Result Like (Stopped RecordFault) → ℕ → ℕ → Type 0
+LikeFell (Ok likes.Same) old new = new < old
+LikeFell (Ok (likes.Other row)) old new = RoomFell (Ok row) old new
+LikeFell (Err stop) old new = new ≡ old
+
+-- what is given where nothing was compared
+abbrev pub OtherIs : Result Like (Stopped RecordFault) → ItemReader → Type 0
+    → List ℕ → List Item → Type 0
+OtherIs (Ok likes.Same) r at_end read given = ⊥
+OtherIs (Ok (likes.Other row)) r at_end read given = ItemIs (Ok row) r at_end read given
+OtherIs (Err stop) r at_end read given = ItemIs (Err stop) r at_end read given

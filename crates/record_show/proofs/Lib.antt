@@ -1,6 +1,0 @@
-mod Lines
-mod Parts
-mod Formats
-mod Gone
-mod Taken
-pub mod Answering

@@ -1,4 +1,0 @@
-pub mod Ending
-pub mod Resting
-pub mod Beginning
-mod Telling

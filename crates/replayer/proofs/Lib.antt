@@ -1,5 +1,0 @@
-pub mod Items
-mod Giving
-mod Running
-mod Ending
-mod Told

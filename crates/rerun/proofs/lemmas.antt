@@ -1,0 +1,3 @@
+pub mod checker
+pub mod replayer
+pub mod upgrader

@@ -1,0 +1,5 @@
+pub mod Departing
+pub mod Records
+pub mod Spellings
+pub mod Running
+pub mod Ending

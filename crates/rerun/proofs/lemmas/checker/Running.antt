@@ -1,0 +1,273 @@
+-- A check on its way: the items of a record read, and its frames compared.
+use Rattle.std.proofs.Common.{◌≡◌, ◌≤◌, ◌<◌, ◌+◌, ℕ, List, [], ◌∷◌, ◌++◌, length, map, Option, Some, None, Result, Ok, Err, refl, sym, ap}
+use Rattle.std.proofs.Common.{inl, subst, ◌∙◌, append_assoc, append-nil, length-append, arith}
+use Rattle.std.proofs.lemmas.Grind.{flat_map-append}
+use Rattle.std.proofs.lemmas.List.{map-append, length-map}
+use Rattle.det_values.specs.Values.{ProfileValue}
+use Rattle.det_values.specs.declared.frames.CycleInput.{CycleInput}
+use Rattle.det_values.specs.declared.frames.RunFrame.{RunFrame}
+use Rattle.det_values.specs.declared.frames.Frame.{Frame}
+use Rattle.det_values.specs.declared.frames.Frame.TheVariants.{Register, Discover, Init, Run, Terminate}
+use Rattle.det_io.specs.Shelf.{ShelfState, Reads, IsAtEnd}
+use Rattle.det_io.specs.declared.failure.Stopped.{Stopped}
+use Rattle.det_io.proofs.SlotReads.{reads-none, reads-then}
+use Rattle.job.specs.Meaning.{Meaning}
+use Rattle.record_grammar.specs.declared.fault.RecordFault.{RecordFault}
+use Rattle.record_grammar.specs.declared.item.Item.{Item}
+use Rattle.record_grammar.specs.declared.item.Item.TheVariants as items
+use Rattle.record_grammar.specs.declared.place.Place.{Place}
+use Rattle.record_grammar.specs.declared.place.Place.TheVariants as places
+use Rattle.record_grammar.specs.declared.place.Layout.{Layout}
+use Rattle.record_grammar.specs.Places.{layout_of, CanFollow}
+use Rattle.record_grammar.specs.Record.{items as items_in}
+use Rattle.record_grammar.proofs.Leads.{can_follow}
+use Rattle.record_grammar.proofs.Steady.{got_is}
+use Rattle.record_view.specs.declared.view.FrameView.{FrameView}
+use Rattle.record_reader.specs.declared.frames.FrameReader.{FrameReader}
+use Rattle.record_reader.specs.item_reader.StandsFor as inner
+use Rattle.record_reader.specs.Frames.{StandsFor, HasRead, FrameIs, GaveView, Holds, slot_of}
+use Rattle.record_reader.specs.Taking.{AreFirst}
+use Rattle.record_reader.proofs.Items.{NextIs, next_is, few_first, HasLayout, header_first}
+use Rattle.record_reader.proofs.FrameReading.{are_first}
+use Rattle.probes.specs.Reports.{AudienceState}
+use Rattle.probes.specs.Shows.{Shows}
+use Rattle.probes.proofs.Shown.{shows-none, shows-then}
+use Rattle.recorder.specs.declared.run_writer.recording.Recording.{Recording}
+use Rattle.rerun.proofs.lemmas.replayer.Items.{few-inputs}
+use Rattle.copies.specs.FirstDifference.{frame_difference}
+use Rattle.rerun.specs.declared.checker.comparing.Checker.{Checker}
+use Rattle.rerun.specs.checker.Departure.{run_of}
+use Rattle.rerun.specs.checker.Given.{IsBehind, CanCome, IsPlaced, input_of, given_frame}
+use Rattle.rerun.specs.checker.Needed.{IsNeeded}
+use Rattle.rerun.proofs.lemmas.checker.Departing.{inputs_of, departs, departs-none, departs-next}
+use Rattle.rerun.proofs.lemmas.checker.Records.{runs_of, inputs-are, frames-are, frames-behind, needed-then}
+
+-- a header and frames as items
+abbrev pub items_with : ProfileValue → List Frame → List Item
+items_with profile fs = items.Header profile ∷ map items.Frame fs
+
+items-next : (profile : ProfileValue) (front : List Frame) (x : Frame)
+    → items_with profile front ++ items.Frame x ∷ [] ≡ items_with profile (front ++ x ∷ [])
+items-next profile front x = ap (λ (l : List Item). items.Header profile ∷ l) (sym (map-append items.Frame front (x ∷ [])))
+
+-- what is nothing else is None
+pub none-of : {X : Type 0} (o : Option X) → ((x : X) → o ≡ Some x → ⊥) → o ≡ None
+none-of (Some x) other = absurd (other x refl)
+none-of None other = refl
+
+-- ---- the frame that a reader gave
+
+-- a view shows one frame
+same-frame : (x y : Frame) → items.Frame x ≡ items.Frame y → x ≡ y
+same-frame x y e = cc
+
+held-one : (r : FrameReader) (view : FrameView) (x y : Frame) → Holds r view x → Holds r view y → x ≡ y
+held-one r view x y h k =
+    same-frame x y (ap (λ (p : Item × List ℕ). p.0) (got_is (items.Frame x, _) (items.Frame y, _) (sym h.shows.read ∙ k.shows.read)))
+
+-- what an answer says, by the frame that it gives
+abbrev pub Gives : Result (Option Frame) (Stopped RecordFault) → FrameReader → Type 0 → List ℕ → List Item → Type 0
+Gives (Ok (Some frame)) r at_end read given = StandsFor r read (given ++ items.Frame frame ∷ []) × (others : List Item)
+    × (items_in read ≡ given ++ items.Frame frame ∷ others)
+Gives (Ok None) r at_end read given = inner.ItemIs (Ok None) r.items at_end read given
+Gives (Err stop) r at_end read given = inner.ItemIs (Err stop) r.items at_end read given
+
+-- an answer by its view, and by the frame that the view shows
+abbrev pub AnswersAs : FrameReader → Result (Option FrameView) (Stopped RecordFault) → Result (Option Frame) (Stopped RecordFault) → Type 0
+AnswersAs r (Ok (Some view)) (Ok (Some frame)) = Holds r view frame
+AnswersAs r (Ok None) (Ok None) = Unit {0}
+AnswersAs r (Err stop) (Err other) = stop ≡ other
+AnswersAs r answer other = ⊥
+
+pub gives : (r : FrameReader) (answer : Result (Option FrameView) (Stopped RecordFault)) (other : Result (Option Frame) (Stopped RecordFault))
+    (at_end : Type 0) (read : List ℕ) (given : List Item) → AnswersAs r answer other → FrameIs answer r at_end read given
+    → Gives other r at_end read given
+gives r (Ok (Some view)) (Ok (Some frame)) at_end read given fits is =
+    subst (λ (x : Frame). Gives (Ok (Some x)) r at_end read given) (held-one r view is.frame frame is.holds fits)
+    (is.stands, is.others, is.is)
+gives r (Ok None) (Ok None) at_end read given fits is = is
+gives r (Err stop) (Err other) at_end read given fits is = subst (λ (e : Stopped RecordFault). Gives (Err e) r at_end read given) fits is
+gives r (Ok (Some view)) (Ok None) at_end read given fits is = absurd fits
+gives r (Ok (Some view)) (Err other) at_end read given fits is = absurd fits
+gives r (Ok None) (Ok (Some frame)) at_end read given fits is = absurd fits
+gives r (Ok None) (Err other) at_end read given fits is = absurd fits
+gives r (Err stop) (Ok o) at_end read given fits is = absurd fits
+
+-- the reader gave a view, which shows a frame
+pub held-frame : (r : FrameReader) (gave : Option FrameView) (view : FrameView) → gave ≡ Some view → GaveView (Ok gave) r
+    → (frame : Frame) × Holds r view frame
+held-frame r gave view is h = subst (λ (o : Option FrameView). GaveView (Ok o) r) is h
+
+pub placed-at : (place : Place) (profile : ProfileValue) (x : Frame) → HasLayout (layout_of profile) place → CanFollow place (items.Frame x)
+    → IsPlaced place profile
+placed-at (places.Register l) profile x h k = record { format = ap (λ (y : Layout). y.format) h; events = ap (λ (y : Layout). y.events) h }
+placed-at (places.Discover l) profile x h k = record { format = ap (λ (y : Layout). y.format) h; events = ap (λ (y : Layout). y.events) h }
+placed-at (places.Init l) profile x h k = record { format = ap (λ (y : Layout). y.format) h; events = ap (λ (y : Layout). y.events) h }
+placed-at (places.Runs l before) profile x h k = record {
+  format = ap (λ (y : Layout). y.format) h;
+  events = ap (λ (y : Layout). y.events) h;
+}
+placed-at places.Header profile x h k = absurd h
+placed-at places.End profile x h k = absurd k
+
+module _ {S G E L P : Type 0} (m : Meaning S G E L P) (profile : ProfileValue) where
+  -- behind what `old` had read these bytes were read, and these frames compared, none of which differs
+  pub record Comparing (first now : ShelfState) (slot : ℕ) (start seen : AudienceState) (old reader : FrameReader)
+      (recording : Recording S G E L P) (checker : Checker) (more : List ℕ) (front : List Frame) : Type 0 where
+    pub reads : Reads first now slot more
+    pub needed : (read : List ℕ) → StandsFor old read (items.Header profile ∷ []) → IsNeeded m profile read more
+    pub gave : (read : List ℕ) → StandsFor old read (items.Header profile ∷ [])
+        → StandsFor reader (read ++ more) (items_with profile front)
+    pub behind : IsBehind m recording (inputs_of front)
+    pub agree : departs m profile 0 [] front ≡ None
+    pub shown : Shows start seen (runs_of front)
+    pub compared : checker.compared ≡ length front
+    pub cycles : checker.cycles ≡ length (inputs_of front)
+
+  pub comparing-new : (shelf : ShelfState) (seen : AudienceState) (reader : FrameReader) (recording : Recording S G E L P)
+      (checker : Checker) → IsBehind m recording [] → checker.compared ≡ 0 → checker.cycles ≡ 0
+      → Comparing shelf shelf (slot_of reader) seen seen reader reader recording checker [] []
+  comparing-new shelf seen reader recording checker behind compared cycles = record {
+    reads = reads-none shelf (slot_of reader);
+    needed = λ read stands. inl refl;
+    gave = λ read stands. subst (λ (bytes : List ℕ). StandsFor reader bytes (items.Header profile ∷ [])) (sym (append-nil read)) stands;
+    behind = behind;
+    agree = departs-none m profile 0 [];
+    shown = shows-none seen;
+    compared = compared;
+    cycles = cycles;
+  }
+
+  -- the reader's answer, of all that was read behind what `old` had read
+  pub record Next (first now : ShelfState) (slot : ℕ) (old next : FrameReader) (front : List Frame)
+      (answer : Result (Option Frame) (Stopped RecordFault)) : Type 0 where
+    pub all : List ℕ
+    pub reads : Reads first now slot all
+    pub needed : (read : List ℕ) → StandsFor old read (items.Header profile ∷ []) → IsNeeded m profile read all
+    pub is : (read : List ℕ) → StandsFor old read (items.Header profile ∷ [])
+        → Gives answer next (IsAtEnd now slot) (read ++ all) (items_with profile front)
+
+  module _ {first mid : ShelfState} {slot : ℕ} {start seen : AudienceState} {old reader : FrameReader}
+      {recording : Recording S G E L P} {checker : Checker} {more : List ℕ} {front : List Frame}
+      (comparing : Comparing first mid slot start seen old reader recording checker more front) where
+    pub next-read : {now : ShelfState} (next : FrameReader) (answer : Result (Option FrameView) (Stopped RecordFault))
+        (other : Result (Option Frame) (Stopped RecordFault)) → AnswersAs next answer other
+        → HasRead mid now reader (FrameIs answer next (IsAtEnd now (slot_of reader))) → slot_of reader ≡ slot
+        → Next first now slot old next front other
+    next-read {now} next answer other fits h same = record {
+      all = more ++ h.0;
+      reads = reads-then comparing.reads (subst (λ s. Reads mid now s h.0) same h.1);
+      needed = λ read stands. needed-then m profile read more h.0 (items_with profile front) front (frames-are front)
+          comparing.agree (comparing.needed read stands)
+          (h.2 profile (read ++ more) (map items.Frame front) (comparing.gave read stands)).0;
+      is = λ read stands. gives next answer other (IsAtEnd now slot) (read ++ (more ++ h.0)) (items_with profile front) fits
+          (subst (λ s. FrameIs answer next (IsAtEnd now s) (read ++ (more ++ h.0)) (items_with profile front)) same
+          (subst (λ (bytes : List ℕ). FrameIs answer next (IsAtEnd now (slot_of reader)) bytes (items_with profile front))
+          (append_assoc read more h.0) (h.2 profile (read ++ more) (map items.Frame front) (comparing.gave read stands)).1));
+    }
+
+    -- the place of a frame that was given
+    pub placed : {now : ShelfState} (next : FrameReader) (view : FrameView) (at_end : Type 0)
+        → HasRead mid now reader (FrameIs (Ok (Some view)) next at_end) → (read : List ℕ) → StandsFor old read (items.Header profile ∷ [])
+        → IsPlaced view.place profile
+    placed next view at_end h read stands =
+        let gave = (h.2 profile (read ++ more) (map items.Frame front) (comparing.gave read stands)).1 in
+        placed-at view.place profile gave.frame
+        (header_first profile (map items.Frame front) view.place ((read ++ more) ++ h.0) gave.before.0 gave.before.1)
+        (can_follow view.place _ (items.Frame gave.frame) _ gave.holds.shows.read)
+
+    -- there is room to count one more
+    pub compared-few : (read : List ℕ) → StandsFor old read (items.Header profile ∷ []) → checker.compared < 4294967295
+    compared-few read stands =
+        let gave = comparing.gave read stands in
+        let few = few_first (items_with profile front) (are_first reader (read ++ more) (items_with profile front) gave) in
+        let count : length (map items.Frame front) ≡ length front = length-map front items.Frame in
+        let compared = comparing.compared in
+        omega (arith, few, count, compared)
+
+    inputs-few : (read : List ℕ) → StandsFor old read (items.Header profile ∷ []) → length (inputs_of front) ≤ 1000000
+    inputs-few read stands =
+        let gave = comparing.gave read stands in
+        let first = are_first reader (read ++ more) (items_with profile front) gave in
+        let few = few-inputs (items_with profile front) first.place first.bytes first.rest first.leads in
+        let same = inputs-are (map items.Frame front) ∙ ap (λ (l : List Frame). inputs_of l) (frames-are front) in
+        subst (λ (l : List CycleInput). length l ≤ 1000000) same few
+
+    pub cycles-few : (read : List ℕ) → StandsFor old read (items.Header profile ∷ []) → checker.cycles < 4294967295
+    cycles-few read stands = let few = inputs-few read stands in let cycles = comparing.cycles in omega (arith, few, cycles)
+
+  -- the frame that comes next
+  module _ {first now : ShelfState} {slot : ℕ} {old : FrameReader} {front : List Frame} {next : FrameReader} {frame : Frame}
+      (n : Next first now slot old next front (Ok (Some frame))) (read : List ℕ) (stands : StandsFor old read (items.Header profile ∷ []))
+    where
+      first-items : AreFirst (items_with profile front ++ items.Frame frame ∷ [])
+      first-items = are_first next (read ++ n.all) (items_with profile front ++ items.Frame frame ∷ []) (n.is read stands).0
+
+      few-next : length (inputs_of front) + length (input_of frame) ≤ 1000000
+      few-next =
+          let given = items_with profile front in
+          let x : Item = items.Frame frame in
+          let few = few-inputs (given ++ x ∷ []) first-items.place first-items.bytes first-items.rest first-items.leads in
+          let all = inputs-are (given ++ x ∷ []) ∙ ap (λ (l : List Frame). inputs_of l) (frames-behind profile front (x ∷ []) _ refl)
+          ∙ flat_map-append input_of front (frame ∷ []) ∙ ap (λ (l : List CycleInput). inputs_of front ++ l) (append-nil (input_of frame)) in
+          let count = ap length all ∙ length-append (inputs_of front) (input_of frame) in
+          omega (arith, few, count)
+
+      -- where it is a Run frame, a cycle is left for it
+      pub can-come : (recording : Recording S G E L P) → IsBehind m recording (inputs_of front) → recording.profile ≡ profile
+          → CanCome recording.engine.cycles (length recording.profile.events) frame
+      can-come recording behind its =
+          subst (λ (p : ProfileValue). CanCome recording.engine.cycles (length p.events) frame) (sym its)
+          (by frame few-next (next_is (items_with profile front) (items.Frame frame) first-items))
+        where
+          by : (x : Frame) → length (inputs_of front) + length (input_of x) ≤ 1000000 → NextIs (items_with profile front) (items.Frame x)
+              → CanCome recording.engine.cycles (length profile.events) x
+          by Register few known = tt
+          by Discover few known = tt
+          by (Init elements) few known = tt
+          by Terminate few known = tt
+          by (Run run) few known = let cycles = behind.engine.cycles in (omega (arith, few, cycles), known.0)
+
+      -- it was compared, and agrees
+      pub comparing-next : {mid : ShelfState} {start seen shown : AudienceState} {reader : FrameReader}
+          {recording ran : Recording S G E L P} {checker counted : Checker} {more : List ℕ}
+          → Comparing first mid slot start seen old reader recording checker more front
+          → IsBehind m ran (inputs_of front ++ input_of frame)
+          → frame_difference checker.compared frame (given_frame m profile (inputs_of front) frame) ≡ None
+          → Shows seen shown (run_of frame)
+          → counted.compared ≡ checker.compared + 1 → counted.cycles ≡ checker.cycles + length (run_of frame)
+          → Comparing first now slot start shown old next ran counted n.all (front ++ frame ∷ [])
+      comparing-next {start = start} {seen = seen} {shown = shown} {ran = ran} {checker = checker} {counted = counted} h behind
+          none shows compared cycles =
+          let more_inputs = inputs-next frame in
+          let more_runs = runs-next frame in
+          record {
+            reads = n.reads;
+            needed = n.needed;
+            gave = λ bytes begins. subst (λ (l : List Item). StandsFor next (bytes ++ n.all) l) (items-next profile front frame)
+                (n.is bytes begins).0;
+            behind = subst (IsBehind m ran) (sym more_inputs) behind;
+            agree = departs-next m profile front frame 0 checker.compared [] (zero-compared h.compared) h.agree none;
+            shown = subst (Shows start shown) (sym more_runs) (shows-then h.shown shows);
+            compared = compared ∙ ap (λ k. k + 1) h.compared ∙ sym (length-append front (frame ∷ []));
+            cycles = cycles ∙ ap (λ k. k + length (run_of frame)) h.cycles
+                ∙ ap (λ k. length (inputs_of front) + k) (one-input frame) ∙ sym (length-append (inputs_of front) (input_of frame))
+                ∙ ap length (sym more_inputs);
+          }
+        where
+          inputs-next : (x : Frame) → inputs_of (front ++ x ∷ []) ≡ inputs_of front ++ input_of x
+          inputs-next x = flat_map-append input_of front (x ∷ [])
+              ∙ ap (λ (l : List CycleInput). inputs_of front ++ l) (append-nil (input_of x))
+
+          runs-next : (x : Frame) → runs_of (front ++ x ∷ []) ≡ runs_of front ++ run_of x
+          runs-next x = flat_map-append run_of front (x ∷ []) ∙ ap (λ (l : List RunFrame). runs_of front ++ l) (append-nil (run_of x))
+
+          zero-compared : checker.compared ≡ length front → checker.compared ≡ 0 + length front
+          zero-compared k = omega (arith, k)
+
+          one-input : (x : Frame) → length (run_of x) ≡ length (input_of x)
+          one-input Register = refl
+          one-input Discover = refl
+          one-input (Init elements) = refl
+          one-input (Run run) = refl
+          one-input Terminate = refl

@@ -1,0 +1,5 @@
+pub mod Items
+pub mod Giving
+pub mod Running
+pub mod Ending
+pub mod Told

@@ -1,0 +1,234 @@
+-- How a record that is upgraded ends.
+use Rattle.std.proofs.Common.{◌≡◌, inl, inr, ℕ, List, [], ◌∷◌, ◌++◌, length, refl, sym, ap, subst, ◌∙◌, append_assoc, append-nil}
+use Rattle.std.specs.Prelude.{Bool, false, Option, Some, None, Result, Ok, Err}
+use Rattle.std.specs.Option.{is_none}
+use Rattle.std.specs.List.{flat_map}
+use Rattle.det_values.specs.Values.{ProfileValue}
+use Rattle.det_values.specs.declared.frames.Frame.{Frame}
+use Rattle.det_values.specs.declared.frames.Frame.TheVariants.{Terminate}
+use Rattle.det_io.specs.Sink.{Grew, GrewByPrefix, GrewShort, Same}
+use Rattle.det_io.specs.Shelf.{ShelfState, Reads, IsAtEnd}
+use Rattle.det_io.specs.Traffic.{ShelfRun, SinkRun}
+use Rattle.det_io.specs.declared.failure.Failure.{Failure}
+use Rattle.det_io.specs.declared.failure.Failure.TheVariants.{Read, Write, OutOfMemory}
+use Rattle.det_io.specs.declared.failure.Stopped.{Stopped}
+use Rattle.det_io.specs.declared.failure.Stopped.TheVariants.{Refused, Failed}
+use Rattle.det_io.proofs.Growth.{grew-then, grew-same, grew-then-short, part-whole, part-wider, part-none, short-wider}
+use Rattle.det_io.proofs.SlotReads.{reads-none}
+use Rattle.job.specs.Meaning.{Meaning}
+use Rattle.record_grammar.specs.declared.fault.RecordFault.{RecordFault}
+use Rattle.record_grammar.specs.declared.item.Item.{Item}
+use Rattle.record_grammar.specs.declared.item.Item.TheVariants as items
+use Rattle.record_grammar.specs.Record.{items as items_in, fault as fault_in}
+use Rattle.record_grammar.specs.Spelling.{spelled, spelled_frame}
+use Rattle.record_reader.specs.declared.frames.FrameReader.{FrameReader}
+use Rattle.record_reader.specs.item_reader.StandsFor.{IsFaulty}
+use Rattle.record_reader.specs.Frames.{StandsFor}
+use Rattle.record_reader.proofs.Taking.{told}
+use Rattle.copies.specs.declared.difference.Difference.{Difference}
+use Rattle.recorder.specs.declared.run_writer.recording.Recording.{Recording}
+use Rattle.recorder.specs.run_writer.Recording.{Cuts}
+use Rattle.rerun.specs.replayer.Again.{inputs}
+use Rattle.rerun.specs.declared.checker.verdict.CheckVerdict.{CheckVerdict}
+use Rattle.rerun.specs.declared.checker.verdict.CheckVerdict.TheVariants.{Genuine, Departs}
+use Rattle.rerun.specs.checker.Departure.{departure}
+use Rattle.record_reader.specs.InItems.{frame_in}
+use Rattle.rerun.specs.checker.Needed.{IsNeeded}
+use Rattle.rerun.specs.checker.Verdict.{verdict_by, check_verdict}
+use Rattle.rerun.specs.upgrader.Frames.{Takes}
+use Rattle.rerun.specs.upgrader.Upgraded.{in_format_two, upgraded_with, upgraded}
+use Rattle.rerun.specs.upgrader.Ends.{Answers, ReadsTo, Ended, IsUpgraded}
+use Rattle.rerun.proofs.lemmas.checker.Departing.{inputs_of}
+use Rattle.rerun.proofs.lemmas.upgrader.Order.{AreFrames, are_frames}
+use Rattle.rerun.proofs.lemmas.upgrader.Records.{Agree, agree-next, so_far, so_far-first, header-first, Departed, departed, AllDone}
+use Rattle.rerun.proofs.lemmas.upgrader.Records.{all-done}
+use Rattle.rerun.proofs.lemmas.upgrader.Going.{gone-first, Running, Next, gone-next, differs, piece, so_far-grows}
+
+-- a fact about what was read is one about the whole record where nothing follows
+at_record : (P : List ℕ → Type 0) (bytes rest : List ℕ) → rest ≡ [] → P bytes → P (bytes ++ rest)
+at_record P bytes rest none p = subst P (sym (ap (λ l. bytes ++ l) none ∙ append-nil bytes)) p
+
+module _ {S G E L P : Type 0} (m : Meaning S G E L P) (profile : ProfileValue) where
+  abbrev two : ProfileValue
+  two = in_format_two profile
+
+  ended : {result : Result CheckVerdict (Stopped RecordFault)} {read more : List ℕ} {shelf : ShelfRun} {slot : ℕ} {out : SinkRun}
+      → Reads shelf.first shelf.last slot more → IsNeeded m profile read more
+      → ReadsTo m profile result (read ++ more) (IsAtEnd shelf.last slot) out
+      → ((rest : List ℕ) → (IsAtEnd shelf.last slot → rest ≡ []) → Answers m profile result ((read ++ more) ++ rest) out)
+      → Ended m profile result read more shelf slot out
+  ended {result} {read} {more} {out = out} reads needed to each = record {
+    reads_to = to;
+    needed = needed;
+    answers = record {
+      reads = reads;
+      each = λ rest end. subst (λ (bytes : List ℕ). Answers m profile result bytes out) (append_assoc read more rest) (each rest end);
+    };
+  }
+
+  pub as-told : {result : Result CheckVerdict (Stopped RecordFault)} {before : List ℕ} {shelf : ShelfRun} {slot : ℕ} {out : SinkRun}
+      (more : List ℕ) → Ended m profile result before more shelf slot out → IsUpgraded m profile before slot shelf out result
+  as-told {result} {before} {out = out} more h = record {
+    told = told (λ (rest : List ℕ). Answers m profile result (before ++ rest) out) h.answers;
+    run = (more, h);
+  }
+
+  -- ---- a record by what was done of it
+
+  verdict-is : (bytes : List ℕ) (at : Option Difference) (end : Option RecordFault) → departure m profile bytes ≡ at
+      → fault_in bytes ≡ end → check_verdict m profile bytes ≡ verdict_by at end (length (inputs bytes))
+  verdict-is bytes at end departs ends = λ i. verdict_by (departs i) (ends i) (length (inputs bytes))
+
+  part-of : (out : SinkRun) (done more : List Frame) (bytes : List ℕ) → AreFrames profile bytes (done ++ more) → Agree m profile done
+      → Grew out.before out.after (spelled two (so_far m profile done)) → GrewByPrefix out.before out.after (upgraded m profile bytes)
+  part-of out done more bytes are agree grew =
+      part-wider out.before out.after (spelled two (so_far m profile done)) (upgraded m profile bytes)
+      (part-whole out.before out.after (spelled two (so_far m profile done)) grew)
+      (so_far-first m profile bytes done more (is_none (fault_in bytes)) are agree)
+
+  -- the record has a fault, and no difference stands before it
+  faulty : (bytes : List ℕ) (behind : List Item) (done : List Frame) (fault : RecordFault) (out : SinkRun)
+      → items_in bytes ≡ items.Header profile ∷ behind → flat_map frame_in behind ≡ done → fault_in bytes ≡ Some fault
+      → Agree m profile done → Grew out.before out.after (spelled two (so_far m profile done))
+      → Answers m profile (Err (Refused fault)) bytes out
+  faulty bytes behind done fault out is frames has agree grew =
+      let all = all-done m profile bytes done (subst (AreFrames profile bytes) frames (are_frames profile bytes behind is)) agree in (
+        verdict-is bytes None (Some fault) all.departure has,
+        subst (Grew out.before out.after)
+            (sym (ap (λ (end : Option RecordFault). upgraded_with m profile bytes (is_none end)) has ∙ all.upgraded)) grew,
+      )
+
+  -- ---- the answers
+
+  -- the header wasn't written
+  pub header-failed : (read : List ℕ) (slot : ℕ) (state : ShelfState) (stays : Type 0) (out : SinkRun) (failure : Failure)
+      → Cuts failure out.before out.after (spelled two [])
+      → Ended m profile (Err (Failed failure)) read [] (record { first = state; last = state; stays = stays }) slot out
+  header-failed read slot state stays out Read cut = absurd cut
+  header-failed read slot state stays out Write cut = ended (reads-none state slot) (inl refl) tt (λ rest end.
+      short-wider out.before out.after (spelled two []) (upgraded m profile ((read ++ []) ++ rest)) cut (header-first m profile _ _))
+  header-failed read slot state stays out OutOfMemory cut = ended (reads-none state slot) (inl refl) tt (λ rest end.
+      part-none out.before out.after (upgraded m profile ((read ++ []) ++ rest)) cut)
+
+  module _ (slot : ℕ) (shelf : ShelfRun) (out : SinkRun) {mid : ShelfState} {took : List ℕ → Type 0} {old reader : FrameReader}
+      {recording : Recording S G E L P} {more : List ℕ} {done : List Frame}
+      (running : Running m profile shelf.first mid slot out.before took old reader recording more done) (next : FrameReader)
+      (read : List ℕ) (stands : StandsFor old read (items.Header profile ∷ [])) where
+    -- the frame that was read isn't what is given
+    pub departs : (frame : Frame) (n : Next m profile shelf.first shelf.last slot old next done (Ok (Some frame))) (at : Difference)
+        → differs m profile done frame ≡ Some at → Same took out.after
+        → Ended m profile (Ok (Departs at)) read n.all shelf slot out
+    departs frame n at differ same =
+        let gone = gone-next m profile frame n read stands in
+        let by : (rest : List ℕ) (is_ended : Bool) → Departed m profile ((read ++ n.all) ++ rest) done at is_ended =
+        λ rest is_ended.
+        let all = gone-first gone rest in
+        departed m profile ((read ++ n.all) ++ rest) done all.0 frame at is_ended
+        (subst (AreFrames profile ((read ++ n.all) ++ rest)) (append_assoc done (frame ∷ []) all.0) all.1) running.agree differ in
+        let here = subst (λ (bytes : List ℕ). departure m profile bytes ≡ Some at) (append-nil (read ++ n.all)) (by [] false).departure in
+        ended n.reads (n.needed read stands) here (λ rest end.
+        let bytes = (read ++ n.all) ++ rest in
+        let d = by rest (is_none (fault_in bytes)) in (
+          verdict-is bytes (Some at) (fault_in bytes) d.departure refl,
+          subst (Grew out.before out.after) (sym d.upgraded) (grew-same running.grew same),
+        ))
+
+    -- the frame wasn't taken
+    pub take-failed : (frame : Frame) (n : Next m profile shelf.first shelf.last slot old next done (Ok (Some frame)))
+        (failure : Failure) (goes_on : Type 0) (step : SinkRun)
+        → step.before ≡ took → step.after ≡ out.after
+        → Takes (Err failure) (differs m profile done frame) (piece m profile done frame) goes_on step
+        → Ended m profile (Err (Failed failure)) read n.all shelf slot out
+    take-failed frame n Read goes_on step before after h = absurd h
+    take-failed frame n Write goes_on step before after h =
+        let short : GrewShort took out.after (piece m profile done frame) =
+        subst (λ (b : List ℕ → Type 0). GrewShort b out.after (piece m profile done frame)) before
+        (subst (λ (a : List ℕ → Type 0). GrewShort step.before a (piece m profile done frame)) after h.1) in
+        ended n.reads (n.needed read stands) tt (λ rest end.
+        let all = gone-first (gone-next m profile frame n read stands) rest in
+        let bytes = (read ++ n.all) ++ rest in
+        short-wider out.before out.after (spelled two (so_far m profile (done ++ frame ∷ []))) (upgraded m profile bytes)
+        (subst (GrewShort out.before out.after) (sym (so_far-grows m profile done frame))
+        (grew-then-short out.before took out.after _ _ running.grew short))
+        (so_far-first m profile bytes (done ++ frame ∷ []) all.0 (is_none (fault_in bytes)) all.1
+        (agree-next m profile done frame running.agree h.0)))
+    take-failed frame n OutOfMemory goes_on step before after h =
+        let same : Same took out.after =
+        subst (λ (b : List ℕ → Type 0). Same b out.after) before (subst (λ (a : List ℕ → Type 0). Same step.before a) after h) in
+        ended n.reads (n.needed read stands) tt (λ rest end.
+        let all = n.front read stands rest in
+        part-of out done all.0 ((read ++ n.all) ++ rest) all.1 running.agree (grew-same running.grew same))
+
+    module _ (n : Next m profile shelf.first shelf.last slot old next done (Ok None)) where
+      whole-done : AllDone m profile (read ++ n.all) done
+      whole-done =
+          let is = n.is read stands in
+          all-done m profile (read ++ n.all) done
+          (subst (AreFrames profile (read ++ n.all)) is.1 (are_frames profile (read ++ n.all) is.0 is.2.2)) running.agree
+
+      whole-is : upgraded m profile (read ++ n.all) ≡ spelled two (so_far m profile done) ++ spelled_frame two.format Terminate
+      whole-is =
+          let whole = (n.is read stands).2.3 in
+          ap (λ (end : Option RecordFault). upgraded_with m profile (read ++ n.all) (is_none end)) whole ∙ whole-done.ended whole
+
+      -- Terminate wasn't written
+      pub close-failed : (failure : Failure) → Cuts failure took out.after (spelled_frame two.format Terminate)
+          → Ended m profile (Err (Failed failure)) read n.all shelf slot out
+      close-failed Read cut = absurd cut
+      close-failed Write cut = ended n.reads (n.needed read stands) tt (λ rest end.
+          at_record (λ bytes. GrewShort out.before out.after (upgraded m profile bytes)) (read ++ n.all) rest
+          (end (n.is read stands).2.1)
+          (subst (GrewShort out.before out.after) (sym whole-is) (grew-then-short out.before took out.after _ _ running.grew cut)))
+      close-failed OutOfMemory cut = ended n.reads (n.needed read stands) tt (λ rest end.
+          let all = n.front read stands rest in
+          part-of out done all.0 ((read ++ n.all) ++ rest) all.1 running.agree (grew-same running.grew cut))
+
+      -- the record is whole
+      pub closed : (cycles : ℕ) → cycles ≡ length (inputs_of done) → Grew took out.after (spelled_frame two.format Terminate)
+          → Ended m profile (Ok (Genuine cycles)) read n.all shelf slot out
+      closed cycles counted grew =
+          let is = n.is read stands in
+          let all = read ++ n.all in
+          let are = subst (AreFrames profile all) is.1 (are_frames profile all is.0 is.2.2) in
+          ended n.reads (n.needed read stands) is.2.1 (λ rest end.
+          at_record (λ bytes. Answers m profile (Ok (Genuine cycles)) bytes out) all rest (end is.2.1) (
+            verdict-is all None None whole-done.departure is.2.3
+                ∙ ap (λ (k : ℕ). Ok (Genuine k)) (ap length are.inputs ∙ sym counted),
+            subst (Grew out.before out.after) (sym whole-is) (grew-then running.grew grew),
+          ))
+
+    -- the record has a fault, or the reader failed
+    pub reading-stopped : (why : Stopped RecordFault) → took ≡ out.after
+        → (n : Next m profile shelf.first shelf.last slot old next done (Err why))
+        → Ended m profile (Err why) read n.all shelf slot out
+    reading-stopped (Refused fault) same n =
+        let all = read ++ n.all in
+        let is = n.is read stands in
+        let grew = subst (λ (t : List ℕ → Type 0). Grew out.before t (spelled two (so_far m profile done))) same running.grew in
+        let stays : IsFaulty fault all (items.Header profile ∷ is.0) → (rest : List ℕ)
+        → Answers m profile (Err (Refused fault)) (all ++ rest) out =
+        λ stays rest. faulty (all ++ rest) is.0 done fault out (stays rest).0 is.1 (stays rest).1 running.agree grew in
+        ended n.reads (n.needed read stands)
+        (elim is.2.0.found as (λ _. ReadsTo m profile (Err (Refused fault)) all (IsAtEnd shelf.last slot) out) [
+          | inl s ↦ inl (λ rest. (stays s rest).0)
+          | inr at ↦ inr at
+        ]) (λ rest end. elim is.2.0.found as (λ _. Answers m profile (Err (Refused fault)) (all ++ rest) out) [
+          | inl s ↦ stays s rest
+          | inr at ↦ at_record (λ bytes. Answers m profile (Err (Refused fault)) bytes out) all rest (end at)
+              (faulty all is.0 done fault out is.2.0.before is.1 is.2.0.is running.agree grew)
+        ])
+    reading-stopped (Failed Read) same n =
+        let all = read ++ n.all in
+        let is = n.is read stands in
+        let grew = subst (λ (t : List ℕ → Type 0). Grew out.before t (spelled two (so_far m profile done))) same running.grew in
+        let are = subst (AreFrames profile all) is.1 (are_frames profile all is.0 is.2.1) in
+        let done_all = all-done m profile all done are running.agree in
+        ended n.reads (n.needed read stands)
+        (is.2.2, done_all.departure, subst (Grew out.before out.after) (sym done_all.upgraded) grew) (λ rest end.
+        let front = n.front read stands rest in
+        part-of out done front.0 (all ++ rest) front.1 running.agree grew)
+    reading-stopped (Failed Write) same n = absurd (n.is read stands).2
+    reading-stopped (Failed OutOfMemory) same n = ended n.reads (n.needed read stands) tt (λ rest end.
+        let front = n.front read stands rest in
+        part-of out done front.0 ((read ++ n.all) ++ rest) front.1 running.agree
+        (subst (λ (t : List ℕ → Type 0). Grew out.before t (spelled two (so_far m profile done))) same running.grew))

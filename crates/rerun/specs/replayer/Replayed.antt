@@ -1,0 +1,26 @@
+-- What running a record again says of its bytes, and of what a sink took.
+use Rattle.std.specs.Prelude.{◌≡◌, ℕ, List, ◌++◌, Result, Err, IfSome, IfOk}
+use Rattle.det_values.specs.Values.{ProfileValue}
+use Rattle.det_io.specs.Sink.{GrewByPrefix}
+use Rattle.det_io.specs.Traffic.{ShelfRun, SinkRun}
+use Rattle.det_io.specs.declared.failure.Stopped.{Stopped}
+use Rattle.det_io.specs.declared.failure.Stopped.TheVariants.{Refused}
+use Rattle.job.specs.Meaning.{Meaning}
+use Rattle.record_grammar.specs.declared.fault.RecordFault.{RecordFault}
+use Rattle.recorder.specs.declared.run_writer.counts.Counts.{Counts}
+use Rattle.rerun.specs.replayer.Again.{again}
+use Rattle.rerun.specs.replayer.Ends.{Finishes, Stops, Ended}
+
+-- of a record that begins with bytes read before
+pub record IsReplayed {S G E L P : Type 0} (m : Meaning S G E L P) (profile : ProfileValue)
+    (before : List ℕ) (slot : ℕ) (shelf : ShelfRun) (out : SinkRun)
+    (result : Result Counts (Stopped RecordFault)) : Type 0 where
+  -- where the shelf tells the rest: it was run again whole, or up to its fault, or in part
+  pub ok : IfSome (shelf.first.left slot) (λ rest. IfOk result (λ counts.
+      Finishes m profile (before ++ rest) counts out))
+  pub refused : IfSome (shelf.first.left slot) (λ rest. (fault : RecordFault)
+      → result ≡ Err (Refused fault) → Stops m profile (before ++ rest) fault out)
+  pub part : IfSome (shelf.first.left slot) (λ rest.
+      GrewByPrefix out.before out.after (again m profile (before ++ rest)))
+  -- the same by the bytes that were read, also where the shelf tells nothing
+  pub run : (more : List ℕ) × Ended m profile result before more shelf slot out

@@ -1,0 +1,56 @@
+//! A record, held against the run that its inputs give.
+ghost use Rattle.std.specs.Prelude.{◌≡◌, ℕ, List, [], ◌∷◌};
+ghost use Rattle.det_io.specs.Traffic.{ShelfTraffic, shelf_run, failure_in};
+ghost use Rattle.record_grammar.specs.declared.item.Item.TheVariants as items;
+ghost use Rattle.record_reader.specs.Frames.{StandsFor, slot_of};
+ghost use Rattle.probes.specs.Shows.{seen};
+ghost use Rattle.rerun.specs.replayer.Begun.{IsBegun};
+ghost use Rattle.rerun.specs.checker.Checked.{IsChecked};
+
+use crate::checker::CheckVerdict;
+use crate::checker::comparing::Checker;
+use det_io::{Slots, Stopped};
+use job::{Job, Pool};
+use probes::{Audience, Probe};
+use record_grammar::RecordFault;
+use record_reader::FrameReader;
+use recorder::run_writer::Recording;
+
+/// Runs a job on a pool over the inputs of a record's runs, and compares each frame of the record
+/// with the one that they give. Each Run frame is shown to the audience before the check goes on or
+/// ends. At the first difference the check is over, and no more is read. The reader has given the
+/// header alone.
+///
+/// `Refused` has the record's fault, where it has no difference before that. After want of memory
+/// neither recording nor reader is to be used.
+pub fn check_run<J: Job, P: Pool<J>, S: Slots>(
+    recording: &mut Recording<J>,
+    pool: &mut P,
+    frames: &mut FrameReader,
+    shelf: &mut S,
+    audience: &mut Audience,
+) -> Result<CheckVerdict, Stopped<RecordFault>>
+    requires { IsBegun J.meaning recording.old frames.old (S.sees shelf.old) }
+    // By the bytes that were read before.
+    ensures checked { (read : List ℕ)
+        → StandsFor frames.old read (items.Header recording.old.profile ∷ [])
+        → IsChecked J.meaning recording.old.profile
+        (seen (λ b. life (b.vtable, b.value)) audience.old)
+        (seen (λ b. life (b.vtable, b.value)) audience.new)
+        read (slot_of frames.old) (shelf_run S.sees S.stays shelf.old shelf.new) result }
+    ensures traffic { ShelfTraffic (shelf_run S.sees S.stays shelf.old shelf.new)
+        (failure_in result) }
+{
+    let mut checker = Checker::new(recording.alloc());
+    'reading: loop {
+        let Some(view) = frames.next(shelf)? else {
+            return Ok(CheckVerdict::Genuine {
+                cycles: checker.cycles,
+            });
+        };
+        let bytes = frames.bytes(view);
+        if let Some(at) = checker.take(recording, pool, view, bytes, audience)? {
+            return Ok(CheckVerdict::Departs(at));
+        }
+    }
+}

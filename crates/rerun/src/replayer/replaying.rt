@@ -1,0 +1,61 @@
+//! A record, run again.
+ghost use Rattle.std.specs.Prelude.{ℕ, List, [], ◌∷◌};
+ghost use Rattle.det_io.specs.Traffic.{ShelfTraffic, SinkTraffic};
+ghost use Rattle.det_io.specs.Traffic.{shelf_run, sink_run, failure_in};
+ghost use Rattle.record_grammar.specs.declared.item.Item.TheVariants as items;
+ghost use Rattle.record_reader.specs.Frames.{StandsFor, slot_of};
+ghost use Rattle.rerun.specs.replayer.Begun.{IsBegun};
+ghost use Rattle.rerun.specs.replayer.Replayed.{IsReplayed};
+
+use crate::replayer::inputs::next_input;
+use det_io::{Sink, Slots, Stopped};
+use det_values::{CycleInput, Limited};
+use job::{Job, Pool};
+use record_grammar::RecordFault;
+use record_reader::FrameReader;
+use recorder::run_writer::{Counts, Recording};
+use std::alloc::Global;
+
+/// Runs a job on a pool over the inputs of a record's runs, and writes the record that they give,
+/// whatever outcomes the record holds. The reader has given the header alone.
+///
+/// The header and the frames up to Init are written before the first frame of the record is read,
+/// then a Run frame for each of its Run frames, and Terminate once the record was read to its end
+/// and is whole. `Refused` has the record's fault, after the runs of all inputs before it. After an
+/// error neither recording nor reader is to be used.
+pub fn replay_run<J: Job, P: Pool<J>, S: Slots, K: Sink>(
+    recording: &mut Recording<J>,
+    pool: &mut P,
+    frames: &mut FrameReader,
+    shelf: &mut S,
+    sink: &mut K,
+) -> Result<Counts, Stopped<RecordFault>>
+    requires { IsBegun J.meaning recording.old frames.old (S.sees shelf.old) }
+    // By the bytes that were read before.
+    ensures replayed { (read : List ℕ)
+        → StandsFor frames.old read (items.Header recording.old.profile ∷ [])
+        → IsReplayed J.meaning recording.old.profile read (slot_of frames.old)
+        (shelf_run S.sees S.stays shelf.old shelf.new)
+        (sink_run K.took K.faults sink.old sink.new) result }
+    ensures shelf_traffic { ShelfTraffic (shelf_run S.sees S.stays shelf.old shelf.new)
+        (failure_in result) }
+    ensures sink_traffic { SinkTraffic (sink_run K.took K.faults sink.old sink.new)
+        (failure_in result) }
+{
+    recording.open(sink)?;
+    let mut spare = empty_input(recording.alloc());
+    'cycles: while let Some(input) = next_input(frames, shelf, spare)? {
+        let run = recording.cycle(pool, input, sink)?;
+        spare = recording.take_back(run);
+    }
+    let counts = recording.close(sink)?;
+    Ok(counts)
+}
+
+/// An input without samples, which takes no memory.
+pub fn empty_input(alloc: Global) -> CycleInput {
+    CycleInput {
+        time: None,
+        samples: Limited::new(alloc),
+    }
+}

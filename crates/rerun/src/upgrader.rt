@@ -1,0 +1,8 @@
+//! Runs the inputs of a record again, and writes the record of the same run in format 2, up to the
+//! first frame that isn't what they give.
+
+mod original;
+mod upgrading;
+
+pub use original::Original;
+pub use upgrading::upgrade_run;

@@ -1,0 +1,4 @@
+pub mod Ending
+pub mod Keeping
+mod Reading
+pub mod lemmas

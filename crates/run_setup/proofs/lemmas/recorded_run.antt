@@ -1,0 +1,4 @@
+pub mod Ending
+pub mod Resting
+pub mod Beginning
+pub mod Telling

@@ -1,0 +1,66 @@
+-- The run that a record's header names.
+use Rattle.std.specs.Prelude.{ℕ, List, ◌∷◌, length, Option, Some, None, Result, Ok, Err}
+use Rattle.std.specs.Prelude.{is_none, ok_or, option_map, option_and_then, if◌then◌else◌}
+use Rattle.det_values.specs.Values.{ProfileValue}
+use Rattle.det_values.specs.Jobs.{kind_of_number}
+use Rattle.det_values.specs.declared.job_kind.JobKind.{JobKind}
+use Rattle.det_io.specs.declared.failure.Stopped.{Stopped}
+use Rattle.det_io.specs.declared.failure.Stopped.TheVariants.{Refused, Failed}
+use Rattle.job.specs.Meaning.{Meaning}
+use Rattle.jobs.specs.Kinds.{bad_param, by_kind}
+use Rattle.record_grammar.specs.declared.fault.RecordFault.{RecordFault}
+use Rattle.record_grammar.specs.declared.item.Item.{Item}
+use Rattle.record_grammar.specs.declared.item.Item.TheVariants.{Header}
+use Rattle.record_grammar.specs.Record.{items as items_in, fault as fault_in}
+use Rattle.cli_answers.specs.declared.answer.Answer.{Answer}
+use Rattle.cli_answers.specs.declared.answer.Answer.TheVariants.{BadRecord, BadProfile}
+use Rattle.cli_answers.specs.Answers.{failed}
+use Rattle.run_setup.specs.declared.recorded_run.bad_run.BadRun.{BadRun}
+use Rattle.run_setup.specs.declared.recorded_run.bad_run.BadRun.TheVariants.{Fault, Profile}
+
+-- a profile, and the kind of its job
+pub record RunValue : Type 0 where
+  pub kind : JobKind
+  pub profile : ProfileValue
+
+-- a kind, where its job refuses no parameter of a profile
+abbrev pub taking : ProfileValue → JobKind → Option JobKind
+taking p kind = if is_none (bad_param kind p.params (length p.events)) then Some kind else None
+
+-- the kind whose number a profile has, where its job takes that
+abbrev pub kind_of : ProfileValue → Option JobKind
+kind_of p = option_and_then (taking p) (kind_of_number p.job)
+
+-- by the items of a record and its fault; a record without a header has one
+abbrev pub run_by : List Item → Option RecordFault → Result RunValue BadRun
+run_by (Header p ∷ xs) end =
+    ok_or (option_map (λ kind. record { kind = kind; profile = p }) (kind_of p)) Profile
+run_by xs (Some fault) = Err (Fault fault)
+run_by xs None = Err Profile
+
+-- The run that the header of a record names: its profile, with the job that takes it. Or why there
+-- is none: a fault before the header is whole, or no job that takes the profile.
+abbrev pub run_of : List ℕ → Result RunValue BadRun
+run_of record_bytes = run_by (items_in record_bytes) (fault_in record_bytes)
+
+-- why there is no run where a record has no whole header
+abbrev pub without_header : Stopped RecordFault → Stopped BadRun
+without_header (Refused fault) = Refused (Fault fault)
+without_header (Failed failure) = Failed failure
+
+-- why a run that is refused isn't there, as a command answers it
+abbrev pub refused : BadRun → Answer
+refused (Fault fault) = BadRecord 0 fault
+refused Profile = BadProfile
+
+-- what is given over the run of a record, by its job and its profile, or by why there is none
+abbrev pub over_run : {A : Type 0}
+    → ((S G E L P : Type 0) → Meaning S G E L P → ProfileValue → A) → (BadRun → A)
+    → Result RunValue BadRun → A
+over_run given otherwise (Ok run) = by_kind (λ S G E L P m. given S G E L P m run.profile) run.kind
+over_run given otherwise (Err why) = otherwise why
+
+-- what a command answers that has no run
+abbrev pub without_run : Stopped BadRun → Answer
+without_run (Refused why) = refused why
+without_run (Failed failure) = failed failure

@@ -1,0 +1,55 @@
+//! Judges the text of a manifest, and its parameters by its job.
+ghost use Rattle.std.specs.Prelude.{◌≡◌, IfOk, IfErr, Ok, Err};
+ghost use Rattle.run_setup.specs.Setup.{judged, setup_of};
+ghost use Rattle.det_io.specs.Traffic.{failure_in, IfRefused};
+ghost use Rattle.run_setup.specs.Setup.{IsCalm, IsGood};
+ghost use Rattle.manifest.specs.Meaning.{IfFault, manifest_of};
+
+use cli_answers::BadManifest;
+use det_io::{Failure, Stopped};
+use jobs::bad_param;
+use manifest::{Manifest, ManifestError, read_manifest, read_strict_manifest};
+use std::alloc::Global;
+
+/// The manifest, where its job takes its parameters.
+fn judged(manifest: Manifest) -> Result<Manifest, Stopped<BadManifest>>
+    ensures manifest { IfOk result (λ m. judged manifest ≡ Ok m) }
+    ensures good { IfOk result IsGood }
+    ensures refused { IfErr result (λ e. IfRefused e (λ why. judged manifest ≡ Err why)) }
+    ensures calm { IsCalm (failure_in result) }
+{
+    let events = manifest.events().len() as u16;
+    match bad_param(manifest.kind(), manifest.params(), events) {
+        None => Ok(manifest),
+        Some(index) => Err(Stopped::Refused(BadManifest::Parameter(index))),
+    }
+}
+
+fn manifest_by(alloc: Global, text: &[u8], strict: bool) -> Result<Manifest, ManifestError>
+    ensures manifest { IfOk result (λ m. manifest_of strict text.now ≡ Ok m) }
+    ensures fault { IfErr result (λ e. IfFault e (λ f. manifest_of strict text.now ≡ Err f)) }
+{
+    if strict {
+        read_strict_manifest(alloc, text)
+    } else {
+        read_manifest(alloc, text)
+    }
+}
+
+/// The manifest that a text is, where its job takes its parameters.
+pub(crate) fn setup_of(
+    alloc: Global,
+    text: &[u8],
+    strict: bool,
+) -> Result<Manifest, Stopped<BadManifest>>
+    ensures manifest { IfOk result (λ m. setup_of strict text.now ≡ Ok m) }
+    ensures good { IfOk result IsGood }
+    ensures refused { IfErr result (λ e. IfRefused e (λ why. setup_of strict text.now ≡ Err why)) }
+    ensures calm { IsCalm (failure_in result) }
+{
+    match manifest_by(alloc, text, strict) {
+        Ok(manifest) => judged(manifest),
+        Err(ManifestError::Fault(fault)) => { Err(Stopped::Refused(BadManifest::Fault(fault))) }
+        Err(ManifestError::OutOfMemory) => Err(Stopped::Failed(Failure::OutOfMemory)),
+    }
+}

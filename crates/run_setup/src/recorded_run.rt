@@ -1,0 +1,8 @@
+//! Opens a record and reads its header, to run its job again.
+
+mod bad_run;
+mod job_kind;
+mod run;
+
+pub use bad_run::{BadRun, without_run};
+pub use run::{RecordedRun, read_run};

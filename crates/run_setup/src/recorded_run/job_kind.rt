@@ -1,0 +1,22 @@
+//! The shipped job that a header names.
+ghost use Rattle.std.specs.Prelude.{◌≡◌, length, None, IfSome};
+ghost use Rattle.jobs.specs.Kinds.{bad_param};
+ghost use Rattle.run_setup.specs.recorded_run.Run.{kind_of};
+
+use det_values::{JobKind, Profile};
+use jobs::bad_param;
+
+/// The shipped job of a profile's number. None where no job has it, and where the job refuses a
+/// parameter of the profile.
+pub(crate) fn kind_of(profile: &Profile) -> Option<JobKind>
+    ensures kind { result ≡ kind_of profile.now }
+    ensures good { IfSome result (λ kind.
+        bad_param kind profile.now.params (length profile.now.events) ≡ None) }
+{
+    let kind = JobKind::of_number(profile.job)?;
+    let events = profile.events.len() as u16;
+    match bad_param(kind, &profile.params, events) {
+        None => Some(kind),
+        Some(_) => None,
+    }
+}

@@ -1,0 +1,82 @@
+//! The run of a record.
+ghost use Rattle.std.specs.Prelude.{◌≡◌, ◌∷◌, [], length, None, Some, Ok, Err};
+ghost use Rattle.std.specs.Prelude.{IfOk, IfErr, IsSome};
+ghost use Rattle.det_io.specs.Shelf.{Asks};
+ghost use Rattle.det_io.specs.Traffic.{ShelfTraffic, shelf_run, failure_in, IfRefused};
+ghost use Rattle.det_io.specs.declared.failure.Stopped.TheVariants as stops;
+ghost use Rattle.jobs.specs.Kinds.{bad_param};
+ghost use Rattle.cli_answers.specs.Outcome.{told};
+ghost use Rattle.cli_answers.specs.Slots.{KeepsSlots};
+ghost use Rattle.run_setup.specs.declared.recorded_run.bad_run.BadRun.TheVariants as bad_runs;
+ghost use Rattle.run_setup.specs.recorded_run.Run.{run_of, kind_of};
+ghost use Rattle.run_setup.specs.recorded_run.Begun.{HasBegun};
+
+use crate::recorded_run::bad_run::{BadRun, without_header};
+use crate::recorded_run::job_kind::kind_of;
+use det_io::{Failure, Shelf, Stopped};
+use det_values::{JobKind, Profile};
+use record_reader::{FrameReader, OpenRecord, open};
+use std::alloc::Global;
+
+/// The run that a record's header names, and the record, of which the header was read.
+#[derive(Drop)]
+pub struct RecordedRun {
+    /// The job of the profile's number.
+    pub kind: JobKind,
+    pub profile: Profile,
+    /// What comes after the header.
+    pub frames: FrameReader,
+}
+
+/// Opens the name of a record and reads its header. A piece of up to 65,536 bytes is read only
+/// where those before it have no whole header and no fault. `Failed` has `Read` where the shelf
+/// fails to open or to read.
+pub fn read_run<S: Shelf>(
+    alloc: Global,
+    recorded: &str,
+    shelf: &mut S,
+) -> Result<RecordedRun, Stopped<BadRun>>
+    ensures run { IfOk result (λ run. IsSome ((S.sees shelf.old).holds recorded.now)
+        → run_of (told (S.sees shelf.old) recorded.now)
+        ≡ Ok (record { kind = run.kind; profile = run.profile })) }
+    ensures good { IfOk result (λ run.
+        bad_param run.kind run.profile.params (length run.profile.events) ≡ None) }
+    ensures begun { IfOk result (λ run.
+        HasBegun (S.sees shelf.old) (S.sees shelf.new) recorded.now run) }
+    ensures refused { IfErr result (λ e. IfRefused e (λ why.
+        IsSome ((S.sees shelf.old).holds recorded.now)
+        → run_of (told (S.sees shelf.old) recorded.now) ≡ Err why)) }
+    ensures traffic { ShelfTraffic (shelf_run S.sees S.stays shelf.old shelf.new)
+        (failure_in result) }
+    ensures writes_nothing { failure_in result ≡ Some Failure.Write → ⊥ }
+    ensures asked { Asks (S.sees shelf.old) (S.sees shelf.new) (recorded.now ∷ []) }
+    ensures earlier { KeepsSlots (S.sees shelf.old) (S.sees shelf.new) }
+{
+    let slot = shelf.open_input(recorded)?;
+    match open(alloc, slot, shelf) {
+        Ok(opened) => run_in(opened),
+        Err(end) => Err(without_header(end)),
+    }
+}
+
+/// The run of a record, by the job that takes its profile.
+fn run_in(opened: OpenRecord) -> Result<RecordedRun, Stopped<BadRun>>
+    ensures kind { IfOk result (λ run. kind_of opened.profile ≡ Some run.kind) }
+    ensures profile { IfOk result (λ run. run.profile ≡ opened.profile) }
+    ensures frames { IfOk result (λ run. run.frames ≡ opened.frames) }
+    ensures good { IfOk result (λ run.
+        bad_param run.kind run.profile.params (length run.profile.events) ≡ None) }
+    ensures no_kind { IfErr result (λ e. kind_of opened.profile ≡ None) }
+    ensures refused { IfErr result (λ e. e ≡ stops.Refused bad_runs.Profile) }
+    ensures fails_not { failure_in result ≡ None }
+{
+    let OpenRecord { profile, frames } = opened;
+    match kind_of(&profile) {
+        Some(kind) => Ok(RecordedRun {
+            kind,
+            profile,
+            frames,
+        }),
+        None => Err(Stopped::Refused(BadRun::Profile)),
+    }
+}

@@ -1,5 +1,0 @@
-use Rattle.run_writer.proofs.Framing.{counted-ended}
-use Rattle.run_writer.proofs.recording.Recording.close.Goals as goal
-
-pub returns-clause-closed : goal.returns-clause-closed
-returns-clause-closed g c given h = counted-ended g.J.Job.meaning c.args.self.now _ given h c.in_ok-write_frame.ensures.wrote

@@ -1,6 +1,0 @@
-use Rattle.sink_buffer.proofs.Fronts.{if-ok-then, front-then}
-use Rattle.sink_buffer.proofs.buffer.SinkBufferSink.write.Goals as goal
-
-pub returns-clause-taken : goal.returns-clause-taken
-returns-clause-taken g c =
-    if-ok-then c.gather.result (λ n taken. record { each = λ bytes first. front-then _ _ _ _ bytes _ _ taken first }) c.gather.ensures.taken

@@ -1,0 +1,61 @@
+-- What a reader does in one step.
+use Rattle.std.specs.Prelude.{ℕ, ◌≤◌, ◌<◌, List, Bool, true, false, Option, Some, None, Result, Ok}
+use Rattle.std.specs.Prelude.{Err}
+use Rattle.det_io.specs.declared.failure.Failure.TheVariants.{Read, Write, OutOfMemory}
+use Rattle.det_io.specs.declared.failure.Stopped.{Stopped}
+use Rattle.det_io.specs.declared.failure.Stopped.TheVariants.{Refused, Failed}
+use Rattle.det_values.specs.declared.frames.CycleInput.{CycleInput}
+use Rattle.stimulus.specs.declared.item.StimError.{StimError}
+use Rattle.stimulus.specs.declared.item.StimError.TheVariants as errors
+use Rattle.stimulus.specs.declared.item.StimFault.{StimFault}
+use Rattle.stimulus.specs.StandsFor.{IsSettled, room as text_room}
+use Rattle.stimulus.specs.declared.slot_reader.reader.StimulusReader.{StimulusReader}
+use Rattle.stimulus.specs.slot_reader.StandsFor.{StandsFor, HasAll, InputIs, events_of}
+
+-- how the text stopped
+abbrev pub stopped_by : StimError → Stopped StimFault
+stopped_by (errors.Bad fault) = Refused fault
+stopped_by errors.OutOfMemory = Failed OutOfMemory
+
+-- after so many bytes more a line is bad
+abbrev pub room : StimulusReader → ℕ
+room r = text_room r.text
+
+-- more bytes are needed, and may be read
+pub record IsHungry (r : StimulusReader) : Type 0 where
+  pub settled : IsSettled r.text
+  pub room : 1 ≤ room r
+
+-- all complete blocks of what was read are given, and no line of it is bad
+pub record GaveAll (r : StimulusReader) (read : List ℕ) (given : List CycleInput) : Type 0 where
+  pub stands : StandsFor r read given
+  pub all : HasAll (events_of r) read given
+
+-- what was fed gives a block, or needs more bytes, or has a bad line
+abbrev pub FedIs : Result (Option CycleInput) (Stopped StimFault) → StimulusReader → List ℕ
+    → List CycleInput → Type 0
+FedIs (Ok (Some input)) r read given = InputIs (Ok (Some input)) r ⊥ read given
+FedIs (Ok None) r read given = GaveAll r read given
+FedIs (Err why) r read given = InputIs (Err why) r ⊥ read given
+
+-- after None more bytes may be read; no read was made
+abbrev pub Hungers : Result (Option CycleInput) (Stopped StimFault) → StimulusReader → Type 0
+Hungers (Ok None) r = IsHungry r
+Hungers (Ok (Some input)) r = Unit {0}
+Hungers (Err (Refused fault)) r = Unit {0}
+Hungers (Err (Failed Read)) r = ⊥
+Hungers (Err (Failed Write)) r = Unit {0}
+Hungers (Err (Failed OutOfMemory)) r = Unit {0}
+
+-- a piece was read, or the end
+abbrev pub PieceIs : Result Bool (Stopped StimFault) → StimulusReader → Type 0 → List ℕ
+    → List CycleInput → Type 0
+PieceIs (Ok true) r at_end read given = StandsFor r read given
+PieceIs (Ok false) r at_end read given = InputIs (Ok None) r at_end read given
+PieceIs (Err why) r at_end read given = InputIs (Err why) r at_end read given
+
+-- after a piece fewer bytes may be read
+abbrev pub Shrinks : Result Bool (Stopped StimFault) → ℕ → ℕ → Type 0
+Shrinks (Ok true) old new = new < old
+Shrinks (Ok false) old new = Unit {0}
+Shrinks (Err why) old new = Unit {0}

@@ -1,0 +1,5 @@
+//! A stimulus read from a slot, block by block.
+
+mod reader;
+
+pub use reader::StimulusReader;

@@ -1,0 +1,140 @@
+//! A stimulus in a slot.
+ghost use Rattle.std.specs.Prelude.{◌≡◌};
+ghost use Rattle.stimulus.specs.slot_reader.Steps.{stopped_by};
+
+use crate::{StimError, StimFault, StimItem, StimReader};
+use det_io::{Failure, PIECE, Slots, Stopped};
+use det_values::CycleInput;
+use std::alloc::Global;
+
+/// Gives the inputs of the stimulus in a slot, which it reads in pieces of 4,096 bytes. It keeps
+/// one block and one piece.
+#[derive(Drop)]
+pub struct StimulusReader {
+    slot: u32,
+    text: StimReader,
+}
+
+fn stopped(error: StimError) -> Stopped<StimFault>
+    ensures { result ≡ stopped_by error }
+{
+    match error {
+        StimError::Bad(fault) => Stopped::Refused(fault),
+        StimError::OutOfMemory => Stopped::Failed(Failure::OutOfMemory),
+    }
+}
+
+impl StimulusReader {
+    ghost use Rattle.std.specs.Prelude.{ℕ, ◌<◌, ◌≤◌, List, [], ◌++◌};
+    ghost use Rattle.det_values.specs.declared.frames.CycleInput.{CycleInput as Input};
+    ghost use Rattle.det_io.specs.Shelf.{Reads, IsAtEnd};
+    ghost use Rattle.det_io.specs.Traffic.{ShelfTraffic, shelf_run, failure_in};
+    ghost use Rattle.stimulus.specs.slot_reader.StandsFor.{StandsFor, InputIs, ReadsIfNeeded};
+    ghost use Rattle.stimulus.specs.slot_reader.StandsFor.{slot_of, events_of};
+    ghost use Rattle.stimulus.specs.slot_reader.Steps.{room, FedIs, IsHungry, Hungers, GaveAll};
+    ghost use Rattle.stimulus.specs.slot_reader.Steps.{PieceIs};
+    ghost use Rattle.stimulus.specs.slot_reader.Steps.{Shrinks};
+
+    /// A reader of what a slot has left, for a profile with so many events. It takes no memory,
+    /// and reads nothing yet.
+    pub fn at(alloc: Global, slot: u32, events: u16) -> StimulusReader
+        ensures stands { StandsFor result [] [] }
+        ensures slot { slot_of result ≡ slot }
+        ensures events { events_of result ≡ events }
+    {
+        StimulusReader {
+            slot,
+            text: StimReader::new(alloc, events),
+        }
+    }
+
+    /// The input of the next complete block. None where the slot was read to its end and its text
+    /// is a whole stimulus. Refused tells the bad line, as soon as it counts as fed. After a failed
+    /// read the reader stands as before; after a refusal and after `OutOfMemory` it isn't to be
+    /// used.
+    pub fn next_input<S: Slots>(
+        &mut self,
+        shelf: &mut S,
+    ) -> Result<Option<CycleInput>, Stopped<StimFault>>
+        requires { slot_of self.old < (S.sees shelf.old).slots }
+        ensures input { (more : List ℕ)
+            × Reads (S.sees shelf.old) (S.sees shelf.new) (slot_of self.old) more
+            × ((read : List ℕ) (given : List Input) → StandsFor self.old read given
+            → ReadsIfNeeded (events_of self.old) read given more
+            × InputIs result self.new (IsAtEnd (S.sees shelf.new) (slot_of self.old))
+            (read ++ more) given) }
+        ensures slot { slot_of self.new ≡ slot_of self.old }
+        ensures events { events_of self.new ≡ events_of self.old }
+        ensures traffic { ShelfTraffic (shelf_run S.sees S.stays shelf.old shelf.new)
+            (failure_in result) }
+    {
+        'pieces: loop {
+            if let Some(input) = self.fed_input()? {
+                return Ok(Some(input));
+            }
+            if !self.read_on(shelf)? {
+                return Ok(None);
+            }
+        }
+    }
+
+    /// Takes an input that nobody needs, for the memory of the next one.
+    pub fn take_back(&mut self, input: CycleInput)
+        ensures { self.new ≡ self.old }
+    {
+        self.text.take_back(input);
+    }
+
+    /// The input of the next complete block of what was fed.
+    fn fed_input(&mut self) -> Result<Option<CycleInput>, Stopped<StimFault>>
+        ensures input { (read : List ℕ) (given : List Input) → StandsFor self.old read given
+            → FedIs result self.new read given }
+        ensures hungers { Hungers result self.new }
+        ensures room { room self.new ≤ room self.old }
+        ensures slot { slot_of self.new ≡ slot_of self.old }
+        ensures events { events_of self.new ≡ events_of self.old }
+    {
+        'items: loop {
+            let item = match self.text.next_cycle() {
+                Ok(item) => item,
+                Err(error) => return Err(stopped(error)),
+            };
+            match item {
+                None => return Ok(None),
+                Some(item) => match item {
+                    StimItem::Terminate => {}
+                    StimItem::Cycle(input) => return Ok(Some(input)),
+                },
+            }
+        }
+    }
+
+    /// Reads a piece. False at the end of the slot, where its text is a whole stimulus.
+    fn read_on<S: Slots>(&mut self, shelf: &mut S) -> Result<bool, Stopped<StimFault>>
+        requires slot { slot_of self.old < (S.sees shelf.old).slots }
+        requires hungry { IsHungry self.old }
+        ensures piece { (more : List ℕ)
+            × Reads (S.sees shelf.old) (S.sees shelf.new) (slot_of self.old) more
+            × ((read : List ℕ) (given : List Input) → GaveAll self.old read given
+            → PieceIs result self.new (IsAtEnd (S.sees shelf.new) (slot_of self.old))
+            (read ++ more) given) }
+        ensures shrinks { Shrinks result (room self.old) (room self.new) }
+        ensures slot { slot_of self.new ≡ slot_of self.old }
+        ensures events { events_of self.new ≡ events_of self.old }
+        ensures traffic { ShelfTraffic (shelf_run S.sees S.stays shelf.old shelf.new)
+            (failure_in result) }
+    {
+        let mut piece = [0; PIECE];
+        let n = shelf.read(self.slot, &mut piece)?;
+        if n == 0 {
+            return match self.text.finish() {
+                Ok(()) => Ok(false),
+                Err(fault) => Err(Stopped::Refused(fault)),
+            };
+        }
+        match self.text.feed(&piece[..n]) {
+            Ok(()) => Ok(true),
+            Err(_) => Err(Stopped::Failed(Failure::OutOfMemory)),
+        }
+    }
+}

@@ -1,0 +1,125 @@
+use crate::pool_tests::HELD;
+use crate::pool_tests::gates::Wanted;
+use crate::pool_tests::passes::{
+    alone, ended_as_alone, gate_of, is_alike, is_crew_alike, is_refused, list_pass, many_bytes,
+    shared, twice, watched_pass,
+};
+use std::sync::atomic::Ordering;
+use worker_pool::{MeetGate, run_worker_pool};
+
+/// The numbers of elements, element i having the byte i % 251, and the byte from which on an
+/// element refuses. So the element `limit` is the least that does.
+const ROWS: [(usize, u32); 12] = [
+    (0, 65536),
+    (1, 65536),
+    (64, 65536),
+    (65, 65536),
+    (1000, 0),
+    (1000, 63),
+    (1000, 64),
+    (1000, 200),
+    (4096, 65536),
+    (4097, 65536),
+    (4097, 200),
+    (65536, 65536),
+];
+
+#[test]
+fn workers_meet(rt: HostRuntime) {
+    let gate = shared(&rt, rt.alloc(), MeetGate::new());
+    let pass = list_pass(&rt, rt.alloc(), 65536, None, &[3; 128]);
+    let done = run_worker_pool(&rt, rt.alloc(), &pass.pass(), 2, &gate);
+    assert!(rt; gate.met() && ended_as_alone(&rt, rt.alloc(), done, &[3; 128]));
+}
+
+/// The pool gives what the pass in order gives, whose part is the list of the elements, and of the
+/// elements that refuse it answers the least.
+#[test]
+fn every_number_of_workers_answers_alike(rt: HostRuntime) {
+    let bytes = many_bytes(&rt, rt.alloc());
+    for (count, limit) in ROWS {
+        let elements = &bytes.as_slice()[..count.min(65536)];
+        let pass = list_pass(&rt, rt.alloc(), limit, None, elements);
+        let wanted = alone(&rt, rt.alloc(), limit, elements);
+        let refuses = (limit as usize) < count;
+        assert!(rt;
+            is_refused(&wanted, limit) == refuses,
+            "{count} from {limit}"
+        );
+        assert!(rt;
+            is_alike(&rt, rt.alloc(), &pass, &wanted),
+            "{count} from {limit}"
+        );
+    }
+}
+
+/// The same of the passes of one crew, some of which refuse, in memory of those before them.
+#[test]
+fn one_crew_answers_alike_pass_after_pass(rt: HostRuntime) {
+    for workers in [2, 8, 64] {
+        assert!(rt;
+            is_crew_alike(&rt, rt.alloc(), workers, &ROWS),
+            "{workers} workers"
+        );
+    }
+}
+
+/// Worker 1 is held until the caller has run all elements, and is not waited for.
+#[test]
+fn blocks_are_claimed(rt: HostRuntime) {
+    let gate = gate_of(&rt, rt.alloc(), 1, Wanted::Runs(128));
+    let pass = watched_pass(&rt, rt.alloc(), &gate, &[3; 128]);
+    let done = run_worker_pool(&rt, rt.alloc(), &pass.pass(), 2, &gate);
+    assert!(rt; gate.came.load(Ordering::SeqCst) && gate.watch.runs.load(Ordering::SeqCst) == 128);
+    assert!(rt; ended_as_alone(&rt, rt.alloc(), done, &[3; 128]));
+}
+
+/// The caller is held until a kept thread has run all elements and has replied. What it replied is
+/// taken, and no element is run again.
+#[test]
+fn a_block_of_a_kept_thread_is_run_once(rt: HostRuntime) {
+    let gate = gate_of(&rt, rt.alloc(), 0, Wanted::Rest(128));
+    let pass = watched_pass(&rt, rt.alloc(), &gate, &[3; 128]);
+    let done = run_worker_pool(&rt, rt.alloc(), &pass.pass(), 2, &gate);
+    assert!(rt; gate.came.load(Ordering::SeqCst) && gate.watch.runs.load(Ordering::SeqCst) == 128);
+    assert!(rt; ended_as_alone(&rt, rt.alloc(), done, &[3; 128]));
+}
+
+/// The caller is held in the second pass of a crew until a kept thread has run all its elements and
+/// has replied: a thread that replied to one pass gets work in the next one.
+#[test]
+fn a_kept_thread_works_in_each_pass(rt: HostRuntime) {
+    let gate = gate_of(&rt, rt.alloc(), 0, Wanted::Rest(128));
+    let first = list_pass(&rt, rt.alloc(), 65536, None, &[3; 128]);
+    let second = watched_pass(&rt, rt.alloc(), &gate, &[5; 128]);
+    let (before, after) = twice(&rt, rt.alloc(), &first, &second, &gate);
+    assert!(rt; gate.came.load(Ordering::SeqCst) && gate.watch.runs.load(Ordering::SeqCst) == 128);
+    assert!(rt; ended_as_alone(&rt, rt.alloc(), before, &[3; 128]));
+    assert!(rt; ended_as_alone(&rt, rt.alloc(), after, &[5; 128]));
+}
+
+/// A kept thread is held at the gate through a whole pass, and let go before the next one. Its
+/// reply to the first pass comes too late, and is no part of the second.
+#[test]
+fn a_reply_to_an_earlier_pass_is_thrown_away(rt: HostRuntime) {
+    let gate = gate_of(&rt, rt.alloc(), 1, Wanted::LetGo);
+    let first = list_pass(&rt, rt.alloc(), 65536, None, &[3; 300]);
+    let second = list_pass(&rt, rt.alloc(), 65536, None, &[5; 300]);
+    let (before, after) = twice(&rt, rt.alloc(), &first, &second, &gate);
+    assert!(rt; gate.came.load(Ordering::SeqCst));
+    assert!(rt; ended_as_alone(&rt, rt.alloc(), before, &[3; 300]));
+    assert!(rt; ended_as_alone(&rt, rt.alloc(), after, &[5; 300]));
+}
+
+/// A kept thread claims a block and is held in it until the caller has given it up and run the
+/// block itself.
+#[test]
+fn a_block_that_is_given_up_is_run_again(rt: HostRuntime) {
+    let gate = gate_of(&rt, rt.alloc(), 0, Wanted::Hold);
+    let first = watched_pass(&rt, rt.alloc(), &gate, &[HELD; 128]);
+    let second = watched_pass(&rt, rt.alloc(), &gate, &[5; 128]);
+    let (before, after) = twice(&rt, rt.alloc(), &first, &second, &gate);
+    assert!(rt; gate.came.load(Ordering::SeqCst));
+    assert!(rt; ended_as_alone(&rt, rt.alloc(), before, &[HELD; 128]));
+    assert!(rt; ended_as_alone(&rt, rt.alloc(), after, &[5; 128]));
+}

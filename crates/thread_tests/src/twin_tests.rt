@@ -1,0 +1,6 @@
+//! Tests of threads that meet: two copies of a run, and the two ends of a queue.
+
+#[cfg(test)]
+mod queue;
+#[cfg(test)]
+mod two_copies;

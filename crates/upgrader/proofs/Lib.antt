@@ -1,6 +1,0 @@
-mod Order
-mod Genuine
-mod Formats
-mod Records
-mod Going
-mod Ending

@@ -1,6 +1,0 @@
-//! The lines that tell whether copies agree, and the place where they part.
-#![tactic(auto)]
-
-mod put;
-
-pub use put::{put_place, verdict_line};
