@@ -1,9 +1,10 @@
-//! Fakes of a reader and of a writer.
+//! Tests of `StdSink` and `read_trying`, with a reader and a writer that are interrupted or
+//! fail.
 use det_io::{Sink, SinkFailed, StdSink, read_trying, write_all};
 use std::io::{self, ErrorKind, Read, Write};
 use std::test::Fail;
 
-/// A writer that takes nothing.
+/// A writer that takes no byte.
 #[derive(Drop)]
 struct Full;
 
@@ -30,10 +31,10 @@ fn a_write_that_takes_nothing_is_a_fault(rt: HostRuntime) -> Result<(), Fail> {
     Ok(())
 }
 
-/// How often one call tries at most.
+/// The most tries of one call.
 const MOST_TRIES: u32 = 1000;
 
-/// A reader and writer that is interrupted so many times, and then moves one byte.
+/// A reader and writer that is interrupted a number of times, and then moves one byte.
 #[derive(Drop)]
 struct Interrupted {
     times: u32,
@@ -97,7 +98,7 @@ fn an_interrupted_read_is_tried_again(rt: HostRuntime) -> Result<(), Fail> {
     Ok(())
 }
 
-/// A reader and writer that moves a byte, fails once, and moves nothing from then on.
+/// A reader and writer that moves a byte, fails once, and then moves nothing.
 #[derive(Drop)]
 struct Broken {
     calls: u32,

@@ -1,9 +1,9 @@
-//! Reads of the operating system that fail.
+//! A test of a failing read of the operating system.
 use det_io::{DirShelf, Shelf, ShelfFailed, Slots};
 use std::io::ErrorKind;
 use std::test::Fail;
 
-/// A folder is opened, and none of its reads gives bytes.
+/// Opening a folder succeeds, and each read of it fails.
 #[test]
 fn a_read_of_a_folder_fails(rt: HostRuntime) -> Result<(), Fail> {
     let mut buf = [0; 2];

@@ -1,9 +1,9 @@
-//! Pieces that are gathered in front of a sink.
+//! Tests of `Front`: which pieces it holds, and when it writes them.
 use det_io::sink_buffer::{Front, Gather, buffer_room};
 use det_io::{FailList, MemSink, SinkFailed};
 use std::test::Fail;
 
-/// How many pieces of ten bytes a buffer holds. There is room for six more bytes.
+/// The number of pieces of ten bytes that a buffer holds. Six more bytes have room.
 const PIECES: u32 = 6_553;
 
 fn fill(front: &mut Front<'_, '_, MemSink>) -> Result<(), SinkFailed> {

@@ -1,5 +1,6 @@
-//! Tests of the real edges: readers and writers that are interrupted, fail or move little, and a
-//! folder that is read as a file.
+//! Tests of `det_io`: interrupted and failing readers and writers, a folder read as a file, and the
+//! buffer in front of a sink. They are in a crate of their own, since proving a crate's tests
+//! proves that crate a second time.
 #![tactic(auto)]
 
 #[cfg(test)]

@@ -1,4 +1,4 @@
-//! The program `bench_pool`: prints how long a pass of the pool takes over the heavy job.
+//! The program `bench_pool`: prints the time of a pass of the heavy job by 1, 2 and 4 workers.
 #![tactic(auto)]
 
 mod timed;
@@ -9,7 +9,7 @@ use det_values::Params;
 use job_heavy::Heavy;
 use std::env;
 
-/// The elements of a pass.
+/// The number of elements of the pass.
 const ELEMENTS: i64 = 10_000;
 
 const WORKERS: [u32; 3] = [1, 2, 4];

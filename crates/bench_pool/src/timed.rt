@@ -1,4 +1,4 @@
-//! A pass of a job, timed.
+//! Measures the time of a pass of a job by a crew.
 
 ghost use Rattle.std.specs.Prelude.{◌≡◌, ◌≤◌, length, IfOk, IfSome};
 ghost use Rattle.std.specs.Arc.{arc_value};
@@ -28,7 +28,7 @@ fn no_events(alloc: Global) -> std::result::Result<EventCache, OutOfMemory>
     EventCache::new(alloc, &Events::new(alloc))
 }
 
-/// A value that can have several owners.
+/// A value behind a new `Arc`.
 fn shared<T: Drop>(alloc: Global, value: T) -> std::result::Result<Arc<T, Global>, OutOfMemory>
     ensures { IfOk result (λ owner. arc_value owner ≡ value) }
 {
@@ -66,8 +66,8 @@ fn pass_zero<J: Job>(
     })
 }
 
-/// The first pass over the elements that a job of these parameters starts with. None where memory
-/// is short, or the job can't be made or refuses.
+/// The first pass over the elements that a job with these parameters starts with. None if memory
+/// runs out, or the job can't be made or refuses.
 fn first_pass<J: Job>(alloc: Global, params: &Params) -> Option<HeldPass<J>>
     ensures { IfSome result (λ pass. IsReady J.meaning J.Covers J.Own J.Fit pass) }
 {
@@ -83,7 +83,7 @@ fn first_pass<J: Job>(alloc: Global, params: &Params) -> Option<HeldPass<J>>
     pass_zero(alloc, job, plan, carry, elements, client.seed()).ok()
 }
 
-/// The time of a pass in this pool.
+/// The time of a pass by this pool.
 fn timed<J: Job, P: Pool<J>, R: Clock>(
     rt: &R,
     alloc: Global,
@@ -98,7 +98,7 @@ fn timed<J: Job, P: Pool<J>, R: Clock>(
     Ok(start.elapsed(rt)?)
 }
 
-/// The same by a crew in this room.
+/// The time of a pass by a crew started in this room.
 fn timed_in_room<J, B, R>(
     rt: &R,
     alloc: Global,
@@ -129,8 +129,8 @@ where
     time
 }
 
-/// The time of the first pass over the elements that a job of these parameters starts with, by a
-/// crew.
+/// The time of the first pass, by a crew, over the elements that a job with these parameters starts
+/// with.
 pub fn timed_pass<J, R>(rt: &R, alloc: Global, params: &Params, workers: u32) -> Result<Duration>
 where
     J: Job + Send + Sync + 'static,

@@ -90,7 +90,7 @@ module _ (wanted : Outcome) (tells rose other : Type 0) where
     write_fault = λ e. cc;
   }
 
--- a run that meets an outcome where more is told, or fewer failures are allowed
+-- a run that meets an outcome if more is known, or fewer failures are allowed
 pub meets-under : (wanted : Outcome) (tells rose other tells2 rose2 other2 : Type 0) (before after : List ℕ → Type 0) (answer : Answer)
     → (tells2 → tells) → (rose → rose2) → (other → other2)
     → Meets wanted tells rose other before after answer → Meets wanted tells2 rose2 other2 before after answer

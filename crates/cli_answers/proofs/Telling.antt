@@ -1,4 +1,4 @@
--- What is known of bytes that were read from a name whose bytes are told.
+-- What is known of bytes that were read from a name whose bytes are known.
 use Rattle.std.proofs.Common.{◌≡◌, ℕ, List, [], ◌++◌, refl}
 use Rattle.std.specs.Prelude.{Option, Some, None, IsSome}
 use Rattle.std.specs.Option.{unwrap_or}

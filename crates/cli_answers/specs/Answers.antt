@@ -1,4 +1,4 @@
--- What an answer of a command tells: its exit status, and its line for `err`.
+-- What an answer of a command reports: its exit status, and its line for `err`.
 use Rattle.std.specs.Prelude.{ℕ, List, [], ◌++◌, min, map, take, ◌&&◌, nat_le, codes, decimal}
 use Rattle.std.specs.Prelude.{if◌then◌else◌, Option}
 use Rattle.std.specs.Option.{option_map_or}
@@ -29,22 +29,22 @@ use Rattle.cli_answers.specs.declared.answer.Answer.TheVariants.{BadRecord}
 use Rattle.cli_answers.specs.declared.answer.Answer.TheVariants.{BadProfile, ReadFault, WriteFault}
 use Rattle.cli_answers.specs.declared.answer.Answer.TheVariants.{OutOfMemory, NoMajority}
 
--- what a failure is answered as
+-- the answer of a failure
 abbrev pub failed : Failure → Answer
 failed failures.Read = ReadFault
 failed failures.Write = WriteFault
 failed failures.OutOfMemory = OutOfMemory
 
--- a record without a fault is done; the one record that is read is copy 0
+-- the answer by the fault of the only record that is read, which is copy 0
 abbrev pub by_fault : Option RecordFault → Answer
 by_fault fault = option_map_or (BadRecord 0) fault Done
 
--- what a command answers that stopped in the one record that it reads, which is copy 0
+-- the answer of a command that stopped in the only record that it reads, which is copy 0
 abbrev pub stopped : Stopped RecordFault → Answer
 stopped (Refused fault) = BadRecord 0 fault
 stopped (Failed failure) = failed failure
 
--- what a command answers that has no manifest
+-- the answer of a command that has no manifest
 abbrev pub without_manifest : Stopped refusals.BadManifest → Answer
 without_manifest (Refused why) = BadManifest why
 without_manifest (Failed failure) = failed failure
@@ -70,7 +70,7 @@ ended text = text ++ codes "\n"
 abbrev pub printable : ℕ → ℕ
 printable byte = if nat_le 33 byte && nat_le byte 126 then byte else 63
 
--- a table of a manifest, in front of its key
+-- a table of a manifest, with a dot after it
 abbrev pub table_text : KeyTable → List ℕ
 table_text Top = []
 table_text (Event number) = codes "event." ++ (decimal number ++ codes ".")
@@ -81,7 +81,7 @@ table_text RunNeeds = codes "run_needs."
 abbrev pub unknown_text : unknown.UnknownKey → List ℕ
 unknown_text key = table_text key.table ++ map printable (take (min key.len 64) key.bytes)
 
--- what is bad about a manifest
+-- why a manifest is refused
 abbrev pub bad_manifest_text : refusals.BadManifest → List ℕ
 bad_manifest_text (Fault TooLong) = codes "too long"
 bad_manifest_text (Fault NotToml) = codes "not toml"

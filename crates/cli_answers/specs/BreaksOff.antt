@@ -1,11 +1,11 @@
--- Where a read of a record failed: what was written is what the bytes give that were read.
+-- What a command that prints as it reads has written when a read fails.
 use Rattle.std.specs.Prelude.{◌≡◌, ℕ, ◌⊎◌, List, [], ◌++◌, Some}
 use Rattle.det_io.specs.Shelf.{ShelfState}
 use Rattle.det_io.specs.Sink.{Grew}
 use Rattle.cli_answers.specs.Outcome.{told}
 
--- of the bytes under a name, the first that was opened, these were read, and `out` took what is
--- written of them
+-- The bytes `read` of a name were read, the first name that was opened, and `out` took what is
+-- written of them.
 pub record BreaksOff (first last : ShelfState) (name : List ℕ) (written : List ℕ → List ℕ)
     (before after : List ℕ → Type 0) : Type 0 where
   pub read : List ℕ

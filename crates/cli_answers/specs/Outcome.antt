@@ -1,4 +1,4 @@
--- What a command gives: an answer and the bytes for `out`; and when a run of it meets that.
+-- The outcome of a command, an answer and the bytes for `out`, and when a run meets it.
 use Rattle.std.specs.Prelude.{◌≡◌, ℕ, ◌⊎◌, List, [], IsSome}
 use Rattle.std.specs.List.{All}
 use Rattle.std.specs.Option.{unwrap_or}
@@ -18,7 +18,7 @@ pub record OutcomeIn (A : Type 0) : Type 0 where
 abbrev pub Outcome : Type 0
 Outcome = OutcomeIn Answer
 
--- a text that is always there
+-- the outcome of a command that prints a text
 abbrev pub text_outcome : List ℕ → Outcome
 text_outcome text = record { answer = Done; bytes = text }
 
@@ -26,30 +26,30 @@ text_outcome text = record { answer = Done; bytes = text }
 abbrev pub refusal : Answer → Outcome
 refusal answer = record { answer = answer; bytes = [] }
 
--- the shelf tells the bytes under these names
+-- the bytes under these names are known
 abbrev pub Tells : ShelfState → List (List ℕ) → Type 0
 Tells shelf names = All (λ name. IsSome (shelf.holds name)) names
 
--- the bytes under a name, where the shelf tells them
+-- the bytes under a name, if they are known
 abbrev pub told : ShelfState → List ℕ → List ℕ
 told shelf name = unwrap_or (shelf.holds name) []
 
--- How a run answers that ought to give an outcome. `failed` gives the answers of failures; `tells`
--- says that all bytes that the outcome rests on are told, and the two failures that the count of
--- faults of what is read, or of `out`, rose in the run.
+-- A run meets the outcome `wanted`. `failed` gives the answers of failures. `tells` says that all
+-- bytes that the outcome depends on are known. `read_failed` and `write_failed` say that the count
+-- of faults of what is read, or of `out`, rose.
 pub record MeetsBy {A : Type 0} (failed : Failure → A) (wanted : OutcomeIn A)
     (tells read_failed write_failed : Type 0) (before after : List ℕ → Type 0) (answer : A)
     : Type 0 where
-  -- `out` took a prefix of the bytes
+  -- whatever the answer, `out` took a prefix of the bytes
   pub part : tells → GrewByPrefix before after wanted.bytes
-  -- the answer is a failure's, or it is the outcome's and `out` took all its bytes
+  -- the answer is that of a failure, or it is the outcome's and `out` took all bytes
   pub whole : tells → (answer ≡ failed Read) ⊎ ((answer ≡ failed Write)
       ⊎ ((answer ≡ failed OutOfMemory)
       ⊎ ((answer ≡ wanted.answer) × Grew before after wanted.bytes)))
   pub read_fault : answer ≡ failed Read → read_failed
   pub write_fault : answer ≡ failed Write → write_failed
 
--- the same of a command of `det`
+-- the same for a command of `det`
 abbrev pub Meets : Outcome → (tells read_failed write_failed : Type 0)
     → (before after : List ℕ → Type 0) → Answer → Type 0
 Meets = MeetsBy failed

@@ -1,4 +1,4 @@
-//! How a command ended, with what its line for `err` tells.
+//! `Answer`, how a command ended, with its status and its line on standard error.
 ghost use Rattle.std.specs.Prelude.{◌≡◌, ◌+◌, ◌≤◌, ◌++◌, length, codes, decimal};
 ghost use Rattle.manifest.specs.KeyTexts.{key_text};
 ghost use Rattle.cli_answers.specs.Answers.{status_of, reason_word, ended, err_line};
@@ -11,7 +11,7 @@ use det_io::{Failure, Stopped};
 use manifest::{Key, KeyTable, ManifestFault, UnknownKey};
 use record_grammar::{Reason, RecordFault};
 
-/// Why a manifest is refused: it has a fault, or its job refuses a parameter, the least bad one,
+/// Why a manifest is refused: a fault of its text, or the least parameter that its job refuses,
 /// counted from 0.
 #[derive(Clone, Copy, Debug, PartialEq, Eq, Drop)]
 pub enum BadManifest {
@@ -19,25 +19,25 @@ pub enum BadManifest {
     Parameter(u8),
 }
 
-/// How a command ended.
+/// How a command ended. A variant carries what its line on standard error reports.
 #[derive(Clone, Copy, Debug, PartialEq, Eq, Drop)]
 pub enum Answer {
     Done,
-    /// The copies differ, or a record departs from the run of its own inputs. The output tells
-    /// where.
+    /// The copies differ, or a record differs from the run of its own inputs. `compare` and `check`
+    /// print the place, and `upgrade` stops before it.
     Differs,
     BadWords,
     BadManifest(BadManifest),
     /// The number of the bad line, counted from 1.
     BadStimulus { line: u64 },
-    /// The copy, counted from 0, and its fault. Where one record is read the copy is 0.
+    /// The copy, counted from 0, and its fault. A command that reads one record reports copy 0.
     BadRecord { copy: u32, fault: RecordFault },
-    /// The job that the record's header names is unknown, or it refuses the header's parameters.
+    /// The record's header names an unknown job, or the job refuses the header's parameters.
     BadProfile,
     ReadFault,
     WriteFault,
     OutOfMemory,
-    /// The first row that no majority of the copies holds.
+    /// The first row, counted from 0, that no majority of the copies holds.
     NoMajority { row: u32 },
 }
 
@@ -213,7 +213,8 @@ impl Answer {
         }
     }
 
-    /// The line for `err`, which is empty where the command is done or differs. It takes no memory.
+    /// The line for standard error, empty for `Done` and `Differs`. It allocates nothing, so a
+    /// command that ran out of memory can still report it.
     pub fn line(self) -> Line
         ensures { result ≡ err_line self }
     {

@@ -1,5 +1,6 @@
-//! How a command of the program ends: its answer, the exit status and the line on standard error
-//! that tell it, and what it means that a command meets its outcome.
+//! How a command of the program ends: its answer, its exit status and its line on standard error.
+//! `specs/Outcome.antt` defines when a run of a command meets its outcome. Every command's contract
+//! says so by `Meets`.
 #![tactic(auto)]
 
 mod answer;

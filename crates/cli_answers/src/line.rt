@@ -1,4 +1,4 @@
-//! A short text that takes no memory beyond its place.
+//! `Line`, a short text in an array, so that an error can be reported when no memory is left.
 ghost use Rattle.std.specs.Prelude.{◌≡◌, ◌+◌, ◌≤◌, [], ◌∷◌, ◌++◌, length, map, decimal};
 ghost use Rattle.cli_answers.specs.Answers.{printable};
 
@@ -7,7 +7,7 @@ use std::marker::Model;
 
 const ROOM: usize = 160;
 
-/// A text of at most 160 bytes.
+/// A text of at most 160 bytes. The longest line of an answer fits.
 #[derive(Drop)]
 pub struct Line {
     bytes: [u8; 160],
@@ -41,7 +41,7 @@ impl Line {
         }
     }
 
-    /// A text as a line.
+    /// A line of this text.
     pub fn of(text: &str) -> Line
         requires { length text.now ≤ 160 }
         ensures { result ≡ text.now }
@@ -51,7 +51,7 @@ impl Line {
         line
     }
 
-    /// Adds a text.
+    /// Appends a text.
     pub fn push(&mut self, text: &str)
         requires { length self.old + length text.now ≤ 160 }
         ensures { self.new ≡ self.old ++ text.now }
@@ -61,7 +61,7 @@ impl Line {
         self.len = end;
     }
 
-    /// Adds a number in decimal, at most 20 digits.
+    /// Appends a number in decimal, which takes at most 20 digits.
     pub fn push_number(&mut self, number: u64)
         requires { length self.old + 20 ≤ 160 }
         ensures text { self.new ≡ self.old ++ decimal number }
@@ -79,7 +79,7 @@ impl Line {
         self.len += 1;
     }
 
-    /// Adds bytes, with a `?` for each that isn't a printable ASCII character or is a space.
+    /// Appends bytes, with `?` for a space and for every byte that isn't printable ASCII.
     pub fn push_printable(&mut self, bytes: &[u8])
         requires { length self.old + length bytes.now ≤ 160 }
         ensures { self.new ≡ self.old ++ map printable bytes.now }

@@ -1,34 +1,34 @@
-//! The exit status of a run.
+//! The exit statuses of `det`.
 ghost use Rattle.std.specs.Prelude.{◌≡◌};
 ghost use Rattle.cli_answers.specs.Statuses.{number_of};
 
-/// How a run of the program ended.
+/// The exit status of a run, without what its line reports.
 #[derive(Clone, Copy, Debug, PartialEq, Eq, Drop)]
 pub enum Status {
-    /// All bytes were written.
+    /// The command did what it was asked for, and all bytes were written.
     Done,
-    /// The copies differ, or the record departs from the run of its own inputs.
+    /// The copies differ, or the record differs from the run of its own inputs.
     Differs,
-    /// The words are no command.
+    /// The arguments are no command.
     BadWords,
     /// The manifest is refused.
     BadManifest,
     /// The stimulus has a bad line.
     BadStimulus,
-    /// The record has a fault.
+    /// The record has a fault, or its profile is refused.
     BadRecord,
-    /// The shelf failed.
+    /// A file couldn't be opened or read.
     ReadFault,
-    /// The output failed.
+    /// Standard output failed.
     WriteFault,
-    /// Memory could not be had.
+    /// Memory ran out.
     OutOfMemory,
-    /// No record is held by more than half of the copies.
+    /// No record is that of more than half of the copies.
     NoMajority,
 }
 
 impl Status {
-    /// The program's exit status, 0 to 9 in the order of the list.
+    /// The number that the process exits with, 0 to 9 in the order above.
     pub fn number(&self) -> u8
         ensures { result ≡ number_of self.now }
     {

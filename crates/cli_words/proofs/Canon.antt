@@ -43,7 +43,8 @@ no-helper : (word : CommandWord) → bytes_eq (row word).word (codes "help") ≡
 no-helper Demo = refl
 no-helper word = refl
 
--- a command's own word, and words behind it that are read with it, have no other words
+-- a command's own word, and arguments after it that are read with it, have no long form but
+-- themselves
 own-words : (word : CommandWord) (rest : List (List ℕ)) (c : CommandValue) → read (row word).word rest ≡ Some c
     → command_of ((row word).word ∷ rest) ≡ Some c
 own-words word [] c e = ap (λ (w : List ℕ). read w []) (no-other word) ∙ e

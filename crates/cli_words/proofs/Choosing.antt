@@ -1,4 +1,4 @@
--- A word behind the command, which is an option or a name.
+-- An argument after the command, which is an option or a name.
 use Rattle.std.proofs.Common.{ℕ, List, Option}
 use Rattle.std.specs.Option.{option_map_or}
 use Rattle.cli_words.specs.declared.table.OptionWord.{OptionWord}

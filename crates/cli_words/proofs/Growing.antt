@@ -21,7 +21,7 @@ use Rattle.cli_words.specs.First.{read}
 abbrev pub told_list : OptionWord → CommandValue → List ℕ
 told_list o c = option_to_list (value_of o c.options)
 
--- a command, with what these items tell besides
+-- a command, with what these items add
 pub record Grows (from : CommandValue) (items : List Item) (to : CommandValue) : Type 0 where
   pub word : to.word ≡ from.word
   pub names : to.names ≡ from.names ++ names_in items
@@ -143,7 +143,7 @@ begins items c gives = record {
   options = λ o. sym (gives.options o) ∙ ap (λ (v : Option ℕ). option_to_list v ++ values_in o items) (sym (untold o));
 }
 
--- a command's word, and behind it items that give it
+-- a command's word, and after it items that give it
 pub read-given : (first : List ℕ) (items : List Item) (c : CommandValue) → IsInRange c → Gives items c → command_word first ≡ Some c.word
     → read first (words_in items) ≡ Some c
 read-given first items c range gives is =

@@ -1,4 +1,4 @@
--- An option with its value may stand anywhere behind the command.
+-- An option with its value may be anywhere after the command.
 use Rattle.std.proofs.Common.{◌≡◌, ℕ, ◌≤◌, List, [], ◌∷◌, ◌++◌, length, Bool, true, false, ◌&&◌, cond, nat_lt, refl, sym, ◌∙◌, ap, subst}
 use Rattle.std.proofs.Common.{arith, length-append}
 use Rattle.std.specs.Prelude.{Option, Some, None, IfSome, All, is_some, decimal, option_to_list}
@@ -23,7 +23,7 @@ use Rattle.cli_words.specs.First.{read}
 
 -- ---- items that are read as a command give it
 
--- where an option's word can't stand, its words tell nothing
+-- if an option's word can't be at a place, the arguments from there on give nothing
 refused : (o : OptionWord) (n : ℕ) (rest : List (List ℕ)) (c : CommandValue) → with_word (option_row o).word (settled c) ≡ None
     → with_words (option_words o n ++ rest) (settled c) ≡ None
 refused o n rest c none = by_valued (is_some (option_row o).range) where

@@ -1,4 +1,4 @@
--- The items of words: what one item more tells.
+-- The items of arguments: what one item more adds.
 use Rattle.std.proofs.Common.{◌≡◌, ℕ, ◌^◌, ◌<◌, List, [], ◌∷◌, ◌++◌, length, Bool, true, false, cond, nat_le, nat_lt, refl, sym, ◌∙◌, ap}
 use Rattle.std.proofs.Common.{subst, arith}
 use Rattle.std.specs.Prelude.{Option, Some, None, is_some, find, option_to_list, decimal}
@@ -160,7 +160,7 @@ module _ (o : OptionWord) (c : CommandValue) (has : is_among (row c.word).option
         ∙ ap (λ (m : ℕ). with_words rest (settled (record c { options = with_told o m c.options })))
         (sym (flag-value (option_row o).range n e within))
 
--- what is told of an option after one more was told
+-- the value of an option after one more was given
 pub told-value : (o p : OptionWord) (n : ℕ) (options : Options) → IsWithin (option_row o).range n
     → value_of p (with_told o n options) ≡ cond (is_same p o) (Some n) (value_of p options)
 told-value Workers Workers n options within = refl
@@ -220,7 +220,7 @@ same-flag true false e = absurd cc
 same-flag false true e = absurd cc
 same-flag false false e = refl
 
--- options of which the same is told are the same
+-- options with the same values are the same
 pub same-options : (a b : Options) → ((o : OptionWord) → option_to_list (value_of o a) ≡ option_to_list (value_of o b)) → a ≡ b
 same-options a b each =
     ap (λ (v : Option ℕ). record a { workers = v }) (same-value a.workers b.workers (each Workers))

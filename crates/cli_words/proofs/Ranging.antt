@@ -1,4 +1,4 @@
--- What words tell keeps to the table.
+-- What arguments give keeps to the table.
 use Rattle.std.proofs.Common.{◌≡◌, ℕ, ◌<◌, ◌≤◌, List, [], ◌∷◌, ◌++◌, length, Bool, true, false, ◌&&◌, cond, not, nat_le, nat_lt, refl, sym}
 use Rattle.std.proofs.Common.{◌∙◌, subst, inl, inr, arith, length-append}
 use Rattle.std.specs.Prelude.{Option, Some, None, IfSome, is_some, is_none, All, ◌⊎◌}
@@ -20,7 +20,7 @@ use Rattle.cli_words.specs.Reading.{with_next, with_word, with_words, is_whole, 
 use Rattle.cli_words.specs.Reading.{read_in_full, command_of}
 use Rattle.cli_words.proofs.Choosing.{with_option_or_name}
 
--- what is told of an option after one more was told
+-- the value of an option after one more was given
 pub told-cases : (o p : OptionWord) (n m : ℕ) (options : Options) → IsWithin (option_row o).range n
     → value_of p (with_told o n options) ≡ Some m → ((p ≡ o) × (m ≡ n)) ⊎ (value_of p options ≡ Some m)
 told-cases Workers Workers n m options within e = inl (refl, cc)

@@ -1,4 +1,4 @@
--- What is read as a command are its word, and behind it items that give it.
+-- What is read as a command is its word, and after it items that give it.
 use Rattle.std.proofs.Common.{◌≡◌, ℕ, List, [], ◌∷◌, ◌++◌, length, Bool, true, false, ◌&&◌, not, cond, nat_le, nat_lt, refl, sym, ◌∙◌, ap}
 use Rattle.std.proofs.Common.{subst, append-nil, append_assoc}
 use Rattle.std.specs.Prelude.{Option, Some, None, is_some, is_none, option_to_list, decimal}
@@ -92,7 +92,7 @@ option-before o n words rest c to none within front s = record {
   grows = grown-option o n s.items c to none within s.grows;
 }
 
--- the option that awaits its value is in front of the words, and it isn't told yet
+-- the option that awaits its value comes before the arguments, and it isn't given yet
 abbrev awaited_words : Option OptionWord → List (List ℕ)
 awaited_words (Some o) = (option_row o).word ∷ []
 awaited_words None = []

@@ -19,8 +19,8 @@ with_words-drop (first ∷ rest) zero word told within is =
     ap (λ (w : String Global). option_and_then (with_words (texts rest)) (with_word (string_bytes w) told)) (sym is)
 with_words-drop (first ∷ rest) (suc i) word told within is = with_words-drop rest i word told (omega arith) is
 
--- The words from a place on give the same as all of them. It stays so with one word more, and where that can't stand there,
--- all words tell nothing.
+-- The arguments from a place on give the same as all of them. This stays so with one argument more,
+-- and if that can't be there, all arguments give nothing.
 module _ (whole : Option Reading) (words : List (String Global)) (i : ℕ) (told : Reading)
     (same : whole ≡ with_words (texts (drop i words)) told) where
   module _ (word : String Global) (text : List ℕ) (within : i < length words) (is : word ≡ get_or words i word)

@@ -1,4 +1,4 @@
--- Words of programs that have no commands.
+-- The arguments of `det_lane` and `det_twin`, which have no commands.
 use Rattle.std.specs.Prelude.{ℕ, List, ◌&&◌, nat_le, Option, Some, None, option_and_then}
 use Rattle.std.specs.Prelude.{if◌then◌else◌, codes}
 use Rattle.std.specs.Str.{bytes_eq}
@@ -11,7 +11,7 @@ use Rattle.cli_words.specs.Reading.{meant}
 abbrev pub copies_in : ℕ → Option ℕ
 copies_in n = if nat_le 2 n && nat_le n 8 then Some n else None
 
--- the copies that a word asks for, in decimal
+-- the number of copies that an argument spells in decimal
 abbrev pub copies_of : List ℕ → Option ℕ
 copies_of word = option_and_then copies_in (number_of word)
 
@@ -21,6 +21,6 @@ text_meant word =
     else if bytes_eq word (codes "--version") then Some Version
     else None
 
--- the text that a word asks for where it stands alone
+-- the text that an only argument asks for
 abbrev pub text_word : List ℕ → Option TextWord
 text_word word = text_meant (meant word)

@@ -24,11 +24,11 @@ pub record CommandValue : Type 0 where
 abbrev pub command_seen : code.Command → CommandValue
 command_seen c = record { word = c.word; names = texts_of c.names; options = c.options }
 
--- the name at a place, empty where there is none
+-- the name at a place, or the empty text
 abbrev pub name_at : ℕ → CommandValue → List ℕ
 name_at place c = get_or c.names place []
 
--- the number that the first name spells
+-- the number that the first name spells, or 0
 abbrev pub number_in : CommandValue → ℕ
 number_in c = unwrap_or (number_of (name_at 0 c)) 0
 
@@ -36,11 +36,11 @@ abbrev pub files_by : NameKind → List (List ℕ) → List (List ℕ)
 files_by File names = names
 files_by other names = []
 
--- the files that a command speaks of, in the order in which it opens them
+-- the files of a command, in the order in which it opens them
 abbrev pub files_of : CommandValue → List (List ℕ)
 files_of c = files_by (row c.word).names c.names
 
--- whether an option is told
+-- whether an option is given
 abbrev pub is_told : OptionWord → Options → Bool
 is_told Workers options = is_some options.workers
 is_told Seed options = is_some options.seed
@@ -49,7 +49,7 @@ is_told Reports options = options.reports
 is_told Dissent options = options.dissent
 is_told Strict options = options.strict
 
--- with this option, and its value where it takes one
+-- sets an option, to its value if it takes one
 abbrev pub with_told : OptionWord → ℕ → Options → Options
 with_told Workers n options = record options { workers = Some n }
 with_told Seed n options = record options { seed = Some n }
@@ -58,7 +58,7 @@ with_told Reports n options = record options { reports = true }
 with_told Dissent n options = record options { dissent = true }
 with_told Strict n options = record options { strict = true }
 
--- which part of a record is shown
+-- the part of a record that is printed
 abbrev pub part_of : Options → ShowPart
 part_of options =
     if options.reports then parts.Reports

@@ -1,4 +1,4 @@
--- The first word of a command, with what the rest tells.
+-- The command that the first argument names, with what the rest gives.
 use Rattle.std.specs.Prelude.{ℕ, List, ◌∷◌, Option}
 use Rattle.cli_words.specs.Command.{CommandValue}
 use Rattle.cli_words.specs.Reading.{read_in_full}

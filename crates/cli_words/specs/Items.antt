@@ -1,4 +1,4 @@
--- Words parted into names and options, in which the laws tell which words are a command.
+-- Arguments as a list of names and options, in which the laws say which arguments are a command.
 use Rattle.std.specs.Prelude.{◌≡◌, ℕ, List, [], ◌∷◌, ◌++◌, map, Bool, true, is_some, flat_map}
 use Rattle.std.specs.Prelude.{option_to_list, decimal, if◌then◌else◌}
 use Rattle.std.specs.Str.{bytes_eq}
@@ -16,7 +16,7 @@ pub data Item : Type 0 where
   name : (word : List ℕ) → Item
   option : (word : OptionWord) (value : ℕ) → Item
 
--- an option's word, and behind it its value where it takes one
+-- an option's argument, and its value after it if it takes one
 abbrev pub option_words : OptionWord → ℕ → List (List ℕ)
 option_words o n =
     if is_some (option_row o).range then (option_row o).word ∷ decimal n ∷ []
@@ -44,12 +44,13 @@ values_in o (name word ∷ rest) = values_in o rest
 values_in o (option p n ∷ rest) =
     if is_same o p then n ∷ values_in o rest else values_in o rest
 
--- these are the names of a command in their order, and its options, each once, with their values
+-- items give a command its names in order and its options, each once, with their values
 pub record Gives (items : List Item) (c : CommandValue) : Type 0 where
   pub names : names_in items ≡ c.names
   pub options : (o : OptionWord) → values_in o items ≡ option_to_list (value_of o c.options)
 
--- the words, in full, are a command's word, and behind it its names and its options in any order
+-- the arguments, in their long form, are the command's word and then its names and options in any
+-- order
 abbrev pub IsSpelling : List (List ℕ) → CommandValue → Type 0
 IsSpelling words c =
     (items : List Item) × (in_full words ≡ (row c.word).word ∷ words_in items) × Gives items c
@@ -62,7 +63,7 @@ IsItem (option o n) = IsWithin (option_row o).range n
 abbrev pub told_items : Options → OptionWord → List Item
 told_items options o = map (λ n. option o n) (option_to_list (value_of o options))
 
--- the words of a command: its own, its names, and its options in the table's order
+-- the canonical arguments of a command: its word, its names, and its options in the table's order
 abbrev pub words_of : CommandValue → List (List ℕ)
 words_of c =
     (row c.word).word

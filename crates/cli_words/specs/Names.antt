@@ -1,4 +1,4 @@
--- Words as texts, and which of them are names.
+-- Arguments as lists of bytes, and which of them are names.
 use Rattle.std.specs.Prelude.{ℕ, List, [], ◌∷◌, Bool, true, false, ◌&&◌, not, nat_eq, map, take}
 use Rattle.std.specs.Prelude.{is_some, String, string_bytes}
 use Rattle.std.specs.Global.{Global}
@@ -8,7 +8,7 @@ use Rattle.cli_words.specs.declared.names.Names.{Names}
 use Rattle.cli_words.specs.Number.{number_of}
 use Rattle.cli_words.specs.Table.{command_word}
 
--- the words as texts
+-- the arguments as lists of bytes
 abbrev pub texts : List (String Global) → List (List ℕ)
 texts words = map string_bytes words
 
@@ -16,12 +16,12 @@ texts words = map string_bytes words
 abbrev pub texts_of : Names → List (List ℕ)
 texts_of names = map (λ text. text.now) (take names.count names.texts)
 
--- not empty, and without a `-` in front
+-- it isn't empty and doesn't begin with `-`
 abbrev pub is_name : List ℕ → Bool
 is_name [] = false
 is_name (first ∷ rest) = not (nat_eq first 45)
 
--- the name of a file may be any, a number is decimal, a command is one of the table
+-- any path is the name of a file, a number is decimal, a command is in the table
 abbrev pub is_of_kind : NameKind → List ℕ → Bool
 is_of_kind File word = true
 is_of_kind Number word = is_some (number_of word)

@@ -1,4 +1,4 @@
--- What the table lets a command carry.
+-- What the table allows a command.
 use Rattle.std.specs.Prelude.{◌≡◌, ℕ, ◌≤◌, Bool, true, false, ◌&&◌, All, length, Option, Some, None}
 use Rattle.std.specs.Prelude.{is_some}
 use Rattle.cli_words.specs.declared.table.OptionWord.{OptionWord}
@@ -13,7 +13,7 @@ abbrev pub value_if : Bool → Option ℕ
 value_if true = Some 0
 value_if false = None
 
--- the value of an option that is told; one that takes no value has 0
+-- the value of an option that is given; one that takes no value has 0
 abbrev pub value_of : OptionWord → Options → Option ℕ
 value_of Workers options = options.workers
 value_of Seed options = options.seed
@@ -26,8 +26,9 @@ abbrev pub IsWithin : Option (ℕ × ℕ) → ℕ → Type 0
 IsWithin (Some (least, most)) n = (least ≤ n) × (n ≤ most)
 IsWithin None n = n ≡ 0
 
--- its names are names of the row's kind, not too few and not too many; its options are those of
--- the row, with values in range; and reports and a cycle aren't asked for together
+-- A command keeps to its row: its names are of the row's kind, and there are enough and not too
+-- many. Its options are those of the row, with values in range, and `--reports` and `--cycle`
+-- aren't given together.
 pub record IsInRange (c : CommandValue) : Type 0 where
   pub names : All (λ name. is_name_of (row c.word).names name ≡ true) c.names
   pub least : (row c.word).least ≤ length c.names

@@ -1,4 +1,4 @@
--- Which words are a command.
+-- Which arguments are a command.
 use Rattle.std.specs.Prelude.{ℕ, List, [], ◌∷◌, ◌++◌, Bool, false, ◌&&◌, ◌||◌, not, nat_lt, nat_le}
 use Rattle.std.specs.Prelude.{length, Option, Some, None, is_some, is_none, option_and_then, codes}
 use Rattle.std.specs.Prelude.{if◌then◌else◌}
@@ -13,7 +13,7 @@ use Rattle.cli_words.specs.Names.{is_name_of}
 use Rattle.cli_words.specs.Table.{row, command_word, option_row, option_in}
 use Rattle.cli_words.specs.Command.{CommandValue, command_seen, is_told, with_told}
 
--- what the words told so far, and the option whose value is the next one
+-- what the arguments gave so far, and the option that awaits its value
 pub record Reading : Type 0 where
   pub command : CommandValue
   pub awaited : Option OptionWord
@@ -24,7 +24,7 @@ reading_seen r = record { command = command_seen r.command; awaited = r.awaited 
 abbrev pub settled : CommandValue → Reading
 settled c = record { command = c; awaited = None }
 
--- nothing behind the command is told yet
+-- a command with no names and options yet
 abbrev pub begun : CommandWord → Reading
 begun word = settled (record { word = word; names = []; options = UNTOLD })
 
@@ -45,7 +45,7 @@ with_number option n c =
 abbrev pub with_value : OptionWord → List ℕ → CommandValue → Option Reading
 with_value option word c = option_and_then (λ n. with_number option n c) (number_of word)
 
--- an option, at most once; one that takes a value awaits it
+-- an option comes at most once, and one that takes a value awaits it
 abbrev pub with_option : OptionWord → CommandValue → Option Reading
 with_option option c =
     if is_told option c.options then None
@@ -53,7 +53,7 @@ with_option option c =
     then Some (record { command = c; awaited = Some option })
     else Some (settled (record c { options = with_told option 0 c.options }))
 
--- one word more, where this option awaits its value, or else an option or a name
+-- one argument more: the value that an option awaits, or else an option or a name
 abbrev pub with_next : Option OptionWord → List ℕ → CommandValue → Option Reading
 with_next (Some option) word c = with_value option word c
 with_next None word c =
@@ -62,13 +62,13 @@ with_next None word c =
 abbrev pub with_word : List ℕ → Reading → Option Reading
 with_word word r = with_next r.awaited word r.command
 
--- all words, one by one
+-- all arguments, one by one
 unfoldable pub with_words : List (List ℕ) → Reading → Option Reading
 with_words [] r = Some r
 with_words (word ∷ rest) r = option_and_then (with_words rest) (with_word word r)
 
--- no option is left without its value, there are names enough, and of two options that exclude
--- each other there is one
+-- no option awaits its value, there are enough names, and `--reports` and `--cycle` aren't given
+-- together
 abbrev pub is_whole : Reading → Bool
 is_whole r =
     (is_none r.awaited && nat_le (row r.command.word).least (length r.command.names))
@@ -80,31 +80,31 @@ finished r = if is_whole r then Some r.command else None
 abbrev pub read_by : List (List ℕ) → CommandWord → Option CommandValue
 read_by rest word = option_and_then finished (with_words rest (begun word))
 
--- `-h`, `help`, `-V` and `version` alone are other words for commands
+-- the long form of an only argument
 abbrev pub meant : List ℕ → List ℕ
 meant word =
     if bytes_eq word (codes "-h") || bytes_eq word (codes "help") then codes "--help"
     else if bytes_eq word (codes "-V") || bytes_eq word (codes "version") then codes "--version"
     else word
 
--- `help COMMAND` and `COMMAND --help` are other words for `--help COMMAND`
+-- the long form of two arguments: `help COMMAND` and `COMMAND --help` are `--help COMMAND`
 abbrev pub meant_pair : List ℕ → List ℕ → List (List ℕ)
 meant_pair first second =
     if bytes_eq first (codes "help") then codes "--help" ∷ second ∷ []
     else if bytes_eq second (codes "--help") then codes "--help" ∷ first ∷ []
     else first ∷ second ∷ []
 
--- the words in the table's words
+-- the arguments in their long form
 abbrev pub in_full : List (List ℕ) → List (List ℕ)
 in_full (word ∷ []) = meant word ∷ []
 in_full (first ∷ second ∷ []) = meant_pair first second
 in_full words = words
 
--- the command of the first word, with what the rest tells
+-- the command that the first argument names, with what the rest gives
 abbrev pub read_in_full : List (List ℕ) → Option CommandValue
 read_in_full [] = None
 read_in_full (first ∷ rest) = option_and_then (read_by rest) (command_word first)
 
--- the command that the words are
+-- the command that the arguments are
 abbrev pub command_of : List (List ℕ) → Option CommandValue
 command_of words = read_in_full (in_full words)

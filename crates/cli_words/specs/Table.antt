@@ -14,7 +14,8 @@ use Rattle.cli_words.specs.declared.table.Row as code
 use Rattle.cli_words.specs.declared.table.OptionRow as option
 use Rattle.cli_words.specs.declared.table.TheConstants.{NONE, COMMANDS, OPTIONS}
 
--- a command's word, what its names are, the least and most number of them, and its options
+-- a row of the table: the command's word, the kind of its names, how few and how many it takes, and
+-- its options
 pub record Row : Type 0 where
   pub word : List ℕ
   pub names : NameKind
@@ -58,11 +59,12 @@ row command.Chain = row_of (codes "chain") File 3 3
 row command.Help = row_of (codes "--help") Command 0 1 NONE
 row command.Version = row_of (codes "--version") File 0 0 NONE
 
--- the command of a word
+-- the command that an argument names
 abbrev pub command_word : List ℕ → Option CommandWord
 command_word word = find (λ c. bytes_eq (row c).word word) COMMANDS
 
--- an option's word and, where it takes a value, the least and greatest one
+-- a row of the table of options: its argument and, if it takes a value, its least and greatest
+-- value
 pub record OptionRow : Type 0 where
   pub word : List ℕ
   pub range : Option (ℕ × ℕ)
@@ -86,11 +88,11 @@ is_among set Reports = set.reports
 is_among set Dissent = set.dissent
 is_among set Strict = set.strict
 
--- the option of a word
+-- the option that an argument names
 abbrev pub option_word : List ℕ → Option OptionWord
 option_word word = find (λ o. bytes_eq (option_row o).word word) OPTIONS
 
--- the option among these that a word is
+-- the option of this set that an argument names
 abbrev pub option_in : OptionSet → List ℕ → Option OptionWord
 option_in set word =
     option_and_then (λ o. if is_among set o then Some o else None) (option_word word)

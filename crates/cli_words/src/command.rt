@@ -1,4 +1,4 @@
-//! A command with its names and options.
+//! `Command`, what the arguments ask for.
 ghost use Rattle.std.specs.Prelude.{◌≡◌};
 ghost use Rattle.cli_words.specs.Command.{command_seen, name_at, number_in};
 
@@ -7,7 +7,8 @@ use crate::number::number_of;
 use crate::options::Options;
 use crate::table::CommandWord;
 
-/// A command with its names and options, by the command's row of the table.
+/// A command with its names and options. `read_words` returns only commands that keep to their row
+/// of the table.
 #[derive(Clone, Copy)]
 pub struct Command<'a> {
     pub word: CommandWord,
@@ -16,14 +17,14 @@ pub struct Command<'a> {
 }
 
 impl<'a> Command<'a> {
-    /// The name at a place, empty where there is none.
+    /// The name at a place, counted from 0, or the empty text if there is none.
     pub fn name(&self, place: usize) -> &'a str
         ensures { result.now ≡ name_at place (command_seen self.now) }
     {
         self.names.at(place)
     }
 
-    /// The number that the first name spells, 0 where it spells none.
+    /// The number that the first name spells, or 0 if it spells none.
     pub fn number(&self) -> u64
         ensures { result ≡ number_in (command_seen self.now) }
     {

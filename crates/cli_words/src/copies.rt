@@ -1,4 +1,4 @@
-//! How many copies run side by side.
+//! The number of copies that `det_lane` and `det_twin` run side by side.
 ghost use Rattle.std.specs.Prelude.{◌≡◌, ◌≤◌, IfSome};
 ghost use Rattle.cli_words.specs.Alone.{copies_in, copies_of};
 
@@ -16,7 +16,7 @@ fn copies_in(number: u64) -> Option<u32>
     }
 }
 
-/// The copies that a word asks for, 2 to 8 in decimal.
+/// Reads a number of copies: 2 to 8 in decimal.
 pub fn copies_of(word: &str) -> Option<u32>
     ensures is { result ≡ copies_of word.now }
     ensures some { IfSome result (λ copies. 2 ≤ copies) }

@@ -1,4 +1,4 @@
-//! Laws of the definitions that the contracts cite.
+//! Laws of the grammar of commands. They check the definitions that the contracts cite.
 ghost use Rattle.std.specs.Prelude.{◌≡◌, ℕ, ◌^◌, ◌<◌, ◌↔◌, List, ◌∷◌, ◌++◌, Some, All};
 ghost use Rattle.std.specs.Fmt.{decimal};
 ghost use Rattle.cli_words.specs.declared.table.OptionWord.{OptionWord};
@@ -9,33 +9,34 @@ ghost use Rattle.cli_words.specs.Ranges.{IsWithin, IsInRange};
 ghost use Rattle.cli_words.specs.Reading.{command_of};
 ghost use Rattle.cli_words.specs.Items.{Item, option, IsItem, IsSpelling, words_in, words_of};
 
-/// A number has exactly one spelling, its decimal.
+/// A 64-bit number has exactly one spelling, its decimal.
 pub fn one_spelling()
     ensures spelling { (word : List ℕ) (n : ℕ) → n < 2 ^ 64
         → (number_of word ≡ Some n) ↔ (word ≡ decimal n) }
     ensures limit { (word : List ℕ) (n : ℕ) → number_of word ≡ Some n → n < 2 ^ 64 }
 {}
 
-/// A command keeps to its row of the table.
+/// Every command that is read keeps to its row of the table.
 pub fn ranges()
     ensures { (words : List (List ℕ)) (command : CommandValue)
         → command_of words ≡ Some command → IsInRange command }
 {}
 
-/// A command that keeps to its row is read from its own words.
+/// A command that keeps to its row is read from its canonical arguments.
 pub fn canonical()
     ensures { (command : CommandValue)
         → IsInRange command → command_of (words_of command) ≡ Some command }
 {}
 
-/// Exactly these words are a command: in full, the word of a row, and behind it names and options
-/// in any order that keep to the row, each option at most once and with its value behind it.
+/// Exactly these arguments are a command: in their long form, the word of a row, then names and
+/// options in any order that keep to the row. Each option comes at most once, with its value right
+/// after it.
 pub fn exactly()
     ensures { (words : List (List ℕ)) (command : CommandValue)
         → (command_of words ≡ Some command) ↔ (IsInRange command × IsSpelling words command) }
 {}
 
-/// An option with its value may stand anywhere among the names and options behind the command.
+/// The place of an option, with its value, among the names and options changes nothing.
 pub fn anywhere()
     ensures { (first : List ℕ) (front back : List Item) (word : OptionWord) (value : ℕ)
         → All IsItem front → All IsItem back → IsWithin (option_row word).range value

@@ -1,4 +1,7 @@
-//! The words of the command line: which words are a command, and with which names and options.
+//! The grammar of `det`'s command line: which arguments are a command, with which names and
+//! options.
+//! `table` lists the commands and options, `reading` reads arguments by it. `det_lane` and
+//! `det_twin` have no commands. They use the numbers, names and texts of this crate.
 #![tactic(auto)]
 
 mod command;

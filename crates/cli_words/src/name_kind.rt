@@ -1,11 +1,11 @@
-//! Which words are names.
+//! Which arguments are names, and of which kind.
 ghost use Rattle.std.specs.Prelude.{◌≡◌};
 ghost use Rattle.cli_words.specs.Names.{is_name, is_name_of};
 
 use crate::number::number_of;
 use crate::table::{CommandWord, NameKind};
 
-/// Whether a word can be a name: it isn't empty and doesn't begin with `-`.
+/// Whether an argument can be a name: it isn't empty and doesn't begin with `-`.
 pub fn is_name(word: &str) -> bool
     ensures { result ≡ is_name word.now }
 {
@@ -16,7 +16,7 @@ pub fn is_name(word: &str) -> bool
 }
 
 impl NameKind {
-    /// Whether a word is a name of this kind.
+    /// Whether an argument is a name of this kind.
     pub(crate) fn takes(self, word: &str) -> bool
         ensures { result ≡ is_name_of self word.now }
     {

@@ -1,7 +1,7 @@
-//! The names that a command is given.
+//! `Names`, the arguments of a command that aren't options.
 ghost use Rattle.std.specs.Prelude.{◌≡◌, ◌≤◌};
 
-/// At most 8 names, in the order of the words.
+/// At most 8 names in the order of the arguments. Eight are enough for every row of the table.
 #[derive(Clone, Copy)]
 pub struct Names<'a> {
     texts: [&'a str; 8],

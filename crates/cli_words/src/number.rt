@@ -1,11 +1,11 @@
-//! Numbers in decimal.
+//! Numbers in decimal, each with one spelling.
 ghost use Rattle.std.specs.Prelude.{◌≡◌};
 ghost use Rattle.cli_words.specs.Number.{number_of};
 
 use itoa::Buffer;
 
-/// The number that a word spells: decimal digits without a sign, and without a leading zero except
-/// `0` itself.
+/// The 64-bit number that a text spells in decimal. A sign, a leading zero other than in `0`
+/// itself, and anything beyond 64 bits are refused.
 pub fn number_of(word: &str) -> Option<u64>
     ensures { result ≡ number_of word.now }
 {

@@ -1,4 +1,4 @@
-//! The options that a command is given.
+//! `Options`, the options of a command with their values.
 ghost use Rattle.std.specs.Prelude.{◌≡◌, true, is_none};
 ghost use Rattle.cli_words.specs.Table.{option_row};
 ghost use Rattle.cli_words.specs.Command.{is_told, with_told, part_of};
@@ -7,7 +7,7 @@ ghost use Rattle.cli_words.specs.Reading.{is_in_range};
 use crate::table::OptionWord;
 use record_text::ShowPart;
 
-/// The options that are told, with their values.
+/// The options that were given, with their values.
 #[derive(Clone, Copy, Debug, PartialEq, Eq)]
 pub struct Options {
     /// 1 to 64.
@@ -20,7 +20,7 @@ pub struct Options {
     pub strict: bool,
 }
 
-/// No option is told.
+/// No option is given.
 pub const UNTOLD: Options = Options {
     workers: None,
     seed: None,
@@ -31,7 +31,7 @@ pub const UNTOLD: Options = Options {
 };
 
 impl Options {
-    /// Whether an option is told.
+    /// Whether an option is given.
     pub(crate) fn has(&self, option: OptionWord) -> bool
         ensures { result ≡ is_told option self.now }
     {
@@ -45,7 +45,7 @@ impl Options {
         }
     }
 
-    /// The options with an option that takes a value.
+    /// Sets an option that takes a value. The value is in the option's range, so it fits.
     pub(crate) fn with_value(mut self, option: OptionWord, value: u64) -> Options
         requires { is_in_range (option_row option).range value ≡ true }
         ensures { result ≡ with_told option value self }
@@ -61,7 +61,7 @@ impl Options {
         self
     }
 
-    /// The options with one that takes no value.
+    /// Sets an option that takes no value.
     pub(crate) fn with_flag(mut self, option: OptionWord) -> Options
         requires { is_none (option_row option).range ≡ true }
         ensures { result ≡ with_told option 0 self }
@@ -75,7 +75,7 @@ impl Options {
         self
     }
 
-    /// Which part of a record is shown.
+    /// The part of a record that `show` prints.
     pub fn part(&self) -> ShowPart
         ensures { result ≡ part_of self.now }
     {

@@ -1,4 +1,4 @@
-//! The reading of the words, one by one, by the table of commands.
+//! Reads the arguments one by one, by the tables of commands and options.
 ghost use Rattle.std.specs.Prelude.{◌≡◌, ◌∷◌, [], option_map};
 ghost use Rattle.cli_words.specs.Names.{texts};
 ghost use Rattle.cli_words.specs.Command.{command_seen};
@@ -15,7 +15,7 @@ use crate::number::number_of;
 use crate::options::UNTOLD;
 use crate::table::{CommandWord, OptionRow, OptionWord};
 
-/// What the words told so far, and the option whose value is the next one.
+/// What the arguments gave so far, and the option that awaits its value.
 #[derive(Clone, Copy)]
 pub(crate) struct Reading<'a> {
     command: Command<'a>,
@@ -34,7 +34,7 @@ impl OptionRow {
 }
 
 impl<'a> Command<'a> {
-    /// The command with nothing awaited.
+    /// The command, with no option awaiting a value.
     fn settled(self) -> Reading<'a>
         ensures { reading_seen result ≡ settled (command_seen self.entry) }
     {
@@ -44,7 +44,7 @@ impl<'a> Command<'a> {
         }
     }
 
-    /// The command with one name more.
+    /// Adds a name. None if the row takes no such name, or no further one.
     fn with_name(self, word: &'a str) -> Option<Reading<'a>>
         ensures { option_map reading_seen result ≡ with_name word.now (command_seen self.entry) }
     {
@@ -60,7 +60,7 @@ impl<'a> Command<'a> {
         Some(Command { names, ..self }.settled())
     }
 
-    /// The command with the value of an option.
+    /// Adds the value of an option. None if it isn't a number in the option's range.
     fn with_value(self, option: OptionWord, word: &str) -> Option<Reading<'a>>
         ensures { option_map reading_seen result
             ≡ with_value option word.now (command_seen self.entry) }
@@ -73,7 +73,7 @@ impl<'a> Command<'a> {
         Some(Command { options, ..self }.settled())
     }
 
-    /// The command with an option, which isn't told yet.
+    /// Adds an option. None if it was given before.
     fn with_option(self, option: OptionWord) -> Option<Reading<'a>>
         ensures { option_map reading_seen result ≡ with_option option (command_seen self.entry) }
     {
@@ -92,7 +92,7 @@ impl<'a> Command<'a> {
 }
 
 impl<'a> Reading<'a> {
-    /// Nothing behind the command is told yet.
+    /// The command with no names and options yet.
     fn begun(word: CommandWord) -> Reading<'a>
         ensures { reading_seen result ≡ begun word }
     {
@@ -104,7 +104,7 @@ impl<'a> Reading<'a> {
         .settled()
     }
 
-    /// What is told with one word more.
+    /// Reads one argument more. None if it can't follow.
     fn with_word(self, word: &'a str) -> Option<Reading<'a>>
         ensures { option_map reading_seen result ≡ with_word word.now (reading_seen self.entry) }
     {
@@ -117,7 +117,7 @@ impl<'a> Reading<'a> {
         }
     }
 
-    /// What is told with all these words.
+    /// Reads all these arguments.
     fn with_words(self, words: &'a [String]) -> Option<Reading<'a>>
         ensures { option_map reading_seen result
             ≡ with_words (texts words.now) (reading_seen self.entry) }
@@ -149,7 +149,7 @@ impl<'a> Reading<'a> {
     }
 }
 
-/// The command of the first word, with what the rest tells.
+/// The command that the first argument names, with what the rest gives.
 fn read<'a>(first: &str, rest: &'a [String]) -> Option<Command<'a>>
     ensures { option_map command_seen result ≡ read first.now (texts rest.now) }
 {
@@ -157,7 +157,8 @@ fn read<'a>(first: &str, rest: &'a [String]) -> Option<Command<'a>>
     Reading::begun(word).with_words(rest)?.finished()
 }
 
-/// The command of a word with one more behind it.
+/// The same with one argument after the command, so that the aliases need no new array of
+/// arguments.
 #[tactic(auto, unfolding(crate::specs::Reading::with_words))]
 fn read_pair<'a>(first: &str, second: &'a str) -> Option<Command<'a>>
     ensures { option_map command_seen result ≡ read first.now (second.now ∷ []) }
@@ -166,8 +167,8 @@ fn read_pair<'a>(first: &str, second: &'a str) -> Option<Command<'a>>
     Reading::begun(word).with_word(second)?.finished()
 }
 
-/// What a word that stands alone means: `-h` and `help` are `--help`, `-V` and `version` are
-/// `--version`.
+/// The long form of an only argument: `-h` and `help` are `--help`, `-V` and `version` are
+/// `--version`. Any other argument is its own long form.
 pub fn meant(word: &str) -> &str
     ensures { result.now ≡ meant word.now }
 {
@@ -190,7 +191,7 @@ fn read_two<'a>(first: &'a str, second: &'a str) -> Option<Command<'a>>
     read_pair(first, second)
 }
 
-/// Reads the words after the program's name. None where they are no command.
+/// Reads the arguments after the program's name. None if they are no command.
 pub fn read_words(words: &[String]) -> Option<Command<'_>>
     ensures { option_map command_seen result ≡ command_of (texts words.now) }
 {

@@ -1,10 +1,12 @@
-//! The table of commands and the table of options.
+//! The table of commands and the table of options. The grammar and the hints take their limits from
+//! here. A command is a row and not a variant with fields of its own, so reading, hints and laws
+//! have no case for each command.
 ghost use Rattle.std.specs.Prelude.{◌≡◌, ◌≤◌};
 ghost use Rattle.cli_words.specs.Table.{row_of, row_seen, row, command_word};
 ghost use Rattle.cli_words.specs.Table.{option_row_seen, option_row, is_among, option_word};
 ghost use Rattle.cli_words.specs.Table.{option_in};
 
-/// A command by its word.
+/// A command, named by its first argument.
 #[derive(Clone, Copy, Debug, PartialEq, Eq)]
 pub enum CommandWord {
     Demo,
@@ -41,7 +43,7 @@ pub const COMMANDS: [CommandWord; 14] = [
     CommandWord::Version,
 ];
 
-/// An option by its word.
+/// An option, named by its argument.
 #[derive(Clone, Copy, Debug, PartialEq, Eq)]
 pub enum OptionWord {
     Workers,
@@ -62,18 +64,18 @@ pub const OPTIONS: [OptionWord; 6] = [
     OptionWord::Strict,
 ];
 
-/// What the names of a command are.
+/// The kind of a command's names.
 #[derive(Clone, Copy, Debug, PartialEq, Eq)]
 pub enum NameKind {
-    /// Names of files.
+    /// Paths of files.
     File,
-    /// A number of 64 bits in decimal.
+    /// A 64-bit number in decimal.
     Number,
-    /// The word of a command.
+    /// The word of another command.
     Command,
 }
 
-/// Which options a command has.
+/// The options that a command takes.
 #[derive(Clone, Copy)]
 pub struct OptionSet {
     pub workers: bool,
@@ -95,7 +97,7 @@ pub const NONE: OptionSet = OptionSet {
 };
 
 impl OptionSet {
-    /// Whether an option is among them.
+    /// Whether the set has an option.
     pub fn has(&self, option: OptionWord) -> bool
         ensures { result ≡ is_among self.now option }
     {
@@ -109,7 +111,7 @@ impl OptionSet {
         }
     }
 
-    /// The option among these that a word is.
+    /// The option of this set that an argument names.
     pub(crate) fn option(&self, word: &str) -> Option<OptionWord>
         ensures { result ≡ option_in self.now word.now }
     {
@@ -118,7 +120,8 @@ impl OptionSet {
     }
 }
 
-/// A command's word, what its names are, the least and most number of them, and its options.
+/// A row of the table: the command's word, the kind of its names, how few and how many it takes,
+/// and its options.
 #[derive(Clone, Copy)]
 pub struct Row {
     pub word: &'static str,
@@ -203,7 +206,7 @@ impl CommandWord {
         }
     }
 
-    /// The command of a word.
+    /// The command that an argument names.
     pub fn of(word: &str) -> Option<CommandWord>
         ensures { result ≡ command_word word.now }
     {
@@ -216,7 +219,8 @@ impl CommandWord {
     }
 }
 
-/// An option's word and, where it takes a value, the least and greatest one.
+/// A row of the table of options: the option's argument and, if it takes a value, its least and
+/// greatest value.
 #[derive(Clone, Copy)]
 pub struct OptionRow {
     pub word: &'static str,
@@ -239,7 +243,7 @@ impl OptionWord {
         OptionRow { word, range }
     }
 
-    /// The option of a word.
+    /// The option that an argument names.
     pub fn of(word: &str) -> Option<OptionWord>
         ensures { result ≡ option_word word.now }
     {

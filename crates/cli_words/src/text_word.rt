@@ -1,10 +1,10 @@
-//! The word that asks a program without commands for a text.
+//! `TextWord`, the only argument that asks `det_lane` or `det_twin` for a text.
 ghost use Rattle.std.specs.Prelude.{◌≡◌};
 ghost use Rattle.cli_words.specs.Alone.{text_word};
 
 use crate::reading::meant;
 
-/// Which text is asked for.
+/// The text that is asked for.
 #[derive(Clone, Copy)]
 pub enum TextWord {
     Help,
@@ -12,7 +12,7 @@ pub enum TextWord {
 }
 
 impl TextWord {
-    /// `--help` or `--version`, or another word that means one of them where it stands alone.
+    /// Reads `--help`, `--version` or another form of them.
     pub fn of(word: &str) -> Option<TextWord>
         ensures { result ≡ text_word word.now }
     {

@@ -1,4 +1,5 @@
-//! The command `compare`.
+//! The command `compare`: whether copies of a record are equal, or the first place where they
+//! differ.
 
 mod comparing;
 

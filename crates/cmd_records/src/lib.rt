@@ -1,4 +1,7 @@
 //! The commands that read records and run no job: `show`, `salvage`, `compare` and `vote`.
+//!
+//! Each command is a folder and takes names. `record_show` and `voter` do the work of `show` and
+//! `vote` over slots.
 #![tactic(auto)]
 
 pub mod compare_command;

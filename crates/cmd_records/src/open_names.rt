@@ -1,4 +1,4 @@
-//! Names that are opened one after another.
+//! Opens several names, for the commands that read copies.
 
 mod opening;
 

@@ -1,4 +1,4 @@
-//! A record printed as text, item by item, and what an audience reports of its runs.
+//! Prints a record as text, item by item, and then what an audience reports of its runs.
 
 mod presenter;
 mod printing;

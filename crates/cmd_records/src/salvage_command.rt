@@ -1,4 +1,4 @@
-//! The command that makes a record whole that breaks off, and the one that reports of its runs.
+//! The command `salvage`: a truncated record made whole, or reports of its runs.
 
 mod reporting;
 mod salvaging;

@@ -1,4 +1,4 @@
-//! The command that prints a record as text, with the reports of its runs.
+//! The command `show`: a record as text, and reports of its runs.
 
 mod showing;
 

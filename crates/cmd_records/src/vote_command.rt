@@ -1,4 +1,5 @@
-//! The command `vote`: the record of the majority of several copies.
+//! The command `vote`: the record of the majority of several copies, or which copies dissent from
+//! it.
 
 mod text;
 mod voting;

@@ -1,4 +1,4 @@
-//! The record of the majority of several copies.
+//! Votes copies of a record into the record of their majority, row by row as they are read.
 
 mod majority;
 mod outcome;

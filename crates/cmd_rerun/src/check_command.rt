@@ -1,4 +1,5 @@
-//! The command that runs the inputs of a record again and tells where the record departs from it.
+//! The command `check`: runs the inputs of a record again and reports the first place in which the
+//! record departs from them.
 
 mod checking;
 mod printing;

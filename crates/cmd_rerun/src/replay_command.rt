@@ -1,4 +1,4 @@
-//! The command that runs the inputs of a record again.
+//! The command `replay`: runs the inputs of a record again and writes the record that they give.
 
 mod replaying;
 mod visiting;

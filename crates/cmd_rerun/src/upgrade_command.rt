@@ -1,4 +1,4 @@
-//! The command that writes a record of the same run in format 2.
+//! The command `upgrade`: writes the record of the same run in format 2.
 
 mod upgrading;
 mod visiting;

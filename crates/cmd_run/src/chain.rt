@@ -1,4 +1,5 @@
-//! Two clients in a chain: the outputs of one are the samples of the other, cycle by cycle.
+//! Runs two clients in a chain: the second takes its samples from the outputs of the first. The
+//! module `chain_command` reads their manifests.
 
 mod chaining;
 mod counts;

@@ -1,4 +1,5 @@
-//! The command `cmd_run::chain`: a client over a stimulus, and a second one over the outputs of the first.
+//! The command `chain`: runs a client over a stimulus, and a second one over the outputs of the
+//! first.
 
 mod chaining;
 mod over_stimulus;

@@ -1,4 +1,4 @@
-//! A stimulus recorded on several threads, which are kept from its first cycle to its last.
+//! Records a stimulus on several threads, which are kept from the first cycle to the last.
 
 mod recording;
 

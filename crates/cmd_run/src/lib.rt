@@ -1,4 +1,5 @@
-//! The commands that take a manifest or make one: `record`, `chain`, `sim` and `needs`.
+//! The commands that take a manifest or have one built in: `record`, `demo`, `chain`, `sim` and
+//! `needs`.
 #![tactic(auto)]
 
 pub mod chain;

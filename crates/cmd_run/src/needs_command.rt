@@ -1,4 +1,4 @@
-//! The command `needs`: the lines of a manifest, where its job takes its parameters.
+//! The command `needs`: prints the lines of a manifest whose parameters its job takes.
 
 mod command;
 mod lines;

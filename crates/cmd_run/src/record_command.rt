@@ -1,5 +1,5 @@
-//! The commands `demo` and `record`: the record of a stimulus, by the built-in profile or by a
-//! manifest.
+//! The commands `demo` and `record`: write the record of a stimulus, with the built-in profile or
+//! that of a manifest.
 
 mod built_in;
 mod by_manifest;

@@ -1,4 +1,4 @@
-//! The command `sim`: a summary of a run over a made stimulus, and the reports of its cycles.
+//! The command `sim`: prints a summary of a run over a generated stimulus, and the probes' reports.
 
 mod profile;
 mod run;

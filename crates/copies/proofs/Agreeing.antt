@@ -45,7 +45,7 @@ one-record : (a b : List ℕ) → AreBytes a → AreBytes b → fault_in a ≡ N
 one-record a b p q none none-too same =
     whole-spelled a p none ∙ ap (items_spelling places.Header) same ∙ sym (whole-spelled b q none-too)
 
--- ---- a row behind shared items
+-- ---- a row after shared items
 
 -- the row by what follows the shared items
 follows : (given rest : List Item) (copy : List ℕ) → given ++ rest ≡ items_in copy
@@ -65,7 +65,7 @@ begins-item [] None x e = absurd cc
 begins-item [] (Some f) x e = absurd cc
 begins-item (y ∷ rest) end x e = (rest, cc)
 
--- a copy that is whole behind these items
+-- a copy that is whole after these items
 whole-there : (given : List Item) (copy : List ℕ) → IsPrefix given (items_in copy) → row_at (length given) copy ≡ rows.Whole
     → (items_in copy ≡ given) × (fault_in copy ≡ None)
 whole-there given copy p e =

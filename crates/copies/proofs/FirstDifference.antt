@@ -22,7 +22,7 @@ use Rattle.copies.proofs.Equality.{bytes_decide, drawn_decides, place_decides, s
 abbrev pub IsNoneIfSame : {A B : Type 0} → Option B → A → A → Type 0
 IsNoneIfSame o a b = (o ≡ None → a ≡ b) × (a ≡ b → o ≡ None)
 
--- a test that goes on where it holds, and else tells something
+-- a test that goes on where it holds, and else reports something
 guarded : {A B : Type 0} (r : Bool) (some : B) (more : Option B) (a b : A) → Decides r (a ≡ b)
     → (cond r more (Some some) ≡ None → (a ≡ b) × (more ≡ None)) × ((a ≡ b) → more ≡ None → cond r more (Some some) ≡ None)
 guarded true some more a b h = (λ e. (h.0 refl, e), λ s e. e)

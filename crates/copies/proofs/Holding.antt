@@ -1,4 +1,4 @@
--- A row of a copy, held against the row of copy 0.
+-- A row of a copy, compared with the row of copy 0.
 use Rattle.std.proofs.Common.{◌≡◌, ◌-◌, ℕ, List, length, Option, Some, None, refl, sym, ap, subst, ◌∙◌}
 use Rattle.record_grammar.specs.declared.item.Item.{Item}
 use Rattle.record_grammar.specs.declared.item.Item.TheVariants as items

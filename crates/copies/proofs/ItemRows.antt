@@ -1,4 +1,4 @@
--- What the answers of a reader of views come to as rows.
+-- What the results of a reader of views are as rows.
 use Rattle.std.proofs.Common.{◌≡◌, ◌⊎◌, inl, inr, ℕ, List, [], ◌∷◌, ◌++◌, length, Option, Some, None, Result, Ok, Err}
 use Rattle.std.proofs.Common.{refl, sym, ap, subst, ◌∙◌, append_assoc, arith}
 use Rattle.std.proofs.lemmas.List.{append-nil}
@@ -86,7 +86,7 @@ row-on {given = given} {reader = reader} {row = row} h same = record {
   needed = h.needed;
 }
 
--- ---- what is told of the copies
+-- ---- what is known of the copies
 
 pub behind-begins : {first now : ShelfState} {given : List Item} {slot : ℕ} {reader : ItemReader} (copy : List ℕ)
     → ReaderBehind first now given slot reader → first.left slot ≡ Some copy → IsPrefix given (items copy)
@@ -103,7 +103,7 @@ row-shows {now = now} {given = given} {slot = slot} {row = row} copy h told =
 
 -- ---- a row of one copy
 
--- what is read is needed by the row behind the items given
+-- what is read is needed by the row after the items given
 pub read-needed : {first now : ShelfState} {given : List Item} {slot : ℕ} {reader : ItemReader}
     (h : ReaderBehind first now given slot reader) (more : List ℕ) → ReadsIfNeeded h.read given more
     → IsNeeded (length given) (h.read ++ more)
@@ -164,7 +164,7 @@ module _ {first mid now : ShelfState} {given : List Item} {slot : ℕ} {reader :
   copy-like (Err (Failed Write)) place view bytes ours spelled p = absurd (p.2 h.read given h.stands).1
   copy-like (Err (Failed OutOfMemory)) place view bytes ours spelled p = λ e. cc
 
--- two readers behind, which are one reader
+-- two readers after the same items, which are one reader
 pub same-slot : {first now : ShelfState} {given : List Item} {a b : ℕ} {reader : ItemReader} → ReaderBehind first now given a reader
     → ReaderBehind first now given b reader → a ≡ b
 same-slot h k = sym h.at ∙ k.at

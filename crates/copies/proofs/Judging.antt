@@ -129,7 +129,7 @@ shared_by-most given xs [] p all = p
 shared_by-most given xs (c ∷ copies) p all =
     shared_by-most given (shared xs (items_in c)) copies (shared-most given xs (items_in c) p all.0) all.1
 
--- ---- the row behind them
+-- ---- the row after them
 
 row-of-item : (given rest : List Item) (x : Item) (copy : List ℕ) → IsPrefix (given ++ x ∷ rest) (items_in copy)
     → row_at (length given) copy ≡ rows.Item x

@@ -84,7 +84,7 @@ pub none-needed : (state : ShelfState) (n : ℕ) (slots : List ℕ) → AllNeede
 none-needed state n [] = tt
 none-needed state n (s ∷ slots) = (([], gave-none state s, inl refl), none-needed state n slots)
 
--- copy 0 alone was read
+-- only copy 0 was read
 pub first-needed : (first old mid : ShelfState) (given : List Item) (slots : List ℕ) (reader : ItemReader) (readers : List ItemReader)
     → ReadersBehind first old given slots (reader ∷ readers) → ReadsAmong old mid (slot_of reader ∷ [])
     → ((slot : ℕ) → ReaderBehind first old given slot reader → GaveNeeded first mid (length given) slot)

@@ -6,7 +6,7 @@ use Rattle.record_grammar.specs.declared.item.Item.{Item}
 use Rattle.record_grammar.specs.Record.{items, fault}
 use Rattle.copies.specs.Rows.{first_row, ShowsRow}
 
--- the row behind these items, by the items that follow them
+-- the row after these items, by the items that follow them
 pub shows-row : (given others : List Item) (bytes : List ℕ) → items bytes ≡ given ++ others
     → ShowsRow given (first_row others (fault bytes)) bytes
 shows-row given others bytes e = record {

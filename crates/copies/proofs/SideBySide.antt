@@ -56,7 +56,7 @@ all-later first given slot (other ∷ slots) [] ne p h = absurd h
 all-later first given slot (other ∷ slots) (r ∷ readers) ne p h =
     (behind-on h.0 (p.others other (λ e. ne.0 (sym e), tt)), all-later first given slot slots readers ne.1 p h.1)
 
--- ---- what is told of the copies
+-- ---- what is known of the copies
 
 pub rows-told : (first now : ShelfState) (given : List Item) (slots : List ℕ) (readers : List ItemReader) (more : List Row)
     (copies : List (List ℕ)) → ReadersAtRows first now given slots readers more → AreLeft first slots copies
@@ -69,7 +69,7 @@ rows-told first now given [] [] [] (c ∷ copies) h l = absurd l
 rows-told first now given (s ∷ slots) (r ∷ readers) (row ∷ more) [] h l = absurd l
 rows-told first now given slots readers more copies h l = absurd h
 
--- ---- rows that are held against another
+-- ---- rows that are compared with another
 
 pub no-fault : (copy : ℕ) (item : Option Item) (more : List Row) → first_bad copy (row_of item ∷ more) ≡ first_bad (copy + 1) more
 no-fault copy (Some item) more = refl
@@ -109,7 +109,7 @@ other-next n row base copy (one ∷ more) last e =
 
 -- ---- the others, one after another
 
--- the first readers gave these rows, and the others are behind the items given
+-- the first readers gave these rows, and the others are after the items given
 abbrev pub HaveFirst : ShelfState → ShelfState → List Item → List ℕ → List ItemReader → List Row → Type 0
 HaveFirst first now given slots readers [] = ReadersBehind first now given slots readers
 HaveFirst first now given (slot ∷ slots) (reader ∷ readers) (row ∷ more) =
@@ -206,7 +206,7 @@ readers-next state slots slot left readers reader before stands at tail h =
 
 -- ---- the loop over the others
 
--- so many of the others gave rows
+-- this number of the others gave rows
 pub record HaveOthers (index : ℕ) (found : Option Verdict) (ours : Row) (first now : ShelfState) (given : List Item) (slots : List ℕ)
     (readers : List ItemReader) : Type 0 where
   pub more : List Row
@@ -237,7 +237,7 @@ among-more slots readers index d less same p q = record {
       ∙ p.others k ne;
 }
 
--- the next reader is behind the items given
+-- the next reader is after the items given
 one-behind : (first now : ShelfState) (given : List Item) (slots : List ℕ) (readers : List ItemReader) (more : List Row)
     (d : ItemReader) → HaveFirst first now given slots readers more → length more < length readers
     → (slot : ℕ) × ReaderBehind first now given slot (get_or readers (length more) d)
@@ -255,7 +255,7 @@ module _ (copy index : ℕ) (found : Option Verdict) (row : Row) (first mid now 
   less-more : length h.more < length readers
   less-more = subst (λ (n : ℕ). n < length readers) (sym h.count) less
 
-  -- the next reader is behind the items given
+  -- the next reader is after the items given
   pub next-behind : (slot : ℕ) × ReaderBehind first mid given slot (get_or readers index d)
   next-behind =
       let one = one-behind first mid given slots readers h.more d h.have less-more in

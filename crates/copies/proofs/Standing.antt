@@ -172,7 +172,7 @@ module _ (first old mid now : ShelfState) (given : List Item) (reader next : Ite
       let same = (subst (λ ks. ReadsAmong mid now ks) (slots-are first mid given slots readers behind) reads).others s ne.0 in
       (more.0, (row-on (read s h.0) same, more.1), more.2, more.3)
 
--- the others are behind the same items still
+-- the others are still after the same items
 pub others-behind : (first old mid : ShelfState) (given : List Item) (slots : List ℕ) (reader : ItemReader) (readers : List ItemReader)
     → AreDifferent slots → ReadersBehind first old given slots (reader ∷ readers) → ReadsAmong old mid (slot_of reader ∷ [])
     → (others : List ℕ) × AreDifferent others × ReadersBehind first mid given others readers
@@ -222,7 +222,7 @@ all-end n first now given slots readers more h all = absurd h
 pub wider : (n m : ℕ) (read : List ℕ) → n ≤ m → IsNeeded n read → IsNeeded m read
 wider n m read less h = while-weaker _ _ read (λ first p. (let few = p.0 in omega (arith, less, few), p.1)) h
 
--- behind an item that all hold
+-- after an item that all hold
 on-item : (n : ℕ) (x : Item) (first now : ShelfState) (given : List Item) (slots : List ℕ) (readers : List ItemReader) (more : List Row)
     → ReadersAtRows first now given slots readers more → AllByRecursion (λ r. row_difference n (rows.Item x) r ≡ None) more
     → ReadersBehind first now (given ++ x ∷ []) slots readers
@@ -241,7 +241,7 @@ on-item n x first now given (s ∷ slots) (r ∷ readers) (row ∷ more) h all =
     )
 on-item n x first now given slots readers more h all = absurd h
 
--- a copy that isn't copy 0 is told as a difference
+-- a copy that isn't equal to copy 0 is reported as a difference
 differs : (n : ℕ) (row : Row) (copy : ℕ) (more : List Row) (found : Verdict) (state : ShelfState) (slots : List ℕ)
     → Some found ≡ first_other n row copy more → EndsIfAgreed found state slots
 differs n row copy [] found state slots e = absurd cc
@@ -261,7 +261,7 @@ frame-runs place (frame_kinds.Run input outcome) len bytes (frames.Run r) h = re
 frame-runs place frame_kinds.Terminate len bytes frames.Terminate h = refl
 frame-runs place kind len bytes frame h = elim h [ ]
 
--- an item of one kind is so many cycles
+-- how many cycles an item of one kind is
 pub runs-are : (place : Place) (kind : ItemKind) (len : ℕ) (bytes : List ℕ) (item : Item) → ShowsParts place kind len bytes item
     → length (run_in item) ≡ runs_of kind
 runs-are place (kinds.Header layout) len bytes (items.Header p) h = refl
@@ -378,7 +378,7 @@ written-back len new old e same =
     ap (λ rest. take len (new ++ rest)) (drop_all (length new) old (omega (arith, n)))
     ∙ ap (take len) (append-nil new) ∙ take_all len new (omega (arith, n, e))
 
--- ---- all copies stand behind the same items
+-- ---- all copies are after the same items
 
 pub stand-slots : {first now : ShelfState} {given : List Item} {slots : List ℕ} {copies : Copies} → Stand first now given slots copies
     → slots_of copies ≡ slots

@@ -1,4 +1,4 @@
--- What comparing copies from slots comes to.
+-- What `compare` ensures of its verdict and of the slots that it read.
 use Rattle.std.specs.Prelude.{◌≡◌, ◌≢◌, ℕ, ◌<◌, ◌+◌, ◌⊎◌, List, [], ◌∷◌, Some, Result, Ok, Err}
 use Rattle.std.specs.List.{AllByRecursion}
 use Rattle.det_io.specs.Shelf.{ShelfState, Kept, IsAtEnd}
@@ -21,14 +21,14 @@ AreDifferent (slot ∷ slots) = AllByRecursion (λ other. slot ≢ other) slots 
 abbrev pub AreGiven : ShelfState → List ℕ → Type 0
 AreGiven state slots = AllByRecursion (λ slot. slot < state.slots) slots
 
--- the shelf tells that the slots have these copies left, one each
+-- the rest of each slot is known, and these are the copies, one a slot
 abbrev pub AreLeft : ShelfState → List ℕ → List (List ℕ) → Type 0
 AreLeft state [] [] = Unit {0}
 AreLeft state (slot ∷ slots) (copy ∷ copies) =
     (state.left slot ≡ Some copy) × AreLeft state slots copies
 AreLeft state slots copies = ⊥
 
--- these slots were read, and nothing else happened
+-- only these slots were read
 pub record ReadsAmong (before after : ShelfState) (slots : List ℕ) : Type 0 where
   pub kept : Kept before after
   pub others : (k : ℕ) → AllByRecursion (λ slot. k ≢ slot) slots → after.left k ≡ before.left k
@@ -50,20 +50,20 @@ abbrev pub EndsIfAgreed : Verdict → ShelfState → List ℕ → Type 0
 EndsIfAgreed (Agree cycles) state slots = AllEnd state slots
 EndsIfAgreed (Differ copy at) state slots = Unit {0}
 
--- how much of the copies is read where comparing ends
+-- how much of the copies was read when comparing ends
 abbrev pub EndsWhere : Result Verdict (Stopped BadCopy) → ShelfState → List ℕ → Type 0
 EndsWhere (Ok verdict) state slots = EndsIfAgreed verdict state slots
 EndsWhere (Err (Refused bad)) state slots =
     bad.fault.reason ≡ Truncated → CopyEnds state 0 slots bad.copy
 EndsWhere (Err (Failed failure)) state slots = Unit {0}
 
--- an answer is this verdict; a failed call says nothing of it
+-- a result is this verdict; of a failed call it says nothing
 abbrev pub VerdictIs : Result Verdict (Stopped BadCopy) → Result Verdict BadCopy → Type 0
 VerdictIs (Ok found) expected = expected ≡ Ok found
 VerdictIs (Err (Refused bad)) expected = expected ≡ Err bad
 VerdictIs (Err (Failed failure)) expected = Unit {0}
 
--- comparing ended with the right verdict on all that the slots can have had at first
+-- the verdict is right for all contents that the slots can have had at first
 pub record Compared (result : Result Verdict (Stopped BadCopy)) (first now : ShelfState)
     (slots : List ℕ) : Type 0 where
   pub is : (copies : List (List ℕ)) → AreLeft first slots copies → VerdictIs result (verdict copies)

@@ -1,4 +1,4 @@
--- Readers of copies that are read side by side.
+-- Readers of copies that are read side by side, and what they give of a row.
 use Rattle.std.specs.Prelude.{◌≡◌, ◌≢◌, ℕ, ◌<◌, ◌+◌, ◌-◌, List, [], ◌∷◌, ◌++◌, length, map, Option}
 use Rattle.std.specs.Prelude.{Some, None, Result, Ok, Err}
 use Rattle.det_io.specs.Shelf.{ShelfState}
@@ -37,12 +37,12 @@ abbrev pub row_of : Option Item → Row
 row_of (Some item) = rows.Item item
 row_of None = rows.Whole
 
--- an item leaves fewer that may come
+-- after an item fewer items can come
 abbrev pub RoomFellIf : Result (Option ItemView) (Stopped BadCopy) → ℕ → ℕ → Type 0
 RoomFellIf (Ok (Some view)) old new = new < old
 RoomFellIf result old new = Unit {0}
 
--- an answer of a copy's reader; a fault is refused
+-- a result of a copy's reader; a fault is refused with the number of the copy
 abbrev pub copy_answer : {T : Type 0} → ℕ → Result T (Stopped RecordFault)
     → Result T (Stopped BadCopy)
 copy_answer copy (Ok row) = Ok row
@@ -56,7 +56,7 @@ CopyStopped (Refused bad) copy first now given slot reader =
     (bad.copy ≡ copy) × ReaderAtRow first now given slot reader (rows.Fault bad.fault)
 CopyStopped (Failed failure) copy first now given slot reader = failure ≢ Write
 
--- what the reader of a copy gives: its item, which it holds, or the end
+-- what the reader of a copy gives: its item, which it holds in memory, or the end
 abbrev pub CopyNext : Result (Option ItemView) (Stopped BadCopy) → ℕ → ShelfState → ShelfState
     → List Item → ℕ → ItemReader → Type 0
 CopyNext (Ok view) copy first now given slot reader = (item : Option Item)
@@ -64,7 +64,7 @@ CopyNext (Ok view) copy first now given slot reader = (item : Option Item)
 CopyNext (Err stop) copy first now given slot reader =
     CopyStopped stop copy first now given slot reader
 
--- ---- a row of a copy, held against the row of copy 0
+-- ---- a row of a copy, compared with the row of copy 0
 
 -- the same item, or another row
 abbrev pub LikeHeld : Like → Item → ItemReader → Option Item → Type 0
@@ -78,24 +78,24 @@ CopyLike (Ok like) copy ours first now given slot reader = (item : Option Item)
 CopyLike (Err stop) copy ours first now given slot reader =
     CopyStopped stop copy first now given slot reader
 
--- an item that isn't the same is held
+-- an item that isn't the same is held in memory
 abbrev pub OtherIsHeld : Like → ItemReader → Type 0
 OtherIsHeld (likes.Other (Some view)) reader = (item : Item) × Holds reader view item
 OtherIsHeld like reader = Unit {0}
 
--- the first difference of an item of copy 0 and what is told of it
+-- the first difference between an item of copy 0 and the row that was compared with it
 abbrev pub DifferenceIs : Option Difference → ℕ → Item → Like → ItemReader → Type 0
 DifferenceIs result row ours likes.Same reader = result ≡ None
 DifferenceIs result row ours (likes.Other None) reader = result ≡ Some (differences.Kind (row - 1))
 DifferenceIs result row ours (likes.Other (Some view)) reader = (item : Item)
     → Holds reader view item → result ≡ row_difference row (rows.Item ours) (rows.Item item)
 
--- the difference of the end of copy 0 and the next row of another copy
+-- the difference between the end of copy 0 and the next row of another copy
 abbrev pub end_difference : ℕ → Option ItemView → Option Difference
 end_difference row (Some view) = Some (differences.Kind (row - 1))
 end_difference row None = None
 
--- a row of a copy was read, and its first difference from the row of copy 0 is told
+-- a row of a copy was read, and this is its first difference from the row of copy 0
 abbrev pub CopyHeld : Result (Option Difference) (Stopped BadCopy) → ℕ → Row → ShelfState
     → ShelfState → List Item → ℕ → ItemReader → Type 0
 CopyHeld (Ok found) copy ours first now given slot reader = (item : Option Item)
@@ -104,14 +104,14 @@ CopyHeld (Ok found) copy ours first now given slot reader = (item : Option Item)
 CopyHeld (Err stop) copy ours first now given slot reader =
     CopyStopped stop copy first now given slot reader
 
--- among the copies from `copy` on this is the least with a fault in the row behind these items
+-- among the copies from `copy` on this is the least with a fault in the row after these items
 pub record FindsBad (first now : ShelfState) (given : List Item) (copy : ℕ) (slots : List ℕ)
     (bad : BadCopy) : Type 0 where
   pub is : (copies : List (List ℕ)) → AreLeft first slots copies
       → first_bad copy (map (row_at (length given)) copies) ≡ Some bad
   pub truncated : bad.fault.reason ≡ Truncated → CopyEnds now copy slots bad.copy
 
--- a row of the copies behind copy 0 was read, and held against the row of that
+-- a row of each copy after copy 0 was read, and compared with the row of copy 0
 abbrev pub OthersRead : Result (Option Verdict) (Stopped BadCopy) → Row → ShelfState → ShelfState
     → List Item → List ℕ → List ItemReader → Type 0
 OthersRead (Ok found) ours first now given slots readers = (more : List Row)
@@ -132,21 +132,21 @@ abbrev pub runs_of : ItemKind → ℕ
 runs_of (kinds.Frame (frame_kinds.Run input outcome)) = 1
 runs_of kind = 0
 
--- a copy that differs decides, and else the end; an item that all hold is counted
+-- a copy that differs decides, then the end; an item that all copies hold is counted
 abbrev pub IsCounted : Option ItemView → Option Verdict → Option Verdict → Copies → Copies → Type 0
 IsCounted item (Some found) result old new = result ≡ Some found
 IsCounted None None result old new = result ≡ Some (Agree old.cycles)
 IsCounted (Some view) None result old new = (result ≡ None)
     × (new ≡ record old { rows = old.rows + 1; cycles = old.cycles + runs_of view.span.kind })
 
--- all copies gave these items, which are counted
+-- all copies gave these items, and they are counted
 pub record Stand (first now : ShelfState) (given : List Item) (slots : List ℕ) (copies : Copies)
     : Type 0 where
   pub readers : ReadersBehind first now given slots (copies.first ∷ copies.others.items)
   pub rows : copies.rows ≡ length given
   pub cycles : copies.cycles ≡ cycles_of given
 
--- a row of all copies was read: they go on behind an equal item, or comparing ends
+-- a row of all copies was read: they go on after an equal item, or comparing ends
 abbrev pub RowRead : Result (Option Verdict) (Stopped BadCopy) → ShelfState → ShelfState
     → List Item → List ℕ → ℕ → Copies → Type 0
 RowRead (Ok None) first now given slots old_room copies = (item : Item)

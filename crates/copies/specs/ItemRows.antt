@@ -1,4 +1,4 @@
--- Rows that are read by a reader of views.
+-- Rows that are read by a reader of views, and what the reader gave before.
 use Rattle.std.specs.Prelude.{◌≡◌, ℕ, List, [], ◌∷◌, ◌++◌, length, Option, Some, None}
 use Rattle.det_io.specs.Shelf.{ShelfState, Gave, IsAtEnd}
 use Rattle.record_grammar.specs.declared.fault.Reason.TheVariants.{Truncated}
@@ -28,13 +28,13 @@ ReadersBehind first now given (slot ∷ slots) (reader ∷ readers) =
     ReaderBehind first now given slot reader × ReadersBehind first now given slots readers
 ReadersBehind first now given slots readers = ⊥
 
--- how a reader goes on behind a row
+-- where a reader is after a row
 abbrev pub ReaderGoesOn : Row → ItemReader → Type 0 → List ℕ → List Item → Type 0
 ReaderGoesOn (rows.Item item) reader at_end read given = StandsFor reader read (given ++ item ∷ [])
 ReaderGoesOn rows.Whole reader at_end read given = at_end
 ReaderGoesOn (rows.Fault found) reader at_end read given = found.reason ≡ Truncated → at_end
 
--- the row behind the items given, of each record that begins with the bytes read
+-- the row after the items given, of each record that begins with the bytes read
 pub record ReaderShows (row : Row) (reader : ItemReader) (at_end : Type 0) (read : List ℕ)
     (given : List Item) : Type 0 where
   pub shows : (rest : List ℕ) → (at_end → rest ≡ []) → ShowsRow given row (read ++ rest)
@@ -59,13 +59,13 @@ ReadersAtRows first now given slots readers more = ⊥
 
 -- ---- a row without a fault, as its item; none is the end
 
--- the item that was given last is held
+-- the item that was given last is held in memory
 abbrev pub IsHeldAs : Option ItemView → ItemReader → Option Item → Type 0
 IsHeldAs (Some view) reader (Some item) = Holds reader view item
 IsHeldAs None reader None = Unit {0}
 IsHeldAs view reader item = ⊥
 
--- the item stands in these bytes
+-- these are the bytes of the item
 abbrev pub IsSpelledBy : Option ItemView → List ℕ → Option Item → Type 0
 IsSpelledBy (Some view) bytes (Some item) = IsSpelling view item bytes
 IsSpelledBy None bytes None = Unit {0}

@@ -7,7 +7,7 @@ use Rattle.record_reader.specs.Salvaged.{cycles_of}
 use Rattle.copies.specs.declared.verdict.Verdict.TheVariants.{Agree}
 use Rattle.copies.specs.Verdict.{verdict}
 
--- all copies are one whole record, of so many cycles
+-- all copies are one whole record with this number of cycles
 pub record AreOneRecord (first : List ℕ) (others : List (List ℕ)) (cycles : ℕ) : Type 0 where
   pub whole : fault first ≡ None
   pub same : AllByRecursion (λ copy. copy ≡ first) others

@@ -20,7 +20,7 @@ use Rattle.copies.specs.Rows.{row_at}
 
 -- ---- one row
 
--- The first difference of two rows behind so many items. Behind equal items no record is whole
+-- The first difference of two rows after this number of items. After equal items no record is whole
 -- while another goes on, so one kind of row is enough there.
 abbrev pub row_difference : ℕ → Row → Row → Option Difference
 row_difference n (rows.Item (items.Frame frame)) (rows.Item (items.Frame other)) =
@@ -48,7 +48,7 @@ abbrev pub judged : Option BadCopy → Option Verdict → ℕ → Result Verdict
 judged (Some bad) other cycles = Err bad
 judged None other cycles = Ok (unwrap_or other (Agree cycles))
 
--- the verdict on the rows behind the items with which all copies begin
+-- the verdict on the rows after the items with which all copies begin
 abbrev pub row_verdict : List Item → List Row → Result Verdict BadCopy
 row_verdict given [] = Ok (Agree 0)
 row_verdict given (ours ∷ others) = judged (first_bad 0 (ours ∷ others))
@@ -66,8 +66,8 @@ abbrev pub shared_by : List Item → List (List ℕ) → List Item
 shared_by given [] = given
 shared_by given (copy ∷ copies) = shared_by (shared given (items_in copy)) copies
 
--- The first row in which not all copies hold an equal item decides. It stands behind the items
--- with which all copies begin.
+-- The first row in which not all copies hold an equal item decides. It comes after the items with
+-- which all copies begin.
 abbrev pub verdict : List (List ℕ) → Result Verdict BadCopy
 verdict [] = Ok (Agree 0)
 verdict (first ∷ others) =

@@ -1,4 +1,4 @@
-//! Copies of a record, compared.
+//! The loop that compares copies row by row. `Copies` reads one row of each.
 ghost use Rattle.std.specs.Prelude.{◌≡◌, ℕ, ◌≤◌, List, Some, length};
 ghost use Rattle.det_io.specs.Traffic.{ShelfTraffic, shelf_run, failure_in};
 ghost use Rattle.det_io.specs.declared.failure.Failure.TheVariants.{Write};
@@ -10,10 +10,12 @@ use crate::{BadCopy, Verdict};
 use det_io::{Slots, Stopped};
 use std::alloc::Global;
 
-/// Compares the copies of a record in these slots, row by row: a row is the header or a frame, or
-/// how the record ends. A difference is told once all copies were read at its row, and a fault at
-/// once. `Refused` tells the least copy with a fault in the first row in which not all hold an
-/// equal item. Of copies in step no item is held but that of copy 0.
+/// Compares the copies of a record in these slots, row by row. A row is the header, a frame, or the
+/// end of the record.
+///
+/// A difference is reported once all copies were read at its row. A fault is reported at once:
+/// `Refused` has the least copy with a fault in the first row in which not all hold an equal item.
+/// While the copies agree, only the item of copy 0 is held in memory.
 pub fn compare<S: Slots>(
     alloc: Global,
     shelf: &mut S,
@@ -24,8 +26,8 @@ pub fn compare<S: Slots>(
     requires given { AreGiven (S.sees shelf.old) slots.now }
     requires different { AreDifferent slots.now }
     ensures compared { Compared result (S.sees shelf.old) (S.sees shelf.new) slots.now }
-    // No byte of a copy is read behind the row that decides: before the last piece of it was read,
-    // no row behind the items that all copies share was shown.
+    // No byte of a copy is read after the row that decides: before the last piece of it was read,
+    // no row after the items that all copies share could be seen.
     ensures needed { (copies : List (List ℕ)) → AreLeft (S.sees shelf.old) slots.now copies
         → AllNeeded (S.sees shelf.old) (S.sees shelf.new) (shared_rows copies) slots.now }
     ensures reads { ReadsAmong (S.sees shelf.old) (S.sees shelf.new) slots.now }

@@ -1,4 +1,4 @@
-//! Copies that are read side by side.
+//! `Copies`: one reader for each copy, and the counts of what all of them gave.
 ghost use Rattle.std.specs.Prelude.{◌≡◌, ℕ, ◌<◌, ◌≤◌, List, [], ◌∷◌, Some, IfOk, map, length};
 ghost use Rattle.det_io.specs.Shelf.{ShelfState};
 ghost use Rattle.det_io.specs.Traffic.{ShelfTraffic, shelf_run, failure_in};
@@ -17,20 +17,20 @@ use record_reader::item_reader::ItemReader;
 use record_view::{FrameKind, ItemKind, ItemView};
 use std::alloc::Global;
 
-/// Copies behind equal items, one reader each.
+/// The readers of all copies. Each gave the same items so far.
 #[derive(Drop)]
 pub struct Copies {
-    /// The reader of copy 0, which the others are held against.
+    /// The reader of copy 0, with whose rows the others are compared.
     pub first: ItemReader,
     pub others: Vec<ItemReader>,
-    /// How many rows were read.
+    /// The number of rows that were read of each copy.
     pub rows: u32,
-    /// How many of them were Run frames.
+    /// How many of these rows were Run frames.
     pub cycles: u32,
 }
 
 impl Copies {
-    /// Copies of which nothing is read.
+    /// Readers for these slots, in this order. Nothing was read yet.
     pub fn at(alloc: Global, slots: &[u32]) -> Result<Copies, OutOfMemory>
         requires { 1 ≤ length slots.now }
         ensures { IfOk result (λ copies. (state : ShelfState)
@@ -44,8 +44,8 @@ impl Copies {
         })
     }
 
-    /// Reads a row of every copy. None where all hold an equal item. The item of copy 0 alone is
-    /// held, and of another copy an item that isn't the same.
+    /// Reads a row of every copy. None where all hold an equal item. The item of copy 0 is held in
+    /// memory, and an item of another copy only where it differs.
     pub fn read_row<S: Slots>(&mut self, shelf: &mut S) -> Result<Option<Verdict>, Stopped<BadCopy>>
         requires given { AreGiven (S.sees shelf.old) (slots_of self.old) }
         requires few { length self.old.others.items ≤ 7 }
@@ -69,7 +69,8 @@ impl Copies {
         Ok(self.go_on(item, found))
     }
 
-    /// Counts an item that all copies hold.
+    /// Counts the row if all copies hold an item that is equal. Otherwise returns the verdict: what
+    /// differs, or that the copies agree up to their end.
     fn go_on(&mut self, item: Option<ItemView>, found: Option<Verdict>) -> Option<Verdict>
         requires rows { self.old.rows < 4294967295 }
         requires cycles { self.old.cycles ≤ self.old.rows }
@@ -89,7 +90,7 @@ impl Copies {
     }
 }
 
-/// How many cycles an item of this kind is.
+/// The number of cycles in an item of this kind: 1 for a Run frame, else 0.
 pub fn runs_of(kind: ItemKind) -> u32
     ensures value { result ≡ runs_of kind }
     ensures most { result ≤ 1 }

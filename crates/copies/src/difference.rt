@@ -1,24 +1,26 @@
-//! In what two copies of a record differ.
+//! `Difference`: the place of a difference, as `compare` prints it.
 
-/// The first thing in which two rows differ. Frames are numbered from 0, so Register, Discover and
-/// Init are frames 0 to 2, and cycle c is frame c + 2. Cycles are numbered from 1, and Init counts
-/// as cycle 0.
+/// The first place in which two rows differ. Its variants are in the order in which the places of a
+/// frame are compared.
+///
+/// Frames count from 0: Register, Discover and Init are frames 0 to 2, and cycle c is frame `c +
+/// 2`. Cycles count from 1, and Init counts as cycle 0.
 #[derive(Clone, Copy, Debug, PartialEq, Eq, Drop)]
 pub enum Difference {
-    /// The headers.
+    /// The two headers differ.
     Header,
-    /// The kinds of the frames of this number.
+    /// The frames of this number are of different kinds, or only one of them exists.
     Kind(u32),
-    /// The times that this cycle was given.
+    /// The two times of this cycle.
     Time(u32),
-    /// The samples that this cycle was given.
+    /// The two lists of samples of this cycle.
     Samples(u32),
-    /// How this cycle ended: one was refused and the other wasn't, or both were, at another place
-    /// or with another code.
+    /// The result of this cycle: one was refused and the other finished, or both were refused, at
+    /// different places or with different codes.
     Result(u32),
-    /// An element, counted from 0, in its bytes or its draws, or because one list of elements ends
+    /// An element, counted from 0: its bytes differ, or its draws, or one list of elements ends
     /// before it.
     Element { cycle: u32, element: u32 },
-    /// The output of this cycle.
+    /// The two outputs of this cycle.
     Output(u32),
 }

@@ -1,4 +1,5 @@
-//! How the rows of two copies differ.
+//! The difference of two rows, by what the readers of two copies gave. That of two items comes from
+//! `item_difference`.
 ghost use Rattle.std.specs.Prelude.{◌≡◌};
 ghost use Rattle.std.specs.Option.{option_map};
 ghost use Rattle.record_grammar.specs.declared.item.Item.{Item};
@@ -11,14 +12,14 @@ use crate::{Difference, Verdict};
 use record_reader::item_reader::{ItemReader, Like};
 use record_view::ItemView;
 
-/// The copy whose row is held against that of copy 0, and the number of the row.
+/// The copy whose row is compared with that of copy 0, and the number of the row.
 #[derive(Clone, Copy, Drop)]
 pub struct Place {
     pub copy: u32,
     pub row: u32,
 }
 
-/// The verdict where the row of this copy differs from that of copy 0.
+/// The verdict that this copy differs, where its row has a difference from that of copy 0.
 pub fn differing(copy: u32, difference: Option<Difference>) -> Option<Verdict>
     ensures { result ≡ option_map (Differ copy) difference }
 {
@@ -28,8 +29,8 @@ pub fn differing(copy: u32, difference: Option<Difference>) -> Option<Verdict>
     }
 }
 
-/// How the row that a reader gave last differs from the item of these bytes in copy 0. The parts
-/// of two items are looked at only where their bytes aren't the same.
+/// The difference between an item of copy 0, of these bytes, and the row that another reader gave
+/// last. Two items are compared part by part only where their bytes differ.
 pub fn difference_at(
     row: u32,
     view: ItemView,
@@ -51,7 +52,7 @@ pub fn difference_at(
     }
 }
 
-/// How a row differs from the end of the record of copy 0.
+/// The difference between the end of copy 0 and the next row of another copy.
 pub fn end_difference(row: u32, next: Option<ItemView>) -> Option<Difference>
     ensures { result ≡ end_difference row next }
 {

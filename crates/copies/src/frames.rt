@@ -1,4 +1,5 @@
-//! The first difference of two frames.
+//! The first difference of two frames that are values. `item_difference` finds the same in the
+//! bytes of two frames.
 ghost use Rattle.std.specs.Prelude.{◌≡◌, ◌≤◌, ℕ, nat_eq, None, length, ◌↔◌};
 ghost use Rattle.std.specs.Option.{option_map};
 ghost use Rattle.std.specs.Cmp.Lexicographic.{pointwise};
@@ -10,9 +11,8 @@ ghost use Rattle.copies.specs.declared.difference.Difference.TheVariants as diff
 use crate::Difference;
 use det_values::{Bytes64, DrawnElements, Frame, Outcome, RunFrame};
 
-/// The first difference of two frames of this number, in the order of the variants of `Difference`,
-/// where frames 0 to 2 belong to cycle 0. It takes no memory, and equal elements are found equal by
-/// one comparison.
+/// The first difference of two frames of this number, in the order of the variants of `Difference`.
+/// Frames 0 to 2 belong to cycle 0. It allocates nothing, and finds equal frames by one comparison.
 pub fn first_difference(frame: u32, left: &Frame, right: &Frame) -> Option<Difference>
     ensures first { result ≡ frame_difference frame left.now right.now }
     ensures equal { (result ≡ None) ↔ (left.now ≡ right.now) }
@@ -81,6 +81,7 @@ fn of_outcomes(cycle: u32, left: &Outcome, right: &Outcome) -> Option<Difference
     }
 }
 
+/// The difference at this element of a cycle, if there is one.
 pub(crate) fn at_element(cycle: u32, element: Option<u32>) -> Option<Difference>
     ensures { result ≡ option_map (differences.Element cycle) element }
 {
@@ -90,7 +91,7 @@ pub(crate) fn at_element(cycle: u32, element: Option<u32>) -> Option<Difference>
     }
 }
 
-/// The least index at which two lists of elements differ.
+/// The least index at which two lists of elements differ. An end before the other counts.
 fn elements_apart(left: &[Bytes64], right: &[Bytes64]) -> Option<u32>
     requires left { length left.now ≤ 65536 }
     requires right { length right.now ≤ 65536 }
@@ -104,7 +105,7 @@ fn elements_apart(left: &[Bytes64], right: &[Bytes64]) -> Option<u32>
     None
 }
 
-/// The same of elements with their draws.
+/// The least index at which two lists of elements differ in their bytes or their draws.
 fn drawn_apart(left: &DrawnElements, right: &DrawnElements) -> Option<u32>
     ensures { result ≡ first_apart drawn_eq 0 left.now right.now }
 {

@@ -1,4 +1,4 @@
-//! Copies of a record, read side by side up to the first place where they part.
+//! Compares copies of a record side by side, up to the first place where they differ.
 #![tactic(auto)]
 
 mod comparing;

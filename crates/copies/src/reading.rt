@@ -1,4 +1,4 @@
-//! Rows of copies, read one copy after another.
+//! Reads a row of each copy, one copy after another, and compares it with the row of copy 0.
 ghost use Rattle.std.specs.Prelude.{◌≡◌, ℕ, ◌<◌, ◌≤◌, List, [], ◌∷◌, IfOk, map, length};
 ghost use Rattle.std.specs.Prelude.{Option, Some};
 ghost use Rattle.det_io.specs.Shelf.{ShelfState};
@@ -21,7 +21,7 @@ use record_reader::item_reader::{ItemReader, Like};
 use record_view::ItemView;
 use std::alloc::Global;
 
-/// A reader for each slot.
+/// One reader for each slot, in order.
 pub fn readers_at(alloc: Global, slots: &[u32]) -> Result<Vec<ItemReader>, OutOfMemory>
     ensures { IfOk result (λ readers. (state : ShelfState)
         → ReadersBehind state state [] slots.now readers.items) }
@@ -35,7 +35,7 @@ pub fn readers_at(alloc: Global, slots: &[u32]) -> Result<Vec<ItemReader>, OutOf
     Ok(readers)
 }
 
-/// The next item of a copy, or None behind the last one of a whole record.
+/// The next item of a copy. None after the last item of a whole record.
 pub fn next_of_copy<S: Slots>(
     reader: &mut ItemReader,
     shelf: &mut S,
@@ -58,7 +58,7 @@ pub fn next_of_copy<S: Slots>(
     of_copy(copy, reader.next(shelf))
 }
 
-/// A fault of a copy is refused.
+/// Adds the number of the copy to a fault of its record.
 fn of_copy<T>(copy: u32, answer: Result<T, Stopped<RecordFault>>) -> Result<T, Stopped<BadCopy>>
     ensures { result ≡ copy_answer copy answer }
 {
@@ -69,7 +69,7 @@ fn of_copy<T>(copy: u32, answer: Result<T, Stopped<RecordFault>>) -> Result<T, S
     }
 }
 
-/// What comes next in a copy, held against the item of these bytes.
+/// The next row of a copy, compared with an item of copy 0 by its bytes.
 fn like_of_copy<S: Slots>(
     reader: &mut ItemReader,
     shelf: &mut S,
@@ -94,7 +94,7 @@ fn like_of_copy<S: Slots>(
     of_copy(copy, reader.next_like(view, bytes, shelf))
 }
 
-/// The bytes of the item that a reader gave last, and none where it gave the end.
+/// The bytes of the item that a reader gave last. Empty where it gave the end.
 pub fn item_bytes(reader: &ItemReader, item: Option<ItemView>) -> &[u8]
     requires { (row : Option Item) × IsHeldAs item reader.now row }
     ensures { (row : Option Item) → IsHeldAs item reader.now row
@@ -106,8 +106,8 @@ pub fn item_bytes(reader: &ItemReader, item: Option<ItemView>) -> &[u8]
     }
 }
 
-/// Reads a row of a copy, and holds it against that of copy 0: the item of these bytes, or the end
-/// of a whole record.
+/// Reads a row of a copy, and compares it with the row of copy 0: the item of these bytes, or the
+/// end of a whole record.
 fn hold_against<S: Slots>(
     reader: &mut ItemReader,
     shelf: &mut S,
@@ -140,7 +140,7 @@ fn hold_against<S: Slots>(
     }
 }
 
-/// The same where copy 0 holds an item.
+/// Reads a row of a copy, and compares it with the item of these bytes in copy 0.
 fn hold_item<S: Slots>(
     reader: &mut ItemReader,
     shelf: &mut S,
@@ -169,8 +169,8 @@ fn hold_item<S: Slots>(
     Ok(difference_at(place.row, view, bytes, like, reader))
 }
 
-/// Reads a row of the copies behind copy 0, and tells the least that differs from the row of copy
-/// 0: the item of these bytes, or the end of a whole record.
+/// Reads a row of each copy after copy 0, and finds the least copy that differs. The row of copy 0
+/// is the item of these bytes, or the end of a whole record.
 pub fn read_others<S: Slots>(
     readers: &mut [ItemReader],
     shelf: &mut S,

@@ -1,8 +1,8 @@
-//! Rows of a record, as contracts see them.
+//! `Row`: a row of a record, as contracts see it.
 use record_grammar::{Item, RecordFault};
 
-/// A row of a copy: an item, or how its record ends behind all items. Definitions speak of it; the
-/// code looks at an item where its bytes are, and makes none.
+/// A row of a copy: an item, or how its record ends after all items. Only definitions use it. The
+/// code compares items by their bytes and makes no value of this type.
 #[derive(Drop)]
 pub enum Row {
     Item(Item),

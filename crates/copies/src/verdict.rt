@@ -1,14 +1,14 @@
-//! What comparing copies comes to.
+//! `Verdict` and `BadCopy`: what `compare` returns.
 use crate::Difference;
 use record_codec::RecordFault;
 
-/// What copies of a record that have no fault before their first difference come to.
+/// The result of comparing copies that have no fault before their first difference.
 #[derive(Clone, Copy, Debug, PartialEq, Eq, Drop)]
 pub enum Verdict {
-    /// All are one whole record, of so many cycles.
+    /// All copies are one whole record with this number of cycles.
     Agree { cycles: u32 },
-    /// In the first row in which not all agree, this is the least copy, counted from 0, that
-    /// differs from copy 0.
+    /// In the first row in which not all copies agree, this is the least copy that differs from
+    /// copy 0. Copies count from 0.
     Differ { copy: u32, at: Difference },
 }
 

@@ -1,4 +1,4 @@
-//! The lines that tell whether copies agree, and the place where they part.
+//! The line of a verdict, and the text of a place.
 
 mod put;
 

@@ -1,4 +1,5 @@
-//! The first difference of two items, looked for where their bytes are.
+//! The first difference of two items, found in their bytes without making values of them.
+//! `first_difference` finds the same in two frames that are values.
 ghost use Rattle.std.specs.Prelude.{◌≡◌, ◌≤◌, ℕ, length};
 ghost use Rattle.std.specs.Cmp.Lexicographic.{pointwise};
 ghost use Rattle.det_values.specs.Equal.{drawn_eq};
@@ -24,7 +25,7 @@ use record_view::{
 };
 
 /// The first difference of two items of one row, in the order of the variants of `Difference`. Row
-/// 0 has headers, and row f + 1 has frames f. It takes no memory.
+/// 0 has the headers, and row f + 1 has the frames f. It allocates nothing.
 pub fn item_difference(
     row: u32,
     left: ItemView,
@@ -50,7 +51,7 @@ pub fn item_difference(
     }
 }
 
-/// The difference of two headers. They are equal exactly where their bytes are.
+/// The difference of two headers. Headers are equal exactly where their bytes are.
 fn header_difference(
     left: ItemView,
     left_bytes: &[u8],

@@ -1,4 +1,4 @@
--- How an engine begins: its client comes to Init, and its job starts.
+-- The start of an engine: its client gets to Init, and its job starts.
 use Rattle.std.proofs.Common.{◌≡◌, ℕ, ℤ, ◌+◌, ◌^◌, ◌<◌, ◌≤◌, List, length, sym, ap, subst, ◌∙◌, arith}
 use Rattle.std.specs.Prelude.{None, Some, Option, [], if◌then◌else◌}
 use Rattle.std.specs.List.{All}
@@ -14,7 +14,7 @@ use Rattle.det_client.specs.State.{State, OwnAt, SameButSeed}
 use Rattle.det_client.specs.Life.{Life, following, next_activation, is_run, begins}
 use Rattle.det_client.specs.Step.{Stepped}
 
--- a client that stands in Init, at the beginning of its own words, before any cycle
+-- a client in Init, at the beginning of its own stream, before any cycle
 pub record IsInit (c : State) (its_seed its_time : ℕ) : Type 0 where
   pub last : c.last ≡ Some Init
   pub cycle : c.cycle ≡ 0
@@ -61,7 +61,7 @@ module _ {S G E L P : Type 0} (m : Meaning S G E L P) (profile : ProfileValue) w
       let n : length cache ≡ length profile.events = count ∙ ap length same in
       n ∙ sym (ap m.events made ∙ law profile.params (length profile.events) (omega arith))
 
-  -- what a job begins with is the state before the first cycle
+  -- the globals and elements of a job's start are the state before the first cycle
   pub begins-run : (job : S) (seed : ℕ) (begun : Begun G E) (elements : List E) → job ≡ job_of m profile → seed ≡ profile.seed
       → m.started job seed ≡ begun → elements ≡ begun.elements
       → begun_state (record { globals = begun.globals; elements = elements; seed = begun.seed }) ≡ state_of m profile []
@@ -70,7 +70,7 @@ module _ {S G E L P : Type 0} (m : Meaning S G E L P) (profile : ProfileValue) w
       (λ i. begun_state (record { globals = begun.globals; elements = held i; seed = begun.seed }))
       ∙ ap begun_state (sym gives ∙ ap (λ j. m.started j seed) made ∙ ap (m.started (job_of m profile)) same)
 
--- the same of equals
+-- the same for equal values
 pub all_own : {S E : Type 0} (Own : S → E → Type 0) (j k : S) (es fs : List E) → k ≡ j → fs ≡ es → All (Own j) es → All (Own k) fs
 all_own {S} {E} Own j k es fs job elements own =
     subst (λ (l : S). All (Own l) fs) (sym job) (subst (λ (xs : List E). All (Own j) xs) (sym elements) own)

@@ -1,4 +1,5 @@
--- How the run of a profile goes on by one more input, and an engine with it. What stands above an engine builds on these.
+-- One more input in the run of a profile, and in an engine. The crates above the engine use these
+-- lemmas.
 use Rattle.std.proofs.Common.{◌≡◌, ℕ, suc, ℤ, ◌+◌, Option, Result, List, [], ◌∷◌, ◌++◌, length, refl, sym, ap, ◌∙◌, subst, map}
 use Rattle.std.proofs.Common.{append_assoc, append-nil, length-append, true, false}
 use Rattle.std.proofs.lemmas.List.{map-append}
@@ -29,7 +30,7 @@ unfolding rings_from
 length-rings event [] rounds arrived = refl
 length-rings event (spec ∷ events) rounds arrived = ap suc (length-rings (suc event) events rounds arrived)
 
--- what a cycle is made from, replaced by equals
+-- the arguments of a cycle, replaced by equal ones
 same_cycle : {S G E L P : Type 0} (m : Meaning S G E L P) {j k : S} {s t : State G E} {v w : List (List ℤ)} {a b : ℕ} (time : Option ℕ)
     {x y : Option ℕ}
     → j ≡ k → s ≡ t → v ≡ w → a ≡ b → x ≡ y → cycled m j s v a time x ≡ cycled m k t w b time y
@@ -49,7 +50,7 @@ abbrev as_run : RunFrame → Frame
 as_run run = Run run
 
 module _ {S G E L P : Type 0} (m : Meaning S G E L P) (profile : ProfileValue) where
-  -- the state after two lists of inputs is that after the second one, begun behind the first one
+  -- the state after two lists of inputs is that after the second, from the state after the first
   pub state_behind-append : (before inputs more : List CycleInput) (state : State G E)
       → state_behind m profile before state (inputs ++ more) ≡ state_behind m profile (before ++ inputs)
       (state_behind m profile before state inputs) more
@@ -89,7 +90,7 @@ module _ {S G E L P : Type 0} (m : Meaning S G E L P) (profile : ProfileValue) w
   unfolding runs_behind
   runs-append inputs input = runs_behind-append [] inputs (input ∷ []) (first_state m profile)
 
-  -- as many frames of cycles as inputs
+  -- there are as many frames of cycles as inputs
   pub length-runs : (before inputs : List CycleInput) (state : State G E)
       → length (runs_behind m profile before state inputs) ≡ length inputs
   unfolding runs_behind
@@ -116,7 +117,7 @@ module _ {S G E L P : Type 0} (m : Meaning S G E L P) (profile : ProfileValue) w
       let start : List Frame = Register ∷ Discover ∷ Init (init_of m profile) ∷ [] in
       ap (λ l. l ++ Terminate ∷ []) (sym (append-nil (start ++ map as_run (runs m profile inputs))))
 
-  -- what an engine shows at its start are the elements of Init
+  -- at its start an engine shows the elements of Init
   pub init_is : (engine : EngineState S G E) → StandsFor m profile engine []
       → map (m.shown engine.job) engine.state.elements ≡ init_of m profile
   unfolding state_behind
@@ -140,7 +141,7 @@ module _ {S G E L P : Type 0} (m : Meaning S G E L P) (profile : ProfileValue) w
   frame_is engine inputs input stands =
       same_frame input stands.format (ap outcome_of (cycle_is engine inputs input stands))
 
-  -- an engine stands in the run after its next cycle too
+  -- an engine is in the run after its next cycle too
   pub stands_after : (old new : EngineState S G E) (inputs : List CycleInput) (input : CycleInput)
       → StandsFor m profile old inputs → IsAfter m old input new → StandsFor m profile new (inputs ++ input ∷ [])
   stands_after old new inputs input stands after = record {

@@ -1,4 +1,4 @@
--- How the answers of a cycle's phases follow from the definition of a cycle.
+-- The results that the phases of a cycle may return, from the definition of a cycle.
 use Rattle.std.specs.Prelude.{◌≡◌, ℕ, List, Result, Ok, Err, IsErr}
 use Rattle.std.specs.Arc.{arc_value}
 use Rattle.det_values.specs.Values.{RefusedAtValue}
@@ -17,14 +17,14 @@ use Rattle.cycle_engine.specs.declared.fault.CycleFault.TheVariants.{Refused, Ou
 use Rattle.cycle_engine.specs.declared.passes.SoFar.{SoFar}
 use Rattle.cycle_engine.specs.declared.phases.CycleDone.{CycleDone}
 
--- what the passes of one cycle share
+-- the data that all passes of one cycle share
 pub record SharedValue (S L : Type 0) : Type 0 where
   pub job : S
   pub plan : L
   pub seed : ℕ
   pub cycle : ℕ
 
--- what one of the passes takes over from those before it
+-- the data that a pass gets from the passes before it
 pub record StageValue (E P : Type 0) : Type 0 where
   pub number : ℕ
   pub carry : P
@@ -34,7 +34,8 @@ pub record StageValue (E P : Type 0) : Type 0 where
 abbrev pub left_by : {E P : Type 0} → SoFar E P → Passed E P
 left_by done = record { elements = done.elements; draws = done.draws; part = done.part }
 
--- the passes' answer is the definition's; want of memory is free
+-- the result of the passes is the defined one; only "out of memory" may be returned without a cause
+-- here
 abbrev pub ArePasses : {E P : Type 0} → Result (SoFar E P) CycleFault
     → Result (Passed E P) RefusedAtValue → Type 0
 ArePasses (Ok done) passes = passes ≡ Ok (left_by done)
@@ -48,15 +49,15 @@ done_of done seed = record {
   output = done.output;
 }
 
--- a cycle's answer, beside which the client is left with a seed, is the definition's; want of
--- memory is free
+-- the result of a cycle, with the client's seed afterwards, is the defined one; only "out of
+-- memory" may be returned without a cause here
 abbrev pub IsCycle : {G E : Type 0} → Result (CycleDone G E) CycleFault → ℕ
     → Result (Done G E) RefusedAtValue → Type 0
 IsCycle (Ok done) seed cycle = cycle ≡ Ok (done_of done seed)
 IsCycle (Err (Refused at)) seed cycle = cycle ≡ Err at
 IsCycle (Err OutOfMemory) seed cycle = Unit {0}
 
--- how the pool's fault in a pass ends a cycle
+-- the fault of a cycle, from the pool's fault in a pass
 abbrev pub PoolEnds : ℕ → PoolFault → CycleFault → Type 0
 PoolEnds pass (pool.Refused element code) (Refused at) =
     at ≡ refused_in_pool pass (record { element = element; code = code })
@@ -64,7 +65,7 @@ PoolEnds pass (pool.Refused element code) OutOfMemory = ⊥
 PoolEnds pass pool.OutOfMemory (Refused at) = ⊥
 PoolEnds pass pool.OutOfMemory OutOfMemory = Unit {0}
 
--- how a job's fault in a phase outside the pool ends a cycle
+-- the fault of a cycle, from a job's fault in a phase outside the pool
 abbrev pub JobEnds : Phase → JobFault → CycleFault → Type 0
 JobEnds phase (job.Code code) (Refused at) =
     at ≡ record { phase = phase; pass = 0; element = 0; code = code }
@@ -72,7 +73,7 @@ JobEnds phase (job.Code code) OutOfMemory = ⊥
 JobEnds phase job.OutOfMemory (Refused at) = ⊥
 JobEnds phase job.OutOfMemory OutOfMemory = Unit {0}
 
--- a refusal is an outcome, want of memory is none
+-- a refusal is an outcome, "out of memory" is none
 abbrev pub FaultOutcome : CycleFault → Result Outcome NoMemory → Type 0
 FaultOutcome (Refused at) outcome = outcome ≡ Ok (outcomes.Refused at)
 FaultOutcome OutOfMemory outcome = IsErr outcome

@@ -1,4 +1,4 @@
--- Elements as a record's Init spells them.
+-- The bytes of elements in a record's Init.
 use Rattle.std.specs.Prelude.{ℕ, List, ◌++◌, length}
 use Rattle.det_values.specs.Spelling.{spelled_u16}
 

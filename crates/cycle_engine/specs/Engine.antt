@@ -1,4 +1,4 @@
--- What an engine keeps, which run it stands in, and what one cycle makes of it.
+-- The state of an engine, its place in a run, and the effect of one cycle.
 use Rattle.std.specs.Prelude.{◌≡◌, ◌≤◌, ℕ, ◌+◌, List, [], ◌∷◌, ◌++◌, length}
 use Rattle.std.specs.Prelude.{Option, None, Some, Result, Bool, true, false}
 use Rattle.std.specs.List.{All}
@@ -48,7 +48,7 @@ pub record Fits {S G E L P : Type 0} (m : Meaning S G E L P) (Own : S → E → 
   pub timed : client.cycle_time ≡ time
   pub in_limits : IsCycleTime time
 
--- An engine stands in the run of a profile, after the cycles of these inputs.
+-- An engine is in the run of a profile, after the cycles of these inputs.
 pub record StandsFor {S G E L P : Type 0} (m : Meaning S G E L P) (profile : ProfileValue)
     (engine : EngineState S G E) (inputs : List CycleInput) : Type 0 where
   pub job : engine.job ≡ job_of m profile
@@ -64,15 +64,15 @@ module _ {S G E L P : Type 0} (m : Meaning S G E L P) where
   next_cycle e time =
       cycled m e.job e.state (windows e.rings) (e.cycles + 1) time (next_time e.cycle_time time)
 
-  -- its frame, as far as the engine's format keeps it
+  -- its frame, reduced to what the engine's format keeps
   abbrev pub next_frame : EngineState S G E → CycleInput → RunFrame
   next_frame e input = record {
     input = input;
     outcome = outcome_in_format e.format (outcome_of (next_cycle e input.time));
   }
 
-  -- An engine after its next cycle, whose samples arrived at the end of it. What a refused cycle
-  -- leaves is the old state.
+  -- An engine after its next cycle, whose samples arrived at its end. A refused cycle leaves the
+  -- old state.
   pub record IsAfter (old : EngineState S G E) (input : CycleInput)
       (new : EngineState S G E) : Type 0 where
     pub job : new.job ≡ old.job

@@ -1,5 +1,5 @@
--- The frames of a run: what a client of a profile does, given the inputs of its cycles. No worker
--- stands here.
+-- The frames of a run, defined from its profile and the inputs of its cycles. The definition
+-- doesn't mention workers.
 use Rattle.std.specs.Prelude.{ℕ, ◌+◌, List, [], ◌∷◌, ◌++◌, length, map, Result, Bool, if◌then◌else◌}
 use Rattle.det_values.specs.Values.{ProfileValue, SampleValue, RefusedAtValue}
 use Rattle.det_values.specs.Frames.{outcome_in_format}
@@ -29,14 +29,14 @@ module _ {S G E L P : Type 0} (m : Meaning S G E L P) (profile : ProfileValue) w
   abbrev pub first_state : State G E
   first_state = begun_state (m.started job_of profile.seed)
 
-  -- The cycle of a state and an input, after the inputs of all earlier cycles: its windows hold
-  -- samples of those alone.
+  -- The cycle of a state and an input, after the inputs of all earlier cycles. Its windows hold
+  -- only samples of those.
   abbrev pub cycle_of : List CycleInput → State G E → CycleInput → Result (Done G E) RefusedAtValue
   cycle_of before state input =
       cycled m job_of state (windows_after profile.events (samples_of before)) (length before + 1)
       input.time (next_time profile.cycle_time input.time)
 
-  -- its frame, as far as the profile's format keeps it
+  -- its frame, reduced to what the profile's format keeps
   abbrev pub frame_of : List CycleInput → State G E → CycleInput → RunFrame
   frame_of before state input = record {
     input = input;
@@ -67,7 +67,7 @@ module _ {S G E L P : Type 0} (m : Meaning S G E L P) (profile : ProfileValue) w
   abbrev pub init_of : List (List ℕ)
   init_of = map (m.shown job_of) first_state.elements
 
-  -- the frames of the whole run, with Terminate where it is ended
+  -- the frames of the whole run, with Terminate if it has ended
   abbrev pub frames : List CycleInput → Bool → List Frame
   frames inputs ended =
       (Register ∷ Discover ∷ Init init_of ∷ map (λ run. Run run) (runs inputs))

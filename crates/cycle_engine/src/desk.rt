@@ -1,4 +1,4 @@
-//! Memory that the cycles of an engine use again.
+//! Memory that the cycles of an engine reuse.
 ghost use Rattle.std.specs.Prelude.{◌≡◌, IfOk};
 ghost use Rattle.std.specs.Arc.{arc_value};
 
@@ -10,8 +10,9 @@ use std::marker::Model;
 use std::mem;
 use std::sync::Arc;
 
-/// Memory that the cycles of an engine use again, and where more of it is taken from. What it held
-/// is gone, so contracts see nothing of it.
+/// Memory that the cycles of an engine reuse, and the allocator for more. Its old contents are
+/// gone, so contracts see nothing of it. It is no field of the engine: an engine that moves to
+/// another thread leaves its desk behind.
 #[derive(Drop)]
 pub struct Desk<J: Job> {
     pub(crate) room: PassRoom<J::Element, J::Part>,
@@ -19,12 +20,12 @@ pub struct Desk<J: Job> {
     carries: Place<J::Part>,
     elements: Place<Container<J::Element>>,
     draws: Place<Container<u32>>,
-    /// Bytes of an output that nobody needs.
+    /// A spare output.
     pub(crate) output: Option<Bytes>,
 }
 
-/// Keeps a container that has elements. One without any has no memory either, and would be in the
-/// way of those that have.
+/// Keeps a container that has elements. An empty one has no memory, and would be taken in place of
+/// one that has.
 fn keep_filled<E: Drop>(spares: &mut Spares<E>, container: Container<E>) {
     if !container.is_empty() {
         spares.keep(container);
@@ -38,7 +39,7 @@ impl<J: Job> Model for Desk<J> {
 }
 
 impl<J: Job> Desk<J> {
-    /// None yet. It takes no memory.
+    /// A desk without spare memory. It allocates nothing.
     pub fn new(alloc: Global) -> Desk<J> {
         Desk {
             room: PassRoom::new(alloc),
@@ -50,12 +51,12 @@ impl<J: Job> Desk<J> {
         }
     }
 
-    /// Where memory is taken from.
+    /// The allocator for more memory.
     pub(crate) fn alloc(&self) -> Global {
         self.room.alloc()
     }
 
-    /// A plan that can have several owners.
+    /// A plan with an owner that can be cloned.
     pub(crate) fn share_plan(&mut self, plan: J::Plan) -> Result<Arc<J::Plan, Global>, OutOfMemory>
         ensures { IfOk result (λ owner. arc_value owner ≡ plan) }
     {
@@ -63,7 +64,7 @@ impl<J: Job> Desk<J> {
         self.plans.share(alloc, plan)
     }
 
-    /// A part that is carried to a pass.
+    /// A part that is carried to a pass, with an owner that can be cloned.
     pub(crate) fn share_part(&mut self, part: J::Part) -> Result<Arc<J::Part, Global>, OutOfMemory>
         ensures { IfOk result (λ owner. arc_value owner ≡ part) }
     {
@@ -75,7 +76,7 @@ impl<J: Job> Desk<J> {
         Ok(owner)
     }
 
-    /// Elements that a pass or a later cycle takes over.
+    /// Elements for a pass or for the next cycle, with an owner that can be cloned.
     pub(crate) fn share_elements(
         &mut self,
         elements: Container<J::Element>,
@@ -90,7 +91,7 @@ impl<J: Job> Desk<J> {
         Ok(owner)
     }
 
-    /// Counts of words that a pass takes over.
+    /// Draws for the next pass, with an owner that can be cloned.
     pub(crate) fn share_draws(
         &mut self,
         draws: Container<u32>,
@@ -105,18 +106,18 @@ impl<J: Job> Desk<J> {
         Ok(owner)
     }
 
-    /// Keeps the owner of a part that was carried, for its memory.
+    /// Keeps the owner of a carried part for its memory.
     pub(crate) fn keep_part(&mut self, owner: Arc<J::Part, Global>) {
         self.carries.keep(owner);
     }
 
-    /// Keeps the owner of counts of words, for its memory.
+    /// Keeps the owner of draws for its memory.
     pub(crate) fn keep_draws(&mut self, owner: Arc<Container<u32>, Global>) {
         self.draws.keep(owner);
     }
 
-    /// Keeps the owner of elements, for its memory. Their blocks are spare at once where nobody else
-    /// holds them.
+    /// Keeps the owner of elements for its memory. If there is no other owner, their blocks become
+    /// spare at once.
     pub(crate) fn keep_elements(&mut self, owner: Arc<Container<J::Element>, Global>) {
         let mut owner = owner;
         if let Some(place) = Arc::get_mut(&mut owner) {
@@ -126,8 +127,8 @@ impl<J: Job> Desk<J> {
         self.elements.keep(owner);
     }
 
-    /// Takes back the frame of a cycle that nobody needs, for its memory: that of its outcome stays
-    /// here, that of its input is answered.
+    /// Takes back the frame of a cycle for its memory: keeps that of the outcome, and returns the
+    /// input.
     pub fn take_back(&mut self, run: RunFrame) -> CycleInput {
         let RunFrame { input, outcome } = run;
         match outcome {

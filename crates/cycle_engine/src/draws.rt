@@ -1,4 +1,4 @@
-//! The words that the elements of a cycle drew.
+//! The draws of a cycle's elements: the count of random numbers that each drew.
 ghost use Rattle.std.specs.Prelude.{◌≡◌, ◌≤◌, ◌⊎◌, [], length, IfOk};
 ghost use Rattle.std.specs.List.{All};
 ghost use Rattle.std.specs.Arc.{arc_value};
@@ -13,10 +13,10 @@ use std::alloc::Global;
 use std::marker::Model;
 use std::sync::Arc;
 
-/// The words that each element drew in all passes up to one. Contracts see them summed up.
+/// The draws of each element in all passes up to one. Contracts see the sums.
 ///
-/// Those of the pass and those of the passes before it are held apart, since behind the last pass
-/// nobody asks for the sums.
+/// The draws of the pass and of the passes before it are separate, since the sums after the last
+/// pass are not needed.
 #[derive(Drop)]
 pub struct Draws {
     earlier: Arc<Container<u32>, Global>,
@@ -69,7 +69,7 @@ impl Draws {
         desk.share_draws(all)
     }
 
-    /// Gives the memory back.
+    /// Returns the memory to the desk.
     pub(crate) fn leave_to<J: Job>(self, desk: &mut Desk<J>) {
         let Draws { earlier, own } = self;
         desk.room.draws.keep(own);

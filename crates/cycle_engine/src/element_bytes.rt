@@ -1,4 +1,4 @@
-//! Elements, appended as a record's Init spells them.
+//! Appends an element in the layout of a record's Init.
 ghost use Rattle.std.specs.Prelude.{◌≡◌, ◌++◌, OnOk};
 ghost use Rattle.cycle_engine.specs.Elements.{with_length};
 
@@ -6,8 +6,8 @@ use det_values::OutOfMemory;
 use det_values::put::fill_u16;
 use job::Job;
 
-/// Appends an element's bytes after their number, which is put into its place once it is known. A
-/// refused call may leave some of it.
+/// Appends an element's bytes, after their number in two bytes, which is filled in at the end. A
+/// call that fails may leave some bytes.
 #[inline(always)]
 pub(crate) fn put_element<J: Job>(
     job: &J,

@@ -1,4 +1,4 @@
-//! A job with all that it keeps between cycles.
+//! The engine: a job with the state that it keeps between cycles.
 ghost use Rattle.std.specs.Prelude.{◌≡◌, ℕ, ◌+◌, ◌<◌, ◌≤◌, List, [], ◌∷◌, ◌++◌, length, map};
 ghost use Rattle.std.specs.Prelude.{IfOk, OnOk, OnErr, None, true, false};
 ghost use Rattle.std.specs.List.{All, flat_map};
@@ -34,7 +34,7 @@ use std::marker::Model;
 use std::mem;
 use std::sync::Arc;
 
-/// A job with all that it keeps between cycles.
+/// A job with the state that it keeps between cycles: globals, elements, client and event cache.
 #[derive(Drop)]
 pub struct Engine<J: Job> {
     job: Arc<J, Global>,
@@ -67,7 +67,7 @@ impl<J: Job> Model for Engine<J> {
         e.client e.cache e.cycle_time };
 }
 
-/// Lets these samples arrive, and shows them to the next cycle.
+/// Adds these samples to the cache, and shows them to the next cycle.
 fn feed(cache: &mut EventCache, samples: &[Sample])
     requires { All (λ s. s.event < length cache.old) samples.now }
     ensures count { length cache.new ≡ length cache.old }
@@ -84,7 +84,7 @@ fn feed(cache: &mut EventCache, samples: &[Sample])
     cache.turn();
 }
 
-/// The run in a frame that is one.
+/// The run in a `Frame::Run`.
 fn run_in(frame: Frame) -> RunFrame
     requires { (run : Run) × (frame ≡ Frame.Run run) }
     ensures { frame ≡ Frame.Run result }
@@ -95,7 +95,7 @@ fn run_in(frame: Frame) -> RunFrame
     }
 }
 
-/// The frame of a cycle, as far as a format keeps it.
+/// The frame of a cycle, reduced to what a format keeps.
 fn framed(format: Format, input: CycleInput, outcome: Outcome) -> RunFrame
     ensures { result ≡ record { input = input; outcome = outcome_in_format format outcome } }
 {
@@ -105,7 +105,8 @@ fn framed(format: Format, input: CycleInput, outcome: Outcome) -> RunFrame
 }
 
 impl<J: Job> Engine<J> {
-    /// Brings a client of the profile through its first three activations and starts the job.
+    /// Starts the job of a profile: brings a new client through its first three activations, and
+    /// makes the job's elements.
     pub fn start(alloc: Global, job: J, profile: &Profile) -> Result<Engine<J>, OutOfMemory>
         requires good { J.meaning.bad_param profile.now.params (length profile.now.events) ≡ None }
         requires made { job ≡ J.meaning.made profile.now.params (length profile.now.events) }
@@ -148,8 +149,8 @@ impl<J: Job> Engine<J> {
         Ok(shown)
     }
 
-    /// Appends the bytes of the present elements, in order, each after their number in two bytes. A
-    /// refused call may leave some of them.
+    /// Appends the bytes of the present elements in order, each after their number in two bytes. A
+    /// call that fails may leave some of them.
     pub fn put_elements(&self, out: &mut Vec<u8>) -> Result<(), OutOfMemory>
         ensures { OnOk result (out.new.items ≡ out.old.items ++ flat_map with_length
             (map (J.meaning.shown self.now.job) self.now.state.elements)) }
@@ -201,7 +202,8 @@ impl<J: Job> Engine<J> {
         done
     }
 
-    /// Runs the next cycle. The windows stay.
+    /// Runs the next cycle. The windows stay: the samples of a cycle arrive after it. So after "out
+    /// of memory" only the client must be restored.
     fn advance<P: Pool<J>>(
         &mut self,
         desk: &mut Desk<J>,
@@ -243,12 +245,12 @@ impl<J: Job> Engine<J> {
         }
     }
 
-    /// Runs the next cycle, its passes on the threads of a pool, and answers its frame. It works in
-    /// memory of the desk as far as there is any.
+    /// Runs the next cycle, with its passes on `pool`, and returns its frame. It takes memory from
+    /// `desk` while there is some.
     ///
-    /// The windows of the cycle hold samples of earlier cycles alone: the input's samples arrive at
-    /// its end, also where it is refused. A refused cycle keeps globals, elements and seed, and
-    /// counts as a cycle. After OutOfMemory all is as before the call, and the input is gone.
+    /// The windows of the cycle hold only samples of earlier cycles. The input's samples arrive at
+    /// its end, even if it is refused. A refused cycle keeps globals, elements and seed, and counts
+    /// as a cycle. After `OutOfMemory` the engine is as before the call, and the input is lost.
     pub fn cycle<P: Pool<J>>(
         &mut self,
         desk: &mut Desk<J>,
@@ -273,14 +275,14 @@ impl<J: Job> Engine<J> {
         Ok(framed(self.format, input, outcome))
     }
 
-    /// Brings the activation that ends the run. It takes no memory.
+    /// Ends the run: requests the activation `Terminate`. It allocates nothing.
     pub fn stop(&mut self)
         ensures { self.new ≡ record self.old { stopped = true } }
     {
         let _ = self.client.wait_for_activation(Next::Stop);
     }
 
-    /// The number of elements, which stays over a run.
+    /// The number of elements, which never changes in a run.
     pub fn elements(&self) -> usize
         ensures count { result ≡ length self.now.state.elements }
         ensures few { result ≤ 65536 }
@@ -288,7 +290,7 @@ impl<J: Job> Engine<J> {
         self.elements.len()
     }
 
-    /// The number of cycles run, refused ones too.
+    /// The number of cycles run, including refused ones.
     pub fn cycles(&self) -> u32
         ensures { result ≡ self.now.cycles }
     {

@@ -1,4 +1,4 @@
-//! Why a cycle gives no new state.
+//! The errors of a cycle, and their outcomes.
 ghost use Rattle.std.specs.Prelude.{◌≡◌, ◌<◌};
 ghost use Rattle.job.specs.Passes.{RefusedBelow};
 ghost use Rattle.cycle_engine.specs.Answers.{PoolEnds, JobEnds, FaultOutcome};
@@ -6,12 +6,12 @@ ghost use Rattle.cycle_engine.specs.Answers.{PoolEnds, JobEnds, FaultOutcome};
 use det_values::{OutOfMemory, Outcome, Phase, RefusedAt};
 use job::{JobFault, PoolFault};
 
-/// Why a cycle gives no new state.
+/// Why a cycle failed.
 #[derive(Clone, Copy, Debug, PartialEq, Eq, Drop)]
 pub enum CycleFault {
-    /// The job refuses the cycle there.
+    /// The job refuses the cycle at this place.
     Refused(RefusedAt),
-    /// Memory could not be had.
+    /// Memory could not be allocated.
     OutOfMemory,
 }
 
@@ -27,7 +27,7 @@ impl From<OutOfMemory> for CycleFault {
 }
 
 impl CycleFault {
-    /// The outcome of a cycle with this fault, if it has one.
+    /// The outcome of a cycle with this fault: a refusal has one, "out of memory" has none.
     pub(crate) fn outcome(self) -> Result<Outcome, OutOfMemory>
         ensures { FaultOutcome self result }
     {
@@ -38,7 +38,7 @@ impl CycleFault {
     }
 }
 
-/// The fault of a cycle in whose pass the pool had this fault.
+/// The fault of a cycle, from the pool's fault in a pass.
 pub(crate) fn in_pool(pass: u8, fault: PoolFault) -> CycleFault
     requires pass { pass < 8 }
     requires element { RefusedBelow 65536 fault }
@@ -55,7 +55,7 @@ pub(crate) fn in_pool(pass: u8, fault: PoolFault) -> CycleFault
     }
 }
 
-/// The fault of a cycle whose sequential begin had this fault.
+/// The fault of a cycle, from a fault of its sequential begin.
 pub(crate) fn in_prepare(fault: JobFault) -> CycleFault
     ensures { JobEnds Phase.Prepare fault result }
 {
@@ -70,7 +70,7 @@ pub(crate) fn in_prepare(fault: JobFault) -> CycleFault
     }
 }
 
-/// The fault of a cycle whose sequential end had this fault.
+/// The fault of a cycle, from a fault of its sequential end.
 pub(crate) fn in_conclude(fault: JobFault) -> CycleFault
     ensures { JobEnds Phase.Conclude fault result }
 {

@@ -1,4 +1,6 @@
-//! One whole cycle of a job after another, from its start to its end, over any pool.
+//! A job with all that it keeps between cycles, run cycle by cycle over any pool. It makes the
+//! frame of each cycle, but reads and writes no files: other crates record, replay or check the
+//! frames.
 #![tactic(auto)]
 
 mod desk;

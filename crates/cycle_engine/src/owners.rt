@@ -1,4 +1,4 @@
-//! Values that have several owners, and the memory that they leave.
+//! Values behind an `Arc`, and reuse of their memory.
 ghost use Rattle.std.specs.Prelude.{◌≡◌, IfOk};
 ghost use Rattle.std.specs.Arc.{arc_value};
 
@@ -7,7 +7,7 @@ use std::alloc::Global;
 use std::mem;
 use std::sync::Arc;
 
-/// A value that can have several owners.
+/// A value behind a new `Arc`.
 pub(crate) fn shared<T: Drop>(alloc: Global, value: T) -> Result<Arc<T, Global>, OutOfMemory>
     ensures { IfOk result (λ owner. arc_value owner ≡ value) }
 {
@@ -17,17 +17,17 @@ pub(crate) fn shared<T: Drop>(alloc: Global, value: T) -> Result<Arc<T, Global>,
     }
 }
 
-/// A place for values that have several owners, one value after another. Its memory and that of a
-/// value that nobody needs are used again; no clause speaks of what is left here.
+/// A place for one shared value after another, which reuses the memory of the `Arc` and of the
+/// value before. No clause is about its contents.
 #[derive(Drop)]
 pub(crate) struct Place<T> {
     owner: Option<Arc<T, Global>>,
-    /// A value that nobody needs.
+    /// A value that is no longer needed.
     pub(crate) spare: Option<T>,
 }
 
 impl<T: Drop> Place<T> {
-    /// A place that takes no memory yet.
+    /// An empty place. It allocates nothing.
     pub(crate) fn new() -> Place<T> {
         Place {
             owner: None,
@@ -35,8 +35,8 @@ impl<T: Drop> Place<T> {
         }
     }
 
-    /// The value with an owner that others can join. The value that stood there becomes the spare
-    /// one, unless somebody still holds it.
+    /// The value behind an `Arc`. The value before becomes the spare one, unless it still has
+    /// another owner.
     pub(crate) fn share(&mut self, alloc: Global, value: T) -> Result<Arc<T, Global>, OutOfMemory>
         ensures { IfOk result (λ owner. arc_value owner ≡ value) }
     {
@@ -52,7 +52,7 @@ impl<T: Drop> Place<T> {
         }
     }
 
-    /// Keeps an owner whose value nobody needs but for its memory.
+    /// Keeps an owner whose value is only needed for its memory.
     pub(crate) fn keep(&mut self, owner: Arc<T, Global>) {
         self.owner = Some(owner);
     }

@@ -1,4 +1,4 @@
-//! The passes of one cycle.
+//! The passes of one cycle, one after another on a pool.
 ghost use Rattle.std.specs.Prelude.{◌≡◌, ℕ, ◌+◌, ◌*◌, ◌<◌, ◌≤◌, ◌⊎◌, [], length, IfOk, IfErr};
 ghost use Rattle.std.specs.List.{All};
 ghost use Rattle.std.specs.Arc.{arc_value};
@@ -17,7 +17,7 @@ use std::alloc::Global;
 use std::marker::Model;
 use std::sync::Arc;
 
-/// What the passes of one cycle share.
+/// The data that all passes of one cycle share.
 #[derive(Drop)]
 pub(crate) struct Passes<'c, J: Job> {
     pub(crate) job: &'c Arc<J, Global>,
@@ -43,8 +43,8 @@ impl<'c, J: Job> Model for Passes<'c, J> {
     ghost invariant = { λ p. J.Fit (arc_value p.job.now) (arc_value p.plan.now) × (p.cycle ≤ 1000000) };
 }
 
-/// What the passes up to one leave: the new elements, the words that each drew, the part, and,
-/// where it is the last pass, what the elements show.
+/// The result of the passes up to one: the new elements, their draws and the part. After the last
+/// pass, `shown` has the bytes of the elements.
 #[derive(Drop)]
 pub struct SoFar<E, P> {
     pub(crate) elements: Container<E>,
@@ -53,14 +53,14 @@ pub struct SoFar<E, P> {
     pub(crate) shown: DrawnElements,
 }
 
-/// What one of the passes takes over from those before it.
+/// The data that a pass gets from the passes before it.
 #[derive(Drop)]
 struct Stage<'s, E, P> {
-    /// The pass' number, counted from 0.
+    /// The number of the pass, counted from 0.
     number: u8,
     carry: &'s Arc<P, Global>,
     elements: &'s Arc<Container<E>, Global>,
-    /// The words that each element drew before. Pass 0 has none.
+    /// The draws of each element before. Empty for pass 0.
     earlier: &'s Arc<Container<u32>, Global>,
 }
 
@@ -79,7 +79,7 @@ impl<'s, E, P> Model for Stage<'s, E, P> {
 }
 
 impl<'c, J: Job> Passes<'c, J> {
-    /// One pass, whose data the pool may hold as long as it likes. The last one shows its elements.
+    /// Runs one pass. The pool may keep owners of its data. The last pass shows its elements.
     fn one<P: Pool<J>>(
         &self,
         pool: &mut P,
@@ -121,7 +121,7 @@ impl<'c, J: Job> Passes<'c, J> {
         pool.run_pass(&pass, room)
     }
 
-    /// Pass 0, which carries the unit.
+    /// Runs pass 0, which carries the unit.
     fn first<P: Pool<J>>(
         &self,
         pool: &mut P,
@@ -166,8 +166,8 @@ impl<'c, J: Job> Passes<'c, J> {
         }
     }
 
-    /// A later pass over the elements of the one before, whose part it carries. The words are
-    /// added to those drawn so far.
+    /// Runs a later pass over the elements of the pass before, whose part it carries. Its draws are
+    /// added to those so far.
     fn next<P: Pool<J>>(
         &self,
         pool: &mut P,
@@ -220,7 +220,7 @@ impl<'c, J: Job> Passes<'c, J> {
         }
     }
 
-    /// All passes of the plan. The draws of an element are those of all passes together.
+    /// Runs all passes of the plan. The draws of an element are those of all passes together.
     pub(crate) fn run<P: Pool<J>>(
         &self,
         pool: &mut P,

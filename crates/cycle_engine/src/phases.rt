@@ -1,4 +1,4 @@
-//! The sequential end of a cycle.
+//! The end of a cycle, and its passes and end together.
 ghost use Rattle.std.specs.Prelude.{◌≡◌, ◌≤◌, length, Ok, Err, IfOk};
 ghost use Rattle.std.specs.List.{All};
 ghost use Rattle.std.specs.Arc.{arc_value};
@@ -13,7 +13,7 @@ use job::{Job, Pool};
 use std::alloc::Global;
 use std::sync::Arc;
 
-/// What a finished cycle leaves and shows.
+/// The result of a finished cycle: the state after it, the bytes of its elements and its output.
 #[derive(Drop)]
 pub struct CycleDone<G, E> {
     pub globals: G,
@@ -22,7 +22,7 @@ pub struct CycleDone<G, E> {
     pub output: Bytes,
 }
 
-/// The sequential end, behind the last pass.
+/// The sequential end, after the last pass.
 pub(crate) fn finish<J: Job>(
     passes: &Passes<'_, J>,
     globals: &J::Globals,
@@ -62,7 +62,7 @@ pub(crate) fn finish<J: Job>(
 }
 
 impl<'c, J: Job> Passes<'c, J> {
-    /// All passes over these elements, and the sequential end.
+    /// Runs all passes over these elements, and the sequential end.
     pub(crate) fn cycle<P: Pool<J>>(
         &self,
         pool: &mut P,

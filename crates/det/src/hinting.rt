@@ -1,4 +1,4 @@
-//! Lines behind the one line of an answer.
+//! Hints of `det`, written after the answer's line.
 use cli_words::read_words;
 use det_cli::{Answer, Status};
 use det_io::{DirShelf, Sink, write_all};
@@ -7,7 +7,7 @@ use hints_on_words::{Unread, can_reread, help_for, tell, tell_words, unwritten, 
 use std::alloc::Global;
 use std::io::Error;
 
-/// Refuses to write a record to a terminal.
+/// Refuses to write a record to a terminal, with the line of a write fault and a hint.
 pub(crate) fn refuse_terminal<E: Sink>(alloc: Global, err: &mut E) -> Status {
     let line = Answer::WriteFault.line();
     if write_all(err, line.as_slice()).is_ok() {
@@ -17,12 +17,12 @@ pub(crate) fn refuse_terminal<E: Sink>(alloc: Global, err: &mut E) -> Status {
     Status::WriteFault
 }
 
-/// Hints on words that are no command.
+/// Writes the hints on arguments that are no command.
 fn on_words<E: Sink>(rt: &HostRuntime, words: &[String], err: &mut E) {
     tell_words(rt, rt.alloc(), words_fault(words), help_for(words), err);
 }
 
-/// A hint on what a shelf couldn't read.
+/// Writes the hint on a file that couldn't be opened or read.
 fn on_read<E: Sink>(alloc: Global, words: &[String], failed: Option<(u32, Error)>, err: &mut E) {
     let Some(command) = read_words(words) else {
         return;
@@ -32,7 +32,7 @@ fn on_read<E: Sink>(alloc: Global, words: &[String], failed: Option<(u32, Error)
     }
 }
 
-/// A hint on a file that was refused.
+/// Writes the hint on a file that was refused.
 fn on_file<E: Sink>(rt: &HostRuntime, words: &[String], status: Status, err: &mut E) {
     let alloc = rt.alloc();
     let Some(command) = read_words(words) else {
@@ -47,8 +47,10 @@ fn on_file<E: Sink>(rt: &HostRuntime, words: &[String], status: Status, err: &mu
     }
 }
 
-/// Tells what stands behind a status that a line was written for: why the words are no command,
-/// what the system failed for, or what is wrong with a file, which is read once more.
+/// Writes the hints on a status whose line was written. They say why the arguments are no command,
+/// why the system failed, or what is wrong with a file, which is read once more.
+///
+/// `unread` is the slot that failed, with its error, and `failed` the error of standard output.
 pub(crate) fn give_hints<E: Sink>(
     rt: &HostRuntime,
     words: &[String],

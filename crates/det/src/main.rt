@@ -1,5 +1,5 @@
-//! The program `det`: the real shelf, standard output and standard error, the shipped probes, and
-//! `top`; before it a look at the terminal, and behind it hints.
+//! The program `det`: `top` over the real files, standard output and standard error, with the
+//! shipped probes. Before it, a record for a terminal is refused; after it, hints are written.
 #![tactic(auto)]
 
 mod hinting;
@@ -18,8 +18,8 @@ use std::thread::Threads;
 use terminal::{is_forced, writes_record};
 use worker_pool::{Gate, NapGate};
 
-/// The words behind the program's name. A word that isn't UTF-8 makes no command, and neither does
-/// no word at all.
+/// The arguments after the program's name. They are empty, which is no command, if one of them
+/// isn't UTF-8.
 fn words_given(rt: &HostRuntime) -> Result<Vec<String>, AllocError> {
     let alloc = rt.alloc();
     match env::args(rt) {
@@ -29,7 +29,7 @@ fn words_given(rt: &HostRuntime) -> Result<Vec<String>, AllocError> {
     }
 }
 
-/// A gate at which idle threads of a run sleep by the clock.
+/// A gate at which a run's idle threads sleep by the clock.
 fn gate_of(rt: &HostRuntime) -> Result<Arc<NapGate<HostRuntime>>, AllocError> {
     let clock = rt.clone()?;
     Ok(Arc::new(rt.alloc(), NapGate { clock })?)
@@ -59,7 +59,7 @@ where
     Ok(top(host, words, shelf, out, err, &mut audience))
 }
 
-/// Tells that memory could not be had before the program began, as `top` does.
+/// Reports that memory ran out before the program began, as `top` does.
 fn no_memory<E: Sink>(err: &mut E) -> ExitCode {
     let line = Answer::OutOfMemory.line();
     let _ = write_all(err, line.as_slice());

@@ -1,10 +1,10 @@
-//! Which commands write a record, which is no text for a terminal.
+//! Finds the commands that write a record, since its bytes are unfit for a terminal.
 use cli_words::{CommandWord, read_words};
 
-/// The last word by which a record is written to a terminal.
+/// The last argument, if a record may be written to a terminal.
 const FORCE: &str = "--force";
 
-/// Whether the words are a command whose standard output is a record.
+/// Whether the arguments are a command whose standard output is a record.
 pub(crate) fn writes_record(words: &[String]) -> bool {
     let Some(command) = read_words(words) else {
         return false;
@@ -21,7 +21,7 @@ pub(crate) fn writes_record(words: &[String]) -> bool {
     }
 }
 
-/// Whether the words are such a command and `--force` behind it.
+/// Whether the arguments are such a command and then `--force`.
 pub(crate) fn is_forced(words: &[String]) -> bool {
     match words {
         [front @ .., last] => last.as_str() == FORCE && writes_record(front),

@@ -1,4 +1,4 @@
--- What a status tells, by the answer that it stands for.
+-- What a status says of the answer that has it.
 use Rattle.std.proofs.Common.{◌≡◌, ℕ, List, refl, sym, ap, subst, ◌∙◌, inl, inr}
 use Rattle.std.specs.Prelude.{◌⊎◌, true, Option, Some, None, unwrap_or}
 use Rattle.det_io.specs.Sink.{Grew}
@@ -18,7 +18,7 @@ use Rattle.det_cli.specs.Promise.{Runs, IsPromised}
 use Rattle.det_cli.proofs.Joining.{RunsWords}
 use Rattle.det_cli.specs.Laws.{Gives, IsRefusal, OfCommand, Concludes}
 
--- a fault's status, and that of bad words, stand for one answer
+-- the status of a fault, and that of bad words, belongs to one answer
 at-read-fault : (answer : Answer) → status_of answer ≡ statuses.ReadFault → answer ≡ ReadFault
 at-read-fault ReadFault e = refl
 at-read-fault _ e = absurd (cc)
@@ -36,7 +36,7 @@ no-bad-words : (work : Work) (answer : Answer) → answer ≡ BadWords → can_e
 no-bad-words work answer e ends = let h = rw e at ends in cc
 
 module _ (wanted : Outcome) (before after : List ℕ → Type 0) (answer : Answer) (status : Status) (is : status ≡ status_of answer) where
-  -- with no fault's status the outcome is given, or memory was wanting
+  -- if the status is no fault's, the outcome is given or memory ran out
   gives : (status ≡ statuses.ReadFault → ⊥) → (status ≡ statuses.WriteFault → ⊥)
       → (answer ≡ ReadFault) ⊎ ((answer ≡ WriteFault) ⊎ ((answer ≡ OutOfMemory)
       ⊎ ((answer ≡ wanted.answer) × Grew before after wanted.bytes)))

@@ -8,7 +8,8 @@ use Rattle.det_io.specs.Sink.{GrewByPrefix}
 use Rattle.det_io.proofs.Growth.{grew-none}
 use Rattle.probes.specs.Reports.{AudienceState}
 use Rattle.cli_answers.specs.declared.answer.Answer.{Answer}
-use Rattle.cli_answers.specs.declared.answer.Answer.TheVariants.{BadWords}
+use Rattle.cli_answers.specs.declared.answer.Answer.TheVariants.{Differs, BadWords}
+use Rattle.cli_answers.specs.Ends.{Work, can_end}
 use Rattle.cli_words.specs.declared.table.CommandWord.{CommandWord}
 use Rattle.cli_words.specs.declared.table.OptionWord.TheVariants.{Workers}
 use Rattle.cli_words.specs.Table.{row}
@@ -75,7 +76,7 @@ module _ (c : CommandValue) (word : CommandWord) (range : IsInRange c) (is : c.w
       let high : length c.names ≤ (row word).most = subst (λ (w : CommandWord). length c.names ≤ (row w).most) is range.most in
       nil_from_length c.names (omega (arith, most, high))
 
-  -- the names, seen through a slice, are at least so many
+  -- the names, seen through a slice, are at least this number
   pub names-enough : {A : Type 0} (names : List A) (text : A → List ℕ) → map text names ≡ c.names → (least : ℕ)
       → (row word).least ≡ least → least ≤ length names
   names-enough names text same least few =
@@ -91,7 +92,7 @@ module _ (c : CommandValue) (word : CommandWord) (range : IsInRange c) (is : c.w
       two-names c.names (omega (arith, least, low)) (omega (arith, most, high))
       ∙ ap (λ (n : List ℕ). n ∷ name_at 1 c ∷ []) (sym first) ∙ ap (λ (n : List ℕ). name ∷ n ∷ []) (sym second)
 
-  -- and at most so many
+  -- and at most this number
   pub names-few : {A : Type 0} (names : List A) (text : A → List ℕ) → map text names ≡ c.names → (most : ℕ)
       → (row word).most ≡ most → length names ≤ most
   names-few names text same most few =
@@ -120,6 +121,10 @@ is-gone parts.All now gone e = gone
 is-gone parts.Reports now gone e = gone
 is-gone (parts.Cycle number) now gone e = absurd cc
 
+-- a command that compares nothing finds no difference
+pub no-difference : (work : Work) (answer : Answer) → answer ≡ Differs → can_end work answer ≡ true → work.compares ≡ false → ⊥
+no-difference work answer e ends alone = let h = rw e at ends in let none = sym alone ∙ h in cc
+
 -- runs that were reported of a record have no lines
 pub reported-runs : {old now : AudienceState} {record_bytes bytes : List ℕ} {before after : List ℕ → Type 0}
     → salvaging.SawFirst old now record_bytes → GrewByPrefix before after bytes
@@ -137,7 +142,7 @@ reported-runs saw part = record {
 pub help-is : (found : Option (List ℕ)) (names asked : List (List ℕ)) → names ≡ asked → found ≡ help_text names → help_text asked ≡ found
 help-is found names asked same is = sym (is ∙ ap help_text same)
 
--- the workers that are told are 1 to 64
+-- the number of workers that is given is 1 to 64
 pub workers-fit : (c : CommandValue) → IsInRange c → IfSome c.options.workers (λ n. (1 ≤ n) × (n ≤ 64))
 workers-fit c range = by_told c.options.workers refl where
   by_told : (told : Option ℕ) → c.options.workers ≡ told → IfSome told (λ n. (1 ≤ n) × (n ≤ 64))

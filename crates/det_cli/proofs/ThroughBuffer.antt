@@ -96,7 +96,10 @@ runs-no-memory c shelf failed before audience = record {
   needed = λ t. asks-prefix-none shelf shelf _ refl;
   earlier = keeps-same shelf;
   left = λ e. refl;
-  gone = λ e done. absurd cc;
+  gone = λ e done. elim done [
+    | inl is ↦ absurd cc
+    | inr is ↦ absurd cc
+  ];
   saw = λ t ne. absurd (ne refl);
 }
 
@@ -149,7 +152,10 @@ module _ (c : CommandValue) (first last : ShelfState) (start now after : List �
     needed = runs.needed;
     earlier = runs.earlier;
     left = runs.left;
-    gone = λ e done. absurd cc;
+    gone = λ e done. elim done [
+      | inl is ↦ absurd cc
+      | inr is ↦ absurd cc
+    ];
     saw = λ t ne. seen-none c first last start after c.word word (told first) audience;
   }
 

@@ -1,5 +1,5 @@
--- What a user may conclude from the exit status of a run of the program, and what stays the same
--- whatever the number of workers is.
+-- What a user may conclude from the exit status of the program, and what the number of workers
+-- leaves unchanged.
 use Rattle.std.specs.Prelude.{◌≡◌, ℕ, Bool, ◌⊎◌, ◌↔◌, List, [], Option, Some, None, Ok}
 use Rattle.det_io.specs.Count.{Rose}
 use Rattle.det_io.specs.Sink.{Grew}
@@ -25,25 +25,26 @@ pub record Gives (wanted : Outcome) (before after : List ℕ → Type 0) (status
   pub same : status ≡ status_of wanted.answer
   pub bytes : Grew before after wanted.bytes
 
--- something that was read is refused
+-- something that was read was refused
 abbrev pub IsRefusal : Status → Type 0
 IsRefusal status = (status ≡ BadManifest) ⊎ ((status ≡ BadStimulus) ⊎ (status ≡ BadRecord))
 
 -- what is concluded from the status of a command
 pub record OfCommand (c : CommandValue) (first last : ShelfState) (out_failed : Type 0)
     (before after : List ℕ → Type 0) (seeing : AudienceState) (status : Status) : Type 0 where
-  -- where neither the shelf nor `out` failed the outcome is given, or memory was wanting
+  -- If neither the shelf nor `out` failed, the outcome is met, or memory ran out.
   pub unfailed : TellsAll c first → ¬ Rose first.faults last.faults → ¬ out_failed
       → (status ≡ OutOfMemory)
       ⊎ Gives (outcome_by c.word c (told first) seeing) before after status
-  -- done, or that something differs, or refused, only where the outcome is
+  -- done, differs, or a refusal: only if the outcome is that
   pub done : TellsAll c first → status ≡ Done
       → Gives (outcome_by c.word c (told first) seeing) before after status
   pub differs : TellsAll c first → status ≡ Differs
       → Gives (outcome_by c.word c (told first) seeing) before after status
   pub refused : TellsAll c first → IsRefusal status
       → Gives (outcome_by c.word c (told first) seeing) before after status
-  -- no majority only where the copies have none; behind the rows that most of them have in common
+  -- no majority: only if the copies have none, after the rows that more than half of them have in
+  -- common
   pub no_majority : TellsAll c first → status ≡ NoMajority
       → Gives (outcome_by c.word c (told first) seeing) before after status
 
@@ -51,25 +52,25 @@ pub record Concludes (words : List (List ℕ)) (first last : ShelfState) (out_fa
     (before after : List ℕ → Type 0) (seeing : AudienceState) (status : Status) : Type 0 where
   pub command : (c : CommandValue) → command_of words ≡ Some c
       → OfCommand c first last out_failed before after seeing status
-  -- a fault only where there was one
+  -- a fault only if there was one
   pub read_fault : status ≡ ReadFault → Rose first.faults last.faults
   pub write_fault : status ≡ WriteFault → out_failed
-  -- bad words exactly where the words are no command, and then nothing was written
+  -- bad words exactly if the arguments are no command, and then nothing was written
   pub bad_words : (status ≡ BadWords) ↔ (command_of words ≡ None)
   pub unwritten : status ≡ BadWords → Grew before after []
 
--- the command with this number of workers, or without one
+-- the command with this number of workers, or with none given
 abbrev pub on_workers : Option ℕ → CommandValue → CommandValue
 on_workers number c = record c { options = record c.options { workers = number } }
 
--- a command opens the same names and has the same outcome on any number of workers
+-- a command opens the same names and has the same outcome for any number of workers
 pub record IsSameOn (number : Option ℕ) (c : CommandValue) (holds : List ℕ → List ℕ)
     (audience : AudienceState) : Type 0 where
   pub names : opened_by c.word (on_workers number c) holds ≡ opened_by c.word c holds
   pub same : outcome_by c.word (on_workers number c) holds audience
       ≡ outcome_by c.word c holds audience
 
--- two manifests tell the same but for their number of workers
+-- two manifests differ only in their number of workers
 pub record DifferInWorkers (strict : Bool) (one other : List ℕ) : Type 0 where
   pub manifest : ManifestValue
   pub number : ℕ

@@ -1,9 +1,9 @@
--- What the program gives: an answer and the bytes for `out`, by the words, the bytes under each
--- name and the audience.
+-- The outcome of the program, by the arguments, the bytes under each name and the audience.
 use Rattle.std.specs.Prelude.{ℕ, Bool, true, false, List, [], map}
 use Rattle.std.specs.Prelude.{unwrap_or, if◌then◌else◌}
 use Rattle.cli_answers.specs.Outcome.{Outcome, text_outcome}
 use Rattle.cli_answers.specs.Ends.{Work, writes_alone, reads_records, compares_records}
+use Rattle.cli_answers.specs.Ends.{reruns_records, compares_runs}
 use Rattle.cli_words.specs.declared.table.CommandWord.{CommandWord}
 use Rattle.cli_words.specs.declared.table.CommandWord.TheVariants.{Demo, Record, Show, Needs, Sim}
 use Rattle.cli_words.specs.declared.table.CommandWord.TheVariants.{Replay, Check, Upgrade}
@@ -28,8 +28,8 @@ use Rattle.cmd_records.specs.salvage_command.Salvage.{salvage_outcome, salvage_r
 use Rattle.det_cli.specs.declared.texts.TheConstants.{VERSION}
 use Rattle.det_cli.specs.Texts.{help_text}
 
--- the names that a command opens where these are the bytes under each name: a manifest that is
--- refused is the last of them
+-- The names that a command opens, if these are the bytes under each name. It opens none after a
+-- manifest that is refused.
 abbrev pub opened_by : CommandWord → CommandValue → (List ℕ → List ℕ) → List (List ℕ)
 opened_by Record c holds =
     record_names (name_at 0 c) (name_at 1 c) (setup_of c.options.strict (holds (name_at 0 c)))
@@ -44,16 +44,16 @@ work_of Demo = demo_work
 work_of Record = record_work
 work_of Show = reads_records
 work_of Needs = needs_work
-work_of Replay = reads_records
-work_of Check = compares_records
-work_of Upgrade = compares_records
+work_of Replay = reruns_records
+work_of Check = compares_runs
+work_of Upgrade = compares_runs
 work_of Compare = compares_records
 work_of Vote = vote_work
 work_of Salvage = reads_records
 work_of Chain = record_work
 work_of other = writes_alone
 
--- the commands that show runs to the audience, and print its reports
+-- the commands that show runs to the audience and print its reports
 abbrev pub is_showing : CommandWord → CommandValue → Bool
 is_showing Show c = has_reports (part_of c.options)
 is_showing Sim c = true
@@ -61,7 +61,7 @@ is_showing Check c = true
 is_showing Salvage c = c.options.reports
 is_showing other c = false
 
--- the outcome of a command where these are the bytes under each name
+-- the outcome of a command, if these are the bytes under each name
 abbrev pub outcome_by : CommandWord → CommandValue → (List ℕ → List ℕ) → AudienceState
     → Outcome
 outcome_by Demo c holds audience = demo_outcome (holds (name_at 0 c))

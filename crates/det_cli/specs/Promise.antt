@@ -1,5 +1,5 @@
--- What the program promises: first of a command's answer, then of an exit status.
-use Rattle.std.specs.Prelude.{◌≡◌, ℕ, MatchBool, MatchOption, true, false, List, []}
+-- The promise of the program: first for a command's answer, then for an exit status.
+use Rattle.std.specs.Prelude.{◌≡◌, ◌⊎◌, ℕ, MatchBool, MatchOption, true, false, List, []}
 use Rattle.det_io.specs.Count.{Rose}
 use Rattle.det_io.specs.Sink.{Grew, GrewByPrefix}
 use Rattle.det_io.specs.Shelf.{ShelfState, AsksPrefix}
@@ -19,7 +19,7 @@ use Rattle.cmd_records.specs.vote_command.Vote.{VoteBreaksOff}
 use Rattle.cmd_rerun.specs.check_command.Check as checking
 use Rattle.cmd_run.specs.sim_command.Sim.{sim_runs}
 use Rattle.cli_answers.specs.declared.answer.Answer.{Answer}
-use Rattle.cli_answers.specs.declared.answer.Answer.TheVariants.{Done, BadWords, ReadFault}
+use Rattle.cli_answers.specs.declared.answer.Answer.TheVariants.{Done, Differs, BadWords, ReadFault}
 use Rattle.cli_answers.specs.declared.answer.Answer.TheVariants.{OutOfMemory}
 use Rattle.cli_answers.specs.declared.status.Status.{Status}
 use Rattle.cli_answers.specs.Answers.{status_of, err_line}
@@ -29,13 +29,13 @@ use Rattle.cli_answers.specs.Outcome.{Meets, Tells, told}
 use Rattle.cli_answers.specs.Slots.{KeepsSlots}
 use Rattle.det_cli.specs.Outcome.{opened_by, is_showing, work_of, outcome_by}
 
--- the bytes under the names that a command opens are told
+-- the bytes under the names that a command opens are known
 abbrev pub TellsAll : CommandValue → ShelfState → Type 0
 TellsAll c shelf = Tells shelf (opened_by c.word c (told shelf))
 
--- What an audience has seen: first runs of the record under a name, of which `show` has written the
--- lines, and with `check` those that it checks; or all runs of `sim`. Other commands show none, nor
--- does `salvage` where no reports are asked for.
+-- What an audience has seen. With `show` these are first runs of the record, whose lines are
+-- written; with `check`, first runs of those that it checks; with `salvage --reports`, first runs
+-- of the record; with `sim`, all its runs. The other commands show none.
 abbrev pub SeenBy : CommandWord → CommandValue → (List ℕ → List ℕ) → AudienceState → AudienceState
     → (before after : List ℕ → Type 0) → Type 0
 SeenBy Show c holds old now before after =
@@ -47,9 +47,9 @@ SeenBy Check c holds old now before after =
 SeenBy Sim c holds old now before after = SawRuns old now (sim_runs (number_in c))
 SeenBy other c holds old now before after = Unit {0}
 
--- What a command on records has written where a read failed: all that the bytes give that were
--- read; of `salvage` all that is saved of them, and of `vote` all rows that one copy shows so far.
--- In place of reports or of dissenters nothing is written.
+-- What a command on records has written when a read fails. `show` has written all lines of what was
+-- read, `salvage` all that is saved of it, and `vote` all rows that one copy shows so far. In place
+-- of reports or of dissenters nothing is written.
 abbrev pub BrokenBy : CommandWord → CommandValue → ShelfState → ShelfState
     → (before after : List ℕ → Type 0) → Type 0
 BrokenBy Show c first last before after =
@@ -63,35 +63,34 @@ BrokenBy Vote c first last before after =
     (VoteBreaksOff first last (files_of c) before after)
 BrokenBy other c first last before after = Unit {0}
 
--- A run of a command. `out` took what `before` and `after` say; the audience `seeing` was handed
--- in, and is `stayed` afterwards.
+-- A run of a command. `before` and `after` say what `out` took. The audience was `seeing` and is
+-- `stayed` afterwards.
 pub record Runs (c : CommandValue) (first last : ShelfState) (out_failed : Type 0)
     (before after : List ℕ → Type 0) (seeing stayed : AudienceState) (answer : Answer)
     : Type 0 where
-  -- it answers and writes what the definition gives of the bytes under the names that it opens,
-  -- where they are told
+  -- it meets the outcome for the bytes under the names that it opens, if they are known
   pub meets : Meets (outcome_by c.word c (told first) seeing) (TellsAll c first)
       (Rose first.faults last.faults) out_failed before after answer
-  -- where a read failed, and the names are told, it has written what was read
+  -- if a read failed, and the names are known, what was read is written
   pub broken : TellsAll c first → answer ≡ ReadFault → BrokenBy c.word c first last before after
-  -- each answer belongs to its command, told or untold
+  -- each answer is one of the command's, whether the names are known or not
   pub ends : can_end (work_of c.word) answer ≡ true
-  -- no other name is opened, and none before its turn; where they are told, none beyond those that
-  -- are needed
+  -- It opens no other name, and none before its turn. If the names are known, it opens only those
+  -- that it needs.
   pub asked : AsksPrefix first last (files_of c)
   pub needed : TellsAll c first → AsksPrefix first last (opened_by c.word c (told first))
   -- slots given before the call keep what they have left
   pub earlier : KeepsSlots first last
-  -- a command that shows no runs leaves the audience; where one that shows them is done, all probes
-  -- have reported and left
+  -- A command that shows no runs leaves the audience as it was. If one that shows runs is done,
+  -- or has found a difference, all probes have reported and left.
   pub left : is_showing c.word c ≡ false → stayed ≡ seeing
-  pub gone : is_showing c.word c ≡ true → answer ≡ Done → stayed.seeing ≡ []
-  -- where the names are told it has seen first runs; where memory was wanting nothing is said: some
-  -- probes may have seen one run more, or be gone
+  pub gone : is_showing c.word c ≡ true → (answer ≡ Done) ⊎ (answer ≡ Differs) → stayed.seeing ≡ []
+  -- If the names are known, the audience has seen first runs. Nothing is said after "out of
+  -- memory": some probes may have seen one run more, or have left.
   pub saw : TellsAll c first → (answer ≡ OutOfMemory → ⊥)
       → SeenBy c.word c (told first) seeing stayed before after
 
--- words that are no command: nothing is opened, written or shown
+-- arguments that are no command: nothing is opened, written or shown
 pub record Refuses (first last : ShelfState) (before after : List ℕ → Type 0)
     (seeing stayed : AudienceState) (answer : Answer) : Type 0 where
   pub is : answer ≡ BadWords
@@ -99,8 +98,8 @@ pub record Refuses (first last : ShelfState) (before after : List ℕ → Type 0
   pub wrote : Grew before after []
   pub left : stayed ≡ seeing
 
--- The program: a run of the command that the words give, or their refusal; its status, and one line
--- for the user.
+-- The program: a run of the arguments' command, or their refusal, with its status and one line for
+-- the user.
 pub record IsPromised (words : List (List ℕ)) (first last : ShelfState) (out_failed : Type 0)
     (before after : List ℕ → Type 0) (err_failed : Type 0) (err_before err_after : List ℕ → Type 0)
     (seeing stayed : AudienceState) (status : Status) : Type 0 where
@@ -108,6 +107,6 @@ pub record IsPromised (words : List (List ℕ)) (first last : ShelfState) (out_f
   pub is : status ≡ status_of answer
   pub runs : MatchOption (command_of words) (Refuses first last before after seeing stayed answer)
       (λ c. Runs c first last out_failed before after seeing stayed answer)
-  -- `err` took a prefix of the answer's line, and all of it where its count of faults didn't rise
+  -- `err` took a prefix of the answer's line, and all of it unless its count of faults rose
   pub line : GrewByPrefix err_before err_after (err_line answer)
   pub whole_line : ¬ err_failed → Grew err_before err_after (err_line answer)

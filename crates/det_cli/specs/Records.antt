@@ -1,4 +1,4 @@
--- The commands that write a record.
+-- The commands that write the record of a run.
 use Rattle.std.specs.Prelude.{Bool, true, false}
 use Rattle.cli_words.specs.declared.table.CommandWord.{CommandWord}
 use Rattle.cli_words.specs.declared.table.CommandWord.TheVariants.{Demo, Record, Replay, Upgrade}

@@ -10,7 +10,7 @@ use Rattle.det_cli.specs.declared.pages.TheConstants.{DEMO, RECORD, SHOW, NEEDS,
 use Rattle.det_cli.specs.declared.pages.TheConstants.{REPLAY, CHECK, UPGRADE, COMPARE, VOTE}
 use Rattle.det_cli.specs.declared.pages.TheConstants.{SALVAGE, CHAIN}
 
--- the page of a command; the help and the version have none
+-- the page of a command; `--help` and `--version` have none
 abbrev pub page_of : CommandWord → Option (List ℕ)
 page_of Demo = Some DEMO.now
 page_of Record = Some RECORD.now
@@ -26,7 +26,7 @@ page_of Salvage = Some SALVAGE.now
 page_of Chain = Some CHAIN.now
 page_of other = None
 
--- the text that `--help` prints: the usage, or the page of the command that is named
+-- the text that `--help` prints: the usage, or the page of the named command
 abbrev pub help_text : (names : List (List ℕ)) → Option (List ℕ)
 help_text [] = Some USAGE.now
 help_text (name ∷ rest) = option_and_then page_of (command_word name)

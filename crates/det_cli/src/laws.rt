@@ -1,5 +1,5 @@
-//! What follows from the program's promise, and a law of its outcomes. Each is a function that
-//! computes nothing.
+//! Laws about the promise of `top`. Each is a function that computes nothing, and its contract is
+//! the law.
 ghost use Rattle.std.specs.Prelude.{◌≡◌, ℕ, Bool, List, Option};
 ghost use Rattle.det_io.specs.Count.{Rose};
 ghost use Rattle.det_io.specs.Shelf.{ShelfState};
@@ -25,10 +25,11 @@ pub fn answers<K: Sink, E: Sink>()
         (K.took out) (K.took out_after) seeing status }
 {}
 
-/// The number of workers changes no outcome. Two commands that differ only in the number after
-/// `--workers`, or in whether it stands there, open the same names and have the same outcome; and
-/// `record` has the same outcome of two manifests that tell the same but for their workers, as
-/// `cmd_run::chain` has of two pairs of such manifests.
+/// The number of workers changes no outcome.
+///
+/// Two commands that differ only in `--workers` open the same names and have the same outcome.
+/// `record` has the same outcome for two manifests that differ only in their number of workers, and
+/// so has `chain` for two pairs of them.
 pub fn workers()
     ensures command { (number : Option ℕ) (c : CommandValue) (holds : List ℕ → List ℕ)
         (audience : AudienceState) → IsSameOn number c holds audience }

@@ -1,10 +1,10 @@
-//! The whole program as one call, over any shelf and any sinks.
+//! The program `det` as one call, over any shelf and any sinks.
 //!
-//! `top` reads the words of the command line, runs their command and tells its answer. Each command
-//! is a crate of its own, whose contract says that it meets its outcome for the bytes under its
-//! names. `specs/Outcome.antt` joins these to the outcome of the words, `specs/Promise.antt` says
-//! what `top` promises of it, and `laws` what a user may conclude from a status, and that the
-//! number of workers changes no outcome.
+//! `top` reads the arguments, runs their command and reports its answer. Each command's contract
+//! says that it meets its outcome for the bytes under its names. `specs/Outcome.antt` joins these
+//! outcomes to that of the arguments, and `specs/Promise.antt` defines the promise of `top`. `laws`
+//! proves what a user may conclude from a status, and that the number of workers changes no
+//! outcome.
 #![tactic(auto)]
 
 pub mod laws;

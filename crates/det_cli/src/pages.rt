@@ -1,6 +1,8 @@
-//! The page of each command, at most 40 lines of at most 80 columns.
+//! The page of each command that `--help COMMAND` prints, at most 40 lines of at most 80 columns.
+//! They aren't in the table of `cli_words`, since hints and two other programs depend on that
+//! crate, and print no page of `det`.
 
-/// `demo`.
+/// The page of `demo`.
 pub const DEMO: &str = "\
 det demo STIM
 
@@ -19,7 +21,7 @@ Exit statuses:
   4  bad stimulus              8  out of memory
 ";
 
-/// `record`.
+/// The page of `record`.
 pub const RECORD: &str = "\
 det record MANIFEST STIM [--seed N] [--workers W] [--strict]
 
@@ -46,7 +48,7 @@ Exit statuses:
   4  bad stimulus
 ";
 
-/// `show`.
+/// The page of `show`.
 pub const SHOW: &str = "\
 det show RECORD [--reports | --cycle C]
 
@@ -69,7 +71,7 @@ Exit statuses:
   5  bad record                8  out of memory
 ";
 
-/// `needs`.
+/// The page of `needs`.
 pub const NEEDS: &str = "\
 det needs MANIFEST [--strict]
 
@@ -90,7 +92,7 @@ Exit statuses:
   3  bad manifest              8  out of memory
 ";
 
-/// `sim`.
+/// The page of `sim`.
 pub const SIM: &str = "\
 det sim N [--workers W]
 
@@ -111,7 +113,7 @@ Exit statuses:
   2  bad words                 8  out of memory
 ";
 
-/// `salvage`.
+/// The page of `salvage`.
 pub const SALVAGE: &str = "\
 det salvage RECORD [--reports]
 
@@ -133,7 +135,7 @@ Exit statuses:
   5  bad record                8  out of memory
 ";
 
-/// `compare`.
+/// The page of `compare`.
 pub const COMPARE: &str = "\
 det compare RECORD RECORD ..
 
@@ -164,7 +166,7 @@ Exit statuses:
   5  bad record
 ";
 
-/// `replay`.
+/// The page of `replay`.
 pub const REPLAY: &str = "\
 det replay RECORD [--workers W]
 
@@ -187,7 +189,7 @@ Exit statuses:
   5  bad record                8  out of memory
 ";
 
-/// `check`.
+/// The page of `check`.
 pub const CHECK: &str = "\
 det check RECORD [--workers W]
 
@@ -214,7 +216,7 @@ Exit statuses:
   5  bad record
 ";
 
-/// `upgrade`.
+/// The page of `upgrade`.
 pub const UPGRADE: &str = "\
 det upgrade RECORD [--workers W]
 
@@ -240,7 +242,7 @@ Exit statuses:
   5  bad record
 ";
 
-/// `vote`.
+/// The page of `vote`.
 pub const VOTE: &str = "\
 det vote RECORD RECORD RECORD .. [--dissent]
 
@@ -268,7 +270,7 @@ Exit statuses:
   6  read fault                9  no majority
 ";
 
-/// `cmd_run::chain`.
+/// The page of `chain`.
 pub const CHAIN: &str = "\
 det chain MANIFEST MANIFEST STIM [--seed N] [--workers W] [--strict]
 

@@ -1,4 +1,4 @@
-//! The whole program.
+//! `top`, which runs the command that the arguments name.
 ghost use Rattle.std.specs.Prelude.{◌≡◌, true, map, option_map, MatchOption};
 ghost use Rattle.det_io.specs.Count.{Rose};
 ghost use Rattle.cli_answers.specs.Ends.{can_end, writes_alone};
@@ -34,11 +34,12 @@ use std::alloc::Global;
 use std::thread::Threads;
 use worker_pool::Gate;
 
-/// Runs the command that the words give, which are those after the program's name.
+/// Runs the command that the arguments after the program's name give.
 ///
-/// `record`, `demo`, `sim`, `cmd_run::chain`, `replay`, `check` and `upgrade` run their cycles by
-/// workers on real threads. Only as many workers run as there are blocks of elements, and one at
-/// least. Each of these passes the gate; a worker beyond them isn't started and passes none.
+/// `record`, `demo`, `sim`, `chain`, `replay`, `check` and `upgrade` run their cycles by workers on
+/// real threads. At most one worker runs for each block of elements, and at least one runs. Each
+/// worker that runs passes the gate; one beyond them isn't started and doesn't pass.
+///
 /// `show`, `sim`, `check` and `salvage` show the runs that they read or make to the audience.
 pub fn top<S, K, E, R, G>(
     host: &Host<'_, R, G>,
@@ -130,7 +131,7 @@ where
         CommandWord::Sim => sim(&workers_of(host, workers), command.number(), out, audience),
         CommandWord::Help => match help_text(command.names.as_slice()) {
             Some(text) => print(text, out),
-            // Each name that help takes is a word of a command with a page.
+            // Each name that help takes is the word of a command with a page.
             None => unreachable!(),
         },
         CommandWord::Version => print(VERSION, out),
@@ -146,7 +147,7 @@ where
     }
 }
 
-/// Writes the majority's record of the copies that are named, or prints who dissents from it.
+/// Writes the majority's record of the named copies, or prints which copies dissent from it.
 fn vote_by<S: Shelf, K: Sink>(
     alloc: Global,
     command: &Command<'_>,
@@ -166,7 +167,7 @@ fn vote_by<S: Shelf, K: Sink>(
     vote(alloc, copies, shelf, out)
 }
 
-/// The page of a command. The help and the version have none.
+/// The page of a command. `--help` and `--version` have none.
 fn page_of(word: CommandWord) -> Option<&'static str>
     ensures { option_map (λ text. text.now) result ≡ page_of word }
 {

@@ -1,4 +1,5 @@
-//! The commands that write a record. Its short frames are gathered to long writes.
+//! The commands that write the record of a run, apart from the others because they gather its short
+//! frames into long writes.
 ghost use Rattle.std.specs.Prelude.{◌≡◌, ◌≤◌, [], true, IfSome};
 ghost use Rattle.std.specs.Option.{unwrap_or};
 ghost use Rattle.det_io.specs.Count.{Rose};
@@ -23,8 +24,11 @@ use std::marker::Brand;
 use std::thread::Threads;
 use worker_pool::Gate;
 
-/// Runs a command that writes a record. What it writes is gathered to writes of up to 65,536 bytes,
-/// and all of it is written before the answer. Where that fails the answer is a write fault.
+/// Runs a command that writes the record of a run. The output is gathered into writes of up to
+/// 65,536 bytes, and everything is written before this returns. A write that fails is a write
+/// fault. After a write that failed during the run, what is held is tried once more; the answer
+/// stays a write fault. `show` and reports aren't gathered, since no probe may see a run whose
+/// lines weren't taken.
 pub(crate) fn write_gathered<S, K, R, G>(
     host: &Host<'_, R, G>,
     command: &Command<'_>,
@@ -53,7 +57,7 @@ where
     }
 }
 
-/// Runs it over a front of the sink, and gives back the sink with what is still held.
+/// Runs the command over a front of the sink. Returns the sink with the bytes that are still held.
 fn gather_front<'a, 'r, S, K, R, G>(
     host: &Host<'_, R, G>,
     command: &Command<'_>,
@@ -83,7 +87,7 @@ where
     (answer, sink, held)
 }
 
-/// Runs it over what gathers, whatever that is, and gives that back.
+/// Runs the command over anything that gathers, and returns that.
 fn gather<P, B, S, R, G>(
     host: &Host<'_, R, G>,
     command: &Command<'_>,
@@ -113,7 +117,7 @@ where
     (answer, buffer.into_front())
 }
 
-/// Runs it over a sink.
+/// Runs the command over a sink.
 fn write_record<S, K, R, G>(
     host: &Host<'_, R, G>,
     command: &Command<'_>,
@@ -154,12 +158,12 @@ where
         CommandWord::Replay => replay(&workers_of(host, workers), first, shelf, out),
         CommandWord::Upgrade => upgrade(&workers_of(host, workers), first, shelf, out),
         CommandWord::Chain => chain_by(host, command, shelf, out),
-        // The others write no record.
+        // The other commands don't write the record of a run.
         _ => unreachable!(),
     }
 }
 
-/// Writes the record of the second client of a chain.
+/// Runs `chain`, which writes the record of the second client.
 fn chain_by<S, K, R, G>(
     host: &Host<'_, R, G>,
     command: &Command<'_>,
@@ -194,7 +198,7 @@ where
     chain(host, &task, shelf, out)
 }
 
-/// One worker where no number is given.
+/// The workers of a command whose number is given or else 1.
 pub(crate) fn workers_of<'h, R, G>(host: &Host<'h, R, G>, given: Option<u32>) -> Workers<'h, R, G>
     requires { IfSome given IsWorkers }
     ensures { result.count ≡ unwrap_or given 1 }

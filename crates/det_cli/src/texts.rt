@@ -1,6 +1,6 @@
 //! The texts of `--help` and `--version`.
 
-/// Every command, and the exit statuses.
+/// What `--help` prints: every command, and the exit statuses.
 pub const USAGE: &str = "\
 det: records runs of the AUTOSAR deterministic client, byte for byte
 
@@ -47,5 +47,5 @@ Exit statuses:
   4  bad stimulus              9  no majority
 ";
 
-/// The name of the program and its version.
+/// What `--version` prints: the name of the program and its version.
 pub const VERSION: &str = "det 0.1.0\n";

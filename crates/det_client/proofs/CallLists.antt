@@ -1,4 +1,4 @@
--- What a further call does to the list that a client comes from.
+-- The effect of a further call on the list of calls that led to a client.
 use Rattle.std.proofs.Common.{◌≡◌, ℕ, zero, suc, ◌+◌, List, [], ◌∷◌, ◌++◌, None, Bool, true, false, cond, refl, sym, ap, ◌∙◌, append_assoc}
 use Rattle.std.proofs.Common.{arith, replicate, append-nil}
 use Rattle.det_client.specs.element_random.Words.{StandsFor, key}
@@ -47,7 +47,7 @@ begins_runs Init h = refl
 begins_runs Run h = h
 begins_runs Terminate h = refl
 
--- the same requests, and another number of words drawn
+-- the same requests, and another count of numbers drawn
 same_life : (before after : State) (given more : List Next) → SameButSeed before after → more ≡ given → Life before given → Life after more
 same_life before after given more same e life = rw e (record {
   last = same.last ∙ life.last;
@@ -98,7 +98,7 @@ module _ {before after : State} {t : ℕ} (calls : List Call) (comes : ComesFrom
             (ap begins (answered_step s (requests calls) comes.life)) comes.own);
       }
 
--- a client behind so many cycles, which was then given a seed
+-- a client after this number of cycles, with a seed set then
 pub comes_resumed : (seed cycle : ℕ) (s : State) → s.seed ≡ seed → OwnAt s 0 → Life s (replicate (3 + cycle) (Go None)) →
     ComesFrom s s.cycle_time (resuming seed cycle)
 comes_resumed seed cycle s is own life =

@@ -1,4 +1,4 @@
--- The own stream before and after its first word is drawn.
+-- The own stream before and after its first number is drawn.
 use Rattle.std.proofs.Common.{◌≡◌, ℕ, refl, sym, subst, ◌∙◌}
 use Rattle.det_client.specs.element_random.Words.{Place, StandsFor}
 use Rattle.det_client.specs.State.{beginning}

@@ -1,4 +1,4 @@
--- What a further request does to the list that a client stands for.
+-- The effect of a further request on the list of requests that led to a client.
 use Rattle.std.proofs.Common.{◌≡◌, ℕ, zero, suc, ◌+◌, List, [], ◌∷◌, ◌++◌, length, Option, None, Some, Bool, true, false, cond, ◌||◌, refl}
 use Rattle.std.proofs.Common.{sym, ap, ◌∙◌, append_assoc, length-append, add_assoc, arith, replicate, append-nil, eqb}
 use Rattle.std.proofs.lemmas.List.{length-replicate}
@@ -98,7 +98,7 @@ cond_none : (b : Bool) (t : Option ℕ) → cond b t t ≡ t
 cond_none true t = refl
 cond_none false t = refl
 
--- a client that was given `Go(None)` three times and c times more
+-- a client after `Go(None)` three times and c times more
 pub resumed_life : (c : ℕ) (s : State) → s.last ≡ Some (cond (eqb c 0) Init Run) → s.cycle ≡ c → s.time ≡ None →
     Life s (replicate (3 + c) (Go None))
 resumed_life c s last cycle time =

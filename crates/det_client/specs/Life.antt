@@ -15,12 +15,12 @@ abbrev pub is_stop : Next → Bool
 is_stop Stop = true
 is_stop (Go t) = false
 
--- whether a stop stands in a list
+-- whether a list contains a stop
 abbrev pub stopped : List Next → Bool
 stopped [] = false
 stopped (x ∷ xs) = is_stop x || stopped xs
 
--- activation number n, counted from 1, where nothing stops the process
+-- activation number n, counted from 1, if nothing stops the process
 abbrev pub activation : ℕ → Activation
 activation zero = RegisterServices
 activation (suc zero) = RegisterServices
@@ -39,13 +39,13 @@ is_run ServiceDiscovery = false
 is_run Init = false
 is_run Terminate = false
 
--- how many prefixes of `before` followed by a list, longer than `before`, are answered with Run
+-- the number of Runs among the answers to the requests of a list that comes after `before`
 abbrev pub runs_after : List Next → List Next → ℕ
 runs_after before [] = 0
 runs_after before (x ∷ xs) =
     (if is_run (answer (before ++ x ∷ [])) then 1 else 0) + runs_after (before ++ x ∷ []) xs
 
--- the number of the present cycle: how many prefixes of a list are answered with Run
+-- the number of the present cycle: the number of Runs among the answers
 abbrev pub cycle_of : List Next → ℕ
 cycle_of given = runs_after [] given
 
@@ -69,13 +69,13 @@ last_time (x ∷ y ∷ ys) = last_time (y ∷ ys)
 abbrev pub time_of : List Next → Option ℕ
 time_of given = if is_run (answer given) then last_time given else None
 
--- a client is where these requests lead
+-- a client is in the state that these requests lead to
 pub record Life (c : State) (given : List Next) : Type 0 where
   pub last : c.last ≡ last_of given
   pub cycle : c.cycle ≡ cycle_of given
   pub time : c.time ≡ time_of given
 
--- the activation after the last one, where nothing stops the process
+-- the activation after the last one, if nothing stops the process
 abbrev pub following : Option Activation → Activation
 following None = RegisterServices
 following (Some RegisterServices) = ServiceDiscovery
@@ -89,7 +89,7 @@ abbrev pub next_activation : Option Activation → Next → Activation
 next_activation last Stop = Terminate
 next_activation last (Go t) = following last
 
--- Init and Run begin the own stream anew
+-- Init and Run restart the own stream
 abbrev pub begins : Activation → Bool
 begins Init = true
 begins Run = true

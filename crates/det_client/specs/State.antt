@@ -1,4 +1,4 @@
--- What a client keeps.
+-- The state of a client.
 use Rattle.std.specs.Prelude.{◌≡◌, ℕ, ◌+◌, ◌-◌, ◌^◌, Option, None, Some, if◌then◌else◌, nat_le}
 use Rattle.det_client.specs.element_random.Words.{Place, StandsFor, key, state_at}
 use Rattle.det_client.specs.declared.activation.Activation.{Activation}
@@ -13,7 +13,7 @@ pub record State : Type 0 where
   pub cycle : ℕ
   pub own : Place
 
--- a time plus the cycle time, where the time is known and the sum is a u64
+-- a time plus the cycle time, if the time is known and the sum fits in a u64
 abbrev pub next_time : ℕ → Option ℕ → Option ℕ
 next_time cycle_time None = None
 next_time cycle_time (Some t) =
@@ -23,7 +23,7 @@ next_time cycle_time (Some t) =
 abbrev pub beginning : ℕ → Place
 beginning k = record { state = state_at k 0; draws = 0 }
 
--- the own stream in a cycle under a seed, which is at its beginning before a word is drawn
+-- the own stream in a cycle under a seed, which is at its beginning before a number is drawn
 abbrev pub own_place : Option Place → ℕ → ℕ → Place
 own_place None seed cycle = beginning (key seed cycle 255 0)
 own_place (Some place) seed cycle = place
@@ -32,11 +32,11 @@ own_place (Some place) seed cycle = place
 abbrev pub own_key : State → ℕ
 own_key c = key c.seed c.cycle 255 0
 
--- so many words of the own stream were drawn
+-- `drawn` numbers of the own stream were drawn
 abbrev pub OwnAt : State → ℕ → Type 0
 OwnAt c drawn = StandsFor c.own (own_key c) drawn
 
--- nothing but the seed and the own stream differs
+-- only the seed and the own stream may differ
 pub record SameButSeed (before after : State) : Type 0 where
   pub cycle_time : after.cycle_time ≡ before.cycle_time
   pub last : after.last ≡ before.last

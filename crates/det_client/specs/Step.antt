@@ -1,11 +1,11 @@
--- One request and its answer.
+-- The effect of one request on a client's state.
 use Rattle.std.specs.Prelude.{◌≡◌, ◌+◌, None, Some, true, false, if◌then◌else◌}
 use Rattle.det_client.specs.declared.activation.Activation.{Activation}
 use Rattle.det_client.specs.declared.activation.Next.{Next}
 use Rattle.det_client.specs.State.{State, OwnAt}
 use Rattle.det_client.specs.Life.{next_activation, is_run, go_time, begins}
 
--- the client before a request, and its answer, and the client after it
+-- the client before a request, the answer, and the client after it
 pub record Stepped
     (before : State) (next : Next) (result : Activation) (after : State) : Type 0 where
   pub result_is : result ≡ next_activation before.last next

@@ -1,9 +1,10 @@
-//! Activations, and the requests for them.
+//! Activations, and the requests for them. The sequence is that of the deterministic client of the
+//! AUTOSAR Adaptive Platform.
 
 ghost use Rattle.std.specs.Prelude.{◌≡◌};
 ghost use Rattle.det_client.specs.Life.{following, next_activation, go_time};
 
-/// What the process does next.
+/// What the process is to do next.
 #[derive(Clone, Copy, Debug, PartialEq, Eq)]
 pub enum Activation {
     /// Registers its services.
@@ -21,14 +22,14 @@ pub enum Activation {
 /// A request for an activation.
 #[derive(Clone, Copy, Debug, PartialEq, Eq)]
 pub enum Next {
-    /// Go on, at a time in nanoseconds where it is known. Only a cycle keeps its time.
+    /// Go on, at a time in nanoseconds, if it is known. Only a cycle keeps its time.
     Go(Option<u64>),
-    /// End. It holds from then on.
+    /// End. All later requests are answered with `Terminate` too.
     Stop,
 }
 
 impl Activation {
-    /// The activation after the last one, where nothing stops the process.
+    /// The activation after the last one, if nothing stops the process.
     fn following(last: Option<Activation>) -> Activation
         ensures { result ≡ following last }
     {
@@ -53,7 +54,7 @@ impl Next {
         }
     }
 
-    /// The time of this request.
+    /// The time that this request carries, if any.
     pub(crate) fn time(self) -> Option<u64>
         ensures { result ≡ go_time self }
     {

@@ -1,4 +1,5 @@
-//! The client.
+//! The client, `ara::exec::DeterministicClient` without its worker pool. Its contracts come in two
+//! forms: about the list of all calls, and about the state before and after one call.
 
 ghost use Rattle.std.specs.Prelude.{◌≡◌, ℕ, ◌+◌, ◌^◌, ◌<◌, ◌≤◌, List, [], ◌∷◌, ◌++◌, None, Some};
 ghost use Rattle.std.specs.Prelude.{IfOk, OnErr, MatchResult, false, ◌==◌, if◌then◌else◌};
@@ -14,11 +15,11 @@ use crate::activation::{Activation, Next};
 use crate::element_random::{ElementRandom, key};
 use std::marker::Model;
 
-/// No time is known: no cycle runs, its request carried no time, or the time exceeds a `u64`.
+/// No time is available: no cycle runs, its request carried no time, or the time exceeds a `u64`.
 #[derive(Clone, Copy, Debug, PartialEq, Eq)]
 pub struct NotAvailable;
 
-/// The most cycles of a run.
+/// The most cycles of a run. Records have the same limit (docs/FORMATS.md).
 pub const MOST_CYCLES: u32 = 1_000_000;
 
 /// The client of one process.
@@ -29,7 +30,7 @@ pub struct Client {
     time: Option<u64>,
     seed: u64,
     cycle: u32,
-    /// None before the first word is drawn.
+    /// None until the first number is drawn in a cycle or under a new seed.
     own: Option<ElementRandom>,
 }
 
@@ -48,14 +49,14 @@ impl Model for Client {
     } };
 }
 
-/// The client's own stream in a cycle, at its beginning.
+/// The client's own stream of random numbers in a cycle, at its beginning.
 fn own_stream(seed: u64, cycle: u32) -> ElementRandom
     ensures { StandsFor result (key seed cycle 255 0) 0 }
 {
     ElementRandom::at(key(seed, cycle, 255, 0))
 }
 
-/// The own stream in a cycle, seeded where no word was drawn.
+/// The own stream in a cycle: the given one, or a new one if no number was drawn yet.
 fn begun_stream(own: Option<ElementRandom>, seed: u64, cycle: u32) -> ElementRandom
     ensures { (k n : ℕ) → StandsFor (own_place own seed cycle) k n → StandsFor result k n }
 {
@@ -66,7 +67,7 @@ fn begun_stream(own: Option<ElementRandom>, seed: u64, cycle: u32) -> ElementRan
 }
 
 impl Client {
-    /// A client of which nothing was asked, with the seed 0 and a cycle time in nanoseconds.
+    /// A client before its first activation, with the seed 0 and a cycle time in nanoseconds.
     pub fn new(cycle_time: u64) -> Client
         requires some_time { 1 ≤ cycle_time }
         requires short { cycle_time < 2 ^ 63 }
@@ -86,8 +87,8 @@ impl Client {
         }
     }
 
-    /// A client between two activations: the one that comes from a new client by three requests
-    /// without a time, as many more as there were cycles, and then this seed.
+    /// A client between two activations, for a run that goes on. It equals a new client after `3 +
+    /// cycle` requests without a time, with this seed set at last.
     pub fn resumed(cycle_time: u64, seed: u64, cycle: u32) -> Client
         requires some_time { 1 ≤ cycle_time }
         requires short { cycle_time < 2 ^ 63 }
@@ -116,7 +117,8 @@ impl Client {
         }
     }
 
-    /// The client of which `cycle_time`, `last`, `time`, `seed`, `cycle` and `own` told these.
+    /// The client with these parts, as its accessors of the same names returned them. The C
+    /// interface stores a client so.
     pub fn of_parts(
         cycle_time: u64,
         last: Option<Activation>,
@@ -142,28 +144,28 @@ impl Client {
         }
     }
 
-    /// The last answer.
+    /// The last activation, or None before the first request.
     pub fn last(&self) -> Option<Activation>
         ensures { result ≡ self.now.last }
     {
         self.last
     }
 
-    /// The time of the present cycle, in nanoseconds.
+    /// The time of the present cycle in nanoseconds, if one runs and its request carried a time.
     pub fn time(&self) -> Option<u64>
         ensures { result ≡ self.now.time }
     {
         self.time
     }
 
-    /// The time from one cycle to the next, in nanoseconds.
+    /// The period of cycles, in nanoseconds.
     pub fn cycle_time(&self) -> u64
         ensures { result ≡ self.now.cycle_time }
     {
         self.cycle_time
     }
 
-    /// The own stream, as it stands.
+    /// A copy of the client's own stream in its present state.
     pub fn own(&self) -> ElementRandom
         ensures { (k n : ℕ) → StandsFor self.now.own k n → result ≡ self.now.own }
     {
@@ -192,7 +194,7 @@ impl Client {
         activation
     }
 
-    /// Answers what to do next. After a stop, now or earlier, it is to end.
+    /// Returns what to do next. After a stop, now or earlier, that is to end.
     pub fn wait_for_activation(&mut self, next: Next) -> Activation
         requires { is_stop next ≡ false → self.old.cycle < MOST_CYCLES }
         ensures answer { (given : List Next) → Life self.old given
@@ -206,7 +208,7 @@ impl Client {
         self.step(next)
     }
 
-    /// The time of the present cycle, in nanoseconds.
+    /// The time of the present cycle in nanoseconds, if one runs and its request carried a time.
     pub fn get_activation_time(&self) -> Result<u64, NotAvailable>
         ensures life { (given : List Next) → Life self.now given
             → MatchResult result (λ t. time_of given ≡ Some t) (λ _. time_of given ≡ None) }
@@ -216,7 +218,7 @@ impl Client {
         self.time.ok_or(NotAvailable)
     }
 
-    /// The time of the next cycle, in nanoseconds.
+    /// The time of the next cycle in nanoseconds: the present time plus the cycle time.
     pub fn get_next_activation_time(&self) -> Result<u64, NotAvailable>
         ensures life { (given : List Next) → Life self.now given
             → MatchResult result
@@ -229,8 +231,8 @@ impl Client {
         time.checked_add(self.cycle_time).ok_or(NotAvailable)
     }
 
-    /// Sets the seed of the random words inside and outside the pool, and begins the own stream
-    /// anew.
+    /// Sets the seed of the random numbers inside and outside the pool, and restarts the own
+    /// stream.
     pub fn set_random_seed(&mut self, seed: u64)
         ensures calls { (t : ℕ) (calls : List Call) → ComesFrom self.old t calls
             → ComesFrom self.new t (calls ++ reseeds seed ∷ []) }
@@ -242,7 +244,8 @@ impl Client {
         self.seed = seed;
     }
 
-    /// Draws the next word of the own stream.
+    /// Draws the next random number of the own stream. The stream is seeded here and not earlier,
+    /// since most cycles draw none.
     pub fn get_random(&mut self) -> u64
         ensures own_word { (t : ℕ) (calls : List Call) → ComesFrom self.old t calls
             → result ≡ own_word calls }
@@ -269,7 +272,7 @@ impl Client {
         self.seed
     }
 
-    /// The number of the present cycle: 0 before the first one.
+    /// The number of the present cycle, counted from 1; 0 before the first one.
     pub fn cycle(&self) -> u32
         ensures life { (given : List Next) → Life self.now given → result ≡ cycle_of given }
         ensures cycle { result ≡ self.now.cycle }

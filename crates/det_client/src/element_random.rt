@@ -1,8 +1,8 @@
-//! Random words that belong to a place in a run, whoever draws them.
+//! Random numbers that depend on seed, cycle, pass and element, and not on the worker.
 //!
-//! A key is made of a seed, a cycle, a pass and an element. Each key has a stream of words of its
-//! own, so the words of an element don't depend on the worker that works on it, nor on the order of
-//! the work.
+//! A key is made of a seed, a cycle, a pass and an element. Each key has its own stream of numbers.
+//! So the numbers of an element don't depend on the order of the work either. The generators are
+//! SplitMix64 for keys and xoshiro256++ for streams.
 
 ghost use Rattle.std.specs.Prelude.{◌≡◌, ℕ, ◌+◌, ◌-◌, ◌^◌, min, [], ◌∷◌};
 ghost use Rattle.rand_xoshiro.specs.Xoshiro256.{state_bytes};
@@ -15,14 +15,14 @@ use rand_core::utils::{NextWord, read_u64};
 use rand_xoshiro::{SplitMix64, Xoshiro256PlusPlus};
 use std::marker::Model;
 
-/// The first output of SplitMix64 started at a number.
+/// The first output of SplitMix64 with this seed.
 fn mix(start: u64) -> u64
     ensures { result ≡ mixed start }
 {
     SplitMix64::seed_from_u64(start).next_word()
 }
 
-/// What the keys of one pass have in common.
+/// The common part of the keys of one pass, computed once for all its elements.
 #[derive(Clone, Copy, Debug)]
 pub struct PassKeys {
     shared: u64,
@@ -30,7 +30,7 @@ pub struct PassKeys {
 }
 
 impl PassKeys {
-    /// The keys of one pass of one cycle under a seed.
+    /// The keys of a pass in a cycle under a seed.
     pub fn of(seed: u64, cycle: u32, pass: u8) -> PassKeys
         ensures { AreKeysOf result seed cycle pass }
     {
@@ -40,7 +40,7 @@ impl PassKeys {
         }
     }
 
-    /// The keys of which `shared` and `pass` told these.
+    /// The keys with these parts, as `shared` and `pass` returned them.
     pub fn of_parts(shared: u64, pass: u8) -> PassKeys
         ensures shared { result.shared ≡ shared }
         ensures of_pass { result.pass ≡ pass }
@@ -48,14 +48,14 @@ impl PassKeys {
         PassKeys { shared, pass }
     }
 
-    /// The seed and the cycle, mixed.
+    /// The hash of the seed and the cycle.
     pub fn shared(&self) -> u64
         ensures { result ≡ self.now.shared }
     {
         self.shared
     }
 
-    /// The pass.
+    /// The number of the pass, counted from 0.
     pub fn pass(&self) -> u8
         ensures { result ≡ self.now.pass }
     {
@@ -73,16 +73,17 @@ impl PassKeys {
     }
 }
 
-/// The key of one element in one pass of one cycle under a seed.
+/// The key of an element in a pass of a cycle under a seed.
 ///
-/// A client's own stream has the pass 255 and the element 0, which no pass over elements has.
+/// A client's own stream has the pass 255 and the element 0, since passes over elements are below
+/// 8.
 pub fn key(seed: u64, cycle: u32, pass: u8, element: u32) -> u64
     ensures { result ≡ key seed cycle pass element }
 {
     PassKeys::of(seed, cycle, pass).key(element)
 }
 
-/// The bytes of these words, low byte first.
+/// The bytes of these four numbers, the low byte first, as the generator reads its state.
 fn state_bytes(state: &[u64; 4]) -> [u8; 32]
     ensures { result ≡ state_bytes state.now }
 {
@@ -94,14 +95,14 @@ fn state_bytes(state: &[u64; 4]) -> [u8; 32]
     bytes
 }
 
-/// The generator in the state of these words.
+/// The generator with these four numbers as its state.
 fn standing(first: u64, second: u64, third: u64, last: u64) -> Xoshiro256PlusPlus
     ensures { result ≡ state_of_words (first ∷ second ∷ third ∷ last ∷ []) }
 {
     Xoshiro256PlusPlus::from_seed(state_bytes(&[first, second, third, last]))
 }
 
-/// The stream of the random words of one key.
+/// The stream of the random numbers of one key.
 #[derive(Debug, Drop)]
 pub struct ElementRandom {
     rng: Xoshiro256PlusPlus,
@@ -127,7 +128,7 @@ impl ElementRandom {
         }
     }
 
-    /// Draws the next word.
+    /// Draws the next random number.
     pub fn get_random(&mut self) -> u64
         ensures word { (k n : ℕ) → StandsFor self.old k n → result ≡ word k n }
         ensures goes_on { (k n : ℕ) → StandsFor self.old k n → StandsFor self.new k (n + 1) }
@@ -137,7 +138,7 @@ impl ElementRandom {
         word
     }
 
-    /// The words of the generator's state.
+    /// The generator's state, four numbers of 64 bits.
     pub fn state(&self) -> [u64; 4]
         ensures words { (k n : ℕ) → StandsFor self.now k n → result ≡ self.now.state }
         ensures again { (k n : ℕ) → StandsFor self.now k n
@@ -152,10 +153,9 @@ impl ElementRandom {
         ]
     }
 
-    /// The stream of which `state` and `draws` told these.
+    /// The stream with these parts, as `state` and `draws` returned them.
     ///
-    /// Four zeros, which no stream has for its state, are read as the state that the key 0 has
-    /// first.
+    /// No stream has four zeros as its state. They become the first state of the key 0.
     pub fn of_parts(state: [u64; 4], draws: u64) -> ElementRandom
         ensures state { result.state ≡ state_of_words state }
         ensures draws { result.draws ≡ draws }
@@ -167,7 +167,7 @@ impl ElementRandom {
         }
     }
 
-    /// The number of words drawn. It stands at `u64::MAX`, and the words go on.
+    /// The count of numbers drawn. It saturates at `u64::MAX`, while the numbers go on.
     pub fn draws(&self) -> u64
         ensures kept { result ≡ self.now.draws }
         ensures count { (k n : ℕ) → StandsFor self.now k n → result ≡ min n (2 ^ 64 - 1) }

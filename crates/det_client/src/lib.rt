@@ -1,9 +1,8 @@
-//! The deterministic client of one process: which activation comes next, the times of a cycle, the
-//! seed, and the client's own random words.
+//! The deterministic client of one process: its activations, the times of a cycle, the seed, and
+//! its own random numbers.
 //!
-//! It is asked for one activation after another and keeps a state. Its contracts speak of the whole
-//! list of calls that were made on it, so two clients that were given the same calls give the same
-//! answers.
+//! Its contracts are about the whole list of calls that were made on it, so two clients with the
+//! same calls return the same results.
 #![tactic(auto)]
 
 mod activation;

@@ -1,12 +1,12 @@
 -- What moves in the places of a window at a turn.
 use Rattle.std.proofs.Common.{◌≡◌, ℕ, ◌+◌, ◌-◌, ◌*◌, ◌≤◌, ℤ, List, ◌++◌, length, take, drop, sym, ap, ◌∙◌, arith, length-drop}
 use Rattle.std.specs.List.{copy_within}
-use Rattle.std.proofs.lemmas.List.{length-take-le}
-use Rattle.std.proofs.lemmas.List.Edits.{take-paste, length-paste}
+use Rattle.std.proofs.lemmas.List.{length-take-le, drop-drop}
+use Rattle.std.proofs.lemmas.List.Edits.{take-paste, drop-paste, length-paste}
 use Rattle.std.proofs.lemmas.Slice.{between_is, drop-append-drop}
 use lib.Seq.{paste}
 
--- first the values that stay move to the front, and then those that arrived move behind them
+-- first the values that stay move to the front, and then those that arrived move after them
 pub moved : (before between after : List ℤ) (gone seen capacity arriving : ℕ) → gone ≤ seen → seen ≤ capacity → arriving ≤ capacity
     → 2 * capacity ≤ length before → between ≡ copy_within before gone seen 0
     → after ≡ copy_within between capacity (capacity + arriving) (seen - gone)
@@ -26,3 +26,15 @@ moved before between after gone seen capacity arriving few fits waiting room fir
     ap (take (kept + arriving)) (second ∙ ap (paste between kept (drop capacity between)) count)
     ∙ take-paste between kept (drop capacity between) arriving (omega arith) (omega (arith, length-drop capacity between))
     ∙ (λ i. stay i ++ take arriving (same i))
+
+-- a copy leaves the elements after the part that it writes
+pub drop-copied : (xs : List ℤ) (i j at n : ℕ) → j ≤ length xs → at ≤ length xs → at + (j - i) ≤ n
+    → drop n (copy_within xs i j at) ≡ drop n xs
+drop-copied xs i j at n some within past =
+    let count : ℕ = j - i in
+    let m : ℕ = n - (at + count) in
+    let rest : n ≡ at + count + m = omega arith in
+    let part : count ≤ length (drop i xs) = omega (arith, length-drop i xs) in
+    ap (λ k. drop k (copy_within xs i j at)) rest ∙ sym (drop-drop m (at + count) (copy_within xs i j at))
+    ∙ ap (drop m) (drop-paste xs at (drop i xs) count within part) ∙ drop-drop m (at + count) xs
+    ∙ ap (λ k. drop k xs) (sym rest)

@@ -1,4 +1,4 @@
--- What C's numbers stand for.
+-- The meaning of C's numbers.
 use Rattle.std.specs.Prelude.{ℕ, ◌==◌, Option, None, Some, Bool, if◌then◌else◌}
 use Rattle.det_client.specs.element_random.Words.{Place}
 use Rattle.det_client.specs.declared.element_random.PassKeys.{PassKeys}
@@ -21,8 +21,8 @@ number_of Init = 2
 number_of Run = 3
 number_of Terminate = 4
 
--- The last activation of a kept number. 5 is none, and any number that stands for none of these is
--- the last of all.
+-- The last activation from its number. 5 is none, and any other number that isn't listed is
+-- Terminate.
 abbrev pub last_of_number : ℕ → Option Activation
 last_of_number n =
     if n == 0 then Some RegisterServices
@@ -32,23 +32,23 @@ last_of_number n =
     else if n == 5 then None
     else Some Terminate
 
--- a time, where it is known
+-- a time, if it is known
 abbrev pub time_of_parts : Bool → ℕ → Option ℕ
 time_of_parts known time = if known then Some time else None
 
--- the request that is made by these words
+-- the request that is made by these arguments
 abbrev pub next_of : Bool → Bool → ℕ → Next
 next_of stop has_time time = if stop then Stop else Go (time_of_parts has_time time)
 
--- the stream that is kept
+-- the stream that C keeps
 abbrev pub place_of : DetRandom → Place
 place_of r = record { state = r.state; draws = r.draws }
 
--- the keys of a pass that are kept
+-- the keys of a pass that C keeps
 abbrev pub keys_of : DetPassKeys → PassKeys
 keys_of k = record { shared = k.shared; pass = k.pass }
 
--- the client that is kept
+-- the client that C keeps
 abbrev pub state_of : DetClient → State
 state_of c = record {
   cycle_time = c.cycle_time;

@@ -13,7 +13,7 @@ use Rattle.det_client_c.specs.declared.window.DetWindow.{DetWindow}
 abbrev pub policy_of : ℕ → Policy
 policy_of n = if n == 0 then Last else Fresh
 
--- the window that is kept, and what arrived since the last turn
+-- the window that C keeps, and what arrived since the last turn
 abbrev pub rings_of : DetWindow → List ℤ → Rings
 rings_of w places = record {
   policy = policy_of w.policy;
@@ -22,7 +22,7 @@ rings_of w places = record {
   arriving = take w.arriving (drop w.capacity places);
 }
 
--- the numbers of a window are in their ranges, and its values have room in these places
+-- the numbers of a window are in their ranges, and its values have room in this array
 pub record FitsIn (places : List ℤ) (w : DetWindow) : Type 0 where
   pub capacity : IsCapacity w.capacity
   pub seen : w.seen ≤ w.capacity
@@ -30,8 +30,8 @@ pub record FitsIn (places : List ℤ) (w : DetWindow) : Type 0 where
   pub policy : w.policy ≤ 1
   pub room : 2 * w.capacity ≤ length places
 
--- a window of this event, whose number is 0, was given the samples of these rounds, each before a
--- turn, and since then those that arrived
+-- A window of this event, whose number is 0, received the samples of these rounds, each before a
+-- turn. Since the last turn it received the samples that arrived.
 abbrev pub WasGiven : DetWindow → List ℤ → EventSpecValue → List (List SampleValue)
     → List SampleValue → Type 0
 WasGiven w places spec rounds arrived = HasSeen (rings_of w places ∷ []) (spec ∷ []) rounds arrived

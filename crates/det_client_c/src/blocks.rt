@@ -8,7 +8,8 @@ ghost use Rattle.det_client_c.specs.Blocks.{block_begin, block_end};
 
 use job::{Job, block_size};
 
-/// Each element is in the block of its number divided by the size of blocks, and in no other one.
+/// Each element is in the block whose number is that of the element divided by the size of blocks,
+/// and in no other block.
 pub fn each_element_once()
     ensures within { (len i : ℕ) → i < len
         → (block_begin len (i / block_size len) ≤ i) × (i < block_end len (i / block_size len)) }
@@ -16,7 +17,7 @@ pub fn each_element_once()
         → n ≡ i / block_size len }
 {}
 
-/// The blocks are those of a pass over a job: block n of the pass takes the elements from the
+/// The blocks are those of a pass over a job. Block n of the pass takes the elements from the
 /// beginning of block n up to its end.
 pub fn blocks_of_a_pass<J: Job>()
     ensures { (job : J) (plan : J.Plan) (carry : J.Part) (seed cycle pass n : ℕ)
@@ -29,8 +30,8 @@ pub fn blocks_of_a_pass<J: Job>()
         (nothing J.meaning job plan carry seed cycle pass) }
 {}
 
-/// The elements of block `number`, from `begin` up to `end`, of a container of `len` elements.
-/// False where the block is empty, and then each later one is too.
+/// The elements of block `number` of a container of `len` elements: from `begin`, included, to
+/// `end`, excluded. False if the block is empty; then each later one is empty too.
 #[unsafe(no_mangle)]
 pub extern "C" fn det_block(len: u32, number: u32, begin: &mut u32, end: &mut u32) -> bool
     ensures begin { begin.new ≡ block_begin len number }
@@ -45,7 +46,8 @@ pub extern "C" fn det_block(len: u32, number: u32, begin: &mut u32, end: &mut u3
     *begin < *end
 }
 
-/// How many blocks of a container of `len` elements have some. They are numbered from 0 on.
+/// The number of blocks of a container of `len` elements that aren't empty. Blocks are numbered
+/// from 0.
 #[unsafe(no_mangle)]
 pub extern "C" fn det_block_count(len: u32) -> u32
     ensures { result ≡ blocks_of len }
@@ -54,7 +56,7 @@ pub extern "C" fn det_block_count(len: u32) -> u32
     ((u64::from(len) + (size - 1)) / size) as u32
 }
 
-/// A place in a container, or its end.
+/// `place`, or `len` if that is less.
 fn within(len: u32, place: u64) -> u32
     ensures { result ≡ min len place }
 {

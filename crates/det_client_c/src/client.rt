@@ -12,8 +12,8 @@ ghost use Rattle.det_client_c.specs.Kept.{number_of, state_of, next_of};
 use crate::kept::{DetClient, next, number};
 use det_client::{Client, MOST_CYCLES};
 
-/// Makes a client of which nothing was asked, with the seed 0 and a cycle time in nanoseconds, from
-/// 1 to 2^63 - 1. False for another one.
+/// Makes a new client with the seed 0. The cycle time is in nanoseconds, from 1 to 2^63 - 1. False
+/// for any other one.
 #[unsafe(no_mangle)]
 pub extern "C" fn det_client_new(client: &mut DetClient, cycle_time: u64) -> bool
     ensures takes { IsTrue result ↔ IsCycleTime cycle_time }
@@ -27,8 +27,8 @@ pub extern "C" fn det_client_new(client: &mut DetClient, cycle_time: u64) -> boo
     true
 }
 
-/// Answers what to do next: 0 register services, 1 discover services, 2 initialise, 3 do a cycle,
-/// 4 end. False where no stop is asked and 1,000,000 cycles have begun.
+/// Sets `activation` to what to do next: 0 register services, 1 discover services, 2 initialise, 3
+/// do a cycle, 4 end. False if no stop is requested and 1,000,000 cycles have begun.
 #[unsafe(no_mangle)]
 pub extern "C" fn det_client_wait(
     client: &mut DetClient,
@@ -56,7 +56,7 @@ pub extern "C" fn det_client_wait(
     true
 }
 
-/// The time of the present cycle, in nanoseconds. False where none is known.
+/// The time of the present cycle, in nanoseconds. False if none is known.
 #[unsafe(no_mangle)]
 pub extern "C" fn det_client_time(client: &DetClient, time: &mut u64) -> bool
     ensures known { IsTrue result → (t : ℕ) (calls : List Call)
@@ -74,7 +74,7 @@ pub extern "C" fn det_client_time(client: &DetClient, time: &mut u64) -> bool
     }
 }
 
-/// The time of the next cycle, in nanoseconds. False where none is known.
+/// The time of the next cycle, in nanoseconds. False if none is known.
 #[unsafe(no_mangle)]
 pub extern "C" fn det_client_next_time(client: &DetClient, time: &mut u64) -> bool
     ensures known { IsTrue result → (t : ℕ) (calls : List Call)
@@ -94,7 +94,7 @@ pub extern "C" fn det_client_next_time(client: &DetClient, time: &mut u64) -> bo
     }
 }
 
-/// Sets the seed of the random words, and begins the own stream anew.
+/// Sets the seed of all random numbers, and restarts the client's own stream.
 #[unsafe(no_mangle)]
 pub extern "C" fn det_client_set_seed(client: &mut DetClient, seed: u64)
     ensures { (t : ℕ) (calls : List Call) → ComesFrom (state_of client.old) t calls
@@ -105,7 +105,7 @@ pub extern "C" fn det_client_set_seed(client: &mut DetClient, seed: u64)
     *client = DetClient::of(&kept);
 }
 
-/// Draws the next word of the own stream.
+/// Draws the next random number of the client's own stream.
 #[unsafe(no_mangle)]
 pub extern "C" fn det_client_random(client: &mut DetClient) -> u64
     ensures word { (t : ℕ) (calls : List Call) → ComesFrom (state_of client.old) t calls

@@ -1,4 +1,4 @@
-//! What C keeps of a client and of a stream of random words.
+//! The structs in which C keeps a client and streams of random numbers.
 
 ghost use Rattle.std.specs.Prelude.{◌≡◌, ℕ, List};
 ghost use Rattle.det_client.specs.Calls.{Call, ComesFrom};
@@ -8,7 +8,7 @@ ghost use Rattle.det_client_c.specs.Kept.{next_of};
 use det_client::element_random::ElementRandom;
 use det_client::{Activation, Client, Next};
 
-/// A stream of random words, as C keeps it.
+/// A stream of random numbers, as C keeps it.
 #[repr(C)]
 #[derive(Drop)]
 pub struct DetRandom {
@@ -16,7 +16,7 @@ pub struct DetRandom {
     pub draws: u64,
 }
 
-/// What the keys of one pass have in common, as C keeps it.
+/// What the keys of all elements in one pass have in common, as C keeps it.
 #[repr(C)]
 #[derive(Drop)]
 pub struct DetPassKeys {
@@ -33,7 +33,7 @@ pub struct DetClient {
     pub seed: u64,
     pub own: DetRandom,
     pub cycle: u32,
-    /// The number of the last activation, and 5 before the first one.
+    /// The number of the last activation, or 5 before the first one.
     pub last: u8,
     pub has_time: bool,
 }
@@ -51,7 +51,7 @@ pub(crate) fn number(activation: Activation) -> u8
     }
 }
 
-/// The number that is kept of the last activation.
+/// The number that C keeps for the last activation.
 fn last_number(last: Option<Activation>) -> u8
     ensures { last_of_number result ≡ last }
 {
@@ -61,7 +61,7 @@ fn last_number(last: Option<Activation>) -> u8
     }
 }
 
-/// The last activation of a kept number.
+/// The last activation, from the number that C keeps.
 fn last_activation(number: u8) -> Option<Activation>
     ensures { result ≡ last_of_number number }
 {
@@ -75,14 +75,14 @@ fn last_activation(number: u8) -> Option<Activation>
     }
 }
 
-/// A time, where it is known.
+/// A time, if it is known.
 fn known_time(known: bool, time: u64) -> Option<u64>
     ensures { result ≡ time_of_parts known time }
 {
     if known { Some(time) } else { None }
 }
 
-/// The request that C makes by these words.
+/// The request that C makes by these arguments.
 pub(crate) fn next(stop: bool, has_time: bool, time: u64) -> Next
     ensures { result ≡ next_of stop has_time time }
 {
@@ -94,7 +94,7 @@ pub(crate) fn next(stop: bool, has_time: bool, time: u64) -> Next
 }
 
 impl DetClient {
-    /// The client that is kept.
+    /// The client that C keeps.
     pub(crate) fn client(&self) -> Client
         ensures comes { (t : ℕ) (calls : List Call) → ComesFrom (state_of self.now) t calls
             → ComesFrom result t calls }
@@ -110,7 +110,7 @@ impl DetClient {
         )
     }
 
-    /// What is kept of a client.
+    /// The struct in which C keeps a client.
     pub(crate) fn of(client: &Client) -> DetClient
         ensures { (t : ℕ) (calls : List Call) → ComesFrom client.now t calls
             → ComesFrom (state_of result) t calls }

@@ -1,9 +1,8 @@
 //! The deterministic client for C: what C keeps, and an export for each call.
 //!
-//! C keeps a client, a stream of random words and a window by value, and passes a pointer to it.
-//! No export takes memory from a heap, keeps a pointer, or shares anything with another call, so
-//! calls on distinct objects may run at the same time. A call that is refused answers false, and
-//! leaves everything as it was.
+//! C keeps a client, a stream of random numbers and a window by value, and passes a pointer to it.
+//! No export allocates memory, keeps a pointer, or shares anything with another call. So calls on
+//! distinct objects may run at the same time. A refused call returns false, and changes nothing.
 #![tactic(auto)]
 
 mod blocks;

@@ -1,4 +1,4 @@
-//! The random words of an element.
+//! The random numbers of an element.
 
 ghost use Rattle.std.specs.Prelude.{◌≡◌, ℕ, ◌+◌};
 ghost use Rattle.rand_xoshiro.specs.Xoshiro256.{next_state, plus_plus};
@@ -11,7 +11,7 @@ use rand_core::SeedableRng;
 use rand_core::utils::NextWord;
 use rand_xoshiro::SplitMix64;
 
-/// The key of an element in a pass of a cycle under a seed.
+/// The key of an element in a pass of a cycle, under a seed.
 #[unsafe(no_mangle)]
 pub extern "C" fn det_random_key(seed: u64, cycle: u32, pass: u8, element: u32) -> u64
     ensures { result ≡ key seed cycle pass element }
@@ -19,7 +19,7 @@ pub extern "C" fn det_random_key(seed: u64, cycle: u32, pass: u8, element: u32) 
     key(seed, cycle, pass, element)
 }
 
-/// Begins the stream of a key.
+/// Starts the stream of a key.
 #[unsafe(no_mangle)]
 pub extern "C" fn det_random_of_key(random: &mut DetRandom, key: u64)
     ensures { StandsFor (place_of random.new) key 0 }
@@ -27,7 +27,7 @@ pub extern "C" fn det_random_of_key(random: &mut DetRandom, key: u64)
     *random = begun(key);
 }
 
-/// The keys of one pass of one cycle under a seed.
+/// What the keys of all elements in a pass of a cycle have in common, under a seed.
 #[unsafe(no_mangle)]
 pub extern "C" fn det_pass_keys(keys: &mut DetPassKeys, seed: u64, cycle: u32, pass: u8)
     ensures { AreKeysOf (keys_of keys.new) seed cycle pass }
@@ -37,7 +37,7 @@ pub extern "C" fn det_pass_keys(keys: &mut DetPassKeys, seed: u64, cycle: u32, p
     keys.pass = of_pass.pass();
 }
 
-/// Begins the stream of an element in a pass.
+/// Starts the stream of an element in a pass.
 #[unsafe(no_mangle)]
 pub extern "C" fn det_random_in_pass(random: &mut DetRandom, keys: &DetPassKeys, element: u32)
     ensures { (seed cycle pass : ℕ) → AreKeysOf (keys_of keys.now) seed cycle pass
@@ -46,7 +46,7 @@ pub extern "C" fn det_random_in_pass(random: &mut DetRandom, keys: &DetPassKeys,
     *random = begun(PassKeys::of_parts(keys.shared, keys.pass).key(element));
 }
 
-/// Draws the next word.
+/// Draws the next random number.
 #[unsafe(no_mangle)]
 pub extern "C" fn det_random_next(random: &mut DetRandom) -> u64
     ensures word { (k n : ℕ) → StandsFor (place_of random.old) k n → result ≡ word k n }
@@ -58,7 +58,7 @@ pub extern "C" fn det_random_next(random: &mut DetRandom) -> u64
     word
 }
 
-/// The stream of a key, at its beginning.
+/// The stream of a key, from its start.
 fn begun(key: u64) -> DetRandom
     ensures { StandsFor (place_of result) key 0 }
 {
@@ -68,7 +68,7 @@ fn begun(key: u64) -> DetRandom
     }
 }
 
-/// The first state of a key: four words of SplitMix64 from it.
+/// The first state of a key: the first four numbers of SplitMix64 from it.
 fn first_state(key: u64) -> [u64; 4]
     ensures { result ≡ state_at key 0 }
 {
@@ -80,8 +80,8 @@ fn first_state(key: u64) -> [u64; 4]
     [first, second, third, last]
 }
 
-/// One step of xoshiro256++ on the words that C keeps, with no generator put together from them and
-/// taken apart again.
+/// One step of xoshiro256++, on C's own struct. A generator isn't built from it and taken apart
+/// again at every step.
 fn next_word(state: &mut [u64; 4]) -> u64
     ensures word { result ≡ (plus_plus state.old).0 }
     ensures state { state.new ≡ next_state state.old }

@@ -1,5 +1,5 @@
-//! The words of key 0 are published with SplitMix64 and xoshiro256++. The others are those that the
-//! plain Rust of `bench/common/random_words.rs` gives.
+//! The random numbers of key 0 are published with SplitMix64 and xoshiro256++. The others come from
+//! the plain Rust of `bench/common/random_words.rs`.
 
 use crate::blocks::{det_block, det_block_count};
 use crate::client::{
@@ -12,7 +12,7 @@ use crate::random::{
 };
 use crate::window::{DetWindow, det_window_arrive, det_window_new, det_window_turn};
 
-/// What C may have in memory before a client is made.
+/// What C's memory may hold before a client is made.
 fn any_client() -> DetClient {
     DetClient {
         cycle_time: 7,
@@ -41,14 +41,14 @@ fn any_window() -> DetWindow {
     }
 }
 
-/// Asks a client to go on at a time. 9 where it is refused.
+/// Asks a client to go on at a time. Returns 9 if the call is refused.
 fn went_on(client: &mut DetClient, time: u64) -> u8 {
     let mut activation = 9;
     det_client_wait(client, false, true, time, &mut activation);
     activation
 }
 
-/// Asks a client to stop. 9 where it is refused.
+/// Asks a client to stop. Returns 9 if the call is refused.
 fn stopped(client: &mut DetClient) -> u8 {
     let mut activation = 9;
     det_client_wait(client, true, false, 0, &mut activation);

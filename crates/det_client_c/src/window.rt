@@ -1,7 +1,8 @@
 //! The window of an event, in C's memory.
 //!
-//! C keeps a window and twice as many places as its capacity. The first `seen` places are the
-//! window, the oldest value first. Those that arrived since the last turn stand from `capacity` on.
+//! C keeps a window and an array of at least twice its capacity. The first `seen` places of the
+//! array are the window's values, the oldest first. The values that arrived since the last turn are
+//! from place `capacity` on.
 
 ghost use Rattle.std.specs.Prelude.{◌≡◌, ◌+◌, ◌-◌, ◌*◌, ◌<◌, ◌≤◌, ◌↔◌, ℤ, List, [], ◌∷◌, ◌++◌};
 ghost use Rattle.std.specs.Prelude.{length, take, drop, IsTrue, false, ◌==◌, if◌then◌else◌};
@@ -19,11 +20,12 @@ pub struct DetWindow {
     pub capacity: u16,
     pub seen: u16,
     pub arriving: u16,
-    /// 0 shows the last values of all rounds, 1 those of the last round.
+    /// With 0 the window shows the last values of all rounds, with 1 those of the last round.
     pub policy: u8,
 }
 
-/// Makes an empty window of 1 to 1,024 values, with the policy 0 or 1. False for another one.
+/// Makes an empty window of 1 to 1,024 values, with the policy 0 or 1. False for any other capacity
+/// or policy.
 #[unsafe(no_mangle)]
 pub extern "C" fn det_window_new(window: &mut DetWindow, capacity: u16, policy: u8) -> bool
     ensures takes { IsTrue result ↔ (IsCapacity capacity × (policy ≤ 1)) }
@@ -46,9 +48,9 @@ pub extern "C" fn det_window_new(window: &mut DetWindow, capacity: u16, policy: 
     true
 }
 
-/// Adds a value that the window shows after the next turn. Where as many wait as its capacity, the
-/// oldest of those goes. False where the window doesn't fit its places, or the value isn't from
-/// -10^12 to 10^12.
+/// Adds a value, which the window shows after the next turn. If as many values as the capacity wait
+/// already, the oldest of them is dropped. False if the window doesn't fit its array, or the value
+/// isn't from -10^12 to 10^12.
 #[unsafe(no_mangle)]
 pub extern "C" fn det_window_arrive(window: &mut DetWindow, places: &mut [i64], value: i64) -> bool
     ensures takes { IsTrue result ↔ (FitsIn places.old window.old × IsSampleValue value) }
@@ -61,6 +63,8 @@ pub extern "C" fn det_window_arrive(window: &mut DetWindow, places: &mut [i64], 
         (arrived ++ record { event = 0; value = value } ∷ []) }
     ensures refuses { result ≡ false → window.new ≡ window.old }
     ensures keeps { result ≡ false → places.new ≡ places.old }
+    ensures behind { drop (2 * window.old.capacity) places.new
+        ≡ drop (2 * window.old.capacity) places.old }
 {
     if !fits(window, places) || !is_sample(value) {
         return false;
@@ -71,8 +75,8 @@ pub extern "C" fn det_window_arrive(window: &mut DetWindow, places: &mut [i64], 
     true
 }
 
-/// Shows the values that arrived, by the window's policy. False where the window doesn't fit its
-/// places.
+/// Shows the values that arrived, according to the window's policy. False if the window doesn't fit
+/// its array.
 #[unsafe(no_mangle)]
 pub extern "C" fn det_window_turn(window: &mut DetWindow, places: &mut [i64]) -> bool
     ensures takes { IsTrue result ↔ FitsIn places.old window.old }
@@ -87,6 +91,8 @@ pub extern "C" fn det_window_turn(window: &mut DetWindow, places: &mut [i64]) ->
         → take window.new.seen places.new ≡ shown spec 0 (rounds ++ arrived ∷ []) }
     ensures refuses { result ≡ false → window.new ≡ window.old }
     ensures keeps { result ≡ false → places.new ≡ places.old }
+    ensures behind { drop (2 * window.old.capacity) places.new
+        ≡ drop (2 * window.old.capacity) places.old }
 {
     if !fits(window, places) {
         return false;
@@ -96,7 +102,7 @@ pub extern "C" fn det_window_turn(window: &mut DetWindow, places: &mut [i64]) ->
     true
 }
 
-/// Whether a window fits its places.
+/// Whether a window fits its array.
 fn fits(window: &DetWindow, places: &[i64]) -> bool
     ensures { IsTrue result ↔ FitsIn places.now window.now }
 {
@@ -115,8 +121,8 @@ fn is_sample(value: i64) -> bool
     -1_000_000_000_000 <= value && value <= 1_000_000_000_000
 }
 
-/// Adds a value behind the first `held` of a ring, of which the oldest goes where there is no room.
-/// The number that it holds then.
+/// Adds a value after the first `held` of a ring. If the ring is full, the oldest value is dropped.
+/// Returns how many values the ring holds then.
 fn push(ring: &mut [i64], held: u16, value: i64) -> u16
     requires some { 0 < length ring.old }
     requires few { length ring.old ≤ 1024 }
@@ -136,7 +142,7 @@ fn push(ring: &mut [i64], held: u16, value: i64) -> u16
     held
 }
 
-/// How many of a window's values leave it at a turn.
+/// How many values leave a window at a turn.
 fn leaving(window: &DetWindow) -> u16
     requires seen { window.now.seen ≤ window.now.capacity }
     requires arriving { window.now.arriving ≤ window.now.capacity }
@@ -152,7 +158,7 @@ fn leaving(window: &DetWindow) -> u16
     }
 }
 
-/// Moves the values that arrived behind those of the window that don't leave.
+/// Drops the first `gone` values of a window, and appends those that arrived.
 fn show(window: &mut DetWindow, places: &mut [i64], gone: u16)
     requires fits { FitsIn places.old window.old }
     requires gone { gone ≤ window.old.seen }
@@ -165,6 +171,8 @@ fn show(window: &mut DetWindow, places: &mut [i64], gone: u16)
         ≡ drop gone (take window.old.seen places.old)
         ++ take window.old.arriving (drop window.old.capacity places.old) }
     ensures len { length places.new ≡ length places.old }
+    ensures behind { drop (2 * window.old.capacity) places.new
+        ≡ drop (2 * window.old.capacity) places.old }
 {
     let kept = window.seen - gone;
     let waiting = usize::from(window.capacity);

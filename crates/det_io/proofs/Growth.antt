@@ -1,4 +1,4 @@
--- Growth of what a sink took, write after write.
+-- The growth of the bytes that a sink took, write after write.
 use Rattle.std.proofs.Common.{◌≡◌, ℕ, ◌+◌, ◌<◌, List, [], ◌++◌, length, take, append_assoc, arith, refl, sym}
 use Rattle.std.proofs.lemmas.List.{append-nil}
 use Rattle.std.proofs.Math.Seq.{take-add}
@@ -37,11 +37,11 @@ same-none took = record { kept = λ m h. h; no_more = λ m h. h }
 pub same-then : {before mid after : List ℕ → Type 0} → Same before mid → Same mid after → Same before after
 same-then p q = record { kept = λ m h. q.kept m (p.kept m h); no_more = λ m h. p.no_more m (q.no_more m h) }
 
--- a sink that told that it took exactly a list tells that it took the list with the growth after it
+-- a sink that took exactly a list now took that list with the growth after it
 pub grew-told : {before after : List ℕ → Type 0} {a : List ℕ} (m : List ℕ) → Grew before after a → before m → after (m ++ a)
 grew-told m p h = p.each m h
 
--- where a sink keeps its bytes, they grew by just these
+-- if a sink keeps its bytes, they grew by exactly these
 pub grew-kept : (old new : List ℕ) {a : List ℕ} → Grew (λ m. m ≡ old) (λ m. m ≡ new) a → new ≡ old ++ a
 grew-kept old new p = sym (p.each old refl)
 

@@ -37,7 +37,7 @@ pub kept-then-asks : {before mid after : ShelfState} {names : List (List ℕ)} �
     → Asks before after names
 kept-then-asks same p = record { told = λ all h. let t = p.told all h in (t.0, sym same ∙ t.1, t.2) }
 
--- where a shelf is asked for no name and tells its names afterwards, it tells the same before
+-- if a shelf is asked for no name and its names are known afterwards, they were the same before
 pub asks-no-name : {before after : ShelfState} (all : List (List ℕ)) → Asks before after [] → after.asked ≡ Some all
     → before.asked ≡ Some all
 asks-no-name all p h = let t = p.told all h in t.1 ∙ ap Some (sym (append-nil t.0) ∙ t.2)
@@ -65,7 +65,7 @@ pub asks-prefix-then-kept : (before mid after : ShelfState) (names : List (List 
     → AsksPrefix before after names
 asks-prefix-then-kept before mid after names p same = (p.0, p.1, asks-then-kept p.2 same)
 
--- slots stay where nothing happens
+-- slots stay if nothing happens
 pub slots-stay-same : (state : ShelfState) → SlotsStay state state
 slots-stay-same state = record { slots = refl; left = refl }
 
@@ -73,7 +73,7 @@ slots-stay-same state = record { slots = refl; left = refl }
 pub slots-stay-then : {before mid after : ShelfState} → SlotsStay before mid → SlotsStay mid after → SlotsStay before after
 slots-stay-then p q = record { slots = q.slots ∙ p.slots; left = q.left ∙ p.left }
 
--- an open leaves what a slot given earlier has left
+-- an open leaves the rest of an earlier slot unchanged
 pub opens-other : {before after : ShelfState} {name : List ℕ} {slot : ℕ} (k : ℕ) → Opens before after name slot → k < before.slots
     → after.left k ≡ before.left k
 opens-other k p h = p.others k (λ e. let n = p.number in omega arith)
@@ -92,7 +92,7 @@ pub opens-apart : {before after : ShelfState} {name : List ℕ} {slot : ℕ} (k 
     → k ≢ slot
 opens-apart k p h = λ e. let n = p.number in omega arith
 
--- where the bytes under a name are told, the new slot has them all left
+-- if the bytes under a name are known, the new slot has all of them
 pub opens-left : {before after : ShelfState} {name : List ℕ} {slot : ℕ} (bytes : List ℕ) → Opens before after name slot
     → before.holds name ≡ Some bytes → after.left slot ≡ Some bytes
 opens-left bytes p told = let l = p.left in let h = rw told at l in h

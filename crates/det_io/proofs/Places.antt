@@ -1,4 +1,4 @@
--- What the calls of a shelf in memory, and of one over a text, do to what it shows.
+-- The effect of calls on the state of a shelf in memory, and of one over a text.
 use Rattle.std.proofs.Common.{◌≡◌, ◌≢◌, ◌<◌, ◌+◌, ℕ, zero, suc, List, [], ◌∷◌, ◌++◌, length, take, drop, set, map, get_or, refl, sym, ◌∙◌}
 use Rattle.std.proofs.Common.{ap, arith, length-append, string_bytes}
 use Rattle.std.specs.Prelude.{Bool, true, false, Some, IfSome, min, unwrap_or}
@@ -45,7 +45,7 @@ length-none : (xs : List ℕ) → length xs ≡ 0 → xs ≡ []
 length-none [] h = refl
 length-none (x ∷ xs) h = absurd (omega arith)
 
--- a slot over one text gives the front of what it has left
+-- a slot over one text gives the front of its rest
 pub one_slot-reads : (bytes front : List ℕ) (at n slot : ℕ) → slot < 1 → front ≡ take n (drop at bytes)
     → Reads (one_slot (drop at bytes)) (one_slot (drop (at + n) bytes)) slot front
 one_slot-reads bytes front at n zero h e = record {
@@ -61,7 +61,7 @@ one_slot-reads bytes front at n zero h e = record {
     elsewhere (suc k) ne = refl
 one_slot-reads bytes front at n (suc slot) h e = absurd (omega arith)
 
--- a slot at a place has what the place has left
+-- a slot at a place has the rest of that place
 pub places-rest : (files : List MemFile) (places : List Place) (slot : ℕ) (p : Place)
     → slot < length places → p ≡ get_or places slot p → rest_of files p ≡ unwrap_or (slice_get (map (rest_of files) places) slot) []
 places-rest files places slot p h e = rw (slice_get-map-at (rest_of files) places slot p h e) refl
@@ -87,7 +87,7 @@ places-read files places told asked faults after slot n p front h e f =
       others = λ k ne. rw map-set (slice_get-set-other (map (rest_of files) places) slot k (rest_of files q) ne);
     }
 
--- a read that gives nothing where there was room for some finds nothing left
+-- a read that moves nothing into a nonempty buffer is at the end
 pub places-end : (files : List MemFile) (places : List Place) (slot n most room : ℕ) (p : Place)
     → slot < length places → p ≡ get_or places slot p → n ≡ min (min room most) (length (rest_of files p)) → 0 < most
     → n ≡ 0 → 0 < room → IfSome (slice_get (map (rest_of files) (set places slot (record { file = p.file; at = p.at + n }))) slot)

@@ -24,7 +24,7 @@ prefix-take n all = (drop n all, take-append-drop n all)
 pub prefix-then : {X : Type 0} (a b c : List X) → IsPrefix a b → IsPrefix b c → IsPrefix a c
 prefix-then a b c p q = (p.0 ++ q.0, sym (append_assoc a p.0 q.0) ∙ ap (λ l. l ++ q.0) p.1 ∙ q.1)
 
--- a prefix stays one behind the same items
+-- a prefix stays a prefix after the same items
 pub prefix-behind : {X : Type 0} (a b c : List X) → IsPrefix b c → IsPrefix (a ++ b) (a ++ c)
 prefix-behind a b c p = (p.0, append_assoc a b p.0 ∙ ap (λ l. a ++ l) p.1)
 
@@ -72,10 +72,10 @@ pub prefix-then-proper : {X : Type 0} (a b c : List X) → IsPrefix a b → IsPr
 prefix-then-proper a b c p q = proper-of a c (prefix-then a b c p (q.0, q.1))
     (λ e. let n = prefix-length a b p in let m = proper-length b c q in let s = ap length e in omega arith)
 
--- a proper prefix stays one behind the same items
+-- a proper prefix stays a proper prefix after the same items
 pub proper-behind : {X : Type 0} (a b c : List X) → IsProperPrefix b c → IsProperPrefix (a ++ b) (a ++ c)
 proper-behind a b c p = (p.0, append_assoc a b p.0 ∙ ap (λ l. a ++ l) p.1, p.2)
 
--- what stands before some items is a proper prefix of all
+-- a list followed by some items is a proper prefix of all
 pub proper-append : {X : Type 0} (front rest : List X) → rest ≢ [] → IsProperPrefix front (front ++ rest)
 proper-append front rest ne = (rest, refl, ne)

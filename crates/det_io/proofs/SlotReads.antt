@@ -31,7 +31,7 @@ reads-then {after = after} {slot = slot} {a = a} {b = b} p q = record {
   others = λ k ne. q.others k ne ∙ p.others k ne;
 }
 
--- a read that failed, or gave nothing, after other reads leaves what they read
+-- a read that failed or moved nothing, after other reads, leaves the bytes that they read
 pub reads-then-none : {before mid after : ShelfState} {slot : ℕ} {a : List ℕ} → Reads before mid slot a → Reads mid after slot []
     → Reads before after slot a
 reads-then-none {before = before} {after = after} {slot = slot} p q = let r = reads-then p q in rw append-nil at r
@@ -53,7 +53,7 @@ pub moved-err : (answer : Result ℕ ShelfFailed) (buf : List ℕ) (e : ShelfFai
 moved-err (Ok n) buf e h = cc
 moved-err (Err d) buf e h = refl
 
--- a read leaves what another slot has left
+-- a read leaves the rest of another slot unchanged
 pub reads-other : {before after : ShelfState} {slot : ℕ} {bytes : List ℕ} (other : ℕ) → Reads before after slot bytes → other ≢ slot
     → after.left other ≡ before.left other
 reads-other other p ne = p.others other ne
@@ -71,7 +71,7 @@ reads-kept p = record { slots = p.slots; holds = p.holds; asked = p.asked }
 pub kept-same : (state : ShelfState) → Kept state state
 kept-same state = record { slots = refl; holds = refl; asked = refl }
 
--- what keeps slots and names twice keeps them over both
+-- two steps that keep slots and names keep them together
 pub kept-then : {before mid after : ShelfState} → Kept before mid → Kept mid after → Kept before after
 kept-then p q = record { slots = q.slots ∙ p.slots; holds = q.holds ∙ p.holds; asked = q.asked ∙ p.asked }
 
@@ -79,22 +79,22 @@ kept-then p q = record { slots = q.slots ∙ p.slots; holds = q.holds ∙ p.hold
 pub reads-gave : {before after : ShelfState} {slot : ℕ} {bytes : List ℕ} → Reads before after slot bytes → Gave before after slot bytes
 reads-gave p = record { left = p.left }
 
--- a slot gives nothing where nothing happens
+-- a slot gives nothing if nothing happens
 pub gave-none : (state : ShelfState) (slot : ℕ) → Gave state state slot []
 gave-none state slot = record { left = append_none (state.left slot) }
 
--- what a slot gave grows by a read of it
+-- a read adds to the bytes that a slot gave
 pub gave-reads : {before mid after : ShelfState} {slot : ℕ} {a b : List ℕ} → Gave before mid slot a → Reads mid after slot b
     → Gave before after slot (a ++ b)
 gave-reads {after = after} {slot = slot} {a = a} {b = b} p q =
     record { left = p.left ∙ ap (option_map (λ rest. a ++ rest)) q.left ∙ append_twice a b (after.left slot) }
 
--- what a slot gave stays over a read of another
+-- the bytes that a slot gave stay over a read of another
 pub gave-other : {before mid after : ShelfState} {slot other : ℕ} {a b : List ℕ} → Gave before mid slot a → Reads mid after other b
     → slot ≢ other → Gave before after slot a
 gave-other {slot = slot} {a = a} p q ne = record { left = p.left ∙ ap (option_map (λ rest. a ++ rest)) (sym (q.others slot ne)) }
 
--- a slot that gave these bytes had them at the front of what it has left
+-- a slot that gave these bytes had them at the front of its rest
 pub gave-told : {before after : ShelfState} {slot : ℕ} {bytes : List ℕ} (all : List ℕ) → Gave before after slot bytes
     → before.left slot ≡ Some all
     → (rest : List ℕ) × (after.left slot ≡ Some rest) × (bytes ++ rest ≡ all)
@@ -105,7 +105,7 @@ gave-told {after = after} {slot = slot} {bytes = bytes} all p told = split (afte
     split (Some rest) e h = (rest, e, (let g = rw e at h in cc))
     split None e h = (let g = rw e at h in cc)
 
--- a slot that gave bytes up to its end gave all that it had left, where that is told
+-- a slot that gave bytes up to its end gave its whole rest, if that is known
 pub gave-all : {before after : ShelfState} {slot : ℕ} {bytes : List ℕ} (all : List ℕ) → Gave before after slot bytes → IsAtEnd after slot
     → before.left slot ≡ Some all → bytes ≡ all
 gave-all {after = after} {slot = slot} {bytes = bytes} all p end told =
@@ -113,13 +113,13 @@ gave-all {after = after} {slot = slot} {bytes = bytes} all p end told =
     let none : t.0 ≡ [] = (let g = rw t.1 at end in g) in
     sym (append-nil bytes) ∙ ap (λ l. bytes ++ l) (sym none) ∙ t.2
 
--- a slot of which these bytes were read had them at the front of what it has left
+-- a slot from which these bytes were read had them at the front of its rest
 pub reads-told : {before after : ShelfState} {slot : ℕ} {bytes : List ℕ} (all : List ℕ) → Reads before after slot bytes
     → before.left slot ≡ Some all
     → (rest : List ℕ) × (after.left slot ≡ Some rest) × (bytes ++ rest ≡ all)
 reads-told all p told = gave-told all (reads-gave p) told
 
--- reads of a slot up to its end gave all that it had left, where that is told
+-- reads of a slot up to its end gave its whole rest, if that is known
 pub reads-all : {before after : ShelfState} {slot : ℕ} {bytes : List ℕ} (all : List ℕ) → Reads before after slot bytes → IsAtEnd after slot
     → before.left slot ≡ Some all → bytes ≡ all
 reads-all all p end told = gave-all all (reads-gave p) end told

@@ -1,9 +1,9 @@
--- What a shelf over a folder shows: how many slots it has given and how often it has failed.
+-- A shelf over the file system as contracts see it: the number of its slots and of its faults.
 use Rattle.std.specs.Prelude.{ℕ, None, vec_len}
 use Rattle.det_io.specs.Shelf.{ShelfState}
 use Rattle.det_io.specs.declared.dir_shelf.DirShelf.{DirShelf}
 
--- a shelf that tells neither bytes nor names
+-- a shelf of which neither bytes nor names are known
 abbrev pub untold : ℕ → ℕ → ShelfState
 untold slots faults = record {
   slots = slots;

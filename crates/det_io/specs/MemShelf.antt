@@ -1,4 +1,4 @@
--- What a shelf in memory holds and shows, and when its next call fails.
+-- A shelf in memory: its files and its state, and the condition under which its next call fails.
 use Rattle.std.specs.Prelude.{◌≡◌, ℕ, ◌+◌, List, [], map, length, drop, Bool, cond, nat_eq, not}
 use Rattle.std.specs.Prelude.{◌||◌, ◌&&◌, is_some, Option, Some, None, string_bytes, unwrap_or}
 use Rattle.std.specs.Prelude.{slice_get, slice_index_or, position}
@@ -25,7 +25,7 @@ abbrev pub bytes_under : List MemFile → List ℕ → Option (List ℕ)
 bytes_under files name = option_map (λ i. slice_index_or (texts_of files) i [])
     (index_of files name)
 
--- what a place in the files has left
+-- the bytes from a place to the end of its file
 abbrev pub rest_of : List MemFile → Place → List ℕ
 rest_of files p = drop p.at (slice_index_or (texts_of files) p.file [])
 
@@ -42,32 +42,32 @@ state_of files places told asked faults = record {
   left = slice_get (map (rest_of files) places);
 }
 
--- what such a shelf shows: all bytes, and the names asked for as long as they are told
+-- its state: all bytes are known, and the names asked for as long as `is_told` holds
 abbrev pub mem_shelf_state : MemShelf → ShelfState
 mem_shelf_state s = state_of s.files s.slots.items s.is_told s.asked.items s.faults
 
--- what a shelf was made of, which no call changes
+-- the arguments that a shelf was made of, which no call changes
 pub record MemShelfSetup : Type 0 where
   pub files : List MemFile
   -- the numbers of the calls that are to fail
   pub fails : List ℕ
-  -- for how many calls of open_input there is room
+  -- the calls of open_input for which there is room
   pub opens : ℕ
-  -- how many bytes a read moves at most
+  -- the most bytes that a read moves
   pub most : ℕ
 
 abbrev pub setup_of : MemShelf → MemShelfSetup
 setup_of s = record { files = s.files; fails = s.calls.fails; opens = s.opens; most = s.most }
 
--- how many calls of open_input and read were made
+-- the number of calls of open_input and read
 abbrev pub calls_of : MemShelf → ℕ
 calls_of s = s.calls.made
 
--- how many calls of open_input took room
+-- the number of calls of open_input that took room
 abbrev pub opened_of : MemShelf → ℕ
 opened_of s = s.opened
 
--- a new shelf: no call was made, it has given no slot, and tells that it was asked for nothing
+-- a new shelf: no call was made, no slot is open, and it is known that no name was asked for
 pub record IsNewMemShelf (s : MemShelf) (made_of : MemShelfSetup) : Type 0 where
   pub setup : setup_of s ≡ made_of
   pub calls : calls_of s ≡ 0
@@ -90,6 +90,6 @@ has_room_for s name = not (nat_eq (opened_of s) (setup_of s).opens)
 abbrev pub open_fails : MemShelf → List ℕ → Bool
 open_fails s name = is_listed (setup_of s).fails (calls_of s + 1) || not (has_room_for s name)
 
--- what a slot has left
+-- the rest of a slot
 abbrev pub rest_in : MemShelf → ℕ → List ℕ
 rest_in s slot = unwrap_or ((mem_shelf_state s).left slot) []

@@ -1,4 +1,4 @@
--- What a sink in memory keeps, and when its next call fails.
+-- A sink in memory: its bytes, and the condition under which its next call fails.
 use Rattle.std.specs.Prelude.{◌≡◌, ℕ, ◌+◌, ◌-◌, List, [], min, length, Bool, nat_eq, not, ◌||◌}
 use Rattle.std.specs.Prelude.{◌&&◌}
 use Rattle.det_io.specs.PlannedCalls.{is_listed}
@@ -15,11 +15,11 @@ SinkTook s m = m ≡ sink_bytes s
 abbrev pub sink_faults : MemSink → ℕ
 sink_faults s = s.faults
 
--- what a sink was made of, which no call changes
+-- the arguments that a sink was made of, which no call changes
 pub record MemSinkSetup : Type 0 where
-  -- for how many bytes there is room
+  -- the bytes for which there is room
   pub room : ℕ
-  -- how many bytes a write takes at most
+  -- the most bytes that a write takes
   pub most : ℕ
   -- the numbers of the writes that are to fail
   pub fails : List ℕ
@@ -27,7 +27,7 @@ pub record MemSinkSetup : Type 0 where
 abbrev pub sink_setup : MemSink → MemSinkSetup
 sink_setup s = record { room = s.room; most = s.most; fails = s.calls.fails }
 
--- how many writes were made
+-- the number of writes
 abbrev pub sink_calls : MemSink → ℕ
 sink_calls s = s.calls.made
 
@@ -45,7 +45,7 @@ write_fails s piece =
     is_listed (sink_setup s).fails (sink_calls s + 1)
     || (nat_eq (length (sink_bytes s)) (sink_setup s).room && not (nat_eq (length piece) 0))
 
--- how many bytes of a piece the next write takes, where it doesn't fail
+-- the number of bytes of a piece that the next write takes, if it doesn't fail
 abbrev pub amount_taken : MemSink → List ℕ → ℕ
 amount_taken s piece =
     min (min (length piece) (sink_setup s).most) ((sink_setup s).room - length (sink_bytes s))

@@ -1,4 +1,4 @@
--- Which calls are to fail.
+-- The calls that are to fail.
 use Rattle.std.specs.Prelude.{ℕ, List, Bool, nat_eq}
 use Rattle.std.specs.List.{list_any}
 

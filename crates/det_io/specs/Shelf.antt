@@ -1,4 +1,4 @@
--- What a shelf shows, and how its calls change it.
+-- The state of a shelf as contracts see it, and the effect of its calls on it.
 use Rattle.std.specs.Prelude.{◌≡◌, ◌≢◌, ℕ, ◌+◌, List, [], ◌++◌, take, Option, Some, IfSome, Result}
 use Rattle.std.specs.Prelude.{Ok, Err}
 use Rattle.std.specs.Option.{option_map}
@@ -6,15 +6,15 @@ use Rattle.det_io.specs.Prefix.{IsPrefix}
 use Rattle.det_io.specs.declared.faults.ShelfFailed.{ShelfFailed}
 
 pub record ShelfState : Type 0 where
-  -- how many slots it has given
+  -- the number of slots
   pub slots : ℕ
-  -- how often it has failed
+  -- the number of its faults
   pub faults : ℕ
-  -- the bytes under a name, where they are told
+  -- the bytes under a name, if known
   pub holds : List ℕ → Option (List ℕ)
-  -- the names that it was asked to open, where they are told
+  -- the names that it was asked to open, if known
   pub asked : Option (List (List ℕ))
-  -- the bytes that a slot has left, where they are told
+  -- the rest of a slot, if known
   pub left : ℕ → Option (List ℕ)
 
 -- the bytes that a read moved into the buffer
@@ -22,7 +22,7 @@ abbrev pub moved : Result ℕ ShelfFailed → List ℕ → List ℕ
 moved (Ok n) buf = take n buf
 moved (Err e) buf = []
 
--- nothing is left of a slot, where it is told
+-- if the rest of a slot is known, it is empty
 abbrev pub IsAtEnd : ShelfState → ℕ → Type 0
 IsAtEnd state slot = IfSome (state.left slot) (λ rest. rest ≡ [])
 
@@ -32,7 +32,7 @@ pub record Kept (before after : ShelfState) : Type 0 where
   pub holds : after.holds ≡ before.holds
   pub asked : after.asked ≡ before.asked
 
--- a slot gave these bytes, where they are told
+-- a slot gave these bytes, if they are known
 pub record Gave (before after : ShelfState) (slot : ℕ) (bytes : List ℕ) : Type 0 where
   pub left : before.left slot ≡ option_map (λ rest. bytes ++ rest) (after.left slot)
 
@@ -44,7 +44,7 @@ pub record Reads (before after : ShelfState) (slot : ℕ) (bytes : List ℕ) : T
   pub left : before.left slot ≡ option_map (λ rest. bytes ++ rest) (after.left slot)
   pub others : (k : ℕ) → k ≢ slot → after.left k ≡ before.left k
 
--- a name was opened in a new slot, which has all the bytes of the name left where they are told
+-- a name was opened in a new slot; if the bytes of the name are known, the slot has all of them
 pub record Opens (before after : ShelfState) (name : List ℕ) (slot : ℕ) : Type 0 where
   pub number : slot ≡ before.slots
   pub slots : after.slots ≡ before.slots + 1
@@ -56,12 +56,12 @@ pub record SlotsStay (before after : ShelfState) : Type 0 where
   pub slots : after.slots ≡ before.slots
   pub left : after.left ≡ before.left
 
--- the shelf was asked for these names, where it tells it afterwards
+-- the shelf was asked for these names, if the names are known afterwards
 pub record Asks (before after : ShelfState) (names : List (List ℕ)) : Type 0 where
   pub told : (all : List (List ℕ)) → after.asked ≡ Some all
       → (earlier : List (List ℕ)) × (before.asked ≡ Some earlier) × (earlier ++ names ≡ all)
 
--- the shelf was asked for a prefix of these names, where it tells it afterwards
+-- the shelf was asked for a prefix of these names, if the names are known afterwards
 abbrev pub AsksPrefix : ShelfState → ShelfState → List (List ℕ) → Type 0
 AsksPrefix before after names =
     (front : List (List ℕ)) × IsPrefix front names × Asks before after front

@@ -1,11 +1,11 @@
--- What a sink over a writer shows.
+-- A sink over a writer as contracts see it.
 use Rattle.std.specs.Prelude.{ℕ, List}
 use Rattle.det_io.specs.declared.std_sink.StdSink.{StdSink}
 
--- a sink that tells no bytes took no list
+-- a sink whose bytes are not known is related to no list
 abbrev pub NothingTold : List ℕ → Type 0
 NothingTold m = ⊥
 
--- how often it has failed
+-- the number of its faults
 abbrev pub std_sink_faults : {W : Type 0} → StdSink W → ℕ
 std_sink_faults s = s.faults

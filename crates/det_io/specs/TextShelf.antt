@@ -1,9 +1,9 @@
--- What a shelf over one text shows.
+-- A shelf over one text as contracts see it.
 use Rattle.std.specs.Prelude.{ℕ, List, [], ◌∷◌, drop, None, slice_get}
 use Rattle.det_io.specs.Shelf.{ShelfState}
 use Rattle.det_io.specs.declared.text_shelf.TextShelf.{TextShelf}
 
--- one slot, slot 0, which has these bytes left; names are not told
+-- one slot, slot 0, with this rest; names are not known
 abbrev pub one_slot : List ℕ → ShelfState
 one_slot rest = record {
   slots = 1;

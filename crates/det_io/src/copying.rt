@@ -1,7 +1,7 @@
-//! Copies the front of one slice over the front of another.
+//! Copies the front of one slice over the front of another, for reads from memory.
 ghost use Rattle.std.specs.Prelude.{◌≡◌, min, take, length};
 
-// Copies as many bytes as fit, at most `most`, and answers how many.
+// Copies as many bytes as fit, at most `most`, and returns their number.
 pub(crate) fn copy_front(from: &[u8], buf: &mut [u8], most: usize) -> usize
     ensures count { result ≡ min (min (length buf.old) most) (length from.now) }
     ensures front { take result buf.new ≡ take result from.now }

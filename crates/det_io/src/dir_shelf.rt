@@ -1,4 +1,4 @@
-//! The files of the current folder as a shelf.
+//! The shelf of the programs: files of the file system, by path.
 use crate::trying::read_trying;
 use crate::within::push_within;
 use crate::{Failure, Shelf, ShelfFailed, Slots};
@@ -7,9 +7,9 @@ use std::fs;
 use std::io::{Error, ErrorKind};
 use std::rt::Files;
 
-/// Opens files by their paths. It tells neither bytes nor names. Each failure of the system is a
-/// fault, but for want of memory at an open. A read that is interrupted is tried again, up to 1,000
-/// times in all.
+/// Opens files by their paths. Its contracts show neither bytes nor names, since other programs may
+/// change them. Each failure of the system is a fault, except "out of memory" at an open. An
+/// interrupted read is tried again, up to 1,000 times in all.
 #[derive(Drop)]
 pub struct DirShelf<R: Files> {
     rt: R,
@@ -22,7 +22,7 @@ impl<R: Files + Copy> DirShelf<R> {
     ghost use Rattle.std.specs.Prelude.{◌≡◌};
     ghost use Rattle.det_io.specs.DirShelf.{dir_shelf_state, untold};
 
-    /// A shelf over the current folder.
+    /// A shelf over the file system. Relative paths begin at the current folder.
     pub fn new(rt: &R, alloc: Global) -> DirShelf<R>
         ensures { dir_shelf_state result ≡ untold 0 0 }
     {
@@ -34,8 +34,8 @@ impl<R: Files + Copy> DirShelf<R> {
         }
     }
 
-    /// The slot of the last call that failed, or the slot that an open would have given, and why it
-    /// failed. None where none failed.
+    /// The slot and the cause of the last call that failed, or None. For an open it is the slot
+    /// that the file would have got.
     pub fn failed(&self) -> Option<(u32, Error)>
         ensures { result ≡ self.now.failed }
     {
@@ -73,7 +73,7 @@ impl<R: Files + Copy> Shelf for DirShelf<R> {
             self.failed = Some((u32::MAX, Error::other("too many files are open")));
             return Err(Failure::Read);
         };
-        // The room is taken first, so that no file is opened in vain.
+        // The room comes first, so that no file is opened in vain.
         self.files.reserve(1)?;
         match fs::open(&self.rt, name) {
             Ok(file) => {

@@ -1,7 +1,7 @@
-//! A sink for what nobody wants.
+//! A sink for output that is not wanted.
 use crate::{Sink, SinkFailed};
 
-/// Takes everything, keeps none of it and tells none of it. It never fails.
+/// Takes all bytes and keeps none. It never fails.
 #[derive(Drop)]
 pub struct Discard;
 

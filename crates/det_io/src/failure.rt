@@ -1,20 +1,21 @@
-//! Why a call at the edges gives up, and why one that judges what it reads stops.
+//! The errors of calls that read or write: `Failure` for IO and memory, and `Stopped` for calls
+//! that may also refuse their input.
 use crate::{ShelfFailed, SinkFailed};
 use det_values::OutOfMemory;
 use std::alloc::AllocError;
 
-/// Why a call gave up.
+/// Why a call that reads or writes failed.
 #[derive(Clone, Copy, Debug, PartialEq, Eq, Drop)]
 pub enum Failure {
     /// The shelf failed to open or read.
     Read,
     /// The sink failed to write.
     Write,
-    /// Memory could not be had.
+    /// Memory could not be allocated.
     OutOfMemory,
 }
 
-/// Why a call stopped that judges what it reads: it refuses it, or it gave up.
+/// Why a call that checks its input stopped: it refuses the input, or it failed.
 #[derive(Clone, Copy, Debug, PartialEq, Eq, Drop)]
 pub enum Stopped<E> {
     Refused(E),

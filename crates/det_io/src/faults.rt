@@ -1,4 +1,4 @@
-//! The answers of a shelf and of a sink that failed. Why one failed is not told.
+//! The errors of one read and of one write. They carry no cause: the shelf or sink keeps it.
 
 /// A shelf could not open or read.
 #[derive(Clone, Copy, Debug, PartialEq, Eq, Drop)]

@@ -1,5 +1,5 @@
-//! The edges at which bytes come in and go out: shelves with slots that are read, and sinks that
-//! are written.
+//! Bytes in and out: shelves, whose slots are read, and sinks, which are written. The commands take
+//! any shelf and any sink, so a test can run them on memory and let chosen calls fail.
 #![tactic(auto)]
 
 mod copying;

@@ -1,4 +1,4 @@
-//! A shelf in memory that fails at chosen calls.
+//! A shelf in memory for tests, which fails at chosen calls.
 ghost use Rattle.std.specs.Prelude.{◌≡◌, ◌<◌, ◌≤◌, vec_len, vec_capacity};
 
 mod finding;
@@ -11,7 +11,7 @@ use det_values::{Limited, OutOfMemory};
 use place::Place;
 use std::alloc::Global;
 
-/// Bytes under a name.
+/// A file in memory: a name and bytes.
 #[derive(Drop)]
 pub struct MemFile {
     pub name: String,
@@ -19,7 +19,7 @@ pub struct MemFile {
 }
 
 impl MemFile {
-    /// These bytes under this name.
+    /// A file with this name and these bytes.
     pub fn new(name: String, bytes: Vec<u8>) -> MemFile
         ensures { result ≡ record { name = name; bytes = bytes } }
     {
@@ -27,12 +27,12 @@ impl MemFile {
     }
 }
 
-/// Files. Of those with equal names the first counts.
+/// Files. If two have the same name, the first is opened.
 pub type MemFiles = Limited<MemFile, 1048576>;
 
-/// A shelf over files in memory, for tests. It tells everything, but the names asked for only until
-/// one was unknown or there was no room for it. All its room is taken when it is made: `open_input`
-/// and `read` take no memory.
+/// A shelf over files in memory, for tests. Its contracts show all bytes. They show the names that
+/// it was asked for, until a name is unknown or there is no room for it. `open_input` and `read`
+/// allocate nothing: all room is taken at the start.
 #[derive(Drop)]
 pub struct MemShelf {
     files: MemFiles,
@@ -40,10 +40,10 @@ pub struct MemShelf {
     opens: u32,
     most: usize,
     faults: u64,
-    // How many calls of `open_input` took room.
+    // The number of calls of `open_input` that took room.
     opened: u32,
     is_told: bool,
-    // The names asked for, each as the index of its file.
+    // The names that it was asked for, each as the index of its file.
     asked: Vec<usize>,
     slots: Vec<Place>,
     ghost moves: { 0 < most },
@@ -59,8 +59,8 @@ impl MemShelf {
     ghost use Rattle.std.specs.Prelude.{◌≡◌, ◌≤◌, ◌<◌, ◌^◌, ◌-◌, IfOk};
     ghost use Rattle.det_io.specs.MemShelf.{IsNewMemShelf};
 
-    /// A shelf over these files with room for `opens` calls of `open_input`. The calls of
-    /// `open_input` and `read`, counted together, fail where their number is listed.
+    /// A shelf over these files with room for `opens` calls of `open_input`. Calls of `open_input`
+    /// and `read` are counted together from 1, and fail if `fails` lists their number.
     pub fn new(
         alloc: Global,
         files: MemFiles,
@@ -74,7 +74,7 @@ impl MemShelf {
         MemShelf::limited(alloc, files, fails, opens, usize::MAX)
     }
 
-    /// The same, where each read moves at most `most` bytes.
+    /// The same shelf, but each read moves at most `most` bytes.
     pub fn limited(
         alloc: Global,
         files: MemFiles,

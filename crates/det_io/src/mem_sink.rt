@@ -1,4 +1,4 @@
-//! A sink in memory that fails at chosen calls.
+//! A sink in memory for tests, which fails at chosen calls.
 ghost use Rattle.std.specs.Prelude.{◌≡◌, ◌<◌, ◌≤◌, vec_len, vec_capacity};
 
 use crate::planned_calls::PlannedCalls;
@@ -6,8 +6,8 @@ use crate::{FailList, Sink, SinkFailed};
 use det_values::OutOfMemory;
 use std::alloc::Global;
 
-/// A sink that keeps what it takes, for tests. All its room is taken when it is made: `write` takes
-/// no memory.
+/// A sink that keeps the bytes it takes, for tests. `write` allocates nothing: all room is taken at
+/// the start.
 #[derive(Drop)]
 pub struct MemSink {
     bytes: Vec<u8>,
@@ -24,8 +24,8 @@ impl MemSink {
     ghost use Rattle.std.specs.Prelude.{◌≡◌, ◌<◌, IfOk};
     ghost use Rattle.det_io.specs.MemSink.{sink_bytes, IsNewMemSink};
 
-    /// A sink with room for `room` bytes that takes at most `most` of them in a write. Its writes,
-    /// counted from 1, fail where their number is listed.
+    /// A sink with room for `room` bytes, which takes at most `most` bytes a write. Writes are
+    /// counted from 1, and fail if `fails` lists their number.
     pub fn new(
         alloc: Global,
         room: usize,
@@ -45,7 +45,7 @@ impl MemSink {
         })
     }
 
-    /// What it took.
+    /// The bytes that it took.
     pub fn bytes(&self) -> &[u8]
         ensures { result.now ≡ sink_bytes self.now }
     {

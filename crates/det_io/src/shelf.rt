@@ -1,4 +1,5 @@
-//! A shelf opens what lies under a name.
+//! The trait of shelves: inputs that are opened by name. It is apart from `Slots`, so that a reader
+//! of one slot can't open another.
 ghost use Rattle.std.specs.Prelude.{◌≡◌, ◌≤◌, ◌∷◌, [], Some, IfOk, OnErr};
 ghost use Rattle.det_io.specs.Count.{Rose};
 ghost use Rattle.det_io.specs.Shelf.{Asks, Opens, SlotsStay};
@@ -6,10 +7,10 @@ ghost use Rattle.det_io.specs.Traffic.{failure_of};
 
 use crate::{Failure, Slots};
 
-/// Slots that are given by name.
+/// Opens names into slots.
 pub trait Shelf: Slots {
-    /// Opens what is under a name and answers its slot. A name that is opened twice has two slots,
-    /// each read by itself.
+    /// Opens a name and returns its slot. A name that is opened twice has two slots, each with its
+    /// own position.
     fn open_input(&mut self, name: &str) -> Result<u32, Failure>
         ensures opens { IfOk result (Opens (Self.sees self.old) (Self.sees self.new) name.now) }
         ensures slots { OnErr result (SlotsStay (Self.sees self.old) (Self.sees self.new)) }

@@ -1,4 +1,4 @@
-//! Where bytes go.
+//! The trait of sinks: outputs that take bytes piece by piece.
 ghost use Rattle.std.specs.Prelude.{ℕ, ◌<◌, ◌≤◌, List, length, take, IfOk, OnErr};
 ghost use Rattle.det_io.specs.Count.{Rose};
 ghost use Rattle.det_io.specs.Sink.{Grew, Same};
@@ -7,15 +7,14 @@ use crate::SinkFailed;
 
 /// Takes bytes piece by piece.
 ///
-/// `took` says of which lists of bytes the sink counts as having taken exactly them: of the one
-/// list kept where the sink keeps its bytes, and of none where it tells nothing. `faults` counts
-/// how often it failed.
+/// `took` relates the sink to the bytes it took in all. A sink that keeps its bytes is related to
+/// exactly that list, and a sink that keeps none to no list. `faults` counts its failures.
 pub trait Sink {
     ghost took: { Self → List ℕ → Type 0 };
 
     ghost faults: { Self → ℕ };
 
-    /// Takes bytes from the beginning of the piece and answers how many: at least one, unless the
+    /// Takes bytes from the front of the piece and returns their number: at least one, unless the
     /// piece is empty.
     fn write(&mut self, piece: &[u8]) -> Result<usize, SinkFailed>
         ensures within { IfOk result (λ n. n ≤ length piece.now) }

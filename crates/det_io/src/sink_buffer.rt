@@ -1,4 +1,5 @@
-//! A buffer in front of a sink, which gathers short pieces to long writes.
+//! A buffer in front of a sink, which gathers short pieces into long writes. `Front` holds the
+//! pieces, and `SinkBuffer` makes a front a `Sink` again.
 
 mod buffer;
 mod front;

@@ -1,24 +1,24 @@
-//! Slots that give their bytes piece by piece.
+//! The trait of slots: open inputs that are read piece by piece.
 ghost use Rattle.std.specs.Prelude.{◌≡◌, ℕ, ◌<◌, ◌≤◌, List, length, IfOk, OnErr};
 ghost use Rattle.det_io.specs.Count.{Rose};
 ghost use Rattle.det_io.specs.Shelf.{ShelfState, Reads, moved, IsAtEnd};
 
 use crate::ShelfFailed;
 
-/// Where bytes come from: slots, numbered from 0, each of which is read once from its beginning to
-/// its end.
+/// Open inputs, numbered from 0. Each is read once, from its first byte to its last.
 ///
-/// `sees` is what contracts see of a state: the slots given, the count of faults, and, where they
-/// are told, the bytes under names, the names asked for and the bytes that slots have left. `stays`
-/// relates two states between which only calls of this trait and of `Shelf` lie: a shelf over
-/// another object says in it what they leave unchanged.
+/// `sees` is a state as contracts see it: the numbers of slots and of faults. Where they are known,
+/// it also has the bytes under names, the names asked for and the rest of each slot. `stays`
+/// relates the states before and after calls of this trait and of `Shelf`. A shelf over another
+/// object states in it what those calls leave unchanged.
 pub trait Slots {
     ghost sees: { Self → ShelfState };
 
     ghost stays: { Self → Self → Type 0 };
 
-    /// Moves the next bytes that a slot has left into the beginning of the buffer and answers how
-    /// many.
+    /// Moves the next bytes of a slot to the front of the buffer and returns their number. 0 is the
+    /// end of the slot, unless the buffer is empty. It needs no memory, since the caller lends the
+    /// buffer, so only a fault can make it fail.
     fn read(&mut self, slot: u32, buf: &mut [u8]) -> Result<usize, ShelfFailed>
         requires { slot < (sees self.old).slots }
         ensures within { IfOk result (λ n. n ≤ length buf.old) }

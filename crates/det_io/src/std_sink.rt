@@ -1,11 +1,11 @@
-//! A writer of std as a sink.
+//! The sink of the programs: a writer of std, as standard output or a file.
 use crate::trying::write_trying;
 use crate::{Sink, SinkFailed};
 use std::io::{Error, Write};
 
-/// Writes to a writer. It tells no bytes. Each failure of the writer is a fault, and so is a write
-/// that takes nothing of a piece that isn't empty. A write that is interrupted is tried again, up
-/// to 1,000 times in all.
+/// Writes to a writer of std. Its contracts show no bytes. Each failure of the writer is a fault,
+/// and so is a write that takes no byte of a piece that isn't empty. An interrupted write is tried
+/// again, up to 1,000 times in all.
 #[derive(Drop)]
 pub struct StdSink<W> {
     writer: W,
@@ -28,7 +28,7 @@ impl<W: Write + Drop> StdSink<W> {
         }
     }
 
-    /// Why the last write that failed did so. None where none failed.
+    /// The cause of the last write that failed, or None.
     pub fn failed(&self) -> Option<Error>
         ensures { result ≡ self.now.failed }
     {

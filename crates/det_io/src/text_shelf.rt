@@ -1,11 +1,11 @@
-//! One text as slots.
+//! One text in memory as slot 0, for readers that take slots.
 ghost use Rattle.std.specs.Prelude.{◌≤◌, length};
 
 use crate::copying::copy_front;
 use crate::{ShelfFailed, Slots};
 use det_values::Bytes;
 
-/// A text in memory, read from slot 0. Its reads never fail and take no memory.
+/// A text in memory, read from slot 0. Its reads never fail and allocate nothing.
 #[derive(Drop)]
 pub struct TextShelf {
     bytes: Bytes,
@@ -17,7 +17,7 @@ impl TextShelf {
     ghost use Rattle.std.specs.Prelude.{◌≡◌};
     ghost use Rattle.det_io.specs.TextShelf.{text_shelf_state, one_slot};
 
-    /// A shelf whose one slot, slot 0, has these bytes left.
+    /// Slots with one slot, slot 0, which has these bytes.
     pub fn new(bytes: Bytes) -> TextShelf
         ensures { text_shelf_state result ≡ one_slot bytes }
     {

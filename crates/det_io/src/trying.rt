@@ -1,13 +1,13 @@
-//! Reads and writes that are tried again where they were interrupted.
+//! Reads and writes of std that are tried again after an interruption.
 ghost use Rattle.std.specs.Prelude.{ℕ, ◌<◌, ◌≤◌, length, IfOk};
 
 use std::io::{Error, ErrorKind, Read, Result, Write};
 
-// How often one call tries at most. A call that is interrupted each time has failed.
+// The most tries of one call. A call that is interrupted each time fails.
 pub(crate) const MOST_TRIES: u32 = 1000;
 
-/// Reads bytes into the beginning of the buffer and answers how many. A read that is interrupted is
-/// tried again, up to 1,000 times in all.
+/// Reads bytes to the front of the buffer and returns their number. An interrupted read is tried
+/// again, up to 1,000 times in all.
 pub fn read_trying<F: Read>(reader: &mut F, buf: &mut [u8]) -> Result<usize>
     ensures { IfOk result (λ n. n ≤ length buf.old) }
 {
@@ -21,8 +21,8 @@ pub fn read_trying<F: Read>(reader: &mut F, buf: &mut [u8]) -> Result<usize>
     Err(Error::from(ErrorKind::Interrupted))
 }
 
-// Writes bytes from the beginning of the piece and answers how many. A write that takes nothing of
-// a piece that isn't empty has failed.
+// Writes bytes from the front of the piece and returns their number. A write that takes no byte of
+// a piece that isn't empty fails.
 pub(crate) fn write_trying<W: Write>(writer: &mut W, piece: &[u8]) -> Result<usize>
     ensures within { IfOk result (λ n. n ≤ length piece.now) }
     ensures some { IfOk result (λ n. 0 < length piece.now → 0 < n) }

@@ -1,7 +1,7 @@
-//! Adds to a list that has room.
+//! Adds to a list with room, so that a call can take its memory first and not fail later.
 ghost use Rattle.std.specs.Prelude.{◌≡◌, ◌<◌, ◌≤◌, ◌+◌, ◌∷◌, ◌++◌, [], vec_len, vec_capacity};
 
-/// Adds an item to a list that has room for it.
+/// Adds an item at the end of a list that has room for it.
 pub fn push_within<T: Drop>(items: &mut Vec<T>, item: T)
     requires { vec_len items.old < vec_capacity items.old }
     ensures items { items.new.items ≡ items.old.items ++ item ∷ [] }

@@ -1,10 +1,10 @@
-//! Lines behind the one line of an answer.
+//! Hints of `det_lane`, written after the answer's line.
 use det_io::Sink;
 use hints_on_words::{Help, Shown, WordKind, WordsFault, misplaced, tell, tell_words, unwritten};
 use lane::LaneStatus;
 use std::io::Error;
 
-/// What the words of a lane are.
+/// The kinds of its arguments.
 const KINDS: [WordKind; 4] = [
     WordKind::Name("PROGRAM"),
     WordKind::Copies("COPIES"),
@@ -12,7 +12,7 @@ const KINDS: [WordKind; 4] = [
     WordKind::Name("STIM"),
 ];
 
-/// Why words are no lane.
+/// Why arguments are no lane. None if they are one.
 fn words_fault(words: &[String]) -> Option<WordsFault<'_>> {
     let fault = misplaced(&KINDS, words);
     if fault.is_some() {
@@ -22,7 +22,7 @@ fn words_fault(words: &[String]) -> Option<WordsFault<'_>> {
     Some(WordsFault::At { number: 5, word })
 }
 
-/// Hints on words that are no lane.
+/// Writes the hints on arguments that are no lane.
 fn on_words<E: Sink>(rt: &HostRuntime, words: &[String], err: &mut E) {
     let help = Help {
         program: "det_lane",
@@ -31,8 +31,8 @@ fn on_words<E: Sink>(rt: &HostRuntime, words: &[String], err: &mut E) {
     tell_words(rt, rt.alloc(), words_fault(words), help, err);
 }
 
-/// Tells what stands behind a status that a line was written for: why the words are no lane, or
-/// what the system failed for.
+/// Writes the hints on a status whose line was written: why the arguments are no lane, or the
+/// system's reason for a failed write.
 pub(crate) fn give_hints<E: Sink>(
     rt: &HostRuntime,
     words: &[String],

@@ -1,5 +1,5 @@
-//! The program `det_lane`: processes of the system, standard output and standard error, and
-//! `lane_top`; behind it hints.
+//! The program `det_lane`: `lane_top` over processes of the system, standard output and standard
+//! error. After it, hints are written.
 #![tactic(auto)]
 
 mod hinting;
@@ -13,8 +13,8 @@ use std::env;
 use std::io::ErrorKind;
 use std::process::ExitCode;
 
-/// The words behind the program's name. A word that isn't UTF-8 makes no command, and neither does
-/// no word at all.
+/// The arguments after the program's name. They are empty, which is no command, if one of them
+/// isn't UTF-8.
 fn words_given(rt: &HostRuntime) -> Result<Vec<String>, AllocError> {
     let alloc = rt.alloc();
     match env::args(rt) {
@@ -24,7 +24,7 @@ fn words_given(rt: &HostRuntime) -> Result<Vec<String>, AllocError> {
     }
 }
 
-/// Tells that memory could not be had before the program began, as `lane_top` does.
+/// Reports that memory ran out before the program began, as `lane_top` does.
 fn no_memory<E: Sink>(err: &mut E) -> ExitCode {
     let line = LaneAnswer::OutOfMemory.line();
     let _ = write_all(err, line.as_slice());

@@ -1,4 +1,4 @@
--- What follows from an item that may come where a record stands.
+-- What follows from an item that may come in the place of a record.
 use Rattle.std.proofs.Common.{◌≡◌, ◌==◌, Bool, true, false, cond, refl}
 use Rattle.det_values.specs.declared.frames.Frame.TheVariants as frames
 use Rattle.record_grammar.specs.declared.place.Place.{Place}
@@ -11,7 +11,7 @@ use Rattle.det_record_c.specs.declared.state.DetRecord.{DetRecord}
 use Rattle.det_record_c.specs.Stage.{layout_in, place_of}
 use Rattle.det_record_c.specs.Spelled.{spelling_of, HasFields}
 
--- what holds at each place holds where a record stands
+-- what holds of each place holds of the place of a record
 by_stage : (P : Place → Type 0) (a b : Place) (t : Bool) → P a → P b → P (cond t a b)
 by_stage P a b true x y = x
 by_stage P a b false x y = y
@@ -31,7 +31,7 @@ spelling_is r (items.Frame f) h =
     at_place (λ place. CanFollow place (items.Frame f) → item_spelling place (items.Frame f) ≡ spelling_of (items.Frame f)) r
     (λ e. elim e [ ]) (λ _. refl) (λ _. refl) (λ _. refl) (λ _. refl) (λ e. elim e [ ]) h
 
--- it may stand there, since its fields are in their ranges
+-- it may come there, since its fields are in their ranges
 pub may_stand : (r : DetRecord) (item : Item) → CanFollow (place_of r) item → HasFields r.events item → MayStand (place_of r) item
 may_stand r (items.Header p) h fields =
     at_place (λ place. CanFollow place (items.Header p) → MayStand place (items.Header p)) r (λ _. fields) (λ e. absurd e) (λ e. absurd e)

@@ -1,4 +1,4 @@
--- A record that stands at its end is a whole one.
+-- A record whose place is the end is a whole one.
 use Rattle.std.proofs.Common.{◌≡◌, List, [], ◌∷◌, map, refl, ap, subst, ◌∙◌, ℕ}
 use Rattle.det_values.specs.declared.frames.Frame.{Frame}
 use Rattle.det_values.specs.declared.frames.Frame.TheVariants as frames

@@ -1,4 +1,4 @@
--- What is written behind a record that was written so far.
+-- What is written after a record that was written so far.
 use Rattle.std.proofs.Common.{◌≡◌, ℕ, ◌≤◌, List, [], ◌∷◌, ◌++◌, length, take, drop, sym, ap, subst, ◌∙◌, append_assoc, arith}
 use Rattle.std.proofs.lemmas.List.{append-nil}
 use Rattle.std.proofs.Math.Seq.{take-append_seam, drop-append_seam}
@@ -36,7 +36,7 @@ written_behind old new item bytes s p e items before w = record {
       ∙ sym (spelled_behind items item places.Header (place_of old) w.stand);
 }
 
--- an item's bytes stand at the front of the room, and their number is told
+-- the bytes of an item are at the front of the room, and their number is reported
 pub is_added : (item : Item) (old new : Lent) (bytes : List ℕ) → CanFollow (place_of old.state) item → HasFields old.state.events item
     → place_of new.state ≡ after (place_of old.state) item → bytes ≡ spelling_of item → length bytes ≤ length old.out
     → new.out ≡ bytes ++ drop (length bytes) old.out → new.written ≡ length bytes → IsAdded item old new × Fits old.state item old.out

@@ -1,4 +1,4 @@
--- What C gives, as the values that a record holds.
+-- The values that C passes, as the values that a record holds.
 use Rattle.std.specs.Prelude.{ℕ, ℤ, List, map, take, Option, None, Some, if◌then◌else◌}
 use Rattle.det_values.specs.declared.format.Format.TheVariants.{Two}
 use Rattle.det_values.specs.declared.frames.CycleInput.{CycleInput}

@@ -1,4 +1,4 @@
--- What a call of a part answers, and what it leaves.
+-- The result of a call that writes a part, and what the call changes.
 use Rattle.std.specs.Prelude.{◌≡◌, ◌↔◌, ℕ, ◌≤◌, List, [], ◌∷◌, ◌++◌, length, take, drop, Result}
 use Rattle.std.specs.Prelude.{Ok, Err}
 use Rattle.record_grammar.specs.declared.place.Place.TheVariants as places
@@ -20,7 +20,8 @@ pub record Written (r : DetRecord) (items : List Item) (bytes : List ℕ) : Type
   pub stand : AreItems places.Header items (place_of r)
   pub spelling : bytes ≡ items_spelling places.Header items
 
--- what C lends to a call: the state of its record, the room for bytes, and their number
+-- what C lends to a call: the state of its record, the room for bytes, and the number of bytes
+-- written
 pub record Lent : Type 0 where
   pub state : DetRecord
   pub out : List ℕ
@@ -33,7 +34,7 @@ lent r out written = record { state = r; out = out; written = written }
 abbrev pub added : Lent → List ℕ
 added l = take l.written l.out
 
--- an item was written behind those before it, and nothing else changed
+-- an item was written after those before it, and nothing else changed
 pub record IsAdded (item : Item) (old new : Lent) : Type 0 where
   pub written : (items : List Item) (bytes : List ℕ) → Written old.state items bytes
       → Written new.state (items ++ item ∷ []) (bytes ++ added new)
@@ -42,13 +43,13 @@ pub record IsAdded (item : Item) (old new : Lent) : Type 0 where
   pub room : new.written ≤ length old.out
   pub behind : drop new.written new.out ≡ drop new.written old.out
 
--- ---- what is answered
+-- ---- the result of a call
 
 abbrev pub Fits : DetRecord → Item → List ℕ → Type 0
 Fits r item out = length (item_spelling (place_of r) item) ≤ length out
 
--- a number for the first of three conditions that isn't met, or for want of memory, which is told
--- only where the first two are
+-- The number of the first of three conditions that isn't met, or that of too little memory. The
+-- third condition and memory matter only where the first two are met.
 pub record TellsFirst (answer : ℕ) (follows sound fits : Type 0) : Type 0 where
   pub most : answer ≤ 4
   pub done : answer ≡ 0 → follows × sound × fits
@@ -57,7 +58,7 @@ pub record TellsFirst (answer : ℕ) (follows sound fits : Type 0) : Type 0 wher
   pub no_room : answer ≡ 3 → follows × sound × (fits → ⊥)
   pub no_memory : answer ≡ 4 → follows × sound
 
--- the item can follow, its values are sound, and its bytes fit
+-- the number for an item that may come, whose values are in their ranges and whose bytes fit
 abbrev pub Tells : ℕ → DetRecord → Item → Type 0 → List ℕ → Type 0
 Tells answer r item sound out =
     TellsFirst answer (CanFollow (place_of r) item) sound (Fits r item out)
@@ -77,12 +78,12 @@ IsCause causes.OutOfRange follows sound fits = follows × (sound → ⊥)
 IsCause causes.NoRoom follows sound fits = follows × sound × (fits → ⊥)
 IsCause causes.NoMemory follows sound fits = follows × sound
 
--- format Two can spell the item behind the header that names so many events
+-- format 2 can spell the item after a header with this number of events
 abbrev pub CanBeSpelled : ℕ → Item → Type 0
 CanBeSpelled events (items.Header p) = p.format ≡ Two
 CanBeSpelled events (items.Frame f) = CanSpell Two events f
 
--- an item that may be written, or why it isn't, without a look at the room for it
+-- an item that may be written, or why it may not, regardless of the room for it
 abbrev pub IsMade : Result Item Cause → Item → DetRecord → Type 0 → Type 0
 IsMade (Ok made) item r sound =
     (made ≡ item) × CanFollow (place_of r) item × CanBeSpelled r.events item × sound
@@ -91,14 +92,14 @@ IsMade (Err cause) item r sound = IsCause cause (CanFollow (place_of r) item) so
 abbrev pub MayBeWritten : DetRecord → Item → Type 0
 MayBeWritten r item = CanFollow (place_of r) item × CanBeSpelled r.events item
 
--- how the writing of an item ended
+-- the result of writing an item
 abbrev pub IsPut : Item → Result (Unit {0}) Cause → Lent → Lent → Type 0
 IsPut item (Ok u) old new = IsAdded item old new × Fits old.state item old.out
 IsPut item (Err causes.NoRoom) old new = (new ≡ old) × (Fits old.state item old.out → ⊥)
 IsPut item (Err causes.NoMemory) old new = new ≡ old
 IsPut item (Err cause) old new = ⊥
 
--- how a part ended of which an item was made or wasn't
+-- the result of a part, from that of making its item
 abbrev pub Ended : Result Item Cause → Result (Unit {0}) Cause → Lent → Lent → Type 0
 Ended (Ok item) done old new = IsPut item done old new
 Ended (Err cause) done old new = (done ≡ Err cause) × (new ≡ old)

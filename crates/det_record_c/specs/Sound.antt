@@ -1,4 +1,4 @@
--- Which values from C are in their ranges, beyond what their types say.
+-- Which values from C are in their ranges, beyond what their types ensure.
 use Rattle.std.specs.Prelude.{ℕ, ℤ, ◌≤◌, List, length}
 use Rattle.std.specs.List.{All}
 use Rattle.det_values.specs.Limits.{IsCycleTime, IsPlace}
@@ -11,7 +11,7 @@ use Rattle.det_record_c.specs.declared.given.DetElement.{DetElement}
 use Rattle.det_record_c.specs.declared.given.DetRefusal.{DetRefusal}
 use Rattle.det_record_c.specs.Given.{event_of, sample_of}
 
--- a name lies within its field, and a policy has one of two numbers
+-- a name is within its field, and a policy is one of two numbers
 abbrev pub IsSoundEvent : DetEvent → Type 0
 IsSoundEvent e = IsEvent (event_of e) × (e.len ≤ 32) × (e.policy ≤ 1)
 
@@ -24,7 +24,7 @@ pub record IsSoundHeader (p : DetProfile) (params : List ℤ) (given : List DetE
 abbrev pub AreSoundElements : List DetElement → Type 0
 AreSoundElements elements = (length elements ≤ 65536) × All (λ e. e.len ≤ 64) elements
 
--- samples of the first so many events
+-- samples of events below `events`
 abbrev pub AreSoundSamples : ℕ → List DetSample → Type 0
 AreSoundSamples events samples = (length samples ≤ 4096)
     × All (λ s. IsSample events (sample_of s)) samples

@@ -1,4 +1,4 @@
--- Where a record stands, and which part may come there.
+-- The place of a record, and which part may come there.
 use Rattle.std.specs.Prelude.{◌==◌, nat_lt, Bool, true, false, if◌then◌else◌}
 use Rattle.det_values.specs.declared.format.Format.TheVariants.{Two}
 use Rattle.det_values.specs.declared.frames.Frame.TheVariants as frames
@@ -14,7 +14,7 @@ use Rattle.det_record_c.specs.declared.state.Part.TheVariants as parts
 abbrev pub layout_in : DetRecord → Layout
 layout_in r = record { format = Two; events = r.events }
 
--- by the number of the stage; a number that no place has is the end
+-- by the number of the stage; a number without a place is the end
 abbrev pub place_of : DetRecord → Place
 place_of r =
     if r.stage == 0 then places.Header
@@ -32,7 +32,7 @@ part_of (items.Frame (frames.Init elements)) = parts.Init
 part_of (items.Frame (frames.Run r)) = parts.Cycle
 part_of (items.Frame frames.Terminate) = parts.Terminate
 
--- the items of a part can follow in a place
+-- the items of a part may come in a place
 abbrev pub takes : Place → Part → Bool
 takes places.Header parts.Header = true
 takes (places.Register layout) parts.Register = true

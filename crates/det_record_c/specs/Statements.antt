@@ -1,4 +1,4 @@
--- What a record is that was written to its end.
+-- The law of a record that was written to its end.
 use Rattle.std.specs.Prelude.{◌≡◌, ℕ, List}
 use Rattle.det_values.specs.declared.frames.Frame.{Frame}
 use Rattle.det_values.specs.Values.{ProfileValue}
@@ -10,7 +10,7 @@ use Rattle.det_record_c.specs.declared.state.DetRecord.{DetRecord}
 use Rattle.det_record_c.specs.Stage.{place_of}
 use Rattle.det_record_c.specs.Parts.{Written}
 
--- a profile and the frames of a run, and the bytes are their spelling
+-- the items are those of a profile and of the frames of a run, and the bytes are their spelling
 pub record IsWholeRecord (items : List Item) (bytes : List ℕ) : Type 0 where
   pub profile : ProfileValue
   pub frames : List Frame

@@ -1,4 +1,4 @@
-//! The profile and the frames that sound values stand for.
+//! The profile and the frames that C's values describe, once these are known to be in their ranges.
 ghost use Rattle.std.specs.Prelude.{◌≡◌, IfOk};
 ghost use Rattle.det_record_c.specs.Given.{header_of, init_of, input_of, finished_of, refused_of};
 ghost use Rattle.det_record_c.specs.Sound.{AreSoundSamples, AreSoundElements, IsSoundHeader};

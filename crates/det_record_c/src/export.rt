@@ -1,6 +1,10 @@
-//! What C calls. An answer is 0 for done, 1 for a part that may not come now, 2 for a value out of
-//! its range, 3 for too little room, 4 for want of memory; at any but 0 nothing is changed. A part
-//! that is done lies in the first `written` bytes of `out`.
+//! The exports. Each returns 0 if the part is written, and it is in the first `written` bytes of
+//! `out` then. It returns 1 if the part may not come now, and 2 if a value is out of its range. It
+//! returns 3 for too little room in `out`, and 4 for too little memory. If it isn't 0, nothing is
+//! changed.
+//!
+//! A part is checked as a whole, its place first, before memory is asked for. So a value out of
+//! range is reported whatever memory there is.
 ghost use Rattle.std.specs.Prelude.{◌≡◌, ◌≢◌, []};
 ghost use Rattle.record_grammar.specs.declared.item.Item.TheVariants as items;
 ghost use Rattle.det_values.specs.declared.frames.Frame.TheVariants as frames;
@@ -28,7 +32,7 @@ pub extern "C" fn det_record_new(state: &mut DetRecord)
     };
 }
 
-/// The header of a record in format 2.
+/// Writes the header of a record in format 2.
 #[unsafe(no_mangle)]
 pub extern "C" fn det_record_header(
     alloc: Global,
@@ -50,7 +54,7 @@ pub extern "C" fn det_record_header(
     answer(put_made(alloc, state, made, out, written))
 }
 
-/// The frame of Register.
+/// Writes the Register frame.
 #[unsafe(no_mangle)]
 pub extern "C" fn det_record_register(
     alloc: Global,
@@ -68,7 +72,7 @@ pub extern "C" fn det_record_register(
     answer(put_made(alloc, state, made, out, written))
 }
 
-/// The frame of ServiceDiscovery.
+/// Writes the Discover frame, that of ServiceDiscovery.
 #[unsafe(no_mangle)]
 pub extern "C" fn det_record_discover(
     alloc: Global,
@@ -86,7 +90,7 @@ pub extern "C" fn det_record_discover(
     answer(put_made(alloc, state, made, out, written))
 }
 
-/// The frame of Init, with the elements at first. Their draws are not looked at.
+/// Writes the Init frame with the initial elements. Their draws are ignored.
 #[unsafe(no_mangle)]
 pub extern "C" fn det_record_init(
     alloc: Global,
@@ -106,7 +110,7 @@ pub extern "C" fn det_record_init(
     answer(put_made(alloc, state, made, out, written))
 }
 
-/// The frame of a cycle that finished.
+/// Writes the Run frame of a cycle that finished.
 #[unsafe(no_mangle)]
 pub extern "C" fn det_record_finished(
     alloc: Global,
@@ -130,7 +134,7 @@ pub extern "C" fn det_record_finished(
     answer(put_made(alloc, state, made, out, written))
 }
 
-/// The frame of a cycle that was refused.
+/// Writes the Run frame of a cycle that was refused.
 #[unsafe(no_mangle)]
 pub extern "C" fn det_record_refused(
     alloc: Global,
@@ -152,7 +156,7 @@ pub extern "C" fn det_record_refused(
     answer(put_made(alloc, state, made, out, written))
 }
 
-/// The frame of Terminate, the last one.
+/// Writes the Terminate frame, the last one.
 #[unsafe(no_mangle)]
 pub extern "C" fn det_record_terminate(
     alloc: Global,

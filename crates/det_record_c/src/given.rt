@@ -1,4 +1,4 @@
-//! What C gives.
+//! The structs that C passes, and their values for a record.
 ghost use Rattle.std.specs.Prelude.{◌≡◌, ◌≤◌, ◌↔◌, length, IsTrue, IfSome, IfNone};
 ghost use Rattle.det_values.specs.Limits.{IsSampleValue};
 ghost use Rattle.record_grammar.specs.Grammar.{policy_of};
@@ -6,7 +6,7 @@ ghost use Rattle.record_grammar.specs.Spelling.{IsSample};
 
 use det_values::{EventName, EventSpec, Phase, Policy, RefusedAt, Sample};
 
-/// What a client and its job are made from, beside parameters and events.
+/// What a client and its job are made from, besides parameters and events.
 #[repr(C)]
 #[derive(Drop)]
 pub struct DetProfile {
@@ -16,8 +16,8 @@ pub struct DetProfile {
     pub job: u16,
 }
 
-/// An event by the first `len` bytes of its name. The policy is 0 for the last samples, 1 for fresh
-/// ones.
+/// An event. Its name is the first `len` bytes of `name`. The policy is 0 for the last samples and
+/// 1 for fresh ones.
 #[repr(C)]
 #[derive(Drop)]
 pub struct DetEvent {
@@ -27,7 +27,7 @@ pub struct DetEvent {
     pub policy: u8,
 }
 
-/// A sample of an event, whose number counts from 0.
+/// A sample of an event. Events are numbered from 0.
 #[repr(C)]
 #[derive(Drop)]
 pub struct DetSample {
@@ -35,7 +35,8 @@ pub struct DetSample {
     pub event: u16,
 }
 
-/// An element by its first `len` bytes, and how many words it drew.
+/// An element and the number of random numbers that it drew. Its bytes are the first `len` of
+/// `bytes`.
 #[repr(C)]
 #[derive(Drop)]
 pub struct DetElement {
@@ -52,7 +53,8 @@ pub struct DetTime {
     pub known: bool,
 }
 
-/// Where a cycle was refused: in the phase 0 for prepare, 1 for the pool, 2 for conclude.
+/// Where a cycle was refused, and the job's code. The phase is 0 for prepare, 1 for the pool and 2
+/// for conclude.
 #[repr(C)]
 #[derive(Drop)]
 pub struct DetRefusal {
@@ -75,7 +77,7 @@ impl DetEvent {
     ghost use Rattle.det_record_c.specs.Given.{event_of};
     ghost use Rattle.det_record_c.specs.Sound.{IsSoundEvent};
 
-    /// The event. None where it isn't sound.
+    /// The event. None if a field is out of its range.
     pub(crate) fn spec(&self) -> Option<EventSpec>
         ensures some { IfSome result (λ e. (e ≡ event_of self.now) × IsSoundEvent self.now) }
         ensures none { IfNone result (IsSoundEvent self.now → ⊥) }
@@ -95,7 +97,7 @@ impl DetEvent {
 impl DetSample {
     ghost use Rattle.det_record_c.specs.Given.{sample_of};
 
-    /// Whether it is a sample of one of the first so many events.
+    /// Whether the value is in its range and the event's number is below `events`.
     pub(crate) fn is_of(&self, events: u16) -> bool
         ensures { IsTrue result ↔ IsSample events (sample_of self.now) }
     {
@@ -116,7 +118,7 @@ impl DetSample {
 impl DetElement {
     ghost use Rattle.det_record_c.specs.Given.{bytes_of};
 
-    /// Its bytes.
+    /// The bytes that are used.
     pub(crate) fn used(&self) -> &[u8]
         requires { self.now.len ≤ 64 }
         ensures bytes { result.now ≡ bytes_of self.now }
@@ -140,7 +142,7 @@ impl DetRefusal {
     ghost use Rattle.det_record_c.specs.Given.{place_of_refusal};
     ghost use Rattle.det_record_c.specs.Sound.{IsSoundPlace};
 
-    /// The same place. None where it isn't sound.
+    /// The place and the code. None if the place is out of its range.
     pub(crate) fn place(&self) -> Option<RefusedAt>
         ensures some { IfSome result (λ at. (at ≡ place_of_refusal self.now)
             × IsSoundPlace self.now) }

@@ -1,7 +1,7 @@
-//! What a record is that was written to its end.
+//! The law of a record that was written to its end.
 ghost use Rattle.det_record_c.specs.Statements.{WholeRecord};
 
-/// A record that stands at its end is the spelling of a profile and of the frames of a run.
+/// A record whose place is the end is the spelling of a profile and of the frames of a run.
 pub fn whole_record()
     ensures { WholeRecord }
 {}

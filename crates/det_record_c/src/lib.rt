@@ -1,5 +1,5 @@
-//! A record for C, written part by part: each call puts the bytes of one part where C says, and
-//! tells where the record stands then. C holds all that is kept between two calls.
+//! A record for C, written part by part: each call puts the bytes of one part where C says. Between
+//! two calls only the record's place is kept, and C keeps it.
 #![tactic(auto)]
 
 mod build;

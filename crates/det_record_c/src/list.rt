@@ -1,4 +1,4 @@
-//! What C gives in lists, as the lists of a record.
+//! Lists that C passes, as the lists of a record.
 ghost use Rattle.std.specs.Prelude.{◌≡◌, ◌≤◌, map, length, IfOk};
 ghost use Rattle.std.specs.List.{All};
 ghost use Rattle.det_record_c.specs.Given.{sample_of, bytes_of, drawn_of, event_of};

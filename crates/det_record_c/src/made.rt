@@ -1,4 +1,5 @@
-//! The item of each part, or why there is none.
+//! The item of each part, or the cause why there is none. The place and the values are checked
+//! here, before an item is built.
 ghost use Rattle.det_record_c.specs.Given.{header_of, init_of, finished_of, refused_of};
 ghost use Rattle.det_record_c.specs.Sound.{AreSoundElements, IsSoundHeader, IsSoundFinish};
 ghost use Rattle.det_record_c.specs.Sound.{IsSoundRefusal};

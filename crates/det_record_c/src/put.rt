@@ -1,4 +1,4 @@
-//! Items written where C says.
+//! Writes items where C says.
 ghost use Rattle.std.specs.Prelude.{◌≡◌, ◌≤◌, ◌↔◌, ◌++◌, length, drop, IsTrue, IfOk};
 ghost use Rattle.std.specs.Bool.{OnTrue, OnFalse};
 ghost use Rattle.det_record_c.specs.Spelled.{spelling_of, HasFields};
@@ -11,7 +11,7 @@ use record_codec::{encode_frame, encode_header};
 use record_grammar::Item;
 use std::alloc::Global;
 
-/// The bytes of an item behind a header that names so many events.
+/// The bytes of an item, after a header with this number of events.
 fn spelled(alloc: Global, events: u16, item: &Item) -> Result<Vec<u8>, OutOfMemory>
     requires { CanBeSpelled events item.now }
     ensures bytes { IfOk result (λ bytes. bytes.items ≡ spelling_of item.now) }
@@ -25,7 +25,7 @@ fn spelled(alloc: Global, events: u16, item: &Item) -> Result<Vec<u8>, OutOfMemo
     Ok(bytes)
 }
 
-/// Gives bytes to C. False where they don't fit, and then nothing is changed.
+/// Copies bytes to C's room. If they don't fit, returns false and changes nothing.
 fn give(bytes: &[u8], out: &mut [u8], written: &mut usize) -> bool
     ensures fits { IsTrue result ↔ (length bytes.now ≤ length out.old) }
     ensures out { OnTrue result (out.new ≡ bytes.now ++ drop (length bytes.now) out.old) }
@@ -64,7 +64,7 @@ fn put(
     }
 }
 
-/// Writes an item, if it was made.
+/// Writes an item if there is one, or returns the cause why there is none.
 pub(crate) fn put_made(
     alloc: Global,
     state: &mut DetRecord,

@@ -1,4 +1,4 @@
-//! Whether what C gives is in its ranges.
+//! Checks that C's values are in their ranges.
 ghost use Rattle.std.specs.Prelude.{◌↔◌, IsTrue};
 ghost use Rattle.std.specs.List.{All};
 ghost use Rattle.det_record_c.specs.Sound.{AreSoundSamples, AreSoundElements, IsSoundEvent};

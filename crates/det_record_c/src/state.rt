@@ -1,13 +1,15 @@
-//! Where a record stands, which is all that is kept of it between two calls.
+//! The place of a record, which is all that is kept of it between two calls. It is a struct of
+//! eight bytes that C keeps, and not a handle. A handle that owns memory would need proofs by hand
+//! over raw pointers.
 ghost use Rattle.std.specs.Prelude.{◌≡◌};
 ghost use Rattle.record_grammar.specs.Places.{after};
 
 use det_values::{Format, Frame};
 use record_grammar::{Item, Layout, Place};
 
-/// The stage is 0 before the header, 1 before Register, 2 before Discover, 3 before Init, 4 before
-/// a cycle or Terminate, and else the end. Behind a header `events` is the number of its events,
-/// and in stage 4 `cycles` that of the cycles so far.
+/// The stage is 0 before the header, 1 before Register, 2 before Discover and 3 before Init. It is
+/// 4 before a cycle or Terminate, and any other number at the end. After a header `events` is its
+/// number of events. In stage 4 `cycles` is the number of cycles so far.
 #[repr(C)]
 #[derive(Drop)]
 pub struct DetRecord {
@@ -63,7 +65,7 @@ impl DetRecord {
         }
     }
 
-    /// Goes on behind an item.
+    /// Moves to the place after an item.
     pub(crate) fn step(&mut self, item: &Item)
         requires { MayBeWritten self.old item.now }
         ensures { place_of self.new ≡ after (place_of self.old) item.now }

@@ -4,11 +4,12 @@ use crate::state::DetRecord;
 use std::alloc::Global;
 use std::test::*;
 
-/// Header (version 2, job 7, seed 258, cycle time 10,000,000, the parameters 4 and -1, the event
-/// `x` with capacity 2 and policy fresh), Register, Discover, Init with the elements 10 11 and
-/// none; a cycle with the time 3 and the sample -2 of event 0, which finished with the same
-/// elements, that drew 5 and 256 words, and the output 9; a cycle without time or samples, refused
-/// by the pool in pass 1 at element 2 with the code 3; Terminate.
+/// A record, part by part. The header has version 2, job 7, seed 258, cycle time 10,000,000 and the
+/// parameters 4 and -1. Its event `x` has capacity 2 and policy fresh. Register and Discover come
+/// next. Init has two elements, the bytes 10 11 and no bytes. The first cycle has the time 3 and
+/// the sample -2 of event 0. It finished with the same elements, which drew 5 and 256 random
+/// numbers, and with the output 9. The second cycle has no time and no samples. It was refused by
+/// the pool in pass 1 at element 2 with the code 3. Terminate is the last part.
 static RECORD: [u8; 130] = [
     0x44, 0x45, 0x54, 0x52, 0x45, 0x43, 0, 2, 0, 7, 0, 0, 0, 0, 0, 0, 1, 2, 0, 0, 0, 0, 0, 0x98,
     0x96, 0x80, 0, 2, 0, 0, 0, 0, 0, 0, 0, 4, 0xff, 0xff, 0xff, 0xff, 0xff, 0xff, 0xff, 0xff, 0, 1,
@@ -45,7 +46,7 @@ fn elements() -> [DetElement; 2] {
     ]
 }
 
-/// The header's answer, with a cycle time and room for so many bytes.
+/// The result of writing a header with this cycle time into room for this many bytes.
 fn put_header(
     alloc: Global,
     state: &mut DetRecord,
@@ -104,7 +105,7 @@ fn put_refused(alloc: Global, state: &mut DetRecord, out: &mut [u8], written: &m
     det_record_refused(alloc, state, &time, &[], &refusal, out, written)
 }
 
-/// The bytes of a part that was done.
+/// The bytes of a part that was written.
 fn done(answer: u8, out: &[u8], written: usize) -> Result<&[u8], Fail> {
     if answer != 0 {
         return Err("refused".into());

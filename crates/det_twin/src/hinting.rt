@@ -1,4 +1,4 @@
-//! Lines behind the one line of an answer.
+//! Hints of `det_twin`, written after the answer's line.
 use crate::misfit::words_fault;
 use det_io::{DirShelf, Shelf, Sink};
 use hints_on_files::{Hint, events_of, manifest_hint, short_stimulus_hint};
@@ -7,7 +7,7 @@ use std::alloc::Global;
 use std::io::Error;
 use twin_cli::{TwinCommand, TwinStatus, Twins};
 
-/// Hints on words that are no twins.
+/// Writes the hints on arguments that are no twins.
 fn on_words<E: Sink>(rt: &HostRuntime, words: &[String], err: &mut E) {
     let help = Help {
         program: "det_twin",
@@ -16,7 +16,7 @@ fn on_words<E: Sink>(rt: &HostRuntime, words: &[String], err: &mut E) {
     tell_words(rt, rt.alloc(), words_fault(words), help, err);
 }
 
-/// What is wrong with a file of twins that ended with this status.
+/// What is wrong with the file for which twins ended with this status.
 fn file_hint<S: Shelf>(
     alloc: Global,
     twins: &Twins<'_>,
@@ -35,7 +35,7 @@ fn file_hint<S: Shelf>(
     }
 }
 
-/// Hints on the run of twins.
+/// Writes the hint on a file of twins that couldn't be read, or was refused.
 fn on_twins<E: Sink>(
     rt: &HostRuntime,
     twins: &Twins<'_>,
@@ -60,8 +60,10 @@ fn on_twins<E: Sink>(
     }
 }
 
-/// Tells what stands behind a status that a line was written for: why the words are no twins, what
-/// the system failed for, or what is wrong with a file, which is read once more.
+/// Writes the hints on a status whose line was written. They say why the arguments are no twins,
+/// why the system failed, or what is wrong with a file, which is read once more.
+///
+/// `unread` is the slot that failed, with its error, and `failed` the error of standard output.
 pub(crate) fn give_hints<E: Sink>(
     rt: &HostRuntime,
     words: &[String],

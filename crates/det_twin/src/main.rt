@@ -1,5 +1,5 @@
-//! The program `det_twin`: the real shelf, standard output and standard error, and `twin_top`;
-//! behind it hints.
+//! The program `det_twin`: `twin_top` over the real files, standard output and standard error.
+//! After it, hints are written.
 #![tactic(auto)]
 
 mod hinting;
@@ -13,8 +13,8 @@ use std::io::ErrorKind;
 use std::process::ExitCode;
 use twin_cli::{TwinAnswer, TwinStatus, twin_top};
 
-/// The words behind the program's name. A word that isn't UTF-8 makes no command, and neither does
-/// no word at all.
+/// The arguments after the program's name. They are empty, which is no command, if one of them
+/// isn't UTF-8.
 fn words_given(rt: &HostRuntime) -> Result<Vec<String>, AllocError> {
     let alloc = rt.alloc();
     match env::args(rt) {
@@ -24,7 +24,7 @@ fn words_given(rt: &HostRuntime) -> Result<Vec<String>, AllocError> {
     }
 }
 
-/// Tells that memory could not be had before the program began, as `twin_top` does.
+/// Reports that memory ran out before the program began, as `twin_top` does.
 fn no_memory<E: Sink>(err: &mut E) -> ExitCode {
     let line = TwinAnswer::OutOfMemory.line();
     let _ = write_all(err, line.as_slice());

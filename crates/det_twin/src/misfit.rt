@@ -1,15 +1,15 @@
-//! At which word the words of `det_twin` stop being twins.
+//! Finds the first argument of `det_twin` at which the arguments stop being twins.
 use cli_words::number_of;
 use hints_on_words::{Shown, WordKind, WordsFault, misplaced};
 
-/// What the words of twins are, before their options.
+/// The kinds of its arguments before the options.
 const KINDS: [WordKind; 3] = [
     WordKind::Copies("COPIES"),
     WordKind::Name("MANIFEST"),
     WordKind::Name("STIM"),
 ];
 
-/// What is told of the options so far, and how many words that took.
+/// The options that were read so far, and how many arguments were read.
 #[derive(Clone, Copy)]
 struct Told {
     words: usize,
@@ -17,7 +17,7 @@ struct Told {
     flip: bool,
 }
 
-/// A number at a place behind `--flip`.
+/// Checks a number after `--flip`, from 0 to `most`.
 fn flip_number<'a>(
     words: &'a [String],
     place: usize,
@@ -41,7 +41,7 @@ fn flip_number<'a>(
 }
 
 impl Told {
-    /// What is told with the next option.
+    /// Reads the next option. The options stay as they are if no argument is left.
     fn with_option<'a>(self, copies: u64, words: &'a [String]) -> Result<Told, WordsFault<'a>> {
         let place = self.words;
         let Some(word) = words.get(place) else {
@@ -75,7 +75,7 @@ impl Told {
     }
 }
 
-/// Why words are no twins.
+/// Why arguments are no twins. None if they are.
 pub(crate) fn words_fault(words: &[String]) -> Option<WordsFault<'_>> {
     let fault = misplaced(&KINDS, words);
     if fault.is_some() {

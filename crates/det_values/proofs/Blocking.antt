@@ -1,4 +1,4 @@
--- What the blocks of a container hold: the length, the block and the element at a number.
+-- The contents of a container's blocks: the length, the block and the element at an index.
 use Rattle.std.proofs.Common.{◌≡◌, ℕ, zero, suc, ◌+◌, ◌*◌, ◌/◌, ◌%◌, ◌<◌, ◌≤◌, List, [], ◌∷◌, ◌++◌, length, take, drop, get_or, slice_range}
 use Rattle.std.proofs.Common.{min, ◌-◌, refl}
 use Rattle.std.proofs.Common.{sym, ap, ◌∙◌, arith, length-append, length-drop}
@@ -26,7 +26,7 @@ module _ {E : Type 0} where
   pub in_blocks : (bs : List (List E)) (q : ℕ) → AreBlocks bs → 256 * q < length (joined bs) → q < length bs
   in_blocks bs q h lt = omega (arith, length-joined bs h)
 
-  -- block q is what stands there in the list
+  -- block q is that part of the list
   pub block_is : (bs : List (List E)) (q : ℕ) → AreBlocks bs → q < length bs → get_or bs q [] ≡ take 256 (drop (256 * q) (joined bs))
   block_is [] q h lt = absurd (omega arith)
   block_is (b ∷ []) zero h lt = sym (ap (take 256) (append-nil b) ∙ take_all 256 b (omega (arith, h.0)))
@@ -87,7 +87,7 @@ module _ {E : Type 0} where
       held_at vs (i / 256) v (omega (arith, k, length-map vs (λ (u : Vec E Z). u.items))) e in
       f ∙ ap (λ (ys : List E). get_or ys (i % 256) x) w ∙ element_is (held_by vs) i x h lt
 
-  -- what stands in a block from an index on
+  -- the items of a block from an index on
   pub part_is : (bs : List (List E)) (first most : ℕ) (block : List E) → AreBlocks bs → first < length (joined bs)
       → first % 256 + most ≤ 256 → block ≡ get_or bs (first / 256) []
       → slice_range block (first % 256) (min (length block) (first % 256 + most)) ≡ take most (drop first (joined bs))

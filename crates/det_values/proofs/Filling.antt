@@ -1,4 +1,4 @@
--- Two bytes of a number written over two others.
+-- The two bytes of a number overwrite two others.
 use Rattle.std.proofs.Common.{◌≡◌, ℕ, zero, suc, ◌+◌, ◌≤◌, List, [], ◌∷◌, ◌++◌, length, take, drop, get_or, set, refl, ap}
 use Rattle.std.proofs.Common.{◌∙◌, arith}
 use Rattle.std.specs.Int.{w16, to_be_bytes}

@@ -1,4 +1,4 @@
--- The elements that are read in the bytes of a `DrawnBlock` are those that were spelled there.
+-- Reading the bytes of a `DrawnBlock` returns the elements that were written there.
 use Rattle.std.proofs.Common.{◌≡◌, ℕ, zero, suc, ◌+◌, ◌<◌, ◌≤◌, List, [], ◌∷◌, ◌++◌, length, take, drop, refl, sym, ap, subst, ◌∙◌}
 use Rattle.std.proofs.Common.{append_assoc, arith, length-append}
 use Rattle.std.specs.List.{All}
@@ -28,7 +28,7 @@ drop_four : (n : ℕ) (rest : List ℕ) → drop 4 (spelled_u32 n ++ rest) ≡ r
 unfolding spelled_u32
 drop_four n rest = refl
 
--- the parts of a spelled element, in front of other bytes
+-- the parts of a spelled element, followed by other bytes
 pub parts : (e : DrawnElement) (rest : List ℕ) → spelled_drawn e ++ rest ≡ spelled_u16 (length e.bytes)
     ++ (e.bytes ++ (spelled_u32 e.draws ++ rest))
 unfolding spelled_drawn
@@ -62,7 +62,7 @@ first_is e rest h =
 pub behind_is : (e : DrawnElement) (rest : List ℕ) → IsDrawn e → behind_first (spelled_drawn e ++ rest) ≡ rest
 behind_is e rest h = ap (drop 4) (behind_bytes e rest h) ∙ drop_four e.draws rest
 
--- what was spelled is read again, whatever stands behind it
+-- an element that was written is read again, whatever follows it
 pub read_again : (es : List DrawnElement) (rest : List ℕ) → All IsDrawn es → elements_in (length es) (spelled_all es ++ rest) ≡ es
 unfolding elements_in
 read_again [] rest h = refl

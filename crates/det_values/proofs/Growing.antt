@@ -1,4 +1,4 @@
--- Elements added behind the blocks of a container.
+-- Elements added after the blocks of a container.
 use Rattle.std.proofs.Common.{◌≡◌, ℕ, zero, suc, ◌+◌, ◌-◌, ◌*◌, ◌%◌, ◌<◌, ◌≤◌, List, [], ◌∷◌, ◌++◌, length, get_or, set, sym, ap, subst}
 use Rattle.std.proofs.Common.{◌∙◌}
 use Rattle.std.proofs.Common.{arith, length-append, append_assoc}
@@ -9,7 +9,7 @@ use Rattle.det_values.specs.Blocks.{joined, IsBlock, AreBlocks, HasRoom, AreFull
 use Rattle.det_values.proofs.Blocking.{held_at, length-by_last}
 
 module _ {E : Type 0} where
-  -- the blocks with these elements behind them
+  -- the blocks with these elements after them
   pub record Behind (bs new : List (List E)) (es : List E) : Type 0 where
     pub blocks : AreBlocks new
     pub elements : joined new ≡ joined bs ++ es
@@ -37,7 +37,7 @@ module _ {E : Type 0} where
       in_front (d ∷ ds) zero x h = h
       in_front (d ∷ ds) (suc j) x h = h
 
-  -- a new block behind full ones
+  -- a new block after full ones
   pub behind_full : (bs : List (List E)) (es : List E) → AreFull bs → 0 < length es → length es ≤ 256 → Behind bs (bs ++ es ∷ []) es
   behind_full [] es h some few = record { blocks = ((some, few), tt); elements = append-nil es }
   behind_full (c ∷ bs) es h some few =
@@ -51,7 +51,7 @@ module _ {E : Type 0} where
       in_front [] f = f
       in_front (d ∷ ds) f = f
 
-  -- where the last block is full, all are
+  -- if the last block is full, all are
   pub all_full : (bs : List (List E)) (k : ℕ) → suc k ≡ length bs → AreBlocks bs → 256 ≤ length (get_or bs k []) → AreFull bs
   all_full [] k l h le = tt
   all_full (b ∷ []) zero l h le = (omega (arith, h.0, le), tt)

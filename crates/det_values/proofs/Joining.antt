@@ -34,7 +34,7 @@ module _ {E : Type 0} where
   within (c ∷ bs) zero b lt e = omega (arith, ap length e, length-append c (joined bs))
   within (c ∷ bs) (suc k) b lt e = omega (arith, length-append c (joined bs), within bs k b (omega arith) e)
 
-  -- one block more, and how many elements there are then
+  -- one block more, and the number of elements with it
   pub counted_behind : (new bs : List (List E)) (b : List E) (n m : ℕ) → new ≡ bs ++ b ∷ [] → n ≡ length (joined bs) → m ≡ length b
       → n + m ≡ length (joined new)
   counted_behind new bs b n m is c d =

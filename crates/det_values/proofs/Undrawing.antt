@@ -1,4 +1,4 @@
--- The draws of all elements made 0 where they are spelled.
+-- The draws of all elements are set to 0 in their bytes.
 use Rattle.std.proofs.Common.{◌≡◌, ℕ, zero, suc, ◌+◌, ◌-◌, ◌<◌, ◌≤◌, List, [], ◌∷◌, ◌++◌, length, take, drop, set, refl, sym, ap, ◌∙◌}
 use Rattle.std.proofs.Common.{append_assoc, arith, length-append, length-drop, lit<}
 use Rattle.std.specs.List.{All}
@@ -26,7 +26,7 @@ four_set (a ∷ b ∷ c ∷ d ∷ xs) (suc at) h =
     let n : suc at + 4 ≡ suc (at + 4) = omega arith in
     rw (k, l, m, n) (ap (λ (ys : List ℕ). a ∷ ys) (four_set (b ∷ c ∷ d ∷ xs) at (omega arith)))
 
--- the first elements are undrawn, the others as they were
+-- the first elements have no draws, the others are unchanged
 pub record Undrawing (es : List DrawnElement) (i at : ℕ) (bytes : List ℕ) : Type 0 where
   pub before : List DrawnElement
   pub after : List DrawnElement

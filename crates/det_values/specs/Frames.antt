@@ -1,4 +1,4 @@
--- What the formats of a record keep of a frame.
+-- The part of a frame that each format of a record keeps.
 use Rattle.std.specs.Prelude.{List, map}
 use Rattle.det_values.specs.declared.format.Format.{Format}
 use Rattle.det_values.specs.declared.format.Format.TheVariants.{One, Two}
@@ -9,14 +9,14 @@ use Rattle.det_values.specs.declared.frames.Frame.{Frame}
 use Rattle.det_values.specs.declared.frames.Frame.TheVariants.{Register, Discover, Init, Run}
 use Rattle.det_values.specs.declared.frames.Frame.TheVariants.{Terminate}
 
--- an element as if it had drawn nothing
+-- an element with its draws set to 0
 abbrev pub undrawn : DrawnElement → DrawnElement
 undrawn e = record { bytes = e.bytes; draws = 0 }
 
 abbrev pub all_undrawn : List DrawnElement → List DrawnElement
 all_undrawn es = map undrawn es
 
--- format One knows no draws, so all of them are 0 in it; format Two keeps them
+-- format One has no draws, so all of them are 0; format Two keeps them
 abbrev pub outcome_in_format : Format → Outcome → Outcome
 outcome_in_format One (Finished elements output) = Finished (all_undrawn elements) output
 outcome_in_format One (Refused at) = Refused at

@@ -25,7 +25,7 @@ IsCycleTime t = (1 ≤ t) × (t < 2 ^ 63)
 abbrev pub may_stand_in_name : ℕ → Bool
 may_stand_in_name b = ((nat_le 97 b && nat_le b 122) || (nat_le 48 b && nat_le b 57)) || b == 95
 
--- 1 to 32 such bytes
+-- 1 to 32 bytes that a name may have
 abbrev pub is_event_name : List ℕ → Bool
 is_event_name bytes = (nat_le 1 (length bytes) && nat_le (length bytes) 32)
     && list_all may_stand_in_name bytes
@@ -36,7 +36,7 @@ IsPlace phases.Prepare pass element = (pass ≤ 0) × (element ≤ 0)
 IsPlace phases.Pool pass element = (pass < 8) × (element < 65536)
 IsPlace phases.Conclude pass element = (pass ≤ 0) × (element ≤ 0)
 
--- format One knows the policy Last alone
+-- format One has only the policy Last
 abbrev pub KnowsPolicies : Format → List EventSpecValue → Type 0
 KnowsPolicies formats.One events = All (λ e. e.policy ≡ policies.Last) events
 KnowsPolicies formats.Two events = Unit {0}

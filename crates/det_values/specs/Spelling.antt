@@ -1,4 +1,4 @@
--- The record's spelling of elements with their draws, and the elements that stand in bytes.
+-- The bytes of elements with their draws in a record, and the elements that bytes spell.
 use Rattle.std.specs.Prelude.{◌≡◌, ℕ, zero, suc, ◌^◌, ◌<◌, ◌≤◌, List, [], ◌∷◌, ◌++◌, length, take}
 use Rattle.std.specs.Prelude.{drop}
 use Rattle.std.specs.List.{flat_map, All}
@@ -14,7 +14,7 @@ spelled_u16 n = to_be_bytes w16 n
 unfoldable pub spelled_u32 : ℕ → List ℕ
 spelled_u32 n = to_be_bytes w32 n
 
--- these bytes and draws
+-- an element with these bytes and draws
 abbrev pub an_element : List ℕ → ℕ → DrawnElement
 an_element bytes draws = record { bytes = bytes; draws = draws }
 
@@ -28,7 +28,7 @@ pub record IsDrawn (e : DrawnElement) : Type 0 where
   pub bytes : AreBytes e.bytes
   pub draws : e.draws < 2 ^ 32
 
--- elements one behind another
+-- the bytes of elements in order
 abbrev pub spelled_all : List DrawnElement → List ℕ
 spelled_all es = flat_map spelled_drawn es
 
@@ -43,27 +43,27 @@ abbrev pub first_of : List ℕ → DrawnElement
 first_of bytes = an_element (take (first_length bytes) (drop 2 bytes))
     (from_be_bytes w32 (take 4 (drop (first_length bytes) (drop 2 bytes))))
 
--- what stands behind the first element
+-- the bytes after the first element
 abbrev pub behind_first : List ℕ → List ℕ
 behind_first bytes = drop 4 (drop (first_length bytes) (drop 2 bytes))
 
--- so many elements, read one after another from the front of the bytes
+-- the first n elements that the bytes spell, read in order
 unfoldable pub elements_in : ℕ → List ℕ → List DrawnElement
 elements_in zero bytes = []
 elements_in (suc n) bytes = first_of bytes ∷ elements_in n (behind_first bytes)
 
--- the bytes are the spelling of so many elements
+-- the bytes spell exactly `count` elements
 pub record IsFlat (count : ℕ) (bytes : List ℕ) : Type 0 where
   pub spelling : bytes ≡ spelled_all (elements_in count bytes)
   pub fields : All IsDrawn (elements_in count bytes)
   pub few : count ≤ 65536
 
--- bytes are only added at the end
+-- the new bytes begin with the old ones
 pub record Grows (old new : List ℕ) : Type 0 where
   pub added : List ℕ
   pub is : new ≡ old ++ added
 
--- the bytes are an element's, and others behind them
+-- the bytes begin with an element, and `rest` follows
 pub record BeginsWith (e : DrawnElement) (rest bytes : List ℕ) : Type 0 where
   pub fields : IsDrawn e
   pub spelling : bytes ≡ spelled_drawn e ++ rest
@@ -72,12 +72,12 @@ pub record BeginsWith (e : DrawnElement) (rest bytes : List ℕ) : Type 0 where
 abbrev pub BeginsWithNone : List ℕ → Type 0
 BeginsWithNone bytes = (e : DrawnElement) (rest : List ℕ) → BeginsWith e rest bytes → ⊥
 
--- an element stands in the bytes from the first index up to the second
+-- the bytes from the first index up to the second spell an element
 pub record FirstAt (bytes : List ℕ) (at end : ℕ) : Type 0 where
   pub element : DrawnElement
   pub begins : BeginsWith element (drop end bytes) (drop at bytes)
   pub within : end ≤ length bytes
 
--- no element stands in the bytes from this index on
+-- no element begins at this index
 abbrev pub NoneAt : List ℕ → ℕ → Type 0
 NoneAt bytes at = BeginsWithNone (drop at bytes)

@@ -1,4 +1,6 @@
--- What contracts see of the values that have ranges of their own: their fields, without the ranges.
+-- What contracts see of types that keep ranges: the fields, without the ranges. In code the ranges
+-- are invariants of the types, so no value out of range can be made. Here the values are plain
+-- records, which definitions build without proofs.
 use Rattle.std.specs.Prelude.{ℕ, ℤ, List, codes}
 use Rattle.det_values.specs.declared.format.Format.{Format}
 use Rattle.det_values.specs.declared.event.Policy.{Policy}
@@ -28,7 +30,7 @@ pub record ProfileValue : Type 0 where
   pub params : List ℤ
   pub events : List EventSpecValue
 
--- a phase as texts name it
+-- a phase's name in texts
 abbrev pub phase_word : Phase → List ℕ
 phase_word Prepare = codes "prepare"
 phase_word Pool = codes "pool"

@@ -1,11 +1,11 @@
-//! The elements of a finished cycle, one after another.
+//! The walk over one `DrawnBlock`, which reads elements from its bytes.
 ghost use Rattle.std.specs.Prelude.{◌≡◌, ◌≤◌, ◌∷◌, [], length, IfSome, IfNone};
 ghost use Rattle.det_values.specs.Spelling.{an_element};
 
 use crate::first::first_in;
 use std::marker::Model;
 
-/// The elements of a `DrawnBlock` that were not taken yet.
+/// The elements of a `DrawnBlock` that remain.
 #[derive(Drop)]
 pub struct BlockWalk<'a> {
     pub(crate) rest: &'a [u8],

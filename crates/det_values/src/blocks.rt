@@ -1,4 +1,4 @@
-//! Items added to the blocks of a container.
+//! The steps that add elements to the blocks of a `Container`, on the plain list of blocks.
 ghost use Rattle.std.specs.Prelude.{◌≡◌, ◌+◌, ◌≤◌, ◌%◌, ◌++◌, ◌∷◌, [], length, OnOk, OnErr};
 ghost use Rattle.std.specs.Bool.{OnTrue, OnFalse};
 ghost use Rattle.det_values.specs.Blocks.{joined, AreBlocks, HasRoom, AreFull, held_by};
@@ -6,7 +6,7 @@ ghost use Rattle.det_values.specs.Blocks.{joined, AreBlocks, HasRoom, AreFull, h
 use crate::{OutOfMemory, Spares};
 use std::alloc::Global;
 
-/// Whether an item was added. A refused one is dropped.
+/// Adds an item, and returns whether there was memory for it. Otherwise the item is dropped.
 pub(crate) fn pushed<T: Drop>(items: &mut Vec<T>, item: T) -> bool
     ensures yes { OnTrue result (items.new.items ≡ items.old.items ++ item ∷ []) }
     ensures no { OnFalse result (items.new.items ≡ items.old.items) }
@@ -30,7 +30,7 @@ pub(crate) fn has_room<E>(blocks: &Vec<Vec<E>>) -> bool
     false
 }
 
-/// Adds an element to the last block. A refused call drops it and changes nothing.
+/// Adds an element to the last block. A call that fails drops it and changes nothing.
 pub(crate) fn add_to_last<E: Drop>(blocks: &mut Vec<Vec<E>>, item: E) -> Result<(), OutOfMemory>
     requires blocks { AreBlocks (held_by blocks.old.items) }
     requires room { HasRoom (held_by blocks.old.items) }
@@ -48,7 +48,7 @@ pub(crate) fn add_to_last<E: Drop>(blocks: &mut Vec<Vec<E>>, item: E) -> Result<
     Err(OutOfMemory)
 }
 
-/// Adds a block of one element. A refused call drops it and changes nothing.
+/// Adds a block of one element. A call that fails drops it and changes nothing.
 pub(crate) fn add_block<E: Drop>(
     blocks: &mut Vec<Vec<E>>,
     alloc: Global,
@@ -72,8 +72,8 @@ pub(crate) fn add_block<E: Drop>(
     Err(OutOfMemory)
 }
 
-/// Moves elements to the end of the last block, and leaves their list to the spares. A refused call
-/// drops them and changes nothing.
+/// Moves elements to the end of the last block, and gives their empty list to `spares`. A call that
+/// fails drops them and changes nothing.
 pub(crate) fn append_to_last<E: Drop>(
     blocks: &mut Vec<Vec<E>>,
     mut more: Vec<E>,

@@ -1,11 +1,11 @@
-//! At most 64 bytes, held in place.
+//! At most 64 bytes, held in place: the bytes of one element without an allocation.
 ghost use Rattle.std.specs.Prelude.{◌≡◌, ◌<◌, ◌≤◌, length, take, slice_index_or};
 ghost use Rattle.std.specs.Cmp.Lexicographic.{pointwise};
 
 use std::alloc::AllocError;
 use std::marker::Model;
 
-/// The bytes of one element, at most 64. They take no memory beyond their place.
+/// The bytes of one element, at most 64. The array is part of the value, so a copy can't fail.
 #[derive(Debug, Drop)]
 pub struct Bytes64 {
     bytes: [u8; 64],
@@ -23,7 +23,7 @@ impl Model for Bytes64 {
 }
 
 impl Bytes64 {
-    /// These bytes.
+    /// A value with a copy of these bytes.
     pub fn of(bytes: &[u8]) -> Bytes64
         requires { length bytes.now ≤ 64 }
         ensures { result ≡ bytes.now }

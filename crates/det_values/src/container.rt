@@ -1,4 +1,4 @@
-//! A list in blocks that are moved and never copied.
+//! The list of elements, held in blocks, so that a pool can move a finished block and copies none.
 ghost use Rattle.std.specs.Prelude.{◌≡◌, ℕ, ◌≤◌, ◌<◌, ◌+◌, ◌*◌, ◌%◌, ◌++◌, ◌∷◌, [], length, take};
 ghost use Rattle.std.specs.Prelude.{drop};
 ghost use Rattle.std.specs.Prelude.{slice_index_or, OnOk, OnErr, IfOk, IsTrue, ◌↔◌};
@@ -9,8 +9,9 @@ use crate::{OutOfMemory, Spares};
 use std::alloc::Global;
 use std::marker::Model;
 
-/// The elements of a job, or one value for each of them: at most 65,536, in blocks of 256, of which
-/// the last one may be shorter. A worker of a pass runs one of these blocks or a quarter of one.
+/// The elements of a job, or one value for each of them: at most 65,536, in blocks of 256. The last
+/// block may be shorter. A worker of a pass runs one such block or a quarter of one. Larger blocks
+/// mean fewer claims. Quarters leave work for all workers if there are few elements.
 #[derive(Debug, Drop)]
 pub struct Container<E> {
     blocks: Vec<Vec<E>>,
@@ -29,7 +30,7 @@ impl<E> Model for Container<E> {
 }
 
 impl<E> Container<E> {
-    /// No elements. It takes no memory.
+    /// An empty container. It allocates nothing.
     pub fn new(alloc: Global) -> Container<E>
         ensures { result ≡ [] }
     {
@@ -38,7 +39,8 @@ impl<E> Container<E> {
         }
     }
 
-    /// No elements, and room for the blocks of so many.
+    /// An empty container with room for the list of blocks of `elements` elements. The blocks
+    /// themselves are allocated later.
     pub fn with_room(alloc: Global, elements: usize) -> Result<Container<E>, OutOfMemory>
         requires { elements ≤ 65536 }
         ensures { IfOk result (λ container. container ≡ []) }
@@ -48,7 +50,7 @@ impl<E> Container<E> {
         })
     }
 
-    /// No elements, in the memory of a list that has no blocks.
+    /// An empty container that reuses the memory of an empty list of blocks.
     pub(crate) fn of_no_blocks(blocks: Vec<Vec<E>>) -> Container<E>
         requires { blocks.items ≡ [] }
         ensures { result ≡ [] }
@@ -56,7 +58,7 @@ impl<E> Container<E> {
         Container { blocks }
     }
 
-    /// The blocks, for their memory.
+    /// The blocks, for reuse of their memory.
     pub(crate) fn into_blocks(self) -> Vec<Vec<E>>
     where
         E: Drop,
@@ -92,7 +94,7 @@ impl<E> Container<E> {
         &self.blocks[index / 256][index % 256]
     }
 
-    /// The elements of block `number`, 256 or those that are left.
+    /// The elements of block `number`, counted from 0: 256, or fewer in the last block.
     pub fn block(&self, number: usize) -> &[E]
         requires { 256 * number < length self.now }
         ensures { result.now ≡ take 256 (drop (256 * number) self.now) }
@@ -100,7 +102,7 @@ impl<E> Container<E> {
         self.blocks[number].as_slice()
     }
 
-    /// The elements from an index on, so many or those that are left. They stand in one block.
+    /// The elements from index `first` on, at most `most` of them, all in one block.
     pub fn part(&self, first: usize, most: usize) -> &[E]
         requires inside { first < length self.now }
         requires together { first % 256 + most ≤ 256 }
@@ -119,7 +121,7 @@ impl<E> Container<E> {
         self.blocks.len()
     }
 
-    /// Adds an element at the end. A refused call drops it and changes nothing.
+    /// Adds an element at the end. A call that fails drops it and changes nothing.
     pub fn push(&mut self, alloc: Global, item: E) -> Result<(), OutOfMemory>
     where
         E: Drop,
@@ -134,8 +136,8 @@ impl<E> Container<E> {
         }
     }
 
-    /// Moves these elements to the end, into one block of 256. Where they stand behind others in it
-    /// their list is left to the spares. A refused call drops them and changes nothing.
+    /// Moves these elements to the end, into one block of 256. If they join others in that block,
+    /// `spares` gets their list. A call that fails drops them and changes nothing.
     pub fn push_block(&mut self, block: Vec<E>, spares: &mut Spares<E>) -> Result<(), OutOfMemory>
     where
         E: Drop,

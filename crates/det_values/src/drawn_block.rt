@@ -1,4 +1,4 @@
-//! A block of the elements of a finished cycle.
+//! A block of the elements of a finished cycle, already in the bytes of a record.
 ghost use Rattle.std.specs.Prelude.{◌≡◌, ◌≤◌, ◌<◌, ◌+◌, List, ◌++◌, ◌∷◌, [], length, OnOk, OnErr};
 ghost use Rattle.std.specs.Prelude.{IsTrue, ◌↔◌};
 ghost use Rattle.std.specs.List.{All};
@@ -12,11 +12,10 @@ use crate::undraw::undraw_all;
 use std::alloc::Global;
 use std::marker::Model;
 
-/// The bytes and draws of some elements of a finished cycle, one behind another: at most 65,536
-/// elements of at most 64 bytes each.
+/// The bytes and draws of consecutive elements of a finished cycle: at most 65,536 elements of at
+/// most 64 bytes each.
 ///
-/// They are held as format Two of a record spells them, so that a frame is encoded by a copy for
-/// each block.
+/// The block holds the bytes that format Two writes, so encoding a frame copies each block once.
 #[derive(Debug, Drop)]
 pub struct DrawnBlock {
     bytes: Vec<u8>,
@@ -38,7 +37,7 @@ impl Model for DrawnBlock {
 impl DrawnBlock {
     ghost use Rattle.det_values.specs.Frames.{all_undrawn};
 
-    /// No elements. It takes no memory.
+    /// An empty block. It allocates nothing.
     pub fn new(alloc: Global) -> DrawnBlock
         ensures { result ≡ [] }
     {
@@ -48,7 +47,7 @@ impl DrawnBlock {
         }
     }
 
-    /// No elements, in the memory of some bytes.
+    /// An empty block that reuses the memory of `bytes`.
     pub fn in_memory(mut bytes: Vec<u8>) -> DrawnBlock
         ensures { result ≡ [] }
     {
@@ -71,7 +70,7 @@ impl DrawnBlock {
         self.len() == 0
     }
 
-    /// The elements as the record spells them.
+    /// The elements as bytes of a format Two record.
     pub fn spelled(&self) -> &[u8]
         ensures bytes { result.now ≡ spelled_all self.now }
         ensures fields { All IsDrawn self.now }
@@ -79,7 +78,7 @@ impl DrawnBlock {
         self.bytes.as_slice()
     }
 
-    /// Adds an element at the end. A refused call changes nothing.
+    /// Adds an element at the end. A call that fails changes nothing.
     pub fn push(&mut self, bytes: &[u8], draws: u32) -> Result<(), OutOfMemory>
         requires room { length self.old < 65536 }
         requires short { length bytes.now ≤ 64 }
@@ -103,8 +102,8 @@ impl DrawnBlock {
         self.count = 0;
     }
 
-    /// Adds so many elements that are spelled already, one behind another, by one copy. A refused
-    /// call changes nothing.
+    /// Adds `count` elements, given as bytes of a record, by one copy. A call that fails changes
+    /// nothing.
     pub fn extend_spelled(&mut self, spelled: &[u8], count: u32) -> Result<(), OutOfMemory>
         requires room { length self.old + count ≤ 65536 }
         requires spelled { (es : List DrawnElement) × (spelled.now ≡ spelled_all es)
@@ -122,7 +121,7 @@ impl DrawnBlock {
         }
     }
 
-    /// So many elements that were spelled one behind another. The bytes are moved and not copied.
+    /// A block of `count` elements, given as bytes of a record. The bytes are moved, not copied.
     pub fn from_spelled(bytes: Vec<u8>, count: u32) -> DrawnBlock
         requires few { count ≤ 65536 }
         requires spelled { (es : List DrawnElement) × (bytes.items ≡ spelled_all es)
@@ -133,20 +132,20 @@ impl DrawnBlock {
         DrawnBlock { bytes, count }
     }
 
-    /// The bytes, for their memory.
+    /// The bytes, for reuse of their memory.
     pub fn into_bytes(self) -> Vec<u8> {
         let DrawnBlock { bytes, .. } = self;
         bytes
     }
 
-    /// Makes all draws 0.
+    /// Sets all draws to 0.
     pub fn undraw(&mut self)
         ensures { self.new ≡ all_undrawn self.old }
     {
         undraw_all(self.bytes.as_mut_slice(), self.count);
     }
 
-    /// The elements, to be taken one after another.
+    /// A walk over the elements in order.
     pub fn walk(&self) -> BlockWalk<'_>
         ensures { result ≡ self.now }
     {

@@ -1,4 +1,4 @@
-//! Elements added to the blocks of a finished cycle, and their blocks changed and compared.
+//! The steps of `DrawnElements` on its plain list of blocks: adding, clearing and comparing.
 ghost use Rattle.std.specs.Prelude.{◌≡◌, ◌≤◌, ◌<◌, ◌+◌, List, ◌++◌, ◌∷◌, [], length, OnOk, OnErr};
 ghost use Rattle.std.specs.List.{All};
 ghost use Rattle.std.specs.Cmp.Lexicographic.{pointwise};
@@ -14,7 +14,7 @@ use crate::drawn_block::DrawnBlock;
 use crate::walk::Walk;
 use std::alloc::Global;
 
-/// Adds a block at the end. A refused call drops it and changes nothing.
+/// Adds a block at the end. A call that fails drops it and changes nothing.
 pub(crate) fn add_block(blocks: &mut Vec<DrawnBlock>, block: DrawnBlock) -> Result<(), OutOfMemory>
     ensures ok { OnOk result (blocks.new.items ≡ blocks.old.items ++ block ∷ []) }
     ensures err { OnErr result (blocks.new.items ≡ blocks.old.items) }
@@ -25,7 +25,7 @@ pub(crate) fn add_block(blocks: &mut Vec<DrawnBlock>, block: DrawnBlock) -> Resu
     }
 }
 
-/// Adds an empty block where there is none.
+/// Adds an empty block if there is no block.
 pub(crate) fn begin(blocks: &mut Vec<DrawnBlock>, alloc: Global) -> Result<(), OutOfMemory>
     ensures same { joined blocks.new.items ≡ joined blocks.old.items }
     ensures some { OnOk result (0 < length blocks.new.items) }
@@ -36,7 +36,7 @@ pub(crate) fn begin(blocks: &mut Vec<DrawnBlock>, alloc: Global) -> Result<(), O
     add_block(blocks, DrawnBlock::new(alloc))
 }
 
-/// Adds an element to the last block. A refused call changes nothing.
+/// Adds an element to the last block. A call that fails changes nothing.
 pub(crate) fn push_last(
     blocks: &mut Vec<DrawnBlock>,
     bytes: &[u8],
@@ -53,7 +53,8 @@ pub(crate) fn push_last(
     blocks[last].push(bytes, draws)
 }
 
-/// Adds so many spelled elements to the last block. A refused call changes nothing.
+/// Adds `count` elements, given as bytes of a record, to the last block. A call that fails changes
+/// nothing.
 pub(crate) fn extend_last(
     blocks: &mut Vec<DrawnBlock>,
     spelled: &[u8],
@@ -82,7 +83,7 @@ pub(crate) fn clear_blocks(blocks: &mut Vec<DrawnBlock>)
     }
 }
 
-/// Makes all draws 0.
+/// Sets all draws to 0.
 pub(crate) fn undraw_blocks(blocks: &mut [DrawnBlock])
     ensures { joined blocks.new ≡ all_undrawn (joined blocks.old) }
 {
@@ -91,7 +92,7 @@ pub(crate) fn undraw_blocks(blocks: &mut [DrawnBlock])
     }
 }
 
-/// The elements of blocks, to be taken one after another.
+/// A walk over the elements of all blocks in order.
 pub(crate) fn walk_over(blocks: &[DrawnBlock]) -> Walk<'_>
     ensures { result ≡ joined blocks.now }
 {
@@ -101,7 +102,7 @@ pub(crate) fn walk_over(blocks: &[DrawnBlock]) -> Walk<'_>
     }
 }
 
-/// Whether two walks have equal elements before them.
+/// Whether the remaining elements of two walks are equal. The blocks may be cut differently.
 pub(crate) fn are_equal(left: Walk<'_>, right: Walk<'_>) -> bool
     ensures { result ≡ pointwise drawn_eq left.entry right.entry }
 {

@@ -1,4 +1,4 @@
-//! The elements of a finished cycle.
+//! The elements of a finished cycle, in the blocks that the workers wrote.
 ghost use Rattle.std.specs.Prelude.{◌≡◌, ◌≤◌, ◌<◌, ◌+◌, List, ◌++◌, ◌∷◌, [], length, OnOk, OnErr};
 ghost use Rattle.std.specs.List.{All};
 ghost use Rattle.det_values.specs.Blocks.{joined};
@@ -15,7 +15,7 @@ use std::alloc::Global;
 use std::marker::Model;
 
 /// The bytes and draws of each element of a finished cycle: at most 65,536 elements of at most 64
-/// bytes each, in blocks that are moved and never copied.
+/// bytes each. They are in blocks, which are moved and never copied.
 #[derive(Debug, Drop)]
 pub struct DrawnElements {
     alloc: Global,
@@ -38,7 +38,7 @@ impl Model for DrawnElements {
 impl DrawnElements {
     ghost use Rattle.det_values.specs.Frames.{all_undrawn};
 
-    /// No elements. It takes no memory.
+    /// An empty list. It allocates nothing.
     pub fn new(alloc: Global) -> DrawnElements
         ensures { result ≡ [] }
     {
@@ -49,7 +49,7 @@ impl DrawnElements {
         }
     }
 
-    /// No elements, in the memory of a list of blocks.
+    /// An empty list that reuses the memory of a list of blocks.
     pub fn in_memory(alloc: Global, mut blocks: Vec<DrawnBlock>) -> DrawnElements
         ensures { result ≡ [] }
     {
@@ -69,15 +69,15 @@ impl DrawnElements {
         self.count as usize
     }
 
-    /// The blocks, of which some may be empty.
+    /// The blocks. Some may be empty.
     pub fn blocks(&self) -> &[DrawnBlock]
         ensures { joined result.now ≡ self.now }
     {
         self.blocks.as_slice()
     }
 
-    /// Adds an element to the last block, or begins a block with it. A refused call changes
-    /// nothing.
+    /// Adds an element to the last block, or to a new one if there is none. A call that fails
+    /// changes nothing.
     pub fn push(&mut self, bytes: &[u8], draws: u32) -> Result<(), OutOfMemory>
         requires room { length self.old < 65536 }
         requires short { length bytes.now ≤ 64 }
@@ -90,7 +90,7 @@ impl DrawnElements {
         Ok(())
     }
 
-    /// Moves a block to the end. A refused call drops it and changes nothing.
+    /// Moves a block to the end. A call that fails drops it and changes nothing.
     pub fn push_block(&mut self, block: DrawnBlock) -> Result<(), OutOfMemory>
         requires { length self.old + length block ≤ 65536 }
         ensures ok { OnOk result (self.new ≡ self.old ++ block) }
@@ -102,7 +102,7 @@ impl DrawnElements {
         Ok(())
     }
 
-    /// The blocks, for their memory.
+    /// The blocks, for reuse of their memory.
     pub fn into_blocks(self) -> Vec<DrawnBlock> {
         let DrawnElements { blocks, .. } = self;
         blocks
@@ -116,8 +116,8 @@ impl DrawnElements {
         self.count = 0;
     }
 
-    /// Adds so many elements that are spelled already, one behind another, by one copy to the last
-    /// block. A refused call changes nothing.
+    /// Adds `count` elements, given as bytes of a record, by one copy to the last block. A call
+    /// that fails changes nothing.
     pub fn extend_spelled(&mut self, spelled: &[u8], count: u32) -> Result<(), OutOfMemory>
         requires room { length self.old + count ≤ 65536 }
         requires spelled { (es : List DrawnElement) × (spelled.now ≡ spelled_all es)
@@ -132,14 +132,14 @@ impl DrawnElements {
         Ok(())
     }
 
-    /// Makes all draws 0.
+    /// Sets all draws to 0.
     pub fn undraw(&mut self)
         ensures { self.new ≡ all_undrawn self.old }
     {
         undraw_blocks(self.blocks.as_mut_slice());
     }
 
-    /// The elements, to be taken one after another.
+    /// A walk over the elements in order.
     pub fn walk(&self) -> Walk<'_>
         ensures { result ≡ self.now }
     {

@@ -1,17 +1,17 @@
-//! The events that a profile names.
+//! The events that a profile lists, and their window policies.
 use crate::EventName;
 use std::alloc::AllocError;
 use std::marker::Model;
 
-/// Which samples a cycle's window of an event holds: the last ones of all earlier cycles, or those
-/// of the cycle just before.
+/// Which samples of an event a cycle sees: `Last` keeps the last ones of all earlier cycles,
+/// `Fresh` only those of the cycle before.
 #[derive(Clone, Copy, Debug, PartialEq, Eq, Drop)]
 pub enum Policy {
     Last,
     Fresh,
 }
 
-/// An event that a client listens to. The capacity of its window is 1 to 1,024 samples.
+/// An event that a client reads. Its window holds at most `capacity` samples, 1 to 1,024.
 #[derive(Debug, PartialEq, Drop)]
 pub struct EventSpec {
     pub capacity: u16,

@@ -1,4 +1,4 @@
-//! Names of events.
+//! Names of events, checked when they are made.
 ghost use Rattle.std.specs.Prelude.{◌≡◌, ◌<◌, ◌≤◌, length, IfSome, IfNone, true, false};
 ghost use Rattle.std.specs.Prelude.{slice_index_or};
 ghost use Rattle.std.specs.List.{list_all};
@@ -45,7 +45,7 @@ fn is_name(bytes: &[u8]) -> bool
 }
 
 impl EventName {
-    /// These bytes as a name. None where they are no name.
+    /// The name with these bytes, or None if they are not a name.
     pub fn of(bytes: &[u8]) -> Option<EventName>
         ensures some { IfSome result (λ name. (is_event_name bytes.now ≡ true)
             × (name ≡ bytes.now)) }

@@ -1,4 +1,4 @@
-//! The first element that is spelled in bytes.
+//! Reads the first element from bytes in the layout of a format Two record.
 ghost use Rattle.std.specs.Prelude.{◌≡◌, ◌++◌, ◌<◌, ◌≤◌, ◌^◌, length, IfSome, IfNone};
 ghost use Rattle.det_values.specs.Spelling.{spelled_u16, spelled_u32, AreBytes, an_element};
 ghost use Rattle.det_values.specs.Spelling.{BeginsWith, BeginsWithNone};
@@ -34,8 +34,8 @@ fn parted(bytes: &[u8], len: usize) -> (&[u8], &[u8])
     bytes.split_at(len)
 }
 
-/// The bytes and the draws of the first element, and what stands behind it, if the bytes begin with
-/// one.
+/// The bytes and the draws of the first element, and the bytes after it. None if the input doesn't
+/// begin with an element.
 pub fn first_in(bytes: &[u8]) -> Option<(&[u8], u32, &[u8])>
     ensures some { IfSome result (λ x. BeginsWith (an_element x.0.now x.1) x.2.now bytes.now) }
     ensures none { IfNone result (BeginsWithNone bytes.now) }

@@ -1,18 +1,18 @@
-//! The formats of a record, and what each keeps of a frame.
+//! The formats of a record, and the part of a frame that each keeps.
 ghost use Rattle.std.specs.Prelude.{◌≡◌};
 ghost use Rattle.det_values.specs.Frames.{in_format, outcome_in_format, all_undrawn};
 
 use crate::{Frame, Outcome};
 
-/// The format of a record: One stays readable, Two is what is written.
+/// The format of a record. Tools write Two, and still read One.
 #[derive(Clone, Copy, Debug, PartialEq, Eq, Drop)]
 pub enum Format {
     One,
     Two,
 }
 
-/// Leaves of a frame what a format keeps: One knows no draws, so it makes all of them 0; Two
-/// changes nothing.
+/// Reduces a frame to what a format keeps. One has no draws, so all of them become 0; Two changes
+/// nothing.
 pub fn as_format(format: Format, frame: &mut Frame)
     ensures { frame.new ≡ in_format format frame.old }
 {

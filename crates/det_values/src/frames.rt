@@ -1,11 +1,10 @@
-//! What a run does, frame by frame.
+//! The frames of a run, one for each activation of its client.
 ghost use Rattle.std.specs.Prelude.{◌≡◌, IfOk};
 
 use crate::{Bytes, Bytes64, DrawnElements, Elements, OutOfMemory, RefusedAt, Samples};
 use std::alloc::Global;
 
-/// What one cycle is given: its time in nanoseconds, if there is one, and the samples that arrive
-/// in it.
+/// The input of one cycle: its time in nanoseconds, if known, and the samples that arrive in it.
 #[derive(Debug, PartialEq, Drop)]
 pub struct CycleInput {
     pub time: Option<u64>,
@@ -13,7 +12,7 @@ pub struct CycleInput {
 }
 
 impl CycleInput {
-    /// The same input again.
+    /// A copy of the input.
     pub fn copied(&self, alloc: Global) -> Result<CycleInput, OutOfMemory>
         ensures { IfOk result (λ copy. copy ≡ self.now) }
     {
@@ -27,7 +26,8 @@ impl CycleInput {
     }
 }
 
-/// An element's bytes after a cycle, and how many random words it drew in it.
+/// An element's bytes after a cycle, and its draws: the number of random numbers that it drew in
+/// that cycle.
 #[derive(Debug, PartialEq, Drop)]
 pub struct DrawnElement {
     pub bytes: Bytes64,
@@ -44,18 +44,20 @@ pub enum Outcome {
     Refused(RefusedAt),
 }
 
-/// One cycle: what it was given, and how it ended.
+/// One cycle: its input and its outcome.
 #[derive(Debug, PartialEq, Drop)]
 pub struct RunFrame {
     pub input: CycleInput,
     pub outcome: Outcome,
 }
 
-/// One activation of a client. A run is Register, Discover, Init, any number of Runs, Terminate.
+/// One activation of a client. A run is `Register`, `Discover`, `Init`, any number of `Run`s,
+/// `Terminate`.
 #[derive(Debug, PartialEq, Drop)]
 pub enum Frame {
     Register,
     Discover,
+    /// The elements are a plain list, since a run has this frame once.
     Init(Elements),
     Run(RunFrame),
     Terminate,

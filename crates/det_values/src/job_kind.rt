@@ -1,4 +1,4 @@
-//! The jobs that the product ships.
+//! The shipped jobs by number and by name. The jobs themselves are in the crate `jobs`.
 ghost use Rattle.std.specs.Prelude.{◌≡◌};
 ghost use Rattle.det_values.specs.Jobs.{number_of_kind, kind_of_number, kind_of_name};
 
@@ -11,7 +11,7 @@ pub enum JobKind {
 }
 
 impl JobKind {
-    /// The number under which a profile names the job.
+    /// The job's number in a profile.
     pub fn number(&self) -> u16
         ensures { result ≡ number_of_kind self.now }
     {
@@ -22,7 +22,7 @@ impl JobKind {
         }
     }
 
-    /// The job of a number. None for a number that no job has.
+    /// The job with this number, or None if no shipped job has it.
     pub fn of_number(number: u16) -> Option<JobKind>
         ensures { result ≡ kind_of_number number }
     {
@@ -34,7 +34,7 @@ impl JobKind {
         }
     }
 
-    /// The job of a name, as a manifest writes it. None for a name that no job has.
+    /// The job with this name in a manifest, or None if no shipped job has it.
     pub fn of_name(name: &str) -> Option<JobKind>
         ensures { result ≡ kind_of_name name.now }
     {

@@ -1,10 +1,10 @@
-//! What `==` says of frames, of their parts and of profiles.
+//! The law of `==` on frames, their parts and profiles: it decides equality as contracts see it.
 ghost use Rattle.std.specs.Prelude.{◌≡◌};
 ghost use Rattle.std.specs.Bool.{Decides};
 
 use crate::{CycleInput, DrawnElements, Frame, Outcome, Profile, RefusedAt, RunFrame};
 
-/// `==` is true of two values exactly where contracts see one and the same value in both.
+/// `==` returns true exactly when both sides are the same value for contracts.
 pub fn equality()
     ensures elements { (a b : DrawnElements)
         → Decides (⟦<DrawnElements as PartialEq>⟧.eq a b) (a ≡ b) }

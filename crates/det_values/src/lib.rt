@@ -1,4 +1,6 @@
-//! The values that every other crate speaks of, with their limits.
+//! Values with their limits, lists with a greatest length, and containers of blocks. All other
+//! crates exchange them. A limit is an invariant of its type, so no reader of a value checks it
+//! again.
 #![tactic(auto)]
 
 mod block_walk;

@@ -1,4 +1,5 @@
-//! Lists whose greatest length is part of their type.
+//! Lists with their greatest length in their type. The caller proves that there is room, so only
+//! "out of memory" fails.
 ghost use Rattle.std.specs.Prelude.{◌≡◌, ℕ, ◌+◌, ◌<◌, ◌≤◌, List, [], ◌∷◌, ◌++◌, length, vec_len};
 ghost use Rattle.std.specs.Prelude.{slice_index_or, OnOk, OnErr, IsTrue, ◌↔◌};
 ghost use Rattle.std.specs.Cmp.Lexicographic.{pointwise, lists_per};
@@ -7,7 +8,7 @@ use crate::OutOfMemory;
 use std::alloc::Global;
 use std::marker::Model;
 
-/// A list of at most `MOST` items.
+/// A list of at most `MOST` items. Contracts see the plain list.
 #[derive(Debug, Drop)]
 pub struct Limited<T, const MOST: usize> {
     pub(crate) items: Vec<T>,
@@ -22,7 +23,7 @@ impl<T, const MOST: usize> Model for Limited<T, MOST> {
 }
 
 impl<T, const MOST: usize> Limited<T, MOST> {
-    /// An empty list. It takes no memory.
+    /// An empty list. It allocates nothing.
     pub fn new(alloc: Global) -> Limited<T, MOST>
         ensures { result ≡ [] }
     {
@@ -31,7 +32,7 @@ impl<T, const MOST: usize> Limited<T, MOST> {
         }
     }
 
-    /// The items of a `Vec`, which are moved and not copied.
+    /// A list from a `Vec`. The items are moved, not copied.
     pub fn from_vec(items: Vec<T>) -> Limited<T, MOST>
         requires { vec_len items ≤ MOST }
         ensures { result ≡ items.items }
@@ -49,7 +50,7 @@ impl<T, const MOST: usize> Limited<T, MOST> {
         items
     }
 
-    /// Adds an item at the end. A refused call drops the item and changes nothing.
+    /// Adds an item at the end. A call that fails drops the item and changes nothing.
     pub fn push(&mut self, item: T) -> Result<(), OutOfMemory>
     where
         T: Drop,
@@ -63,7 +64,7 @@ impl<T, const MOST: usize> Limited<T, MOST> {
         }
     }
 
-    /// Moves another list's items to the end. A refused call drops them and changes nothing.
+    /// Moves another list's items to the end. A call that fails drops them and changes nothing.
     pub fn append(&mut self, mut more: Limited<T, MOST>) -> Result<(), OutOfMemory>
     where
         T: Drop,
@@ -77,7 +78,7 @@ impl<T, const MOST: usize> Limited<T, MOST> {
         }
     }
 
-    /// Adds copies of the items at the end. A refused call changes nothing.
+    /// Adds copies of the items at the end. A call that fails changes nothing.
     pub fn extend_from_slice(&mut self, items: &[T]) -> Result<(), OutOfMemory>
     where
         T: Copy,
@@ -108,13 +109,14 @@ impl<T, const MOST: usize> Limited<T, MOST> {
         self.items.len()
     }
 
+    /// Whether there is no item.
     pub fn is_empty(&self) -> bool
         ensures { IsTrue result ↔ (length self.now ≡ 0) }
     {
         self.items.len() == 0
     }
 
-    /// Whether there is no room for a further item.
+    /// Whether the list has `MOST` items.
     pub fn is_full(&self) -> bool
         ensures { IsTrue result ↔ (MOST ≤ length self.now) }
     {
@@ -141,7 +143,7 @@ impl<T, const MOST: usize> Limited<T, MOST> {
 impl<T: Copy + Drop, const MOST: usize> Limited<T, MOST> {
     ghost use Rattle.std.specs.Prelude.{◌≡◌, IfOk};
 
-    /// The same items again.
+    /// A copy of the list.
     pub fn copied(&self, alloc: Global) -> Result<Limited<T, MOST>, OutOfMemory>
         ensures { IfOk result (λ copy. copy ≡ self.now) }
     {

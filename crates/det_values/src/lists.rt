@@ -1,4 +1,4 @@
-//! The list types, each with its limit.
+//! The bounded lists of a run, each with its limit in its type.
 use crate::{Bytes64, EventSpec, Limited, Sample};
 
 /// The parameters of a job: at most 16.

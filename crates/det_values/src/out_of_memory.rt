@@ -1,7 +1,7 @@
-//! Want of memory.
+//! The error for "out of memory". It hides the allocator's error type from callers.
 use std::alloc::AllocError;
 
-/// Memory could not be had.
+/// Memory could not be allocated.
 #[derive(Clone, Copy, Debug, PartialEq, Eq, Drop)]
 pub struct OutOfMemory;
 

@@ -1,10 +1,10 @@
-//! What a run is made from.
+//! The profile: all that a run depends on besides its inputs.
 use crate::{Events, Format, Params};
 use std::marker::Model;
 
-/// What a client and its job are made from. The cycle time is in nanoseconds, 1 to 2^63 - 1. In the
-/// format One every event has the policy Last. The job's number may be one that no shipped job has,
-/// and two events may have one name.
+/// What a client and its job are made from. The cycle time is in nanoseconds, 1 to 2^63 - 1. In
+/// format One every event has the policy `Last`. The number `job` need not be that of a shipped
+/// job, and two events may have the same name.
 #[derive(Debug, PartialEq, Drop)]
 pub struct Profile {
     pub format: Format,

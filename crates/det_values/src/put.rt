@@ -1,4 +1,4 @@
-//! Numbers, bytes and elements appended to bytes, as the record spells them.
+//! Appends numbers, bytes and elements in the layout of a record: big-endian, with lengths first.
 ghost use Rattle.std.specs.Prelude.{◌≡◌, ◌≤◌, ◌+◌, ◌++◌, ◌∷◌, [], length, take, drop, OnOk, OnErr};
 ghost use Rattle.std.specs.Vec.{vec_capacity};
 ghost use Rattle.det_values.specs.Spelling.{spelled_u16, spelled_u32, AreBytes, an_element};
@@ -48,7 +48,7 @@ fn put_parts(out: &mut Vec<u8>, bytes: &[u8], draws: u32) -> Result<(), AllocErr
     Ok(())
 }
 
-/// Appends an element with its draws. A refused call leaves `out` as it was.
+/// Appends an element with its draws. A call that fails leaves `out` as it was.
 pub fn put_drawn(out: &mut Vec<u8>, bytes: &[u8], draws: u32) -> Result<(), OutOfMemory>
     requires { length bytes.now ≤ 64 }
     ensures ok { OnOk result (out.new.items ≡ out.old.items
@@ -66,7 +66,7 @@ pub fn put_drawn(out: &mut Vec<u8>, bytes: &[u8], draws: u32) -> Result<(), OutO
     }
 }
 
-/// Writes a number over the two bytes at an index.
+/// Overwrites the two bytes at index `at` with a number, the high byte first.
 pub fn fill_u16(out: &mut Vec<u8>, at: usize, n: u16)
     requires { at + 2 ≤ length out.old.items }
     ensures items { out.new.items ≡ take at out.old.items

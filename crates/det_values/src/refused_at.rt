@@ -1,10 +1,10 @@
-//! Where a cycle was refused.
+//! The place at which a job refused a cycle.
 ghost use Rattle.std.specs.Prelude.{◌≡◌};
 ghost use Rattle.det_values.specs.Values.{phase_word};
 
 use std::marker::Model;
 
-/// A part of a cycle: its sequential begin, the passes of the pool, its sequential end.
+/// A part of a cycle: the sequential begin, the passes of the pool, the sequential end.
 #[derive(Clone, Copy, Debug, PartialEq, Eq, Drop)]
 pub enum Phase {
     Prepare,
@@ -13,7 +13,7 @@ pub enum Phase {
 }
 
 impl Phase {
-    /// The phase as texts name it.
+    /// The phase's name in texts.
     pub fn word(self) -> &'static str
         ensures { result.now ≡ phase_word self }
     {
@@ -25,8 +25,8 @@ impl Phase {
     }
 }
 
-/// Where a cycle was refused, and the code that the job gave. In the pool the pass is below 8 and
-/// the element below 65,536; in the other phases both are 0.
+/// Where a job refused a cycle, and its code. In the pool the pass is below 8 and the element below
+/// 65,536, both counted from 0; in the other phases both are 0.
 #[derive(Clone, Copy, Debug, PartialEq, Eq, Drop)]
 pub struct RefusedAt {
     pub phase: Phase,

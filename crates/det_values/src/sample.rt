@@ -1,7 +1,8 @@
-//! Samples of events.
+//! Samples, the data that events bring to a client.
 use std::marker::Model;
 
-/// A value of an event, whose number counts from 0. The value is from -10^12 to 10^12.
+/// One value of an event, from -10^12 to 10^12. `event` is its index in the profile, counted from
+/// 0.
 #[derive(Clone, Copy, Debug, PartialEq, Eq, Drop)]
 pub struct Sample {
     pub event: u16,

@@ -1,11 +1,11 @@
-//! Memory of containers that is used again.
+//! Memory of containers, kept for reuse in later passes and cycles.
 ghost use Rattle.std.specs.Prelude.{◌≡◌, ◌≤◌, [], IfOk};
 
 use crate::{Container, OutOfMemory};
 use std::alloc::Global;
 
-/// Blocks and containers whose memory is used again, and where more of it is taken from. What they
-/// held is gone, so no clause speaks of what is kept here.
+/// Free blocks and containers, and the allocator for more. Their old contents are gone, so no
+/// clause is about what is kept here.
 #[derive(Drop)]
 pub struct Spares<E> {
     alloc: Global,
@@ -14,7 +14,7 @@ pub struct Spares<E> {
 }
 
 impl<E: Drop> Spares<E> {
-    /// None yet. It takes no memory.
+    /// No spares. It allocates nothing.
     pub fn new(alloc: Global) -> Spares<E> {
         Spares {
             alloc,
@@ -23,7 +23,7 @@ impl<E: Drop> Spares<E> {
         }
     }
 
-    /// A list without elements, which has room for a block.
+    /// An empty list: a spare one, or a new one with room for a block of 256 elements.
     pub fn block(&mut self) -> Result<Vec<E>, OutOfMemory>
         ensures { IfOk result (λ block. block.items ≡ []) }
     {
@@ -34,7 +34,8 @@ impl<E: Drop> Spares<E> {
         Ok(Vec::with_capacity(self.alloc, 256)?)
     }
 
-    /// A container without elements, which has room for the blocks of so many where it is new.
+    /// An empty container: a spare one, or a new one with room for the blocks of `elements`
+    /// elements.
     pub fn container(&mut self, elements: usize) -> Result<Container<E>, OutOfMemory>
         requires { elements ≤ 65536 }
         ensures { IfOk result (λ container. container ≡ []) }
@@ -46,7 +47,7 @@ impl<E: Drop> Spares<E> {
         Container::with_room(self.alloc, elements)
     }
 
-    /// Keeps a block for its memory, unless there is none for the place that it takes here.
+    /// Keeps a block for its memory. If there is no memory to keep it here, it is dropped.
     pub fn keep_block(&mut self, block: Vec<E>) {
         let _ = self.blocks.push(block).is_ok();
     }
@@ -65,7 +66,7 @@ impl<E: Drop> Spares<E> {
         self.blocks.len()
     }
 
-    /// Gives so many blocks away, as far as they are there.
+    /// Moves `count` spare blocks to `other`, or all if there are fewer.
     pub fn give(&mut self, other: &mut Spares<E>, count: usize) {
         for _ in 0..count {
             match self.blocks.pop() {

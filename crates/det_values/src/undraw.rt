@@ -1,4 +1,4 @@
-//! Draws made 0 in place.
+//! Sets the draws of elements to 0 in place, as format One keeps none.
 ghost use Rattle.std.specs.Prelude.{◌≡◌, ◌≤◌, ◌+◌, ◌++◌, ◌∷◌, [], length, take, drop, IfSome};
 ghost use Rattle.std.specs.Prelude.{IfNone};
 ghost use Rattle.det_values.specs.Spelling.{elements_in, spelled_all, IsFlat, FirstAt, NoneAt};
@@ -17,7 +17,7 @@ fn fill_zero(bytes: &mut [u8], at: usize)
     bytes[at + 3] = 0;
 }
 
-/// Where the element at an index ends, if there is one.
+/// The end of the element that begins at index `at`, or None if none begins there.
 fn end_of_first(bytes: &[u8], at: usize) -> Option<usize>
     requires { at ≤ length bytes.now }
     ensures some { IfSome result (FirstAt bytes.now at) }
@@ -29,7 +29,7 @@ fn end_of_first(bytes: &[u8], at: usize) -> Option<usize>
     }
 }
 
-/// Makes all draws 0.
+/// Sets the draws of all elements to 0.
 pub fn undraw_all(bytes: &mut [u8], count: u32)
     requires { IsFlat count bytes.old }
     ensures { bytes.new ≡ spelled_all (all_undrawn (elements_in count bytes.old)) }

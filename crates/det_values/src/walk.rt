@@ -1,4 +1,4 @@
-//! The elements of a finished cycle, one after another.
+//! The walk over a `DrawnElements`, across its blocks.
 ghost use Rattle.std.specs.Prelude.{◌≡◌, ◌≤◌, ◌∷◌, [], length, IfSome, IfNone};
 ghost use Rattle.det_values.specs.Spelling.{an_element};
 
@@ -6,7 +6,7 @@ use crate::block_walk::BlockWalk;
 use crate::drawn_block::DrawnBlock;
 use std::marker::Model;
 
-/// The elements of a `DrawnElements` that were not taken yet.
+/// The elements of a `DrawnElements` that remain.
 #[derive(Drop)]
 pub struct Walk<'a> {
     pub(crate) here: BlockWalk<'a>,

@@ -1,4 +1,4 @@
--- What the ends of a queue know, what each step makes of it, and the rule over all ends.
+-- What the ends of a queue know, what each step adds to it, and the rule over all ends.
 use Rattle.std.specs.Prelude.{◌≡◌, ℕ, Bool, true, false, List, [], ◌∷◌, ◌++◌, length, drop}
 use mathlib.Core.Option.{some}
 use lib.ListN.{get_elem?}
@@ -21,15 +21,15 @@ beginning = queue_view true true [] []
 abbrev pub nobody : QueueView
 nobody = queue_view false false [] []
 
--- what is left of an end that keeps the right to send
+-- an end that keeps only the right to send
 abbrev pub as_sender : QueueView → QueueView
 as_sender v = queue_view true false v.sent []
 
--- what is left of an end that keeps the right to take
+-- an end that keeps only the right to take
 abbrev pub as_receiver : QueueView → QueueView
 as_receiver v = queue_view false true [] v.taken
 
--- a sender that took in a receiver
+-- a sender that was joined with a receiver
 abbrev pub with_receiver : QueueView → QueueView → QueueView
 with_receiver v w = queue_view true true v.sent w.taken
 
@@ -41,7 +41,7 @@ Sent v row w = w ≡ queue_view v.sends v.takes (v.sent ++ row ∷ []) v.taken
 abbrev pub Taken : QueueView → Row → QueueView → Type 0
 Taken v row w = w ≡ queue_view v.sends v.takes v.sent (v.taken ++ row ∷ [])
 
--- what was sent is what the end took, and then these rows
+-- the rows sent are those that the end took, followed by these
 abbrev pub IsTotal : QueueView → List Row → Type 0
 IsTotal v rows = v.sent ≡ v.taken ++ rows
 
@@ -49,18 +49,18 @@ IsTotal v rows = v.sent ≡ v.taken ++ rows
 abbrev pub Drained : QueueView → Row → QueueView → Type 0
 Drained v row w = Taken v row w × (rest : List Row) × IsTotal v (row ∷ rest)
 
--- what was sent and not taken
+-- the rows that were sent and not taken
 abbrev pub left_of : QueueView → List Row
 left_of v = drop (length v.taken) v.sent
 
--- an end that may send is this one and sent just this, and one that may take is this one and took
--- just this
+-- if this end may send, it is end `sender` and sent these rows; if it may take, it is end
+-- `receiver` and took these rows
 abbrev pub Fits : ℕ → ℕ → List Row → List Row → ℕ → QueueView → Type 0
 Fits sender receiver sent taken number v =
     (v.sends ≡ true → (number ≡ sender) × (v.sent ≡ sent))
     × (v.takes ≡ true → (number ≡ receiver) × (v.taken ≡ taken))
 
--- what was taken, and then what the queue holds, is what was sent
+-- the rows taken, followed by the rows in the queue, are the rows sent
 abbrev pub IsInOrder : List Row → List QueueView → Type 0
 IsInOrder held views = (sender : ℕ) × (receiver : ℕ) × (sent : List Row) × (taken : List Row)
     × (sent ≡ taken ++ held)

@@ -26,6 +26,6 @@ IsReceiverOf queue receiver = IsPassOf queue.rows receiver.pass
 abbrev pub places_of : FrameQueue → ℕ
 places_of queue = ruled_capacity queue.rows
 
--- the rows at which its ends take it for full
+-- the number of rows at which its ends take it for full
 abbrev pub paced_places : FrameQueue → ℕ
 paced_places queue = queue.pace.places

@@ -1,4 +1,4 @@
-//! The two ends of a queue.
+//! `Sender` and `Receiver`: the two ends of a queue.
 ghost use Rattle.std.specs.Prelude.{◌≡◌};
 ghost use Rattle.crossbeam_queue.specs.Passes.{view};
 ghost use Rattle.frame_queue.specs.Order.{as_sender, as_receiver};

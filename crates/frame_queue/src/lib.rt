@@ -1,8 +1,9 @@
 //! A bounded queue of rows between two threads.
 //!
-//! Rows go from one thread to another in order, each of them once. While both run, neither end
-//! knows the other's list: the sender knows what it sent, and the receiver what it took. When the
-//! queue is closed, what was taken and then what is left is what was sent.
+//! Rows go from one thread to another in order, each of them once. While both threads run, neither
+//! end knows the other's list: the sender knows what it sent, and the receiver what it took. Once
+//! the queue is closed it is known that the rows taken, followed by the rows left, are the rows
+//! sent.
 #![tactic(auto)]
 
 mod ends;

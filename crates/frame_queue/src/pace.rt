@@ -1,4 +1,5 @@
-//! How the two ends of a queue wait for each other.
+//! `Pace`: how the two ends of a queue wait for each other. It decides only how long a thread
+//! waits, so no contract depends on it.
 ghost use Rattle.std.specs.Prelude.{◌≡◌};
 
 use std::sync::Wait;
@@ -6,13 +7,13 @@ use std::sync::atomic::{AtomicBool, AtomicU64, Ordering};
 use std::thread::Parker;
 use std::{hint, thread};
 
-/// The looks after which an end that waits sleeps until the other wakes it.
+/// The number of looks after which a waiting end sleeps until the other wakes it.
 const BUSY_LOOKS: u32 = 200;
 
-/// The looks after which a receiver waits no longer for a sender that hasn't come.
+/// The number of looks after which a receiver stops waiting for a sender that hasn't come.
 const PATIENT_LOOKS: u32 = 2_000;
 
-/// One end of a queue: whether its thread is at work, and where that sleeps.
+/// One end of a queue: whether its thread is at work, and where that thread sleeps.
 #[derive(Drop)]
 struct End {
     has_come: AtomicBool,
@@ -54,8 +55,8 @@ impl End {
         self.has_left.store(true, Ordering::SeqCst);
     }
 
-    /// Waits a little for the other end. One that has come wakes this one when it has sent or taken
-    /// enough, and when it leaves.
+    /// Waits a little for the other end. If the other end has come, it wakes this one when it has
+    /// sent or taken enough rows, and when it leaves.
     fn pause<R: Wait>(&self, rt: &R, other: &End, looks: u32) {
         if looks < BUSY_LOOKS {
             hint::spin_loop();
@@ -67,16 +68,16 @@ impl End {
     }
 }
 
-/// How the two ends of a queue wait for each other, each on a thread of its own or one after the
-/// other. What it answers says how long to wait and nothing else, so no contract speaks of it.
+/// How the two ends of a queue wait for each other. Each runs on a thread of its own, or one after
+/// the other. Results here say only how long to wait, so no contract depends on them.
 ///
-/// Each end says when it comes to the queue and when it leaves. Once it has left, the other no
-/// longer waits for it. Between two turns of both ends, `reset` forgets that they came and left.
+/// Each end reports when it comes to the queue and when it leaves. The other doesn't wait for an
+/// end that has left. `reset` forgets that both came and left, between two turns.
 #[derive(Drop)]
 pub struct Pace {
-    /// The places of the queue.
+    /// The number of places in the queue.
     places: u64,
-    /// How many rows the queue holds, counting one that is being sent or taken.
+    /// The number of rows in the queue, counting a row that is being sent or taken.
     held: AtomicU64,
     sender: End,
     receiver: End,
@@ -84,6 +85,7 @@ pub struct Pace {
 }
 
 impl Pace {
+    /// Ends that haven't come yet, of an empty queue with this number of places.
     pub(crate) fn new(places: u64) -> Pace
         ensures { result.places ≡ places }
     {
@@ -96,53 +98,56 @@ impl Pace {
         }
     }
 
-    /// Both ends are still to come. To be called while neither is at work.
+    /// Forgets that the ends came and left. Call it only while neither is at work.
     pub fn reset(&self) {
         self.sender.reset();
         self.receiver.reset();
     }
 
-    /// The sender's thread is at work from now on.
+    /// Reports that the sender's thread is at work from now on.
     pub fn sender_comes(&self) {
         self.sender.come();
     }
 
-    /// The sender's thread sends no more in this turn. A receiver that waits for it is woken.
+    /// Reports that the sender's thread sends no more in this turn. A receiver that waits for it is
+    /// woken.
     pub fn sender_leaves(&self) {
         self.sender.leave();
         self.receiver.sleep.unpark();
     }
 
-    /// The receiver's thread is at work from now on.
+    /// Reports that the receiver's thread is at work from now on.
     pub fn receiver_comes(&self) {
         self.receiver.come();
     }
 
-    /// The receiver's thread takes no more in this turn. A sender that waits for it is woken.
+    /// Reports that the receiver's thread takes no more in this turn. A sender that waits for it is
+    /// woken.
     pub fn receiver_leaves(&self) {
         self.receiver.leave();
         self.sender.sleep.unpark();
     }
 
-    /// No more rows are wanted, in this turn and in all later ones. A sender that waits learns it
-    /// when the receiver leaves.
+    /// Reports that no more rows are wanted, in this turn and in all later ones. A sender that
+    /// waits sees it when the receiver leaves.
     pub fn refuse(&self) {
         self.is_refused.store(true, Ordering::SeqCst);
     }
 
+    /// Counts a row that is sent next.
     pub(crate) fn begin_send(&self) {
         self.held.fetch_add(1, Ordering::SeqCst);
     }
 
-    /// A receiver that sleeps is woken for several rows at once. A sender that leaves wakes it for
-    /// fewer.
+    /// Wakes a sleeping receiver once a quarter of the places is taken, so once for several rows. A
+    /// sender that leaves wakes it for fewer.
     pub(crate) fn end_send(&self) {
         if self.held.load(Ordering::SeqCst) >= self.places / 4 {
             self.receiver.sleep.unpark();
         }
     }
 
-    /// A sender that sleeps is woken once half of the places are free.
+    /// Wakes a sleeping sender once half of the places are free.
     pub(crate) fn end_take(&self) {
         if self.held.fetch_sub(1, Ordering::SeqCst) <= self.places / 2 {
             self.sender.sleep.unpark();
@@ -157,8 +162,8 @@ impl Pace {
         self.held.load(Ordering::SeqCst) >= self.places
     }
 
-    /// Whether there is a row to take. While there is none, it waits for a sender that is at work,
-    /// and for a while for one that hasn't come.
+    /// Waits for a row, and returns whether there is one. It waits while the sender is at work. For
+    /// a sender that hasn't come it waits a limited number of looks.
     pub fn has_row<R: Wait>(&self, rt: &R) -> bool {
         let mut looks = 0u32;
         for _ in rt.forever() {
@@ -174,8 +179,8 @@ impl Pace {
         unreachable!()
     }
 
-    /// Whether there is a place for a row that is wanted. While there is none, it waits for a
-    /// receiver that is at work.
+    /// Waits for a place, and returns whether there is one for a row that is wanted. It waits only
+    /// while the receiver is at work.
     pub fn has_place<R: Wait>(&self, rt: &R) -> bool {
         let mut looks = 0u32;
         for _ in rt.forever() {

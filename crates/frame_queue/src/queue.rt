@@ -1,4 +1,4 @@
-//! A queue, with its sender and its receiver.
+//! `FrameQueue`: the queue itself. How its ends wait for each other is in `pace`.
 ghost use Rattle.std.specs.Prelude.{◌≡◌, ◌∷◌, ◌++◌, [], IfOk, IfErr, OnOk, OnErr, MatchOption};
 ghost use Rattle.frame_queue.specs.Queues.{sent_of, taken_of, IsSenderOf, IsReceiverOf};
 ghost use Rattle.frame_queue.specs.Queues.{places_of, paced_places};
@@ -11,7 +11,7 @@ use std::alloc::Global;
 use std::sync::Wait;
 use std::thread;
 
-/// How many rows a queue holds at most.
+/// The most rows that a queue holds.
 const PLACES: usize = 32;
 
 pub(crate) type Rows = RuledArrayQueue<Row, QueueView, OrderRule>;
@@ -24,7 +24,7 @@ pub struct FrameQueue {
 }
 
 impl FrameQueue {
-    /// An empty queue, with its sender and its receiver. Its places are made at once.
+    /// An empty queue, with its sender and its receiver. All memory is allocated here.
     pub fn new(alloc: Global) -> Result<(FrameQueue, Sender, Receiver), OutOfMemory>
         ensures sender { IfOk result (λ made. IsSenderOf made.0 made.1) }
         ensures receiver { IfOk result (λ made. IsReceiverOf made.0 made.2) }
@@ -45,12 +45,12 @@ impl FrameQueue {
         ))
     }
 
-    /// How its two ends wait for each other.
+    /// How the two ends of the queue wait for each other.
     pub fn pace(&self) -> &Pace {
         &self.pace
     }
 
-    /// Sends a row, and tries again while the queue is full. Another thread may run between two
+    /// Sends a row. While the queue is full it tries again, and yields its processor between two
     /// tries.
     pub fn send<R: Wait>(&self, rt: &R, sender: &mut Sender, row: Row)
         requires { IsSenderOf self.now sender.old }
@@ -80,7 +80,7 @@ impl FrameQueue {
         unreachable!()
     }
 
-    /// Sends a row, or gives it back where no place was found.
+    /// Sends a row, or returns it if the queue is full.
     fn try_send(&self, sender: &mut Sender, row: Row) -> Result<(), Row>
         requires { IsSenderOf self.now sender.old }
         ensures queue { IsSenderOf self.now sender.new }
@@ -91,7 +91,7 @@ impl FrameQueue {
         self.rows.try_push_as::<Sends>(&mut sender.pass, row)
     }
 
-    /// Takes the next row, and tries again while the queue is empty. Another thread may run
+    /// Takes the next row. While the queue is empty it tries again, and yields its processor
     /// between two tries.
     pub fn take<R: Wait>(&self, rt: &R, receiver: &mut Receiver) -> Row
         requires { IsReceiverOf self.now receiver.old }
@@ -117,7 +117,7 @@ impl FrameQueue {
         unreachable!()
     }
 
-    /// Takes the next row, if one was found.
+    /// Takes the next row, if there is one.
     fn try_take(&self, receiver: &mut Receiver) -> Option<Row>
         requires { IsReceiverOf self.now receiver.old }
         ensures queue { IsReceiverOf self.now receiver.new }
@@ -127,7 +127,7 @@ impl FrameQueue {
         self.rows.try_pop_as::<Takes>(&mut receiver.pass)
     }
 
-    /// Ends the sending and the taking. What was sent and not taken is the answer.
+    /// Closes the queue. Returns the rows that were sent and not taken.
     pub fn close(self, sender: Sender, receiver: Receiver) -> Rest
         requires sender { IsSenderOf self sender }
         requires receiver { IsReceiverOf self receiver }

@@ -1,4 +1,4 @@
-//! What is left of a queue that was closed.
+//! `Rest`: the rows that are left in a queue that was closed.
 ghost use Rattle.std.specs.Prelude.{◌≡◌, ◌∷◌, [], MatchOption};
 
 use crate::Row;
@@ -8,8 +8,8 @@ use crossbeam_queue::Pass;
 use std::marker::Model;
 use std::sync::Wait;
 
-/// The rows that were sent to a closed queue and not taken, in order. Contracts see the list of
-/// them.
+/// The rows that were sent to a closed queue and not taken, in order. In contracts it is the list
+/// of them.
 #[derive(Drop)]
 pub struct Rest {
     pub(crate) rows: Rows,
@@ -32,7 +32,7 @@ impl Model for Rest {
 }
 
 impl Rest {
-    /// The next row, or `None` where there is no more.
+    /// The next row. None if there is none left.
     pub fn next<R: Wait>(&mut self, rt: &R) -> Option<Row>
         ensures { MatchOption result ((self.old ≡ []) × (self.new ≡ []))
             (λ row. self.old ≡ row ∷ self.new) }

@@ -1,7 +1,7 @@
-//! What goes through a queue.
+//! `Row`: what goes through a queue.
 use det_values::Frame;
 
-/// One frame of a client. The number is its place among that client's frames, from 0 on.
+/// One frame of a client, and its place among that client's frames. Places count from 0.
 #[derive(Debug, PartialEq, Drop)]
 pub struct Row {
     pub number: u32,

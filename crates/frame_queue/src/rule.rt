@@ -1,21 +1,22 @@
-//! The rule of a queue, and what each step tells the end that makes it.
+//! The rule of a queue, and what an end knows after each step. The types here are names for
+//! contracts; no value of them is made.
 use crate::Row;
 use crossbeam_queue::protocol::{Join, Lesson, Outcome, Protocol, Split};
 use std::collections::LinkedList;
 
 /// What an end knows. No value of it is made.
 pub struct QueueView {
-    /// Whether it may send.
+    /// Whether the end may send.
     pub sends: bool,
-    /// Whether it may take.
+    /// Whether the end may take.
     pub takes: bool,
-    /// What it sent.
+    /// The rows that it sent.
     pub sent: LinkedList<Row>,
-    /// What it took.
+    /// The rows that it took.
     pub taken: LinkedList<Row>,
 }
 
-/// The rule: what was taken, and then what the queue holds, is what was sent.
+/// The rule: the rows taken, followed by the rows in the queue, are the rows sent.
 pub struct OrderRule;
 
 impl Protocol<Row, QueueView> for OrderRule {
@@ -26,7 +27,7 @@ impl Protocol<Row, QueueView> for OrderRule {
     ghost first = { beginning };
 }
 
-/// Gives the right to take to an end of its own, and takes it back.
+/// Splits off the right to take as an end of its own, and joins it again.
 pub struct Roles;
 
 impl Split<QueueView> for Roles {
@@ -63,7 +64,7 @@ impl Outcome<Row, QueueView> for Takes {
     ghost then = { Taken };
 }
 
-/// Learns what the queue holds, which an end with both rights knows.
+/// Learns which rows the queue holds. Only an end with both rights knows that.
 pub struct Total;
 
 impl Lesson<Row, QueueView> for Total {
@@ -72,7 +73,7 @@ impl Lesson<Row, QueueView> for Total {
     ghost fact = { IsTotal };
 }
 
-/// Takes the first row that the queue holds, by an end with both rights.
+/// Takes the first row of the queue, by an end with both rights.
 pub struct Drains;
 
 impl Outcome<Row, QueueView> for Drains {

@@ -1,4 +1,4 @@
--- Which hints are on a manifest, a stimulus or a record, and with which status each may come.
+-- Which hints concern a manifest, a stimulus or a record, and with which status each may come.
 use Rattle.std.specs.Prelude.{Bool, true, false}
 use Rattle.cli_answers.specs.declared.status.Status.{Status}
 use Rattle.cli_answers.specs.declared.status.Status.TheVariants.{BadManifest, BadStimulus}

@@ -1,11 +1,11 @@
--- What a hint on a parameter says of the parameters that a job was given.
+-- What a hint on a parameter says of the parameters of a job.
 use Rattle.std.specs.Prelude.{◌≡◌, ℕ, ℤ, ◌<◌, List, length, false, Option, None, Some}
 use Rattle.job_shared.specs.Params.{is_param}
 use Rattle.hints_on_files.specs.declared.parameter.ParameterRange.{ParameterRange}
 use Rattle.hints_on_files.specs.declared.parameter.ParameterHint.{ParameterHint}
 use Rattle.hints_on_files.specs.declared.parameter.ParameterHint.TheVariants.{OutOfRange, TooMany}
 
--- the parameter of this number isn't there, or outside this range; without one it is one too many
+-- the parameter of this number is missing or outside this range; without a range it is one too many
 abbrev pub IsOutside : Option ParameterRange → ℕ → List ℤ → Type 0
 IsOutside (Some range) index params = is_param params index range.least range.most ≡ false
 IsOutside None index params = index < length params

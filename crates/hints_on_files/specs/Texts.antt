@@ -1,4 +1,4 @@
--- The texts of hints.
+-- The texts of hints on files.
 use Rattle.std.specs.Prelude.{ℕ, List, ◌+◌, ◌++◌, ◌==◌, codes, decimal, if◌then◌else◌}
 use Rattle.std.specs.Fmt.{signed_decimal}
 use Rattle.det_values.specs.declared.job_kind.JobKind.{JobKind}
@@ -28,7 +28,7 @@ abbrev pub need_wanted : NeedKey → List ℕ
 need_wanted needs.Speedup = codes "a whole number, 1 to 1000000"
 need_wanted other = codes "a whole number, 0 to 9223372036854775807"
 
--- the kind and the range of what belongs to a key
+-- the kind and the range of a key's values
 abbrev pub key_wanted : Key → List ℕ
 key_wanted key.Job = codes "bank, cloud or guard"
 key_wanted key.CycleTime = codes "a whole number, 1 to 9223372036854775807"
@@ -62,7 +62,7 @@ parameter_text (OutOfRange job index range) =
 parameter_text (TooMany job most) =
     job_name job ++ (codes " has " ++ (decimal most ++ codes " parameters"))
 
--- what is wanted in place of a line
+-- what is expected in place of a line
 abbrev pub line_wanted : Wanted → List ℕ
 line_wanted wanted.FirstLine = codes "stim 1"
 line_wanted wanted.FirstBlock = codes "cycle T, cycle - or terminate"

@@ -1,4 +1,4 @@
-//! Which files of a command are looked at again.
+//! Chooses the files of a command of `det` that are read again for a hint.
 ghost use Rattle.std.specs.Prelude.{◌≡◌, true, IfSome};
 ghost use Rattle.hints_on_files.specs.Kinds.{fits, is_of_manifest, is_of_record, is_of_stimulus};
 
@@ -11,7 +11,7 @@ use cli_words::{Command, CommandWord};
 use det_io::Shelf;
 use std::alloc::Global;
 
-/// On a manifest of a command that was refused.
+/// The hint on a manifest that the command refused.
 fn on_manifest<S: Shelf>(alloc: Global, command: &Command<'_>, shelf: &mut S) -> Option<Hint>
     ensures { IfSome result (λ hint. is_of_manifest hint ≡ true) }
 {
@@ -25,7 +25,7 @@ fn on_manifest<S: Shelf>(alloc: Global, command: &Command<'_>, shelf: &mut S) ->
     manifest_hint(alloc, manifests, strict, shelf)
 }
 
-/// On a stimulus of a command that was refused. The client of `demo` has one event.
+/// The hint on a stimulus that the command refused. The client of `demo` has one event.
 fn on_stimulus<S: Shelf>(alloc: Global, command: &Command<'_>, shelf: &mut S) -> Option<Hint>
     ensures { IfSome result (λ hint. is_of_stimulus hint ≡ true) }
 {
@@ -38,7 +38,7 @@ fn on_stimulus<S: Shelf>(alloc: Global, command: &Command<'_>, shelf: &mut S) ->
     stimulus_hint(alloc, stimulus, events, shelf)
 }
 
-/// On a record of a command that was refused.
+/// The hint on a record that the command refused.
 fn on_record<S: Shelf>(alloc: Global, command: &Command<'_>, shelf: &mut S) -> Option<Hint>
     ensures { IfSome result (λ hint. is_of_record hint ≡ true) }
 {
@@ -50,8 +50,8 @@ fn on_record<S: Shelf>(alloc: Global, command: &Command<'_>, shelf: &mut S) -> O
     }
 }
 
-/// What is wrong with the file of a command of `det` that ended with this status. None where no
-/// file was refused, and where it can't be read again.
+/// What is wrong with the file for which a command ended with this status. None if it refused no
+/// file, or the file can't be read again.
 pub fn hint_of<S: Shelf>(
     alloc: Global,
     command: &Command<'_>,

@@ -1,14 +1,14 @@
-//! Files that are read again.
+//! Reads a file again, as a whole or from its beginning.
 use det_io::{PIECE, Shelf, Stopped, TooLong, read_limited};
 use std::alloc::Global;
 
-/// The greatest length of what is read of a text, in bytes.
+/// How much of a text is read, in bytes.
 const MOST_BYTES: usize = 1_048_576;
 
-/// How many pieces that is.
+/// How many pieces of `PIECE` bytes that is.
 const PIECES: u32 = 256;
 
-/// What lies under a name, where it has at most so many bytes.
+/// The file's bytes, if there are at most `most` of them.
 pub(crate) fn whole_under<S: Shelf>(
     alloc: Global,
     name: &str,
@@ -23,11 +23,11 @@ pub(crate) fn whole_under<S: Shelf>(
 #[derive(Drop)]
 pub(crate) struct Front {
     pub(crate) bytes: Vec<u8>,
-    /// Whether nothing comes behind it.
+    /// Whether it is the whole text.
     pub(crate) is_whole: bool,
 }
 
-/// The first 1,048,576 bytes of what lies under a name.
+/// The first 1,048,576 bytes of a file.
 pub(crate) fn front_under<S: Shelf>(alloc: Global, name: &str, shelf: &mut S) -> Option<Front> {
     let slot = shelf.open_input(name).ok()?;
     let mut bytes = Vec::new(alloc);

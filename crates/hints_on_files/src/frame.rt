@@ -1,4 +1,4 @@
-//! Where in a record a fault stands.
+//! `FramePlace`, the place of a fault in a record.
 ghost use Rattle.std.specs.Prelude.{◌≡◌, Some};
 ghost use Rattle.hints_on_files.specs.Texts.{frame_text, frames_wanted};
 
@@ -15,11 +15,11 @@ pub enum FramePlace {
     Init,
     /// Inside the run of a cycle.
     Run { cycle: u32 },
-    /// Behind Terminate.
+    /// After Terminate, which is this frame.
     Behind { frame: u32 },
 }
 
-/// Which frames may begin at a number.
+/// The frames that may begin at a number.
 fn wanted(frame: u32) -> &'static str
     ensures { result.now ≡ frames_wanted frame }
 {

@@ -1,4 +1,4 @@
-//! A hint on a file.
+//! `Hint`, what is wrong with a file, and its text.
 ghost use Rattle.std.specs.Prelude.{Some};
 ghost use Rattle.hints_on_files.specs.Texts.{hint_text};
 
@@ -18,9 +18,9 @@ pub enum Hint {
     Toml(TomlLine),
     Key(KeyHint),
     Parameter(ParameterHint),
-    /// A record names a job of this number.
+    /// A record names a job of this number, which doesn't exist.
     NoJob(u16),
-    /// A stimulus of more than 1,048,576 bytes, where it may have no more.
+    /// A stimulus of more than 1,048,576 bytes, where no more are allowed.
     LongStimulus,
     Stimulus(Wanted),
     Record(FramePlace),

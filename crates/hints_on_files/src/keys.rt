@@ -1,4 +1,4 @@
-//! What belongs to a key of a manifest.
+//! `KeyHint`, what a key of a manifest takes.
 ghost use Rattle.std.specs.Prelude.{◌≡◌, Some};
 ghost use Rattle.hints_on_files.specs.Texts.{key_wanted, key_hint_text};
 
@@ -12,7 +12,7 @@ pub struct KeyHint {
     pub key: Key,
 }
 
-/// The kind and the range of what belongs to a key.
+/// The kind and the range of a key's values.
 fn wanted(key: Key) -> &'static str
     ensures { result.now ≡ key_wanted key }
 {

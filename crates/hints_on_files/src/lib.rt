@@ -1,7 +1,7 @@
 //! Hints on files: what is wrong with a manifest, a stimulus or a record that was refused.
 //!
-//! No contract ties what is told here to the answer of a program: each file is read once more, and
-//! what can't be read again has no hint.
+//! Each file is read once more for its hint. No contract connects what is found then with the
+//! program's answer. A file that can't be read again has no hint.
 #![tactic(auto)]
 
 mod command;

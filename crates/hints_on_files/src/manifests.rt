@@ -1,4 +1,4 @@
-//! What is wrong with a manifest.
+//! Hints on manifests.
 ghost use Rattle.std.specs.Prelude.{◌≡◌, true, IfSome, IfErr};
 ghost use Rattle.hints_on_files.specs.Kinds.{is_of_manifest};
 
@@ -28,7 +28,7 @@ fn fault_hint(alloc: Global, text: &[u8], fault: ManifestFault) -> Option<Hint>
     }
 }
 
-/// The parameter that the job of a manifest refuses.
+/// The hint on the parameter that the job of a manifest refuses.
 fn refused_parameter(manifest: &Manifest) -> Option<Hint>
     ensures { IfSome result (λ hint. is_of_manifest hint ≡ true) }
 {
@@ -39,7 +39,7 @@ fn refused_parameter(manifest: &Manifest) -> Option<Hint>
     Some(Hint::Parameter(parameter))
 }
 
-/// Refused with the hint that there is, where a text is no manifest.
+/// Checks the text of a manifest. The error is the hint on why it is refused, if there is one.
 fn judge(alloc: Global, text: &[u8], strict: bool) -> Result<(), Option<Hint>>
     ensures { IfErr result (λ h. IfSome h (λ hint. is_of_manifest hint ≡ true)) }
 {

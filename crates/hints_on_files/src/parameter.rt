@@ -1,4 +1,4 @@
-//! What belongs to a parameter of a job.
+//! `ParameterHint`, what a parameter of a job takes.
 ghost use Rattle.std.specs.Prelude.{◌≡◌, ℕ, ℤ, List, Some};
 ghost use Rattle.jobs.specs.bank.Meaning as bank_job;
 ghost use Rattle.jobs.specs.cloud.Meaning as cloud_job;
@@ -12,7 +12,7 @@ use det_values::{JobKind, Params};
 use std::fmt;
 use std::fmt::{Display, Formatter, Write};
 
-/// A parameter's name and its range.
+/// A parameter's name and range.
 #[derive(Clone, Copy)]
 pub struct ParameterRange {
     pub name: &'static str,
@@ -20,16 +20,16 @@ pub struct ParameterRange {
     pub most: i64,
 }
 
-/// The parameter that a job refuses.
+/// A parameter that a job refuses.
 #[derive(Clone, Copy)]
 pub enum ParameterHint {
-    /// One of the job's parameters, counted from 0.
+    /// A parameter of the job that is missing or out of range, counted from 0.
     OutOfRange {
         job: JobKind,
         index: u8,
         range: ParameterRange,
     },
-    /// More than the job has.
+    /// There are more parameters than the job has.
     TooMany {
         job: JobKind,
         most: u8,
@@ -67,7 +67,7 @@ fn cloud(index: u8) -> Option<ParameterRange>
     }
 }
 
-/// The least number that the guard's high may be is its low.
+/// The range of `high` begins at the guard's `low`.
 fn guard(low: i64, index: u8) -> Option<ParameterRange>
     ensures { (params : List ℤ) (events : ℕ) → low ≡ param params 1
         → guard_job.bad_param params events ≡ Some index → IsOutside result index params }
@@ -82,7 +82,7 @@ fn guard(low: i64, index: u8) -> Option<ParameterRange>
     }
 }
 
-/// The parameter of a number, 0 where it isn't there.
+/// The parameter of this number, or 0 if it is missing.
 fn at(params: &[i64], index: usize) -> i64
     ensures { result ≡ param params.now index }
 {
@@ -92,7 +92,7 @@ fn at(params: &[i64], index: usize) -> i64
     }
 }
 
-/// The range of the parameter of this number. None where a job has fewer.
+/// The range of the parameter of this number. None if the job has fewer.
 fn range_of(job: JobKind, params: &[i64], index: u8) -> Option<ParameterRange>
     ensures { (events : ℕ) → bad_param job params.now events ≡ Some index
         → IsOutside result index params.now }
@@ -115,7 +115,7 @@ fn job_name(job: JobKind) -> &'static str
 }
 
 impl ParameterHint {
-    /// The hint on the parameter of this number that the job refuses.
+    /// The hint on the parameter of this number, which the job refuses.
     pub fn of(job: JobKind, params: &Params, index: u8) -> ParameterHint
         ensures { (events : ℕ) → bad_param job params.now events ≡ Some index
             → IsTold result params.now }

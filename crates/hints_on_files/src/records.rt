@@ -1,4 +1,4 @@
-//! What is wrong with a record.
+//! Hints on records.
 ghost use Rattle.std.specs.Prelude.{◌≡◌, true, IfSome};
 ghost use Rattle.hints_on_files.specs.Kinds.{is_of_record};
 
@@ -14,7 +14,7 @@ use record_reader::open;
 use record_view::{FrameKind, ItemKind, ItemView};
 use std::alloc::Global;
 
-/// More items than a record has: a header, four frames and 1,000,000 runs.
+/// More items than any record has: a header, four frames and 1,000,000 runs.
 const MOST_ITEMS: u32 = 1_000_006;
 
 /// The items before a fault.
@@ -42,7 +42,7 @@ impl Front {
         }
     }
 
-    /// Where the fault after these items is.
+    /// The place of the fault that comes after these items.
     fn place(self, fault: RecordFault) -> FramePlace {
         if self.items == 0 {
             return FramePlace::Header;
@@ -63,14 +63,14 @@ impl Front {
     }
 }
 
-/// A fault, and how many items are before it.
+/// The place of a fault, and the number of items before it.
 #[derive(Clone, Copy)]
 struct Found {
     items: u32,
     place: FramePlace,
 }
 
-/// The fault of the record under a name. None where it has none, or can't be read.
+/// The fault of the record under a name. None if there is none, or the record can't be read.
 fn fault_under<S: Shelf>(alloc: Global, name: &str, shelf: &mut S) -> Option<Found> {
     let slot = shelf.open_input(name).ok()?;
     let mut items = ItemReader::new(alloc, slot);
@@ -97,7 +97,7 @@ fn is_before(found: Found, other: Option<Found>) -> bool {
     }
 }
 
-/// Of the faults of these records the one with the fewest items before it, in the least record.
+/// The hint on the fault with the fewest items before it. Of equal ones, the first record's counts.
 pub fn copies_hint<S: Shelf>(alloc: Global, names: &[&str], shelf: &mut S) -> Option<Hint>
     ensures { IfSome result (λ hint. is_of_record hint ≡ true) }
 {
@@ -113,7 +113,7 @@ pub fn copies_hint<S: Shelf>(alloc: Global, names: &[&str], shelf: &mut S) -> Op
     Some(Hint::Record(found.place))
 }
 
-/// What is wrong with the job that a header names.
+/// What is wrong with the job and the parameters in a header.
 fn profile_hint(profile: &Profile) -> Option<Hint>
     ensures { IfSome result (λ hint. is_of_record hint ≡ true) }
 {
@@ -126,7 +126,7 @@ fn profile_hint(profile: &Profile) -> Option<Hint>
     Some(Hint::Parameter(parameter))
 }
 
-/// What is wrong with the job of the record under a name.
+/// What is wrong with the job in the header of the record under a name.
 fn job_hint<S: Shelf>(alloc: Global, name: &str, shelf: &mut S) -> Option<Hint>
     ensures { IfSome result (λ hint. is_of_record hint ≡ true) }
 {
@@ -137,7 +137,7 @@ fn job_hint<S: Shelf>(alloc: Global, name: &str, shelf: &mut S) -> Option<Hint>
     }
 }
 
-/// What is wrong with the record under a name that is run again.
+/// The hint on a record that is run again. The job in its header is checked first.
 pub fn run_hint<S: Shelf>(alloc: Global, name: &str, shelf: &mut S) -> Option<Hint>
     ensures { IfSome result (λ hint. is_of_record hint ≡ true) }
 {

@@ -1,4 +1,4 @@
-//! What is wrong with a stimulus.
+//! Hints on stimuli.
 ghost use Rattle.std.specs.Prelude.{◌≡◌, ◌≤◌, true, IfSome};
 ghost use Rattle.stimulus.specs.Reading.{BadLine, ending};
 ghost use Rattle.hints_on_files.specs.Kinds.{is_of_stimulus};
@@ -13,7 +13,7 @@ use manifest::{MOST_BYTES, read_manifest};
 use std::alloc::Global;
 use stimulus::{StimError, StimReader};
 
-/// The number of events that a manifest names.
+/// The number of events in the manifest under a name. None if it is refused or can't be read.
 pub fn events_of<S: Shelf>(alloc: Global, name: &str, shelf: &mut S) -> Option<u16>
     ensures { IfSome result (λ events. events ≤ 256) }
 {
@@ -22,7 +22,7 @@ pub fn events_of<S: Shelf>(alloc: Global, name: &str, shelf: &mut S) -> Option<u
     Some(manifest.events().len() as u16)
 }
 
-/// The bad line of a text, counted from 1, for a profile with so many events.
+/// The bad line of a text, counted from 1. `events` is the number of the profile's events.
 fn bad_line(alloc: Global, text: &[u8], events: u16) -> Option<u64>
     ensures { IfSome result (λ line. ending events text.now ≡ BadLine line) }
 {
@@ -46,8 +46,8 @@ fn bad_line(alloc: Global, text: &[u8], events: u16) -> Option<u64>
     None
 }
 
-/// What is wanted in place of the bad line of a text. A last line without a line feed may be good
-/// but for that.
+/// What is expected in place of the bad line. A last line may lack only its line feed, so it is
+/// tried with one.
 fn wanted_in(alloc: Global, mut text: Vec<u8>, events: u16) -> Option<Wanted> {
     let line = bad_line(alloc, &text, events)?;
     let (place, rest) = place_of(&text, line);
@@ -62,8 +62,8 @@ fn wanted_in(alloc: Global, mut text: Vec<u8>, events: u16) -> Option<Wanted> {
     }
 }
 
-/// What is wanted in place of the bad line of a longer text, of which these are whole lines. None
-/// where it isn't among them.
+/// What is expected in place of the bad line of a longer text, by its first whole lines. None if
+/// the line isn't among them.
 fn wanted_before(alloc: Global, text: &[u8], events: u16) -> Option<Wanted> {
     let line = bad_line(alloc, text, events)?;
     let (place, rest) = place_of(text, line);
@@ -73,7 +73,7 @@ fn wanted_before(alloc: Global, text: &[u8], events: u16) -> Option<Wanted> {
     Some(wanted_at(place, events, rest))
 }
 
-/// The whole lines of a text.
+/// The text up to its last line feed.
 fn whole_lines(text: &[u8]) -> &[u8] {
     match text.iter().rposition(|byte| *byte == b'\n') {
         Some(last) => &text[..last + 1],
@@ -81,8 +81,8 @@ fn whole_lines(text: &[u8]) -> &[u8] {
     }
 }
 
-/// What is wanted in place of the bad line of the stimulus under a name. It is looked for in the
-/// first 1,048,576 bytes.
+/// What is expected in place of the bad line of the stimulus under a name. Only the first 1,048,576
+/// bytes are searched.
 pub fn stimulus_hint<S: Shelf>(
     alloc: Global,
     name: &str,
@@ -100,7 +100,7 @@ pub fn stimulus_hint<S: Shelf>(
     Some(Hint::Stimulus(wanted))
 }
 
-/// The same of a stimulus that may have no more bytes than that.
+/// The same for a stimulus that may have at most that many bytes.
 pub fn short_stimulus_hint<S: Shelf>(
     alloc: Global,
     name: &str,

@@ -1,4 +1,4 @@
-//! Why a line of a stimulus is bad.
+//! What is expected in place of a bad line of a stimulus.
 use crate::stimulus_place::{StimulusPlace, cut};
 use crate::wanted::Wanted;
 use cli_words::number_of;
@@ -23,7 +23,7 @@ fn is_value(bytes: &[u8]) -> bool {
     }
 }
 
-/// What is wanted in the words behind `sample `, for a profile with so many events.
+/// What is expected after `sample `. `events` is the number of the profile's events.
 fn sample_wanted(events: u16, words: &[u8]) -> Wanted {
     let Some(space) = words.iter().position(|byte| *byte == b' ') else {
         return Wanted::Line;
@@ -39,7 +39,7 @@ fn sample_wanted(events: u16, words: &[u8]) -> Wanted {
     }
 }
 
-/// What is wanted in place of a whole line that is bad inside a block.
+/// What is expected in place of a whole line that is bad inside a block.
 fn inside_wanted(events: u16, line: &[u8]) -> Wanted {
     if line.starts_with(b"cycle ".as_slice()) {
         return Wanted::Time;
@@ -58,7 +58,8 @@ fn first_block_wanted(line: &[u8]) -> Wanted {
     }
 }
 
-/// What is wanted at a place in place of the bad line with which a text begins.
+/// What is expected in place of the bad line with which the text begins, at this place of a
+/// stimulus.
 pub(crate) fn wanted_at(place: StimulusPlace, events: u16, text: &[u8]) -> Wanted {
     let (line, _) = cut(text);
     if place == StimulusPlace::Ended {

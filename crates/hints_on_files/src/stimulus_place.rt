@@ -1,19 +1,19 @@
-//! Where a line of a stimulus stands.
+//! `StimulusPlace`, what comes before a line of a stimulus.
 
-/// What stands before a line.
+/// What comes before a line.
 #[derive(Clone, Copy, Debug, PartialEq, Eq)]
 pub(crate) enum StimulusPlace {
     /// Nothing.
     First,
-    /// The first line alone.
+    /// Only the first line.
     Between,
-    /// A block that goes on.
+    /// A block that may go on.
     Inside,
-    /// All of a stimulus.
+    /// A whole stimulus.
     Ended,
 }
 
-/// The bytes before the first line feed, and those behind it, where there is one.
+/// The bytes before the first line feed, and those after it, if there is one.
 pub(crate) fn cut(text: &[u8]) -> (&[u8], Option<&[u8]>) {
     match text.iter().position(|byte| *byte == b'\n') {
         Some(end) => (&text[..end], Some(&text[end + 1..])),
@@ -22,7 +22,7 @@ pub(crate) fn cut(text: &[u8]) -> (&[u8], Option<&[u8]>) {
 }
 
 impl StimulusPlace {
-    /// The place behind a line that is good here.
+    /// The place after a line that is good here.
     fn behind(self, line: &[u8]) -> StimulusPlace {
         match line.first() {
             Some(b'c') => StimulusPlace::Inside,
@@ -35,8 +35,7 @@ impl StimulusPlace {
     }
 }
 
-/// The place of a line, counted from 1, the lines before which are good, and the text from there
-/// on.
+/// The place of a line, counted from 1, and the text from there on. The lines before it are good.
 pub(crate) fn place_of(text: &[u8], line: u64) -> (StimulusPlace, &[u8]) {
     let mut place = StimulusPlace::First;
     let mut rest = text;

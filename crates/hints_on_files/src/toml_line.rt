@@ -1,4 +1,4 @@
-//! Where a text stops being TOML.
+//! `TomlLine`, where a text stops being TOML.
 ghost use Rattle.std.specs.Prelude.{◌≤◌, ◌+◌, Some, IfSome, length};
 ghost use Rattle.hints_on_files.specs.Texts.{toml_text};
 
@@ -21,7 +21,7 @@ impl Display for TomlLine {
     }
 }
 
-/// The line, counted from 1, behind these bytes.
+/// The number of the line, counted from 1, that comes after these bytes.
 fn line_behind(before: &[u8]) -> usize
     ensures first { 1 ≤ result }
     ensures last { result ≤ 1 + length before.now }
@@ -36,7 +36,7 @@ fn line_behind(before: &[u8]) -> usize
 }
 
 impl TomlLine {
-    /// None where the bytes are TOML, and where there is no memory.
+    /// None if the bytes are TOML, or memory runs out.
     pub fn of(alloc: Global, bytes: &[u8]) -> Option<TomlLine>
         ensures first { IfSome result (λ at. 1 ≤ at.line) }
         ensures last { IfSome result (λ at. at.line ≤ 1 + length bytes.now) }

@@ -1,19 +1,19 @@
-//! What is wanted in place of a bad line.
+//! `Wanted`, what is expected in place of a bad line, and its text.
 ghost use Rattle.std.specs.Prelude.{Some};
 ghost use Rattle.hints_on_files.specs.Texts.{wanted_text};
 
 use std::fmt;
 use std::fmt::{Display, Formatter, Write};
 
-/// What is wanted in a stimulus where a line is bad.
+/// What is expected in a stimulus in place of a bad line.
 #[derive(Clone, Copy, Debug, PartialEq, Eq)]
 pub enum Wanted {
     FirstLine,
-    /// Behind the first line.
+    /// After the first line.
     FirstBlock,
     /// Inside a block.
     Line,
-    /// Behind `terminate`.
+    /// After `terminate`.
     NoMore,
     /// A line of at most 128 bytes.
     ShortLine,
@@ -21,9 +21,9 @@ pub enum Wanted {
     LineFeed,
     /// A line without a carriage return at its end.
     NoReturn,
-    /// A time of 64 bits.
+    /// A 64-bit time.
     Time,
-    /// The number of one of so many events.
+    /// The number of an event below this count.
     Event { events: u16 },
     /// The value of a sample.
     Value,

@@ -1,4 +1,4 @@
--- Which commands of `det` have a page of their own.
+-- The commands of `det` that have a page of their own.
 use Rattle.std.specs.Prelude.{ℕ, List, [], ◌∷◌, Option, None, Some, option_and_then}
 use Rattle.cli_words.specs.declared.table.CommandWord.{CommandWord}
 use Rattle.cli_words.specs.declared.table.CommandWord.TheVariants.{Help, Version}
@@ -9,7 +9,7 @@ page_of Help = None
 page_of Version = None
 page_of command = Some (row command).word
 
--- the first word, where it is a command with a page
+-- the first argument, if it is a command with a page
 abbrev pub page_word : List (List ℕ) → Option (List ℕ)
 page_word [] = None
 page_word (first ∷ rest) = option_and_then page_of (command_word first)

@@ -1,4 +1,4 @@
--- The texts of hints.
+-- The texts of hints on arguments.
 use Rattle.std.specs.Prelude.{ℕ, List, [], ◌++◌, length, map, take, ◌&&◌, nat_le, nat_lt}
 use Rattle.std.specs.Prelude.{codes, decimal, Option, None, Some, option_map, if◌then◌else◌}
 use Rattle.hints_on_words.specs.declared.help.Help.{Help}
@@ -10,11 +10,11 @@ use Rattle.hints_on_words.specs.declared.fault.WordsFault.TheVariants.{MissingBe
 abbrev pub printable : ℕ → ℕ
 printable byte = if nat_le 32 byte && nat_le byte 126 then byte else 63
 
--- two dots where there are more bytes than are shown
+-- two dots if there are more bytes than are printed
 abbrev pub dots : List ℕ → List ℕ
 dots bytes = if nat_lt 64 (length bytes) then codes ".." else []
 
--- the first 64 bytes
+-- what is printed of untrusted bytes: the first 64, and dots
 abbrev pub shown_text : List ℕ → List ℕ
 shown_text bytes = map printable (take 64 bytes) ++ dots bytes
 
@@ -22,7 +22,7 @@ shown_text bytes = map printable (take 64 bytes) ++ dots bytes
 abbrev pub hint_line : List ℕ → List ℕ
 hint_line text = codes "  " ++ (text ++ codes "\n")
 
--- the number of a word, counted from 1, and what is shown of it
+-- the place of an argument, counted from 1, and what is printed of it
 abbrev pub place_text : ℕ → List ℕ → List ℕ
 place_text number word =
     codes "at the word " ++ (decimal number ++ (codes ": " ++ shown_text word))

@@ -1,4 +1,4 @@
-//! At which word the words of `det` stop being a command.
+//! Finds the first argument of `det` at which the arguments stop being a command.
 ghost use Rattle.std.specs.Prelude.{◌≡◌, ◌↔◌, IsNone, IsSome, codes, option_map};
 ghost use Rattle.cli_words.specs.Names.{texts};
 ghost use Rattle.cli_words.specs.Reading.{command_of};
@@ -9,12 +9,12 @@ use crate::help::Help;
 use crate::shown::Shown;
 use cli_words::{CommandWord, NameKind, OptionWord, Row, is_name, meant, number_of, read_words};
 
-/// What is told behind the word of a command so far.
+/// What the arguments after the command gave so far.
 #[derive(Clone, Copy)]
 struct Told {
     row: Row,
     names: usize,
-    /// The option whose value is the next word.
+    /// The option whose value is the next argument.
     awaited: Option<OptionWord>,
 }
 
@@ -27,7 +27,7 @@ fn is_name_of(kind: NameKind, word: &str) -> bool {
         }
 }
 
-/// Whether a word is a value of an option.
+/// Whether an argument is a value of an option.
 fn is_value_of(option: OptionWord, word: &str) -> bool {
     match (option.row().range, number_of(word)) {
         (Some((least, most)), Some(number)) => least <= number && number <= most,
@@ -35,13 +35,13 @@ fn is_value_of(option: OptionWord, word: &str) -> bool {
     }
 }
 
-/// Whether a word is one of the words.
+/// Whether an argument is among these.
 fn is_among(words: &[String], word: &str) -> bool {
     words.iter().any(|other| other.as_str() == word)
 }
 
 impl Told {
-    /// The option of the command that a word is.
+    /// The option of the command that an argument names.
     fn option(&self, word: &str) -> Option<OptionWord> {
         match OptionWord::of(word) {
             Some(option) if self.row.options.has(option) => Some(option),
@@ -49,8 +49,8 @@ impl Told {
         }
     }
 
-    /// What is told with a word more, behind these ones. None where it can't stand there. An option
-    /// that was told stands among the words, and no name or value looks like one.
+    /// Reads one argument more. None if it can't follow the earlier ones. An option was given
+    /// before exactly if it is among them, since no name or value looks like an option.
     fn with_word(self, earlier: &[String], word: &str) -> Option<Told> {
         if let Some(option) = self.awaited {
             let awaited = None;
@@ -78,7 +78,7 @@ impl Told {
         }
     }
 
-    /// Why a word can't stand at this number.
+    /// Why an argument can't be at this place, counted from 1.
     fn refusal<'a>(&self, number: usize, word: &'a str) -> WordsFault<'a> {
         let word = Shown::of(word);
         let Some(option) = self.awaited else {
@@ -97,7 +97,8 @@ impl Told {
         }
     }
 
-    /// What is missing where all words were read.
+    /// What is missing after the last argument. All of them were read, and they still are no
+    /// command.
     fn lack(&self) -> WordsFault<'static> {
         if let Some(option) = self.awaited {
             return WordsFault::MissingBehind {
@@ -118,7 +119,7 @@ impl Told {
     }
 }
 
-/// Why the words from the second one on don't go on with the command of the first one.
+/// Why the arguments from the second one on don't complete the command of the first one.
 fn fault_behind(row: Row, words: &[String]) -> WordsFault<'_> {
     let mut told = Told {
         row,
@@ -140,7 +141,7 @@ fn fault_at(number: usize, word: &str) -> WordsFault<'_> {
     WordsFault::At { number, word }
 }
 
-/// The first word that is no command, or one behind it.
+/// The first argument if it names no command, or else the fault after it.
 fn fault_from<'a>(first: &'a str, words: &'a [String]) -> WordsFault<'a> {
     match CommandWord::of(first) {
         Some(command) => fault_behind(command.row(), words),
@@ -148,7 +149,7 @@ fn fault_from<'a>(first: &'a str, words: &'a [String]) -> WordsFault<'a> {
     }
 }
 
-/// Of two words one of which is a word for help, the one that is in the way.
+/// The fault of two arguments, at the one that keeps them from asking for help.
 fn fault_of_two<'a>(first: &'a str, second: &'a str, words: &'a [String]) -> WordsFault<'a> {
     if first == "help" {
         return fault_at(2, second);
@@ -162,7 +163,7 @@ fn fault_of_two<'a>(first: &'a str, second: &'a str, words: &'a [String]) -> Wor
     fault_from(first, words)
 }
 
-/// Why the words after the program's name are no command of `det`. None where they are one.
+/// Why the arguments after the program's name are no command of `det`. None if they are one.
 pub fn words_fault(words: &[String]) -> Option<WordsFault<'_>>
     ensures { IsNone result ↔ IsSome (command_of (texts words.now)) }
 {
@@ -177,7 +178,7 @@ pub fn words_fault(words: &[String]) -> Option<WordsFault<'_>>
     })
 }
 
-/// The word of a command that has a page of its own.
+/// The command's word, if the command has a page of its own.
 fn page_of(command: CommandWord) -> Option<&'static str>
     ensures { option_map (λ word. word.now) result ≡ page_of command }
 {
@@ -187,7 +188,7 @@ fn page_of(command: CommandWord) -> Option<&'static str>
     }
 }
 
-/// The first word, where it is a command with a page.
+/// The first argument, if it is a command with a page.
 fn page_word(words: &[String]) -> Option<&'static str>
     ensures { option_map (λ word. word.now) result ≡ page_word (texts words.now) }
 {
@@ -197,8 +198,8 @@ fn page_word(words: &[String]) -> Option<&'static str>
     }
 }
 
-/// Where the words that `det` takes are told: on the page of the command, where the first word is
-/// one that has a page.
+/// Where help is found: on the page of the command that the first argument names, or else on the
+/// page of `det`.
 pub fn help_for(words: &[String]) -> Help
     ensures program { result.program.now ≡ codes "det" }
     ensures page { option_map (λ word. word.now) result.command ≡ page_word (texts words.now) }

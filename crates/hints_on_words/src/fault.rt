@@ -1,4 +1,4 @@
-//! Why words are no command.
+//! `WordsFault`, why arguments are no command, and its text.
 ghost use Rattle.std.specs.Prelude.{Some};
 ghost use Rattle.hints_on_words.specs.Texts.{words_fault_text};
 
@@ -6,15 +6,16 @@ use crate::shown::Shown;
 use std::fmt;
 use std::fmt::{Display, Formatter, Write};
 
-/// Why words are no command. Words are counted from 1, behind the name of the program.
+/// Why arguments are no command. They are counted from 1, after the program's name.
 #[derive(Clone, Copy)]
 pub enum WordsFault<'a> {
-    /// A word that can't stand at its place.
+    /// An argument that can't be at its place.
     At {
         number: usize,
         word: Shown<'a>,
     },
-    /// A word at the place of a number that isn't one from the least to the most.
+    /// An argument in place of a number, which isn't one from `least` to `most`. `taker` is the
+    /// option or the place that takes the number.
     OutOfRange {
         number: usize,
         word: Shown<'a>,
@@ -22,16 +23,16 @@ pub enum WordsFault<'a> {
         least: u64,
         most: u64,
     },
-    /// What is missing at the end of the words.
+    /// What is missing after the last argument.
     Missing {
         what: &'static str,
     },
-    /// What is missing at the end of the words, and the word that wants it.
+    /// What is missing after the last argument, and the argument that needs it.
     MissingBehind {
         what: &'static str,
         taker: &'static str,
     },
-    /// Two options of which a command takes one.
+    /// Two options that exclude each other.
     Both {
         one: &'static str,
         other: &'static str,

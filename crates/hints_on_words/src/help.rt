@@ -1,11 +1,11 @@
-//! Where help is found.
+//! `Help`, the hint where help is found.
 ghost use Rattle.std.specs.Prelude.{Some};
 ghost use Rattle.hints_on_words.specs.Texts.{help_text};
 
 use std::fmt;
 use std::fmt::{Display, Formatter, Write};
 
-/// The words that print what a program, or one of its commands, takes.
+/// The arguments that print the usage of a program, or the page of one of its commands.
 #[derive(Clone, Copy)]
 pub struct Help {
     pub program: &'static str,

@@ -1,8 +1,8 @@
-//! Hints: lines behind the one line on standard error, of what no contract sees. Each begins with
-//! two spaces.
+//! Hints: lines after the answer's line on standard error, each of which begins with two spaces.
 //!
-//! Here stand how a hint is written, what is shown of a word and of an error of the system, and
-//! hints on words that are no command.
+//! The contracts of the programs don't cover hints. This crate writes them, shows untrusted bytes
+//! and system errors in them, and finds what is wrong with arguments. Hints on files are in
+//! `hints_on_files`.
 #![tactic(auto)]
 
 mod command_words;

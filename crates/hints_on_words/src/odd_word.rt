@@ -1,4 +1,4 @@
-//! Words that are no text.
+//! `OddWord`, an argument that isn't UTF-8, which the program itself doesn't see.
 ghost use Rattle.std.specs.Prelude.{◌≡◌, ◌≤◌, take, IfSome, IsUtf8};
 ghost use Rattle.hints_on_words.specs.Texts.{place_text, words_fault_text};
 
@@ -6,10 +6,10 @@ use crate::fault::WordsFault;
 use crate::shown::Shown;
 use std::env::{Env, FillError};
 
-/// The greatest length of a word that is looked at, in bytes.
+/// The greatest length of an argument that is examined, in bytes.
 const ROOM: usize = 4096;
 
-/// The first word behind the program's name that isn't UTF-8.
+/// The first argument after the program's name that isn't UTF-8.
 #[derive(Drop)]
 pub struct OddWord {
     number: usize,
@@ -19,7 +19,8 @@ pub struct OddWord {
 }
 
 impl OddWord {
-    /// None where there is no such word, or it is too long.
+    /// Searches the arguments of this process. None if all are UTF-8, or the others are longer than
+    /// 4,096 bytes.
     pub fn first<E: Env>(rt: &E) -> Option<OddWord>
         ensures { IfSome result (λ odd. IsUtf8 (take odd.len odd.bytes) → ⊥) }
     {
@@ -36,7 +37,7 @@ impl OddWord {
         None
     }
 
-    /// That it can't stand at its place.
+    /// The fault of this argument.
     pub fn fault(&self) -> WordsFault<'_>
         ensures { words_fault_text result
             ≡ place_text self.now.number (take self.now.len self.now.bytes) }

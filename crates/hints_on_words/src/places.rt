@@ -1,16 +1,16 @@
-//! Words that have fixed places.
+//! Arguments at fixed places, as `det_lane` and `det_twin` take them.
 ghost use Rattle.std.specs.Prelude.{◌≤◌, length, IsNone};
 
 use crate::fault::WordsFault;
 use crate::shown::Shown;
 use cli_words::{is_name, number_of};
 
-/// What stands at a place, with the word by which help names it.
+/// What an argument at a place is, with the name that the usage has for it.
 #[derive(Clone, Copy)]
 pub enum WordKind {
     /// The path of a file.
     Name(&'static str),
-    /// A number from 2 to 8.
+    /// A number of copies, 2 to 8.
     Copies(&'static str),
 }
 
@@ -32,7 +32,7 @@ impl WordKind {
         }
     }
 
-    /// Why a word can't stand at this number.
+    /// Why an argument can't be at this place, counted from 1.
     fn refusal(self, number: usize, word: &str) -> WordsFault<'_> {
         let word = Shown::of(word);
         match self {
@@ -48,8 +48,8 @@ impl WordKind {
     }
 }
 
-/// The first of these places at which another word stands, or none. None where the words begin with
-/// all of these kinds.
+/// The first of these places whose argument is missing or of another kind. None if the arguments
+/// begin with all these kinds.
 pub fn misplaced<'a>(kinds: &[WordKind], words: &'a [String]) -> Option<WordsFault<'a>>
     ensures { IsNone result → length kinds.now ≤ length words.now }
 {

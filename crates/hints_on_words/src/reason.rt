@@ -1,18 +1,18 @@
-//! Why the system failed.
+//! `Reason`, the system's text for an error.
 use crate::shown::Shown;
 use std::alloc::Global;
 use std::fmt;
 use std::fmt::{Display, Formatter, Write};
 use std::io::Error;
 
-/// The system's reason for an error, without its number.
+/// The system's text for an error, without its number.
 #[derive(Drop)]
 pub struct Reason {
     text: String,
 }
 
 impl Reason {
-    /// None where there is no memory for its text.
+    /// None if memory runs out.
     pub fn of(alloc: Global, error: Error) -> Option<Reason> {
         match format!(in alloc; "{error}") {
             Ok(text) => Some(Reason { text }),
@@ -20,7 +20,7 @@ impl Reason {
         }
     }
 
-    /// The text up to its number.
+    /// The text before the error's number.
     fn words(&self) -> &str {
         match self.text.as_str().split_once(" (os error ") {
             Some((words, _)) => words,

@@ -1,15 +1,15 @@
-//! What is shown of bytes that others chose.
+//! `Shown`, untrusted bytes made fit for a terminal.
 ghost use Rattle.std.specs.Prelude.{◌≡◌, Some, take};
 ghost use Rattle.hints_on_words.specs.Texts.{dots, printable, shown_text};
 
 use std::fmt;
 use std::fmt::{Display, Formatter, Write};
 
-/// How many bytes are shown.
+/// How many bytes are printed.
 const MOST: usize = 64;
 
-/// The first 64 of some bytes, with a `?` for each that isn't a printable ASCII character, and two
-/// dots where there are more.
+/// The first 64 of these bytes, and two dots if there are more. A byte that isn't a printable ASCII
+/// character is printed as `?`, so no control character reaches the terminal.
 #[derive(Clone, Copy)]
 pub struct Shown<'a> {
     pub bytes: &'a [u8],
@@ -35,7 +35,7 @@ fn printable(byte: u8) -> char
     }
 }
 
-/// The bytes that are shown.
+/// The bytes that are printed.
 fn front(bytes: &[u8]) -> &[u8]
     ensures { result.now ≡ take 64 bytes.now }
 {
@@ -46,7 +46,7 @@ fn front(bytes: &[u8]) -> &[u8]
     }
 }
 
-/// What stands for the bytes that aren't shown.
+/// Two dots in place of the bytes that aren't printed.
 fn dots(bytes: &[u8]) -> &'static str
     ensures { result.now ≡ dots bytes.now }
 {

@@ -1,4 +1,4 @@
-//! What the system did not do.
+//! Hints on what the system failed to do.
 ghost use Rattle.std.specs.Prelude.{◌≡◌, IsNone, IfSome};
 ghost use Rattle.std.specs.IoError.{error_kind};
 ghost use Rattle.std.specs.declared.io.ErrorKind.TheVariants.{BrokenPipe};
@@ -11,7 +11,7 @@ use std::io::{Error, ErrorKind};
 use std::rt::Files;
 use std::{fmt, fs};
 
-/// A file that could not be opened or read.
+/// A file that couldn't be opened or read, with the system's reason.
 #[derive(Drop)]
 pub struct Unread<'a> {
     name: Shown<'a>,
@@ -19,8 +19,8 @@ pub struct Unread<'a> {
 }
 
 impl<'a> Unread<'a> {
-    /// Of the names that a shelf opened in their order, the one whose slot failed last. None where
-    /// no name has that slot, and where there is no memory.
+    /// The name whose slot failed last. `names` are in the order in which the shelf opened them.
+    /// None if no name has that slot, or memory runs out.
     pub fn of(alloc: Global, names: &[&'a str], failed: Option<(u32, Error)>) -> Option<Unread<'a>>
         ensures { IsNone failed → IsNone result }
     {
@@ -39,8 +39,8 @@ impl Display for Unread<'_> {
     }
 }
 
-/// Why a write failed. None where nobody reads any more, which is no fault of the output's, and
-/// where there is no memory.
+/// Why a write failed. None if memory runs out, or for a broken pipe: the reader closed it, which
+/// is no fault of the output.
 pub fn unwritten(alloc: Global, failed: Option<Error>) -> Option<Reason>
     ensures none { IsNone failed → IsNone result }
     ensures pipe { IfSome failed (λ error. error_kind error ≡ BrokenPipe → IsNone result) }
@@ -52,8 +52,8 @@ pub fn unwritten(alloc: Global, failed: Option<Error>) -> Option<Reason>
     }
 }
 
-/// Whether all of these names are those of regular files, which can be read once more, and without
-/// waiting for anybody.
+/// Whether all these names are regular files. Such a file can be read again, and without waiting
+/// for a writer.
 pub fn can_reread<R: Files>(rt: &R, names: &[&str]) -> bool {
     for name in names {
         match fs::metadata(rt, *name) {

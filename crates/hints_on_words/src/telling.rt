@@ -1,4 +1,4 @@
-//! The writing of a hint.
+//! Writes a hint.
 ghost use Rattle.std.specs.Prelude.{IfSome};
 ghost use Rattle.det_io.specs.Sink.{GrewByPrefix};
 ghost use Rattle.hints_on_words.specs.Texts.{hint_line};
@@ -7,8 +7,8 @@ use det_io::{Sink, write_all};
 use std::alloc::Global;
 use std::fmt::Display;
 
-/// Writes a hint as one line that begins with two spaces. False where there was no memory for it,
-/// or the sink failed.
+/// Writes a hint as one line that begins with two spaces. False if memory runs out or the sink
+/// fails.
 pub fn tell<D: Display + Drop, K: Sink>(alloc: Global, hint: D, err: &mut K) -> bool
     ensures { IfSome (D.output hint) (λ text.
         GrewByPrefix (K.took err.old) (K.took err.new) (hint_line text)) }

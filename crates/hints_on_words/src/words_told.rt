@@ -1,4 +1,4 @@
-//! The hints on words that a program refused.
+//! Writes the hints on arguments that a program refused.
 use crate::fault::WordsFault;
 use crate::help::Help;
 use crate::odd_word::OddWord;
@@ -7,9 +7,10 @@ use det_io::Sink;
 use std::alloc::Global;
 use std::env::Env;
 
-/// Writes why the words of a program can't be, and where help is found. Words of which one isn't
-/// UTF-8 were taken for none, so such a word is told before any other fault. Where the first hint
-/// can't be written the second isn't tried.
+/// Writes why the arguments of a program are refused, and where help is found.
+///
+/// A program takes no arguments at all if one of them isn't UTF-8. Such an argument is therefore
+/// reported before any other fault. If the first hint can't be written, the second isn't tried.
 pub fn tell_words<R: Env, E: Sink>(
     rt: &R,
     alloc: Global,

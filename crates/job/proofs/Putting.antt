@@ -1,4 +1,4 @@
--- An element whose length is put into its place when it is known.
+-- An element whose length is filled in at the end.
 use Rattle.std.proofs.Common.{◌≡◌, ℕ, ◌+◌, ◌-◌, ◌≤◌, List, [], ◌∷◌, ◌++◌, length, take, drop}
 use Rattle.std.proofs.Common.{ap, ◌∙◌, append_assoc, arith, length-append}
 use Rattle.std.proofs.Math.Seq.{take-append_seam, drop-append_seam}
@@ -26,7 +26,7 @@ put_is old one two three last shown at n draws a e1 e2 en e3 e4 =
     ∙ append_assoc old (spelled_u16 (length shown) ++ shown) (spelled_u32 draws)
     ∙ ap (λ (xs : List ℕ). old ++ xs) (append_assoc (spelled_u16 (length shown)) shown (spelled_u32 draws))
 
--- how many bytes stand before the draws
+-- the number of bytes before the draws
 pub put_few : (old one two three shown : List ℕ) (at n : ℕ) → at ≡ length old → one ≡ old ++ 0 ∷ 0 ∷ [] → two ≡ one ++ shown
     → n ≡ length two - at - 2 → three ≡ take at two ++ (spelled_u16 n ++ drop (at + 2) two) → length shown ≤ 64
     → length three ≤ length old + 66

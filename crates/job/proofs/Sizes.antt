@@ -1,4 +1,4 @@
--- The sizes of blocks, and which elements are in them.
+-- The sizes of blocks, and their elements.
 use Rattle.std.proofs.Common.{◌≡◌, ℕ, ◌+◌, ◌-◌, ◌*◌, ◌/◌, ◌%◌, ◌<◌, ◌≤◌, ◌⊎◌, inl, inr, refl, ap, subst, sym, arith, if◌then◌else◌}
 use Rattle.std.proofs.lemmas.Bool.Decides.{leb_tells}
 use Rattle.job.specs.Pass.{block_size}
@@ -32,7 +32,7 @@ covers n = by_size (block_size n) (sizes n) where
   by_size w (inl h) = subst (λ (w : ℕ). n ≤ w * ((n + (w - 1)) / w)) (sym h.1) (omega arith)
   by_size w (inr h) = subst (λ (w : ℕ). n ≤ w * ((n + (w - 1)) / w)) (sym h) (omega arith)
 
--- a block stands in one block of a container
+-- a block of a pass lies in one block of a container
 pub together : (n b : ℕ) → block_size n * b % 256 + block_size n ≤ 256
 together n b = by_size (block_size n) (sizes n) where
   by_size : (w : ℕ) → ((n ≤ 4096) × (w ≡ 64)) ⊎ (w ≡ 256) → w * b % 256 + w ≤ 256
@@ -45,6 +45,6 @@ few_blocks n le = by_size (block_size n) (sizes n) where
   by_size w (inl h) = subst (λ (w : ℕ). (n + (w - 1)) / w ≤ 256) (sym h.1) (omega (arith, h.0))
   by_size w (inr h) = subst (λ (w : ℕ). (n + (w - 1)) / w ≤ 256) (sym h) (omega (arith, le))
 
--- the next block begins behind this one
+-- the next block begins after this one
 pub next_begins : (w b : ℕ) → w * (b + 1) ≡ w * b + w
 next_begins w b = omega arith

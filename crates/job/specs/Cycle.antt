@@ -1,4 +1,5 @@
--- One cycle of a job: its sequential begin, the passes, its sequential end. No worker stands here.
+-- One cycle of a job: its sequential begin, the passes, its sequential end. It doesn't mention
+-- workers.
 use Rattle.std.specs.Prelude.{ℕ, ℤ, zero, suc, ◌+◌, ◌-◌, List, [], ◌∷◌, Result, Ok, Err, Option}
 use Rattle.det_values.specs.declared.frames.DrawnElement.{DrawnElement}
 use Rattle.det_values.specs.declared.frames.Outcome.{Outcome}
@@ -8,13 +9,13 @@ use Rattle.det_values.specs.Values.{RefusedAtValue}
 use Rattle.job.specs.Meaning.{Meaning}
 use Rattle.job.specs.Pass.{Passed, Refusal, passed}
 
--- what stays between cycles
+-- the state between cycles
 pub record State (G E : Type 0) : Type 0 where
   pub globals : G
   pub elements : List E
   pub seed : ℕ
 
--- what a finished cycle leaves and shows
+-- the state after a finished cycle, the bytes of its elements and its output
 pub record Done (G E : Type 0) : Type 0 where
   pub state : State G E
   pub shown : List DrawnElement
@@ -26,8 +27,7 @@ added [] ys = []
 added (x ∷ xs) [] = []
 added (x ∷ xs) (y ∷ ys) = (x + y) ∷ added xs ys
 
--- where a cycle is refused: by an element in a pass, or outside the pool, where pass and element
--- are 0
+-- the place of a refusal: an element in a pass, or outside the pool, where pass and element are 0
 abbrev pub refused_in_pool : ℕ → Refusal → RefusedAtValue
 refused_in_pool pass r = record { phase = Pool; pass = pass; element = r.element; code = r.code }
 
@@ -37,21 +37,21 @@ refused_in_prepare code = record { phase = Prepare; pass = 0; element = 0; code 
 abbrev pub refused_in_conclude : ℕ → RefusedAtValue
 refused_in_conclude code = record { phase = Conclude; pass = 0; element = 0; code = code }
 
--- a pass of that number, its answer changed
+-- the result of pass p, with a change to it if it succeeded
 abbrev pub in_pool : {E P : Type 0} → ℕ → (Passed E P → Passed E P)
     → Result (Passed E P) Refusal → Result (Passed E P) RefusedAtValue
 in_pool p change (Ok next) = Ok (change next)
 in_pool p change (Err r) = Err (refused_in_pool p r)
 
 module _ {S G E L P : Type 0} (m : Meaning S G E L P) (j : S) where
-  -- each new element's bytes, and the words that it drew
+  -- each new element's bytes, and its draws
   abbrev pub shown_with : List E → List ℕ → List DrawnElement
   shown_with [] ds = []
   shown_with (e ∷ es) [] = []
   shown_with (e ∷ es) (d ∷ ds) = record { bytes = m.shown j e; draws = d } ∷ shown_with es ds
 
-  -- pass number p over the elements of the one before, carrying its part; the words are added to
-  -- those drawn so far
+  -- pass p over the elements of the pass before, carrying its part; its draws are added to those so
+  -- far
   abbrev pub next_pass : L → ℕ → ℕ → ℕ → Passed E P → Result (Passed E P) RefusedAtValue
   next_pass plan seed cycle p done =
       in_pool p (λ next. record {
@@ -66,7 +66,7 @@ module _ {S G E L P : Type 0} (m : Meaning S G E L P) (j : S) where
   first_pass plan seed cycle es = in_pool 0 (λ first. first)
       (passed m j plan (m.unit_part j) seed cycle 0 es)
 
-  -- n more passes, the first of number p; a refusal ends them
+  -- n more passes from pass p on; a refusal ends them
   abbrev pub passes_on : L → ℕ → ℕ → ℕ → ℕ → Result (Passed E P) RefusedAtValue
       → Result (Passed E P) RefusedAtValue
   passes_on plan seed cycle n p (Err at) = Err at
@@ -91,7 +91,7 @@ module _ {S G E L P : Type 0} (m : Meaning S G E L P) (j : S) where
         | Err code ↦ Err (refused_in_conclude code)
       ]
 
-  -- one cycle of a state, by the windows, the cycle's number, its time and the next time
+  -- one cycle from a state, given the windows, the cycle's number, its time and the next time
   abbrev pub cycled : State G E → List (List ℤ) → ℕ → Option ℕ → Option ℕ
       → Result (Done G E) RefusedAtValue
   cycled s windows cycle time next =

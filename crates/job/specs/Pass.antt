@@ -1,22 +1,23 @@
--- One pass over the elements of a container, taken one after another: what RunWorkerPool of the
--- AUTOSAR Adaptive Platform does over a container, whatever its workers do. No worker stands here.
+-- One pass over the elements of a container in order: the result that RunWorkerPool of the AUTOSAR
+-- Adaptive Platform must have, whatever its workers do. It doesn't mention workers.
 use Rattle.std.specs.Prelude.{ℕ, ◌+◌, ◌*◌, List, [], ◌∷◌, ◌++◌, length, take, drop, Result, Ok, Err}
 use Rattle.std.specs.Prelude.{nat_le, if◌then◌else◌}
 use Rattle.det_client.specs.element_random.Words.{key}
 use Rattle.job.specs.Meaning.{Meaning, Worked}
 
--- the new elements, the words that each drew, and the parts joined
+-- the new elements, the draws of each, and the joined part
 pub record Passed (E P : Type 0) : Type 0 where
   pub elements : List E
   pub draws : List ℕ
   pub part : P
 
--- How many elements a block has, but for the last one, where they are so many: 64 while all workers are to get some,
--- 256 where a block is soon done beside what its claim costs.
+-- The number of elements of a block, given the number of all elements; the last block may be
+-- shorter. Up to 4,096 elements it is 64, so that all workers get some. Beyond it is 256, so that a
+-- claim costs little beside a block.
 unfoldable pub block_size : ℕ → ℕ
 block_size n = if nat_le n 4096 then 64 else 256
 
--- of a list with a value for each of n elements, those of block b
+-- from a list with a value for each of n elements: the values of block b
 abbrev pub in_block : {X : Type 0} → ℕ → ℕ → List X → List X
 in_block n b xs = take (block_size n) (drop (block_size n * b) xs)
 
@@ -27,11 +28,11 @@ pub record Refusal : Type 0 where
 
 module _ {S G E L P : Type 0} (m : Meaning S G E L P) (j : S) (plan : L) (carry : P)
     (seed cycle pass : ℕ) where
-  -- what stands before any element
+  -- the result of no element
   abbrev pub nothing : Passed E P
   nothing = record { elements = []; draws = []; part = m.unit_part j }
 
-  -- one element's answer added
+  -- a result with one more element
   abbrev pub more : Passed E P → Worked E P → ℕ → Passed E P
   more done w drawn = record {
     elements = done.elements ++ w.element ∷ [];
@@ -39,8 +40,7 @@ module _ {S G E L P : Type 0} (m : Meaning S G E L P) (j : S) (plan : L) (carry 
     part = m.joined j done.part w.part;
   }
 
-  -- the elements from number i on, one after another, added to what is done; the first refusal ends
-  -- it
+  -- the elements from index i on, in order, added to a result; the first refusal ends it
   abbrev pub taken : ℕ → List E → Passed E P → Result (Passed E P) Refusal
   taken i [] done = Ok done
   taken i (e ∷ es) done =

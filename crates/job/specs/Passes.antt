@@ -1,4 +1,4 @@
--- A pass that is to be run, and what answers it.
+-- A pass to be run, and the results that a pool may return.
 use Rattle.std.specs.Prelude.{◌≡◌, ℕ, ◌+◌, ◌-◌, ◌/◌, ◌<◌, ◌≤◌, ◌⊎◌, List, [], ◌∷◌, length, true}
 use Rattle.std.specs.Prelude.{Result, Ok, Err, IfOk, IfErr, Bool}
 use Rattle.std.specs.List.{All}
@@ -10,7 +10,7 @@ use Rattle.job.specs.declared.pass.PassDone.{PassDone}
 use Rattle.job.specs.declared.pass.PoolFault.{PoolFault}
 use Rattle.job.specs.declared.pass.PoolFault.TheVariants.{Refused, OutOfMemory}
 
--- a pass that is to be run
+-- a pass to be run
 pub record PassValue (S E L P : Type 0) : Type 0 where
   pub job : S
   pub plan : L
@@ -20,9 +20,9 @@ pub record PassValue (S E L P : Type 0) : Type 0 where
   pub elements : List E
   pub seed : ℕ
   pub cycle : ℕ
-  -- the words that each element drew in the passes before, where there were any
+  -- the draws of each element in the passes before; empty in the first pass
   pub earlier : List ℕ
-  -- whether its new elements are to be shown
+  -- whether the pass also returns the bytes of its new elements
   pub shows : Bool
 
 -- the number of blocks of n elements, and of a pass
@@ -35,7 +35,7 @@ blocks_in t = blocks_of (length t.elements)
 abbrev pub passed_of : {E P : Type 0} → PassDone E P → Passed E P
 passed_of done = record { elements = done.elements; draws = done.draws; part = done.part }
 
--- the answer is what the pass gives; want of memory is free
+-- the result is that of the pass; only "out of memory" may be returned without a cause here
 abbrev pub IsPass : {E P : Type 0} → Result (PassDone E P) PoolFault → Result (Passed E P) Refusal
     → Type 0
 IsPass (Ok done) pass = pass ≡ Ok (passed_of done)
@@ -47,18 +47,18 @@ abbrev pub RefusedBelow : ℕ → PoolFault → Type 0
 RefusedBelow n (Refused element code) = element < n
 RefusedBelow n OutOfMemory = Unit {0}
 
--- the words drawn in passes before, if there were any, and those of a pass
+-- the draws of the passes before, if any, plus those of a pass
 abbrev pub drawn_so_far : List ℕ → List ℕ → List ℕ
 drawn_so_far [] draws = draws
 drawn_so_far (n ∷ earlier) draws = added (n ∷ earlier) draws
 
 module _ {S G E L P : Type 0} where
-  -- what the whole pass gives
+  -- the result of the whole pass
   abbrev pub pass_of : Meaning S G E L P → PassValue S E L P → Result (Passed E P) Refusal
   pass_of m t =
       passed m t.job t.plan t.carry t.seed t.cycle t.number t.elements
 
-  -- what its block b gives
+  -- the result of its block b
   abbrev pub block_in : Meaning S G E L P → PassValue S E L P → ℕ → Result (Passed E P) Refusal
   block_in m t b = block m t.job t.plan t.carry t.seed t.cycle t.number b t.elements
 
@@ -74,7 +74,7 @@ module _ {S G E L P : Type 0} where
     pub level : (t.earlier ≡ []) ⊎ (length t.earlier ≡ length t.elements)
     pub few_earlier : All (λ draws. draws ≤ 458745) t.earlier
 
-  -- an answer of a pass
+  -- a result that a pool may return for a pass
   pub record IsAnswer (m : Meaning S G E L P) (Covers : S → P → ℕ → Type 0) (Own : S → E → Type 0)
       (t : PassValue S E L P) (answer : Result (PassDone E P) PoolFault) : Type 0 where
     pub is : IsPass answer (pass_of m t)

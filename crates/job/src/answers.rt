@@ -1,22 +1,22 @@
-//! What the calls of a job answer.
+//! The results and errors of a job's calls.
 
 use det_values::{Bytes, Container, OutOfMemory};
 
-/// A parameter that a job refuses, by its index.
+/// A parameter that a job refuses, by its index, counted from 0.
 ///
-/// A missing parameter has the index of the place where it should stand, a surplus one that of the
-/// first one too many.
+/// A missing parameter has the index at which it is missing. For too many parameters the index is
+/// that of the first surplus one.
 #[derive(Clone, Copy, Debug, PartialEq, Eq, Drop)]
 pub struct BadParam {
     pub index: u8,
 }
 
-/// Why a job's call gives no answer.
+/// Why a call of a job failed.
 #[derive(Clone, Copy, Debug, PartialEq, Eq, Drop)]
 pub enum JobFault {
-    /// The job refuses the cycle, with a code of its own.
+    /// The job refuses the cycle, with a code that the job defines.
     Code(u32),
-    /// Memory could not be had.
+    /// Memory could not be allocated.
     OutOfMemory,
 }
 
@@ -31,14 +31,14 @@ impl From<OutOfMemory> for JobFault {
     }
 }
 
-/// What a job starts with.
+/// The globals and elements that a job starts with.
 #[derive(Debug, Drop)]
 pub struct Started<G, E> {
     pub globals: G,
     pub elements: Container<E>,
 }
 
-/// What a finished cycle leaves and shows.
+/// The globals after a finished cycle, and the cycle's output.
 #[derive(Debug, Drop)]
 pub struct Concluded<G> {
     pub globals: G,

@@ -1,9 +1,10 @@
-//! The blocks in which the elements of a pass are run. Workers claim them.
+//! The size of the blocks that workers claim in a pass.
 ghost use Rattle.std.specs.Prelude.{◌≡◌, ◌≤◌, ◌<◌};
 ghost use Rattle.job.specs.Pass.{block_size};
 ghost use Rattle.job.specs.Passes.{blocks_of};
 
-/// How many elements a block has, but for the last one, where there are so many in all.
+/// The number of elements of a block, given the number of all elements. The last block may be
+/// shorter.
 #[tactic(auto, unfolding(crate::specs::Pass::block_size))]
 pub fn block_size(elements: usize) -> usize
     ensures size { result ≡ block_size elements }
@@ -13,7 +14,7 @@ pub fn block_size(elements: usize) -> usize
     if elements <= 4_096 { 64 } else { 256 }
 }
 
-/// The number of blocks of so many elements.
+/// The number of blocks of this many elements.
 pub fn block_count(elements: usize) -> u32
     requires { elements ≤ 65536 }
     ensures count { result ≡ blocks_of elements }

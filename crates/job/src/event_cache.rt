@@ -1,5 +1,5 @@
-//! The event data that a cycle sees: for each event a window of its latest samples, which stands
-//! still during the cycle, while what arrives waits for the next one.
+//! Windows of events: the latest samples of each event, fixed during a cycle. Samples that arrive
+//! in a cycle wait for the next one.
 
 mod cache;
 mod rings;

@@ -1,4 +1,4 @@
-//! The trait.
+//! The trait `Job`: the calls of an application, in the order in which an engine makes them.
 
 ghost use Rattle.std.specs.Prelude.{◌≡◌, ℕ, ◌<◌, ◌≤◌, ◌++◌, List, length, None, Some, MatchResult};
 ghost use Rattle.std.specs.Prelude.{◌+◌, IfOk, OnOk, OnErr};
@@ -16,31 +16,35 @@ use det_values::put::fill_u16;
 use det_values::{Bytes, Container, OutOfMemory, Params};
 use std::alloc::Global;
 
-/// A cyclic application over a container of elements. A value of it is fixed by its parameters and
-/// the number of events.
+/// A cyclic application over a container of elements. Its parameters and the number of events
+/// determine it.
 ///
-/// Where a call is given a `spare` value nobody needs it: it may use its memory, whatever stands in
-/// it, so that a cycle asks for none.
+/// A `spare` value is no longer needed. A call may reuse its memory, whatever it holds, so that
+/// later cycles need no new memory. A call that refuses leaves it for the next cycle. If it were
+/// passed by value, each implementation would have to repeat the clauses of the method.
 ///
-/// What the calls mean is `meaning`. `Own` says which elements are the job's own, `Fit` which plans
-/// are, and `Covers` from how many elements a part may come. `laws` are proved of these by every
-/// implementation.
+/// `meaning` defines the results of all calls. `Own` holds for the elements that the job can have,
+/// and `Fit` for its plans. `Covers` relates a part to the number of elements that it may come
+/// from. Each implementation proves `laws` about these. The calls ensure `Fit`, `Own` and `Covers`
+/// of their results, so generic code cites no law for these. Only for the part that `run` leaves it
+/// needs the laws `covers_run` and `covers_joined`.
 pub trait Job: Sized + Drop {
     ghost use Rattle.job.specs.Meaning.{Meaning, Agrees, AgreesWithSeed, AgreesWithPart};
     ghost use Rattle.job.specs.Meaning.{joined_to, IfTold};
     ghost use Rattle.job.specs.Laws.{JobLaws, CoversSome, CoverTogether, CoversBoth};
     ghost use Rattle.det_values.specs.Spelling.{Grows, an_element, spelled_drawn};
 
-    /// What stays between cycles beside the elements.
+    /// The state that stays between cycles besides the elements.
     type Globals: Drop;
 
     /// One element of the container.
     type Element: Drop;
 
-    /// What the sequential begin of a cycle tells its passes.
+    /// The result of a cycle's sequential begin, which all its passes read.
     type Plan: Drop;
 
-    /// What a pass gathers from its elements, and hands to the next one.
+    /// The result that a pass gathers from its elements. The next pass, or the end of the cycle,
+    /// reads it.
     type Part: Drop;
 
     ghost meaning: { Meaning Self Self.Globals Self.Element Self.Plan Self.Part };
@@ -51,15 +55,15 @@ pub trait Job: Sized + Drop {
 
     ghost Fit: { Self → Self.Plan → Type 0 };
 
-    /// The job of these parameters. It takes no memory.
+    /// The job with these parameters. It allocates nothing.
     fn make(params: &Params, events: u16) -> Result<Self, BadParam>
         ensures { MatchResult result
             (λ job. (meaning.bad_param params.now events ≡ None)
             × (job ≡ meaning.made params.now events))
             (λ bad. meaning.bad_param params.now events ≡ Some bad.index) };
 
-    /// The elements and globals of a new run. The client stands in Init, which belongs to cycle 0;
-    /// the job may draw from it and set its seed.
+    /// The elements and globals of a new run. The client is in Init, which belongs to cycle 0. The
+    /// job may draw from it and set its seed.
     fn start(
         &self,
         alloc: Global,
@@ -77,8 +81,8 @@ pub trait Job: Sized + Drop {
         ensures few { IfOk result (λ begun. length begun.elements ≤ 65536) }
         ensures same { SameButSeed client.old client.new };
 
-    /// The sequential begin of a cycle. The client stands in that cycle; the job may draw from it
-    /// and set its seed.
+    /// The sequential begin of a cycle. The client is in that cycle. The job may draw from it and
+    /// set its seed.
     fn prepare(
         &self,
         alloc: Global,
@@ -98,24 +102,26 @@ pub trait Job: Sized + Drop {
         ensures fit { IfOk result (λ plan. Fit self.now plan) }
         ensures same { SameButSeed client.old client.new };
 
-    /// The number of passes of a plan. It takes no memory.
+    /// The number of passes of a plan. It allocates nothing.
     fn passes(&self, plan: &Self::Plan) -> u8
         requires { Fit self.now plan.now }
         ensures gives { result ≡ meaning.passes_of self.now plan.now }
         ensures least { 1 ≤ result }
         ensures most { result ≤ 8 };
 
-    /// The part of no elements. It takes no memory.
+    /// The part of no elements. It allocates nothing.
     fn unit(&self, alloc: Global, spare: &mut Option<Self::Part>) -> Self::Part
         ensures gives { result ≡ meaning.unit_part self.now }
         ensures covers { Covers self.now result 0 };
 
-    /// Runs one element in a pass, answers its new value and joins what it gives to `part`, which
-    /// comes from the elements before it. `carry` is the part of the pass before, or the unit in the
-    /// first one. The words are the element's own. A refused call may leave any part.
+    /// Runs one element in a pass. It returns the element's new value, and joins the element's part
+    /// to `part`, which comes from the elements before it. It joins in place, so a part with memory
+    /// is made once a block and not once an element. `carry` is the part of the pass before, or the
+    /// unit in the first pass. `random` is the element's own stream. A call that fails may leave
+    /// any part.
     ///
-    /// A thread that comes late may run an element again, also after the end of its pass. What that
-    /// gives is thrown away. So a job changes nothing but through its arguments.
+    /// A late thread may run an element a second time, even after the end of its pass. That result
+    /// is dropped. So a job must have no effect except through its arguments.
     fn run(
         &self,
         alloc: Global,
@@ -139,15 +145,17 @@ pub trait Job: Sized + Drop {
             (random.new.draws ≡ meaning.drawn self.now plan.now carry.now pass element.now key) }
         ensures own { IfOk result (λ element. Own self.now element) };
 
-    /// Joins a part to its left neighbour's. What is left in `right` is there for its memory alone.
+    /// Joins the part of the right neighbour to `left`. The rest of `right` is only kept for its
+    /// memory.
     fn merge(&self, left: &mut Self::Part, right: &mut Self::Part) -> Result<(), OutOfMemory>
         requires { CoverTogether (Covers self.now) left.old right.old }
         ensures gives { OnOk result (left.new ≡ meaning.joined self.now left.old right.old) }
         ensures covers { OnOk result (
             CoversBoth (Covers self.now) left.old right.old left.new) };
 
-    /// Appends an element's bytes in a record, at most 64, which tell the job's own elements apart.
-    /// A refused call may leave some of them. Where 64 bytes have room it asks for no memory.
+    /// Appends an element's bytes for a record, at most 64. Different elements of the job have
+    /// different bytes. A call that fails may leave some of them. It needs no memory if `out` has
+    /// room for 64 bytes.
     fn put_element(&self, element: &Self::Element, out: &mut Vec<u8>) -> Result<(), OutOfMemory>
         requires { Own self.now element.now }
         ensures ok { OnOk result (out.new.items ≡ out.old.items
@@ -157,9 +165,9 @@ pub trait Job: Sized + Drop {
         ensures room { vec_capacity out.old ≤ vec_capacity out.new }
         ensures full { OnErr result (vec_capacity out.old < vec_len out.old + 64) };
 
-    /// Appends an element as a frame holds it: its bytes, their number in two bytes before them and
-    /// its draws in four after them. A job may do this by one append, which is quicker. Where 70
-    /// bytes have room it asks for no memory.
+    /// Appends an element as in a frame: the number of its bytes in two bytes, the bytes, and its
+    /// draws in four. A job may override this with a single append, which is faster. It needs no
+    /// memory if `out` has room for 70 bytes.
     #[inline(always)]
     fn put_drawn(
         &self,
@@ -182,7 +190,7 @@ pub trait Job: Sized + Drop {
         Ok(())
     }
 
-    /// The sequential end of a cycle, given the part of the last pass.
+    /// The sequential end of a cycle. `part` is that of the last pass.
     fn conclude(
         &self,
         alloc: Global,

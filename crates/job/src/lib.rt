@@ -1,10 +1,11 @@
-//! The trait of jobs: cyclic applications over a container of elements.
+//! The traits of jobs and pools: cyclic applications over a container of elements, and the pools
+//! that run their passes.
 //!
-//! A cycle of a job is a sequential begin (`prepare`), 1 to 8 passes in which every element is run
-//! for itself, and a sequential end (`conclude`). Each call equals a function of what its arguments
-//! hold. From these functions `specs/Pass.antt` defines one pass and `specs/Cycle.antt` one cycle,
-//! in which no worker stands, so whoever runs the elements, and in whatever order, has to give the
-//! same answer.
+//! A cycle of a job is a sequential begin (`prepare`), 1 to 8 passes that run each element by
+//! itself, and a sequential end (`conclude`). Each call equals a function of its arguments. From
+//! these functions `specs/Pass.antt` defines one pass and `specs/Cycle.antt` one cycle. Neither
+//! mentions workers, so every pool must return the same result, whatever its threads and their
+//! order.
 #![tactic(auto)]
 
 mod answers;

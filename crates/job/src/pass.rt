@@ -1,4 +1,4 @@
-//! A pass that is to be run, and what it gives.
+//! A pass to be run, its result and its error: the data that an engine and a pool exchange.
 ghost use Rattle.std.specs.Prelude.{◌≡◌, ◌≤◌, ◌<◌, ◌*◌, ◌⊎◌, [], length, None, IfSome};
 ghost use Rattle.job.specs.Pass.{block_size, in_block};
 ghost use Rattle.job.specs.Passes.{blocks_in};
@@ -10,23 +10,23 @@ use std::alloc::Global;
 use std::marker::Model;
 use std::sync::Arc;
 
-/// A pass that is to be run. Its data have owners, so that threads may hold them as long as they
-/// like: one that does takes an owner of its own.
+/// A pass to be run. Its data are behind `Arc`s, so a thread that may outlive the call clones them.
 #[derive(Drop)]
 pub struct PassOf<'p, J: Job> {
     pub job: &'p Arc<J, Global>,
     pub plan: &'p Arc<J::Plan, Global>,
-    /// The part of the pass before, or the unit in the first one.
+    /// The part of the pass before, or the unit in the first pass.
     pub carry: &'p Arc<J::Part, Global>,
-    /// The pass' number in its cycle, counted from 0.
+    /// The number of the pass in its cycle, counted from 0.
     pub number: u8,
     pub elements: &'p Arc<Container<J::Element>, Global>,
     pub seed: u64,
     /// The cycle's number, counted from 1.
     pub cycle: u32,
-    /// The words that each element drew in the passes before. The first pass has none.
+    /// The draws of each element in the passes before: its counts of random numbers. Empty in the
+    /// first pass.
     pub earlier: &'p Arc<Container<u32>, Global>,
-    /// Whether the new elements are to be shown, as those of a cycle's last pass are.
+    /// Whether the pass also returns the bytes of the new elements. Only a cycle's last pass does.
     pub shows: bool,
 }
 
@@ -50,7 +50,7 @@ impl<'p, J: Job> Model for PassOf<'p, J> {
 }
 
 impl<'p, J: Job> PassOf<'p, J> {
-    /// Its job.
+    /// The job of the pass.
     #[inline(always)]
     pub fn job(&self) -> &J
         ensures { result.now ≡ self.now.job }
@@ -58,14 +58,14 @@ impl<'p, J: Job> PassOf<'p, J> {
         &**self.job
     }
 
-    /// Whether its new elements are to be shown.
+    /// Whether the pass also returns the bytes of its new elements.
     pub fn shows(&self) -> bool
         ensures { result ≡ self.now.shows }
     {
         self.shows
     }
 
-    /// The number of its elements.
+    /// The number of elements.
     pub fn count(&self) -> usize
         ensures count { result ≡ length self.now.elements }
         ensures few { result ≤ 65536 }
@@ -73,7 +73,7 @@ impl<'p, J: Job> PassOf<'p, J> {
         self.elements.len()
     }
 
-    /// The number of its blocks.
+    /// The number of blocks.
     pub fn blocks(&self) -> u32
         ensures blocks { result ≡ blocks_in self.now }
         ensures few { result ≤ 256 }
@@ -81,7 +81,7 @@ impl<'p, J: Job> PassOf<'p, J> {
         block_count(self.count())
     }
 
-    /// The number of the first element of a block.
+    /// The index of the first element of a block. Blocks and elements count from 0.
     pub fn first_in(&self, block: u32) -> u32
         requires { block < blocks_in self.now }
         ensures first { result ≡ block_size (length self.now.elements) * block }
@@ -99,7 +99,7 @@ impl<'p, J: Job> PassOf<'p, J> {
         self.elements.part(size * number as usize, size)
     }
 
-    /// The words that the elements of a block drew in the passes before, if there were any.
+    /// The draws of a block's elements in the passes before. None in the first pass.
     pub fn earlier_block(&self, number: u32) -> Option<&[u32]>
         requires inside { number < blocks_in self.now }
         requires level { (self.now.earlier ≡ []) ⊎ (length self.now.earlier ≡ length self.now.elements) }
@@ -116,9 +116,9 @@ impl<'p, J: Job> PassOf<'p, J> {
     }
 }
 
-/// What a pass leaves: the new elements, the parts joined, and the number of words that each
-/// element drew in it. Where the pass shows its elements, `shown` are they, each with the words
-/// that it drew in all passes up to this one.
+/// The result of a pass: the new elements, the draws of each in it, and the joined part. If the
+/// pass shows its elements, `shown` has the bytes of each, with its draws in all passes up to this
+/// one. Otherwise it is unspecified.
 #[derive(Drop)]
 pub struct PassDone<E, P> {
     pub elements: Container<E>,
@@ -127,12 +127,12 @@ pub struct PassDone<E, P> {
     pub shown: DrawnElements,
 }
 
-/// Why a pass gives no new elements.
+/// Why a pass failed.
 #[derive(Clone, Copy, Debug, PartialEq, Eq, Drop)]
 pub enum PoolFault {
-    /// The least element that refuses, and its code.
+    /// The first element, by index, that refuses, and its code.
     Refused { element: u32, code: u32 },
-    /// Memory could not be had.
+    /// Memory could not be allocated.
     OutOfMemory,
 }
 

@@ -1,14 +1,14 @@
-//! The trait of pools.
+//! The trait of pools. It is apart from their crates, so that an engine runs on any of them.
 
 use crate::{Job, PassDone, PassOf, PassRoom, PoolFault};
 
-/// Runs the passes of a job, on whatever threads it has.
+/// Runs the passes of a job, on one thread or several.
 pub trait Pool<J: Job> {
     ghost use Rattle.job.specs.Passes.{IsReady, IsAnswer};
 
-    /// Runs one pass over all elements. The answer is that of the elements taken one after another,
-    /// whatever the pool does: of several elements that refuse, the least is told. It uses memory of
-    /// `room` as far as there is any, and leaves there what it needs no more.
+    /// Runs one pass over all elements. The result is that of one thread that takes them in order,
+    /// so of several elements that refuse the first is reported. The pool takes memory from `room`
+    /// while there is some, and returns to it the memory that it no longer needs.
     fn run_pass(
         &mut self,
         pass: &PassOf<'_, J>,

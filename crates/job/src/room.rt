@@ -1,26 +1,26 @@
-//! Memory that passes use again.
+//! Memory that passes reuse. It is apart from `PassDone`, since it outlives a pass.
 ghost use Rattle.std.specs.Prelude.{◌≡◌, []};
 
 use crate::PassDone;
 use det_values::{DrawnBlock, DrawnElements, Spares};
 use std::alloc::Global;
 
-/// Memory that passes use again, and where more of it is taken from. What it held is gone, so no
-/// clause speaks of it.
+/// Memory that passes reuse, and the allocator for more. Its old contents are gone, so no clause is
+/// about them.
 #[derive(Drop)]
 pub struct PassRoom<E, P> {
     alloc: Global,
     pub elements: Spares<E>,
     pub draws: Spares<u32>,
     parts: Vec<P>,
-    /// For the blocks of frames.
+    /// Memory of the blocks of frames.
     bytes: Vec<Vec<u8>>,
-    /// For the frames' lists of blocks.
+    /// Memory of the lists of blocks of frames.
     frames: Vec<Vec<DrawnBlock>>,
 }
 
 impl<E: Drop, P: Drop> PassRoom<E, P> {
-    /// None yet. It takes no memory.
+    /// No spare memory. It allocates nothing.
     pub fn new(alloc: Global) -> PassRoom<E, P> {
         PassRoom {
             alloc,
@@ -32,22 +32,22 @@ impl<E: Drop, P: Drop> PassRoom<E, P> {
         }
     }
 
-    /// Where memory is taken from.
+    /// The allocator for more memory.
     pub fn alloc(&self) -> Global {
         self.alloc
     }
 
-    /// A part that nobody needs, if there is one.
+    /// A spare part, if there is one.
     pub fn part(&mut self) -> Option<P> {
         self.parts.pop()
     }
 
-    /// Keeps a part for its memory, unless there is none for the place that it takes here.
+    /// Keeps a part for its memory. If there is no memory to keep it here, it is dropped.
     pub fn keep_part(&mut self, part: P) {
         let _ = self.parts.push(part).is_ok();
     }
 
-    /// No bytes, in memory of a block that nobody needs, if there is one.
+    /// An empty list of bytes, in spare memory if there is some.
     pub fn bytes(&mut self) -> Vec<u8>
         ensures { result.items ≡ [] }
     {
@@ -65,7 +65,7 @@ impl<E: Drop, P: Drop> PassRoom<E, P> {
         let _ = self.bytes.push(bytes).is_ok();
     }
 
-    /// A frame without elements, in memory of one that nobody needs, if there is one.
+    /// A frame without elements, in spare memory if there is some.
     pub fn frame(&mut self) -> DrawnElements
         ensures { result ≡ [] }
     {
@@ -75,7 +75,7 @@ impl<E: Drop, P: Drop> PassRoom<E, P> {
         }
     }
 
-    /// Keeps the memory of a frame and of its blocks in the same way, if it has any.
+    /// Keeps the memory of a frame and of its blocks in the same way.
     pub fn keep_frame(&mut self, shown: DrawnElements) {
         let mut blocks = shown.into_blocks();
         'each: while let Some(block) = blocks.pop() {
@@ -86,7 +86,7 @@ impl<E: Drop, P: Drop> PassRoom<E, P> {
         }
     }
 
-    /// Keeps the memory of what a pass gave in the same way.
+    /// Keeps the memory of a pass's result in the same way.
     pub fn keep_pass(&mut self, done: PassDone<E, P>) {
         let PassDone {
             elements,
@@ -100,7 +100,7 @@ impl<E: Drop, P: Drop> PassRoom<E, P> {
         self.keep_frame(shown);
     }
 
-    /// Gives so many spares of each kind that a block needs away, as far as they are there.
+    /// Moves `count` spares of each kind that a block needs to `other`, or all if there are fewer.
     pub fn give(&mut self, other: &mut PassRoom<E, P>, count: usize) {
         self.elements.give(&mut other.elements, count);
         self.draws.give(&mut other.draws, count);
@@ -109,7 +109,7 @@ impl<E: Drop, P: Drop> PassRoom<E, P> {
     }
 }
 
-/// Moves so many of one list to another, as far as they are there.
+/// Moves `count` items from one list to another, or all if there are fewer.
 fn give_each<T: Drop>(from: &mut Vec<T>, to: &mut Vec<T>, count: usize) {
     for _ in 0..count {
         match from.pop() {

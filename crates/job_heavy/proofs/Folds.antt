@@ -1,4 +1,4 @@
--- Words folded one by one.
+-- Random numbers folded one by one.
 use Rattle.std.proofs.Common.{◌≡◌, ℕ, ◌+◌, refl, add-one}
 use lib.Bits.{bit_xor}
 use Rattle.std.specs.Int.{w64, rotate_left}

@@ -1,4 +1,4 @@
--- The heavy job: each element folds 64 random words into its state.
+-- The heavy job: each element folds 64 random numbers into its state.
 use Rattle.std.specs.Prelude.{ℕ, ℤ, pos, zero, suc, ◌+◌, List, length, map, Option, None, Some, Ok}
 use Rattle.std.specs.Prelude.{not, if◌then◌else◌, nat_lt, bit_xor}
 use Rattle.std.proofs.Common.{lit≤}
@@ -36,7 +36,7 @@ first_state i = record { folded = i }
 abbrev pub first_states : Heavy → List State
 first_states j = map first_state (range_with_len 0 j.elements)
 
--- a number into which the first n words of a key are folded
+-- a state after the first n random numbers of a key are folded into it
 unfoldable pub folded : ℕ → ℕ → ℕ → ℕ
 folded state key zero = state
 folded state key (suc n) = bit_xor (rotate_left w64 (folded state key n) 5) (word key n)

@@ -1,4 +1,4 @@
--- The heavy job's own elements and fit plans, and what a part covers.
+-- The heavy job's own elements, its fit plans, and the elements that a part covers.
 use Rattle.std.specs.Prelude.{◌≡◌, ℕ, ◌^◌, ◌<◌, ◌≤◌}
 use Rattle.job_heavy.specs.declared.heavy.Heavy.{Heavy}
 use Rattle.job_heavy.specs.declared.state.State.{State}

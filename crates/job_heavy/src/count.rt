@@ -1,4 +1,4 @@
-//! How many elements ran.
+//! The heavy job's parts: the number of elements that ran, and the output made of it.
 
 ghost use Rattle.std.specs.Prelude.{◌≡◌, ◌+◌, IfOk};
 ghost use Rattle.job.specs.Laws.{CoverTogether, CoversBoth};
@@ -8,7 +8,7 @@ ghost use Rattle.job_heavy.specs.Ranges.{IsCountOf};
 use det_values::{Bytes, OutOfMemory};
 use job_shared::empty_output;
 
-/// The elements of two counts.
+/// The sum of two counts.
 pub(crate) fn both(left: u64, right: u64) -> u64
     requires { CoverTogether IsCountOf left right }
     ensures sum { result ≡ left + right }
@@ -17,7 +17,7 @@ pub(crate) fn both(left: u64, right: u64) -> u64
     left + right
 }
 
-/// The count, 8 bytes.
+/// The count, in 8 bytes.
 pub(crate) fn output(count: u64, spare: Bytes) -> Result<Bytes, OutOfMemory>
     ensures { IfOk result (λ bytes. bytes ≡ output count) }
 {

@@ -1,4 +1,4 @@
-//! The heavy job as a job.
+//! The implementation of `Job` for `Heavy`.
 
 use crate::count::{both, output};
 use crate::state::{first_states, fold_words, put_state};
@@ -10,11 +10,11 @@ use job::event_cache::EventCache;
 use job::{BadParam, Concluded, Job, JobFault, Started};
 use std::alloc::Global;
 
-/// Nothing is kept between cycles beside the elements.
+/// The job keeps nothing between cycles besides its elements.
 #[derive(Clone, Copy, Debug, PartialEq, Eq, Drop)]
 pub struct NoGlobals;
 
-/// Nothing is told to the passes.
+/// The passes need no plan.
 #[derive(Clone, Copy, Debug, PartialEq, Eq, Drop)]
 pub struct NoPlan;
 
@@ -29,7 +29,7 @@ impl Job for Heavy {
 
     type Plan = NoPlan;
 
-    /// How many elements ran.
+    /// The number of elements that ran.
     type Part = u64;
 
     ghost meaning = { meaning };

@@ -1,4 +1,4 @@
-//! The heavy job's parameter.
+//! The type `Heavy`: the parameter of the heavy job.
 
 ghost use Rattle.std.specs.Prelude.{◌≡◌, ◌≤◌, MatchResult, None, Some};
 
@@ -17,7 +17,7 @@ pub struct Heavy {
 impl Heavy {
     ghost use Rattle.job_heavy.specs.Meaning.{bad_param, made};
 
-    /// The job of this parameter: elements, 1 to 65,536.
+    /// The job with this parameter: elements, 1 to 65,536.
     pub(crate) fn of_params(params: &[i64], events: u16) -> Result<Heavy, BadParam>
         ensures { MatchResult result
             (λ job. (bad_param params.now events ≡ None) × (job ≡ made params.now events))

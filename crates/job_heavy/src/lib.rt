@@ -1,6 +1,6 @@
-//! The heavy job: one that does next to nothing but draw random words, for timing.
+//! A job for timing and tests, which does little more than draw random numbers.
 //!
-//! In each cycle each element draws 64 words and folds them into its state. The output is the
+//! In each cycle each element draws 64 numbers and folds them into its state. The output is the
 //! number of elements that ran. No shipped command knows this job.
 #![tactic(auto)]
 

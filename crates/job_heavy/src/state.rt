@@ -1,4 +1,4 @@
-//! Elements, and the words that they fold.
+//! The heavy job's elements, and the random numbers that they fold.
 
 ghost use Rattle.std.specs.Prelude.{◌≡◌, ◌+◌, ◌<◌, ℕ, ◌≤◌, ◌++◌, IfOk, OnOk, OnErr, length};
 ghost use Rattle.std.specs.Vec.{vec_capacity, vec_len};
@@ -13,13 +13,13 @@ use det_client::element_random::ElementRandom;
 use det_values::{Container, OutOfMemory};
 use std::alloc::Global;
 
-/// An element: what the words that it drew were folded into.
+/// An element: the fold of all random numbers that it drew.
 #[derive(Clone, Copy, Debug, PartialEq, Eq, Drop)]
 pub struct State {
     pub(crate) folded: u64,
 }
 
-/// All elements of a job, each with its own number.
+/// All elements of a job. Element i starts with the state i.
 pub(crate) fn first_states(alloc: Global, heavy: &Heavy) -> Result<Container<State>, OutOfMemory>
     ensures states { IfOk result (λ states. states ≡ first_states heavy.now) }
     ensures own { IfOk result (All (Own heavy.now)) }
@@ -37,7 +37,7 @@ pub(crate) fn first_states(alloc: Global, heavy: &Heavy) -> Result<Container<Sta
     Ok(states)
 }
 
-/// A number into which the first 64 words of a stream are folded.
+/// A state after the first 64 numbers of a stream are folded into it.
 pub(crate) fn fold_words(first: u64, random: &mut ElementRandom) -> u64
     ensures folded { (key : ℕ) → StandsFor random.old key 0 → result ≡ folded first key 64 }
     ensures draws { (key : ℕ) → StandsFor random.old key 0 → random.new.draws ≡ 64 }
@@ -49,7 +49,7 @@ pub(crate) fn fold_words(first: u64, random: &mut ElementRandom) -> u64
     state
 }
 
-/// Appends the state, 8 bytes.
+/// Appends the state, in 8 bytes.
 #[inline(always)]
 pub(crate) fn put_state(state: &State, out: &mut Vec<u8>) -> Result<(), OutOfMemory>
     ensures ok { OnOk result (out.new.items ≡ out.old.items ++ shown state.now) }

@@ -30,7 +30,7 @@ shr_fits : (d : ℤ) (k : ℕ) → SFits w64 d → SFits w64 (int_shr d k)
 shr_fits (pos n) k f = let h : n / 2 ^ k ≤ n = div-le_self n (2 ^ k) in let g : n < 2 ^ 63 = f.sfits in record { sfits = omega arith }
 shr_fits (negsuc n) k f = let h : n / 2 ^ k ≤ n = div-le_self n (2 ^ k) in let g : n < 2 ^ 63 = f.sfits in record { sfits = omega arith }
 
--- what the machine computes is the step
+-- the machine computes the step
 pub towards_computed : (l t : ℤ) (k : ℕ) → IsSampleValue l → IsSampleValue t →
     to_z w64 (of_z w64 (to_z w64 (of_z w64 l) +ℤ to_z w64
     (of_z w64 (int_shr (to_z w64 (of_z w64 (to_z w64 (of_z w64 t) -ℤ to_z w64 (of_z w64 l)))) k)))) ≡ towards l t k

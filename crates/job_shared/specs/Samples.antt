@@ -4,11 +4,11 @@ use Rattle.std.specs.Prelude.{slice_index_or}
 use Rattle.std.specs.List.{All}
 use Rattle.det_values.specs.Limits.{IsSampleValue}
 
--- the newest sample in a window: its last one, where it has one
+-- the newest sample in a window: its last one, or none if it is empty
 abbrev pub newest_in : List ℤ → Option ℤ
 newest_in window = slice_get window (length window - 1)
 
--- the newest sample of an event; none where its window is empty or there is no such event
+-- the newest sample of an event; none if its window is empty or there is no such event
 abbrev pub newest : List (List ℤ) → ℕ → Option ℤ
 newest windows event = newest_in (slice_index_or windows event [])
 
@@ -16,7 +16,7 @@ newest windows event = newest_in (slice_index_or windows event [])
 abbrev pub all_newest : List (List ℤ) → List (Option ℤ)
 all_newest windows = map newest_in windows
 
--- the sample of an event among these; none where there is no such event
+-- the sample of an event among these; none if there is no such event
 abbrev pub sample_of : List (Option ℤ) → ℕ → Option ℤ
 sample_of samples event = slice_index_or samples event None
 
@@ -25,7 +25,7 @@ abbrev pub IsSample : Option ℤ → Type 0
 IsSample None = Unit {0}
 IsSample (Some v) = IsSampleValue v
 
--- one for each of so many events
+-- one for each of `events` events
 pub record AreSamples (events : ℕ) (samples : List (Option ℤ)) : Type 0 where
   pub count : length samples ≡ events
   pub values : All IsSample samples

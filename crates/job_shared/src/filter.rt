@@ -1,10 +1,10 @@
-//! The step of a filter.
+//! The step of a first-order low-pass filter.
 
 ghost use Rattle.std.specs.Prelude.{◌≡◌, ◌≤◌};
 ghost use Rattle.det_values.specs.Limits.{IsSampleValue};
 ghost use Rattle.job_shared.specs.Filter.{towards};
 
-/// A value that moves towards a target: by the difference divided by 2 to the power of `shift`,
+/// A value after one step towards a target: it moves by the difference divided by 2^`shift`,
 /// rounded down.
 pub fn towards(value: i64, target: i64, shift: u32) -> i64
     requires value { IsSampleValue value }

@@ -1,10 +1,10 @@
-//! The bytes of an output, in memory that is used again.
+//! Memory of outputs for reuse.
 
 ghost use Rattle.std.specs.Prelude.{◌≡◌, [], IfOk};
 
 use det_values::{Bytes, OutOfMemory};
 
-/// No bytes, and room for so many, in the memory of bytes that nobody needs.
+/// An empty list with room for `room` bytes, in the memory of `spare`.
 pub fn empty_output(spare: Bytes, room: usize) -> Result<Bytes, OutOfMemory>
     ensures { IfOk result (λ bytes. bytes ≡ []) }
 {

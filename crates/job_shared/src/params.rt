@@ -1,4 +1,4 @@
-//! Parameters, each judged in its place.
+//! Checks of one parameter each. A job calls them in order, so the least bad parameter is reported.
 
 ghost use Rattle.std.specs.Prelude.{◌≡◌, ◌<◌, ◌≤◌, ◌^◌, length, pos, true, false, MatchResult};
 ghost use Rattle.std.specs.Prelude.{IfOk, OnOk, IfErr};
@@ -6,7 +6,7 @@ ghost use Rattle.job_shared.specs.Params.{param, is_param, natural_param};
 
 use job::BadParam;
 
-/// The parameter at an index, where it is there and from `low` to `high`.
+/// The parameter at an index, if it exists and is from `low` to `high`.
 pub fn whole_param(params: &[i64], index: u8, low: i64, high: i64) -> Result<i64, BadParam>
     ensures ok { IfOk result (λ z. (is_param params.now index low high ≡ true)
         × (z ≡ param params.now index)) }
@@ -21,7 +21,7 @@ pub fn whole_param(params: &[i64], index: u8, low: i64, high: i64) -> Result<i64
     }
 }
 
-/// The same among natural numbers.
+/// The same for natural numbers.
 pub fn wide_param(params: &[i64], index: u8, low: u64, high: u64) -> Result<u64, BadParam>
     requires order { low ≤ high }
     requires fits { high < 2 ^ 63 }
@@ -35,7 +35,7 @@ pub fn wide_param(params: &[i64], index: u8, low: u64, high: u64) -> Result<u64,
     Ok(number as u64)
 }
 
-/// The same among small natural numbers.
+/// The same for natural numbers of 32 bits.
 pub fn natural_param(params: &[i64], index: u8, low: u32, high: u32) -> Result<u32, BadParam>
     ensures ok { IfOk result (λ n. (is_param params.now index (pos low) (pos high) ≡ true)
         × (n ≡ natural_param params.now index low high)) }
@@ -47,7 +47,7 @@ pub fn natural_param(params: &[i64], index: u8, low: u32, high: u32) -> Result<u
     Ok(number as u32)
 }
 
-/// Refuses a parameter at this index, whatever it is.
+/// Refuses any parameter at this index: there are too many.
 pub fn no_more(params: &[i64], index: u8) -> Result<(), BadParam>
     ensures ok { OnOk result (length params.now ≤ index) }
     ensures err { IfErr result (λ bad. (index < length params.now) × (bad.index ≡ index)) }

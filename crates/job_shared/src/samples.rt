@@ -1,4 +1,4 @@
-//! The newest samples of events.
+//! The newest sample of one event or of all, read from the event cache.
 
 ghost use Rattle.std.specs.Prelude.{◌≡◌, ℕ, ◌≤◌, [], length, IfOk};
 ghost use Rattle.job.specs.event_cache.Rings.{windows};
@@ -8,10 +8,10 @@ use det_values::{Limited, OutOfMemory};
 use job::event_cache::EventCache;
 use std::alloc::Global;
 
-/// The newest sample of each event, where it has one.
+/// The newest sample of each event, or None if its window is empty.
 pub type NewestSamples = Limited<Option<i64>, 256>;
 
-/// The newest sample of an event. None where there is no such event, or its window is empty.
+/// The newest sample of an event, or None if there is no such event or its window is empty.
 pub fn newest(cache: &EventCache, event: u16) -> Option<i64>
     ensures sample { result ≡ newest (windows cache.now) event }
     ensures limits { IsSample result }
@@ -23,7 +23,7 @@ pub fn newest(cache: &EventCache, event: u16) -> Option<i64>
     }
 }
 
-/// An empty list, in the memory of one that nobody needs, or in new memory for so many events.
+/// An empty list, in the memory of `spare` or in new memory for `events` items.
 fn empty_samples(
     alloc: Global,
     events: u16,
@@ -40,7 +40,7 @@ fn empty_samples(
     }
 }
 
-/// The newest sample of each event. A spare list takes no new memory once it held as many.
+/// The newest sample of each event. A spare list that held as many needs no new memory.
 pub fn newest_samples(
     alloc: Global,
     cache: &EventCache,
@@ -57,7 +57,7 @@ pub fn newest_samples(
     Ok(samples)
 }
 
-/// The sample of an event among the newest ones. None where there is no such event.
+/// The sample of an event among these, or None if there is no such event.
 pub fn sample_of(samples: &NewestSamples, event: u32) -> Option<i64>
     ensures { result ≡ sample_of samples.now event }
 {

@@ -1,7 +1,7 @@
-//! The filter bank: a job whose channels follow the newest samples of their events.
+//! The filter bank, whose channels follow the newest samples of their events.
 //!
-//! Channel i listens to event i modulo the number of events. In each cycle its level moves towards
-//! the newest sample of that event by the difference divided by a power of two, rounded down. The
+//! Channel i reads event i modulo the number of events. In each cycle its level moves towards the
+//! newest sample of that event by the difference divided by a power of two, rounded down. The
 //! output is the sum, the least and the greatest of all levels.
 
 mod bank;

@@ -1,9 +1,9 @@
-//! The particle cloud: a job whose particles step at random and then move towards the best of them.
+//! The particle cloud, whose particles step at random and move towards the best of them.
 //!
 //! The newest samples of events 0 and 1 are the target's coordinates. In pass 0 each particle makes
-//! a random step inside a circle, in pass 1 most move an eighth of the way towards the particle
-//! that stood nearest to the target. A negative sample of event 2 refuses the cycle. The seed may
-//! be drawn anew every so many cycles.
+//! a random step inside a circle. In pass 1 most particles move an eighth of the way towards the
+//! one that was nearest to the target. A negative newest sample of event 2 refuses the cycle. The
+//! parameter `reseed` sets after how many cycles the job draws a new seed.
 
 mod best;
 mod cloud;

@@ -1,9 +1,8 @@
-//! The guard: a job whose channels hold their last sample in range, and which tells the channels
-//! that it corrected.
+//! The guard, whose channels hold their last sample in range, and which reports what it corrected.
 //!
 //! Channel i reads event i modulo the number of events. A sample outside the range is corrected:
-//! the channel goes on holding its value. A channel that had to be corrected too often in a row
-//! refuses the cycle, and so do too many corrections in one cycle.
+//! the channel keeps its value. The cycle is refused if one channel is corrected too often in a
+//! row, or if too many are corrected in one cycle.
 
 mod bounds;
 mod channel;

@@ -1,4 +1,4 @@
-//! Parameters judged by the job of a kind.
+//! The check of a profile's parameters by the job that it names.
 ghost use Rattle.std.specs.Prelude.{◌≡◌};
 ghost use Rattle.jobs.specs.Kinds.{bad_param};
 
@@ -8,7 +8,7 @@ use crate::guard::Guard;
 use det_values::{JobKind, Params};
 use job::Job;
 
-/// The least parameter that a job refuses.
+/// The least parameter that a job refuses, counted from 0.
 fn refused<J: Job>(params: &Params, events: u16) -> Option<u8>
     ensures { result ≡ J.meaning.bad_param params.now events }
 {
@@ -18,8 +18,8 @@ fn refused<J: Job>(params: &Params, events: u16) -> Option<u8>
     }
 }
 
-/// The least parameter, counted from 0, that the job of a kind refuses beside this number of
-/// events. It takes no memory.
+/// The least parameter, counted from 0, that the job of a kind refuses with this number of events.
+/// It allocates nothing.
 pub fn bad_param(kind: JobKind, params: &Params, events: u16) -> Option<u8>
     ensures { result ≡ bad_param kind params.now events }
 {

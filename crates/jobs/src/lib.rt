@@ -1,4 +1,5 @@
-//! The jobs that the product ships: the filter bank, the particle cloud and the guard.
+//! The shipped jobs: the filter bank, the particle cloud and the guard. docs/FORMATS.md has their
+//! parameters, outputs and codes.
 #![tactic(auto)]
 
 pub mod bank;

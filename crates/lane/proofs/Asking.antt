@@ -98,7 +98,7 @@ words-at lane k (suc n) (suc j) d h =
     let same : k + 1 + j ≡ k + suc j = omega arith in
     words-at lane (k + 1) n j d (omega arith) ∙ ap (child_words lane) same
 
--- where all is told of the children's words, it is told of those of each
+-- if all is known of the children's arguments, it is known of those of each child
 pub tells-at : (first : SpawnerState) (lane : LaneValue) (n k : ℕ) → k < n → Tells first (words_from lane 0 n)
     → IsSome (first.gives (child_words lane k)) × IsSome (first.ends (child_words lane k))
 tells-at first lane n k h t =

@@ -57,7 +57,7 @@ module _ {first last : SpawnerState} {lane : LaneValue} {found : Result Verdict 
     ]
   ]
 
-  -- children were run, and what was found of them was told
+  -- children were run, and what was found of them was reported
   pub runs-lane : (command : Option CommandValue) → Some (run lane) ≡ command → (answer ≡ BadWords → ⊥)
       → Runs command first last other before after answer
   runs-lane command is no_words = subst (λ (c : Option CommandValue). Runs c first last other before after answer) is (record {

@@ -95,7 +95,7 @@ unknown-one (suc n) (Some s ∷ ends) h e = split (known (take n ends)) e (λ is
 
 -- ---- what a child that failed is told as
 
--- the first that failed is told as one that failed
+-- the first child that failed is reported as failed
 pub child-failed : (child : ℕ) (statuses : List ℕ) (answer : LaneAnswer) → first_failed child statuses ≡ Some answer
     → (k : ℕ) × (status : ℕ) × (answer ≡ ChildFailed k status)
 child-failed child [] answer e = absurd cc
@@ -107,7 +107,7 @@ child-failed child (status ∷ more) answer e = by (nat_eq status 0) e (child-fa
     by true e later = later e
     by false e later = (child, status, cc)
 
--- copies agree, or the first that failed is told
+-- copies agree, or the first child that failed is reported
 pub found-unless : (failure : Option LaneAnswer) (cycles : ℕ) → found_by (unless failure (Agree cycles)) ≡ agreed failure cycles
 found-unless None cycles = refl
 found-unless (Some a) cycles = refl

@@ -1,4 +1,4 @@
--- What a lane finds of its children, where their outputs and exit statuses are told.
+-- What a lane finds of its children, if their outputs and exit statuses are known.
 use Rattle.std.proofs.Common.{◌≡◌, ◌<◌, ◌≤◌, ◌⊎◌, inl, inr, ℕ, zero, suc, ◌+◌, List, [], ◌∷◌, length, take, get_or, nat_eq, cond}
 use Rattle.std.proofs.Common.{Bool, true, false, refl, sym, ap, ◌∙◌, subst, arith}
 use Rattle.std.specs.Prelude.{Option, Some, None, IsSome, IfSome, Result, Ok, Err}
@@ -62,7 +62,7 @@ weaker : (o : Option ℕ) (P Q : ℕ → Type 0) → ((s : ℕ) → P s → Q s)
 weaker (Some s) P Q f h = f s h
 weaker None P Q f h = tt
 
--- the exit status that is told of a child
+-- the exit status that is known of a child
 abbrev end_of : SpawnerState → LaneValue → ℕ → ℕ
 end_of first lane k = unwrap_or (first.ends (child_words lane k)) 0
 
@@ -147,7 +147,7 @@ module _ {first mid late : SpawnerState} (lane : LaneValue) (ends : List (Option
       → AreLeft (shelf_state mid) (slots_from 0 lane.copies) (outputs first (words_of_all lane))
   are-left t = outputs-left first mid lane 0 lane.copies (λ j from below. (child-had j (omega arith) t).0)
 
-  -- a child of which nothing is left ended as is told of it
+  -- a child with nothing left ended as is known of it
   child-ended : (k : ℕ) → k < lane.copies → Tells first (words_of_all lane) → IsAtEnd (shelf_state late) k
       → IfSome (get_or ends k None) (λ s. s ≡ end_of first lane k)
   child-ended k within t end =
@@ -176,7 +176,7 @@ module _ {first mid late : SpawnerState} (lane : LaneValue) (ends : List (Option
       (statuses-none first lane) (statuses-more first lane) h.long each is in
       inr (found-unless (first_failed 0 all) cycles ∙ ap (λ (l : List ℕ). agreed (first_failed 0 l) cycles) these)
 
-  -- what is found and what is told of an end
+  -- what is found and what is known of an end
   abbrev Told : Result Verdict (Stopped BadCopy) → Type 0
   Told r = (judged r (take lane.copies ends) ≡ Err SpawnFault) ⊎ ((judged r (take lane.copies ends) ≡ Err OutOfMemory)
       ⊎ (found_by (judged r (take lane.copies ends)) ≡ lane_outcome first lane))
@@ -221,7 +221,7 @@ module _ {first mid late : SpawnerState} (lane : LaneValue) (ends : List (Option
   found-told (Err (Failed failures.OutOfMemory)) c no_write t = inr (inl refl)
   found-told (Err (Failed failures.Write)) c no_write t = absurd (no_write refl)
 
-  -- a fault is told only where reading failed, or where an exit status isn't known
+  -- a spawn fault is reported only if reading failed or an exit status isn't known
   unless-cause : (all : Option (List ℕ)) (cycles : ℕ) → unless (failure_among all) (Agree cycles) ≡ Err SpawnFault → all ≡ None
   unless-cause None cycles e = refl
   unless-cause (Some all) cycles e = by (first_failed 0 all) refl e
@@ -243,7 +243,7 @@ module _ {first mid late : SpawnerState} (lane : LaneValue) (ends : List (Option
   fault-cause (Err (Failed failures.OutOfMemory)) c e = absurd cc
   fault-cause (Err (Failed failures.Write)) c e = absurd cc
 
--- a verdict on children is never told as a failed write or bad words
+-- a verdict on children is never reported as a failed write or bad words
 judged-quiet : (r : Result Verdict (Stopped BadCopy)) (statuses : List (Option ℕ)) (answer : LaneAnswer)
     → (failure_in r ≡ Some failures.Write → ⊥) → judged r statuses ≡ Err answer → (answer ≡ WriteFault) ⊎ (answer ≡ BadWords) → ⊥
 judged-quiet (Ok (Agree cycles)) statuses answer no_write e q = by (known statuses) e

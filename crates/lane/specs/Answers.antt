@@ -1,4 +1,4 @@
--- What an answer of `det_lane` tells: its exit status, and its line for `err`.
+-- What an answer of `det_lane` reports: its exit status, and its line for `err`.
 use Rattle.std.specs.Prelude.{ℕ, List, [], ◌++◌, Bool, true, false, codes, decimal}
 use Rattle.det_io.specs.declared.failure.Failure.{Failure}
 use Rattle.det_io.specs.declared.failure.Failure.TheVariants as failures
@@ -12,13 +12,13 @@ use Rattle.lane.specs.declared.answer.LaneAnswer.TheVariants.{SpawnFault}
 use Rattle.lane.specs.declared.status.LaneStatus.{LaneStatus}
 use Rattle.lane.specs.declared.status.LaneStatus.TheVariants as statuses
 
--- what a failure is answered as: what is read here are children
+-- the answer of a failure; what a lane reads are its children
 abbrev pub failed : Failure → LaneAnswer
 failed failures.Read = SpawnFault
 failed failures.Write = WriteFault
 failed failures.OutOfMemory = OutOfMemory
 
--- an answer that a text on `out` comes with
+-- an answer that comes with a text on `out`
 abbrev pub has_text : LaneAnswer → Bool
 has_text Done = true
 has_text Differs = true
@@ -48,7 +48,7 @@ abbrev pub child_failed_text : (child status : ℕ) → List ℕ
 child_failed_text child status =
     codes "child " ++ (decimal child ++ (codes " status " ++ decimal status))
 
--- the line for `err`: the one of `det`, where `det` has this answer
+-- the line for `err`, which is that of `det` if `det` has this answer
 abbrev pub line_of : LaneAnswer → List ℕ
 line_of Done = []
 line_of Differs = []

@@ -1,10 +1,10 @@
--- What a lane asks its spawner for, and how it leaves its children.
+-- What a lane asks of its spawner, and how it leaves its children.
 use Rattle.std.specs.Prelude.{◌≡◌, ℕ, ◌<◌, true, false, List, Some, IfSome, Option, None}
 use Rattle.std.specs.Prelude.{slice_index_or}
 use Rattle.det_io.specs.Prefix.{IsPrefix}
 use Rattle.lane.specs.child_processes.Spawners.{SpawnerState, Words, Asks, StatusIs}
 
--- the spawner was asked for a prefix of these lists of words, where it tells it afterwards
+-- the calls of `start` had a prefix of these lists of arguments, if the calls are known afterwards
 abbrev pub AsksPrefix : SpawnerState → SpawnerState → List Words → Type 0
 AsksPrefix before after lists =
     (front : List Words) × IsPrefix front lists × Asks before after front
@@ -17,11 +17,12 @@ AllRun s = (k : ℕ) → k < s.children → s.finished k ≡ false
 abbrev pub AllFinished : SpawnerState → Type 0
 AllFinished s = (k : ℕ) → k < s.children → s.finished k ≡ true
 
--- where the output for some words is told, the child that was started with them has all of it left
+-- if the output for these arguments is known, the child that was started with them has all of it
+-- left
 abbrev pub HasAll : SpawnerState → Words → ℕ → Type 0
 HasAll s words k =
     IfSome (s.gives words) (λ bytes. (s.left k ≡ Some bytes) × (s.words k ≡ Some words))
 
--- the exit statuses, each of which is known where its child's `finish` didn't fail
+-- the exit statuses; each is known if its child's `finish` didn't fail
 abbrev pub StatusesAre : SpawnerState → List (Option ℕ) → Type 0
 StatusesAre s ends = (k : ℕ) → k < s.children → IfSome (slice_index_or ends k None) (StatusIs s k)

@@ -1,4 +1,4 @@
--- What the exit statuses of children say of the verdict on their outputs.
+-- What the exit statuses of children make of the verdict on their outputs.
 use Rattle.std.specs.Prelude.{ℕ, List, [], ◌∷◌, nat_eq, Option, Some, None, unwrap_or, option_map}
 use Rattle.std.specs.Prelude.{slice_index_or, if◌then◌else◌, Result, Ok, Err}
 use Rattle.det_io.specs.declared.failure.Stopped.{Stopped}
@@ -14,35 +14,35 @@ use Rattle.lane.specs.declared.answer.LaneAnswer.TheVariants.{SpawnFault}
 use Rattle.lane.specs.Answers.{failed}
 use Rattle.lane.specs.Outcome.{first_failed}
 
--- what the exit status of a child says: nothing where it is 0, and a fault where it isn't known
+-- what the exit status of a child means: no failure for 0, and a spawn fault if it isn't known
 abbrev pub failure_of : (child : ℕ) → Option ℕ → Option LaneAnswer
 failure_of child None = Some SpawnFault
 failure_of child (Some status) =
     if nat_eq status 0 then None else Some (ChildFailed child status)
 
--- all exit statuses, where each is known
+-- all exit statuses, if each is known
 abbrev pub known : List (Option ℕ) → Option (List ℕ)
 known [] = Some []
 known (None ∷ more) = None
 known (Some status ∷ more) = option_map (λ statuses. status ∷ statuses) (known more)
 
--- what they say: one that isn't known counts before one that isn't 0
+-- what they mean: one that isn't known counts before one that isn't 0
 abbrev pub failure_among : Option (List ℕ) → Option LaneAnswer
 failure_among None = Some SpawnFault
 failure_among (Some statuses) = first_failed 0 statuses
 
--- copies agree where no child failed
+-- copies that agree are done if no child failed
 abbrev pub unless : Option LaneAnswer → Verdict → Result Verdict LaneAnswer
 unless (Some failure) verdict = Err failure
 unless None verdict = Ok verdict
 
--- a record that breaks off is its child's failure, where the child failed
+-- a truncated record is its child's failure, if the child failed
 abbrev pub refused_by : Reason → BadCopy → Option ℕ → LaneAnswer
 refused_by Truncated bad status =
     unwrap_or (failure_of bad.copy status) (BadRecord bad.copy bad.fault)
 refused_by reason bad status = BadRecord bad.copy bad.fault
 
--- the verdict that is printed, or the answer where none is
+-- the verdict that is printed, or the answer if none is
 abbrev pub judged : Result Verdict (Stopped BadCopy) → List (Option ℕ) → Result Verdict LaneAnswer
 judged (Ok (Agree cycles)) statuses = unless (failure_among (known statuses)) (Agree cycles)
 judged (Ok (Differ copy at)) statuses = Ok (Differ copy at)

@@ -1,4 +1,4 @@
--- What a lane gives of its children's outputs and exit statuses.
+-- The outcome of a lane by the outputs and exit statuses of its children.
 use Rattle.std.specs.Prelude.{ℕ, ◌+◌, List, [], ◌∷◌, get_or, nat_eq, map, Option, Some, None}
 use Rattle.std.specs.Prelude.{unwrap_or, if◌then◌else◌, IsSome, Result, Ok, Err, All}
 use Rattle.lane.specs.child_processes.Spawners.{SpawnerState, Words}
@@ -18,22 +18,22 @@ use Rattle.lane.specs.declared.answer.LaneAnswer.TheVariants.{BadRecord, ChildFa
 use Rattle.lane.specs.declared.texts.TheConstants.{USAGE, VERSION}
 use Rattle.lane.specs.Words.{LaneValue, CommandValue, printing, run, words_of_all}
 
--- a text and an answer
+-- an answer with a text
 abbrev pub telling : LaneAnswer → List ℕ → OutcomeIn LaneAnswer
 telling answer bytes = record { answer = answer; bytes = bytes }
 
--- the first child, counted on from `child`, that ended with another status than 0
+-- the first child, counted on from `child`, that ended with an exit status other than 0
 abbrev pub first_failed : ℕ → List ℕ → Option LaneAnswer
 first_failed child [] = None
 first_failed child (status ∷ statuses) =
     if nat_eq status 0 then first_failed (child + 1) statuses else Some (ChildFailed child status)
 
--- children that agree are done where none failed
+-- children that agree are done if none failed
 abbrev pub agreed : Option LaneAnswer → ℕ → OutcomeIn LaneAnswer
 agreed (Some failed) cycles = telling failed []
 agreed None cycles = telling Done (verdict_line (Agree cycles))
 
--- a record that breaks off is its child's failure, where the child failed
+-- a truncated record is its child's failure, if the child failed
 abbrev pub broken_off : BadCopy → (status : ℕ) → LaneAnswer
 broken_off bad status =
     if nat_eq status 0 then BadRecord bad.copy bad.fault else ChildFailed bad.copy status
@@ -48,7 +48,7 @@ lane_by (Ok (Agree cycles)) statuses = agreed (first_failed 0 statuses) cycles
 lane_by (Ok (Differ copy at)) statuses = telling Differs (verdict_line (Differ copy at))
 lane_by (Err bad) statuses = telling (bad_by bad.fault.reason bad statuses) []
 
--- what the children write, and how they end, where the spawner tells it
+-- what the children write, and how they end, if the spawner knows it
 abbrev pub outputs : SpawnerState → List Words → List (List ℕ)
 outputs spawner words = map (λ w. unwrap_or (spawner.gives w) []) words
 
@@ -59,7 +59,7 @@ abbrev pub lane_outcome : SpawnerState → LaneValue → OutcomeIn LaneAnswer
 lane_outcome spawner lane = lane_by (verdict (outputs spawner (words_of_all lane)))
     (statuses_of spawner (words_of_all lane))
 
--- the text that a word asks for
+-- the text that an argument asks for
 abbrev pub text_of : TextWord → List ℕ
 text_of Help = USAGE.now
 text_of Version = VERSION.now
@@ -70,11 +70,11 @@ outcome_of spawner None = telling BadWords []
 outcome_of spawner (Some (printing word)) = telling Done (text_of word)
 outcome_of spawner (Some (run lane)) = lane_outcome spawner lane
 
--- the lists of words with which a command starts children
+-- the lists of arguments with which a command starts children
 abbrev pub children_of : Option CommandValue → List Words
 children_of (Some (run lane)) = words_of_all lane
 children_of command = []
 
--- the spawner tells what children with these words write, and how they end
+-- the spawner knows what children with these arguments write, and how they end
 abbrev pub Tells : SpawnerState → List Words → Type 0
 Tells spawner words = All (λ w. IsSome (spawner.gives w) × IsSome (spawner.ends w)) words

@@ -1,4 +1,4 @@
--- What the program `det_lane` promises.
+-- The promise of the program `det_lane`.
 use Rattle.std.specs.Prelude.{◌≡◌, ◌≤◌, ℕ, List, length, Option}
 use Rattle.det_io.specs.Count.{Rose}
 use Rattle.det_io.specs.Sink.{Grew, GrewByPrefix}
@@ -13,29 +13,28 @@ use Rattle.lane.specs.Outcome.{outcome_of, children_of, Tells}
 use Rattle.lane.specs.Words.{CommandValue, command_of}
 use Rattle.std.specs.Prelude.{None}
 
--- A run of a command over a spawner without children. `out` took what `before` and `after` say.
+-- A run of a command over a spawner without children. `before` and `after` say what `out` took.
 pub record Runs (command : Option CommandValue) (first last : SpawnerState) (out_failed : Type 0)
     (before after : List ℕ → Type 0) (answer : LaneAnswer) : Type 0 where
-  -- it answers and writes what the definition gives of what its children write and how they end,
-  -- where that is told
+  -- it meets the outcome for what its children write and how they end, if that is known
   pub meets : MeetsBy failed (outcome_of first command) (Tells first (children_of command))
       (Rose first.faults last.faults) out_failed before after answer
-  -- it ends as bad words exactly where the words are no command
+  -- it ends as bad words exactly if the arguments are no command
   pub bad_words : (answer ≡ BadWords → command ≡ None) × (command ≡ None → answer ≡ BadWords)
   -- no other child is started, and none before its turn
   pub asked : AsksPrefix first last (children_of command)
-  -- no more children are started than the command has, none for a text or bad words
+  -- no more children are started than the command has, and none for a text or bad words
   pub children : last.children ≤ length (children_of command)
   -- no child is left running, whatever the answer
   pub finished : AllFinished last
 
--- The program: a run of the command that the words give, its status, and one line for the user.
+-- The program: a run of the arguments' command, its status, and one line for the user.
 pub record IsPromised (words : List (List ℕ)) (first last : SpawnerState) (out_failed : Type 0)
     (before after : List ℕ → Type 0) (err_failed : Type 0) (err_before err_after : List ℕ → Type 0)
     (status : LaneStatus) : Type 0 where
   pub answer : LaneAnswer
   pub is : status ≡ status_of answer
   pub runs : Runs (command_of words) first last out_failed before after answer
-  -- `err` took a prefix of the answer's line, and all of it where its count of faults didn't rise
+  -- `err` took a prefix of the answer's line, and all of it unless its count of faults rose
   pub line : GrewByPrefix err_before err_after (line_of answer)
   pub whole_line : ¬ err_failed → Grew err_before err_after (line_of answer)

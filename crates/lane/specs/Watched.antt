@@ -1,4 +1,4 @@
--- What a lane finds of its children.
+-- What a lane finds by running its children.
 use Rattle.std.specs.Prelude.{◌≡◌, ◌≤◌, ◌⊎◌, [], Result, Ok, Err}
 use Rattle.det_io.specs.Count.{Rose}
 use Rattle.lane.specs.child_processes.Spawners.{SpawnerState}
@@ -18,7 +18,7 @@ abbrev pub answer_to : Verdict → LaneAnswer
 answer_to (Agree cycles) = Done
 answer_to (Differ copy at) = Differs
 
--- a verdict is printed, any other answer is told alone
+-- a verdict is printed; any other answer comes without a text
 abbrev pub found_by : Result Verdict LaneAnswer → OutcomeIn LaneAnswer
 found_by (Ok verdict) = telling (answer_to verdict) (verdict_line verdict)
 found_by (Err answer) = telling answer []

@@ -1,4 +1,4 @@
--- The words of `det_lane`, and those with which it starts its children.
+-- The arguments of `det_lane`, and those of its children.
 use Rattle.std.specs.Prelude.{ℕ, ◌+◌, zero, suc, List, [], ◌∷◌, Bool, ◌&&◌, Option, None}
 use Rattle.std.specs.Prelude.{option_map, if◌then◌else◌, codes, decimal}
 use Rattle.lane.specs.child_processes.Spawners.{Words}
@@ -9,7 +9,7 @@ use Rattle.lane.specs.declared.lane.Lane as code
 use Rattle.lane.specs.declared.words.LaneCommand as commands
 use Rattle.lane.specs.declared.words.LaneCommand.TheVariants.{Text, Run}
 
--- a program that is run in so many copies, each with this manifest and stimulus
+-- a program that is run in this many copies, each with this manifest and this stimulus
 pub record LaneValue : Type 0 where
   pub program : List ℕ
   pub copies : ℕ
@@ -47,7 +47,7 @@ lane_of program copies manifest stimulus =
     })) (copies_of copies)
     else None
 
--- the command that the words after the program's name are
+-- the command that the arguments after the program's name are
 abbrev pub command_of : List (List ℕ) → Option CommandValue
 command_of (word ∷ []) = option_map printing (text_word word)
 command_of (program ∷ copies ∷ manifest ∷ stimulus ∷ []) =
@@ -60,11 +60,11 @@ child_words lane k =
     lane.program ∷ codes "record" ∷ lane.manifest ∷ lane.stimulus
     ∷ codes "--workers" ∷ decimal (k + 1) ∷ []
 
--- the words of n children from child k on
+-- the arguments of n children from child k on
 unfoldable pub words_from : LaneValue → (k n : ℕ) → List Words
 words_from lane k zero = []
 words_from lane k (suc n) = child_words lane k ∷ words_from lane (k + 1) n
 
--- the words of all children
+-- the arguments of all children
 abbrev pub words_of_all : LaneValue → List Words
 words_of_all lane = words_from lane 0 lane.copies

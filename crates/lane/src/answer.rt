@@ -1,4 +1,4 @@
-//! How a lane ended, with what its line for `err` tells.
+//! `LaneAnswer`, how a lane ended, with its status and its line on standard error.
 ghost use Rattle.std.specs.Prelude.{◌≡◌};
 ghost use Rattle.cli_answers.specs.Answers.{ended};
 ghost use Rattle.lane.specs.Answers.{child_failed_text, line_of, status_of};
@@ -12,14 +12,14 @@ use record_grammar::RecordFault;
 #[derive(Clone, Copy, Debug, PartialEq, Eq, Drop)]
 pub enum LaneAnswer {
     Done,
-    /// The copies differ. The output tells where.
+    /// The copies differ. The place is on standard output, not in the line.
     Differs,
     BadWords,
     /// The copy, counted from 0, and its fault.
     BadRecord { copy: u32, fault: RecordFault },
     WriteFault,
     OutOfMemory,
-    /// The least child, counted from 0, whose exit status counts and isn't 0.
+    /// The first child, counted from 0, whose exit status counts and isn't 0.
     ChildFailed { child: u32, status: u8 },
     SpawnFault,
 }
@@ -67,7 +67,7 @@ impl LaneAnswer {
         }
     }
 
-    /// The line for `err`, which is empty where the lane is done or differs. It takes no memory.
+    /// The line for standard error, empty for `Done` and `Differs`. It allocates nothing.
     pub fn line(self) -> Line
         ensures { result ≡ line_of self }
     {

@@ -1,4 +1,7 @@
-//! Child processes whose outputs are the slots of a shelf.
+//! Child processes, and their outputs as the slots of a shelf.
+//!
+//! `Spawner` is the trait of what starts children, `ProcessSpawner` starts real ones, and
+//! `MemSpawner` replays scripts in tests.
 
 mod child_shelf;
 mod mem_spawner;

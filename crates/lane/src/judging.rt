@@ -1,4 +1,4 @@
-//! The verdict on the outputs of children, by their exit statuses.
+//! Decides between the verdict on the children's outputs and their exit statuses.
 ghost use Rattle.std.specs.Prelude.{◌≡◌, ◌≤◌, None, length, slice_index_or};
 ghost use Rattle.lane.specs.Judging.{failure_of, failure_among, known, judged, refused_by};
 
@@ -7,7 +7,7 @@ use copies::{BadCopy, Verdict};
 use det_io::Stopped;
 use record_grammar::Reason;
 
-/// What the exit status of a child says: nothing where it is 0, and a fault where it isn't known.
+/// What the exit status of a child means: no failure for 0, and a spawn fault if it isn't known.
 fn failure_of(child: u32, status: Option<u8>) -> Option<LaneAnswer>
     ensures { result ≡ failure_of child status }
 {
@@ -18,7 +18,8 @@ fn failure_of(child: u32, status: Option<u8>) -> Option<LaneAnswer>
     }
 }
 
-/// What the exit statuses of all children say. One that isn't known counts before one that isn't 0.
+/// What the exit statuses of all children mean. A status that isn't known counts before one that
+/// isn't 0, and the first child's before the others'.
 fn failure_among(statuses: &[Option<u8>]) -> Option<LaneAnswer>
     requires { length statuses.now ≤ 8 }
     ensures { result ≡ failure_among (known statuses.now) }
@@ -33,7 +34,7 @@ fn failure_among(statuses: &[Option<u8>]) -> Option<LaneAnswer>
     first
 }
 
-/// A record that breaks off is its child's failure, where the child failed.
+/// A truncated record is its child's failure, if the child failed.
 fn refused_by(bad: BadCopy, statuses: &[Option<u8>]) -> LaneAnswer
     ensures { result ≡ refused_by bad.fault.reason bad
         (slice_index_or statuses.now bad.copy None) }
@@ -49,7 +50,7 @@ fn refused_by(bad: BadCopy, statuses: &[Option<u8>]) -> LaneAnswer
     failure_of(bad.copy, status).unwrap_or(told)
 }
 
-/// The verdict that is printed, or the answer where none is.
+/// The verdict that is printed, or the answer if none is.
 pub(crate) fn judged(
     compared: Result<Verdict, Stopped<BadCopy>>,
     statuses: &[Option<u8>],

@@ -1,11 +1,11 @@
-//! A program that is run in several copies, and the words with which it starts its children.
+//! `Lane`, a program that is run in several copies, and the arguments of its children.
 ghost use Rattle.std.specs.Prelude.{◌≡◌, ◌≤◌, map, IfOk};
 ghost use Rattle.lane.specs.child_processes.Spawners.{words_of};
 
 use itoa::Buffer;
 use std::alloc::{AllocError, Global};
 
-/// A program that is run in several copies, each with this manifest and stimulus.
+/// A program that is run in several copies, each with this manifest and this stimulus.
 #[derive(Clone, Copy)]
 pub struct Lane<'a> {
     pub program: &'a str,
@@ -32,8 +32,9 @@ impl<'a> Lane<'a> {
     ghost use Rattle.lane.specs.child_processes.Spawners.{words_of};
     ghost use Rattle.lane.specs.Words.{child_words, lane_seen};
 
-    /// The words with which a child is started: its program, and behind it those of `det record`.
-    /// Children are counted from 0, and each has one worker more than the one before.
+    /// The arguments with which a child is started: its program, and then those of `det record`.
+    /// Children are counted from 0, and child k has k + 1 workers. So the copies differ in what
+    /// must not change a record.
     pub fn child_words(&self, alloc: Global, child: u32) -> Result<Vec<String>, AllocError>
         requires { child < 8 }
         ensures { IfOk result (λ words. words_of words.items

@@ -1,9 +1,9 @@
 //! The program `det_lane` as one call, over any spawner of children and any sinks.
 //!
-//! A lane runs one program in 2 to 8 copies, as child processes, and compares the records that
-//! they write while they run. `specs/Words.antt` says which words it takes, `specs/Outcome.antt`
-//! what it gives of its children's outputs and exit statuses, and `specs/Promise.antt` what
-//! `lane_top` promises of that.
+//! A lane runs one program in 2 to 8 copies, as child processes, and compares their records while
+//! they are written. `specs/Words.antt` defines its arguments, `specs/Outcome.antt` its outcome by
+//! the outputs and exit statuses of its children, and `specs/Promise.antt` the promise of
+//! `lane_top`.
 #![tactic(auto)]
 
 mod answer;

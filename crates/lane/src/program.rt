@@ -1,4 +1,4 @@
-//! The whole program.
+//! `lane_top`, which runs the command that the arguments name.
 ghost use Rattle.std.specs.Prelude.{◌≡◌, true, Err};
 ghost use Rattle.det_io.specs.Count.{Rose};
 ghost use Rattle.cli_words.specs.Names.{texts};
@@ -25,18 +25,18 @@ use std::alloc::Global;
 /// The slots of the children: slot k is child k.
 const SLOTS: [u32; 8] = [0, 1, 2, 3, 4, 5, 6, 7];
 
-/// Runs the command that the words give, which are those after the program's name.
+/// Runs the command that the arguments after the program's name give.
 ///
 /// All children are started before one is read, and all are finished before the line is written. A
-/// child whose output isn't read to its end is stopped by its spawner. Where a child can't be
-/// started, or there is no memory for its words, those before it are finished.
+/// spawner stops a child whose output isn't read to its end. If a child can't be started, or memory
+/// runs out for its arguments, those before it are finished.
 ///
-/// A start or a read that fails is a spawn fault. So is an end that fails where the exit status
-/// counts: of every child where the copies agree, also where another child ended with a status that
-/// isn't 0, and of the copy whose record breaks off. Any other end may fail.
+/// A failed start or read is a spawn fault. A failed end is one only if that exit status counts. If
+/// the copies agree, every child's counts, even if another child ended with a status other than 0.
+/// If a record is truncated, only that copy's counts.
 ///
-/// `read` and `finish` of a spawner of processes can wait for ever, so that this call returns isn't
-/// promised.
+/// `read` and `finish` of a spawner of processes can wait for ever, so no contract promises that
+/// this call returns.
 pub fn lane_top<P: Spawner, K: Sink, E: Sink>(
     alloc: Global,
     words: &[String],
@@ -77,7 +77,7 @@ fn run<P: Spawner, K: Sink>(
     }
 }
 
-/// Starts the children, compares their outputs and finishes them. None is left running.
+/// Starts the children, compares their outputs and finishes them. No child is left running.
 fn watch<P: Spawner>(
     alloc: Global,
     lane: &Lane<'_>,
@@ -97,7 +97,7 @@ fn watch<P: Spawner>(
     judged(compared, &statuses[..lane.copies as usize])
 }
 
-/// Prints the line of a verdict.
+/// Prints the line of a verdict, or returns the answer if there is no verdict.
 fn tell<K: Sink>(alloc: Global, found: Result<Verdict, LaneAnswer>, out: &mut K) -> LaneAnswer
     requires writes_nothing { found ≡ Err LaneAnswer.WriteFault → ⊥ }
     requires words { found ≡ Err LaneAnswer.BadWords → ⊥ }
@@ -125,7 +125,7 @@ fn answer_to(verdict: Verdict) -> LaneAnswer
     }
 }
 
-/// Writes a text, and answers this where all of it was written.
+/// Writes a text. The answer is this one if all of it was written.
 fn print<K: Sink>(text: &[u8], answer: LaneAnswer, out: &mut K) -> LaneAnswer
     requires { has_text answer ≡ true }
     ensures meets { MeetsBy failed (telling answer text.now) (Unit {0}) ⊥

@@ -1,4 +1,4 @@
-//! Children that are started, compared and finished.
+//! Starts and finishes all children of a lane.
 ghost use Rattle.std.specs.Prelude.{◌≡◌, ℕ, ◌<◌, ◌≤◌, ◌∷◌, [], None, Some, OnOk, OnErr};
 ghost use Rattle.std.specs.Prelude.{slice_index_or};
 ghost use Rattle.det_io.specs.Count.{Rose};
@@ -12,14 +12,14 @@ use crate::lane::Lane;
 use det_io::Failure;
 use std::alloc::Global;
 
-/// The greatest number of copies.
+/// The most copies that a lane has.
 pub(crate) const MOST_COPIES: usize = 8;
 
-/// The exit statuses of the children, by their numbers. None where a child has none, or where it
-/// could not be waited for.
+/// The exit statuses of the children by their numbers. None for a child without one, or that
+/// couldn't be waited for.
 pub(crate) type Statuses = [Option<u8>; MOST_COPIES];
 
-/// How many children were started, and why no more of them were.
+/// How many children were started, and why no further one was.
 #[derive(Drop)]
 pub(crate) struct Started {
     pub count: u32,
@@ -54,7 +54,7 @@ fn start<P: Spawner>(
     }
 }
 
-/// Starts the children in their order, up to the first that can't be started.
+/// Starts the children in their order, until one can't be started.
 pub(crate) fn start_all<P: Spawner>(alloc: Global, lane: &Lane<'_>, spawner: &mut P) -> Started
     requires none { (P.sees spawner.old).children ≡ 0 }
     ensures count { (P.sees spawner.new).children ≡ result.count }
@@ -85,7 +85,7 @@ pub(crate) fn start_all<P: Spawner>(alloc: Global, lane: &Lane<'_>, spawner: &mu
     }
 }
 
-/// Finishes all children, and answers the exit status of each where it is known.
+/// Finishes all children, and returns each exit status that is known.
 pub(crate) fn finish_all<P: Spawner>(spawner: &mut P, count: u32) -> Statuses
     requires count { (P.sees spawner.old).children ≡ count }
     requires few { count ≤ 8 }

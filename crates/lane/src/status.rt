@@ -1,30 +1,30 @@
-//! The exit status of a lane.
+//! The exit statuses of `det_lane`.
 ghost use Rattle.std.specs.Prelude.{◌≡◌};
 ghost use Rattle.lane.specs.Answers.{number_of};
 
-/// How a run of `det_lane` ended.
+/// The exit status of a run of `det_lane`.
 #[derive(Clone, Copy, Debug, PartialEq, Eq, Drop)]
 pub enum LaneStatus {
     /// The copies are one whole record, and all children ended with 0.
     Done,
     /// The copies differ.
     Differs,
-    /// The words are not those of a lane.
+    /// The arguments are no lane.
     BadWords,
     /// The record of a copy has a fault.
     BadRecord,
-    /// The output failed.
+    /// Standard output failed.
     WriteFault,
-    /// Memory could not be had.
+    /// Memory ran out.
     OutOfMemory,
-    /// A child ended with another status than 0.
+    /// A child ended with an exit status other than 0.
     ChildFailed,
-    /// A child could not be started, read or waited for, or it ended without a status.
+    /// A child couldn't be started, read or waited for, or it ended without an exit status.
     SpawnFault,
 }
 
 impl LaneStatus {
-    /// The program's exit status. 0 to 8 mean what they mean of `det`.
+    /// The number that the process exits with. 0 to 8 mean the same as for `det`.
     pub fn number(&self) -> u8
         ensures { result ≡ number_of self.now }
     {

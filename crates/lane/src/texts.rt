@@ -4,7 +4,7 @@ ghost use Rattle.lane.specs.Outcome.{text_of};
 
 use cli_words::TextWord;
 
-/// The words of the program, and its exit statuses.
+/// What `--help` prints: the arguments of the program, and its exit statuses.
 pub const USAGE: &str = "\
 det_lane: runs a program in several copies and compares their records
 
@@ -33,10 +33,10 @@ Exit statuses:
   5  bad record               10  spawn fault
 ";
 
-/// The name of the program and its version.
+/// What `--version` prints: the name of the program and its version.
 pub const VERSION: &str = "det_lane 0.1.0\n";
 
-/// The text that a word asks for.
+/// The text that an argument asks for.
 pub(crate) fn text_of(word: TextWord) -> &'static str
     ensures { result.now ≡ text_of word }
 {

@@ -1,4 +1,4 @@
-//! The words of a lane.
+//! `LaneCommand`, what the arguments ask for.
 ghost use Rattle.std.specs.Prelude.{◌≡◌, option_map};
 ghost use Rattle.cli_words.specs.Names.{texts};
 ghost use Rattle.lane.specs.Words.{are_names, command_of, command_seen, lane_of};
@@ -6,7 +6,7 @@ ghost use Rattle.lane.specs.Words.{are_names, command_of, command_seen, lane_of}
 use crate::lane::Lane;
 use cli_words::{TextWord, copies_of, is_name};
 
-/// What the words after the program's name ask for.
+/// What the arguments after the program's name ask for.
 #[derive(Clone, Copy)]
 pub enum LaneCommand<'a> {
     Text(TextWord),
@@ -41,7 +41,7 @@ fn lane_of<'a>(
 }
 
 impl<'a> LaneCommand<'a> {
-    /// Reads the words after the program's name. None where they are no command.
+    /// Reads the arguments after the program's name. None if they are no command.
     pub fn of(words: &'a [String]) -> Option<LaneCommand<'a>>
         ensures { option_map command_seen result ≡ command_of (texts words.now) }
     {

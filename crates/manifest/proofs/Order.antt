@@ -14,7 +14,7 @@ use Rattle.manifest.specs.declared.fault.ManifestFault.{ManifestFault}
 use Rattle.manifest.specs.declared.key.Key.TheVariants.{Platform, InitNeeds, InitNeed, RunNeeds, RunNeed}
 use Rattle.manifest.proofs.Steps.{first_append}
 
--- a fault where there is one, else the answer
+-- a fault if there is one, otherwise the result
 abbrev pub or_fault : Option ManifestFault → Result ManifestValue ManifestFault → Result ManifestValue ManifestFault
 or_fault fault answer = option_map_or Err fault answer
 
@@ -77,7 +77,8 @@ module _ (tree : Data) (rest : Result ManifestValue ManifestFault) where
         pub past_keys : first_fault tree last_keys ≡ None → or_fault (first_fault tree (keys tree)) rest ≡ rest
         past_keys last = past_events None last
 
--- an answer that was read from a group agrees with what the tree means, where that has the group's fault
+-- a result that was read from a group agrees with what the tree means, if that has the group's
+-- fault
 pub agrees-read : {A : Type 0} (e : ManifestError) (fault : Option ManifestFault) (x : A) (meant : Result ManifestValue ManifestFault)
     → IsRead {T = A} (Err e) fault x → ((f : ManifestFault) → fault ≡ Some f → meant ≡ Err f)
     → Agrees {T = ManifestValue} (Err e) meant

@@ -28,7 +28,7 @@ no_text_by false bytes e none = e
 pub no_text : (bytes : List ℕ) → (IsUtf8 bytes → ⊥) → is_utf8 bytes ≡ false
 no_text bytes none = no_text_by (is_utf8 bytes) bytes refl none
 
--- the two sides of an answer that agrees
+-- the two sides of a result that agrees
 pub agreed_manifest : (r : Result ManifestValue ManifestError) (said meant : Result ManifestValue ManifestFault)
     → said ≡ meant → Agrees r meant → IfOk r (λ m. said ≡ Ok m)
 agreed_manifest (Ok m) said meant same agreed = same ∙ agreed
@@ -61,7 +61,7 @@ pub not_text : (bytes : List ℕ) → length bytes ≤ 65536 → is_utf8 bytes �
     → (strict : Bool) → manifest_of strict bytes ≡ Err NotToml
 not_text bytes few none strict = rw (le-leb (length bytes) 65536 few, none)
 
--- an answer of which nothing was read
+-- a result without a document
 pub unread_fault : (e : ManifestError) (bytes : List ℕ) (strict : Bool)
     → IsDocument (Err e) bytes → IfFault e (λ f. manifest_of strict bytes ≡ Err f)
 unread_fault (Fault f) bytes strict unread = unread strict

@@ -28,7 +28,7 @@ zeros_behind zero m key h = refl
 zeros_behind (suc n) m [] h = all_of_zeros (suc n) m h
 zeros_behind (suc n) m (b ∷ key) h = ap (λ (l : List ℕ). b ∷ l) (zeros_behind n m key (omega arith))
 
--- the first bytes of a key, and zeros behind them
+-- the first bytes of a key, and zeros after them
 pub in_zeros : (key : List ℕ) → take 64 (key ++ replicate 64 zero) ≡ with_zeros (take 64 key)
 in_zeros key = zeros_behind 64 64 key (omega arith)
 
@@ -40,7 +40,7 @@ or_or : (a b c : Bool) → ((a || b) || c) ≡ (a || (b || c))
 or_or true b c = refl
 or_or false b c = refl
 
--- the words that a table knows, one by one
+-- the names that a table knows, one by one
 pub known_top : (key : List ℕ) → is_known Top key ≡ is_top_word key
 unfolding is_known
 known_top key = simp (or_false, or_or)

@@ -14,7 +14,7 @@ use Rattle.manifest.specs.declared.fault.ManifestFault.TheVariants.{Missing, Wro
 abbrev pub unless : Bool → ManifestFault → Option ManifestFault
 unless test fault = if test then None else Some fault
 
--- the fault of a value where a kind may stand: one of another kind, or one out of the range
+-- the fault of a value where a kind is wanted: it is of another kind, or out of the range
 abbrev pub value_fault : Key → Kind → Data → Option ManifestFault
 value_fault key (text fits) (string s) = unless (fits s) (OutOfRange key)
 value_fault key any_whole (integer z) = None
@@ -26,7 +26,7 @@ value_fault key (array_up_to most) (array items) =
 value_fault key section (table ms) = None
 value_fault key kind value = Some (WrongKind key)
 
--- the fault of what stands at a key, or of nothing there
+-- the fault at a key, of its value or of its absence
 abbrev pub fault_by : Key → Bool → Kind → Option Data → Option ManifestFault
 fault_by key needed kind None = if needed then Some (Missing key) else None
 fault_by key needed kind (Some value) = value_fault key kind value
@@ -39,7 +39,7 @@ abbrev pub first_fault : Data → List Key → Option ManifestFault
 first_fault tree [] = None
 first_fault tree (key ∷ keys) = option_or (fault_at tree key) (first_fault tree keys)
 
--- the least number, from number n on, of an event whose name an earlier event has
+-- the least number, from `n` on, of an event whose name an earlier event has
 abbrev pub duplicate_after : List EventSpecValue → ℕ → List EventSpecValue → Option ℕ
 duplicate_after earlier n [] = None
 duplicate_after earlier n (event ∷ events) =

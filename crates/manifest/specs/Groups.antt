@@ -1,4 +1,5 @@
--- The groups of keys in the order in which they are judged, and what the first and the last say.
+-- The groups of keys, in the order in which they are checked, and the content of the first and the
+-- last group.
 use Rattle.std.specs.Prelude.{List, [], ◌∷◌, ◌++◌, map, flat_map, Some, option_map}
 use Rattle.toml.specs.Data.{Data}
 use Rattle.det_values.specs.Jobs.{kind_of_name}

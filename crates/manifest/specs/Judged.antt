@@ -1,4 +1,4 @@
--- What the readers of single keys, of groups of keys and of the whole answer.
+-- The results of the readers: of single keys, of groups of keys and of the whole.
 use Rattle.std.specs.Prelude.{◌≡◌, Option, Some, None, Result, Ok, Err, option_map, List, ℕ}
 use Rattle.std.specs.Prelude.{Bool, ◌||◌, ◌-◌, ◌^◌, ◌++◌, length, drop, replicate, bytes_eq, codes}
 use Rattle.std.specs.Borrow.{Bor}
@@ -17,7 +17,7 @@ use Rattle.manifest.specs.declared.fault.ManifestFault.TheVariants.{NotToml}
 use Rattle.manifest.specs.declared.fault.ManifestError.{ManifestError}
 use Rattle.manifest.specs.declared.fault.ManifestError.TheVariants.{Fault, OutOfMemory}
 
--- what a look-up found
+-- what a look-up found, as data
 abbrev pub seen : Option (Bor Value) → Option Data
 seen found = option_map (λ v. view v.now) found
 
@@ -38,7 +38,7 @@ abbrev pub need_most : NeedKey → ℕ
 need_most Speedup = 1000000
 need_most _ = 2 ^ 63 - 1
 
--- the words of the table of keys, level by level
+-- the names of the keys that a table knows, level by level
 abbrev pub is_top_word : List ℕ → Bool
 is_top_word key =
     bytes_eq key (codes "job") || bytes_eq key (codes "cycle_time_ns")
@@ -55,34 +55,34 @@ is_need_word key =
     bytes_eq key (codes "instructions") || bytes_eq key (codes "sequential_begin")
     || bytes_eq key (codes "sequential_end") || bytes_eq key (codes "speedup_thousandths")
 
--- these bytes and zeros, 64 in all
+-- these bytes, and then zeros, 64 in all
 abbrev pub with_zeros : List ℕ → List ℕ
 with_zeros bytes = bytes ++ drop (length bytes) (replicate 64 0)
 
--- an answer tells the fault, or that there is none and what is meant
+-- the result is this fault, or there is no fault and the result is the value that is meant
 abbrev pub IsJudged : {T : Type 0} → Result T ManifestFault → Option ManifestFault → T → Type 0
 IsJudged (Ok x) fault meant = (fault ≡ None) × (x ≡ meant)
 IsJudged (Err f) fault meant = fault ≡ Some f
 
--- the same, where memory may be wanting
+-- the same, unless memory ran out
 abbrev pub IsRead : {T : Type 0} → Result T ManifestError → Option ManifestFault → T → Type 0
 IsRead (Ok x) fault meant = (fault ≡ None) × (x ≡ meant)
 IsRead (Err (Fault f)) fault meant = fault ≡ Some f
 IsRead (Err OutOfMemory) fault meant = Unit {0}
 
--- an answer is what is meant, where memory may be wanting
+-- the result is the one that is meant, unless memory ran out
 abbrev pub Agrees : {T : Type 0} → Result T ManifestError → Result T ManifestFault → Type 0
 Agrees (Ok x) meant = meant ≡ Ok x
 Agrees (Err (Fault fault)) meant = meant ≡ Err fault
 Agrees (Err OutOfMemory) meant = Unit {0}
 
--- a tree is what a text is read as, strictly or not
+-- the tree is that of a text, to be read strictly or not
 abbrev pub IsDocument : Result Value ManifestError → List ℕ → Type 0
 IsDocument (Ok v) bytes = (strict : Bool) → manifest_of strict bytes ≡ manifest_in strict (view v)
 IsDocument (Err (Fault fault)) bytes = (strict : Bool) → manifest_of strict bytes ≡ Err fault
 IsDocument (Err OutOfMemory) bytes = Unit {0}
 
--- a text is read as its document, where memory may be wanting
+-- the value is the document of a text, unless memory ran out
 abbrev pub IsParsed : Result Value ManifestError → Option Data → Type 0
 IsParsed (Ok v) document = document ≡ Some (view v)
 IsParsed (Err (Fault fault)) document = (fault ≡ NotToml) × (document ≡ None)

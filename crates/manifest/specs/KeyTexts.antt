@@ -1,4 +1,4 @@
--- How a key is told: the words and numbers of its path, with dots between them.
+-- The text of a key: the names and numbers of its path, with dots between them.
 use Rattle.std.specs.Prelude.{ℕ, List, map, decimal}
 use Rattle.std.specs.List.{join_with_byte}
 use Rattle.manifest.specs.Tree.{Step, to_member, to_item}

@@ -1,5 +1,5 @@
--- The table of keys: where each stands, when it is needed, what it may hold, and in which order
--- they are judged.
+-- The table of keys: the place of each, when it is required, what it may hold, and the order in
+-- which they are checked.
 use Rattle.std.specs.Prelude.{ℕ, ◌-◌, ◌^◌, Bool, true, false, ◌||◌, List, [], ◌∷◌, ◌++◌, map}
 use Rattle.std.specs.Prelude.{flat_map, Option, Some, is_some, codes}
 use Rattle.std.specs.List.{range_with_len}
@@ -22,7 +22,7 @@ need_word SequentialBegin = codes "sequential_begin"
 need_word SequentialEnd = codes "sequential_end"
 need_word Speedup = codes "speedup_thousandths"
 
--- where a key stands in a document
+-- the place of a key in a document
 abbrev pub path : Key → List Step
 path Job = to_member (codes "job") ∷ []
 path CycleTime = to_member (codes "cycle_time_ns") ∷ []
@@ -40,15 +40,15 @@ path (InitNeed need) = to_member (codes "init_needs") ∷ to_member (need_word n
 path RunNeeds = to_member (codes "run_needs") ∷ []
 path (RunNeed need) = to_member (codes "run_needs") ∷ to_member (need_word need) ∷ []
 
--- what stands at a key
+-- the value at a key
 abbrev pub found : Data → Key → Option Data
 found tree key = walk (path key) (Some tree)
 
 abbrev pub has : Data → Key → Bool
 has tree key = is_some (found tree key)
 
--- what may stand at a key: a text that passes a test, a whole number, one from the least to the
--- greatest, an array of at most so many items, a table
+-- What a key may hold: a text that passes a test, any whole number, or one from a least to a
+-- greatest. Otherwise, an array of at most this many items, or a table.
 pub data Kind : Type 0 where
   text : (List ℕ → Bool) → Kind
   any_whole : Kind
@@ -56,7 +56,7 @@ pub data Kind : Type 0 where
   array_up_to : ℕ → Kind
   section : Kind
 
--- whether a key is needed, and what may stand there
+-- whether a key is required, and what it may hold
 pub record Rule : Type 0 where
   pub needed : Bool
   pub kind : Kind
@@ -106,7 +106,7 @@ all_needs = Instructions ∷ SequentialBegin ∷ SequentialEnd ∷ Speedup ∷ [
 abbrev pub needs_keys : Key → (NeedKey → Key) → List Key
 needs_keys needs need = needs ∷ map need all_needs
 
--- the keys in the order in which they are judged
+-- the keys in the order in which they are checked
 abbrev pub keys : Data → List Key
 keys tree =
     Job ∷ CycleTime ∷ Workers ∷ Params ∷ (map Param (items_of tree Params)

@@ -1,4 +1,4 @@
--- The ranges of what a manifest says.
+-- The ranges of the values in a manifest.
 use Rattle.std.specs.Prelude.{◌≡◌, ℕ, ◌^◌, ◌<◌, ◌≤◌, true, Bool, ◌&&◌, ◌||◌, nat_le, List, length}
 use Rattle.std.specs.Prelude.{codes, bytes_eq}
 use Rattle.std.specs.List.{list_all}
@@ -21,7 +21,7 @@ is_policy word = bytes_eq word (codes "last") || bytes_eq word (codes "fresh")
 abbrev pub IsWorkers : ℕ → Type 0
 IsWorkers n = (1 ≤ n) × (n ≤ 64)
 
--- what a profile's events promise: a capacity from 1 to 1,024 samples and a name
+-- what holds of the events of a profile: a capacity from 1 to 1,024 samples, and a name
 abbrev pub IsEvent : EventSpecValue → Type 0
 IsEvent e = IsCapacity e.capacity × (is_event_name e.name ≡ true)
 

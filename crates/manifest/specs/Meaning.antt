@@ -1,4 +1,4 @@
--- The manifest that a text is.
+-- The manifest that a text means.
 use Rattle.std.specs.Prelude.{ℕ, ℤ, nat_le, not, Bool, List, map, length, Option, Some, None}
 use Rattle.std.specs.Prelude.{option_map, Result, Err, ok_or, if◌then◌else◌, codes, bytes_eq}
 use Rattle.std.specs.Option.{option_map_or}
@@ -30,11 +30,11 @@ use Rattle.manifest.specs.declared.fault.ManifestError.{ManifestError}
 use Rattle.manifest.specs.declared.fault.ManifestError.TheVariants.{Fault, OutOfMemory}
 use Rattle.manifest.specs.declared.needs.Needs.{Needs}
 
--- none where the key is absent
+-- none if the key is absent
 abbrev pub params_of : Data → List ℤ
 params_of tree = map (λ i. whole_of (found tree (Param i))) (items_of tree Params)
 
--- a policy is `last` where nothing else is said
+-- a policy is `last` unless the manifest says `fresh`
 abbrev pub policy_of : List ℕ → Policy
 policy_of word = if bytes_eq word (codes "fresh") then Fresh else Last
 
@@ -48,7 +48,7 @@ event_at tree i = record {
 abbrev pub events_of : Data → List EventSpecValue
 events_of tree = map (event_at tree) (items_of tree Event)
 
--- none exactly where the key of the table is absent
+-- none exactly if the key of the table is absent
 abbrev pub needs_of : Data → Key → (NeedKey → Key) → Option Needs
 needs_of tree needs need = option_map (λ _. record {
   instructions = number_of (found tree (need Instructions));
@@ -57,7 +57,7 @@ needs_of tree needs need = option_map (λ _. record {
   speedup = number_of (found tree (need Speedup));
 }) (found tree needs)
 
--- what a tree without a fault says, for a job; no platform exactly where its key is absent
+-- the content of a tree without a fault, for a job; no platform exactly if its key is absent
 abbrev pub said : Data → JobKind → ManifestValue
 said tree kind = record {
   kind = kind;
@@ -70,36 +70,36 @@ said tree kind = record {
   run_needs = needs_of tree RunNeeds RunNeed;
 }
 
--- the first repeated name of an event is a fault, then an unknown name of the job
+-- the first repeated name of an event is a fault, and after it an unknown name of the job
 abbrev pub by_names : Data → Result ManifestValue ManifestFault
 by_names tree =
     option_map_or Err (option_map DuplicateEvent (first_duplicate (events_of tree)))
     (ok_or (option_map (said tree) (kind_of_name (text_of (found tree Job)))) UnknownJob)
 
--- the first key that no table knows, where such keys are a fault
+-- the first unknown key, if such keys are a fault
 abbrev pub unknown_fault : Bool → Data → Option ManifestFault
 unknown_fault strict tree =
     if strict then option_map UnknownKey
     (first_unknown tree (count_of (found tree Event))) else None
 
--- first the keys of the tables, then a key that no table knows, then the names
+-- first the keys of the tables, then unknown keys, then the names
 abbrev pub manifest_in : (strict : Bool) → Data → Result ManifestValue ManifestFault
 manifest_in strict tree =
     option_map_or Err (first_fault tree (keys tree))
     (option_map_or Err (unknown_fault strict tree) (by_names tree))
 
--- the tree of a document, none where the text is no TOML
+-- the tree of a document, none if the text isn't TOML
 abbrev pub document_of : List ℕ → Option Data
 document_of text = option_map table (parse_document text)
 
--- the manifest that a text is, or its first fault; strictly, a key that no table knows is one
+-- the manifest that a text means, or its first fault; strictly, an unknown key is one
 abbrev pub manifest_of : (strict : Bool) → List ℕ → Result ManifestValue ManifestFault
 manifest_of strict bytes =
     if not (nat_le (length bytes) 65536) then Err TooLong
     else if is_utf8 bytes then option_map_or (manifest_in strict) (document_of bytes) (Err NotToml)
     else Err NotToml
 
--- a fact of the fault that an error tells; nothing where memory was wanting
+-- a fact of the fault of an error, and nothing if memory ran out
 abbrev pub IfFault : ManifestError → (ManifestFault → Type 0) → Type 0
 IfFault (Fault fault) P = P fault
 IfFault OutOfMemory P = Unit {0}

@@ -11,7 +11,7 @@ use Rattle.manifest.specs.declared.unknown.UnknownKey.{UnknownKey}
 use Rattle.manifest.specs.declared.unknown.KeyTable.{KeyTable}
 use Rattle.manifest.specs.declared.unknown.KeyTable.TheVariants.{Top, Event, InitNeeds, RunNeeds}
 
--- the words of the table of keys, level by level
+-- the names of the keys that a table knows, level by level
 abbrev pub known : KeyTable → List (List ℕ)
 known Top =
     codes "job" ∷ codes "cycle_time_ns" ∷ codes "workers" ∷ codes "params" ∷ codes "event"
@@ -23,7 +23,7 @@ known RunNeeds = map need_word all_needs
 unfoldable pub is_known : KeyTable → List ℕ → Bool
 is_known table key = list_any (bytes_eq key) (known table)
 
--- a key as a fault tells it: at most the first 64 of its bytes, and zeros behind them
+-- a key as a fault reports it: at most its first 64 bytes, and then zeros
 abbrev pub unknown_key : KeyTable → List ℕ → UnknownKey
 unknown_key table key = record {
   table = table;
@@ -31,26 +31,25 @@ unknown_key table key = record {
   len = length (take 64 key);
 }
 
--- the first of these members, which ascend, whose key the table doesn't know
+-- the first of these members, which ascend by key, whose key the table doesn't know
 abbrev pub unknown_in : KeyTable → Members → Option (List ℕ)
 unknown_in table no_members = None
 unknown_in table (member key d ms) = if is_known table key then unknown_in table ms else Some key
 
--- the same of what stands at a place, where it is a table
+-- the same for the value at a place, if it is a table
 abbrev pub unknown_at : KeyTable → Option Data → Option UnknownKey
 unknown_at table place =
     option_map (unknown_key table)
     (option_and_then (unknown_in table) (option_and_then as_table place))
 
--- the same of n events from number i on
+-- the same for `n` events, from number `i` on
 abbrev pub unknown_events : Data → ℕ → ℕ → Option UnknownKey
 unknown_events tree i zero = None
 unknown_events tree i (suc n) =
     option_or (unknown_at (Event i) (found tree (keys.EventItem i)))
     (unknown_events tree (i + 1) n)
 
--- the first key of a document that no table knows: the top level's, then the events', then the
--- needs'
+-- the first unknown key of a document: of the top level, then of the events, then of the needs
 abbrev pub first_unknown : Data → ℕ → Option UnknownKey
 first_unknown tree count =
     option_or (unknown_at Top (Some tree))

@@ -1,4 +1,4 @@
--- What contracts see of a manifest: what it says, without the ranges.
+-- What contracts see of a manifest: its content, without the ranges.
 use Rattle.std.specs.Prelude.{ℕ, ℤ, List, Option}
 use Rattle.det_values.specs.Values.{EventSpecValue}
 use Rattle.det_values.specs.declared.job_kind.JobKind.{JobKind}

@@ -33,7 +33,7 @@ fn read_event(tree: &Value, i: u16) -> Result<EventSpec, ManifestFault>
     })
 }
 
-/// The events, none where the key is absent.
+/// The events, none if the key is absent.
 #[tactic(auto, using(crate::proofs::Steps::events_fault, crate::proofs::Steps::events_value))]
 pub(crate) fn read_events(alloc: Global, tree: &Value) -> Result<Events, ManifestError>
     ensures read { IsRead result (first_fault (view tree.now) (events_keys (view tree.now)))
@@ -50,7 +50,7 @@ pub(crate) fn read_events(alloc: Global, tree: &Value) -> Result<Events, Manifes
     Ok(events)
 }
 
-/// Whether one of these events has the name of another.
+/// Whether one of these events has the same name as another one.
 fn is_named_in(other: &EventSpec, events: &[EventSpec]) -> bool
     ensures { result ≡ list_any (λ e. bytes_eq e.name other.now.name) events.now }
 {
@@ -58,7 +58,8 @@ fn is_named_in(other: &EventSpec, events: &[EventSpec]) -> bool
     events.iter().any(|event| event.name.as_slice() == name)
 }
 
-/// The least number of an event whose name an earlier event has.
+/// The least number, from 0, of an event whose name an earlier event has. All pairs are compared:
+/// there are at most 256 events.
 #[tactic(auto, using(crate::proofs::Steps::duplicate_step))]
 pub(crate) fn duplicate_event(events: &[EventSpec]) -> Option<u16>
     requires { length events.now ≤ 256 }

@@ -1,40 +1,40 @@
-//! What can be wrong with a manifest.
+//! The faults of a manifest.
 use crate::{Key, UnknownKey};
 use det_values::OutOfMemory;
 use thiserror::Error;
 
-/// The first thing that is wrong with a manifest. Keys are judged in a fixed order, each for being
-/// there, for its kind and for its range; after all keys those that no table knows, then the names
-/// of the events, and last the name of the job.
+/// The first fault of a manifest. Keys are checked in a fixed order, each for its presence, its
+/// kind and its range. Keys that no table knows come after them, then the names of the events, and
+/// last the name of the job.
 #[derive(Clone, Copy, Debug, PartialEq, Eq, Drop, Error)]
 pub enum ManifestFault {
     /// It has more than 65,536 bytes.
     #[error("too long")]
     TooLong,
-    /// It is no TOML document.
+    /// It is not a TOML document.
     #[error("not toml")]
     NotToml,
-    /// A key that is needed is absent.
+    /// A required key is absent.
     #[error("missing {0}")]
     Missing(Key),
-    /// A value of another kind than its key's.
+    /// A value is of another kind than its key's.
     #[error("wrong kind {0}")]
     WrongKind(Key),
-    /// A value of its key's kind, but out of the range.
+    /// A value is of its key's kind, but out of its range.
     #[error("out of range {0}")]
     OutOfRange(Key),
-    /// A key that its table doesn't know, where such keys are a fault.
+    /// A table doesn't know a key. This is a fault only for `read_strict_manifest`.
     #[error("unknown key")]
     UnknownKey(UnknownKey),
-    /// The least number, from 0, of an event whose name an earlier event has.
+    /// The first event, counted from 0, whose name an earlier event has.
     #[error("duplicate event {0}")]
     DuplicateEvent(u16),
-    /// The job's name is that of no shipped job.
+    /// No shipped job has the job's name.
     #[error("unknown job")]
     UnknownJob,
 }
 
-/// Why a manifest isn't read.
+/// Why a manifest can't be read.
 #[derive(Clone, Copy, Debug, PartialEq, Eq, Drop, Error)]
 pub enum ManifestError {
     #[error("bad manifest: {0}")]

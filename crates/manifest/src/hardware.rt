@@ -1,4 +1,4 @@
-//! What the last keys of a manifest say.
+//! The last keys of a manifest: the platform and the tables of needs.
 ghost use Rattle.std.specs.Prelude.{◌≡◌, ◌||◌, IfOk};
 ghost use Rattle.std.specs.Option.{ForSome};
 ghost use Rattle.toml.specs.View.{view};
@@ -21,7 +21,7 @@ pub(crate) struct Hardware {
     pub(crate) run_needs: Option<Needs>,
 }
 
-/// Whether a table of needs is there, so that the platform is needed.
+/// Whether a table of needs is there. If so, the platform is required.
 fn has_needs(tree: &Value) -> bool
     ensures { result ≡ (has (view tree.now) Key.InitNeeds || has (view tree.now) Key.RunNeeds) }
 {

@@ -1,4 +1,4 @@
-//! Judges what stands at single keys: whether it has to be there, its kind, and its range.
+//! Reads the values at single keys, and checks for each its presence, its kind and its range.
 ghost use Rattle.std.specs.Prelude.{◌≡◌, ℕ, ◌<◌, ◌≤◌, ◌^◌, Some, None, Bool, true, false, List};
 ghost use Rattle.std.specs.Prelude.{IfOk, IfErr, is_some, option_map, pos};
 ghost use Rattle.det_values.specs.Limits.{is_event_name};
@@ -15,7 +15,7 @@ use crate::{Key, ManifestFault, PlatformName};
 use det_values::{EventName, Policy};
 use toml::Value;
 
-/// A member of what was found.
+/// A member of a table that was found.
 pub(crate) fn member<'t>(parent: Option<&'t Value>, word: &str) -> Option<&'t Value>
     ensures { seen result ≡ step (to_member word.now) (seen parent.entry) }
 {
@@ -25,7 +25,7 @@ pub(crate) fn member<'t>(parent: Option<&'t Value>, word: &str) -> Option<&'t Va
     }
 }
 
-/// An item of what was found.
+/// An item of an array that was found.
 pub(crate) fn item<'t>(parent: Option<&'t Value>, index: u16) -> Option<&'t Value>
     ensures { seen result ≡ step (to_item index) (seen parent.entry) }
 {
@@ -35,7 +35,7 @@ pub(crate) fn item<'t>(parent: Option<&'t Value>, index: u16) -> Option<&'t Valu
     }
 }
 
-/// A text, where the key is there.
+/// A text, or None if the key is absent.
 pub(crate) fn text<'t>(found: Option<&'t Value>, key: Key) -> Result<Option<&'t str>, ManifestFault>
     ensures fault { IfErr result (λ f. (needed : Bool) (fits : List ℕ → Bool)
         → fault_by key needed (text fits) (seen found.entry) ≡ Some f) }
@@ -50,7 +50,7 @@ pub(crate) fn text<'t>(found: Option<&'t Value>, key: Key) -> Result<Option<&'t 
     }
 }
 
-/// A text that is needed.
+/// A required text.
 pub(crate) fn needed_text<'t>(found: Option<&'t Value>, key: Key) -> Result<&'t str, ManifestFault>
     ensures fault { IfErr result (λ f. (fits : List ℕ → Bool)
         → fault_by key true (text fits) (seen found.entry) ≡ Some f) }
@@ -62,7 +62,7 @@ pub(crate) fn needed_text<'t>(found: Option<&'t Value>, key: Key) -> Result<&'t 
     }
 }
 
-/// The name of an event, which is needed.
+/// The name of an event, which is required.
 pub(crate) fn event_name(found: Option<&Value>, key: Key) -> Result<EventName, ManifestFault>
     ensures judged { IsJudged result (fault_by key true (text is_event_name) (seen found.entry))
         (text_of (seen found.entry)) }
@@ -74,7 +74,7 @@ pub(crate) fn event_name(found: Option<&Value>, key: Key) -> Result<EventName, M
     }
 }
 
-/// A policy, Last where the key is absent.
+/// A policy, which is Last if the key is absent.
 pub(crate) fn policy(found: Option<&Value>, key: Key) -> Result<Policy, ManifestFault>
     ensures { IsJudged result (fault_by key false (text is_policy) (seen found.entry))
         (policy_of (text_of (seen found.entry))) }
@@ -86,7 +86,7 @@ pub(crate) fn policy(found: Option<&Value>, key: Key) -> Result<Policy, Manifest
     }
 }
 
-/// The name of a platform, where the key is there.
+/// The name of a platform, or None if the key is absent and not required.
 pub(crate) fn platform_name(
     found: Option<&Value>,
     key: Key,
@@ -105,7 +105,7 @@ pub(crate) fn platform_name(
     }
 }
 
-/// A whole number that is needed.
+/// A required whole number.
 pub(crate) fn whole(found: Option<&Value>, key: Key) -> Result<i64, ManifestFault>
     ensures judged { IsJudged result (fault_by key true any_whole (seen found.entry))
         (whole_of (seen found.entry)) }
@@ -122,7 +122,7 @@ pub(crate) fn whole(found: Option<&Value>, key: Key) -> Result<i64, ManifestFaul
     }
 }
 
-/// A whole number from `least` to `most` that is needed.
+/// A required whole number from `least` to `most`.
 pub(crate) fn number(
     found: Option<&Value>,
     key: Key,
@@ -140,7 +140,7 @@ pub(crate) fn number(
     }
 }
 
-/// The number of items of an array, 0 where the key is absent.
+/// The number of items of an array, 0 if the key is absent.
 #[tactic(auto, using(crate::proofs::Lengths::length_of_view))]
 pub(crate) fn count(found: Option<&Value>, key: Key, most: u16) -> Result<u16, ManifestFault>
     ensures judged { IsJudged result (fault_by key false (array_up_to most) (seen found.entry))
@@ -169,7 +169,7 @@ pub(crate) fn section(found: Option<&Value>, key: Key) -> Result<bool, ManifestF
     }
 }
 
-/// A table that is needed.
+/// Checks that a required table is there.
 pub(crate) fn needed_section(found: Option<&Value>, key: Key) -> Result<(), ManifestFault>
     ensures fault { IfErr result (λ f. fault_by key true section (seen found.entry) ≡ Some f) }
     ensures fits { IfOk result (λ _. fault_by key true section (seen found.entry) ≡ None) }

@@ -30,7 +30,7 @@ impl NeedKey {
         }
     }
 
-    /// The least number that may stand at the key.
+    /// The least number that the key may have.
     pub(crate) fn least(self) -> u64
         ensures { result ≡ need_least self }
     {
@@ -40,7 +40,7 @@ impl NeedKey {
         }
     }
 
-    /// The greatest number that may stand at the key.
+    /// The greatest number that the key may have.
     pub(crate) fn most(self) -> u64
         ensures { result ≡ need_most self }
     {
@@ -72,8 +72,8 @@ pub enum Key {
 }
 
 impl Key {
-    /// The key's text, its words and numbers parted by dots, as `event.3.capacity`. It takes no
-    /// memory.
+    /// The text of the key: keywords and numbers with dots between them, as in `event.3.capacity`.
+    /// It takes no memory.
     pub fn text(&self) -> KeyText
         ensures { result ≡ key_text self.now }
     {

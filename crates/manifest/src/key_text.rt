@@ -1,11 +1,11 @@
-//! The text of a key, held in place.
+//! The text of a key, stored in place.
 ghost use Rattle.std.specs.Prelude.{◌≡◌, ◌+◌, ◌≤◌, ◌∷◌, ◌++◌, length, decimal};
 
 use arrayvec::ArrayString;
 use itoa::Buffer;
 use std::marker::Model;
 
-/// The text of a key, at most 48 bytes. It takes no memory beyond its place.
+/// The text of a key, of at most 48 bytes. It takes no memory but its own place.
 #[derive(Drop)]
 pub struct KeyText {
     text: ArrayString<48>,
@@ -29,7 +29,7 @@ impl KeyText {
         KeyText { text }
     }
 
-    /// This text, a dot and a word.
+    /// Appends a dot and the name of a member.
     pub(crate) fn member(mut self, word: &str) -> KeyText
         requires { length self + length word.now ≤ 47 }
         ensures { result ≡ self ++ 46 ∷ word.now }
@@ -39,7 +39,7 @@ impl KeyText {
         self
     }
 
-    /// This text, a dot and a number.
+    /// Appends a dot and the number of an item.
     pub(crate) fn item(self, number: u16) -> KeyText
         requires { length self ≤ 42 }
         ensures text { result ≡ self ++ 46 ∷ decimal number }

@@ -1,5 +1,5 @@
-//! Reads a manifest: the TOML text that says from what a client is made, and which resources it
-//! needs.
+//! Reads a manifest, which says what a client is made of and which resources it needs. It is a TOML
+//! text.
 #![tactic(auto)]
 
 mod events;

@@ -1,4 +1,4 @@
-//! What a manifest says.
+//! The content of a manifest.
 ghost use Rattle.std.specs.Prelude.{◌≡◌, IfOk, IfSome, IfNone, None, option_map};
 ghost use Rattle.std.specs.List.{All};
 ghost use Rattle.det_values.specs.Limits.{IsCycleTime};
@@ -11,7 +11,7 @@ use det_values::{Events, Format, JobKind, OutOfMemory, Params, Profile};
 use std::alloc::Global;
 use std::marker::Model;
 
-/// A manifest without a fault. The events of a manifest have different names.
+/// A manifest without a fault. Its events have different names.
 #[derive(Drop)]
 pub struct Manifest {
     pub(crate) kind: JobKind,
@@ -52,7 +52,7 @@ impl Model for Manifest {
 }
 
 impl Manifest {
-    /// The profile of a client with this seed. Its format is Two, its cycle time is from 1 to
+    /// The profile of a client with this seed. Its format is 2, and its cycle time is from 1 to
     /// 2^63 - 1 nanoseconds.
     pub fn profile(&self, alloc: Global, seed: u64) -> Result<Profile, OutOfMemory>
         ensures profile { IfOk result (λ p. p ≡ profile_of self.now seed) }
@@ -114,14 +114,14 @@ impl Manifest {
         self.workers
     }
 
-    /// The name of the hardware platform. None exactly where the manifest has no such key.
+    /// The name of the hardware platform. None exactly if the manifest has no such key.
     pub fn platform(&self) -> Option<&PlatformName>
         ensures { option_map (λ p. p.now) result ≡ self.now.platform }
     {
         self.platform.as_ref()
     }
 
-    /// The needs of the initialisation. None exactly where the manifest has no such key.
+    /// The needs of the initialisation. None exactly if the manifest has no such key.
     pub fn init_needs(&self) -> Option<&Needs>
         ensures value { option_map (λ n. n.now) result ≡ self.now.init_needs }
         ensures range { IfSome result (λ n. IsNeeds n.now) }
@@ -129,7 +129,7 @@ impl Manifest {
         self.init_needs.as_ref()
     }
 
-    /// The needs of a run. None exactly where the manifest has no such key.
+    /// The needs of a run. None exactly if the manifest has no such key.
     pub fn run_needs(&self) -> Option<&Needs>
         ensures value { option_map (λ n. n.now) result ≡ self.now.run_needs }
         ensures range { IfSome result (λ n. IsNeeds n.now) }

@@ -1,8 +1,8 @@
 //! Resource needs.
 
-/// What one initialisation or one run needs of its platform: instructions, those of its sequential
-/// begin and of its sequential end, each below 2^63, and the speedup by parallel work in
-/// thousandths, from 1 to 1,000,000.
+/// The resources that one initialisation or one run needs of its platform. `instructions` is the
+/// number of instructions, and the next two are the numbers of those in its sequential begin and
+/// end. Each is below 2^63. `speedup` is that by parallel work in thousandths, from 1 to 1,000,000.
 #[derive(Clone, Copy, PartialEq, Eq, Drop)]
 pub struct Needs {
     pub instructions: u64,

@@ -12,7 +12,7 @@ use det_values::Params;
 use std::alloc::Global;
 use toml::Value;
 
-/// The parameters, none where the key is absent.
+/// The parameters, none if the key is absent.
 #[tactic(auto, using(crate::proofs::Steps::params_fault, crate::proofs::Steps::params_value))]
 pub(crate) fn read_params(alloc: Global, tree: &Value) -> Result<Params, ManifestError>
     ensures { IsRead result (first_fault (view tree.now) (params_keys (view tree.now)))

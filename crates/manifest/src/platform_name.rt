@@ -6,7 +6,7 @@ ghost use Rattle.manifest.specs.Limits.{is_printable, is_platform_name};
 use det_values::Bytes64;
 use std::marker::Model;
 
-/// The name of a platform: 1 to 64 bytes of printable ASCII, the blank among them.
+/// The name of a platform: 1 to 64 bytes of printable ASCII, including the blank.
 #[derive(Drop)]
 pub struct PlatformName {
     bytes: Bytes64,
@@ -43,7 +43,7 @@ fn is_name(bytes: &[u8]) -> bool
 }
 
 impl PlatformName {
-    /// These bytes as a name. None where they are no name.
+    /// These bytes as a name. None if they aren't one.
     pub fn of(bytes: &[u8]) -> Option<PlatformName>
         ensures some { IfSome result (λ name. (is_platform_name bytes.now ≡ true)
             × (name ≡ bytes.now)) }

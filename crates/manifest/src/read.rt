@@ -1,4 +1,4 @@
-//! Reads a manifest from its text.
+//! Reads a manifest from its text: first the document, then the keys.
 ghost use Rattle.std.specs.Prelude.{◌≡◌, true, false, Ok, Err, Some, None, IfOk, IfErr, ◌≤◌};
 ghost use Rattle.toml.specs.View.{view};
 ghost use Rattle.manifest.specs.declared.key.Key.{Key};
@@ -20,7 +20,7 @@ use toml::Value;
 /// The greatest length of a manifest in bytes.
 pub const MOST_BYTES: usize = 65_536;
 
-/// Refuses a key that no table knows, where such keys are a fault.
+/// Refuses an unknown key, if that is a fault.
 fn refuse_unknown(tree: &Value, count: usize, strict: bool) -> Result<(), ManifestFault>
     requires count { count ≡ count_of (found (view tree.now) Key.Event) }
     requires few { count ≤ 256 }
@@ -87,8 +87,7 @@ fn document(alloc: Global, bytes: &[u8]) -> Result<Value, ManifestError>
     parse(alloc, text)
 }
 
-/// The manifest that a text of at most 65,536 bytes is, or its first fault. Keys that aren't known
-/// are ignored.
+/// The manifest in a text of at most 65,536 bytes, or its first fault. Unknown keys are ignored.
 pub fn read_manifest(alloc: Global, bytes: &[u8]) -> Result<Manifest, ManifestError>
     ensures manifest { IfOk result (λ m. manifest_of false bytes.now ≡ Ok m) }
     ensures fault { IfErr result (λ e. IfFault e (λ f. manifest_of false bytes.now ≡ Err f)) }
@@ -97,7 +96,7 @@ pub fn read_manifest(alloc: Global, bytes: &[u8]) -> Result<Manifest, ManifestEr
     read_tree(alloc, &tree, false)
 }
 
-/// The same, where a key that no table knows is a fault.
+/// The manifest in a text of at most 65,536 bytes, or its first fault. An unknown key is a fault.
 pub fn read_strict_manifest(alloc: Global, bytes: &[u8]) -> Result<Manifest, ManifestError>
     ensures manifest { IfOk result (λ m. manifest_of true bytes.now ≡ Ok m) }
     ensures fault { IfErr result (λ e. IfFault e (λ f. manifest_of true bytes.now ≡ Err f)) }

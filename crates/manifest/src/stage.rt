@@ -1,4 +1,4 @@
-//! The two tables of needs.
+//! The two tables of needs, which have the same keys.
 ghost use Rattle.std.specs.Prelude.{◌≡◌, ◌≤◌, true, IfOk};
 ghost use Rattle.std.specs.Option.{ForSome};
 ghost use Rattle.toml.specs.View.{view};
@@ -14,7 +14,7 @@ use crate::judge::{member, number, section};
 use crate::{Key, ManifestFault, NeedKey, Needs};
 use toml::Value;
 
-/// What has needs of its own: the initialisation, or a run.
+/// The initialisation or a run, each of which has a table of needs.
 #[derive(Clone, Copy, Drop)]
 pub(crate) enum Stage {
     Init,
@@ -40,7 +40,7 @@ impl Stage {
         }
     }
 
-    /// What stands where the table belongs.
+    /// The value at the table's key, if there is one.
     fn section(self, tree: &Value) -> Option<&Value>
         ensures { seen result ≡ found (view tree.now) (section_key self) }
     {
@@ -50,7 +50,7 @@ impl Stage {
         }
     }
 
-    /// Whether the table is there.
+    /// Whether the table is there. A value of another kind is a fault.
     #[tactic(auto, using(crate::proofs::NeedKeys::section_fault))]
     fn is_there(self, tree: &Value) -> Result<bool, ManifestFault>
         ensures { IsJudged result (fault_at (view tree.now) (section_key self))
@@ -59,7 +59,7 @@ impl Stage {
         section(self.section(tree), self.section_key())
     }
 
-    /// The number at a key of the table, which is there.
+    /// The number at a key of the table. The table must be there.
     fn need(self, tree: &Value, need: NeedKey) -> Result<u64, ManifestFault>
         requires { has (view tree.now) (section_key self) ≡ true }
         ensures judged { IsJudged result (fault_at (view tree.now) (need_key self need))
@@ -71,7 +71,7 @@ impl Stage {
         number(found, self.need_key(need), need.least(), need.most())
     }
 
-    /// What the table says, where its key is there.
+    /// The needs in the table, or None if its key is absent.
     pub(crate) fn read_needs(self, tree: &Value) -> Result<Option<Needs>, ManifestFault>
         ensures judged { IsJudged result (first_fault (view tree.now)
             (needs_keys (section_key self) (need_key self)))

@@ -1,4 +1,4 @@
-//! Keys that no table of a manifest has.
+//! Unknown keys: those that no table of a manifest has.
 ghost use Rattle.std.specs.Prelude.{◌≡◌, ℕ, ◌≤◌, ◌<◌, ◌^◌, List, option_map, length, take, min};
 ghost use Rattle.std.specs.Prelude.{◌||◌, bytes_eq, codes};
 ghost use Rattle.toml.specs.View.{view, table_view};
@@ -19,8 +19,8 @@ pub enum KeyTable {
     RunNeeds,
 }
 
-/// A key that its table doesn't know: the first 64 of its bytes, behind them zeros, and how many
-/// these are.
+/// A key that its table doesn't know: at most its first 64 bytes, filled up with zeros, and their
+/// number.
 #[derive(Clone, Copy, Debug, PartialEq, Eq, Drop)]
 pub struct UnknownKey {
     pub table: KeyTable,
@@ -65,8 +65,8 @@ impl UnknownKey {
     }
 }
 
-/// Whether the key is one that a manifest may lack. It is apart from `is_top_word`, since the
-/// search for a proof takes several times as long over one chain of eight tests.
+/// Whether a manifest may lack the key. This is a function of its own, since one chain of eight
+/// tests makes the search for a proof several times as long.
 fn is_optional_word(key: &str) -> bool
     ensures { result ≡ (bytes_eq key.now (codes "params") || bytes_eq key.now (codes "event")
         || bytes_eq key.now (codes "platform")
@@ -125,7 +125,7 @@ impl KeyTable {
         None
     }
 
-    /// The same of what was found, where it is a table.
+    /// The same in a value that was found, if it is a table.
     fn unknown_at(self, found: Option<&Value>) -> Option<UnknownKey>
         ensures { result ≡ unknown_at self (seen found.entry) }
     {
@@ -152,7 +152,7 @@ fn unknown_events(tree: &Value, count: u16) -> Option<UnknownKey>
     None
 }
 
-/// The first key of a manifest with so many events that no table knows.
+/// The first unknown key of a manifest with `count` events.
 pub(crate) fn first_unknown(tree: &Value, count: u16) -> Option<UnknownKey>
     ensures { result ≡ first_unknown (view tree.now) count }
 {

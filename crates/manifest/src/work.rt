@@ -1,4 +1,4 @@
-//! What the first keys of a manifest say.
+//! The first keys of a manifest: the job, the cycle time and the workers.
 ghost use Rattle.std.specs.Prelude.{◌≡◌, IfOk};
 ghost use Rattle.det_values.specs.Limits.{IsCycleTime};
 ghost use Rattle.toml.specs.View.{view};
@@ -12,10 +12,10 @@ use crate::{Key, ManifestFault};
 use det_values::JobKind;
 use toml::Value;
 
-/// The work of a client: its job, how often that runs, and by how many workers.
+/// The work of a client: its job, how often the job runs, and the number of workers.
 #[derive(Drop)]
 pub(crate) struct Work {
-    /// None where no shipped job has the name that stands there, which is judged last.
+    /// None if no shipped job has the name. That fault is checked last.
     pub(crate) kind: Option<JobKind>,
     pub(crate) cycle_time: u64,
     pub(crate) workers: u32,

@@ -1,4 +1,4 @@
--- The answers of blocks in their places.
+-- The results of blocks in their places.
 use Rattle.std.proofs.Common.{ℕ, ◌<◌, List, length, slice_index_or, slice_set, Option, Result, sym, subst, arith, length-set}
 use mathlib.Core.Logic.{dite}
 use native.Mathlib.Decide.{ℕ_discrete}

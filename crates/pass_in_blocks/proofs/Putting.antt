@@ -12,7 +12,7 @@ bytes_before [] ys h k d lt = absurd (omega arith)
 bytes_before (x ∷ xs) ys h zero d lt = h zero d (omega arith)
 bytes_before (x ∷ xs) ys h (suc k) d lt = bytes_before xs ys (All-tail (λ b. b < 256) x (xs ++ ys) h) k d (omega arith)
 
--- what was put is bytes, since all bytes of a `Vec<u8>` are
+-- the appended numbers are bytes, since all items of a `Vec<u8>` are
 pub put_fits : (old last shown : List ℕ) (draws : ℕ) → last ≡ old ++ spelled_drawn (an_element shown draws) → AreBytes last
     → length shown ≤ 64 → draws < 2 ^ 32 → IsDrawn (an_element shown draws)
 unfolding spelled_drawn

@@ -1,4 +1,4 @@
--- Elements are run one after another, in portions.
+-- Elements run in order, in portions.
 use Rattle.std.proofs.Common.{◌≡◌, ℕ, ◌+◌, ◌*◌, ◌≤◌, List, [], ◌∷◌, ◌++◌, length, take, drop, Result, Ok, Err, append_assoc}
 use Rattle.std.proofs.Common.{sym, refl, ap, ◌∙◌, arith, length-take, take-add}
 use Rattle.std.proofs.lemmas.List.{take-append-drop}
@@ -17,7 +17,7 @@ append_nil (e ∷ es) = ap (λ (r : List _). e ∷ r) (append_nil es)
 three : {A : Type 0} (es fs gs : List A) → (es ++ fs) ++ gs ≡ es ++ (fs ++ gs)
 three es fs gs = simp append_assoc
 
--- an answer after what is done
+-- a result after an earlier one
 abbrev onto : {E P : Type 0} → (P → P → P) → Passed E P → Result (Passed E P) Refusal → Result (Passed E P) Refusal
 onto join d (Ok e) = Ok (beside join d e)
 onto join d (Err r) = Err r
@@ -38,14 +38,14 @@ module _ {S G E L P : Type 0} (m : Meaning S G E L P) (t : PassValue S E L P) wh
   abbrev with_one : Passed E P → Worked E P → ℕ → Passed E P
   with_one = more m t.job t.plan t.carry t.seed t.cycle t.number
 
-  -- the answer of element i and those after it, by what the job gives for the element
+  -- the result of element i and those after it, given the job's result for the element
   abbrev on_from : ℕ → E → List E → Passed E P → Result (Worked E P) ℕ → Result (Passed E P) Refusal
   on_from i e es d r = elim r [
     | Ok w ↦ from (i + 1) es (with_one d w (drew i e))
     | Err c ↦ Err (record { element = i; code = c })
   ]
 
-  -- the answer of further elements
+  -- the result of further elements
   abbrev on_with : ℕ → List E → Result (Passed E P) Refusal → Result (Passed E P) Refusal
   on_with i es (Ok d) = from i es d
   on_with i es (Err r) = Err r
@@ -85,7 +85,7 @@ module _ {S G E L P : Type 0} (m : Meaning S G E L P) (t : PassValue S E L P) wh
     onto_twice d e (Ok f) = λ k. Ok (passed_by (sym (three d.elements e.elements f.elements) k) (sym (three d.draws e.draws f.draws) k)
         (sym (laws.assoc t.job d.part e.part f.part) k))
 
-    -- what is done before stands before what is done from nothing
+    -- the earlier result comes before the result from nothing
     from_nothing : (i : ℕ) (es : List E) (d : Passed E P) → from i es d ≡ onto join d (from i es none)
     from_nothing i [] d =
         λ k. Ok (passed_by (sym (append_nil d.elements) k) (sym (append_nil d.draws) k) (sym (laws.right_unit t.job d.part) k))

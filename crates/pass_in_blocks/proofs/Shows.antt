@@ -1,4 +1,4 @@
--- What the blocks of a pass show, one behind another.
+-- The elements that the blocks of a pass show, in order.
 use Rattle.std.proofs.Common.{◌≡◌, ℕ, zero, suc, ◌+◌, ◌*◌, ◌<◌, ◌≤◌, ◌⊎◌, inl, inr, List, [], ◌∷◌, ◌++◌, length, take, drop, Result}
 use Rattle.std.proofs.Common.{Ok, Err, true, false, if◌then◌else◌}
 use Rattle.std.proofs.Common.{refl, sym, ap, ◌∙◌, subst, arith, length-take, length-append}
@@ -41,7 +41,7 @@ plain_block w k xs ds none =
     ap (λ (ys : List ℕ). drawn_so_far (take w (drop k ys)) ds) none ∙ ap (λ (ys : List ℕ). drawn_so_far (take w ys) ds) (drop-none k)
     ∙ ap (λ (ys : List ℕ). drawn_so_far ys ds) (take-none w)
 
--- counts of words drawn before, of as many elements as there are, or none
+-- earlier draws, one for each element, or none
 module _ {E : Type 0} (w : ℕ) (xs : List ℕ) (es : List E) (b : ℕ) (inside : w * b < length es) where
   abbrev before : List ℕ
   before = take (w * b) xs
@@ -100,7 +100,7 @@ module _ {S G E L P : Type 0} {m : Meaning S G E L P} {Covers : S → P → ℕ 
   abbrev w : ℕ
   w = block_size (length t.elements)
 
-  -- what the elements before block b show, and block b
+  -- the elements that the blocks before b show, and block b
   module _ (b : ℕ) (inside : block_size (length t.elements) * b < length t.elements) (e : Passed E P) (came : block_in m t b ≡ Ok e) where
     holds : Sums Covers Own t.job (length (in_block (length t.elements) b t.elements)) e
     holds = block_holds laws t ready b e came
@@ -120,7 +120,7 @@ module _ {S G E L P : Type 0} {m : Meaning S G E L P} {Covers : S → P → ℕ 
     pub few_elements : length e.elements ≤ 256
     few_elements = let size = block_length laws t ready b in let n = few (length t.elements) in omega (arith, holds.many)
 
-    -- as many are shown as there are
+    -- all elements are shown
     pub block_shown : length (shown_by m t b (block_in m t b)) ≡ length e.elements
     block_shown = ap (λ r. length (shown_by m t b r)) came
         ∙ length-shown m job e.elements (drawn_so_far (take w (drop (w * b) xs)) e.draws)
@@ -150,7 +150,7 @@ module _ {S G E L P : Type 0} {m : Meaning S G E L P} {Covers : S → P → ℕ 
         (sym (plain_block w (w * b) xs e.draws none))
         spelled)
 
-    -- behind the elements before it
+    -- after the elements before it
     module _ (d : Passed E P) (is : first_in m t (block_size (length t.elements) * b) ≡ Ok d) where
       before_holds : Sums Covers Own t.job (w * b) d
       before_holds = first_hold laws t ready 0 (w * b) es d ready.own (omega arith) ready.few is
@@ -209,13 +209,13 @@ module _ {S G E L P : Type 0} {m : Meaning S G E L P} {Covers : S → P → ℕ 
       | inr same ↦ take_all n t.earlier (omega (arith, same, enough))
     ]
 
-    -- where the pass shows its elements the frame has them all
+    -- if the pass shows its elements, the frame has all of them
     pub frame_all : (frame : List DrawnElement) → frame ≡ frame_before m t n d.elements d.draws → t.shows ≡ true
         → frame ≡ shown_with m t.job d.elements (drawn_so_far t.earlier d.draws)
     frame_all frame is shows = is ∙ ap (λ s. if s then shown_before m t n d.elements d.draws else []) shows
         ∙ ap (λ (ys : List ℕ). shown_with m job d.elements (drawn_so_far ys d.draws)) all_earlier
 
--- the same of equals
+-- the same for equal values
 pub own_same : {S E : Type 0} (Own : S → E → Type 0) (j k : S) (es fs : List E) → k ≡ j → fs ≡ es → All (Own j) es → All (Own k) fs
 own_same {S} {E} Own j k es fs job elements own =
     subst (λ (l : S). All (Own l) fs) (sym job) (subst (λ (gs : List E). All (Own j) gs) (sym elements) own)

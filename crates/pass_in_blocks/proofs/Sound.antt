@@ -1,4 +1,4 @@
--- What the laws of a job say of the answers of its blocks and passes.
+-- Facts about the results of blocks and passes, from the laws of a job.
 use Rattle.std.proofs.Common.{◌≡◌, ℕ, suc, ◌+◌, ◌-◌, ◌*◌, ◌%◌, ◌<◌, ◌≤◌, min, List, [], ◌∷◌, length, take, drop, true, Result, Ok, Err}
 use Rattle.std.proofs.Common.{refl, sym, ap, ◌∙◌, subst, arith, length-append, length-take, length-drop}
 use Rattle.std.specs.List.{All}
@@ -18,7 +18,7 @@ use Rattle.job.proofs.Sizes.{some as block_some, few as block_few}
 use Rattle.pass_in_blocks.specs.Steps.{beside, HasRoom, CanJoin, none_in, added_to, first_in}
 use Rattle.pass_in_blocks.proofs.Running.{block_done, block_refuses}
 
--- what n elements leave: as many new elements, each the job's own, as many counts of words, and a part that covers so many
+-- the result of n elements: n new elements, each the job's own, n draws, and a part that covers n
 pub record Sums {S E P : Type 0} (Covers : S → P → ℕ → Type 0) (Own : S → E → Type 0) (j : S) (n : ℕ) (done : Passed E P) : Type 0 where
   pub own : All (Own j) done.elements
   pub many : length done.elements ≡ n
@@ -86,7 +86,7 @@ module _ {S G E L P : Type 0} {m : Meaning S G E L P} {Covers : S → P → ℕ 
         (laws.covers_run job plan carry t.number e k w ready.fit own ready.below ready.carried came) small;
   }
 
-  -- the answer of element i and those after it, by what the job gives for the element
+  -- the result of element i and those after it, given the job's result for the element
   abbrev on_from : ℕ → E → List E → Passed E P → Result (Worked E P) ℕ → Result (Passed E P) Refusal
   on_from i x xs d r = elim r [
     | Ok w ↦ from (i + 1) xs (with_one d w (drew i x))
@@ -151,7 +151,7 @@ module _ {S G E L P : Type 0} {m : Meaning S G E L P} {Covers : S → P → ℕ 
         let own = All-same (Own job) xs _ is_block (own_block b) in let n = block_few (length es) in
         (k, omega arith, (first_hold (w * b) k xs d own (omega arith) (omega arith) is).covers)
 
-  -- an answer is right in each of its facts, once it is that of the pass
+  -- a result that is that of the pass is right in each of its facts
   pub pass_holds : (d : Passed E P) → pass_of m t ≡ Ok d → Holds (length es) d
   pass_holds d is = let f = ready.few in
       subst (λ (k : ℕ). Holds k d) (omega arith) (taken_holds 0 0 es none d none_holds ready.own (omega arith) is)
@@ -161,7 +161,7 @@ module _ {S G E L P : Type 0} {m : Meaning S G E L P} {Covers : S → P → ℕ 
       let lt = refused_inside 0 es none (record { element = element; code = code }) h in omega arith
   fault_inside OutOfMemory h = tt
 
-  -- what is shown is right, where the pass shows it
+  -- the shown elements are right, if the pass shows them
   abbrev Shows : PassDone E P → Type 0
   Shows d = t.shows ≡ true → d.shown ≡ shown_with m job d.elements (drawn_so_far t.earlier d.draws)
 

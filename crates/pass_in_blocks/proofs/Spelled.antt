@@ -1,4 +1,4 @@
--- The bytes of elements, one behind another.
+-- The bytes of elements in order.
 use Rattle.std.proofs.Common.{◌≡◌, ℕ, suc, ◌+◌, ◌<◌, List, [], ◌∷◌, ◌++◌, length, get_or, take}
 use Rattle.std.proofs.Common.{refl, sym, ap, subst, ◌∙◌, arith, append_assoc, append-nil}
 use Rattle.std.specs.List.{All}
@@ -12,7 +12,7 @@ use Rattle.job.specs.Cycle.{shown_with}
 use Rattle.pass_in_blocks.specs.Showing.{AreSpelled}
 
 module _ {S G E L P : Type 0} (m : Meaning S G E L P) (j : S) where
-  -- the elements with their draws were spelled behind what stood there
+  -- the bytes of the elements with their draws were added
   abbrev pub Shown : List E → List ℕ → List ℕ → List ℕ → Type 0
   Shown es ds old new = AreSpelled (shown_with m j es ds) old new
 
@@ -27,7 +27,7 @@ module _ {S G E L P : Type 0} (m : Meaning S G E L P) (j : S) where
   pub none : (old : List ℕ) → Shown [] [] old old
   none old = record { bytes = sym (append-nil old); fields = All-nil IsDrawn }
 
-  -- others behind them
+  -- others after them
   pub both : (es fs : List E) (ds ns old mid new : List ℕ) → length es ≡ length ds → Shown es ds old mid → Shown fs ns mid new
       → Shown (es ++ fs) (ds ++ ns) old new
   both es fs ds ns old mid new e first second =

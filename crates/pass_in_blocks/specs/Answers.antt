@@ -1,4 +1,4 @@
--- What blocks answer.
+-- The results of blocks.
 use Rattle.std.specs.Prelude.{◌≡◌, ℕ, ◌<◌, List, Result, Ok, Err}
 use Rattle.std.specs.List.{All}
 use Rattle.det_values.specs.declared.frames.DrawnElement.{DrawnElement}
@@ -20,18 +20,18 @@ module _ {E P : Type 0} where
   answer_of (Done done) = Ok (left_by done)
   answer_of (Refused element code) = Err (record { element = element; code = code })
 
-  -- these elements are shown; a refusal shows none
+  -- the block shows these elements; a refusal shows none
   abbrev pub Shows : List DrawnElement → BlockAnswer E P → Type 0
   Shows es (Done done) = done.shown ≡ es
   Shows es (Refused element code) = Unit {0}
 
-  -- each result shows what its block shows
+  -- each result shows the elements that its block shows
   abbrev pub AreShown : (ℕ → List DrawnElement) → List (BlockResult E P) → Type 0
   AreShown shown rs = All (λ r. Shows (shown r.block) r.answer) rs
 
-  -- beside what each block gives, and their number
+  -- given the result of each block, and their number
   module _ (block : ℕ → Result (Passed E P) Refusal) (blocks : ℕ) where
-    -- a result is that of a block of the pass
+    -- a result equals that of its block
     abbrev pub IsRight : BlockResult E P → Type 0
     IsRight r = (r.block < blocks) × (answer_of r.answer ≡ block r.block)
 

@@ -1,4 +1,4 @@
--- How a block is run element by element, and a pass is joined block by block.
+-- The steps of a block, element by element, and of a pass, block by block.
 use Rattle.std.specs.Prelude.{◌≡◌, ℕ, ◌+◌, ◌%◌, ◌≤◌, ◌<◌, List, ◌++◌, length, take, slice_index_or}
 use Rattle.std.specs.Prelude.{Option, None, Some, Result, Ok, Err}
 use Rattle.det_client.specs.declared.element_random.PassKeys.{PassKeys}
@@ -14,18 +14,18 @@ use Rattle.pass_in_blocks.specs.declared.answers.BlockAnswer.{BlockAnswer}
 use Rattle.pass_in_blocks.specs.Answers.{answer_of, Shows}
 
 module _ {E P : Type 0} where
-  -- elements, counts of words and a part as one value
+  -- elements, draws and a part as one value
   abbrev pub passed_by : List E → List ℕ → P → Passed E P
   passed_by es ds part = record { elements = es; draws = ds; part = part }
 
-  -- what stands there now is what is meant; want of memory is free
+  -- the value now is the defined one; only "out of memory" may be returned without a cause here
   abbrev pub IsAdded : {T : Type 0} → Result T PoolFault → Passed E P → Result (Passed E P) Refusal → Type 0
   IsAdded (Ok done) now meant = meant ≡ Ok now
   IsAdded (Err (Refused element code)) now meant =
       meant ≡ Err (record { element = element; code = code })
   IsAdded (Err OutOfMemory) now meant = Unit {0}
 
-  -- what two neighbours give together
+  -- the results of two neighbours, joined
   abbrev pub beside : (P → P → P) → Passed E P → Passed E P → Passed E P
   beside join done next = record {
     elements = done.elements ++ next.elements;
@@ -33,9 +33,9 @@ module _ {E P : Type 0} where
     part = join done.part next.part;
   }
 
-  -- beside what each block gives and shows
+  -- given the result of each block and the elements that it shows
   module _ (block : ℕ → Result (Passed E P) Refusal) (shown : ℕ → List DrawnElement) where
-    -- what stands in the place of block b is its answer, and shows what the block shows
+    -- the place of block b is empty, or has its result with the elements that it shows
     abbrev pub IsPlace : ℕ → Option (BlockAnswer E P) → Type 0
     IsPlace b (Some answer) = (answer_of answer ≡ block b) × Shows (shown b) answer
     IsPlace b None = Unit {0}
@@ -49,23 +49,23 @@ module _ {S E L P : Type 0} where
   abbrev pub HasKeys : PassValue S E L P → PassKeys → Type 0
   HasKeys t keys = AreKeysOf keys t.seed t.cycle t.number
 
-  -- the part comes from so few elements that another can be joined to it
+  -- the part comes from few enough elements to join another
   abbrev pub HasRoom : (S → P → ℕ → Type 0) → PassValue S E L P → P → Type 0
   HasRoom Covers t part = (n : ℕ) × (n < 65536) × Covers t.job part n
 
 module _ {S G E L P : Type 0} where
-  -- what stands before any element
+  -- the result of no element
   abbrev pub none_in : Meaning S G E L P → PassValue S E L P → Passed E P
   none_in m t =
       nothing m t.job t.plan t.carry t.seed t.cycle t.number
 
-  -- elements from number i on, added to what is done
+  -- the elements from index i on, added to a result
   abbrev pub added_to : Meaning S G E L P → PassValue S E L P → ℕ → List E → Passed E P
       → Result (Passed E P) Refusal
   added_to m t =
       taken m t.job t.plan t.carry t.seed t.cycle t.number
 
-  -- what the first n elements give
+  -- the result of the first n elements
   abbrev pub first_in : Meaning S G E L P → PassValue S E L P → ℕ → Result (Passed E P) Refusal
   first_in m t n = added_to m t 0 (take n t.elements) (none_in m t)
 

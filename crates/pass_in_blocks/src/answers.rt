@@ -1,11 +1,11 @@
-//! What blocks answer.
+//! The results of blocks.
 ghost use Rattle.std.specs.Prelude.{◌≡◌, is_err};
 ghost use Rattle.pass_in_blocks.specs.Answers.{answer_of};
 
 use det_values::{DrawnBlock, Limited};
 
-/// What a block leaves: its new elements, the words that each drew, its parts joined, and what its
-/// elements show, where the pass shows them.
+/// The result of a block that succeeded: its new elements, the draws of each, and the joined part.
+/// If the pass shows its elements, `shown` has their bytes.
 #[derive(Drop)]
 pub struct BlockDone<E, P> {
     pub elements: Vec<E>,
@@ -14,17 +14,16 @@ pub struct BlockDone<E, P> {
     pub shown: DrawnBlock,
 }
 
-/// What a block answers.
+/// The result of a block.
 #[derive(Drop)]
 pub enum BlockAnswer<E, P> {
     Done(BlockDone<E, P>),
-    /// The least element of the block that refuses, counted from the beginning of the container,
-    /// and its code.
+    /// The first element of the block that refuses, by its index in the container, and its code.
     Refused { element: u32, code: u32 },
 }
 
 impl<E, P> BlockAnswer<E, P> {
-    /// Whether an element of the block refused.
+    /// Whether an element of the block refuses.
     pub fn is_refusal(&self) -> bool
         ensures { result ≡ is_err (answer_of self.now) }
     {
@@ -35,12 +34,12 @@ impl<E, P> BlockAnswer<E, P> {
     }
 }
 
-/// A block, by its number, and what it answered.
+/// A block, by its number counted from 0, and its result.
 #[derive(Drop)]
 pub struct BlockResult<E, P> {
     pub block: u32,
     pub answer: BlockAnswer<E, P>,
 }
 
-/// What one worker found in its blocks, of which a pass has at most 256.
+/// The results of one worker's blocks. A pass has at most 256 blocks.
 pub type BlockResults<E, P> = Limited<BlockResult<E, P>, 256>;

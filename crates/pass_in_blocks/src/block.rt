@@ -1,4 +1,4 @@
-//! One block is run.
+//! Runs one block: the loop in which a pass spends its time.
 ghost use Rattle.std.specs.Prelude.{◌≡◌, ◌+◌, ◌<◌, ◌++◌, ◌∷◌, [], length, take, drop, IfOk, OnOk};
 ghost use Rattle.std.specs.List.{All};
 ghost use Rattle.job.specs.Passes.{IsReady, block_in, blocks_in};
@@ -24,19 +24,20 @@ pub(crate) fn push<T: Drop>(list: &mut Vec<T>, item: T) -> Result<(), OutOfMemor
     }
 }
 
-/// A block that is to be run.
+/// A block to be run.
 #[derive(Drop)]
 struct Block<'a, J: Job> {
     pass: &'a PassOf<'a, J>,
+    /// The common part of its elements' keys: two hashes once a block, and one more an element.
     keys: PassKeys,
-    /// The number of its first element.
+    /// The index of its first element.
     first: u32,
     elements: &'a [J::Element],
 }
 
 impl<'a, J: Job> Block<'a, J> {
-    /// Runs its element `k` with random words of its own, and adds what it gives to the lists and
-    /// the part. It is the body of the loop that time is spent in, so it is inlined there.
+    /// Runs its element `k` with its own random numbers, and adds the result to the lists and the
+    /// part. It is the body of the hot loop, so it is inlined there.
     #[inline(always)]
     fn step(
         &self,
@@ -82,8 +83,8 @@ impl<'a, J: Job> Block<'a, J> {
     }
 }
 
-/// Runs the elements of a block one after another, in memory of the room, and spells what they show
-/// where the pass shows them. A refusal ends it.
+/// Runs the elements of a block in order, in memory of `room`, and writes their bytes if the pass
+/// shows its elements. The first refusal ends it.
 pub fn run_block<J: Job>(
     pass: &PassOf<'_, J>,
     block: u32,

@@ -1,11 +1,11 @@
-//! The draws of several passes together.
+//! Sums of draws: those of the passes before plus those of a pass.
 ghost use Rattle.std.specs.Prelude.{◌≡◌, ◌≤◌, length, IfOk};
 ghost use Rattle.std.specs.List.{All};
 ghost use Rattle.job.specs.Cycle.{added};
 
 use det_values::{Container, OutOfMemory, Spares};
 
-/// The sums of two blocks, number by number, in memory of the spares.
+/// The sums of two blocks, number by number, in spare memory.
 pub(crate) fn block_sums(
     left: &[u32],
     right: &[u32],
@@ -23,7 +23,7 @@ pub(crate) fn block_sums(
     Ok(sums)
 }
 
-/// The sums of two lists, number by number, in memory of the spares.
+/// The sums of two lists, number by number, in spare memory.
 pub fn sums(
     left: &Container<u32>,
     right: &Container<u32>,

@@ -1,4 +1,4 @@
-//! The answer of a pass from its blocks.
+//! Makes the result of a pass from the results of its blocks.
 ghost use Rattle.std.specs.Prelude.{◌≡◌, ◌<◌, ◌≤◌, ◌+◌, ◌++◌, [], None, length, replicate};
 ghost use Rattle.std.specs.Prelude.{slice_set};
 ghost use Rattle.std.specs.Prelude.{IfOk, OnOk};
@@ -13,7 +13,7 @@ use det_values::{DrawnElements, OutOfMemory};
 use job::{Job, PassDone, PassOf, PassRoom, PoolFault};
 use std::alloc::Global;
 
-/// So many empty places.
+/// A list of `count` empty places.
 fn vacant<T: Drop>(alloc: Global, count: usize) -> Result<Vec<Option<T>>, OutOfMemory>
     ensures { IfOk result (λ places. places.items ≡ replicate count None) }
 {
@@ -24,7 +24,7 @@ fn vacant<T: Drop>(alloc: Global, count: usize) -> Result<Vec<Option<T>>, OutOfM
     Ok(places)
 }
 
-/// Gives a place another content.
+/// Replaces the content of a place.
 fn put_at<T: Drop>(places: &mut Vec<T>, at: usize, content: T)
     requires { at < length places.old.items }
     ensures { places.new.items ≡ slice_set places.old.items at content }
@@ -32,8 +32,7 @@ fn put_at<T: Drop>(places: &mut Vec<T>, at: usize, content: T)
     places[at] = content;
 }
 
-/// The answers of blocks, each in the place of its number. Where there are no results there are no
-/// places.
+/// The results by number of block. Without results the list is empty.
 fn in_places<J: Job>(
     alloc: Global,
     pass: &PassOf<'_, J>,
@@ -54,8 +53,7 @@ fn in_places<J: Job>(
     Ok(places)
 }
 
-/// The answer of a block: the one in its place, which is taken out, or else that of running it here
-/// and now.
+/// The result of a block: taken from its place, or by running the block here if the place is empty.
 fn answer_at<J: Job>(
     pass: &PassOf<'_, J>,
     places: &mut Vec<Option<BlockAnswer<J::Element, J::Part>>>,
@@ -80,7 +78,7 @@ fn answer_at<J: Job>(
     run_block(pass, block, room)
 }
 
-/// What a pass leaves before its first block. It has room for all.
+/// The result of a pass before its first block, with room for all blocks.
 fn begin_pass<J: Job>(
     pass: &PassOf<'_, J>,
     room: &mut PassRoom<J::Element, J::Part>,
@@ -100,7 +98,7 @@ fn begin_pass<J: Job>(
     })
 }
 
-/// Adds a block to those before it. Its part is left to the room.
+/// Adds a block to those before it. `room` keeps its part.
 fn join_block<J: Job>(
     job: &J,
     all: &mut PassDone<J::Element, J::Part>,
@@ -124,8 +122,8 @@ fn join_block<J: Job>(
     all.shown.push_block(done.shown)
 }
 
-/// The answer of a pass from results of its blocks, whichever they are and in whatever order. A
-/// block that has no result is run here and now. The first block that refuses ends it.
+/// The result of a pass, from results of its blocks in any order. A block without a result is run
+/// here. The first block that refuses, by number, ends the pass.
 pub fn finish_pass<J: Job>(
     pass: &PassOf<'_, J>,
     results: Vec<BlockResult<J::Element, J::Part>>,

@@ -1,9 +1,9 @@
-//! The pool of one thread.
+//! The pool without threads of its own.
 
 use crate::finish::finish_pass;
 use job::{Job, PassDone, PassOf, PassRoom, Pool, PoolFault};
 
-/// Runs one block after another on the caller's thread.
+/// Runs the blocks of a pass in order on the caller's thread.
 #[derive(Drop)]
 pub struct InOrder;
 

@@ -1,8 +1,9 @@
-//! A pass of a job, block by block, whoever runs which block.
+//! A pass block by block: runs one block, and makes the result of a pass from the results of
+//! blocks. It is apart from `worker_pool`, since it is the same with and without threads.
 //!
-//! A block is so many neighbouring elements as `job::block_size` says, or those that are left.
-//! `run_block` runs one, and `finish_pass` makes the answer of the pass from the blocks that others
-//! have run, and runs the rest itself. Neither knows of a thread.
+//! A block is `job::block_size` neighbouring elements; the last block may be shorter. `run_block`
+//! runs one. `finish_pass` makes the result of the pass from the blocks that workers ran, and runs
+//! the others itself. Neither depends on threads.
 #![tactic(auto)]
 
 mod answers;

@@ -1,4 +1,4 @@
-//! What the new elements of a block show.
+//! Writes the bytes of a block's new elements, as a frame holds them.
 ghost use Rattle.std.specs.Prelude.{◌≡◌, ◌<◌, ◌≤◌, ◌++◌, [], length, OnOk, IfOk, Ok};
 ghost use Rattle.std.specs.List.{All};
 ghost use Rattle.det_values.specs.Spelling.{an_element, spelled_drawn, spelled_all, IsDrawn};
@@ -49,7 +49,7 @@ fn put_block<J: Job>(
     Ok(())
 }
 
-/// Appends what a block shows whose new elements are these, with the words that each drew.
+/// Appends a block's new elements, each with its draws in all passes up to this one.
 fn put_done<J: Job>(
     pass: &PassOf<'_, J>,
     block: u32,
@@ -74,7 +74,7 @@ fn put_done<J: Job>(
     Ok(())
 }
 
-/// No bytes, with room for so many elements that are as long as this one.
+/// An empty list with room for `count` elements as long as this one.
 fn room_for<J: Job>(
     job: &J,
     element: &J::Element,
@@ -93,8 +93,9 @@ fn room_for<J: Job>(
     Ok(bytes)
 }
 
-/// What a block shows whose new elements are these, with the words that each drew: none where the
-/// pass doesn't show its elements.
+/// The bytes of a block's new elements, each with its draws. It is empty if the pass doesn't show
+/// its elements. The worker that ran the block writes them, while the elements are in that
+/// processor's cache.
 pub(crate) fn show_block<J: Job>(
     pass: &PassOf<'_, J>,
     block: u32,

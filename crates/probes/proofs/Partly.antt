@@ -4,7 +4,7 @@ use Rattle.std.specs.Option.{option_map}
 use Rattle.det_values.specs.declared.frames.RunFrame.{RunFrame}
 use Rattle.probes.specs.Reports.{ProbeLife, Report, told_after}
 
--- the same report, where one run more stands in front
+-- the same report, with one run more before it
 abbrev pub later : Report → Report
 later r = record r { before = option_map (λ n. n + 1) r.before }
 

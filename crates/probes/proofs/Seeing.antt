@@ -41,7 +41,7 @@ saw-leave run (r ∷ probes) stayed told p q (inr (s, others, first, is, rest)) 
       saw-leave run probes stayed others p q rest sees,
     )
 
--- The run was shown to the first ones, of whom so many stayed; the others are as before.
+-- The run was shown to the first probes, some of which stayed. The others are as before.
 pub record Seeing (run : RunFrame) (at : ℕ) (first now : List ProbeLife) (before left : List ℕ) : Type 0 where
   pub front : List ProbeLife
   pub told : List ℕ

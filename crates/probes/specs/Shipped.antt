@@ -10,7 +10,7 @@ use Rattle.det_values.specs.declared.frames.Outcome.TheVariants.{Finished, Refus
 use Rattle.probes.specs.Reports.{ProbeLife}
 use Rattle.probes.specs.Texts.{count_text, gap_text, limit_text, refusal_text}
 
--- a count of 32 bits, which stands at its last value
+-- a count in 32 bits, which saturates
 abbrev pub counted : ℕ → ℕ
 counted n = min n (2 ^ 32 - 1)
 
@@ -32,7 +32,7 @@ is_refused run = outcome_refused run.outcome
 abbrev pub is_finished : RunFrame → Bool
 is_finished run = outcome_finished run.outcome
 
--- counts finished and refused runs, after so many of them, and stays
+-- counts finished and refused runs, after these numbers of them, and stays
 abbrev pub count_life : ℕ → ℕ → ProbeLife
 count_life finished refused = record {
   report_after =
@@ -41,7 +41,7 @@ count_life finished refused = record {
   runs_before = λ runs. None;
 }
 
--- from one time to another, where both are there and the second isn't before the first
+-- from one time to the next, if both are known and the second isn't earlier
 abbrev pub gap_between : Option ℕ → Option ℕ → Option ℕ
 gap_between None time = None
 gap_between (Some before) None = None
@@ -52,14 +52,14 @@ greater None gap = gap
 greater (Some gap) None = Some gap
 greater (Some gap) (Some other) = Some (max gap other)
 
--- the greatest gap between neighbours, where this time stands before these runs
+-- the greatest gap between neighbours, with the time of the run before these
 unfoldable pub greatest_gap : Option ℕ → List RunFrame → Option ℕ
 greatest_gap last [] = None
 greatest_gap last (run ∷ runs) =
     greater (gap_between last run.input.time) (greatest_gap run.input.time runs)
 
--- tells the greatest gap, after runs the last of which had this time and whose greatest gap was
--- this, and stays
+-- reports the greatest gap and stays; `last` is the time of the last run, and `gap` the greatest
+-- gap so far
 abbrev pub gap_life : Option ℕ → Option ℕ → ProbeLife
 gap_life last gap =
     record {
@@ -67,13 +67,13 @@ gap_life last gap =
       runs_before = λ runs. None;
     }
 
--- how many runs a probe sees before the one at which it leaves, where it leaves at run number
--- `most` and saw so many
+-- how many runs a probe sees before the one at which it leaves, if it leaves at run number `most`
+-- and saw `seen`
 abbrev pub still : ℕ → ℕ → ℕ
 still most seen = most - (seen + 1)
 
--- leaves at run number `most` and tells how many it saw and how many of them were refused, after so
--- many of both
+-- leaves at run number `most`, and reports how many runs it saw and how many of them were refused,
+-- after these numbers of both
 abbrev pub limit_life : ℕ → ℕ → ℕ → ProbeLife
 limit_life most seen refused = record {
   report_after = λ runs.
@@ -89,13 +89,14 @@ first_refused [] = None
 first_refused (run ∷ runs) =
     if is_refused run then Some 0 else option_map (λ n. n + 1) (first_refused runs)
 
--- where the first refused run was refused, else as before, after so many runs
+-- the report on these runs, after `seen` others: on the first refused run, or on `at` if none is
+-- refused
 unfoldable pub refusal_after : ℕ → Option RefusedAtValue → List RunFrame → List ℕ
 refusal_after seen at [] = refusal_text seen at
 refusal_after seen at (run ∷ runs) =
     if is_refused run then refusal_text (counted (seen + 1)) (refusal_of run.outcome)
     else refusal_after (counted (seen + 1)) at runs
 
--- leaves at the first refused run and tells its number and where it was refused
+-- leaves at the first refused run, and reports its number and where it was refused
 abbrev pub refusal_life : ℕ → Option RefusedAtValue → ProbeLife
 refusal_life seen at = record { report_after = refusal_after seen at; runs_before = first_refused }

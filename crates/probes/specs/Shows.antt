@@ -1,4 +1,4 @@
--- What an audience was shown.
+-- What an audience has seen.
 use Rattle.std.specs.Prelude.{◌≡◌, ◌⊎◌, ℕ, List, [], ◌∷◌, ◌++◌, map}
 use Rattle.std.specs.Global.{Global}
 use Rattle.std.specs.declared.dyn_box.DynBox.{DynBox}
@@ -7,22 +7,23 @@ use Rattle.probes.specs.declared.audience.Audience.{Audience}
 use Rattle.probes.specs.declared.probe.Wish.TheVariants.{Stay, Leave}
 use Rattle.probes.specs.Reports.{ProbeLife, AudienceState, Sees, reported}
 
--- These runs were shown: whatever runs come later, what the audience before would report of all
--- runs is what the audience now reports of the later ones.
+-- These runs were shown. Whatever runs come later, the audience would have reported on all of them
+-- what it now reports on the later ones.
 pub record Shows (before now : AudienceState) (shown : List RunFrame) : Type 0 where
   pub each : (later : List RunFrame) → reported before (shown ++ later) ≡ reported now later
 
--- An audience has seen these runs: what it reports of no more is what it would have reported of
--- them.
+-- An audience has seen these runs: what it now reports on no more runs is what it would have
+-- reported on them.
 abbrev pub SawRuns : AudienceState → AudienceState → List RunFrame → Type 0
 SawRuns before now runs = reported now [] ≡ reported before runs
 
--- an audience, by what a boxed probe's life is
+-- an audience as its state, from the lives of its boxed probes
 abbrev pub seen : {X : Type 0} {IsProbe : X → Type 0}
     → (DynBox X Global IsProbe → ProbeLife) → Audience X IsProbe → AudienceState
 seen life audience = record { seeing = map life audience.staying.items; left = audience.left }
 
--- these probes saw a run, in order: those that stayed, and what those told that left
+-- these probes saw a run, in order: `stayed` are those that stayed, and `told` the reports of those
+-- that left
 abbrev pub Saw : RunFrame → (probes stayed : List ProbeLife) → (told : List ℕ) → Type 0
 Saw run [] stayed told = (stayed ≡ []) × (told ≡ [])
 Saw run (p ∷ ps) stayed told =
@@ -31,8 +32,8 @@ Saw run (p ∷ ps) stayed told =
     ⊎ ((q : ProbeLife) × (others : List ℕ) × Sees Leave p q run
     × (told ≡ q.report_after [] ++ others) × Saw run ps stayed others)
 
--- A run was shown until a report couldn't be had: the probes in front saw it, the next one left
--- at it and its report is lost, and those behind didn't see it.
+-- A run was shown until a report couldn't be made. The probes in front saw it. The next one left,
+-- and its report is lost. Those after it didn't see the run.
 pub record ShowsPartly (before now : AudienceState) (run : RunFrame) : Type 0 where
   pub front : List ProbeLife
   pub lost : ProbeLife
@@ -46,7 +47,7 @@ pub record ShowsPartly (before now : AudienceState) (run : RunFrame) : Type 0 wh
   pub seeing : now.seeing ≡ stayed ++ behind
   pub reports : now.left ≡ before.left ++ told
 
--- these runs were shown, the last one maybe to a part of the audience
+-- these runs were shown, the last one maybe only to a part of the audience
 abbrev pub ShowsFirst : AudienceState → AudienceState → List RunFrame → Type 0
 ShowsFirst before now runs = Shows before now runs
     ⊎ ((earlier : List RunFrame) × (run : RunFrame) × (mid : AudienceState)

@@ -1,4 +1,4 @@
-//! Who looks at the runs of a record.
+//! The audience of a record: the probes that see its runs.
 ghost use Rattle.std.specs.Prelude.{◌≤◌, ◌+◌, ◌*◌, length};
 ghost use Rattle.std.specs.Vec.{vec_len};
 
@@ -7,7 +7,10 @@ use crate::showing::{finish_all, show_all};
 use det_values::{Bytes, OutOfMemory, RunFrame};
 use std::alloc::Global;
 
-/// Probes that look at the runs of a record, and the reports of those that have left.
+/// Probes that see the runs of a record, and the reports of those that have left.
+///
+/// Contracts see an audience through the function `seen` and not through `Model`. A probe's life is
+/// a function, which the value of a model may not hold.
 #[derive(Drop)]
 pub struct Audience {
     staying: Vec<Box<dyn Probe>>,
@@ -21,7 +24,7 @@ impl Audience {
     ghost use Rattle.probes.specs.Reports.{reported};
     ghost use Rattle.probes.specs.Shows.{Shows, ShowsPartly, seen};
 
-    /// These probes, in their order.
+    /// An audience of these probes, in this order.
     pub fn of(alloc: Global, probes: Vec<Box<dyn Probe>>) -> Audience
         requires { vec_len probes ≤ 1024 }
         ensures { seen (λ b. life b) result
@@ -33,8 +36,9 @@ impl Audience {
         }
     }
 
-    /// Shows a run to each probe, in their order. One that leaves gives its report and is taken
-    /// out; the others keep their order. After an error a part of the probes has seen the run.
+    /// Shows a run to each probe, in order. The report of a probe that leaves is appended to the
+    /// reports, and the other probes keep their order. After an error only a part of the probes has
+    /// seen the run.
     pub fn show(&mut self, alloc: Global, run: &RunFrame) -> Result<(), OutOfMemory>
         ensures shown { OnOk result
             (Shows (seen (λ b. life b) self.old) (seen (λ b. life b) self.new) (run.now ∷ [])) }
@@ -44,8 +48,8 @@ impl Audience {
         show_all(alloc, &mut self.staying, &mut self.left, run)
     }
 
-    /// Lets all probes that stayed leave, in their order, and gives all reports. After an error
-    /// some have reported, and none is left.
+    /// Appends the reports of all probes that are left, in order, and drops the probes. After an
+    /// error only some reports were appended.
     pub fn finish(&mut self, alloc: Global) -> Result<(), OutOfMemory>
         ensures left { OnOk result ((seen (λ b. life b) self.new).left
             ≡ reported (seen (λ b. life b) self.old) []) }
@@ -54,14 +58,14 @@ impl Audience {
         finish_all(alloc, &mut self.staying, &mut self.left)
     }
 
-    /// How many probes still look.
+    /// The number of probes that haven't left.
     pub fn staying(&self) -> usize
         ensures { result ≡ length (seen (λ b. life b) self.now).seeing }
     {
         self.staying.len()
     }
 
-    /// What was reported so far.
+    /// The reports so far, one after another.
     pub fn reports(&self) -> &[u8]
         ensures { result.now ≡ (seen (λ b. life b) self.now).left }
     {

@@ -1,4 +1,4 @@
-//! Counting runs.
+//! A probe that counts runs.
 ghost use Rattle.std.specs.Prelude.{◌≡◌};
 ghost use Rattle.probes.specs.Shipped.{count_life};
 
@@ -7,7 +7,7 @@ use crate::texts::count_line;
 use det_values::{Bytes, OutOfMemory, Outcome, RunFrame};
 use std::alloc::Global;
 
-/// Counts finished and refused runs, and stays. The counts stand at their last value.
+/// Reports how many runs finished and how many were refused. It never leaves. The counts saturate.
 #[derive(Debug, Drop)]
 pub struct CountProbe {
     finished: u32,
@@ -15,7 +15,7 @@ pub struct CountProbe {
 }
 
 impl CountProbe {
-    /// A probe that saw no run.
+    /// A probe that has seen no run.
     pub fn new() -> CountProbe
         ensures { ⟦<CountProbe as Probe>⟧.life result ≡ count_life 0 0 }
     {

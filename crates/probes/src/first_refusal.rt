@@ -1,4 +1,4 @@
-//! The first refusal.
+//! A probe that looks for the first refusal.
 ghost use Rattle.std.specs.Prelude.{◌≡◌, None};
 ghost use Rattle.probes.specs.Shipped.{refusal_life};
 
@@ -7,7 +7,7 @@ use crate::texts::refusal_line;
 use det_values::{Bytes, OutOfMemory, Outcome, RefusedAt, RunFrame};
 use std::alloc::Global;
 
-/// Leaves at the first refused run, and tells its number and where it was refused.
+/// Leaves at the first refused run, and reports its number and where it was refused.
 #[derive(Debug, Drop)]
 pub struct FirstRefusalProbe {
     seen: u32,
@@ -15,7 +15,7 @@ pub struct FirstRefusalProbe {
 }
 
 impl FirstRefusalProbe {
-    /// A probe that saw no run.
+    /// A probe that has seen no run.
     pub fn new() -> FirstRefusalProbe
         ensures { ⟦<FirstRefusalProbe as Probe>⟧.life result ≡ refusal_life 0 None }
     {

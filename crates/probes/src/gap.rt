@@ -1,4 +1,4 @@
-//! The time between runs.
+//! A probe that measures the time between runs.
 ghost use Rattle.std.specs.Prelude.{◌≡◌, None};
 ghost use Rattle.probes.specs.Shipped.{gap_life, gap_between, greater};
 
@@ -7,8 +7,8 @@ use crate::texts::gap_line;
 use det_values::{Bytes, OutOfMemory, RunFrame};
 use std::alloc::Global;
 
-/// Tells the greatest time from one run to the next, where both have a time and the second isn't
-/// before the first. It stays.
+/// Reports the longest time from one run to the next, in nanoseconds. Pairs in which a time is
+/// unknown, or in which the second is earlier, don't count. It never leaves.
 #[derive(Debug, Drop)]
 pub struct GapProbe {
     /// The time of the last run.
@@ -33,7 +33,7 @@ fn greater_of(gap: Option<u64>, other: Option<u64>) -> Option<u64>
 }
 
 impl GapProbe {
-    /// A probe that saw no run.
+    /// A probe that has seen no run.
     pub fn new() -> GapProbe
         ensures { ⟦<GapProbe as Probe>⟧.life result ≡ gap_life None None }
     {

@@ -1,5 +1,5 @@
-//! Probes see each run of a record, and each says one line about them: when it leaves, or at the
-//! end.
+//! Observers of runs, each of which reports one line, and the audience of all of them. A probe
+//! reports when it leaves, or at the end.
 #![tactic(auto)]
 
 mod audience;

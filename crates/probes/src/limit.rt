@@ -1,4 +1,4 @@
-//! Leaving after so many runs.
+//! A probe that leaves after a number of runs.
 ghost use Rattle.std.specs.Prelude.{◌≡◌, ◌≤◌};
 ghost use Rattle.probes.specs.Shipped.{limit_life};
 
@@ -7,7 +7,8 @@ use crate::texts::limit_line;
 use det_values::{Bytes, OutOfMemory, Outcome, RunFrame};
 use std::alloc::Global;
 
-/// Leaves at run number `most`, and tells how many runs it saw and how many of them were refused.
+/// Leaves at run number `most`, counted from 1. Reports how many runs it saw, and how many of them
+/// were refused.
 #[derive(Debug, Drop)]
 pub struct LimitProbe {
     most: u32,
@@ -16,7 +17,7 @@ pub struct LimitProbe {
 }
 
 impl LimitProbe {
-    /// A probe that saw no run.
+    /// A probe that has seen no run.
     pub fn new(most: u32) -> LimitProbe
         requires { 1 ≤ most }
         ensures { ⟦<LimitProbe as Probe>⟧.life result ≡ limit_life most 0 0 }

@@ -1,29 +1,30 @@
-//! What a probe is.
+//! The interface of a probe.
 ghost use Rattle.std.specs.Prelude.{◌≡◌, ◌≤◌, ◌∷◌, [], length, IfOk, Some, None, ◌↔◌};
 ghost use Rattle.probes.specs.Reports.{ProbeLife, Sees, leaves};
 
 use det_values::{Bytes, OutOfMemory, RunFrame};
 use std::alloc::Global;
 
-/// Whether a probe is done.
+/// Whether a probe stays for the next run.
 #[derive(Clone, Copy, Debug, PartialEq, Eq, Drop)]
 pub enum Wish {
     Stay,
     Leave,
 }
 
-/// What looks at the runs of a record, one after another. It sees none after the one at which it
+/// An observer of the runs of a record, one after another. It sees no run after the one at which it
 /// leaves.
 pub trait Probe: Drop {
-    /// What it will report, and at which run it will leave, by the runs that it will see.
+    /// What it will report and at which run it will leave, as a function of the runs that it will
+    /// see.
     ghost life: { Self → ProbeLife };
 
-    /// Looks at a run.
+    /// Sees a run.
     fn see(&mut self, run: &RunFrame) -> Wish
         ensures sees { Sees result (life self.old) (life self.new) run.now }
         ensures leaves { (result ≡ Wish.Leave) ↔ (leaves (life self.old) (run.now ∷ []) ≡ Some 1) };
 
-    /// What it says of the runs that it saw, in at most 256 bytes.
+    /// The report on the runs that it saw, in at most 256 bytes.
     fn report(&self, alloc: Global) -> Result<Bytes, OutOfMemory>
         ensures bytes { IfOk result (λ bytes. bytes ≡ (life self.now).report_after []) }
         ensures short { IfOk result (λ bytes. length bytes ≤ 256) }

@@ -1,4 +1,4 @@
-//! Showing runs to probes.
+//! A list of probes: runs are shown to all of them, and their reports are collected.
 ghost use Rattle.std.specs.Prelude.{◌≡◌, ◌≤◌, ◌+◌, ◌*◌, List, [], ◌∷◌, ◌++◌, map, length, OnOk};
 ghost use Rattle.std.specs.Prelude.{OnErr, IfOk, None};
 ghost use Rattle.std.specs.Vec.{vec_len};
@@ -24,8 +24,8 @@ fn report_one(alloc: Global, probe: &Box<dyn Probe>) -> Result<Bytes, OutOfMemor
     probe.report(alloc)
 }
 
-/// Shows a run to each probe, in the order of the list. One that leaves has its report appended to
-/// `left` and is taken out; the others keep their order. After an error some probes have seen the
+/// Shows a run to each probe, in order. The report of a probe that leaves is appended to `left`,
+/// and the other probes keep their order. After an error only a part of the probes has seen the
 /// run.
 pub(crate) fn show_all(
     alloc: Global,
@@ -59,7 +59,7 @@ pub(crate) fn show_all(
     Ok(())
 }
 
-/// Appends the reports of all probes, in order. After an error some may have been appended.
+/// Appends the reports of all probes, in order. After an error only some were appended.
 fn report_all(
     alloc: Global,
     probes: &Vec<Box<dyn Probe>>,
@@ -77,8 +77,8 @@ fn report_all(
     Ok(())
 }
 
-/// Appends the reports of the probes that stayed to `left`, in order, and drops them. After an
-/// error some reports may have been appended.
+/// Appends the reports of the remaining probes to `left`, in order, and drops the probes. After an
+/// error only some reports were appended.
 pub(crate) fn finish_all(
     alloc: Global,
     probes: &mut Vec<Box<dyn Probe>>,

@@ -1,4 +1,4 @@
-//! The lines that the shipped probes say.
+//! The lines that the shipped probes report.
 ghost use Rattle.std.specs.Prelude.{◌≡◌, ◌≤◌, length, IfOk, Some};
 ghost use Rattle.std.specs.String.{string_bytes};
 ghost use Rattle.probes.specs.Texts.{count_text, gap_text, limit_text, refusal_text};
@@ -14,7 +14,7 @@ fn bytes_of(text: String) -> Bytes
     Bytes::from_vec(text.into_bytes())
 }
 
-/// `count F R`: finished and refused runs.
+/// `count F R`: the numbers of finished and of refused runs.
 pub fn count_line(alloc: Global, finished: u32, refused: u32) -> Result<Bytes, OutOfMemory>
     ensures bytes { IfOk result (λ bytes. bytes ≡ count_text finished refused) }
     ensures short { IfOk result (λ bytes. length bytes ≤ 256) }
@@ -45,7 +45,7 @@ pub fn gap_line(alloc: Global, gap: Option<u64>) -> Result<Bytes, OutOfMemory>
     }
 }
 
-/// `limit M R`: the runs seen and the refused ones among them.
+/// `limit M R`: the number of runs seen, and how many of them were refused.
 pub fn limit_line(alloc: Global, seen: u32, refused: u32) -> Result<Bytes, OutOfMemory>
     ensures bytes { IfOk result (λ bytes. bytes ≡ limit_text seen refused) }
     ensures short { IfOk result (λ bytes. length bytes ≤ 256) }
@@ -72,7 +72,7 @@ fn refusal_at(
     Ok(bytes_of(text))
 }
 
-/// `refusal C PHASE PASS ELEMENT CODE`, where C counts the runs seen, or `refusal none`.
+/// `refusal C PHASE PASS ELEMENT CODE`, where C is the number of runs seen, or `refusal none`.
 pub fn refusal_line(alloc: Global, seen: u32, at: &Option<RefusedAt>) -> Result<Bytes, OutOfMemory>
     ensures bytes { IfOk result (λ bytes. bytes ≡ refusal_text seen at.now) }
     ensures short { IfOk result (λ bytes. length bytes ≤ 256) }

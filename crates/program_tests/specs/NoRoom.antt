@@ -1,8 +1,8 @@
--- What a shelf shows that has no memory for a further slot.
+-- What contracts see of a shelf that runs out of memory when a name is opened.
 use Rattle.std.specs.Prelude.{None}
 use Rattle.det_io.specs.Shelf.{ShelfState}
 
--- one slot was given, and nothing is told
+-- one slot was given, and nothing else is known
 abbrev pub untold_slot : ShelfState
 untold_slot = record {
   slots = 1;

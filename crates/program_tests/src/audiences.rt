@@ -1,4 +1,4 @@
-//! A record that is shown to other probes than those of `det`.
+//! Runs of `show` with other probes than those of `det`.
 ghost use Rattle.std.specs.Prelude.{◌<◌, ◌^◌};
 
 use crate::running::{CALM, Edges, are, run_ungated};
@@ -7,7 +7,7 @@ use std::alloc::{AllocError, Global};
 use std::test::*;
 use std::thread::Threads;
 
-/// Whether a run that is shown to an audience writes what is wanted, and ends with these lines.
+/// Whether a run with this audience writes what is wanted, and ends with these lines.
 fn tells<R: Threads + Sync>(
     rt: &R,
     alloc: Global,

@@ -1,4 +1,5 @@
-//! Each read, each write and each line for the user failing in turn, and pieces of few bytes.
+//! Runs in which each read, each write and each write of the line for the user fails in turn, or
+//! all pieces are small.
 use crate::files::file;
 use crate::running::{CALM, Edges, Ran, row_of, run};
 use crate::tables::broken_rows;
@@ -6,7 +7,7 @@ use std::alloc::{AllocError, Global};
 use std::test::*;
 use std::thread::Threads;
 
-/// A run of each command. Each reads its files to their ends.
+/// A run of each command that reads files. Each reads its files to their ends.
 fn commands() -> &'static str {
     "\
 demo s.two
@@ -25,7 +26,7 @@ needs user
 "
 }
 
-/// A call moves few bytes.
+/// Each call moves few bytes.
 const SMALL: Edges = Edges {
     most_read: 7,
     most_written: 10,
@@ -33,7 +34,7 @@ const SMALL: Edges = Edges {
     ..CALM
 };
 
-/// What fails, or is small, in the runs of a command.
+/// What fails or is small in the runs of a command.
 #[derive(Clone, Copy)]
 enum Trial {
     Reads,
@@ -42,7 +43,7 @@ enum Trial {
 }
 
 impl Ran {
-    /// Whether it ended as the whole run.
+    /// Whether it ended as the whole run did.
     fn is_as(&self, whole: &Ran) -> bool {
         self.status == whole.status
             && self.out.bytes() == whole.out.bytes()
@@ -57,8 +58,8 @@ impl Ran {
     }
 }
 
-/// How many calls of the shelf read a file to its end: the opening, a read for each piece, and one
-/// that finds the end.
+/// How many calls of the shelf read a file to its end: one opens it, one reads each piece, and one
+/// finds the end.
 fn calls_for(bytes: &[u8]) -> u64 {
     let pieces = bytes.len().div_ceil(SMALL.most_read) as u64;
     pieces.saturating_add(2)
@@ -75,8 +76,7 @@ fn calls_of(alloc: Global, line: &str) -> Result<u64, AllocError> {
     Ok(calls)
 }
 
-/// Whether a run in which this read fails breaks off where it is to, and is as the whole run
-/// otherwise.
+/// Whether a run in which this read fails breaks off if `is_to_break`, and is the whole run if not.
 fn breaks_at_read<R: Threads + Sync>(
     rt: &R,
     alloc: Global,
@@ -94,7 +94,7 @@ fn breaks_at_read<R: Threads + Sync>(
     Ok(breaks == is_to_break && breaks != ran.is_as(whole))
 }
 
-/// The same for each of so many reads, and for the number after them.
+/// The same for each of these reads, and for the number after them, which fails nothing.
 fn breaks_at_each_read<R: Threads + Sync>(
     rt: &R,
     alloc: Global,
@@ -110,8 +110,8 @@ fn breaks_at_each_read<R: Threads + Sync>(
     Ok(is_right)
 }
 
-/// Whether a run with one failing read breaks off, for each of its reads, and does not for the
-/// number after them.
+/// Whether a run with one failing read breaks off for each of its reads, and not for the number
+/// after them.
 fn breaks_at_reads<R: Threads + Sync>(
     rt: &R,
     alloc: Global,
@@ -122,14 +122,14 @@ fn breaks_at_reads<R: Threads + Sync>(
     breaks_at_each_read(rt, alloc, line, &whole, reads)
 }
 
-/// Whether so many writes took these bytes, 1 to 10 each.
+/// Whether this number of writes can have taken the bytes, 1 to 10 each.
 fn fits_writes(bytes: &[u8], writes: u64) -> bool {
     let len = bytes.len() as u64;
     writes <= len && len <= writes.saturating_mul(10)
 }
 
-/// Whether a run in which the write after so many fails breaks off there, and whether it is the
-/// whole run, of so many writes.
+/// Whether a run breaks off at the write after this number of writes, and whether it is the whole
+/// run of this number of writes.
 fn shown_after<R: Threads + Sync>(
     rt: &R,
     alloc: Global,
@@ -163,8 +163,8 @@ fn breaks_at_each_write<R: Threads + Sync>(
     Ok(false)
 }
 
-/// Whether a run with one failing write breaks off after the writes before it, for each of its
-/// writes, and does not for the number after them.
+/// Whether a run with one failing write breaks off after the writes before it. That is so for each
+/// of its writes, and not for the number after them.
 fn breaks_at_writes<R: Threads + Sync>(
     rt: &R,
     alloc: Global,
@@ -174,7 +174,8 @@ fn breaks_at_writes<R: Threads + Sync>(
     breaks_at_each_write(rt, alloc, line, &whole)
 }
 
-/// Whether a run is as the whole one where a read gives so many bytes and a write takes one.
+/// Whether a run is the whole one if a read gives at most this number of bytes and a write takes
+/// one.
 fn is_same_at<R: Threads + Sync>(
     rt: &R,
     alloc: Global,
@@ -283,8 +284,8 @@ const HALF_TOLD: Edges = Edges {
     ..CALM
 };
 
-/// Whether a run of a row keeps its status over these edges, and tells as many of the first bytes
-/// of its line.
+/// Whether a run of a row keeps its status over these edges, and writes the first `len` bytes of
+/// its line.
 fn keeps_status_over<R: Threads + Sync>(
     rt: &R,
     alloc: Global,
@@ -299,14 +300,14 @@ fn keeps_status_over<R: Threads + Sync>(
     Ok(is_front && ran.status == wanted.status)
 }
 
-/// Whether a run of a row keeps its status where the line for the user fails.
+/// Whether a run of a row keeps its status if the line for the user fails.
 fn keeps_status<R: Threads + Sync>(rt: &R, alloc: Global, row: &str) -> Result<bool, AllocError> {
     let untold = keeps_status_over(rt, alloc, row, UNTOLD, 0)?;
     let half_told = keeps_status_over(rt, alloc, row, HALF_TOLD, 3)?;
     Ok(untold && half_told)
 }
 
-/// The rows of the broken runs that end otherwise where the line for the user fails.
+/// The rows of the broken runs that end otherwise if the line for the user fails.
 fn changed_by_lines<R: Threads + Sync>(rt: &R, alloc: Global) -> Result<String, AllocError> {
     let mut changed = String::new(alloc);
     for row in broken_rows().lines() {

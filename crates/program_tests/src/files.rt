@@ -1,18 +1,18 @@
-//! What lies under a name.
+//! Makes files from their names.
 //!
-//! `A` is a listed file, `A:97` its first 97 bytes, `A@7=09` the file with the byte 7 replaced, and
+//! `A` is a listed file, `A:97` its first 97 bytes, `A@7=09` the file with byte 7 replaced, and
 //! `A+05*3` the file with three bytes appended. These may follow each other in this order.
 use crate::listed::listed;
 use std::alloc::{AllocError, Global};
 
 const DIGITS: [u8; 16] = *b"0123456789abcdef";
 
-/// The two parts of a text around a letter. Where the letter is missing, the second is empty.
+/// The two parts of a text around a letter. If the letter is missing, the second part is empty.
 pub fn halves(text: &str, letter: char) -> (&str, &str) {
     text.split_once(letter).unwrap_or((text, ""))
 }
 
-/// A number, or 0 where the text is none.
+/// A number, or 0 if the text is none.
 pub fn number(text: &str) -> usize {
     text.parse::<usize>().unwrap_or(0)
 }
@@ -21,8 +21,8 @@ fn digit(number: usize) -> u8 {
     DIGITS[number % 16]
 }
 
-/// A letter of an item, for one number: `#` and `&` are its last two decimal digits, `^` and `~`
-/// its last two hexadecimal ones.
+/// A letter of an item for one number. `#` and `&` are the number's last two decimal digits, `^`
+/// and `~` its last two hexadecimal ones.
 fn letter(byte: u8, number: usize) -> u8 {
     match byte {
         b'#' => digit(number / 10 % 10),
@@ -57,7 +57,7 @@ fn put_piece(out: &mut Vec<u8>, piece: &str) -> Result<(), AllocError> {
     Ok(out.extend_from_slice(rest.as_bytes())?)
 }
 
-/// A text in which each `%RANGE(ITEM)` is written out.
+/// Expands each `%RANGE(ITEM)` in a text.
 fn written_out(alloc: Global, text: &str) -> Result<Vec<u8>, AllocError> {
     let (front, rest) = halves(text, '%');
     let mut out = Vec::from_slice(alloc, front.as_bytes())?;
@@ -92,7 +92,7 @@ fn from_hex(alloc: Global, digits: &[u8]) -> Result<Vec<u8>, AllocError> {
     hex::decode(alloc, digits).map_err(|_| AllocError)
 }
 
-/// A listed file: `x` begins one in hexadecimal digits, any other letter a text.
+/// A listed file. Its kind is `hex` for hexadecimal digits or else a text.
 fn listed_file(alloc: Global, name: &str) -> Result<Option<Vec<u8>>, AllocError> {
     let Some(text) = listed(name) else {
         return Ok(None);
@@ -128,7 +128,7 @@ fn append(alloc: Global, bytes: &mut Vec<u8>, added: &str) -> Result<(), AllocEr
     Ok(())
 }
 
-/// What lies under a name, if it is the name of a file.
+/// The file of a name. None if the name has no listed file.
 pub fn file(alloc: Global, name: &str) -> Result<Option<Vec<u8>>, AllocError> {
     let (front, added) = halves(name, '+');
     let (front, change) = halves(front, '@');

@@ -1,5 +1,5 @@
-//! Workers of whole runs that pass a gate: one holds two of them until each has seen the other
-//! come, one counts three of them.
+//! Whole runs whose workers pass a gate. One gate holds two workers until each has seen the other
+//! come, one counts three workers.
 use crate::running::{CALM, Ran, are, run_with};
 use probes::Audience;
 use std::alloc::{AllocError, Global};
@@ -9,8 +9,8 @@ use std::test::*;
 use std::thread::Threads;
 use worker_pool::{Gate, MeetGate};
 
-/// Notes whether the workers 0, 1 and 2 have come, and whether a further one has. It holds none of
-/// them, since how many threads a crew has depends on the machine.
+/// Notes whether the workers 0, 1 and 2 have come, and whether another one has. It holds none of
+/// them, since the number of a crew's threads depends on the machine.
 #[derive(Drop)]
 struct ThreeGate {
     first: AtomicBool,
@@ -29,7 +29,7 @@ impl ThreeGate {
         }
     }
 
-    /// Whether the three came, and no other.
+    /// Whether exactly the three came.
     fn three_came(&self) -> bool {
         self.first.load(Ordering::SeqCst)
             && self.second.load(Ordering::SeqCst)
@@ -49,7 +49,7 @@ impl Gate for ThreeGate {
     }
 }
 
-/// A run whose workers pass a gate, shown to nobody.
+/// A run whose workers pass a gate, without probes.
 fn run_through<R: Threads + Sync, G: Gate + Send + Sync + 'static>(
     rt: &R,
     alloc: Global,
@@ -77,7 +77,7 @@ fn two_workers_of_a_simulated_run_meet(rt: HostRuntime) -> Result<(), Fail> {
     Ok(())
 }
 
-/// Whether three workers come in a run that writes this.
+/// Whether exactly three workers come in a run, and it writes what is wanted.
 fn three_come<R: Threads + Sync>(
     rt: &R,
     alloc: Global,

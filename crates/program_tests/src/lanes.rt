@@ -11,7 +11,7 @@ use lane::lane_top;
 use std::alloc::{AllocError, Global};
 use std::test::*;
 
-/// What a run of a lane gave.
+/// What a run of a lane wrote, and its status.
 #[derive(Drop)]
 struct Ran {
     status: u8,
@@ -27,7 +27,7 @@ impl Ran {
     }
 }
 
-/// Adds the script of a child: `FILE,STATUS` is what it writes and how it ends.
+/// Adds the script of a child. `FILE,STATUS` is what it writes and its exit status.
 fn add_script(
     alloc: Global,
     scripts: &mut Scripts,
@@ -47,7 +47,7 @@ fn add_script(
         .map_err(|_| AllocError)
 }
 
-/// The scripts of children, the first of which has one worker and each other one more.
+/// The scripts of children. The first has one worker, and each other one has one more.
 fn scripts_of(alloc: Global, children: &str) -> Result<Scripts, AllocError> {
     let mut scripts = Scripts::new(alloc);
     let mut workers: u32 = 1;
@@ -58,7 +58,7 @@ fn scripts_of(alloc: Global, children: &str) -> Result<Scripts, AllocError> {
     Ok(scripts)
 }
 
-/// A shelf over these children. One call of the spawner fails, and none where that is 0.
+/// A shelf over these children. The spawner's call of the number `failing` fails; 0 fails none.
 fn shelf_of(
     alloc: Global,
     children: &str,
@@ -78,7 +78,7 @@ fn sink_of(alloc: Global, room: usize) -> Result<MemSink, AllocError> {
     MemSink::new(alloc, room, 10, FailList::new(alloc)).map_err(|_| AllocError)
 }
 
-/// Runs the words of a line over these children. The output has room for so many bytes.
+/// Runs the arguments of a line over these children. The output has room for `room` bytes.
 fn run(
     alloc: Global,
     line: &str,
@@ -94,7 +94,7 @@ fn run(
     Ok(Ran { status, out, err })
 }
 
-/// Whether a row ends as it wants: `WORDS|CHILDREN|FAILING CALL|ROOM|STATUS|OUTPUT|LINE`.
+/// Whether a row ends as wanted: `WORDS|CHILDREN|FAILING CALL|ROOM|STATUS|OUTPUT|LINE`.
 fn is_right(alloc: Global, row: &str) -> Result<bool, AllocError> {
     let (words, rest) = halves(row, '|');
     let (children, rest) = halves(rest, '|');
@@ -104,7 +104,7 @@ fn is_right(alloc: Global, row: &str) -> Result<bool, AllocError> {
     ran.ended_as(alloc, &wanted)
 }
 
-/// The rows that end otherwise than they want.
+/// The rows that don't end as wanted.
 fn wrong_rows(alloc: Global) -> Result<String, AllocError> {
     let mut wrong = String::new(alloc);
     for row in lane_rows().lines() {
@@ -122,7 +122,7 @@ fn lanes_tell_what_their_rows_want(rt: HostRuntime) -> Result<(), Fail> {
     Ok(())
 }
 
-/// `echo` gives its words in place of a record.
+/// `echo` writes its arguments in place of a record.
 #[test]
 fn a_process_that_gives_no_record_is_told(rt: HostRuntime) -> Result<(), Fail> {
     let alloc = rt.alloc();

@@ -1,9 +1,9 @@
-//! Whole runs of the three programs in memory, over files and children that are given by name.
+//! Tests: whole runs of the three programs in memory, over named files and children.
 //!
-//! `files` makes what lies under a name, `rows` holds the worked examples as two tables, `edges`
-//! has each read and each write fail in turn. The other modules show what only a run in memory can:
-//! workers at a gate, probes that `det` doesn't have, children that fail. Nothing here is compiled
-//! outside tests.
+//! `files` makes the files, `rows` runs the worked examples of `tables`, and `edges` has each read
+//! and each write fail in turn. The other modules test what only a run in memory can show: workers
+//! at a gate, probes that `det` doesn't have, children that fail. Nothing here is compiled outside
+//! tests.
 #![tactic(auto)]
 
 #[cfg(test)]

@@ -1,9 +1,10 @@
-//! The files of the rows, each as its name, `hex` or `text`, and what it holds.
+//! The files of the tests: for each its name, `hex` or `text`, and its contents.
 //!
-//! `%RANGE(ITEM)` stands for an item for each number of a range, and `/` in a text for a line feed.
-//! Records are spelled field by field: A and B in format 1 (a run of a bank without cycles, and one
-//! with two), A2, B2 and C2 in format 2 (the same, and one with three cycles), G2 (a guard that
-//! refuses its second cycle of three), wide.1 and wide.2 (a bank of three blocks in each format).
+//! `%RANGE(ITEM)` is the item for each number of the range, and `/` in a text is a line feed.
+//! Records are written field by field. A and B are in format 1: a run of a bank without cycles, and
+//! one with two. A2, B2 and C2 are in format 2: the same, and one with three cycles. G2 is a guard
+//! that refuses its second cycle of three. wide.1 and wide.2 are a bank of three blocks in each
+//! format.
 
 fn list() -> &'static str {
     "\
@@ -107,7 +108,7 @@ m.key text job = 'bank'/cycle_time_ns = 10/wrokers = 2/workers = 2/params = [4, 
 "
 }
 
-/// What is listed under a name.
+/// The kind and the contents of the file under a name.
 pub fn listed(name: &str) -> Option<&'static str> {
     for line in list().lines() {
         if let Some((found, text)) = line.split_once(' ') {

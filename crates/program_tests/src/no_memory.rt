@@ -1,4 +1,4 @@
-//! Want of memory, which a shelf tells in place of a slot.
+//! Running out of memory, which a shelf reports in place of a slot.
 use crate::running::{fail_list, words_of};
 use det_cli::{Host, top};
 use det_io::{Failure, MemSink, Shelf, ShelfFailed, Slots};
@@ -9,7 +9,7 @@ use std::test::*;
 use std::thread::Threads;
 use worker_pool::NoGate;
 
-/// A shelf that has no memory for a further slot. The one that it has is at its end.
+/// A shelf that runs out of memory when a name is opened. Its only slot is at its end.
 #[derive(Drop)]
 struct NoRoom;
 
@@ -38,13 +38,13 @@ impl Shelf for NoRoom {
     }
 }
 
-/// A sink that takes at most three bytes in a write, of which this one fails.
+/// A sink that takes at most three bytes in a write. Its write of this number fails; 0 fails none.
 fn sink_of(alloc: Global, failing: u64) -> Result<MemSink, AllocError> {
     let fails = fail_list(alloc, failing)?;
     MemSink::new(alloc, 100, 3, fails).map_err(|_| AllocError)
 }
 
-/// The status of `show` over a shelf without room.
+/// The status of `show` over such a shelf.
 fn show<R: Threads + Sync>(
     rt: &R,
     alloc: Global,
@@ -63,8 +63,8 @@ fn show<R: Threads + Sync>(
     Ok(status.number())
 }
 
-/// Whether `show` tells this of the want of memory, where this write of the line for the user
-/// fails.
+/// Whether `show` ends with "out of memory" and writes `told` to the user, if this write of its
+/// line fails.
 fn is_told<R: Threads + Sync>(
     rt: &R,
     alloc: Global,

@@ -1,18 +1,18 @@
-//! The worked examples, each a run of `det`.
+//! Runs of `det` that write and end as the rows of the tables say.
 use crate::running::{CALM, row_of, run};
 use crate::tables::{broken_rows, large_rows, whole_rows};
 use std::alloc::{AllocError, Global};
 use std::test::*;
 use std::thread::Threads;
 
-/// Whether a row ends as it wants.
+/// Whether a row ends as wanted.
 fn is_right<R: Threads + Sync>(rt: &R, alloc: Global, row: &str) -> Result<bool, AllocError> {
     let (words, wanted) = row_of(row);
     let ran = run(rt, alloc, words, CALM)?;
     ran.ended_as(alloc, &wanted)
 }
 
-/// The rows of a table that end otherwise than they want.
+/// The rows of a table that don't end as wanted.
 fn wrong_rows<R: Threads + Sync>(rt: &R, alloc: Global, table: &str) -> Result<String, AllocError> {
     let mut wrong = String::new(alloc);
     for row in table.lines() {
@@ -44,7 +44,7 @@ fn broken_runs_end_with_their_lines(rt: HostRuntime) -> Result<(), Fail> {
     Ok(())
 }
 
-/// Whether a run of these words ends with this line, and with the status of a bad record.
+/// Whether a run of these arguments ends with this line and the status of a bad record.
 fn is_told<R: Threads + Sync>(
     rt: &R,
     alloc: Global,
@@ -55,14 +55,14 @@ fn is_told<R: Threads + Sync>(
     Ok(ran.status == 5 && ran.err.bytes() == line.as_bytes())
 }
 
-/// Whether `show` tells that a record which was cut to this length ends there.
+/// Whether `show` reports that a record cut to this length is truncated there.
 fn is_truncated<R: Threads + Sync>(rt: &R, alloc: Global, len: u32) -> Result<bool, AllocError> {
     let words = format!(in alloc; "show B:{len}")?;
     let line = format!(in alloc; "bad record: copy 0 offset {len} truncated\n")?;
     is_told(rt, alloc, words.as_str(), line.as_str())
 }
 
-/// A length to which a record was cut and `show` told another place, if there is one.
+/// A length to which a record was cut and `show` reported otherwise, if there is one.
 fn cut_otherwise<R: Threads + Sync>(rt: &R, alloc: Global) -> Result<Option<u32>, AllocError> {
     let mut other = None;
     for len in 0..282u32 {

@@ -1,4 +1,4 @@
-//! Runs of `det` and `det_twin` over a shelf and sinks in memory.
+//! Runs `det` and `det_twin` over a shelf and sinks in memory.
 ghost use Rattle.std.specs.Prelude.{◌<◌, ◌^◌};
 
 use crate::files::{file, halves, number, with_lines};
@@ -11,8 +11,9 @@ use std::sync::Arc;
 use std::thread::Threads;
 use worker_pool::{Gate, NoGate};
 
-/// How many bytes a call moves at most, the room of the output, and the numbers of the calls that
-/// fail, 0 for none: of the shelf, of the output, of the line for the user.
+/// The limits of a run: how many bytes a call moves at most, and the room of the output. Each
+/// `failing_` number is that of the call that fails, counted from 1, or 0 if none does. The calls
+/// are of the shelf, of the output, and of the line for the user.
 #[derive(Clone, Copy)]
 pub struct Edges {
     pub most_read: usize,
@@ -33,7 +34,7 @@ pub const CALM: Edges = Edges {
     failing_line: 0,
 };
 
-/// The words of a run, over what it runs, and its status afterwards.
+/// The arguments of a run, what it runs over, and its status afterwards.
 #[derive(Drop)]
 pub struct Ran {
     pub words: Vec<String>,
@@ -43,13 +44,14 @@ pub struct Ran {
     pub status: u8,
 }
 
+/// The numbers of the calls that fail: only this one, or none for 0.
 pub fn fail_list(alloc: Global, number: u64) -> Result<FailList, AllocError> {
     let mut fails = FailList::new(alloc);
     fails.push(number).map_err(|_| AllocError)?;
     Ok(fails)
 }
 
-/// The words of a line, which are parted by spaces. The empty line has none.
+/// The arguments in a line, separated by spaces. The empty line has none.
 pub fn words_of(alloc: Global, line: &str) -> Result<Vec<String>, AllocError> {
     let mut words = Vec::new(alloc);
     if line.is_empty() {
@@ -74,7 +76,7 @@ fn add_file(alloc: Global, files: &mut MemFiles, name: &str) -> Result<(), Alloc
         .map_err(|_| AllocError)
 }
 
-/// The files that the words of a line name.
+/// The files that the arguments of a line name.
 fn files_of(alloc: Global, line: &str) -> Result<MemFiles, AllocError> {
     let mut files = MemFiles::new(alloc);
     for word in line.split(' ') {
@@ -94,7 +96,7 @@ fn sink_of(alloc: Global, room: usize, edges: Edges, failing: u64) -> Result<Mem
     MemSink::new(alloc, room, edges.most_written.max(1), fails).map_err(|_| AllocError)
 }
 
-/// A run of the words of a line that hasn't begun.
+/// A run of a line's arguments that hasn't started.
 pub fn prepare(alloc: Global, line: &str, edges: Edges) -> Result<Ran, AllocError> {
     Ok(Ran {
         words: words_of(alloc, line)?,
@@ -105,7 +107,7 @@ pub fn prepare(alloc: Global, line: &str, edges: Edges) -> Result<Ran, AllocErro
     })
 }
 
-/// Runs the words of a line with this audience and this gate.
+/// Runs the arguments of a line with this audience and this gate.
 pub fn run_with<R: Threads + Sync, G: Gate + Send + Sync + 'static>(
     rt: &R,
     alloc: Global,
@@ -130,7 +132,7 @@ pub fn run_with<R: Threads + Sync, G: Gate + Send + Sync + 'static>(
     Ok(ran)
 }
 
-/// The same with no gate.
+/// The same without a gate.
 pub fn run_ungated<R: Threads + Sync>(
     rt: &R,
     alloc: Global,
@@ -144,7 +146,7 @@ pub fn run_ungated<R: Threads + Sync>(
     run_with(rt, alloc, line, edges, audience, &gate)
 }
 
-/// The same with the probes of the program.
+/// The same with the probes of `det`.
 pub fn run<R: Threads + Sync>(
     rt: &R,
     alloc: Global,
@@ -175,8 +177,8 @@ fn are_file(alloc: Global, bytes: &[u8], name: &str) -> Result<bool, AllocError>
     })
 }
 
-/// Whether the bytes are as wanted: `=NAME` is a file, `#LEN HEX` a length and a SHA-256, and
-/// anything else a text with `/` for the line feed.
+/// Whether the bytes are as wanted. `=NAME` is a file, `#LEN HEX` a length and a SHA-256. Anything
+/// else is a text with `/` for the line feed.
 pub fn are(alloc: Global, bytes: &[u8], wanted: &str) -> Result<bool, AllocError> {
     if let Some(name) = wanted.strip_prefix('=') {
         return are_file(alloc, bytes, name);
@@ -195,7 +197,7 @@ pub struct Wanted<'a> {
     pub err: &'a str,
 }
 
-/// The words of a row, and what it wants.
+/// The arguments of a row, and what it wants.
 pub fn row_of(row: &str) -> (&str, Wanted<'_>) {
     let (words, rest) = halves(row, '|');
     let (status, rest) = halves(rest, '|');

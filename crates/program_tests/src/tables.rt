@@ -1,7 +1,7 @@
-//! The tables of rows: the words of a run, its status, its output and its line for the user.
+//! The tables of rows: the arguments of a run, its status, its output and its line for the user.
 //!
-//! Outputs and lines are spelled as `running::are` says. Digests, and outputs that no listed record
-//! is, come from the plain program of `tests/plain`.
+//! Outputs and lines are written as `running::are` says. Digests, and outputs that are no listed
+//! record, come from the plain program in `tests/plain`.
 
 /// Runs that end with Done or Differs.
 pub fn whole_rows() -> &'static str {
@@ -221,8 +221,8 @@ pub fn twin_rows() -> &'static str {
 "
 }
 
-/// Runs of `det_lane`: its words, what its children write and how they end, the call of the spawner
-/// that fails, the room of the output, and what is wanted.
+/// Runs of `det_lane`. A row has its arguments, what its children write and how they end, the
+/// spawner's call that fails, the room of the output, and what is wanted.
 pub fn lane_rows() -> &'static str {
     "\
 det 2 m s|B,0 B,0|0|100|0|agree 2/|

@@ -26,7 +26,7 @@ fn run_twins<R: Threads + Wait + Sync>(
     Ok(ran)
 }
 
-/// Whether a row ends as it wants.
+/// Whether a row ends as wanted.
 fn is_right<R: Threads + Wait + Sync>(
     rt: &R,
     alloc: Global,
@@ -37,7 +37,7 @@ fn is_right<R: Threads + Wait + Sync>(
     ran.ended_as(alloc, &wanted)
 }
 
-/// The rows that end otherwise than they want.
+/// The rows that don't end as wanted.
 fn wrong_rows<R: Threads + Wait + Sync>(rt: &R, alloc: Global) -> Result<String, AllocError> {
     let mut wrong = String::new(alloc);
     for row in twin_rows().lines() {
@@ -55,7 +55,7 @@ fn twins_tell_what_their_rows_want(rt: HostRuntime) -> Result<(), Fail> {
     Ok(())
 }
 
-/// Whether a run in which this call of the shelf fails is a read fault.
+/// Whether a run is a read fault if this call of the shelf fails.
 fn is_read_fault<R: Threads + Wait + Sync>(
     rt: &R,
     alloc: Global,
@@ -69,7 +69,7 @@ fn is_read_fault<R: Threads + Wait + Sync>(
     Ok(ran.status == 6 && ran.err.bytes() == b"read fault\n".as_slice())
 }
 
-/// How many of the first calls of the shelf make a read fault where they fail.
+/// How many of the first calls of the shelf make a run a read fault if they fail.
 fn read_faults<R: Threads + Wait + Sync>(rt: &R, alloc: Global) -> Result<u32, AllocError> {
     let mut faults: u32 = 0;
     for failing_read in 1..9u64 {

@@ -1,4 +1,4 @@
--- What stands around the elements of a finished run.
+-- What comes before and after the elements of a finished run.
 use Rattle.std.proofs.Common.{◌≡◌, ℕ, List, ◌∷◌, ◌++◌, length, take, drop, sym, ap, ◌∙◌, append_assoc}
 use Rattle.std.proofs.Math.Seq.{take-append_seam, drop-append_seam}
 use Rattle.det_values.specs.Spelling.{spelled_all, spelled_u32}

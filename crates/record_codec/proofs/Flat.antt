@@ -122,7 +122,7 @@ many_counted {A} item (suc n) bytes x e =
     let c = bind_got (many item n b.0.1) (λ others. Got (b.0.0 ∷ others.0, others.1)) x b.2 in
     same_length (b.0.0 ∷ c.0.0) c.0.1 x (got_is {A = List A} (b.0.0 ∷ c.0.0, c.0.1) x c.2) ∙ ap suc (many_counted item n b.0.1 c.0 c.1)
 
--- elements that were read, spelled one behind another, and the bytes behind them
+-- elements that were read, spelled one after another, and the bytes after them
 pub record AreSpelled (bytes : List ℕ) (x : List DrawnElement × List ℕ) : Type 0 where
   pub fields : All flat.IsDrawn x.0
   pub spelling : bytes ≡ flat.spelled_all x.0 ++ x.1
@@ -147,7 +147,7 @@ all_spelled (suc n) bytes x are e =
           s.1 ∙ ap (λ (xs : List ℕ). spelled ++ xs) h.spelling ∙ sym (append_assoc spelled (flat.spelled_all c.0.0) c.0.1);
     })
 
--- the elements that stand from one place up to another
+-- the elements from one place up to another
 pub record StandsSpelled (count at to : ℕ) (bytes : List ℕ) (es : List DrawnElement) : Type 0 where
   pub counted : length es ≡ count
   pub fields : All flat.IsDrawn es

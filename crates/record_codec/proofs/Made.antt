@@ -186,7 +186,7 @@ pub input_is : (input made : CycleInput) → made.time ≡ input.time → made.s
 input_is input made t s =
     ap (λ (time : Option ℕ). an_input time made.samples) t ∙ ap (λ (samples : List SampleValue). an_input input.time samples) s
 
--- elements of format Two that stand in the bytes stand there spelled
+-- elements of format 2 are spelled in the bytes
 pub stand_in : (format : Format) (count at to len : ℕ) (bytes : List ℕ) (outcome : Outcome) → format ≡ Two → AreBytes bytes
     → (h : ShowsFinished format count at to len bytes outcome) → StandsSpelled count at to bytes h.elements
 stand_in format count at to len bytes outcome is are h =

@@ -1,4 +1,4 @@
--- What was made of the view of a frame, in memory that is used again.
+-- What was decoded from the view of a frame into memory that is reused.
 use Rattle.std.specs.Prelude.{◌≡◌, Bool, true, false, Result, Ok, Err}
 use Rattle.det_values.specs.declared.frames.CycleInput.{CycleInput}
 use Rattle.det_values.specs.declared.frames.Frame.{Frame}
@@ -7,7 +7,7 @@ use Rattle.det_values.specs.declared.frames.RunFrame.{RunFrame}
 use Rattle.det_values.specs.declared.out_of_memory.OutOfMemory.{OutOfMemory}
 use Rattle.record_codec.specs.declared.room.RunRoom.{RunRoom}
 
--- the input of a Run frame is there, or the frame is none
+-- the input of a Run frame is there, or the frame is of another kind
 abbrev pub InputFilled : Result Bool OutOfMemory → Frame → CycleInput → Type 0
 InputFilled (Ok true) (Run run) input = input ≡ run.input
 InputFilled (Ok true) frame input = ⊥
@@ -18,7 +18,7 @@ InputFilled (Err e) frame input = Unit {0}
 abbrev pub run_in : RunRoom → RunFrame
 run_in room = room.run
 
--- the run of a Run frame is there, or the frame is none
+-- the run of a Run frame is there, or the frame is of another kind
 abbrev pub RunFilled : Result Bool OutOfMemory → Frame → RunRoom → Type 0
 RunFilled (Ok true) (Run run) room = run_in room ≡ run
 RunFilled (Ok true) frame room = ⊥

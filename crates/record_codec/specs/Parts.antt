@@ -1,4 +1,4 @@
--- The parts of an item that a view is of, as its owned value is made of them.
+-- The parts of an item, as its owned value has them.
 use Rattle.std.specs.Prelude.{ℕ, ◌≤◌, List}
 use Rattle.det_values.specs.declared.frames.DrawnElement.{DrawnElement}
 use Rattle.det_values.specs.declared.frames.RunFrame.{RunFrame}

@@ -1,4 +1,4 @@
--- What a format says of one event's policy.
+-- The policies that a format knows.
 use Rattle.std.specs.Prelude.{◌≡◌}
 use Rattle.det_values.specs.declared.format.Format.{Format}
 use Rattle.det_values.specs.declared.format.Format.TheVariants.{One, Two}

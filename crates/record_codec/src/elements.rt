@@ -1,4 +1,4 @@
-//! The elements of frames, made of their views.
+//! Lists of elements, decoded from views.
 ghost use Rattle.std.specs.Prelude.{◌≡◌, ℕ, ◌+◌, ◌-◌, ◌≤◌, ◌++◌, length, take, drop, map};
 ghost use Rattle.std.specs.Prelude.{IfOk, OnOk};
 ghost use Rattle.det_values.specs.declared.frames.Outcome.{Outcome};
@@ -10,7 +10,7 @@ use det_values::{Bytes64, DrawnElements, Elements, Format, Limited, OutOfMemory}
 use record_view::{ElementWalk, elements_in};
 use std::alloc::Global;
 
-/// The bytes of elements, one by one.
+/// The bytes of the elements that a walk gives.
 pub fn elements_of(alloc: Global, walk: ElementWalk<'_>) -> Result<Elements, OutOfMemory>
     requires { length walk ≤ 65536 }
     ensures { IfOk result (λ made. made ≡ map bytes_of walk.entry) }
@@ -25,8 +25,8 @@ pub fn elements_of(alloc: Global, walk: ElementWalk<'_>) -> Result<Elements, Out
     }
 }
 
-/// Makes elements those of a finished cycle, in the memory that they have. Where they stand spelled
-/// they are copied at once.
+/// Replaces `elements` by those of a finished cycle, and reuses their memory. In format 2 they are
+/// copied as one block, since a container holds elements as they are spelled there.
 pub fn fill_elements(
     elements: &mut DrawnElements,
     format: Format,
@@ -49,7 +49,7 @@ pub fn fill_elements(
     }
 }
 
-/// The bytes from one place up to another.
+/// The bytes from offset `from` up to offset `to`.
 fn span_of(bytes: &[u8], from: usize, to: usize) -> &[u8]
     requires order { from ≤ to }
     requires within { to ≤ length bytes.now }
@@ -59,7 +59,7 @@ fn span_of(bytes: &[u8], from: usize, to: usize) -> &[u8]
     &rest[..to - from]
 }
 
-/// Adds elements, one by one.
+/// Appends the elements that a walk gives, one by one.
 fn push_all(elements: &mut DrawnElements, walk: ElementWalk<'_>) -> Result<(), OutOfMemory>
     requires { length elements.old + length walk ≤ 65536 }
     ensures { OnOk result (elements.new ≡ elements.old ++ walk.entry) }

@@ -1,4 +1,4 @@
-//! Writing a record.
+//! Encoders: they append the spelling of a header, of a frame or of a part of one.
 ghost use Rattle.std.specs.Prelude.{◌≡◌, ◌≤◌, ◌<◌, ℕ, List, ◌++◌, length, take, drop};
 ghost use Rattle.std.specs.Prelude.{OnOk, OnErr, IfOk};
 ghost use Rattle.std.specs.List.{flat_map, All};
@@ -14,8 +14,8 @@ use crate::put_frame::{put_frame, put_init_head, put_output, put_run_head};
 use crate::put_header::put_header;
 use det_values::{CycleInput, Format, Frame, OutOfMemory, Profile};
 
-/// Appends the one spelling of a header, in the profile's own format. A refused call leaves `out`
-/// as it was.
+/// Appends the spelling of a header, in the profile's own format. On `OutOfMemory`, `out` is as
+/// before.
 pub fn encode_header(profile: &Profile, out: &mut Vec<u8>) -> Result<(), OutOfMemory>
     ensures ok { OnOk result (out.new.items ≡ out.old.items ++ spelled_header profile.now) }
     ensures fields { OnOk result (IsHeader profile.now) }
@@ -31,8 +31,8 @@ pub fn encode_header(profile: &Profile, out: &mut Vec<u8>) -> Result<(), OutOfMe
     }
 }
 
-/// Appends the one spelling of a frame of a run with so many events. A refused call leaves `out` as
-/// it was.
+/// Appends the spelling of a frame of a run with this number of events. On `OutOfMemory`, `out` is
+/// as before.
 pub fn encode_frame(
     format: Format,
     events: u16,
@@ -54,8 +54,8 @@ pub fn encode_frame(
     }
 }
 
-/// Appends what comes before the elements of Init, which are so many. A refused call may leave some
-/// of it.
+/// Appends what comes before the elements of an Init frame with `count` elements. On `OutOfMemory`,
+/// `out` may have a part of it.
 #[tactic(auto, unfolding(record_grammar::specs::Spelling::spelled_frame))]
 pub fn encode_init_head(count: u32, out: &mut Vec<u8>) -> Result<(), OutOfMemory>
     ensures { OnOk result ((format : AnyFormat) (elements : List (List ℕ))
@@ -66,8 +66,9 @@ pub fn encode_init_head(count: u32, out: &mut Vec<u8>) -> Result<(), OutOfMemory
     Ok(())
 }
 
-/// Appends what stands around the elements of a finished Run in format Two, which are so many, and
-/// answers the place of the elements. A refused call may leave some of it.
+/// Appends what comes before and after the elements of a finished Run frame in format 2 with
+/// `count` elements. Returns the offset in `out` at which the elements belong. On `OutOfMemory`,
+/// `out` may have a part of it.
 pub fn encode_run_ends(
     events: u16,
     input: &CycleInput,

@@ -1,4 +1,5 @@
-//! Headers, read from their beginning.
+//! Decodes a header into a profile. A view keeps only a header's layout, so every field is read and
+//! checked here once more.
 ghost use Rattle.std.specs.Prelude.{◌≡◌, ◌≤◌, length, IfOk};
 ghost use Rattle.record_grammar.specs.Read.{many};
 ghost use Rattle.record_grammar.specs.Grammar.{signed_at, name_byte_at, name_at, policy_of};
@@ -45,7 +46,7 @@ fn params(alloc: Global, bytes: &[u8]) -> Result<(Params, &[u8]), HeaderStop>
     all_params(alloc, count, rest)
 }
 
-/// A name of so many bytes, each of which is judged before the next.
+/// A name of `len` bytes. Each byte is checked before the next one is read.
 fn name_of(len: u8, bytes: &[u8]) -> Result<(EventName, &[u8]), HeaderStop>
     requires some { 1 ≤ len }
     requires most { len ≤ 32 }
@@ -141,6 +142,7 @@ fn events(alloc: Global, format: Format, bytes: &[u8]) -> Result<(Events, &[u8])
     all_events(alloc, format, count, rest)
 }
 
+/// The profile of the header at the front of some bytes, and the rest.
 #[tactic(auto, unfolding(record_grammar::specs::Grammar::profile_at))]
 pub fn profile(alloc: Global, bytes: &[u8]) -> Result<(Profile, &[u8]), HeaderStop>
     ensures { Gives (λ x. (x.0, x.1.now)) result (profile_at bytes.now) }

@@ -1,4 +1,4 @@
-//! Why no header is made of bytes.
+//! The reason why bytes give no header.
 ghost use Rattle.std.specs.Prelude.{◌≡◌};
 ghost use Rattle.record_codec.specs.declared.header_stop.HeaderStop.TheVariants.{Memory, Bytes};
 
@@ -9,7 +9,7 @@ use std::alloc::{AllocError, AllocFailed};
 #[derive(Clone, Copy, Debug, PartialEq, Eq, Drop)]
 pub enum HeaderStop {
     Memory,
-    /// The bytes give none.
+    /// The bytes don't begin with a whole header.
     Bytes(Stop),
 }
 

@@ -1,4 +1,4 @@
-//! Headers and frames, made of their views as values of their own.
+//! Owned values of headers and frames, decoded from views.
 ghost use Rattle.std.specs.Prelude.{◌≡◌, ℕ, List, IfOk};
 ghost use Rattle.det_values.specs.Values.{ProfileValue};
 ghost use Rattle.det_values.specs.declared.frames.Frame.{Frame as FrameValue};
@@ -15,7 +15,7 @@ use det_values::{Frame, OutOfMemory, Profile};
 use record_view::{FrameKind, FrameView, ItemView, events_at, init_elements_in};
 use std::alloc::Global;
 
-/// The profile of a header, by the header's view and its bytes.
+/// The profile of a header, from the header's view and its bytes.
 pub fn profile_of(alloc: Global, view: ItemView, bytes: &[u8]) -> Result<Profile, OutOfMemory>
     requires { (p : ProfileValue) × IsSpelling view (items.Header p) bytes.now }
     ensures { IfOk result (λ made. (p : ProfileValue)
@@ -36,8 +36,8 @@ fn header_of(alloc: Global, bytes: &[u8]) -> Result<Profile, OutOfMemory>
     }
 }
 
-/// The frame of a view, as a value of its own. Its elements are copied at once where they stand
-/// spelled.
+/// The frame of a view, as an owned value. The elements of a finished cycle in format 2 are copied
+/// as one block.
 pub fn frame_of(alloc: Global, view: FrameView, bytes: &[u8]) -> Result<Frame, OutOfMemory>
     requires { (frame : FrameValue) × IsFrameSpelling view frame bytes.now }
     ensures { IfOk result (λ made. (frame : FrameValue) → IsFrameSpelling view frame bytes.now

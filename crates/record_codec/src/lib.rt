@@ -1,4 +1,5 @@
-//! Records as bytes: written frame by frame, and the items of views as values of their own.
+//! Encoders of headers and frames, and values made of views. Views themselves are in record_view,
+//! which takes no memory.
 #![tactic(auto)]
 
 mod elements;

@@ -1,4 +1,4 @@
-//! Numbers and elements, appended.
+//! Numbers and elements, appended to a record.
 ghost use Rattle.std.specs.Prelude.{◌≡◌, ◌++◌, ◌∷◌, [], OnOk, FitsSigned};
 ghost use Rattle.std.specs.Int.{w64};
 ghost use Rattle.record_grammar.specs.Spelling.{spelled_u64, spelled_signed, spelled_element};
@@ -36,7 +36,7 @@ pub fn put_u8(out: &mut Vec<u8>, n: u8) -> Result<(), AllocError>
     Ok(())
 }
 
-/// An element, its length before it.
+/// An element: its length in two bytes, and then its bytes.
 pub fn put_element(out: &mut Vec<u8>, element: &Bytes64) -> Result<(), AllocError>
     ensures ok { OnOk result (out.new.items ≡ out.old.items ++ spelled_element element.now) }
     ensures grows { Grows out.old.items out.new.items }

@@ -1,4 +1,4 @@
-//! Frames, appended.
+//! Frames and their parts, appended to a record.
 ghost use Rattle.std.specs.Prelude.{◌≡◌, ◌<◌, ◌≤◌, ◌++◌, ◌∷◌, length, OnOk};
 ghost use Rattle.std.specs.List.{flat_map, All};
 ghost use Rattle.record_grammar.specs.Spelling.{spelled_element, IsElement, spelled_drawn, MayDraw};
@@ -52,7 +52,7 @@ fn put_undrawn(out: &mut Vec<u8>, elements: &DrawnElements) -> Result<(), AllocE
     Ok(())
 }
 
-/// The blocks of elements, each by one copy.
+/// Blocks of elements, each appended by one copy.
 fn put_blocks(out: &mut Vec<u8>, blocks: &[DrawnBlock]) -> Result<(), AllocError>
     ensures ok { OnOk result (out.new.items ≡ out.old.items ++ spelled_all (joined blocks.now)) }
     ensures grows { Grows out.old.items out.new.items }
@@ -162,7 +162,7 @@ fn put_refusal(out: &mut Vec<u8>, refused: &RefusedAt) -> Result<(), AllocError>
     Ok(())
 }
 
-/// What comes behind the elements of a finished Run.
+/// What comes after the elements of a finished Run frame: the output's length and the output.
 pub fn put_output(out: &mut Vec<u8>, output: &[u8]) -> Result<(), AllocError>
     requires { length output.now ≤ 1048576 }
     ensures ok { OnOk result (out.new.items
@@ -214,7 +214,7 @@ fn put_outcome(out: &mut Vec<u8>, format: Format, outcome: &Outcome) -> Result<(
     Ok(())
 }
 
-/// What comes before the elements of Init.
+/// What comes before the elements of an Init frame.
 pub fn put_init_head(out: &mut Vec<u8>, count: u32) -> Result<(), AllocError>
     ensures ok { OnOk result (out.new.items ≡ out.old.items ++ 3 ∷ spelled_u32 count) }
     ensures grows { Grows out.old.items out.new.items }
@@ -223,7 +223,7 @@ pub fn put_init_head(out: &mut Vec<u8>, count: u32) -> Result<(), AllocError>
     put_u32(out, count)
 }
 
-/// What comes before the elements of a finished Run, which are so many.
+/// What comes before the elements of a finished Run frame with `count` elements.
 pub fn put_run_head(
     out: &mut Vec<u8>,
     events: u16,
@@ -240,6 +240,7 @@ pub fn put_run_head(
     put_u32(out, count)
 }
 
+/// The spelling of a frame. On an error a part of it may be there.
 #[tactic(auto, unfolding(record_grammar::specs::Spelling::spelled_frame, record_grammar::specs::Spelling::IsFrame))]
 pub fn put_frame(
     out: &mut Vec<u8>,

@@ -1,4 +1,4 @@
-//! Headers, appended.
+//! Headers and their parts, appended to a record.
 ghost use Rattle.std.specs.Prelude.{◌≡◌, ◌≤◌, ◌<◌, ◌^◌, ◌++◌, length, OnOk, FitsSigned, ℤ};
 ghost use Rattle.std.specs.Int.{w64};
 ghost use Rattle.std.specs.List.{flat_map, All};
@@ -120,6 +120,7 @@ fn put_numbers(out: &mut Vec<u8>, profile: &Profile) -> Result<(), AllocError>
     Ok(())
 }
 
+/// The spelling of a header. On an error a part of it may be there.
 #[tactic(auto, unfolding(record_grammar::specs::Spelling::spelled_header))]
 pub fn put_header(out: &mut Vec<u8>, profile: &Profile) -> Result<(), AllocError>
     ensures ok { OnOk result (out.new.items ≡ out.old.items ++ spelled_header profile.now) }

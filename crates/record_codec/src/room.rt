@@ -1,4 +1,4 @@
-//! Parts of frames, made of their views in memory that is used again.
+//! Inputs and runs decoded from views into memory that is reused from frame to frame.
 ghost use Rattle.std.specs.Prelude.{◌≡◌, ℕ, OnOk};
 ghost use Rattle.det_values.specs.declared.frames.Frame.{Frame};
 ghost use Rattle.det_values.specs.declared.frames.RunFrame.{RunFrame as RunValue};
@@ -13,8 +13,8 @@ use record_view::{FrameKind, FrameView, InputView, OutcomeView, events_at};
 use std::alloc::Global;
 use std::mem::swap;
 
-/// Makes an input that of a Run frame, in the memory that it has, and returns whether the frame is
-/// one. After want of memory a part of the samples may be there.
+/// Replaces `input` by that of a Run frame, and reuses its memory. Returns false for a frame of
+/// another kind. After `OutOfMemory` a part of the samples may be there.
 pub fn fill_input(
     input: &mut CycleInput,
     view: FrameView,
@@ -33,19 +33,19 @@ pub fn fill_input(
     }
 }
 
-/// A run that is made of the views of Run frames, one after another, in the same memory.
+/// Holds the run of one Run frame after another, in the same memory.
 #[derive(Drop)]
 pub struct RunRoom {
     alloc: Global,
     run: RunFrame,
-    /// An outcome of the other kind, finished or refused, for the memory that it may have.
+    /// An outcome of the other kind, finished or refused, which keeps its memory for the next one.
     spare: Outcome,
 }
 
 impl RunRoom {
     ghost use Rattle.record_codec.specs.Filled.{run_in};
 
-    /// It takes no memory yet.
+    /// An empty run. It takes no memory yet.
     pub fn new(alloc: Global) -> RunRoom {
         RunRoom {
             alloc,
@@ -54,8 +54,8 @@ impl RunRoom {
         }
     }
 
-    /// Makes the run that of a Run frame, and returns whether the frame is one. After want of
-    /// memory the run is none.
+    /// Replaces the run by that of a Run frame. Returns false for a frame of another kind. After
+    /// `OutOfMemory` the run is that of no frame.
     pub fn fill(&mut self, view: FrameView, bytes: &[u8]) -> Result<bool, OutOfMemory>
         requires { (frame : Frame) × IsFrameSpelling view frame bytes.now }
         ensures { (frame : Frame) → IsFrameSpelling view frame bytes.now
@@ -72,7 +72,7 @@ impl RunRoom {
         }
     }
 
-    /// Takes the spare outcome where the next one is of its kind.
+    /// Swaps in the spare outcome if the next one is of its kind.
     fn prepare(&mut self, next: OutcomeView) {
         let is_refused = matches!(next, OutcomeView::Refused { .. });
         let was_refused = matches!(self.run.outcome, Outcome::Refused(_));
@@ -98,7 +98,7 @@ impl RunRoom {
         run::fill_outcome(self.alloc, &mut self.run.outcome, place, outcome, bytes)
     }
 
-    /// The run of the frame that it was filled with last.
+    /// The run that was decoded last.
     pub fn run(&self) -> &RunFrame
         ensures { result.now ≡ run_in self.now }
     {

@@ -1,4 +1,4 @@
-//! Run frames, made of their views.
+//! Run frames and their parts, decoded from views.
 ghost use Rattle.std.specs.Prelude.{◌≡◌, ℕ, ◌≤◌, length, IfOk, OnOk};
 ghost use Rattle.det_values.specs.declared.frames.CycleInput.{CycleInput as Input};
 ghost use Rattle.det_values.specs.declared.frames.Outcome.{Outcome as OutcomeValue};
@@ -30,6 +30,7 @@ pub fn empty_run(alloc: Global) -> RunFrame {
     }
 }
 
+/// A finished outcome without elements and output. It takes no memory.
 pub fn empty_outcome(alloc: Global) -> Outcome {
     Outcome::Finished {
         elements: DrawnElements::new(alloc),
@@ -37,7 +38,7 @@ pub fn empty_outcome(alloc: Global) -> Outcome {
     }
 }
 
-/// A cycle's run.
+/// The run of a Run frame, as an owned value.
 pub fn run_of(
     alloc: Global,
     place: Place,
@@ -57,7 +58,7 @@ pub fn run_of(
     Ok(run)
 }
 
-/// Makes an input that of a view, in the memory that it has.
+/// Replaces `input` by that of a view, and reuses its memory.
 pub fn fill_input(
     input: &mut CycleInput,
     place: Place,
@@ -75,7 +76,7 @@ pub fn fill_input(
     )
 }
 
-/// Makes samples those of a walk, one by one.
+/// Replaces `samples` by those of a walk, one by one.
 fn fill_samples(samples: &mut Samples, walk: SampleWalk<'_>) -> Result<(), OutOfMemory>
     requires { length walk ≤ 4096 }
     ensures { OnOk result (samples.new ≡ walk.entry) }
@@ -90,7 +91,7 @@ fn fill_samples(samples: &mut Samples, walk: SampleWalk<'_>) -> Result<(), OutOf
     }
 }
 
-/// Makes an outcome that of a view. A finished one takes the memory of a finished one.
+/// Replaces `outcome` by that of a view. Memory is reused if both are of a finished cycle.
 pub fn fill_outcome(
     alloc: Global,
     outcome: &mut Outcome,
@@ -125,7 +126,7 @@ pub fn fill_outcome(
     }
 }
 
-/// A finished cycle's parts, and the format in which its elements are spelled.
+/// The parts of a finished cycle, and the format of its elements.
 #[derive(Clone, Copy, Drop)]
 struct FinishedView {
     format: Format,
@@ -134,7 +135,7 @@ struct FinishedView {
     output_at: usize,
 }
 
-/// Makes an outcome that of a finished cycle.
+/// Replaces `outcome` by that of a finished cycle.
 fn fill_finished(
     alloc: Global,
     outcome: &mut Outcome,
@@ -158,7 +159,7 @@ fn fill_finished(
     }
 }
 
-/// The outcome of a finished cycle.
+/// The outcome of a finished cycle, as an owned value.
 fn finished_of(alloc: Global, view: FinishedView, bytes: &[u8]) -> Result<Outcome, OutOfMemory>
     requires shows { (len : ℕ) × (shown : OutcomeValue)
         × ShowsFinished view.format view.elements view.elements_at view.output_at len bytes.now
@@ -174,7 +175,7 @@ fn finished_of(alloc: Global, view: FinishedView, bytes: &[u8]) -> Result<Outcom
     Ok(Outcome::Finished { elements, output })
 }
 
-/// Makes elements and output those of a finished cycle.
+/// Replaces the elements and the output by those of a finished cycle.
 fn fill_both(
     elements: &mut DrawnElements,
     output: &mut Bytes,
@@ -199,7 +200,7 @@ fn fill_both(
     fill_output(output, output_at, bytes)
 }
 
-/// Makes an output that of a view.
+/// Replaces `output` by that of a finished cycle.
 fn fill_output(output: &mut Bytes, output_at: usize, bytes: &[u8]) -> Result<(), OutOfMemory>
     requires { (format : Format) × (count at len : ℕ) × (outcome : OutcomeValue)
         × ShowsFinished format count at output_at len bytes.now outcome }

@@ -56,7 +56,7 @@ exactly_takes : (bytes : List ℕ) (x : ℕ × List ℕ) → exactly_at Magic 68
 exactly_takes [] x e = absurd cc
 exactly_takes (b ∷ bytes) x e = taken (eqb b 68) 68 bytes (suc (length bytes)) x e
 
--- what stands behind the first byte
+-- what comes after the first byte
 abbrev behind_first : ℕ → List ℕ → Read ℕ
 behind_first d bytes =
     exactly_at Magic 69 bytes >>= λ e. exactly_at Magic 84 e.1 >>= λ t. exactly_at Magic 82 t.1 >>= λ r. exactly_at Magic 69 r.1 >>= λ f.
@@ -283,7 +283,7 @@ framed_only place bytes y e =
     let p : (items.Frame b.0.0, b.0.1) ≡ y = got_is (items.Frame b.0.0, b.0.1) y b.2 in
     subst (λ (x : Item × List ℕ). CanFollow place x.0) p (frame_only place bytes b.0 b.1)
 
--- an item that was read is of the kind that may stand in its place
+-- an item that was read is of the kind that may come in its place
 pub can_follow : (place : Place) (bytes : List ℕ) (item : Item) (mid : List ℕ) → item_at place bytes ≡ Got (item, mid)
     → CanFollow place item
 unfolding item_at

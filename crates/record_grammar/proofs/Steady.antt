@@ -1,4 +1,4 @@
--- What a reader answers stays when more bytes come.
+-- The result of a reader stays when more bytes come.
 use Rattle.std.proofs.Common.{◌≡◌, ℕ, zero, suc, ◌+◌, ◌-◌, ◌*◌, ◌<◌, ◌≤◌, Bool, true, false, cond, ltb, List, [], ◌∷◌, ◌++◌, length, take}
 use Rattle.std.proofs.Common.{drop, refl, sym, ap, subst, ◌∙◌, arith, rules, inl, inr, ◌⊎◌, length-append, length-drop}
 use Rattle.std.proofs.lemmas.Bool.{cases_lt, le-ltb}
@@ -27,7 +27,7 @@ bind_bad (Got x) f reason left e = inr (x, refl, e)
 bind_bad More f reason left e = absurd cc
 bind_bad (Bad why other) f reason left e = inl cc
 
--- Of the bytes that the reader is given, the faulty one is among the last `left`, up to `before` bytes ahead of them.
+-- The faulty byte is among the last `left` bytes of the reader, up to `before` bytes ahead of them.
 pub record IsSteady {A : Type 0} (before : ℕ) (read : List ℕ → Read A) : Type 0 where
   pub got : (bytes tail : List ℕ) (x : A × List ℕ) → read bytes ≡ Got x → read (bytes ++ tail) ≡ Got (x.0, x.1 ++ tail)
   pub bad : (bytes tail : List ℕ) (reason : Reason) (left : ℕ) → read bytes ≡ Bad reason left → read (bytes ++ tail)

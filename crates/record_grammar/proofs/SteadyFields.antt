@@ -151,7 +151,7 @@ events_steady format =
     steady_then 0 (number 2 0 256) (λ count bytes. many (event_at format) count bytes) (number_steady 2 0 256) (λ count.
     steady_many (event_at format) (event_steady format) count)
 
--- what stands behind the magic
+-- what comes after the magic
 abbrev pub behind_magic : ℕ → List ℕ → Read ProfileValue
 behind_magic magic bytes =
     version_at bytes >>= λ format. number 2 0 65535 format.1 >>= λ job. number 8 0 18446744073709551615 job.1 >>= λ seed.
@@ -338,7 +338,7 @@ steady_more =
       within = λ bytes reason left e. absurd cc;
     }
 
--- one frame alone may stand in a place
+-- only one frame may come in a place
 pub only_steady : {A : Type 0} (a : A) (b tag : ℕ)
     → IsSteady 1 (λ bytes. cond (eqb b tag) (Got (a, bytes)) (Bad (tag_reason b) (suc (length bytes))))
 only_steady a b tag =

@@ -39,7 +39,7 @@ sample_value_at bytes = do
   n ← number_from (Around 1000000000000) 8 0 bytes
   Got (cast_signed w64 n.0, n.1)
 
--- a length of so many bytes, at most so great, and that many bytes
+-- a length of `width` bytes, at most `most`, and then that many bytes
 unfoldable pub string_at : ℕ → ℕ → List ℕ → Read (List ℕ)
 string_at width most bytes = do
   n ← number width 0 most bytes
@@ -47,7 +47,7 @@ string_at width most bytes = do
 
 -- ---- the header
 
--- a byte that has to be this one
+-- a byte that must be the expected one
 abbrev pub exactly_at : Reason → ℕ → List ℕ → Read ℕ
 exactly_at reason expected [] = More
 exactly_at reason expected (b ∷ bytes) =
@@ -155,14 +155,14 @@ time_at bytes = do
   if flag.0 == 0 then Got (None, flag.1)
       else (number 8 0 18446744073709551615 flag.1 >>= λ t. Got (Some t.0, t.1))
 
--- a sample of one of so many events
+-- a sample of an event below `events`
 unfoldable pub sample_at : ℕ → List ℕ → Read SampleValue
 sample_at events bytes = do
   event ← number 2 0 (events - 1) bytes
   value ← sample_value_at event.1
   Got (record { event = event.0; value = value.0 }, value.1)
 
--- how many samples a cycle may bring, of so many events
+-- the greatest number of samples of a cycle, by the number of events
 abbrev pub most_samples : ℕ → ℕ
 most_samples events = if events == 0 then 0 else 4096
 
@@ -180,7 +180,7 @@ input_at events bytes = do
 abbrev pub phase_of : ℕ → Phase
 phase_of n = if n == 0 then phases.Prepare else if n == 1 then phases.Pool else phases.Conclude
 
--- the greatest pass, and the greatest element, at which a phase refuses
+-- the greatest pass and the greatest element at which a phase refuses
 abbrev pub most_pass : Phase → ℕ
 most_pass phases.Prepare = 0
 most_pass phases.Pool = 7
@@ -209,14 +209,14 @@ refusal_at bytes = do
 
 -- ---- the frames
 
--- what comes after the tag and the count of an Init frame, where these elements of it were read and
--- so many are left
+-- the rest of an Init frame after its tag and count, where `done` was read and `left` elements are
+-- left
 unfoldable pub init_from : List (List ℕ) → ℕ → List ℕ → Read Frame
 init_from done left bytes = do
   elements ← with_front done (many element_at left bytes)
   Got (frames.Init elements.0, elements.1)
 
--- the same of a finished run
+-- the same for a finished run
 unfoldable pub finished_from : Format → CycleInput → List DrawnElement → ℕ → List ℕ → Read Frame
 finished_from format input done left bytes = do
   elements ← with_front done (many (drawn_at format) left bytes)
@@ -244,11 +244,11 @@ run_at layout bytes = do
   flag ← number 1 0 1 input.1
   if flag.0 == 0 then finished_at layout.format input.0 flag.1 else refused_at input.0 flag.1
 
--- what a tag is refused for that may not stand in its place
+-- why a tag is refused that may not come in its place
 abbrev pub tag_reason : ℕ → Reason
 tag_reason b = if nat_le 1 b && nat_le b 5 then Order else Range
 
--- the frame with this tag that may stand in a place
+-- the frame with this tag, where it may come in the place
 unfoldable pub tagged_at : Place → ℕ → List ℕ → Read Frame
 tagged_at places.Header b bytes = More
 tagged_at (places.Register layout) b bytes =
@@ -263,12 +263,12 @@ tagged_at (places.Runs layout before) b bytes =
     else if b == 5 then Got (frames.Terminate, bytes) else Bad (tag_reason b) (length (b ∷ bytes))
 tagged_at places.End b bytes = Bad Trailing (length (b ∷ bytes))
 
--- the frame that may stand in a place
+-- the frame that may come in a place
 unfoldable pub frame_at : Place → List ℕ → Read Frame
 frame_at place [] = More
 frame_at place (b ∷ bytes) = tagged_at place b bytes
 
--- the item that may stand in a place
+-- the item that may come in a place
 unfoldable pub item_at : Place → List ℕ → Read Item
 item_at places.Header bytes = do
   p ← profile_at bytes

@@ -1,5 +1,5 @@
 -- What decoding means, in terms of whole records: items in their places, first faults and longest
--- beginnings.
+-- prefixes of items.
 use Rattle.std.specs.Prelude.{◌≡◌, ℕ, ◌<◌, ◌≤◌, ◌==◌, ◌↔◌, if◌then◌else◌, List, [], ◌∷◌, ◌++◌}
 use Rattle.std.specs.Prelude.{length, map, Some, None}
 use Rattle.det_values.specs.declared.frames.Frame.{Frame}
@@ -26,7 +26,7 @@ abbrev pub item_spelling : Place → Item → List ℕ
 item_spelling place (items.Header p) = spelled_header p
 item_spelling place (items.Frame f) = spelled_frame (format_of place) f
 
--- the item may stand in the place, and each of its fields is in its range
+-- the item may come in the place, and each of its fields is in its range
 abbrev pub MayStand : Place → Item → Type 0
 MayStand places.Header (items.Header p) = IsHeader p
 MayStand (places.Register layout) (items.Frame Register) = Unit {0}
@@ -38,7 +38,7 @@ MayStand (places.Runs layout before) (items.Frame (Run r)) =
 MayStand (places.Runs layout before) (items.Frame Terminate) = Unit {0}
 MayStand place item = ⊥
 
--- these items stand in order from one place to another
+-- these items come in order, from one place to another
 abbrev pub AreItems : Place → List Item → Place → Type 0
 AreItems place [] to = place ≡ to
 AreItems place (x ∷ xs) to = MayStand place x × AreItems (after place x) xs to
@@ -51,7 +51,7 @@ items_spelling place (x ∷ xs) = item_spelling place x ++ items_spelling (after
 abbrev pub items_of : ProfileValue → List Frame → List Item
 items_of profile frames = items.Header profile ∷ map items.Frame frames
 
--- the order by places is that of a run: its frames, or its first frames
+-- the order by places is that of a run: all its frames, or its first frames
 pub record IsInOrder (profile : ProfileValue) (frames : List Frame) (bytes : List ℕ) : Type 0 where
   pub begun : Spells profile frames bytes
       ↔ ((to : Place) × AreItems places.Header (items_of profile frames) to
@@ -62,7 +62,7 @@ pub record IsInOrder (profile : ProfileValue) (frames : List Frame) (bytes : Lis
 
 -- ---- one spelling
 
--- two items that may stand in a place, and whatever bytes follow them
+-- of two items that may come in a place, whatever bytes follow them
 abbrev pub HaveOneSpelling : Place → Item → Item → List ℕ → List ℕ → Type 0
 HaveOneSpelling place a b x y =
     MayStand place a → MayStand place b → item_spelling place a ++ x ≡ item_spelling place b ++ y
@@ -70,7 +70,7 @@ HaveOneSpelling place a b x y =
 
 -- ---- whole records
 
--- a whole record, and the beginning of one
+-- a whole record, and a prefix of one
 abbrev pub IsWhole : List ℕ → Type 0
 IsWhole bytes =
     (xs : List Item) × AreItems places.Header xs places.End
@@ -81,14 +81,14 @@ Begins bytes = (tail : List ℕ) × IsWhole (bytes ++ tail)
 
 -- ---- why a byte is refused, by its place
 
--- in the place of a tag
+-- at a tag
 abbrev pub tag_reason_at : Place → ℕ → Reason
 tag_reason_at places.End b = Trailing
 tag_reason_at (places.Runs layout before) b = if b == 4 then TooMany else tag_reason b
 tag_reason_at place b = tag_reason b
 
--- six bytes of magic and two of version; behind them a tag's place is where the bytes before it are
--- whole items
+-- Six bytes of magic and two of version. After them, a tag comes where the bytes before it are
+-- whole items.
 pub record IsReason (before : List ℕ) (byte : ℕ) (reason : Reason) : Type 0 where
   pub magic : length before < 6 → reason ≡ Magic
   pub version : 6 ≤ length before → length before < 8 → reason ≡ Version
@@ -98,7 +98,7 @@ pub record IsReason (before : List ℕ) (byte : ℕ) (reason : Reason) : Type 0 
       → ((xs : List Item) (to : Place) → AreItems places.Header xs to → before
       ≡ items_spelling places.Header xs → ⊥) → reason ≡ Range
 
--- the first byte with which the bytes before it begin no whole record
+-- the first byte such that no whole record begins with the bytes up to it
 pub record IsFirstFault (bytes : List ℕ) (offset : ℕ) (reason : Reason) : Type 0 where
   pub before : List ℕ
   pub byte : ℕ
@@ -109,7 +109,7 @@ pub record IsFirstFault (bytes : List ℕ) (offset : ℕ) (reason : Reason) : Ty
   pub ends : Begins (before ++ byte ∷ []) → ⊥
   pub why : IsReason before byte reason
 
--- the items' spelling is a prefix of the bytes, and no longer list of items has that
+-- the bytes begin with the spelling of these items, and with that of no longer list of items
 pub record AreLongest (bytes : List ℕ) (xs : List Item) : Type 0 where
   pub to : Place
   pub rest : List ℕ
@@ -118,13 +118,13 @@ pub record AreLongest (bytes : List ℕ) (xs : List Item) : Type 0 where
   pub longest : (ys : List Item) (end : Place) (others : List ℕ) → AreItems places.Header ys end
       → bytes ≡ items_spelling places.Header ys ++ others → length ys ≤ length xs
 
--- the definitions that compute say the same as the relations
+-- the definitions that compute agree with the relations
 pub record IsDecoded (bytes : List ℕ) : Type 0 where
   pub items : AreLongest bytes (items_in bytes)
-  -- no fault so far: some whole record begins so
+  -- without a fault so far, some whole record begins with the bytes
   pub sound : fault_so_far bytes ≡ None → Begins bytes
-  -- a fault: no whole record begins with the bytes up to and with this one
+  -- with a fault, no whole record begins with the bytes up to this one, itself included
   pub first : (f : RecordFault) → fault_so_far bytes ≡ Some f → IsFirstFault bytes f.offset f.reason
-  -- no fault at the end: the bytes are a whole record, and the other way round
+  -- without a fault at the end, the bytes are a whole record, and conversely
   pub whole : fault bytes ≡ None → IsWhole bytes
   pub no_fault : IsWhole bytes → fault bytes ≡ None

@@ -1,4 +1,4 @@
--- Reading item after item.
+-- Reading one item after another.
 use Rattle.std.specs.Prelude.{◌≡◌, ℕ, List, [], ◌∷◌}
 use Rattle.record_grammar.specs.declared.place.Place.{Place}
 use Rattle.record_grammar.specs.declared.item.Item.{Item}

@@ -1,4 +1,4 @@
--- Which place an item leads to.
+-- The place to which an item leads.
 use Rattle.std.specs.Prelude.{ℕ, ◌+◌, ◌-◌, ◌<◌, suc, length}
 use Rattle.det_values.specs.declared.format.Format.{Format}
 use Rattle.det_values.specs.declared.format.Format.TheVariants.{One}
@@ -11,7 +11,7 @@ use Rattle.record_grammar.specs.declared.place.Place.TheVariants as places
 use Rattle.record_grammar.specs.declared.item.Item.{Item}
 use Rattle.record_grammar.specs.declared.item.Item.TheVariants as items
 
--- what the frames after a header depend on
+-- the part of a profile that the frames depend on
 abbrev pub layout_of : ProfileValue → Layout
 layout_of p = record { format = p.format; events = length p.events }
 
@@ -34,7 +34,7 @@ format_of (places.Runs layout before) = layout.format
 format_of places.Header = One
 format_of places.End = One
 
--- an item of the kind that may stand in a place
+-- the item is of the kind that may come in a place
 abbrev pub CanFollow : Place → Item → Type 0
 CanFollow places.Header (items.Header p) = Unit {0}
 CanFollow (places.Register layout) (items.Frame Register) = Unit {0}
@@ -44,7 +44,7 @@ CanFollow (places.Runs layout before) (items.Frame (Run r)) = before < 1000000
 CanFollow (places.Runs layout before) (items.Frame Terminate) = Unit {0}
 CanFollow place item = ⊥
 
--- how many items may come from a place on
+-- the greatest number of items from a place on
 abbrev pub may_come : Place → ℕ
 may_come places.Header = 1000005
 may_come (places.Register layout) = 1000004

@@ -1,4 +1,4 @@
--- What reading from the front of some bytes comes to.
+-- The result of reading a value from the front of some bytes.
 use Rattle.std.specs.Prelude.{ℕ, zero, suc, List, [], ◌∷◌, ◌++◌, length, take, drop, nat_lt}
 use Rattle.std.specs.Prelude.{if◌then◌else◌}
 use Rattle.record_grammar.specs.declared.fault.Reason.{Reason}
@@ -6,13 +6,13 @@ use Rattle.record_grammar.specs.declared.fault.Reason.{Reason}
 pub data Read (A : Type 0) : Type 0 where
   -- a value, and the bytes after it
   Got : A × List ℕ → Read A
-  -- the bytes begin a value, and end too early
+  -- the bytes begin a value, but end too early
   More : Read A
-  -- no value begins with these bytes. The number counts the bytes from the first faulty one to the
-  -- end
+  -- No value begins with these bytes. The number counts the bytes from the first faulty one to the
+  -- end.
   Bad : Reason → ℕ → Read A
 
--- reading one thing after another
+-- reading one value after another
 infixl 10 ◌>>=◌
 abbrev pub ◌>>=◌ : {A B : Type 0} → Read A → (A × List ℕ → Read B) → Read B
 (Got x) >>= f = f x
@@ -23,7 +23,7 @@ More >>= f = More
 unfoldable pub raw_at : ℕ → List ℕ → Read (List ℕ)
 raw_at n bytes = if nat_lt (length bytes) n then More else Got (take n bytes, drop n bytes)
 
--- n values in a row
+-- n values, one after another
 unfoldable pub many : {A : Type 0} → (List ℕ → Read A) → ℕ → List ℕ → Read (List A)
 many item zero bytes = Got ([], bytes)
 many item (suc n) bytes = do

@@ -16,7 +16,7 @@ pub data Ending : Type 0 where
   whole : Ending
   -- before that
   early : Ending
-  -- at a byte that can't stand where it does, so many bytes before the end
+  -- at a byte that can't come there; the number counts the bytes from it to the end
   faulty : Reason → ℕ → Ending
 
 abbrev pub ending_at : Place → Ending
@@ -34,16 +34,16 @@ with_next place (Got x) next =
 with_next place More next = record { items = []; ending = ending_at place }
 with_next place (Bad reason left) next = record { items = []; ending = faulty reason left }
 
--- the items from a place on, at most so many
+-- the items from a place on, at most this number of them
 unfoldable pub decoded : ℕ → Place → List ℕ → Decoded
 decoded zero place bytes = record { items = []; ending = early }
 decoded (suc more) place bytes = with_next place (item_at place bytes) (decoded more)
 
--- each item has a byte of its own
+-- each item has at least one byte
 abbrev pub decoded_all : List ℕ → Decoded
 decoded_all bytes = decoded (suc (length bytes)) places.Header bytes
 
--- the header and the frames that stand whole at the front
+-- the header and the frames at the front that are whole
 abbrev pub items : List ℕ → List Item
 items bytes = (decoded_all bytes).items
 
@@ -52,7 +52,7 @@ fault_from len whole = None
 fault_from len early = Some (record { offset = len; reason = Truncated })
 fault_from len (faulty reason left) = Some (record { offset = len - left; reason = reason })
 
--- why these bytes are no whole record
+-- why these bytes are not a whole record
 abbrev pub fault : List ℕ → Option RecordFault
 fault bytes = fault_from (length bytes) (decoded_all bytes).ending
 
@@ -61,6 +61,6 @@ fault_so_far_from len whole = None
 fault_so_far_from len early = None
 fault_so_far_from len (faulty reason left) = Some (record { offset = len - left; reason = reason })
 
--- the fault, where its byte is among these bytes, whatever comes after them
+-- the fault, if its byte is among these bytes, so whatever comes after them
 abbrev pub fault_so_far : List ℕ → Option RecordFault
 fault_so_far bytes = fault_so_far_from (length bytes) (decoded_all bytes).ending

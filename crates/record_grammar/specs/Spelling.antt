@@ -1,5 +1,5 @@
--- How a record is spelled, and which values have a spelling. All numbers are big-endian, and
--- signed ones are in two's complement.
+-- How a record is spelled, and which values have a spelling. All numbers are big-endian; signed
+-- ones are in two's complement.
 use Rattle.std.specs.Prelude.{◌≡◌, ℕ, ◌^◌, ◌<◌, ◌≤◌, ℤ, List, [], ◌∷◌, ◌++◌, length, map, Option}
 use Rattle.std.specs.Prelude.{Some, None, codes, true, FitsSigned}
 use Rattle.std.specs.List.{flat_map, All}
@@ -25,7 +25,7 @@ unfoldable pub use Rattle.det_values.specs.Spelling.{spelled_u16, spelled_u32}
 use Rattle.det_values.specs.Limits.{IsSampleValue, IsCapacity, IsCycleTime, is_event_name, IsPlace}
 use Rattle.det_values.specs.Limits.{KnowsPolicies}
 
--- at most so many bytes
+-- at most `most` bytes
 abbrev pub IsString : ℕ → List ℕ → Type 0
 IsString most bytes = (length bytes ≤ most) × AreBytes bytes
 
@@ -116,7 +116,7 @@ IsTime (Some t) = t < 2 ^ 64
 abbrev pub spelled_sample : SampleValue → List ℕ
 spelled_sample s = spelled_u16 s.event ++ spelled_signed s.value
 
--- a sample of one of so many events
+-- a sample of an event below `events`
 abbrev pub IsSample : ℕ → SampleValue → Type 0
 IsSample events s = (s.event < events) × IsSampleValue s.value
 
@@ -162,7 +162,7 @@ spelled_frame format (Init elements) = 3 ∷ (spelled_u32 (length elements)
 spelled_frame format (Run r) = 4 ∷ (spelled_input r.input ++ spelled_outcome format r.outcome)
 spelled_frame format Terminate = 5 ∷ []
 
--- a frame whose fields are in their ranges, of a run with so many events
+-- a frame whose fields are in their ranges, in a run with this number of events
 unfoldable pub IsFrame : Format → ℕ → Frame → Type 0
 IsFrame format events Register = Unit {0}
 IsFrame format events Discover = Unit {0}
@@ -170,8 +170,8 @@ IsFrame format events (Init elements) = (length elements ≤ 65536) × All IsEle
 IsFrame format events (Run r) = IsInput events r.input × IsOutcome format r.outcome
 IsFrame format events Terminate = Unit {0}
 
--- what a frame owes beyond its types: its samples are of the run's events, and in format 1
--- nothing is drawn
+-- What a frame must meet beyond its types: its samples are of the run's events, and in format 1
+-- nothing is drawn.
 abbrev pub MayDrawAll : Format → Outcome → Type 0
 MayDrawAll format (Finished elements output) = All (λ e. MayDraw format e.draws) elements
 MayDrawAll format (Refused at) = Unit {0}

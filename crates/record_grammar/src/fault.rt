@@ -1,26 +1,27 @@
-//! Why bytes are no record.
+//! Why some bytes are not a record.
 
-/// What the first byte with which no record begins is refused for, by its place.
+/// Why a byte is refused, by its place. It is the first byte such that no record begins with it and
+/// the bytes before it.
 #[derive(Clone, Copy, Debug, PartialEq, Eq, Drop)]
 pub enum Reason {
-    /// In the first six bytes.
+    /// One of the first six bytes.
     Magic,
-    /// In the two bytes after those.
+    /// One of the two bytes after those.
     Version,
-    /// In any other field, or a tag that no frame has.
+    /// A byte of any other field, or a tag that no frame has.
     Range,
-    /// A tag of a frame that may not stand here.
+    /// The tag of a frame that may not come here.
     Order,
     /// The tag of a Run frame after 1,000,000 others.
     TooMany,
-    /// There is no such byte, and the bytes end before Terminate.
+    /// No byte is wrong, but the bytes end before Terminate.
     Truncated,
-    /// After Terminate.
+    /// A byte after Terminate.
     Trailing,
 }
 
-/// The first byte with which no record begins, counted from 0, and why. For Truncated the offset is
-/// the number of bytes.
+/// The first byte with which no record begins, counted from 0, and the reason. For `Truncated` the
+/// offset is the number of bytes.
 #[derive(Clone, Copy, Debug, PartialEq, Eq, Drop)]
 pub struct RecordFault {
     pub offset: u64,

@@ -1,11 +1,11 @@
-//! What a record is made of.
+//! The items of a record.
 use det_values::{Frame, Profile};
 
 /// A part of a record: its header, and then one frame after another.
 #[derive(Debug, PartialEq, Drop)]
 pub enum Item {
-    /// The profile has the format that the version names.
+    /// The profile's format is the one that the version field names.
     Header(Profile),
-    /// In format 1 all draws are 0.
+    /// In format 1 the draws of each element are 0.
     Frame(Frame),
 }

@@ -1,22 +1,22 @@
-//! Where in a record a reader stands.
+//! Places in a record, which decide what may come next.
 use det_values::Format;
 
-/// What a header says that the frames after it depend on: the format, and the number of events.
+/// What the frames depend on in the header before them: the format and the number of events.
 #[derive(Clone, Copy, Debug, PartialEq, Eq, Drop)]
 pub struct Layout {
     pub format: Format,
     pub events: u16,
 }
 
-/// What may come next.
+/// A place in a record, named by the item that may come there.
 #[derive(Clone, Copy, Debug, PartialEq, Eq, Drop)]
 pub enum Place {
     Header,
     Register(Layout),
     Discover(Layout),
     Init(Layout),
-    /// A Run frame after so many others, or Terminate.
+    /// A Run frame after this number of others, or Terminate.
     Runs(Layout, u32),
-    /// Nothing.
+    /// After Terminate, where nothing may come.
     End,
 }

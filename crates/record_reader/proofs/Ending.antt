@@ -63,7 +63,7 @@ not_none : (xs ys : List ℕ) (b : ℕ) → ys ≡ b ∷ [] → xs ++ ys ≡ [] 
 not_none [] ys b e z = absurd (let y = sym e ∙ z in cc)
 not_none (x ∷ xs) ys b e z = absurd cc
 
--- the record of these items and others goes on behind what these spell
+-- the record of these items and others goes on after what these spell
 goes_on : (p : ProfileValue) (xs others : List Item) → IsProperPrefix (spelled_kept p xs) (made_whole p (xs ++ others))
 goes_on p xs others = (
   flat_map (spelled_frame p.format) (flat_map kept others) ++ spelled_frame p.format Terminate,
@@ -377,7 +377,7 @@ settled-failure false (Err (Failed failure)) stop is = is
 
 -- ---- what each answer says
 
--- whatever the answer, what was written begins the salvaged record
+-- whatever the result, what was written begins the salvaged record
 pub answers-part : (result : Result Salvaged (Stopped RecordFault)) (bytes : List ℕ) (out : SinkRun) → Answers result bytes out
     → Begins bytes out
 answers-part (Ok counts) bytes out h = record {

@@ -1,4 +1,4 @@
--- What the answers of a reader of items come to at a reader of frames.
+-- The results of a reader of items, as those of a reader of frames.
 use Rattle.std.proofs.Common.{◌≡◌, ◌≢◌, ℕ, ◌<◌, List, [], ◌∷◌, ◌++◌, Option, Some, None, Result, Ok, Err, true, refl, sym, ap, subst, ◌∙◌}
 use Rattle.std.specs.List.{list_any}
 use Rattle.det_values.specs.Values.{ProfileValue}
@@ -174,11 +174,11 @@ held_frame old new item at_end p read behind stands h =
 
 -- ---- what comes first
 
--- the items given come first of a record
+-- the returned items come first in a record
 pub are_first : (r : FrameReader) (read : List ℕ) (given : List Item) → StandsFor r read given → AreFirst given
 are_first r = first_of r.items
 
--- the items given are the first of all, whatever follows
+-- the returned items are the first of all, whatever comes after
 pub more_items : (r : FrameReader) (read : List ℕ) (given : List Item) → StandsFor r read given → (tail : List ℕ) → (others : List Item)
     × (items_in (read ++ tail) ≡ given ++ others)
 more_items r = more_of r.items

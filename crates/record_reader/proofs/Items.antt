@@ -26,7 +26,7 @@ use Rattle.record_reader.specs.Keeping.{format_after}
 use Rattle.record_reader.specs.Salvaged.{is_init}
 use Rattle.record_reader.proofs.Spellable.{spells_in_runs}
 
--- what stands before the last item that was read
+-- what comes before the last item that was read
 pub record LastItem (place : Place) (bytes : List ℕ) (given : List Item) (x : Item) (rest : List ℕ) : Type 0 where
   pub at : Place
   pub here : List ℕ
@@ -102,7 +102,7 @@ no_header layout (places.Init l) p h k = k
 no_header layout (places.Runs l before) p h k = k
 no_header layout places.End p h k = k
 
--- behind a header comes no other
+-- no header comes after a header
 one_header : (p q : ProfileValue) (xs : List Item) (to : Place) (bytes rest : List ℕ)
     → Leads places.Header bytes (items.Header p ∷ (xs ++ items.Header q ∷ [])) to rest → ⊥
 one_header p q xs to bytes rest h =
@@ -123,7 +123,8 @@ first_is_header : (f : Frame) (xs : List Item) (to : Place) (bytes rest : List �
     → ⊥
 first_is_header f xs to bytes rest l = not_first f (can_follow places.Header bytes (items.Frame f) l.0 l.1)
 
--- what an item is behind the first ones of a record: the header comes first and once, and a frame can be spelled behind it
+-- an item after the first ones of a record: the header comes first and once, and a frame can be
+-- spelled after it
 abbrev pub NextIs : List Item → Item → Type 0
 NextIs [] (items.Header p) = Unit {0}
 NextIs [] (items.Frame f) = ⊥
@@ -242,11 +243,11 @@ whole_has_init bytes e =
 
 -- ---- what may still come
 
--- the items given come first of a record
+-- the returned items come first in a record
 pub are_first : (r : ItemReader) (read : List ℕ) (given : List Item) → StandsFor r read given → AreFirst given
 are_first r read given h = record { bytes = read; place = place_of r; rest = unread r; leads = h.leads }
 
--- the items given are the first of all, whatever follows
+-- the returned items are the first of all, whatever comes after
 pub more_items : (r : ItemReader) (read : List ℕ) (given : List Item) → StandsFor r read given → (tail : List ℕ) → (others : List Item)
     × (items_in (read ++ tail) ≡ given ++ others)
 more_items r read given h tail =

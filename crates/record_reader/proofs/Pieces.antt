@@ -30,7 +30,7 @@ kept_is format (Init elements) = append-nil (spelled_frame format (Init elements
 kept_is format (Run r) = append-nil (spelled_frame format (Run r))
 kept_is format Terminate = refl
 
--- items behind others are spelled behind them
+-- items after others are spelled after them
 pub kept_append : (p : ProfileValue) (xs ys : List Item) → spelled p (flat_map kept (xs ++ ys)) ≡ spelled p (flat_map kept xs)
     ++ flat_map (spelled_frame p.format) (flat_map kept ys)
 kept_append p xs ys =
@@ -43,7 +43,7 @@ kept_append p xs ys =
     ∙ sym (append_assoc (spelled_header p) (flat_map (spelled_frame p.format) (flat_map kept xs))
     (flat_map (spelled_frame p.format) (flat_map kept ys)))
 
--- one item more is spelled behind the others
+-- one item more is spelled after the others
 pub spelled-next : (given : List Item) (x : Item) → NextIs given x → spelled_by kept (given ++ x ∷ []) ≡ spelled_by kept given
     ++ piece_of (format_after given) x
 spelled-next [] (items.Header p) h = append-nil (spelled_header p)

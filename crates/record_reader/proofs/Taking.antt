@@ -1,4 +1,4 @@
--- What a loop that gives the items of a record to a taker comes to, whatever reader gives them.
+-- The result of a loop that passes the items of a record to a taker, for any reader.
 use Rattle.std.proofs.Common.{◌≡◌, ◌⊎◌, inl, inr, ℕ, ◌<◌, List, [], ◌∷◌, ◌++◌, Option, Some, None, Result, Ok, Err, refl, sym, ap, subst}
 use Rattle.std.proofs.Common.{◌∙◌, append_assoc, append-nil}
 use Rattle.std.specs.Prelude.{IfSome}
@@ -30,7 +30,7 @@ pub of-slot : {shelf : ShelfRun} {slot : ℕ} {read : List ℕ} (P Q : List ℕ 
     → OfSlot shelf slot read P → OfSlot shelf slot read Q
 of-slot {read = read} P Q then h = record { reads = h.reads; each = λ rest end. then (read ++ rest) (h.each rest end) }
 
--- a fact of what the slot had left, where the shelf tells it
+-- a fact of what the slot had left, if the shelf says it
 pub told : {shelf : ShelfRun} {slot : ℕ} {read : List ℕ} (P : List ℕ → Type 0) → OfSlot shelf slot read P → IfSome (shelf.first.left slot) P
 told {shelf} {slot} {read} P h = subst (λ (left : Option (List ℕ)). IfSome left P) (sym h.reads.left) (by (shelf.last.left slot) h.each)
   where
@@ -57,7 +57,7 @@ lifts-same taking same (Failed failure) = refl
 abbrev pub step : (List ℕ → Type 0) → (List ℕ → Type 0) → ℕ → ℕ → SinkRun
 step before after a b = record { before = before; after = after; faults_before = a; faults_after = b }
 
--- a later run of a sink behind one, and both together
+-- a later run of a sink after one, and both together
 abbrev pub behind : SinkRun → (List ℕ → Type 0) → ℕ → SinkRun
 behind one last faults = record { before = one.after; after = last; faults_before = one.faults_after; faults_after = faults }
 

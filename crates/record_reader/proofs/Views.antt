@@ -28,7 +28,7 @@ use Rattle.record_reader.proofs.Taking.{at_none, all-before, step, Lifts, quiet-
 
 -- ---- the loop
 
--- items of a record were given to a taker, and a sink took what is written of them
+-- items of a record were passed to a taker, and a sink took what is written of them
 pub record Running {E : Type 0} (taking : Taking E) (first now : ShelfState) (slot : ℕ) (reader : ItemReader)
     (before after : List ℕ → Type 0) : Type 0 where
   pub read : List ℕ
@@ -53,7 +53,7 @@ running-new taking state reader took gave stands none = record {
   grew = subst (Grew took took) (sym none) (grew-none took);
 }
 
--- bytes that were read behind some were needed, as those were
+-- bytes that were read after some were needed, as those were
 needed-then : (given : List Item) (read more : List ℕ) → IsNeeded given read → ReadsIfNeeded read given more → IsNeeded given (read ++ more)
 needed-then given read more before need =
     while-then (λ first. IsPrefix (items_in first) given × (fault_so_far first ≡ None)) read more before
@@ -70,7 +70,7 @@ needed-longer given item read h =
       p.1,
     )) h
 
--- what a reader answers, by all bytes that were read
+-- the result of a reader, by all bytes that were read
 abbrev pub Answered : {E : Type 0} {taking : Taking E} {first mid : ShelfState} {slot : ℕ} {reader : ItemReader}
     {before after : List ℕ → Type 0} → Running taking first mid slot reader before after → ShelfState → ItemReader
     → Result (Option ItemView) (Stopped RecordFault) → Type 0
@@ -91,7 +91,7 @@ answered {mid = mid} h {now = now} next result p = (
   subst (λ (k : ℕ). ItemIs result next (IsAtEnd now k) (h.read ++ p.0) h.given) h.at (p.2 h.read h.given h.gave).1,
 )
 
--- the items given come first of those of all bytes that begin with the ones read
+-- the returned items come first among those of all bytes that begin with the ones read
 come-first : {E : Type 0} {taking : Taking E} {first mid : ShelfState} {slot : ℕ} {reader : ItemReader} {before after : List ℕ → Type 0}
     (h : Running taking first mid slot reader before after) (more rest : List ℕ)
     → IsPrefix h.given (items_in ((h.read ++ more) ++ rest))
@@ -109,7 +109,7 @@ module _ {E : Type 0} {taking : Taking E} {first mid : ShelfState} {slot : ℕ} 
 
 module _ {E : Type 0} {taking : Taking E} {first mid : ShelfState} {slot : ℕ} {reader : ItemReader} {before after : List ℕ → Type 0}
     (h : Running taking first mid slot reader before after) {now : ShelfState} (next : ItemReader) where
-  -- the items given and the next one come first of a record
+  -- the returned items and the next one come first in a record
   pub next-first : (view : ItemView) (answer : Answered h now next (Ok (Some view))) → AreFirst (h.given ++ answer.2.item ∷ [])
   next-first view answer = are_first next (h.read ++ answer.0) (h.given ++ answer.2.item ∷ []) answer.2.stands
 
@@ -282,7 +282,7 @@ taker-stopped {E} {first = first} {now = now} {slot = slot} {before = before} {a
 
 -- ---- traffic
 
--- a shelf over two steps of which only the second can fail
+-- a shelf over two steps; only the second can fail
 pub shelf-then : {first mid last : ShelfState} {A B C : Type 0} {failure : Option Failure} → (A → B → C)
     → ShelfTraffic (record { first = first; last = mid; stays = A }) None
     → ShelfTraffic (record { first = mid; last = last; stays = B }) failure
@@ -293,7 +293,7 @@ shelf-then {first} {mid} {last} on p q = record {
   stays = on p.stays q.stays;
 }
 
--- a stop tells one failure, whatever else the call answers
+-- a stop reports one failure, whatever the type of the call's value
 pub same-failure : (A B : Type 0) {E : Type 0} (stop : Stopped E) → failure_in {A = A} (Err stop) ≡ failure_in {A = B} (Err stop)
 same-failure A B (Refused why) = refl
 same-failure A B (Failed failure) = refl

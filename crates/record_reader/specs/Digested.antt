@@ -1,9 +1,9 @@
--- What a sink keeps that only digests and counts.
+-- The state of a sink that only counts and digests.
 use Rattle.std.specs.Prelude.{◌≡◌, ℕ, ◌-◌, ◌^◌, List, min, length}
 use Rattle.sha2.specs.Hashers.{Holds256}
 use Rattle.record_reader.specs.declared.digest_sink.DigestSink.{DigestSink}
 
--- how many bytes, as a number of 64 bits that stands at its last value
+-- a count of bytes in 64 bits, which saturates
 abbrev pub counted : List ℕ → ℕ
 counted bytes = min (length bytes) (2 ^ 64 - 1)
 

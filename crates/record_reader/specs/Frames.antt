@@ -1,5 +1,5 @@
--- What a reader of frames keeps of the bytes that it read of its slot, and of the items that it
--- gave, of which the header is the first.
+-- What a reader of frames knows of the bytes that it read from its slot and of the items that it
+-- returned. The first of these is the header.
 use Rattle.std.specs.Prelude.{◌≡◌, ℕ, ◌<◌, List, [], ◌∷◌, ◌++◌, Option, Some, None}
 use Rattle.std.specs.Prelude.{Result, Ok, Err}
 use Rattle.det_values.specs.Values.{ProfileValue}
@@ -22,11 +22,11 @@ use Rattle.record_reader.specs.item_reader.StandsFor.{FoundFault, ReadsIfNeeded}
 use Rattle.record_reader.specs.declared.frames.FrameReader.{FrameReader}
 use Rattle.record_reader.specs.declared.frames.OpenRecord.{OpenRecord}
 
--- these bytes were read, these items given, and no fault was answered
+-- these bytes were read, these items returned, and no fault
 abbrev pub StandsFor : FrameReader → List ℕ → List Item → Type 0
 StandsFor r read given = inner.StandsFor r.items read given
 
--- the fault that was answered
+-- the fault that was returned
 abbrev pub fault_of : FrameReader → Option RecordFault
 fault_of r = inner.fault_of r.items
 
@@ -34,22 +34,22 @@ fault_of r = inner.fault_of r.items
 abbrev pub slot_of : FrameReader → ℕ
 slot_of r = inner.slot_of r.items
 
--- the header of this profile alone was given, and the shelf gave the slot
+-- only the header of this profile was returned, and the shelf has the slot
 pub record IsOpen (frames : FrameReader) (profile : ProfileValue) (shelf : ShelfState)
     : Type 0 where
   pub gave : (read : List ℕ) × StandsFor frames read (items.Header profile ∷ [])
   pub slot : slot_of frames < shelf.slots
 
--- how many frames may still come
+-- the greatest number of frames that may still come
 abbrev pub room : FrameReader → ℕ
 room r = inner.room r.items
 
--- this frame was given last, and its bytes are held
+-- this was the last frame, and its bytes are held
 abbrev pub Holds : FrameReader → FrameView → Frame → Type 0
 Holds r view frame = inner.Holds r.items (item_view view) (items.Frame frame)
 
--- after the header, bytes were read that were needed, and what the reader stood for before is known
--- of it afterwards
+-- Only bytes that were needed were read after the header. `Then` is known of all bytes that the
+-- reader read, these included, and of the items that it had returned.
 abbrev pub HasRead : ShelfState → ShelfState → FrameReader → (List ℕ → List Item → Type 0) → Type 0
 HasRead before after r Then = (more : List ℕ) × Reads before after (slot_of r) more
     × ((profile : ProfileValue) (read : List ℕ) (behind : List Item)
@@ -57,7 +57,7 @@ HasRead before after r Then = (more : List ℕ) × Reads before after (slot_of r
     → ReadsIfNeeded read (items.Header profile ∷ behind) more
     × Then (read ++ more) (items.Header profile ∷ behind))
 
--- a frame is given that comes next, in the place to which the items before it lead
+-- the next frame is returned, in the place to which the items before it lead
 pub record GaveFrame (view : FrameView) (r : FrameReader) (read : List ℕ) (given : List Item)
     : Type 0 where
   pub frame : Frame
@@ -67,20 +67,20 @@ pub record GaveFrame (view : FrameView) (r : FrameReader) (read : List ℕ) (giv
   pub others : List Item
   pub is : items_in read ≡ given ++ items.Frame frame ∷ others
 
--- a view that is given is of a frame whose bytes are held
+-- a view that is returned is of a frame whose bytes are held
 abbrev pub GaveView : Result (Option FrameView) (Stopped RecordFault) → FrameReader → Type 0
 GaveView (Ok (Some view)) r = (frame : Frame) × Holds r view frame
 GaveView (Ok None) r = Unit {0}
 GaveView (Err stop) r = Unit {0}
 
--- what an answer says of the bytes read and the items given
+-- what a result says of the bytes read and the items returned
 abbrev pub FrameIs : Result (Option FrameView) (Stopped RecordFault) → FrameReader → Type 0
     → List ℕ → List Item → Type 0
 FrameIs (Ok (Some view)) r at_end read given = GaveFrame view r read given
 FrameIs (Ok None) r at_end read given = inner.ItemIs (Ok None) r.items at_end read given
 FrameIs (Err stop) r at_end read given = inner.ItemIs (Err stop) r.items at_end read given
 
--- a frame leaves fewer that may come, and any other answer leaves as many
+-- a frame lowers the number of frames that may come, and any other result leaves it
 abbrev pub RoomFell : Result (Option FrameView) (Stopped RecordFault) → ℕ → ℕ → Type 0
 RoomFell (Ok (Some view)) old new = new < old
 RoomFell (Ok None) old new = new ≡ old
@@ -93,7 +93,7 @@ abbrev pub IsHeader : Option ItemView → Type 0
 IsHeader (Some view) = Unit {0}
 IsHeader None = ⊥
 
--- what an answer says of the bytes read: the header alone was given, or they have a fault and no
+-- what a result says of the bytes read: only the header was returned, or they have a fault and no
 -- whole header
 abbrev pub HeaderIs : Result OpenRecord (Stopped RecordFault) → ℕ → Type 0 → List ℕ → Type 0
 HeaderIs (Ok opened) slot at_end read =
@@ -104,7 +104,7 @@ HeaderIs (Err (Failed Read)) slot at_end read = (items_in read ≡ []) × (fault
 HeaderIs (Err (Failed Write)) slot at_end read = ⊥
 HeaderIs (Err (Failed OutOfMemory)) slot at_end read = Unit {0}
 
--- bytes of a slot were read that the header needs, and this is known of them
+-- the header's bytes were read from a slot, no more than needed, and this is known of them
 pub record HasOpened (before after : ShelfState) (slot : ℕ)
     (result : Result OpenRecord (Stopped RecordFault)) : Type 0 where
   pub read : List ℕ

@@ -1,4 +1,4 @@
--- What is kept of a record until Init was read, and what of it is written.
+-- What a salvage keeps until Init was read, and what of it is written.
 use Rattle.std.specs.Prelude.{◌≡◌, ℕ, ◌+◌, List, [], ◌∷◌, ◌++◌, Bool, true, false, ◌||◌}
 use Rattle.std.specs.Prelude.{Some, Result, Ok, Err}
 use Rattle.std.specs.List.{list_any}
@@ -24,12 +24,12 @@ use Rattle.record_reader.specs.InItems.{spelled_by}
 use Rattle.record_reader.specs.Salvaged.{refused_of}
 use Rattle.record_reader.specs.Taking.{Taking}
 
--- the spelling of a frame, unless that is Terminate
+-- the spelling of a frame, but none for Terminate
 abbrev pub spelled_unless_last : Format → Frame → List ℕ
 spelled_unless_last format Terminate = []
 spelled_unless_last format frame = spelled_frame format frame
 
--- what is kept of an item in a record of this format
+-- what is kept of an item of a record in this format
 abbrev pub piece_of : Format → Item → List ℕ
 piece_of format (items.Header profile) = spelled_header profile
 piece_of format (items.Frame frame) = spelled_unless_last format frame
@@ -39,12 +39,12 @@ abbrev pub format_after : List Item → Format
 format_after (items.Header profile ∷ rest) = profile.format
 format_after other = One
 
--- no frame comes first
+-- the first item is no frame
 abbrev pub IsHeaded : List Item → Type 0
 IsHeaded (items.Frame frame ∷ rest) = ⊥
 IsHeaded other = Unit {0}
 
--- it keeps what is spelled of these items and not written
+-- it keeps what is spelled of these items and not written yet
 pub record Keeps (salvage : Salvage) (given : List Item) : Type 0 where
   pub headed : IsHeaded given
   pub has_begun : salvage.has_begun ≡ list_any is_init given
@@ -68,8 +68,8 @@ pub record Counted (kind : ItemKind) (old new : Salvage) : Type 0 where
   pub refused : new.refused ≡ old.refused + refusals_of kind
   pub out : new.out ≡ old.out
 
--- All bytes, those kept and the next ones, were written and none is kept, once Init was read; and
--- before that all are kept.
+-- Once Init was read, all bytes were written, those kept and the next ones, and none is kept.
+-- Before that, all are kept.
 abbrev pub Puts : Result (Unit {0}) (Stopped RecordFault) → Bool → List ℕ → List ℕ → SinkRun
     → Type 0
 Puts (Ok u) true all kept out = (kept ≡ []) × Grew out.before out.after all

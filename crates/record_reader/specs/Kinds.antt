@@ -22,7 +22,7 @@ abbrev pub refusals_of : ItemKind → ℕ
 refusals_of (kinds.Frame (frames.Run input outcome)) = refusals_at outcome
 refusals_of kind = 0
 
--- the bytes of an item of this kind, but for Terminate's
+-- the bytes of an item of this kind, but none for Terminate
 abbrev pub kept_bytes : ItemKind → List ℕ → List ℕ
 kept_bytes (kinds.Frame frames.Terminate) bytes = []
 kept_bytes kind bytes = bytes

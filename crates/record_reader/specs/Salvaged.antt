@@ -1,4 +1,4 @@
--- A record that breaks off, made whole up to its last whole frame.
+-- A record that breaks off, cut after its last whole frame and completed.
 use Rattle.std.specs.Prelude.{ℕ, List, [], ◌∷◌, ◌++◌, Bool, true, false, Option, Some, None, sum_by}
 use Rattle.std.specs.Prelude.{length}
 use Rattle.std.specs.Prelude.{if◌then◌else◌}
@@ -13,7 +13,7 @@ use Rattle.record_grammar.specs.Record.{items as items_in}
 use Rattle.record_grammar.specs.Spelling.{spelled}
 use Rattle.record_reader.specs.InItems.{runs_in, spelled_by}
 
--- the item's frame, unless that is Terminate
+-- the frame of an item, but none for Terminate
 abbrev pub kept : Item → List Frame
 kept (items.Header p) = []
 kept (items.Frame Terminate) = []
@@ -28,17 +28,17 @@ is_init item = false
 abbrev pub written_items : List Item → List ℕ
 written_items given = if list_any is_init given then spelled_by kept given else []
 
--- what is written of bytes that were read, while more may come
+-- what is written for the bytes that were read, while more may come
 abbrev pub saved_of : List ℕ → List ℕ
 saved_of bytes = written_items (items_in bytes)
 
--- the header and the frames up to the last one, and then Terminate
+-- the header, the whole frames and then Terminate
 abbrev pub salvaged_from : List Item → Option (List ℕ)
 salvaged_from (items.Header profile ∷ rest) = if list_any is_init rest then Some
     (spelled profile (flat_map kept rest ++ Terminate ∷ [])) else None
 salvaged_from other = None
 
--- none where Init isn't among the items
+-- none if Init isn't among the items
 abbrev pub salvaged : List ℕ → Option (List ℕ)
 salvaged bytes = salvaged_from (items_in bytes)
 
@@ -52,7 +52,7 @@ abbrev pub refusals_in : Item → ℕ
 refusals_in (items.Frame (Run r)) = refusals_of r.outcome
 refusals_in item = 0
 
--- the number of cycles, and of those that were refused
+-- the number of cycles, and of refused ones
 abbrev pub cycles_of : List Item → ℕ
 cycles_of items = length (runs_in items)
 

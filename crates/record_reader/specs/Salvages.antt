@@ -1,4 +1,4 @@
--- What salvaging comes to, by the bytes of a record.
+-- What salvaging a record ends with, by the record's bytes.
 use Rattle.std.specs.Prelude.{◌≡◌, ◌⊎◌, ℕ, List, [], ◌++◌, Bool, true, Option, Some, None}
 use Rattle.std.specs.Prelude.{Result, Ok, Err}
 use Rattle.det_io.specs.declared.failure.Failure.TheVariants.{Read, Write, OutOfMemory}
@@ -16,12 +16,12 @@ use Rattle.record_reader.specs.item_reader.StandsFor.{IsFaulty}
 use Rattle.record_reader.specs.Salvaged.{salvaged, saved_of, cycles_of, refused_of}
 use Rattle.record_reader.specs.Taking.{OfSlot}
 
--- the beginning of a salvaged record: nothing where there is none
+-- a prefix of the salvaged record; nothing where there is none
 abbrev pub IsFront : List ℕ → Option (List ℕ) → Type 0
 IsFront front None = front ≡ []
 IsFront front (Some bytes) = IsPrefix front bytes
 
--- the same, where there is one and not all of it is there
+-- a proper prefix of the salvaged record, which there is
 abbrev pub IsCut : List ℕ → Option (List ℕ) → Type 0
 IsCut front None = ⊥
 IsCut front (Some bytes) = IsProperPrefix front bytes
@@ -40,19 +40,19 @@ pub record HasNothing (record_bytes : List ℕ) (f : RecordFault) (out : SinkRun
   pub fault : fault_in record_bytes ≡ Some f
   pub grew : Grew out.before out.after []
 
--- what was written begins the salvaged record
+-- a prefix of the salvaged record was written
 pub record Begins (record_bytes : List ℕ) (out : SinkRun) : Type 0 where
   pub front : List ℕ
   pub within : IsFront front (salvaged record_bytes)
   pub grew : Grew out.before out.after front
 
--- the same, and the salvaged record goes on
+-- a proper prefix of the salvaged record was written
 pub record BreaksOff (record_bytes : List ℕ) (out : SinkRun) : Type 0 where
   pub front : List ℕ
   pub within : IsCut front (salvaged record_bytes)
   pub grew : Grew out.before out.after front
 
--- what an answer says of a record, and of what the sink took
+-- what a result says of a record, and of what the sink took
 abbrev pub Answers : Result Salvaged (Stopped RecordFault) → List ℕ → SinkRun → Type 0
 Answers (Ok counts) record_bytes out = Salvages record_bytes counts out
 Answers (Err (Refused f)) record_bytes out = HasNothing record_bytes f out
@@ -60,7 +60,7 @@ Answers (Err (Failed Read)) record_bytes out = Begins record_bytes out
 Answers (Err (Failed Write)) record_bytes out = BreaksOff record_bytes out
 Answers (Err (Failed OutOfMemory)) record_bytes out = Begins record_bytes out
 
--- how far the record was read: as far as all its items and its fault show whatever follows
+-- how far the record was read: until its items and its fault were certain, whatever comes after
 abbrev pub ReadsTo : Result Salvaged (Stopped RecordFault) → List ℕ → Type 0 → Type 0
 ReadsTo (Ok counts) read at_end =
     ((tail : List ℕ) → items_in (read ++ tail) ≡ items_in read) ⊎ at_end
@@ -68,12 +68,12 @@ ReadsTo (Err (Refused f)) read at_end = IsFaulty f read (items_in read) ⊎ at_e
 ReadsTo (Err (Failed Read)) read at_end = fault_so_far read ≡ None
 ReadsTo (Err stop) read at_end = Unit {0}
 
--- where a read failed, all that is saved of the bytes read was written
+-- after a failed read, all that can be saved of the bytes read was written
 abbrev pub SavesRead : Result Salvaged (Stopped RecordFault) → List ℕ → SinkRun → Type 0
 SavesRead (Err (Failed Read)) read out = Grew out.before out.after (saved_of read)
 SavesRead result read out = Unit {0}
 
--- how salvaging ended that read these bytes
+-- how a salvage ended that read these bytes
 pub record Ended (result : Result Salvaged (Stopped RecordFault)) (read : List ℕ)
     (shelf : ShelfRun) (slot : ℕ) (out : SinkRun) : Type 0 where
   pub reads_to : ReadsTo result read (IsAtEnd shelf.last slot)
@@ -81,7 +81,7 @@ pub record Ended (result : Result Salvaged (Stopped RecordFault)) (read : List �
   pub saves : SavesRead result read out
   pub answers : OfSlot shelf slot read (λ bytes. Answers result bytes out)
 
--- a fault is no ground to stop where Init was read before it
+-- a fault after Init is no reason to stop
 abbrev pub settled_by : Bool → Result (Unit {0}) (Stopped RecordFault)
     → Result (Unit {0}) (Stopped RecordFault)
 settled_by true (Err (Refused f)) = Ok tt

@@ -1,10 +1,10 @@
-//! What an item adds to the counts of a record.
+//! What an item adds to the counts of a record, by its kind.
 ghost use Rattle.std.specs.Prelude.{◌≡◌, ◌≤◌};
 ghost use Rattle.record_reader.specs.Kinds.{begins_runs, runs_of, refusals_of};
 
 use record_view::{FrameKind, ItemKind, OutcomeView};
 
-/// Whether an item of this kind is Init, after which the cycles come.
+/// Whether an item of this kind is Init, which comes before the cycles.
 pub fn begins_runs(kind: ItemKind) -> bool
     ensures { result ≡ begins_runs kind }
 {
@@ -20,7 +20,7 @@ pub fn begins_runs(kind: ItemKind) -> bool
     }
 }
 
-/// 1 for an item that is the frame of a cycle, and 0 for any other.
+/// 1 for the frame of a cycle, and 0 for any other item.
 pub fn runs_of(kind: ItemKind) -> u32
     ensures value { result ≡ runs_of kind }
     ensures most { result ≤ 1 }
@@ -37,7 +37,7 @@ pub fn runs_of(kind: ItemKind) -> u32
     }
 }
 
-/// 1 for an item that is the frame of a refused cycle, and 0 for any other.
+/// 1 for the frame of a refused cycle, and 0 for any other item.
 pub fn refusals_of(kind: ItemKind) -> u32
     ensures value { result ≡ refusals_of kind }
     ensures most { result ≤ runs_of kind }

@@ -1,9 +1,9 @@
-//! A sink that counts and digests what it takes.
+//! A sink that counts and digests what is written to it.
 use det_io::{Sink, SinkFailed};
 use sha2::{Digest, Sha256};
 
-/// Takes everything, and keeps nothing of it but its SHA-256 state and a count. It never fails and
-/// takes no memory.
+/// A sink that keeps only a SHA-256 state and a count of what it takes. It never fails and takes no
+/// memory.
 #[derive(Drop)]
 pub struct DigestSink {
     hasher: Sha256,
@@ -15,7 +15,7 @@ impl DigestSink {
     ghost use Rattle.sha2.specs.Sha256.{sha256};
     ghost use Rattle.record_reader.specs.Digested.{Digested, counted};
 
-    /// A sink that took nothing yet.
+    /// A sink that has taken nothing yet.
     pub fn new() -> DigestSink
         ensures { Digested result [] }
     {
@@ -25,14 +25,14 @@ impl DigestSink {
         }
     }
 
-    /// How many bytes it took. 2^64 - 1 stands for that number and for all beyond it.
+    /// The number of bytes that it took. The count stays at 2^64 - 1 once it is there.
     pub fn length(&self) -> u64
         ensures { (bytes : List ℕ) → Digested self.now bytes → result ≡ counted bytes }
     {
         self.length
     }
 
-    /// The SHA-256 of what it took.
+    /// The SHA-256 digest of the bytes that it took.
     pub fn finish(self) -> [u8; 32]
         ensures { (bytes : List ℕ) → Digested self bytes → result ≡ sha256 bytes }
     {

@@ -1,4 +1,4 @@
-//! Records in slots, whose header was read.
+//! Records in slots, opened by their header and then read frame by frame.
 ghost use Rattle.std.specs.Prelude.{◌≡◌, ◌<◌, ◌∷◌, [], ℕ, List, Option, Some};
 ghost use Rattle.det_values.specs.Values.{ProfileValue};
 ghost use Rattle.det_io.specs.Traffic.{ShelfTraffic, shelf_run, failure_in};
@@ -16,16 +16,17 @@ use record_grammar::RecordFault;
 use record_view::{FrameView, ItemView};
 use std::alloc::Global;
 
-/// A record whose header was read.
+/// A record whose header was read. `frames` gives only frames, so no later call has a case for a
+/// header.
 #[derive(Drop)]
 pub struct OpenRecord {
     pub profile: Profile,
-    /// What comes after the header.
+    /// The frames after the header.
     pub frames: FrameReader,
 }
 
-/// Reads the header of the record in a slot, and at most one piece of 65,536 bytes more than it
-/// has. `Refused` has the fault of a record that breaks off in its header.
+/// Opens the record in a slot: reads its header, and at most one piece of 65,536 bytes beyond it.
+/// `Refused` has the fault of a record that has no whole header.
 pub fn open<S: Slots>(
     alloc: Global,
     slot: u32,
@@ -66,8 +67,8 @@ fn frame_in(item: ItemView) -> FrameView
     }
 }
 
-/// Gives the frames of the record in a slot, one after another, as views of the bytes that it
-/// holds. It holds the frame that it gave last, and one piece of 65,536 bytes.
+/// Reads the frames of the record in a slot, and returns each as a view of bytes that it holds. It
+/// holds the last frame and one piece of 65,536 bytes.
 #[derive(Drop)]
 pub struct FrameReader {
     items: ItemReader,
@@ -82,25 +83,25 @@ impl FrameReader {
     ghost use Rattle.record_reader.specs.Frames.{StandsFor, HasRead, FrameIs, RoomFell, Holds};
     ghost use Rattle.record_reader.specs.Frames.{GaveView, fault_of, slot_of, room};
 
-    /// The next frame. None where the slot was read to its end and its record is whole. `Refused`
-    /// has the record's fault, which is answered again from then on. After a failed read the
-    /// reader goes on; after want of memory it isn't to be used.
+    /// The next frame, or None at the end of a slot with a whole record. `Refused` has the record's
+    /// fault, and every later call returns it again. After a failed read the call can be repeated.
+    /// After `OutOfMemory` the reader must not be used again.
     pub fn next<S: Slots>(
         &mut self,
         shelf: &mut S,
     ) -> Result<Option<FrameView>, Stopped<RecordFault>>
         requires slot { slot_of self.old < (S.sees shelf.old).slots }
-        // The header was given, and perhaps frames.
+        // The header was read, and maybe frames.
         requires headed { (profile : ProfileValue) × (read : List ℕ) × (after : List Item)
             × StandsFor self.old read (items.Header profile ∷ after) }
         ensures frame { HasRead (S.sees shelf.old) (S.sees shelf.new) self.old
             (FrameIs result self.new (IsAtEnd (S.sees shelf.new) (slot_of self.old))) }
         ensures held { GaveView result self.new }
-        // Each frame leaves fewer that may come.
+        // Each frame lowers the number of frames that may come.
         ensures room { (read : List ℕ) (given : List Item) → StandsFor self.old read given
             → RoomFell result (room self.old) (room self.new) }
         ensures slot { slot_of self.new ≡ slot_of self.old }
-        // Nothing is read where a fault is answered again.
+        // Nothing is read when a fault is returned again.
         ensures again { (fault : RecordFault) → fault_of self.old ≡ Some fault
             → (result ≡ Err (Stopped.Refused fault)) × (fault_of self.new ≡ Some fault)
             × (S.sees shelf.new ≡ S.sees shelf.old) }
@@ -113,7 +114,7 @@ impl FrameReader {
         }
     }
 
-    /// The bytes of the frame that was given last: its one spelling.
+    /// The bytes of the last frame: its only spelling.
     pub fn bytes(&self, view: FrameView) -> &[u8]
         requires { (frame : Frame) × Holds self.now view frame }
         ensures { (frame : Frame) → Holds self.now view frame

@@ -1,5 +1,5 @@
-//! Records read from slots, item by item. An item is given as a view of the bytes that the reader
-//! holds, so nothing of it is copied, and reading takes no memory once the longest item has come.
+//! Reads the items of a record from a slot, as views of the bytes that it holds. Nothing of an item
+//! is copied. Reading takes no memory once the longest item has come.
 
 mod like;
 mod reader;

@@ -1,5 +1,4 @@
-//! Records in slots: opened, their header read and their frames given one by one; made whole up to
-//! the last whole frame; and bytes digested.
+//! Records in slots: opened and read frame by frame, salvaged, and digested.
 #![tactic(auto)]
 
 mod counting;

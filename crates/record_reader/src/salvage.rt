@@ -1,4 +1,4 @@
-//! A record on its way to a sink, item by item.
+//! The state of a salvage: the items that were taken, on their way to a sink.
 ghost use Rattle.std.specs.Prelude.{◌≡◌, ◌<◌, ◌≤◌, ◌++◌};
 ghost use Rattle.record_grammar.specs.Spelling.{AreBytes};
 ghost use Rattle.record_reader.specs.Kinds.{kept_bytes};
@@ -11,19 +11,19 @@ use record_grammar::RecordFault;
 use record_view::{FrameKind, ItemKind, ItemView, events_at};
 use std::alloc::Global;
 
-/// How many cycles a salvaged record has, and how many of them were refused.
+/// The number of cycles of a salvaged record, and how many of them were refused.
 #[derive(Clone, Copy, Debug, PartialEq, Eq, Drop)]
 pub struct Salvaged {
     pub cycles: u32,
     pub refused: u32,
 }
 
-/// What was read of a record.
+/// What a salvage keeps of the items that it took.
 #[derive(Drop)]
 pub struct Salvage {
-    /// The bytes before Init, which are written with it.
+    /// The bytes before Init. They are written together with it.
     pub out: Vec<u8>,
-    /// Init was read.
+    /// Whether Init was taken.
     pub has_begun: bool,
     pub cycles: u32,
     pub refused: u32,
@@ -36,7 +36,7 @@ impl Salvage {
     ghost use Rattle.record_reader.specs.Taking.{IsNext, Takes};
     ghost use Rattle.record_reader.specs.Keeping.{Keeps, salvaging, Counted, Puts, FinishIs};
 
-    /// After no items. It takes no memory.
+    /// A salvage that has taken no item. It takes no memory.
     pub fn new(alloc: Global) -> Salvage
         ensures { Keeps result [] }
     {
@@ -48,8 +48,8 @@ impl Salvage {
         }
     }
 
-    /// Takes an item by its bytes. They are kept before Init, and written from Init on. Terminate
-    /// is left for the end.
+    /// Takes an item by its bytes. Before Init they are kept, and from Init on they are written.
+    /// Terminate is left out here, since `finish` writes it.
     pub fn take<K: Sink>(
         &mut self,
         view: ItemView,
@@ -76,7 +76,7 @@ impl Salvage {
         ensures traffic { SinkTraffic (sink_run K.took K.faults sink.old sink.new)
             (failure_in result) }
     {
-        // Both formats spell Terminate alike.
+        // Terminate has the same spelling in both formats.
         encode_frame(Format::One, 0, &Frame::Terminate, &mut self.out)?;
         write_all(sink, &self.out)?;
         Ok(Salvaged {
@@ -95,7 +95,7 @@ impl Salvage {
         self.refused += refusals_of(kind);
     }
 
-    /// Keeps bytes before Init, and writes them from Init on, after those that were kept.
+    /// Keeps bytes before Init. From Init on, writes them after those that were kept.
     fn put<K: Sink>(&mut self, bytes: &[u8], sink: &mut K) -> Result<(), Stopped<RecordFault>>
         ensures puts { Puts result self.old.has_begun (self.old.out.items ++ bytes.now)
             self.new.out.items (sink_run K.took K.faults sink.old sink.new) }
@@ -114,8 +114,8 @@ impl Salvage {
     }
 }
 
-/// The bytes of an item of this kind, but for Terminate's. The second clause says what a slice is
-/// known for.
+/// The bytes of an item of this kind, but none for Terminate. The clause `bytes` says that the
+/// elements are bytes, which the caller's proof needs.
 fn kept_bytes(kind: ItemKind, bytes: &[u8]) -> &[u8]
     ensures value { result.now ≡ kept_bytes kind bytes.now }
     ensures bytes { AreBytes bytes.now }

@@ -1,4 +1,4 @@
-//! Salvaging a record that breaks off.
+//! Salvages a record that breaks off.
 ghost use Rattle.std.specs.Prelude.{◌≡◌, ℕ, ◌<◌, List, [], IfOk, IfSome, IsErrOf};
 ghost use Rattle.det_io.specs.Traffic.{ShelfTraffic, SinkTraffic, shelf_run, sink_run};
 ghost use Rattle.det_io.specs.Traffic.{failure_in};
@@ -14,9 +14,10 @@ use det_io::{Sink, Slots, Stopped};
 use record_grammar::RecordFault;
 use std::alloc::Global;
 
-/// Writes the record that a reader reads, made whole up to its last whole frame. An item is written
-/// as it was read, once it is whole; nothing is written before Init was read. Only what comes before
-/// Init is held beside the reader. `Refused` has the fault of a record that has no Init before it.
+/// Writes the record of a reader, cut after its last whole frame and completed by Terminate. Each
+/// item is written as it was read, once it is whole. Nothing is written before Init was read, and
+/// only what comes before Init is kept in memory besides the reader. `Refused` has the fault of a
+/// record that breaks off before its Init.
 pub fn salvage_run<S: Slots, K: Sink>(
     alloc: Global,
     reader: &mut ItemReader,
@@ -24,7 +25,7 @@ pub fn salvage_run<S: Slots, K: Sink>(
     sink: &mut K,
 ) -> Result<Salvaged, Stopped<RecordFault>>
     requires slot { slot_of reader.old < (S.sees shelf.old).slots }
-    // The reader has given nothing yet.
+    // The reader has returned nothing yet.
     requires new { StandsFor reader.old [] [] }
     ensures ok { IfSome ((S.sees shelf.old).left (slot_of reader.old)) (λ record_bytes.
         IfOk result (λ counts. Salvages record_bytes counts
@@ -34,8 +35,8 @@ pub fn salvage_run<S: Slots, K: Sink>(
         → HasNothing record_bytes fault (sink_run K.took K.faults sink.old sink.new)) }
     ensures part { IfSome ((S.sees shelf.old).left (slot_of reader.old)) (λ record_bytes.
         Begins record_bytes (sink_run K.took K.faults sink.old sink.new)) }
-    // The same by the bytes that were read, also where the shelf doesn't tell what the slot has
-    // left. Where a read failed, all that was read is written.
+    // The same by the bytes that were read, even if the shelf doesn't say what the slot has left.
+    // After a failed read, all that was read is written.
     ensures run { (read : List ℕ)
         × Ended result read (shelf_run S.sees S.stays shelf.old shelf.new) (slot_of reader.old)
         (sink_run K.took K.faults sink.old sink.new) }
@@ -50,7 +51,7 @@ pub fn salvage_run<S: Slots, K: Sink>(
     salvage.finish(sink)
 }
 
-/// Gives all items to a salvage.
+/// Passes all items to a salvage.
 fn keep_all<S: Slots, K: Sink>(
     reader: &mut ItemReader,
     shelf: &mut S,
@@ -76,7 +77,7 @@ fn keep_all<S: Slots, K: Sink>(
     }
 }
 
-/// A fault stops nothing where Init was read before it.
+/// Drops a fault that comes after Init: it doesn't stop a salvage.
 fn settled(
     read: Result<(), Stopped<RecordFault>>,
     has_begun: bool,

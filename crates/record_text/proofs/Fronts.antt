@@ -1,4 +1,4 @@
--- The lines before the parameters, one behind the other.
+-- The lines before those of the parameters, one after another.
 use Rattle.std.proofs.Common.{◌≡◌, ℕ, List, ◌++◌, ap, ◌∙◌, append_assoc}
 use Rattle.std.specs.Prelude.{codes}
 use Rattle.det_values.specs.Values.{ProfileValue}

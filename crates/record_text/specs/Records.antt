@@ -22,7 +22,7 @@ use Rattle.record_text.specs.Words.{hex_text, number_line, numbered}
 
 -- ---- the header
 
--- only format 2 names itself
+-- only format 2 has a line for the format
 abbrev pub format_line : Format → List ℕ
 format_line One = []
 format_line Two = codes "format 2\n"
@@ -46,7 +46,7 @@ event_line format i event =
     codes "event " ++ (decimal i ++ (codes " " ++ (event.name ++ (codes " "
     ++ (decimal event.capacity ++ (policy_text format event.policy ++ codes "\n"))))))
 
--- what stands before the parameters
+-- the lines before those of the parameters
 unfoldable pub front_lines : ProfileValue → List ℕ
 front_lines profile =
     format_line profile.format
@@ -109,7 +109,7 @@ run_lines format cycle run =
     run_line cycle run.input.time
     ++ (flat_map sample_line run.input.samples ++ outcome_lines format run.outcome)
 
--- the lines of a frame; a Run is that of cycle number `cycle`
+-- the lines of a frame; a Run frame is that of cycle number `cycle`
 abbrev pub frame_lines : Format → ℕ → Frame → List ℕ
 frame_lines format cycle Register = codes "register\n"
 frame_lines format cycle Discover = codes "discover\n"
@@ -120,7 +120,7 @@ frame_lines format cycle Terminate = codes "terminate\n"
 
 -- ---- the whole
 
--- the lines of items, behind so many Runs of a record of this format
+-- the lines of items, after `runs` Run frames of a record of this format
 unfoldable pub item_lines : Format → ℕ → List Item → List ℕ
 item_lines format runs [] = []
 item_lines format runs (items.Header profile ∷ more) =

@@ -1,4 +1,4 @@
-//! The lines of a frame, put where its bytes are.
+//! The lines of a frame, printed from its view and its bytes.
 ghost use Rattle.std.specs.Prelude.{◌≡◌, ◌≤◌, ◌+◌, ◌++◌, ℕ, List, OnOk, length, drop, codes};
 ghost use Rattle.std.specs.List.{flat_map};
 ghost use Rattle.det_values.specs.Spelling.{an_element};
@@ -244,8 +244,8 @@ fn put_frame(out: &mut Vec<u8>, cycle: u32, view: FrameView, bytes: &[u8]) -> Re
     }
 }
 
-/// Appends the lines of a frame, where a Run is cycle number `cycle`, counted from 1. After a
-/// refusal a part of them may be there.
+/// Appends the lines of a frame. If it is a Run frame, it is that of cycle `cycle`, counted from 1.
+/// After `OutOfMemory` a part of the lines may be there.
 pub fn put_frame_lines(
     out: &mut Vec<u8>,
     cycle: u32,

@@ -95,7 +95,7 @@ fn put_format_line(out: &mut Vec<u8>, format: Format) -> Result<(), AllocError>
     }
 }
 
-/// The lines before the parameters.
+/// The lines before those of the parameters.
 fn put_front_lines(out: &mut Vec<u8>, profile: &Profile) -> Result<(), AllocError>
     ensures { OnOk result (out.new.items ≡ out.old.items ++ front_lines profile.now) }
 {
@@ -106,9 +106,9 @@ fn put_front_lines(out: &mut Vec<u8>, profile: &Profile) -> Result<(), AllocErro
     Ok(())
 }
 
-/// Appends the lines of a header: its format where that is 2, the job's number, the seed, the cycle
-/// time in nanoseconds, the parameters and the events. After a refusal some of them may stand
-/// there.
+/// Appends the lines of a header. They give its format if that is 2, the job's number, the seed,
+/// the cycle time in nanoseconds, the parameters and the events. After `OutOfMemory` a part of the
+/// lines may be there.
 pub fn put_header_lines(out: &mut Vec<u8>, profile: &Profile) -> Result<(), OutOfMemory>
     ensures { OnOk result (out.new.items ≡ out.old.items ++ header_lines profile.now) }
 {

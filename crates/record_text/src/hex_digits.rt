@@ -13,8 +13,8 @@ fn hex_digit(half: u8) -> u8
     }
 }
 
-/// Writes the hex digits of bytes, two for each, in lower case. A digit is computed and not looked
-/// up, so the loop is compiled to steps of 16 bytes.
+/// Writes each byte as two hex digits in lower case. A digit is computed and not looked up, so the
+/// compiler makes the loop one of 16 bytes a step.
 pub fn encode_hex(bytes: &[u8], digits: &mut [u8])
     requires { length digits.old ≡ 2 * length bytes.now }
     ensures { digits.new ≡ encode_lower bytes.now }

@@ -1,8 +1,7 @@
-//! The texts that a program prints: records and summaries, line by line, and what lines are made
-//! of.
+//! Records and summaries as text, line by line.
 //!
-//! Each call appends to a text what `specs/` says of it, as a function of what is printed. A frame
-//! is printed from its view and its bytes.
+//! Each function appends to a text, and `specs/` defines what it appends. A frame is printed from
+//! its view and its bytes, so no value is made of it.
 #![tactic(auto)]
 
 mod frame_lines;

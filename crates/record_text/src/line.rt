@@ -1,4 +1,4 @@
-//! A short line, put together on the stack and appended at once.
+//! A short line, which is built on the stack and appended to a text at once.
 ghost use Rattle.std.specs.Prelude.{◌≡◌, ◌≤◌, ◌+◌, ◌*◌, ◌++◌, [], length, decimal};
 ghost use Rattle.hex.specs.Hex.{encode_lower};
 ghost use Rattle.record_text.specs.Words.{hex_text};
@@ -7,11 +7,12 @@ use crate::hex_digits::encode_hex;
 use itoa::write_digits;
 use std::marker::Model;
 
-/// How many bytes a line may have: an element's has at most 159.
+/// The greatest length of a line in bytes. The longest line is that of an element, with at most
+/// 159.
 const ROOM: usize = 160;
 
-/// A line that grows at its front. Digits are written from the last one on, so a number is written
-/// where it stays, and its length needs no count.
+/// A line that grows at its front. The digits of a number are found from the last one on, so they
+/// are written in place without a count of them before.
 #[derive(Drop)]
 pub struct Line {
     bytes: [u8; ROOM],
@@ -29,6 +30,7 @@ impl Model for Line {
 }
 
 impl Line {
+    /// An empty line.
     pub fn new() -> Line
         ensures { result ≡ [] }
     {
@@ -38,6 +40,7 @@ impl Line {
         }
     }
 
+    /// Puts a text before the line.
     pub fn prepend_words(&mut self, words: &str)
         requires { length words.now + length self.old ≤ 160 }
         ensures { self.new ≡ words.now ++ self.old }
@@ -47,6 +50,7 @@ impl Line {
         self.bytes[self.from..to].copy_from_slice(words.as_bytes());
     }
 
+    /// Puts a number in decimal before the line.
     pub fn prepend_number(&mut self, number: u32)
         requires { 10 + length self.old ≤ 160 }
         ensures text { self.new ≡ decimal number ++ self.old }
@@ -55,6 +59,7 @@ impl Line {
         self.from = write_digits(number as u64, &mut self.bytes, self.from);
     }
 
+    /// Puts bytes before the line, as hex digits in lower case, or a dash if there are none.
     pub fn prepend_hex(&mut self, bytes: &[u8])
         requires few { length bytes.now ≤ 64 }
         requires room { 128 + length self.old ≤ 160 }

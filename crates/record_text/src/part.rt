@@ -1,12 +1,12 @@
-//! Parts of a record's text.
+//! Selects a part of a record's text.
 
 /// What is printed of a record.
 #[derive(Clone, Copy, Debug, PartialEq, Eq, Drop)]
 pub enum ShowPart {
-    /// The lines of all items, and then the reports of its runs.
+    /// The lines of all items, and then the reports on its runs.
     All,
-    /// The reports alone.
+    /// Only the reports.
     Reports,
-    /// The lines of the Run frame of this number alone, counted from 1.
+    /// Only the lines of the Run frame of this number, counted from 1.
     Cycle(u32),
 }

@@ -1,4 +1,4 @@
-//! Words, numbers and bytes, appended to a text.
+//! Texts, numbers and bytes, appended to a text.
 ghost use Rattle.std.specs.Prelude.{◌≡◌, ◌≤◌, ◌++◌, length, OnOk, decimal};
 ghost use Rattle.std.specs.Fmt.{signed_decimal};
 ghost use Rattle.hex.specs.Hex.{encode_lower};
@@ -8,7 +8,7 @@ use crate::hex_digits::encode_hex;
 use itoa::Buffer;
 use std::alloc::AllocError;
 
-/// Appends words, as they stand.
+/// Appends a text as it is.
 pub fn put_words(out: &mut Vec<u8>, words: &str) -> Result<(), AllocError>
     ensures { OnOk result (out.new.items ≡ out.old.items ++ words.now) }
 {
@@ -23,7 +23,7 @@ pub fn put_number(out: &mut Vec<u8>, number: u64) -> Result<(), AllocError>
     out.extend_from_slice(buffer.format(number).as_bytes())
 }
 
-/// Appends a number in decimal, behind a minus sign where it is negative.
+/// Appends a number in decimal, after a minus sign if it is negative.
 pub fn put_signed(out: &mut Vec<u8>, number: i64) -> Result<(), AllocError>
     ensures { OnOk result (out.new.items ≡ out.old.items ++ signed_decimal number) }
 {
@@ -31,7 +31,7 @@ pub fn put_signed(out: &mut Vec<u8>, number: i64) -> Result<(), AllocError>
     out.extend_from_slice(buffer.format(number).as_bytes())
 }
 
-/// Appends a line of a word and a number. After a refusal a part of it may stand there.
+/// Appends a line of a keyword and a number. On an error a part of it may be there.
 pub fn put_number_line(out: &mut Vec<u8>, word: &str, number: u64) -> Result<(), AllocError>
     ensures { OnOk result (out.new.items ≡ out.old.items ++ number_line word.now number) }
 {
@@ -61,7 +61,7 @@ fn put_digits(out: &mut Vec<u8>, bytes: &[u8]) -> Result<(), AllocError>
     Ok(())
 }
 
-/// Appends bytes as hex digits in lower case, and a dash where there is none.
+/// Appends bytes as hex digits in lower case, or a dash if there are none.
 pub fn put_hex(out: &mut Vec<u8>, bytes: &[u8]) -> Result<(), AllocError>
     ensures { OnOk result (out.new.items ≡ out.old.items ++ hex_text bytes.now) }
 {

@@ -1,4 +1,4 @@
-//! The lines that stand for a record.
+//! The lines that are printed in place of a record.
 ghost use Rattle.std.specs.Prelude.{◌≡◌, ◌++◌, OnOk, codes};
 ghost use Rattle.record_text.specs.Words.{number_line};
 ghost use Rattle.record_text.specs.Summaries.{digest_line, summary_lines};
@@ -7,8 +7,8 @@ use crate::put::{put_hex, put_number_line, put_words};
 use det_values::OutOfMemory;
 use std::alloc::AllocError;
 
-/// What is told of a simulated run: its number, its cycles and the refused ones among them, and the
-/// length and the SHA-256 digest of its record.
+/// The summary of a simulated run: its number, its cycles, and how many of them were refused. Of
+/// its record, the length in bytes and the SHA-256 digest.
 #[derive(Clone, Copy, Debug, PartialEq, Eq, Drop)]
 pub struct Summary {
     pub number: u64,
@@ -27,7 +27,7 @@ fn put_digest_line(out: &mut Vec<u8>, digest: &[u8]) -> Result<(), AllocError>
     Ok(())
 }
 
-/// Appends the lines of a simulated run. After a refusal some of them may stand there.
+/// Appends the lines of a summary. After `OutOfMemory` a part of the lines may be there.
 pub fn put_summary_lines(out: &mut Vec<u8>, summary: &Summary) -> Result<(), OutOfMemory>
     ensures { OnOk result (out.new.items ≡ out.old.items ++ summary_lines summary.now) }
 {
@@ -39,8 +39,8 @@ pub fn put_summary_lines(out: &mut Vec<u8>, summary: &Summary) -> Result<(), Out
     Ok(())
 }
 
-/// Appends the line of a salvaged record of so many cycles. After a refusal a part of it may stand
-/// there.
+/// Appends the line of a salvaged record with `cycles` cycles. After `OutOfMemory` a part of it may
+/// be there.
 pub fn put_salvaged_line(out: &mut Vec<u8>, cycles: u32) -> Result<(), OutOfMemory>
     ensures { OnOk result (out.new.items ≡ out.old.items ++ number_line (codes "salvaged") cycles) }
 {

@@ -61,7 +61,7 @@ begun_run_steady layout =
     (steady_then 0 (refused_at input) (λ f bytes. ready_frame (f, bytes)) (refused_steady input)
     (λ f. steady_give 0 (ready (items.Frame f))))))
 
--- behind a tag
+-- after a tag
 abbrev behind_tag : Place → ℕ → List ℕ → Read OpeningValue
 behind_tag place b bytes = tagged_opening place b bytes (suc (length bytes))
 
@@ -177,7 +177,7 @@ either : (b : Bool) (p q : Read Frame) (r s : Read OpeningValue) → framed p �
 either true p q r s h k = h
 either false p q r s h k = k
 
--- one frame alone may stand in a place
+-- only one frame may come in a place
 only_goes_on : (f : Frame) (b tag : ℕ) (why : Reason) (bytes : List ℕ) (left : ℕ)
     → framed (cond (eqb b tag) (Got (f, bytes)) (Bad why left)) ≡ (cond (eqb b tag) (ready_frame (f, bytes)) (Bad why left) >>= go_on)
 only_goes_on f b tag why bytes left = either (eqb b tag) (Got (f, bytes)) (Bad why left) (ready_frame (f, bytes)) (Bad why left) refl refl

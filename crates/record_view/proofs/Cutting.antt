@@ -1,4 +1,4 @@
--- The bytes of an item alone show it too.
+-- A view also holds of the item's own bytes, without those after them.
 use Rattle.std.proofs.Common.{◌≡◌, ℕ, ◌≤◌, List, [], ◌∷◌, ◌++◌, length, take, drop, refl, sym, ap, subst, ◌∙◌, arith, length-append}
 use Rattle.std.proofs.Common.{length-take}
 use Rattle.std.proofs.lemmas.List.{drop-append-le, take-append-drop, append-nil, append_cancel_right}
@@ -27,7 +27,8 @@ use Rattle.record_view.specs.Laws.{CutShows}
 use Rattle.record_view.proofs.Local.{IsLocal, local_many, sample_local, drawn_local, string_local, refusal_local}
 use Rattle.record_view.proofs.Spelled.{front_spells, spelling_read}
 
--- what is read from one place of some bytes up to another is read there of the front alone that has both
+-- what is read from one place of some bytes up to another is also read there from any front that
+-- has both
 read_alone : {A : Type 0} (read : List ℕ → Read A) → IsLocal read → (front tail : List ℕ) (a : A) (from to : ℕ) → from ≤ length front
     → to ≤ length front → read (drop from (front ++ tail)) ≡ Got (a, drop to (front ++ tail))
     → read (drop from front) ≡ Got (a, drop to front)

@@ -1,4 +1,4 @@
--- What was read of an item stays where it stands when more bytes come.
+-- What was read of an item stays at its place when more bytes come.
 use Rattle.std.proofs.Common.{◌≡◌, ℕ, ◌≤◌, List, [], ◌++◌, length, drop, sym, ap, ◌∙◌, arith, append_assoc, length-append}
 use Rattle.std.proofs.lemmas.List.{drop-append-le}
 use Rattle.det_values.specs.declared.frames.CycleInput.{CycleInput}
@@ -37,7 +37,7 @@ input_grows events p bytes more input h =
       within = omega (arith, length-append bytes more, h.within);
     }
 
--- the bytes behind a place, with more behind them
+-- the bytes after a place, with more after them
 further : (n : ℕ) (bytes more tail : List ℕ) → n ≤ length bytes → drop n (bytes ++ more) ++ tail ≡ drop n bytes ++ (more ++ tail)
 further n bytes more tail le =
     ap (λ (xs : List ℕ). xs ++ tail) (drop-append-le n bytes more le) ∙ append_assoc (drop n bytes) more tail

@@ -1,4 +1,4 @@
--- A header stands in its own place, and a frame in any other.
+-- A header comes in its own place, and a frame in any other.
 use Rattle.std.proofs.Common.{◌≡◌, ◌≢◌, ℕ, List, drop, refl, ap, subst}
 use Rattle.det_values.specs.Values.{ProfileValue}
 use Rattle.det_values.specs.declared.frames.Frame.{Frame}
@@ -23,7 +23,7 @@ frame_is_none p rest r e =
     (items.Header p, rest) b.2) in
     absurd cc
 
--- a header is read in its own place alone
+-- a header is read only in its own place
 pub header_place : (place : Place) (bytes : List ℕ) (p : ProfileValue) (rest : List ℕ) → item_at place bytes ≡ Got (items.Header p, rest)
     → place ≡ places.Header
 unfolding item_at

@@ -1,4 +1,4 @@
--- What a reader gives of some bytes it gives of those alone that it reads.
+-- A reader returns the same from only those bytes that it reads.
 use Rattle.std.proofs.Common.{◌≡◌, ℕ, zero, suc, ◌+◌, ◌-◌, ◌*◌, ◌≤◌, Bool, true, false, cond, List, [], ◌∷◌, ◌++◌, length, take, drop}
 use Rattle.std.proofs.Common.{sym, ap, ◌∙◌, arith, inl, inr, length-append, length-drop}
 use Rattle.std.proofs.lemmas.Bool.{cases_lt}
@@ -16,7 +16,7 @@ use Rattle.record_grammar.specs.Grammar.{refusal_at}
 use Rattle.record_grammar.proofs.Steady.{bind_got, got_is, raw_short, raw_long}
 use Rattle.record_view.proofs.Numbers.{number_takes}
 
--- a value was read of bytes of which at least `tail` is left, and is read of those before `tail` alone
+-- a value was read, and at least `tail` is left: it is also read from only the bytes before `tail`
 pub record IsAlone {A : Type 0} (read : List ℕ → Read A) (front tail : List ℕ) (x : A × List ℕ) : Type 0 where
   pub rest : List ℕ
   pub is : x.1 ≡ rest ++ tail
@@ -54,7 +54,7 @@ local_then {A} {B} r f hr hf = record {
 
 -- ---- numbers, bytes, and values in a row
 
--- one of two readers, of which the other refuses
+-- one of two readers; the other one refuses
 taken : (c : Bool) (read : List ℕ → Read ℕ) (front tail : List ℕ) (left : ℕ) (x : ℕ × List ℕ)
     → (read (front ++ tail) ≡ Got x → length tail ≤ length x.1 → IsAlone read front tail x)
     → cond c (read (front ++ tail)) (Bad Range left) ≡ Got x → length tail ≤ length x.1

@@ -1,4 +1,4 @@
--- Values in a row, of which some were read already.
+-- Values one after another, some of which were read already.
 use Rattle.std.proofs.Common.{◌≡◌, ℕ, zero, suc, ◌+◌, ◌-◌, ◌<◌, ◌≤◌, List, [], ◌∷◌, ◌++◌, length, drop, refl, sym, ap, subst, ◌∙◌}
 use Rattle.std.proofs.Common.{append_assoc, arith, length-drop, length-append}
 use Rattle.std.proofs.lemmas.List.{append-nil, drop-drop}

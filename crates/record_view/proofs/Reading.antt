@@ -1,4 +1,4 @@
--- Where the parts of an item stand, as they are read.
+-- The places of an item's parts, as they are read.
 use Rattle.std.proofs.Common.{◌≡◌, ℕ, suc, ◌+◌, ◌-◌, ◌≤◌, Bool, true, false, eqb}
 use Rattle.std.proofs.Common.{cond, List, [], ◌∷◌, length, drop, length-drop, Option, arith, refl, sym}
 use Rattle.std.proofs.Common.{ap, ◌∙◌, ℤ}

@@ -1,4 +1,4 @@
--- Reading on, with numbers alone kept, is reading from the beginning.
+-- Reading on, where only numbers are kept, is reading from the beginning.
 use Rattle.std.proofs.Common.{◌≡◌, ℕ, ◌+◌, ◌-◌, ◌≤◌, List, [], ◌∷◌, ◌++◌, length, drop, Err, arith, refl, sym, ap, subst}
 use Rattle.std.proofs.Common.{◌∙◌, length-drop, length-take, take, inl, inr}
 use Rattle.std.proofs.lemmas.Bool.{cases_lt}
@@ -112,7 +112,7 @@ module _ {A : Type 0} (item : List ℕ → Read A) where
       ∙ ap (λ (xs : List ℕ). with_front h.done (many item left xs)) (append-nil (drop read bytes)))
       (with_front_stops h.done stop (many item left (drop read bytes)) s)
 
--- what a reader that may be taken up again reads of these bytes alone
+-- what a reader that can be resumed reads from only these bytes
 now_is : (reading : List ℕ → Read Item) (place : Place) (bytes rest : List ℕ)
     → ((tail : List ℕ) → item_at place (bytes ++ tail) ≡ reading (rest ++ tail)) → item_at place bytes ≡ reading rest
 now_is reading place bytes rest h = ap (item_at place) (sym (append-nil bytes)) ∙ h [] ∙ ap reading (append-nil rest)

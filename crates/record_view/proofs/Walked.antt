@@ -1,4 +1,4 @@
--- A walk over values where they stand.
+-- A walk over values at their places.
 use Rattle.std.proofs.Common.{◌≡◌, ℕ, zero, suc, ◌-◌, ◌<◌, true, false, List, [], ◌∷◌, length, refl, sym, ap, subst, ◌∙◌, arith}
 use Rattle.record_grammar.specs.Read.{Read, Got, More, Bad, ◌>>=◌, many}
 use Rattle.record_view.specs.declared.stop.Stop.{Stop}
@@ -45,7 +45,7 @@ module _ {A : Type 0} (item : List ℕ → Read A) where
   pub walk_goes_on : (n : ℕ) (bytes : List ℕ) (stop : Stop) → 0 < n → Stops stop (item bytes) → stand_at item n bytes ≡ true → ⊥
   walk_goes_on n bytes stop lt s h = none_got stop (many item n bytes) (many_stops item n bytes stop lt s) h
 
--- as many are given as are counted
+-- as many values are returned as are counted
 pub walk_counted : {A : Type 0} (item : List ℕ → Read A) (n : ℕ) (bytes : List ℕ) → stand_at item n bytes ≡ true
     → length (values_at item n bytes) ≡ n
 walk_counted {A} item zero bytes h = ap length (walk_none item zero bytes refl)

@@ -9,14 +9,14 @@ use Rattle.record_view.specs.declared.partial.Scan.{Scan}
 use Rattle.record_view.specs.Shows.{Shows, events_of}
 use Rattle.record_view.specs.Scans.{IsScan}
 
--- `events_of place ≤ 65536` holds wherever a header was read, whose field has two bytes
+-- `events_of place ≤ 65536` holds after every header, whose field for it has two bytes
 abbrev pub SpanIsSpelling : Type 0
 SpanIsSpelling =
     (place : Place) (span : ItemSpan) (bytes : List ℕ) (item : Item) → events_of place ≤ 65536
     → AreBytes bytes → Shows place span bytes item
     → MayStand place item × (take span.len bytes ≡ item_spelling place item)
 
--- a view holds of the item's bytes alone
+-- a view also holds of the item's own bytes, without those after them
 abbrev pub CutShows : Type 0
 CutShows =
     (place : Place) (span : ItemSpan) (bytes : List ℕ) (item : Item) → events_of place ≤ 65536

@@ -1,4 +1,4 @@
--- The grammar's reader of an item in two parts: up to the elements, and the rest.
+-- The grammar's reader of an item in two parts: the opening, up to the elements, and the rest.
 use Rattle.std.specs.Prelude.{ℕ, List, [], ◌∷◌, length, ◌==◌, nat_lt, if◌then◌else◌}
 use Rattle.det_values.specs.declared.format.Format.{Format}
 use Rattle.det_values.specs.declared.frames.CycleInput.{CycleInput}
@@ -17,7 +17,7 @@ use Rattle.record_grammar.specs.Grammar.{profile_at, input_at, refused_at, tag_r
 use Rattle.record_grammar.specs.Grammar.{finished_from}
 use Rattle.record_grammar.specs.Laws.{tag_reason_at}
 
--- the first part: a whole item, or the elements read so far and how many are left
+-- the opening: a whole item, or the elements read so far and how many are left
 pub data OpeningValue : Type 0 where
   ready : Item → OpeningValue
   init_of : List (List ℕ) → ℕ → OpeningValue
@@ -59,7 +59,7 @@ opening_at place (b ∷ bytes) = tagged_opening place b bytes (length (b ∷ byt
 abbrev pub framed : Read Frame → Read Item
 framed f = f >>= λ x. Got (items.Frame x.0, x.1)
 
--- the whole item, by its first part
+-- the whole item, from its opening
 abbrev pub go_on : OpeningValue × List ℕ → Read Item
 go_on (ready item, rest) = Got (item, rest)
 go_on (init_of done left, rest) = framed (init_from done left rest)

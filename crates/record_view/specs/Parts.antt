@@ -1,4 +1,4 @@
--- The parts of an item, as accessors give them.
+-- The parts of an item, as accessors return them.
 use Rattle.std.specs.Prelude.{◌≡◌, ℕ, ℤ, List}
 use Rattle.det_values.specs.Values.{SampleValue}
 use Rattle.det_values.specs.declared.frames.DrawnElement.{DrawnElement}

@@ -1,4 +1,4 @@
--- What a scan knows of an item whose first bytes were read: numbers, and no values.
+-- What a scan says of an item whose first bytes were read: numbers, and no values.
 use Rattle.std.specs.Prelude.{◌≡◌, ℕ, ◌≤◌, List, [], ◌++◌, length, drop, Result, Ok, Err}
 use Rattle.det_values.specs.declared.frames.CycleInput.{CycleInput}
 use Rattle.record_grammar.specs.declared.place.Place.{Place}
@@ -24,7 +24,7 @@ use Rattle.record_view.specs.Shows.{ShowsInput, ShowsParts, Shows, events_of}
 
 -- ---- the first part
 
--- the first part is this, and `rest` follows it
+-- the opening of the item is this, and `rest` follows it
 abbrev pub ShowsOpening : Place → Opening → List ℕ → OpeningValue → List ℕ → Type 0
 ShowsOpening place (opening.Ready kind) bytes (ready item) rest =
     (len : ℕ) × (len ≤ length bytes) × (rest ≡ drop len bytes)
@@ -53,7 +53,7 @@ ShowsInputOf events view (Err stop) bytes = Stops stop (input_at events (drop 1 
 
 -- ---- elements
 
--- of `count` values from `at` on, those up to `read` were read, and `left` are left
+-- Of `count` values from offset `at` on, those before offset `read` were read, and `left` are left.
 pub record ElementScan {A : Type 0} (item : List ℕ → Read A) (count at left read : ℕ)
     (bytes : List ℕ) : Type 0 where
   pub done : List A
@@ -82,18 +82,18 @@ IsPartialScan place partials.Nothing read bytes = read ≡ 0
 IsPartialScan place (partials.Init count left) read bytes = InitScan place count left read bytes
 IsPartialScan place (partials.Run run) read bytes = RunScan place run read bytes
 
--- this is known of the item in a place, whose first bytes these are
+-- the scan is right for the item that comes in a place and begins with these bytes
 abbrev pub IsScan : Place → Scan → List ℕ → Type 0
 IsScan place scan bytes = IsPartialScan place scan.partial scan.read bytes
 
--- ---- the answer
+-- ---- the result
 
 abbrev pub IsAnswer : Place → Result ItemSpan Stop → Scan → List ℕ → Type 0
 IsAnswer place (Ok span) scan bytes = (item : Item) × Shows place span bytes item
 IsAnswer place (Err stops.More) scan bytes = (item_at place bytes ≡ More) × IsScan place scan bytes
 IsAnswer place (Err (stops.Bad reason left)) scan bytes = item_at place bytes ≡ Bad reason left
 
--- a whole item and its view, or a scan of one that goes on, or a fault
+-- a whole item and its view, or a scan of an item that goes on, or a fault
 abbrev pub IsStep : Place → Step → List ℕ → Type 0
 IsStep place step bytes = IsAnswer place step.answer step.scan bytes
 

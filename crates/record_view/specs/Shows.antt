@@ -26,7 +26,7 @@ use Rattle.record_view.specs.declared.view.ItemKind.TheVariants as kinds
 use Rattle.record_view.specs.declared.view.ItemSpan.{ItemSpan}
 use Rattle.record_view.specs.declared.view.ItemView.{ItemView}
 
--- how many events the frames from a place on have
+-- the number of events of the frames from a place on
 abbrev pub events_of : Place → ℕ
 events_of (places.Register layout) = layout.events
 events_of (places.Discover layout) = layout.events
@@ -45,7 +45,7 @@ pub record ShowsInput (events : ℕ) (p : InputView) (bytes : List ℕ) (input :
   pub order : p.samples_at ≤ p.outcome_at
   pub within : p.outcome_at ≤ length bytes
 
--- elements and output are at these offsets
+-- the elements and the output are at these offsets
 pub record ShowsFinished (format : Format) (count at output_at len : ℕ) (bytes : List ℕ)
     (outcome : Outcome) : Type 0 where
   pub elements : List _
@@ -71,7 +71,7 @@ ShowsOutcome format (ends.Finished count at output_at) len bytes outcome =
     ShowsFinished format count at output_at len bytes outcome
 ShowsOutcome format (ends.Refused at) len bytes outcome = ShowsRefused at len bytes outcome
 
--- where the outcome's elements or refusal begin
+-- the offset of the outcome's elements or of its refusal
 abbrev pub first_of : OutcomeView → ℕ
 first_of (ends.Finished count at output_at) = at
 first_of (ends.Refused at) = at
@@ -95,27 +95,27 @@ ShowsParts place (kinds.Frame kind) len bytes (items.Frame frame) =
     ShowsFrame place kind len bytes frame
 ShowsParts place kind len bytes item = ⊥
 
--- the item comes first in these bytes, in this place of a record, and its parts are where the view
--- says
+-- The item comes first in these bytes, in this place of a record, and its parts are at the view's
+-- offsets.
 pub record Shows (place : Place) (span : ItemSpan) (bytes : List ℕ) (item : Item) : Type 0 where
   pub read : item_at place bytes ≡ Got (item, drop span.len bytes)
   pub within : span.len ≤ length bytes
   pub parts : ShowsParts place span.kind span.len bytes item
 
--- these are an item's bytes and no others, and the view is of it
+-- these are exactly the item's bytes, and the view is of it
 pub record IsSpelling (view : ItemView) (item : Item) (bytes : List ℕ) : Type 0 where
   pub shows : Shows view.place view.span bytes item
   pub exact : length bytes ≡ view.span.len
 
 -- ---- frames
 
--- the view of a frame as one of an item
+-- a view of a frame as a view of an item
 abbrev pub item_view : FrameView → ItemView
 item_view view = record {
   place = view.place;
   span = record { kind = kinds.Frame view.kind; len = view.len };
 }
 
--- these are a frame's bytes and no others, and the view is of it
+-- these are exactly the frame's bytes, and the view is of it
 abbrev pub IsFrameSpelling : FrameView → Frame → List ℕ → Type 0
 IsFrameSpelling view frame bytes = IsSpelling (item_view view) (items.Frame frame) bytes

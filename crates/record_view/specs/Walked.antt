@@ -1,4 +1,4 @@
--- Values in a row of bytes.
+-- Values that come one after another in some bytes.
 use Rattle.std.specs.Prelude.{ℕ, List, [], Bool, true, false}
 use Rattle.record_grammar.specs.Read.{Read, Got, More, Bad, many}
 

@@ -1,4 +1,5 @@
-//! The fields of variable length: elements and outputs.
+//! Fields of variable length: elements and outputs. A reader takes the bytes from its field on, and
+//! returns the value and the bytes after it.
 ghost use Rattle.std.specs.Prelude.{◌≡◌, ◌≤◌, length, drop, IfOk};
 ghost use Rattle.record_grammar.specs.Read.{raw_at};
 ghost use Rattle.record_grammar.specs.Grammar.{string_at, element_at, drawn_at};
@@ -11,7 +12,7 @@ use det_values::Format;
 
 const MAX_OUTPUT: u32 = 1_048_576;
 
-/// The bytes from a place on.
+/// The bytes from `read` on.
 pub fn rest_of(bytes: &[u8], read: usize) -> &[u8]
     requires { read ≤ length bytes.now }
     ensures { result.now ≡ drop read bytes.now }
@@ -31,7 +32,7 @@ pub fn raw(len: usize, bytes: &[u8]) -> Result<(&[u8], &[u8]), Stop>
     Ok(bytes.split_at(len))
 }
 
-/// The first element's bytes, and the rest.
+/// The bytes of the first element, and the rest.
 #[tactic(auto, unfolding(record_grammar::specs::Grammar::string_at))]
 pub fn element(bytes: &[u8]) -> Result<(&[u8], &[u8]), Stop>
     ensures gives { Gives (λ x. (x.0.now, x.1.now)) result (element_at bytes.now) }
@@ -42,7 +43,8 @@ pub fn element(bytes: &[u8]) -> Result<(&[u8], &[u8]), Stop>
     Ok((bytes, rest))
 }
 
-/// The bytes and draws of a finished cycle's first element, and the rest. Format 1 has no draws.
+/// The bytes and the draws of the first element of a finished cycle, and the rest. In format 1 the
+/// draws are 0.
 #[tactic(auto, unfolding(record_grammar::specs::Grammar::drawn_at))]
 pub fn drawn(format: Format, bytes: &[u8]) -> Result<(&[u8], u32, &[u8]), Stop>
     ensures gives { Gives (λ x. (an_element x.0.now x.1, x.2.now)) result

@@ -1,4 +1,4 @@
-//! Headers. Only what the frames depend on is kept.
+//! Headers. Of a header only the layout is kept, on which the frames depend.
 ghost use Rattle.std.specs.Prelude.{◌≡◌, ◌≤◌, IfOk};
 ghost use Rattle.record_grammar.specs.Read.{many};
 ghost use Rattle.record_grammar.specs.Grammar.{signed_at, exactly_at, magic_at, format_at};
@@ -40,7 +40,7 @@ fn exactly(reason: Reason, expected: u8, bytes: &[u8]) -> Result<(u8, &[u8]), St
     }
 }
 
-/// The text DETREC, of which the last byte is given, and the rest.
+/// Reads the text DETREC. Returns its last byte, and the rest.
 #[tactic(auto, unfolding(record_grammar::specs::Grammar::magic_at))]
 pub fn magic(bytes: &[u8]) -> Result<(u8, &[u8]), Stop>
     ensures { Gives (λ x. (x.0, x.1.now)) result (magic_at bytes.now) }
@@ -98,7 +98,7 @@ fn skip_params(bytes: &[u8]) -> Result<&[u8], Stop>
     skip_all_params(count, rest)
 }
 
-/// A byte of an event's name, and the rest.
+/// One byte of an event's name, and the rest.
 #[tactic(auto, unfolding(record_grammar::specs::Grammar::name_byte_at))]
 pub fn name_byte(bytes: &[u8]) -> Result<(u8, &[u8]), Stop>
     ensures { Gives (λ x. (x.0, x.1.now)) result (name_byte_at bytes.now) }
@@ -175,7 +175,7 @@ fn skip_all_events(format: Format, count: u16, bytes: &[u8]) -> Result<&[u8], St
     Ok(rest)
 }
 
-/// The format and the number of events of a header, on which its frames depend.
+/// The format and the number of events of a header, and the rest.
 #[tactic(auto, unfolding(record_grammar::specs::Grammar::profile_at, record_grammar::specs::Grammar::events_at))]
 pub fn layout(bytes: &[u8]) -> Result<(Layout, &[u8]), Stop>
     ensures { SkipsAs layout_of (λ x. (x.0, x.1.now)) result (profile_at bytes.now) }

@@ -1,4 +1,4 @@
-//! A cycle's input, and the place where a cycle was refused.
+//! A cycle's input, and the refusal of a cycle.
 ghost use Rattle.std.specs.Prelude.{◌≡◌, ◌≤◌, IfOk};
 ghost use Rattle.record_grammar.specs.Read.{many};
 ghost use Rattle.record_grammar.specs.Grammar.{time_at, sample_at, most_samples, samples_at};
@@ -14,6 +14,7 @@ use det_values::{Phase, RefusedAt};
 
 const MAX_SAMPLES: u32 = 4_096;
 
+/// The time of a cycle, if it is known, and the rest.
 #[tactic(auto, unfolding(record_grammar::specs::Grammar::time_at))]
 pub fn time(bytes: &[u8]) -> Result<(Option<u64>, &[u8]), Stop>
     ensures { Gives (λ x. (x.0, x.1.now)) result (time_at bytes.now) }
@@ -26,7 +27,7 @@ pub fn time(bytes: &[u8]) -> Result<(Option<u64>, &[u8]), Stop>
     Ok((Some(time), rest))
 }
 
-/// Event and value of the first sample, and the rest. Events are numbered below `events`.
+/// Event and value of the first sample, and the rest. Only events below `events` are accepted.
 #[tactic(auto, unfolding(record_grammar::specs::Grammar::sample_at))]
 pub fn sample(events: u16, bytes: &[u8]) -> Result<(u16, i64, &[u8]), Stop>
     ensures gives { Gives (λ x. (a_sample x.0 x.1, x.2.now)) result (sample_at events bytes.now) }
@@ -37,7 +38,7 @@ pub fn sample(events: u16, bytes: &[u8]) -> Result<(u16, i64, &[u8]), Stop>
     Ok((event, value, rest))
 }
 
-/// Skips `count` samples.
+/// Skips `count` samples and returns the rest.
 pub fn skip_samples(events: u16, count: u32, bytes: &[u8]) -> Result<&[u8], Stop>
     ensures { SkipsMany (λ x. x.now) count result (many (sample_at events) count bytes.now) }
 {
@@ -51,6 +52,7 @@ pub fn skip_samples(events: u16, count: u32, bytes: &[u8]) -> Result<&[u8], Stop
     Ok(rest)
 }
 
+/// The greatest number of samples of a cycle, by the number of events.
 pub fn max_samples(events: u16) -> u32
     ensures { result ≡ most_samples events }
 {
@@ -87,7 +89,7 @@ fn max_element(phase: Phase) -> u32
     }
 }
 
-/// The place and code of a refusal, and the rest.
+/// The place and the code of a refusal, and the rest.
 #[tactic(auto, unfolding(record_grammar::specs::Grammar::refusal_at))]
 pub fn refusal(bytes: &[u8]) -> Result<(RefusedAt, &[u8]), Stop>
     ensures { Gives (λ x. (x.0, x.1.now)) result (refusal_at bytes.now) }
@@ -106,7 +108,7 @@ pub fn refusal(bytes: &[u8]) -> Result<(RefusedAt, &[u8]), Stop>
     Ok((refused, rest))
 }
 
-/// Skips a refusal.
+/// Skips a refusal and returns the rest.
 pub fn skip_refusal(bytes: &[u8]) -> Result<&[u8], Stop>
     ensures { SkipsTo (λ x. x.now) result (refusal_at bytes.now) }
 {

@@ -1,12 +1,12 @@
 //! Laws of views, as contracts of empty functions.
 ghost use Rattle.record_view.specs.Laws.{SpanIsSpelling, CutShows, EqualItems, ScanStays};
 
-/// The bytes of an item are its one spelling.
+/// The bytes of an item are its only spelling.
 pub fn span_is_spelling()
     ensures { SpanIsSpelling }
 {}
 
-/// A view of an item holds of the item's bytes alone, whatever bytes followed them.
+/// A view of an item also holds of the item's own bytes, cut off from those after them.
 pub fn cut_shows()
     ensures { CutShows }
 {}

@@ -1,5 +1,5 @@
-//! Views of a record's items: a struct of offsets over the bytes that hold an item. An item is
-//! checked once against the grammar, and nothing of it is copied. No function takes memory.
+//! Views of a record's items: offsets into the bytes that hold an item. An item is checked once
+//! against the grammar, and nothing of it is copied. No function takes memory.
 #![tactic(auto)]
 
 mod equal;

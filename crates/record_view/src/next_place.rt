@@ -1,4 +1,4 @@
-//! The place after an item.
+//! The place after an item, and what a place says of its record.
 ghost use Rattle.std.specs.Prelude.{◌≡◌, ℕ, List};
 ghost use Rattle.record_grammar.specs.declared.item.Item.{Item};
 ghost use Rattle.record_grammar.specs.Places.{after, format_of, CanFollow};
@@ -8,7 +8,7 @@ use crate::view::{FrameKind, ItemKind};
 use det_values::Format;
 use record_grammar::Place;
 
-/// The place after an item of this kind, in the place that it has.
+/// The place after an item of this kind in `place`.
 pub fn place_after(place: Place, kind: ItemKind) -> Place
     ensures { (item : Item) (len : ℕ) (bytes : List ℕ) → CanFollow place item
         → ShowsParts place kind len bytes item → result ≡ after place item }
@@ -31,7 +31,7 @@ pub fn place_after(place: Place, kind: ItemKind) -> Place
     }
 }
 
-/// How many events the frames of this record have; 0 where no frame follows.
+/// The number of events in this record; 0 where no frame follows.
 pub fn events_at(place: Place) -> u16
     ensures { result ≡ events_of place }
 {
@@ -44,7 +44,7 @@ pub fn events_at(place: Place) -> u16
     }
 }
 
-/// The format of this record's frames; 1 where no frame follows.
+/// The format of this record; 1 where no frame follows.
 pub fn format_at(place: Place) -> Format
     ensures { result ≡ format_of place }
 {

@@ -1,4 +1,5 @@
-//! Numbers within limits, read at once where all their bytes have come, and else byte by byte.
+//! Numbers within limits. A number that is there as a whole and within them is read at once.
+//! Otherwise its bytes are checked one by one, so it is refused at its first wrong byte.
 ghost use Rattle.std.specs.Prelude.{◌≡◌, ◌≤◌, ◌<◌, ◌^◌, IfOk};
 ghost use Rattle.record_grammar.specs.Numbers.{lowest, highest, can_be, number_from, number};
 ghost use Rattle.record_grammar.specs.Numbers.{IsWithin};
@@ -9,11 +10,11 @@ ghost use Rattle.det_values.specs.Limits.{IsSampleValue};
 use crate::stop::Stop;
 use record_grammar::{Limits, Reason};
 
-/// The greatest value of a sample, and the greatest with a minus sign.
+/// The greatest magnitude of a sample's value.
 const MOST_VALUE: u64 = 1_000_000_000_000;
 
-/// The least and the greatest number that begin with the bytes of `value` and have `left` bytes
-/// more.
+/// The least and the greatest number that begin with the bytes of `value` and have `left` more
+/// bytes.
 fn ends(left: usize, value: u64) -> (u64, u64)
     requires { highest left value < 2 ^ 64 }
     ensures low { result.0 ≡ lowest left value }
@@ -28,8 +29,8 @@ fn ends(left: usize, value: u64) -> (u64, u64)
     (low, high)
 }
 
-/// Whether some number within the limits begins with the bytes of `value` and has `left` bytes
-/// more.
+/// Whether some number within the limits begins with the bytes of `value` and has `left` more
+/// bytes.
 fn may_begin(limits: Limits, left: usize, value: u64) -> bool
     requires { highest left value < 2 ^ 64 }
     ensures { result ≡ can_be limits left value }
@@ -41,8 +42,8 @@ fn may_begin(limits: Limits, left: usize, value: u64) -> bool
     }
 }
 
-/// A number of `width` bytes, byte by byte, so that it is refused at the first byte with which none
-/// is left.
+/// A number of `width` bytes, read byte by byte. It is refused at the first byte after which no
+/// number within the limits is left.
 fn number_at(width: usize, limits: Limits, bytes: &[u8]) -> Result<(u64, &[u8]), Stop>
     requires { width ≤ 8 }
     ensures gives { Gives (λ x. (x.0, x.1.now)) result (number_from limits width 0 bytes.now) }
@@ -64,7 +65,7 @@ fn number_at(width: usize, limits: Limits, bytes: &[u8]) -> Result<(u64, &[u8]),
     Ok((value, &bytes[width..]))
 }
 
-/// A byte from least to most.
+/// A u8 from `least` to `most`, and the rest.
 #[tactic(auto, unfolding(record_grammar::specs::Numbers::number_from, record_grammar::specs::Numbers::lowest, record_grammar::specs::Numbers::highest))]
 pub fn u8_at(least: u8, most: u8, bytes: &[u8]) -> Result<(u8, &[u8]), Stop>
     ensures gives { Gives (λ x. (x.0, x.1.now)) result (number 1 least most bytes.now) }
@@ -85,7 +86,7 @@ pub fn u8_at(least: u8, most: u8, bytes: &[u8]) -> Result<(u8, &[u8]), Stop>
     }
 }
 
-/// A u16 from least to most.
+/// A u16 from `least` to `most`, and the rest.
 pub fn u16_at(least: u16, most: u16, bytes: &[u8]) -> Result<(u16, &[u8]), Stop>
     ensures gives { Gives (λ x. (x.0, x.1.now)) result (number 2 least most bytes.now) }
     ensures within { IfOk result (λ x. (least ≤ x.0) × (x.0 ≤ most)) }
@@ -104,7 +105,7 @@ pub fn u16_at(least: u16, most: u16, bytes: &[u8]) -> Result<(u16, &[u8]), Stop>
     Ok((n as u16, rest))
 }
 
-/// A u32 from least to most.
+/// A u32 from `least` to `most`, and the rest.
 pub fn u32_at(least: u32, most: u32, bytes: &[u8]) -> Result<(u32, &[u8]), Stop>
     ensures gives { Gives (λ x. (x.0, x.1.now)) result (number 4 least most bytes.now) }
     ensures within { IfOk result (λ x. (least ≤ x.0) × (x.0 ≤ most)) }
@@ -123,7 +124,7 @@ pub fn u32_at(least: u32, most: u32, bytes: &[u8]) -> Result<(u32, &[u8]), Stop>
     Ok((n as u32, rest))
 }
 
-/// A number of eight bytes within the limits.
+/// A number of eight bytes within the limits, and the rest.
 fn wide_at(limits: Limits, bytes: &[u8]) -> Result<(u64, &[u8]), Stop>
     ensures gives { Gives (λ x. (x.0, x.1.now)) result (number_from limits 8 0 bytes.now) }
     ensures within { IfOk result (λ x. IsWithin limits x.0) }
@@ -137,7 +138,7 @@ fn wide_at(limits: Limits, bytes: &[u8]) -> Result<(u64, &[u8]), Stop>
     number_at(8, limits, bytes)
 }
 
-/// A u64 from least to most.
+/// A u64 from `least` to `most`, and the rest.
 pub fn u64_at(least: u64, most: u64, bytes: &[u8]) -> Result<(u64, &[u8]), Stop>
     ensures gives { Gives (λ x. (x.0, x.1.now)) result (number 8 least most bytes.now) }
     ensures within { IfOk result (λ x. (least ≤ x.0) × (x.0 ≤ most)) }
@@ -145,7 +146,7 @@ pub fn u64_at(least: u64, most: u64, bytes: &[u8]) -> Result<(u64, &[u8]), Stop>
     wide_at(Limits::Between { least, most }, bytes)
 }
 
-/// Any i64.
+/// Any i64, and the rest.
 #[tactic(auto, unfolding(record_grammar::specs::Grammar::signed_at))]
 pub fn signed(bytes: &[u8]) -> Result<(i64, &[u8]), Stop>
     ensures { Gives (λ x. (x.0, x.1.now)) result (signed_at bytes.now) }
@@ -154,7 +155,7 @@ pub fn signed(bytes: &[u8]) -> Result<(i64, &[u8]), Stop>
     Ok((n.cast_signed(), rest))
 }
 
-/// An i64 from -10^12 to 10^12.
+/// An i64 from -10^12 to 10^12, and the rest.
 #[tactic(auto, unfolding(record_grammar::specs::Grammar::sample_value_at))]
 pub fn sample_value(bytes: &[u8]) -> Result<(i64, &[u8]), Stop>
     ensures gives { Gives (λ x. (x.0, x.1.now)) result (sample_value_at bytes.now) }

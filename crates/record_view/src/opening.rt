@@ -1,4 +1,4 @@
-//! The first part of an item, up to its elements.
+//! The opening of an item: the part before its elements, which is read in one step.
 ghost use Rattle.std.specs.Prelude.{◌≡◌, ◌≤◌, ◌∷◌, length, drop};
 ghost use Rattle.record_grammar.specs.Laws.{tag_reason_at};
 ghost use Rattle.record_grammar.specs.Grammar.{input_at};
@@ -18,7 +18,8 @@ const MAX_ELEMENTS: u32 = 65_536;
 
 const MAX_RUNS: u32 = 1_000_000;
 
-/// The first part of an item: a whole item where it has no elements, else how many follow.
+/// The opening of an item: the whole item if it has no elements, otherwise the number of elements
+/// that follow.
 #[derive(Clone, Copy, Drop)]
 pub enum Opening {
     Ready(ItemKind),
@@ -30,7 +31,7 @@ pub enum Opening {
     },
 }
 
-/// The view of a Run frame's input, and the rest. The bytes begin with the frame's tag.
+/// The view of a Run frame's input, and the rest. `bytes` begin with the frame's tag.
 #[tactic(auto, unfolding(record_grammar::specs::Grammar::input_at, record_grammar::specs::Grammar::samples_at))]
 fn input_view(events: u16, bytes: &[u8]) -> Result<(InputView, &[u8]), Stop>
     requires { 1 ≤ length bytes.now }
@@ -49,7 +50,7 @@ fn input_view(events: u16, bytes: &[u8]) -> Result<(InputView, &[u8]), Stop>
     Ok((input, rest))
 }
 
-/// The first part of a Run frame. The bytes begin with its tag.
+/// The opening of a Run frame, and the rest. `bytes` begin with the frame's tag.
 #[tactic(auto, unfolding(crate::specs::Opening::run_opening, record_grammar::specs::Grammar::refused_at))]
 fn run_opening(layout: Layout, before: u32, bytes: &[u8]) -> Result<(Opening, &[u8]), Stop>
     requires { 1 ≤ length bytes.now }
@@ -88,7 +89,8 @@ fn reason_of(place: Place, tag: u8) -> Reason
     }
 }
 
-/// The first part of a frame. `rest` is what follows its tag.
+/// The opening of a frame, and the rest. `bytes` begin with the frame's tag, and `rest` are the
+/// bytes after it.
 #[tactic(auto, unfolding(crate::specs::Opening::tagged_opening))]
 fn tagged_opening<'a>(
     place: Place,
@@ -122,7 +124,7 @@ fn tagged_opening<'a>(
     }
 }
 
-/// The first part of the item that may come in a place.
+/// The opening of the item that may come in a place, and the rest.
 #[tactic(auto, unfolding(crate::specs::Opening::opening_at))]
 pub fn read_opening(place: Place, bytes: &[u8]) -> Result<(Opening, &[u8]), Stop>
     ensures { OpensTo place (λ x. (x.0, x.1.now)) result bytes.now (opening_at place bytes.now) }

@@ -1,8 +1,8 @@
-//! What is kept of an item that hasn't come whole: a few numbers.
+//! What a reader keeps of an item that isn't there as a whole yet: a few numbers.
 use crate::stop::Stop;
 use crate::view::{InputView, ItemSpan};
 
-/// A finished cycle, of which `left` elements and the output are still to be read.
+/// A finished cycle. Its last `left` elements and its output are still to be read.
 #[derive(Clone, Copy, Drop)]
 pub struct PartialRun {
     pub input: InputView,
@@ -11,7 +11,8 @@ pub struct PartialRun {
     pub left: u32,
 }
 
-/// How far an item was read. What comes before its elements is short, and is read again.
+/// How far an item was read. If its opening isn't whole yet, this is `Nothing`: the opening is
+/// short, and is read again from its first byte.
 #[derive(Clone, Copy, Drop)]
 pub enum Partial {
     Nothing,
@@ -26,7 +27,7 @@ pub struct Scan {
     pub read: usize,
 }
 
-/// The answer of one step, and how far the item was read.
+/// The result of one step, and how far the item was read.
 #[derive(Clone, Copy, Drop)]
 pub struct Step {
     pub scan: Scan,

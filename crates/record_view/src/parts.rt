@@ -1,4 +1,5 @@
-//! The parts of an item, by its view and its bytes.
+//! The parts of an item, read from its bytes by its view. The item was checked before, so no read
+//! fails.
 ghost use Rattle.std.specs.Prelude.{◌≡◌, ◌≤◌, ℕ, List, length, drop, map};
 ghost use Rattle.det_values.specs.declared.frames.CycleInput.{CycleInput};
 ghost use Rattle.det_values.specs.declared.frames.Outcome.{Outcome};
@@ -14,7 +15,7 @@ use crate::view::InputView;
 use crate::walk::{ElementWalk, SampleWalk};
 use det_values::{Format, RefusedAt};
 
-/// A cycle's samples.
+/// The samples of a cycle.
 pub fn samples_in(events: u16, places: InputView, bytes: &[u8]) -> SampleWalk<'_>
     requires { (input : CycleInput) × ShowsInput events places bytes.now input }
     ensures is { (input : CycleInput) → ShowsInput events places bytes.now input
@@ -28,7 +29,7 @@ pub fn samples_in(events: u16, places: InputView, bytes: &[u8]) -> SampleWalk<'_
     }
 }
 
-/// An Init frame's elements, which have no draws.
+/// The elements of an Init frame, with draws of 0.
 pub fn init_elements_in(count: u32, bytes: &[u8]) -> ElementWalk<'_>
     requires { (elements : List (List ℕ)) × (rest : List ℕ)
         × (many element_at count (drop 5 bytes.now) ≡ Got (elements, rest))
@@ -45,7 +46,7 @@ pub fn init_elements_in(count: u32, bytes: &[u8]) -> ElementWalk<'_>
     }
 }
 
-/// A finished cycle's elements.
+/// The elements of a finished cycle.
 pub fn elements_in(format: Format, count: u32, at: usize, bytes: &[u8]) -> ElementWalk<'_>
     requires { (output_at len : ℕ) × (outcome : Outcome)
         × ShowsFinished format count at output_at len bytes.now outcome }
@@ -61,7 +62,7 @@ pub fn elements_in(format: Format, count: u32, at: usize, bytes: &[u8]) -> Eleme
     }
 }
 
-/// A finished cycle's output.
+/// The output of a finished cycle.
 pub fn output_in(output_at: usize, bytes: &[u8]) -> &[u8]
     requires { (format : Format) × (count at len : ℕ) × (outcome : Outcome)
         × ShowsFinished format count at output_at len bytes.now outcome }
@@ -75,7 +76,7 @@ pub fn output_in(output_at: usize, bytes: &[u8]) -> &[u8]
     }
 }
 
-/// Where and with which code a cycle was refused.
+/// The place and the code of a refused cycle.
 pub fn refusal_in(at: usize, bytes: &[u8]) -> RefusedAt
     requires { (len : ℕ) × (outcome : Outcome) × ShowsRefused at len bytes.now outcome }
     ensures { (len : ℕ) (outcome : Outcome) → ShowsRefused at len bytes.now outcome → outcome

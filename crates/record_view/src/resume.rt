@@ -1,4 +1,4 @@
-//! Checks an item against the grammar, from where the last step left it.
+//! Checks an item against the grammar, from where the last step left off.
 ghost use Rattle.std.specs.Prelude.{◌≡◌, ◌≤◌, length, drop};
 ghost use Rattle.record_grammar.specs.Places.{format_of};
 ghost use Rattle.record_grammar.specs.declared.place.Place.TheVariants as places;
@@ -40,7 +40,7 @@ fn stopped(partial: Partial, read: usize, stop: Stop) -> Step
     }
 }
 
-/// Checks the elements of an Init frame that are left.
+/// Checks the remaining elements of an Init frame.
 fn go_on_init(place: Place, elements: u32, left: u32, read: usize, bytes: &[u8]) -> Step
     requires { read ≤ length bytes.now }
     ensures viewed { InitScan place elements left read bytes.now
@@ -58,7 +58,7 @@ fn go_on_init(place: Place, elements: u32, left: u32, read: usize, bytes: &[u8])
     }
 }
 
-/// Checks the elements of a finished cycle that are left, and the output.
+/// Checks the remaining elements of a finished cycle, and the output.
 fn go_on_run(place: Place, format: Format, run: PartialRun, read: usize, bytes: &[u8]) -> Step
     requires format { format ≡ format_of place }
     requires read { read ≤ length bytes.now }
@@ -119,8 +119,9 @@ fn start(place: Place, bytes: &[u8]) -> Step
     }
 }
 
-/// Checks the item that may come in a place. `bytes` are all of its bytes so far, and perhaps more;
-/// `scan` is what the last step kept of it, or `Partial::Nothing` and 0 at its first step.
+/// Checks the item that may come in a place. `bytes` begin with all of its bytes so far. `scan` is
+/// the one that the last step on this item returned; for the first step it is `Partial::Nothing`
+/// and 0.
 pub fn view_item(place: Place, scan: Scan, bytes: &[u8]) -> Step
     requires { scan.read ≤ length bytes.now }
     ensures viewed { IsScan place scan bytes.now → IsStep place result bytes.now }

@@ -1,4 +1,4 @@
-//! Lists of elements, skipped.
+//! Skips lists of elements, and counts how far it came.
 ghost use Rattle.std.specs.Prelude.{◌≡◌};
 ghost use Rattle.record_grammar.specs.Grammar.{element_at, drawn_at};
 ghost use Rattle.record_view.specs.Skips.{IsSkip};
@@ -10,15 +10,15 @@ use det_values::Format;
 /// How far elements were skipped.
 #[derive(Clone, Copy, Drop)]
 pub struct Skip {
-    /// How many are left.
+    /// How many elements are left.
     pub left: u32,
     /// How many bytes were skipped.
     pub read: usize,
-    /// Why it stopped, where some are left.
+    /// Why the next element couldn't be read, where some are left.
     pub stop: Option<Stop>,
 }
 
-/// Skips elements of an Init frame.
+/// Skips up to `most` elements of an Init frame.
 pub fn skip_elements(most: u32, bytes: &[u8]) -> Skip
     ensures { IsSkip element_at most result bytes.now }
 {
@@ -48,7 +48,7 @@ pub fn skip_elements(most: u32, bytes: &[u8]) -> Skip
     }
 }
 
-/// Skips elements of a finished cycle.
+/// Skips up to `most` elements of a finished cycle.
 pub fn skip_drawn(format: Format, most: u32, bytes: &[u8]) -> Skip
     ensures { IsSkip (drawn_at format) most result bytes.now }
 {

@@ -1,4 +1,4 @@
-//! Views: where the parts of an item are. Offsets count from the item's first byte.
+//! Views: the offsets of an item's parts. Offsets count from the item's first byte.
 ghost use Rattle.std.specs.Prelude.{◌≡◌, IfSome, IfNone};
 ghost use Rattle.record_grammar.specs.declared.place.Layout.{Layout};
 
@@ -16,25 +16,25 @@ pub struct InputView {
 /// A cycle's outcome.
 #[derive(Clone, Copy, Drop)]
 pub enum OutcomeView {
-    /// The elements are at `elements_at..output_at`. Then comes the output's length in four bytes,
-    /// and the output up to the item's end.
+    /// The elements are at `elements_at..output_at`. The output's length comes after them in four
+    /// bytes, and then the output up to the item's end.
     Finished {
         elements: u32,
         elements_at: usize,
         output_at: usize,
     },
-    /// Phase, pass, element and code are from `at` up to the item's end.
+    /// Phase, pass, element and code are at `at`, up to the item's end.
     Refused {
         at: usize,
     },
 }
 
-/// A frame's kind, and where its parts are.
+/// A frame's kind, and the offsets of its parts.
 #[derive(Clone, Copy, Drop)]
 pub enum FrameKind {
     Register,
     Discover,
-    /// The elements are from byte 5 up to the frame's end.
+    /// The elements are from byte 5 to the frame's end.
     Init {
         elements: u32,
     },
@@ -45,34 +45,34 @@ pub enum FrameKind {
     Terminate,
 }
 
-/// An item's kind, and where its parts are.
+/// An item's kind, and the offsets of its parts.
 #[derive(Clone, Copy, Drop)]
 pub enum ItemKind {
     Header(Layout),
     Frame(FrameKind),
 }
 
-/// An item that is whole.
+/// A whole item.
 #[derive(Clone, Copy, Drop)]
 pub struct ItemSpan {
     pub kind: ItemKind,
-    /// How many bytes it has.
+    /// Its length in bytes.
     pub len: usize,
 }
 
-/// An item, with its place in the record, which says the format and the number of events.
+/// An item and its place in the record, which gives the format and the number of events.
 #[derive(Clone, Copy, Drop)]
 pub struct ItemView {
     pub place: Place,
     pub span: ItemSpan,
 }
 
-/// A frame, with its place in the record.
+/// A frame and its place in the record.
 #[derive(Clone, Copy, Drop)]
 pub struct FrameView {
     pub place: Place,
     pub kind: FrameKind,
-    /// How many bytes it has.
+    /// Its length in bytes.
     pub len: usize,
 }
 
@@ -80,7 +80,7 @@ impl ItemView {
     ghost use Rattle.record_view.specs.Shows.{item_view};
     ghost use Rattle.record_view.specs.declared.view.ItemKind.TheVariants as kinds;
 
-    /// The item as a frame. None where it is a header.
+    /// The item as a frame. None for a header.
     pub fn as_frame(self) -> Option<FrameView>
         ensures some { IfSome result (λ view. item_view view ≡ self) }
         ensures none { IfNone result ((layout : Layout) × (self.span.kind ≡ kinds.Header layout)) }

@@ -1,4 +1,5 @@
-//! A frame's samples and elements, one after another, where their bytes are.
+//! Walks over a frame's samples and elements. Each of these is read from the frame's bytes when it
+//! is asked for.
 ghost use Rattle.std.specs.Prelude.{◌≡◌, ◌≤◌, ◌∷◌, [], length, IfSome, IfNone};
 ghost use Rattle.det_values.specs.Spelling.{an_element};
 
@@ -7,7 +8,7 @@ use crate::input::sample;
 use det_values::{Format, Sample};
 use std::marker::Model;
 
-/// The samples of a frame that were not taken yet.
+/// The samples of a frame that are still to be read.
 #[derive(Drop)]
 pub struct SampleWalk<'a> {
     pub(crate) events: u16,
@@ -29,7 +30,7 @@ impl<'a> Model for SampleWalk<'a> {
 }
 
 impl<'a> SampleWalk<'a> {
-    /// Takes the next sample.
+    /// Reads the next sample.
     pub fn next(&mut self) -> Option<Sample>
         ensures some { IfSome result (λ s. self.old ≡ s ∷ self.new) }
         ensures none { IfNone result ((self.old ≡ []) × (self.new ≡ [])) }
@@ -48,7 +49,7 @@ impl<'a> SampleWalk<'a> {
     }
 }
 
-/// The elements of a frame that were not taken yet.
+/// The elements of a frame that are still to be read.
 #[derive(Drop)]
 pub struct ElementWalk<'a> {
     pub(crate) format: Format,
@@ -70,7 +71,7 @@ impl<'a> Model for ElementWalk<'a> {
 }
 
 impl<'a> ElementWalk<'a> {
-    /// Takes the next element: its bytes and its draws.
+    /// Reads the next element: its bytes and its draws.
     pub fn next(&mut self) -> Option<(&'a [u8], u32)>
         ensures some { IfSome result (λ x. self.old ≡ an_element x.0.now x.1 ∷ self.new) }
         ensures short { IfSome result (λ x. length x.0.now ≤ 64) }

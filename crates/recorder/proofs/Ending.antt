@@ -48,7 +48,7 @@ IsCut Write = Unit {0}
 IsCut OutOfMemory = Unit {0}
 
 module _ {S G E L P : Type 0} (m : Meaning S G E L P) (profile : ProfileValue) where
-  -- what stands in the record of first inputs stands first in that of every text that goes on
+  -- the record of the first inputs is a prefix of that of every text that goes on
   record-within : (given : List CycleInput) (read rest : List ℕ) → IsPrefix given (blocks (length profile.events) read)
       → IsPrefix (record_with m profile given false) (record_of m profile (read ++ rest))
   record-within given read rest first =
@@ -127,7 +127,7 @@ module _ {S G E L P : Type 0} (m : Meaning S G E L P) (profile : ProfileValue) w
   stops-at before after text given line is ends grew = record
       { bad = ends; grew = subst (Grew before after) (sym (record-is text given (BadLine line) is ends)) grew }
 
-  -- ---- the answers
+  -- ---- the results
 
   -- the opening wasn't written
   pub open-failed : (slot : ℕ) (state : ShelfState) (stays : Type 0) (sink : SinkRun) (audience : AudienceState) (failure : Failure)

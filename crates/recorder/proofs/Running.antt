@@ -30,7 +30,7 @@ use Rattle.recorder.proofs.lemmas.run_writer.Growing.{runs-none, record-opened, 
 use Rattle.stimulus.specs.declared.slot_reader.reader.StimulusReader.{StimulusReader}
 use Rattle.stimulus.specs.slot_reader.StandsFor.{StandsFor, InputIs, ReadsIfNeeded, slot_of, events_of}
 
--- what the reader answers, of all that it stands for
+-- what the reader returns, for all bytes that it can have read
 abbrev pub Answered : Result (Option CycleInput) (Stopped StimFault) → ShelfState → ShelfState → StimulusReader → StimulusReader → Type 0
 Answered answer mid now old new = (more : List ℕ) × Reads mid now (slot_of old) more
     × ((read : List ℕ) (given : List CycleInput) → StandsFor old read given
@@ -51,7 +51,7 @@ module _ {S G E L P : Type 0} (m : Meaning S G E L P) (profile : ProfileValue) w
     pub grew : Grew before took (record_with m profile given false)
     pub shown : Shows audience seeing (runs m profile given)
 
-  -- the frame of the run behind these inputs
+  -- the frame of the run after these inputs
   abbrev pub next_run : List CycleInput → CycleInput → RunFrame
   next_run given input = frame_of m profile given (state_of m profile given) input
 
@@ -67,7 +67,7 @@ module _ {S G E L P : Type 0} (m : Meaning S G E L P) (profile : ProfileValue) w
     shown = subst (Shows audience audience) (sym (runs-none m profile)) (shows-none audience);
   }
 
-  -- the reader's answer, of all that was read
+  -- the reader's result, for all that was read
   pub next-read : {first mid now : ShelfState} {slot : ℕ} {before took : List ℕ → Type 0} {audience seeing : AudienceState}
       {reader : StimulusReader} {recording : Recording S G E L P} {read : List ℕ} {given : List CycleInput}
       (next : StimulusReader) (answer : Result (Option CycleInput) (Stopped StimFault))

@@ -1,4 +1,4 @@
--- What the bytes that a shelf tells come to.
+-- What follows for the text where the shelf knows it.
 use Rattle.std.proofs.Common.{◌≡◌, ℕ, List, [], ◌++◌, refl, sym, ap, subst, ◌∙◌, append-nil, length}
 use Rattle.std.specs.Prelude.{Option, Some, None, Result, Ok, Err, IfSome, IfOk, OnOk}
 use Rattle.std.specs.Option.{option_map}
@@ -22,7 +22,7 @@ use Rattle.recorder.specs.Record.{record_of}
 use Rattle.recorder.specs.Ends.{Finishes, Stops, Answers, Ended}
 use Rattle.recorder.specs.Recorded.{HasRun, IsRecorded, UnlessCut}
 
--- a fact about the text, where a shelf tells it, from what was read and what is left
+-- a fact about the text, where a shelf knows it, from what was read and what is left
 told-left : (read : List ℕ) (P : List ℕ → Type 0) (left : Option (List ℕ))
     → ((rest : List ℕ) → (IfSome left (λ r. r ≡ []) → rest ≡ []) → P (read ++ rest))
     → IfSome (option_map (λ rest. read ++ rest) left) P

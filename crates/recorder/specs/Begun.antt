@@ -1,4 +1,4 @@
--- Where a recording begins.
+-- What `record_run` requires of the recording and of the reader.
 use Rattle.std.specs.Prelude.{◌≡◌, ◌<◌, [], length}
 use Rattle.det_io.specs.Shelf.{ShelfState}
 use Rattle.job.specs.Meaning.{Meaning}

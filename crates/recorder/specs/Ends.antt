@@ -1,4 +1,4 @@
--- How a recorded run ends.
+-- How `record_run` ends: what its result says of the text and of what the sink took.
 use Rattle.std.specs.Prelude.{◌≡◌, ◌⊎◌, ℕ, List, [], ◌++◌, length, true, false, Result, Ok, Err}
 use Rattle.det_values.specs.Values.{ProfileValue}
 use Rattle.det_io.specs.Sink.{Grew, GrewByPrefix, GrewShort}
@@ -27,7 +27,7 @@ module _ {S G E L P : Type 0} (m : Meaning S G E L P) (profile : ProfileValue) w
     pub bad : ending (length profile.events) text ≡ BadLine line
     pub grew : Grew before after (record_of m profile text)
 
-  -- what an answer says of a text and of what the sink took
+  -- what a result says of a text and of what the sink took
   abbrev pub Answers : Result Counts (Stopped StimFault) → List ℕ → (List ℕ → Type 0)
       → (List ℕ → Type 0) → Type 0
   Answers (Ok counts) text before after = Finishes text counts before after
@@ -38,7 +38,7 @@ module _ {S G E L P : Type 0} (m : Meaning S G E L P) (profile : ProfileValue) w
   Answers (Err (Failed OutOfMemory)) text before after =
       GrewByPrefix before after (record_of m profile text)
 
-  -- How far a text was read: to its end, or as far as its bad line counts as fed; and what was
+  -- How far a text was read: to its end, or as far as its bad line counts as fed. And what was
   -- written where a read failed.
   abbrev pub ReadsTo : Result Counts (Stopped StimFault) → List ℕ → Type 0 → (List ℕ → Type 0)
       → (List ℕ → Type 0) → Type 0
@@ -51,8 +51,8 @@ module _ {S G E L P : Type 0} (m : Meaning S G E L P) (profile : ProfileValue) w
   ReadsTo (Err (Failed Write)) read at_end before after = Unit {0}
   ReadsTo (Err (Failed OutOfMemory)) read at_end before after = Unit {0}
 
-  -- The answer after these bytes were read. It holds of every text that begins with them, or of
-  -- them alone at the end.
+  -- The result after these bytes were read. It holds of every text that begins with them. At the
+  -- end of the text it holds only of the bytes themselves.
   pub record Ended (result : Result Counts (Stopped StimFault)) (read : List ℕ) (at_end : Type 0)
       (before after : List ℕ → Type 0) : Type 0 where
     pub reads_to : ReadsTo result read at_end before after

@@ -1,4 +1,4 @@
--- What a recording says of the text that a slot had left, of the sink and of the audience.
+-- What `record_run` ensures of the text that a slot had left, of the sink and of the audience.
 use Rattle.std.specs.Prelude.{◌≡◌, ◌⊎◌, ℕ, List, [], length, false, Result, Ok, Err, IfSome, IfOk}
 use Rattle.std.specs.Prelude.{OnOk}
 use Rattle.det_values.specs.Values.{ProfileValue}
@@ -21,7 +21,7 @@ use Rattle.recorder.specs.run_writer.Record.{record_with}
 use Rattle.recorder.specs.Record.{record_of}
 use Rattle.recorder.specs.Ends.{Finishes, Stops, Ended}
 
--- this holds unless a write failed or memory couldn't be had
+-- this holds unless a write failed or memory ran out
 abbrev pub UnlessCut : Result Counts (Stopped StimFault) → Type 0 → Type 0
 UnlessCut (Ok counts) fact = fact
 UnlessCut (Err (Refused fault)) fact = fact
@@ -30,13 +30,14 @@ UnlessCut (Err (Failed Write)) fact = Unit {0}
 UnlessCut (Err (Failed OutOfMemory)) fact = Unit {0}
 
 module _ {S G E L P : Type 0} (m : Meaning S G E L P) (profile : ProfileValue) where
-  -- the sink took the frames of the runs of all these inputs, where there is one
+  -- there are no inputs, or the sink took at least the record of their runs without Terminate
   abbrev pub TookAll : List CycleInput → (List ℕ → Type 0) → (List ℕ → Type 0) → Type 0
   TookAll inputs before after = (inputs ≡ [])
       ⊎ ((bytes : List ℕ) × IsPrefix (record_with m profile inputs false) bytes
       × Grew before after bytes)
 
-  -- first runs were shown, whose frames the sink took, and all unless the record was cut off
+  -- the first runs were shown, after the sink took their frames, and all runs unless the record was
+  -- cut off
   pub record IsShown (read : List ℕ) (before after : List ℕ → Type 0)
       (audience last : AudienceState) (result : Result Counts (Stopped StimFault)) : Type 0 where
     pub inputs : List CycleInput
@@ -56,7 +57,7 @@ module _ {S G E L P : Type 0} (m : Meaning S G E L P) (profile : ProfileValue) w
 
   pub record IsRecorded (slot : ℕ) (shelf : ShelfRun) (sink : SinkRun)
       (audience last : AudienceState) (result : Result Counts (Stopped StimFault)) : Type 0 where
-    -- where the shelf tells the text: it was recorded whole, or up to its bad line, or in part
+    -- where the rest of the text is known: it was recorded whole, or up to its bad line, or in part
     pub ok : IfSome (shelf.first.left slot) (λ text. IfOk result (λ counts.
         Finishes m profile text counts sink.before sink.after))
     pub stimulus : IfSome (shelf.first.left slot) (λ text. (fault : StimFault)
@@ -66,5 +67,5 @@ module _ {S G E L P : Type 0} (m : Meaning S G E L P) (profile : ProfileValue) w
         GrewByPrefix sink.before sink.after (record_of m profile text))
     pub reports : IfSome (shelf.first.left slot) (λ text. OnOk result (reported last []
         ≡ reported audience (runs m profile (blocks (length profile.events) text))))
-    -- what was read, also where the shelf tells nothing
+    -- what was read, also where the rest of the text is unknown
     pub run : HasRun slot shelf sink audience last result

@@ -1,4 +1,4 @@
-//! Records a run of a job over a stimulus.
+//! Records the run of a job over a stimulus.
 #![tactic(auto)]
 
 mod recording;

@@ -1,4 +1,5 @@
-//! Runs a job over a stimulus and writes its record.
+//! The loop that records a stimulus: reads an input, runs a cycle, writes its frame, shows it. The
+//! writer of single frames is `run_writer`, which other loops use too.
 ghost use Rattle.det_io.specs.Traffic.{ShelfTraffic, SinkTraffic};
 ghost use Rattle.det_io.specs.Traffic.{shelf_run, sink_run, failure_in};
 ghost use Rattle.probes.specs.Shows.{seen};
@@ -13,13 +14,15 @@ use probes::{Audience, Probe};
 use stimulus::StimFault;
 use stimulus::slot_reader::StimulusReader;
 
-/// Runs a job on a pool over the stimulus that a slot has left, and writes the record of its
-/// profile and of this text.
+/// Runs a job on a pool over the stimulus that is left in a slot, and writes the record of the run.
 ///
-/// The header and the frames up to Init are written before the first line is judged, then a Run
-/// frame for each complete block, and Terminate once the text was read to its end and is good. Each
-/// run is shown to the audience after its frame was written. Refused tells the bad line, behind the
-/// record of all before it. After an error neither recording nor reader is to be used.
+/// The header and the frames up to Init are written before the stimulus is read. Each complete
+/// block then gives a Run frame. After a frame is written, its run is shown to the audience.
+/// Terminate is written once the text was read to its end and is good. More is read only once no
+/// whole block is left of what was read, so all whole blocks are recorded before a read can fail.
+///
+/// `Refused` has the bad line; the record of all blocks before it was written. After an error
+/// neither the recording nor the reader may be used.
 pub fn record_run<J: Job, P: Pool<J>, S: Slots, K: Sink>(
     recording: &mut Recording<J>,
     pool: &mut P,

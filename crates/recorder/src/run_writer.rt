@@ -1,4 +1,5 @@
-//! The record of a run, written frame by frame.
+//! Writes the record of a run frame by frame, from whatever gives its inputs: a stimulus, another
+//! record, or another client in a chain.
 
 mod counts;
 mod frames;

@@ -1,5 +1,4 @@
-//! Runs the inputs of a record again, and tells the first place at which the record isn't what they
-//! give.
+//! Finds the first place where a record isn't what its inputs give. It writes nothing.
 
 mod checking;
 mod compared;

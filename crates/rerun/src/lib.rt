@@ -1,4 +1,4 @@
-//! Runs the inputs of a record again: to write them, to compare them and to upgrade their format.
+//! Runs the inputs of a record again: to write the record, to check it, or to upgrade it.
 #![tactic(auto)]
 
 pub mod checker;

@@ -1,4 +1,4 @@
-//! Runs the inputs of a record again, and writes the record that they give now.
+//! Writes the record that the inputs of a record give now. It compares nothing.
 
 mod inputs;
 mod replaying;

@@ -1,5 +1,5 @@
-//! Runs the inputs of a record again, and writes the record of the same run in format 2, up to the
-//! first frame that isn't what they give.
+//! Writes the record of the same run in format 2, up to the first frame that isn't what its inputs
+//! give.
 
 mod original;
 mod upgrading;

@@ -59,7 +59,7 @@ kind_run_read Guard profile header inputs ended good few =
 
 -- ---- what is passed on, by the kind of the first job
 
--- inputs that a record of so many events can hold, of which there are few
+-- few inputs, which a record of this number of events can hold
 record AreHeld (events : ℕ) (inputs : List CycleInput) : Type 0 where
   good : All (IsInput events) inputs
   few : length inputs ≤ 1000000

@@ -34,12 +34,12 @@ use Rattle.run_laws.proofs.OfInputs.{run_verdict, run_checked, runs_counted}
 abbrev is_ended : ProfileValue → List ℕ → Bool
 is_ended profile stimulus = is_terminated (ending (length profile.events) stimulus)
 
--- of so many cycles, with these reports
+-- genuine, with this number of cycles and these reports
 abbrev genuine_text : ℕ → List ℕ → Outcome
 genuine_text cycles reports = record { answer = Done; bytes = number_line (codes "genuine") cycles ++ reports }
 
 module _ {S G E L P : Type 0} (m : Meaning S G E L P) (profile : ProfileValue) (audience : AudienceState) where
-  -- the verdict on a run, as the command tells it
+  -- the verdict on a run, as the command reports it
   told_of : (given : List CycleInput) (ended : Bool) (bytes : List ℕ)
       → outcome_by (verdict_by None (fault_if ended bytes) (length given))
       (reported audience (flat_map run_of (frames m profile given ended)))

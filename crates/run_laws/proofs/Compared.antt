@@ -1,4 +1,4 @@
--- Copies are answered with Done exactly where they are one whole record.
+-- The answer for copies is Done exactly if they are one whole record.
 use Rattle.std.proofs.Common.{◌≡◌, ℕ, List, ◌∷◌, Result, Ok, Err, refl, ap}
 use Rattle.std.specs.List.{AllByRecursion}
 use Rattle.record_grammar.specs.Record.{items}

@@ -93,7 +93,7 @@ module _ {S G E L P : Type 0} (m : Meaning S G E L P) (profile : ProfileValue) w
     pub no_departure : departure m profile record_bytes ≡ None
     no_departure = (λ i. departure_from 0 (frames_are i) (given_are i)) ∙ none_departs given ended
 
-    -- its verdict is by its fault alone
+    -- its verdict is by its fault only
     pub run_verdict : check_verdict m profile record_bytes ≡ verdict_by None (fault_if ended record_bytes) (length given)
     run_verdict = λ i. verdict_by (no_departure i) (read.fault i) (length (inputs_are i))
 

@@ -34,7 +34,7 @@ taken ps i index low high rest e = by (is_param ps i low high) refl e where
       ((below low (param ps i) b.0, below (param ps i) high b.1), k)
   by false is k = absurd cc
 
--- no more parameters than so many
+-- no more parameters than this number
 no_more : (ps : List ℤ) (n : ℕ) → cond (nat_lt n (length ps)) (Some n) None ≡ None → length ps ≤ n
 no_more ps n e = by (nat_lt n (length ps)) refl e where
   by : (t : Bool) → nat_lt n (length ps) ≡ t → cond t (Some n) None ≡ None → length ps ≤ n

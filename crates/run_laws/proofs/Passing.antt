@@ -9,7 +9,8 @@ use Rattle.job.specs.Laws.{JobLaws, CoversSome}
 use Rattle.job.specs.Pass.{Passed, Refusal, nothing, more, taken, passed}
 use Rattle.run_laws.proofs.SpelledJob.{IsSpelledJob}
 
--- n elements that are the job's own, each with at most so many words, and a part that covers them
+-- n elements that are the job's own, each with at most this number of random words, and a part that
+-- covers them
 pub record IsKept {S E P : Type 0} (Covers : S → P → ℕ → Type 0) (Own : S → E → Type 0) (j : S) (n most : ℕ) (done : Passed E P) : Type 0
   where
     pub own : All (Own j) done.elements

@@ -42,7 +42,7 @@ whole_if true bytes = refl
 whole_if false bytes = refl
 
 module _ {S G E L P : Type 0} (m : Meaning S G E L P) (profile : ProfileValue) where
-  -- the inputs in the frames of these inputs' cycles, and in others behind them
+  -- the inputs in the frames of these inputs' cycles, and in others after them
   inputs_behind : (before : List CycleInput) (state : State G E) (given : List CycleInput) (tail : List Frame)
       → flat_map input_in (map items.Frame (map (λ run. Run run) (runs_behind m profile before state given) ++ tail))
       ≡ given ++ flat_map input_in (map items.Frame tail)

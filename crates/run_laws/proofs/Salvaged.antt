@@ -154,7 +154,7 @@ module _ (record_bytes : List ℕ) (are : AreBytes record_bytes) where
   in_places : AreItems places.Header (items_in record_bytes) to
   in_places = (decoded_is record_bytes are).items.items
 
-  -- a record of which nothing is salvaged has a fault
+  -- a record from which nothing is salvaged has a fault
   has_fault : salvaged record_bytes ≡ None → fault_in record_bytes ≡ None → ⊥
   has_fault nothing none =
       let w = whole_run record_bytes are none in

@@ -40,7 +40,7 @@ use Rattle.run_laws.proofs.Commands.{record_read}
 
 -- ---- what is counted of the frames of a run
 
--- items of which none is a run
+-- items without a run
 record AreNoRuns (tail : List Item) : Type 0 where
   cycles : cycles_of tail ≡ 0
   refused : refused_of tail ≡ 0
@@ -84,7 +84,7 @@ module _ {S G E L P : Type 0} (m : Meaning S G E L P) (profile : ProfileValue) w
   run_counted given false = all_counted profile (init_of m profile) (runs m profile given) _
       (runs_counted (runs m profile given) [] (record { cycles = refl; refused = refl; runs = refl }))
 
-  -- what is told of a run is what its record sums up to
+  -- what is reported of a run is what its record sums up to
   run_summed : (audience : AudienceState) (number : ℕ) (text bytes : List ℕ) → bytes ≡ record_of m profile text
       → IsRecordRead profile (frames m profile) text bytes
       → text_outcome (summary_lines (summary_over m profile text number) ++ reported audience (runs_over m profile text))

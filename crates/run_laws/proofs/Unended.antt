@@ -20,7 +20,7 @@ use Rattle.record_grammar.proofs.lemmas.record_laws.Whole.{nil_more, all_leads_o
 abbrev begun_frames : List (List ℕ) → List RunFrame → List Frame
 begun_frames elements runs = frames.Register ∷ frames.Discover ∷ frames.Init elements ∷ map frames.Run runs
 
--- behind runs more may come
+-- after runs more may come
 runs_open : (layout : Layout) (before : ℕ) (runs : List RunFrame) (to : Place)
     → AreItems (places.Runs layout before) (map items.Frame (map frames.Run runs)) to → ending_at to ≡ early
 runs_open layout before [] to h = ap ending_at (sym h)

@@ -1,4 +1,4 @@
--- What a chain makes of its first client, and what the record of its second one is read as.
+-- What the second client of a chain is given, and what its record is read as.
 use Rattle.std.specs.Prelude.{◌≡◌, ℕ, ◌^◌, ◌<◌, List, length, Bool, Option, Ok}
 use Rattle.std.specs.Option.{unwrap_or}
 use Rattle.det_values.specs.Values.{ProfileValue}
@@ -19,8 +19,8 @@ use Rattle.cmd_rerun.specs.check_command.Check.{check_outcome}
 use Rattle.run_laws.specs.Statements.{frames_by_kind, fault_if, IsRunRead}
 use Rattle.run_laws.specs.Checks.{checked_of}
 
--- The record that the first client of a chain writes, for the job of a kind, is what `record`
--- writes of the same profile and stimulus.
+-- The record of a chain's first client is the one that `record` writes for the same profile and
+-- stimulus.
 abbrev pub FirstIsRecorded : Type 0
 FirstIsRecorded = (kind : JobKind) (profile : ProfileValue) (stimulus : List ℕ)
     → by_kind (λ S G E L P m. record_of m profile stimulus) kind
@@ -28,18 +28,18 @@ FirstIsRecorded = (kind : JobKind) (profile : ProfileValue) (stimulus : List ℕ
 
 -- ---- the second client
 
--- the inputs of the second client, where the first one was given these
+-- the inputs of the second client, if the first one was given these
 abbrev pub passed_on : (first second : Client) → List CycleInput → List CycleInput
 passed_on first second inputs = by_kind (λ S G E L P m.
     derived m first.profile inputs (length second.profile.events)) first.kind
 
--- the frames of the second client's run, where the first one was given these inputs
+-- the frames of the second client's run, if the first one was given these inputs
 abbrev pub second_frames : (first second : Client) → List CycleInput → Bool → List Frame
 second_frames first second inputs ended =
     frames_by_kind second.kind second.profile (passed_on first second inputs) ended
 
--- Bytes are read as the second client's profile and those frames, and as nothing else; and `check`
--- tells of them what it tells of that run.
+-- Bytes are read as the second client's profile and those frames, and as nothing else. `check` says
+-- of them what it says of that run.
 pub record IsSecond (first second : Client) (inputs : List CycleInput) (ended : Bool)
     (bytes : List ℕ) : Type 0 where
   pub read : IsRunRead second.profile (second_frames first second inputs ended) ended bytes
@@ -52,7 +52,7 @@ IsChainRead first second stimulus bytes =
     IsSecond first second (blocks (length first.profile.events) stimulus)
     (is_terminated (ending (length first.profile.events) stimulus)) bytes
 
--- this is so of what `cmd_run::chain` writes, where both manifests are taken
+-- the same for what `chain` writes, if both manifests are accepted
 abbrev pub ChainIsRead : Type 0
 ChainIsRead =
     (strict : Bool) (first second stimulus : List ℕ) (seed : Option ℕ) (m n : ManifestValue)

@@ -1,5 +1,5 @@
--- What `check` says of the record of a run, when it is done, and what becomes of a genuine record
--- that is upgraded.
+-- What `check` says of the record of a run, when it is done, and what `upgrade` makes of a genuine
+-- record.
 use Rattle.std.specs.Prelude.{◌≡◌, ℕ, ◌^◌, ◌<◌, ◌↔◌, List, ◌++◌, length, Bool, Option, Some, None}
 use Rattle.std.specs.Prelude.{Ok, codes}
 use Rattle.std.specs.List.{flat_map}
@@ -31,8 +31,8 @@ use Rattle.cmd_rerun.specs.check_command.Check.{check_outcome}
 use Rattle.cmd_rerun.specs.upgrade_command.Upgrade.{upgrade_outcome}
 use Rattle.run_laws.specs.Statements.{frames_by_kind, fault_if, given_again}
 
--- What `check` gives of the record of a run: where that was ended, the line that it is genuine with
--- the number of its cycles, and what an audience reports of them; else the fault where it ends.
+-- What `check` gives for the record of a run. If the run ended, this is `genuine` with the number
+-- of its cycles, and what an audience reports of them; or else the fault at its end.
 abbrev pub checked_of : AudienceState → List Frame → Option RecordFault → Outcome
 checked_of audience run None = record {
   answer = Done;
@@ -41,7 +41,7 @@ checked_of audience run None = record {
 }
 checked_of audience run (Some fault) = refusal (BadRecord 0 fault)
 
--- the same of the run over the blocks of a stimulus
+-- the same for the run over the blocks of a stimulus
 abbrev pub IsRecordChecked : ProfileValue → (List CycleInput → Bool → List Frame) → List ℕ → List ℕ
     → Type 0
 IsRecordChecked profile run stimulus bytes =
@@ -50,7 +50,7 @@ IsRecordChecked profile run stimulus bytes =
     ≡ checked_of audience (run (blocks (length profile.events) stimulus) ended)
     (fault_if ended bytes)
 
--- what `check` gives of what `record` writes, where the manifest is taken
+-- what `check` gives for what `record` writes, if the manifest is accepted
 abbrev pub RecordIsChecked : Type 0
 RecordIsChecked =
     (strict : Bool) (manifest stimulus : List ℕ) (seed : Option ℕ) (m : ManifestValue)
@@ -59,35 +59,35 @@ RecordIsChecked =
     (frames_by_kind m.kind (profile_of m (unwrap_or seed 0))) stimulus
     (record_outcome strict manifest stimulus seed).bytes
 
--- and of what `demo` writes
+-- and for what `demo` writes
 abbrev pub DemoIsChecked : Type 0
 DemoIsChecked =
     (stimulus : List ℕ) → IsRecordChecked demo_profile (frames bank.meaning demo_profile) stimulus
     (demo_outcome stimulus).bytes
 
--- a check of these bytes is done
+-- `check` is done for these bytes
 abbrev pub IsGenuine : AudienceState → List ℕ → Type 0
 IsGenuine audience record_bytes = (check_outcome audience record_bytes).answer ≡ Done
 
--- bytes are genuine exactly where `replay` is done and gives them back
+-- bytes are genuine exactly if `replay` is done and writes them again
 abbrev pub GenuineIsReplayed : Type 0
 GenuineIsReplayed = (audience : AudienceState) (record_bytes : List ℕ) → AreBytes record_bytes
     → IsGenuine audience record_bytes
     ↔ (replay_outcome record_bytes ≡ given_again record_bytes None)
 
--- `upgrade` is done; what it gives has the same inputs, is in format 2, and is genuine too
+-- `upgrade` is done, and its output has the same inputs, is in format 2 and is genuine
 pub record IsUpgraded (audience : AudienceState) (record_bytes : List ℕ) : Type 0 where
   pub done : (upgrade_outcome record_bytes).answer ≡ Done
   pub inputs : inputs (upgrade_outcome record_bytes).bytes ≡ inputs record_bytes
   pub format : format_in (items (upgrade_outcome record_bytes).bytes) ≡ Two
   pub genuine : IsGenuine audience (upgrade_outcome record_bytes).bytes
 
--- what becomes of a genuine record that is upgraded
+-- what `upgrade` makes of a genuine record
 abbrev pub GenuineIsUpgraded : Type 0
 GenuineIsUpgraded = (audience : AudienceState) (record_bytes : List ℕ) → AreBytes record_bytes
     → IsGenuine audience record_bytes → IsUpgraded audience record_bytes
 
--- one that is in format 2 already stays as it is
+-- a genuine record in format 2 stays as it is
 abbrev pub FormatTwoStays : Type 0
 FormatTwoStays = (audience : AudienceState) (record_bytes : List ℕ) → AreBytes record_bytes
     → IsGenuine audience record_bytes → format_in (items record_bytes) ≡ Two

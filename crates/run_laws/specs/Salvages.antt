@@ -1,4 +1,4 @@
--- What salvaging a record comes to.
+-- What `salvage` makes of a record.
 use Rattle.std.specs.Prelude.{◌≡◌, ℕ, ◌^◌, ◌<◌, ◌↔◌, List, [], ◌∷◌, ◌++◌, length, Bool, true}
 use Rattle.std.specs.Prelude.{Option, None, Ok}
 use Rattle.std.specs.List.{flat_map, list_any}
@@ -26,36 +26,36 @@ use Rattle.cli_answers.specs.declared.answer.Answer.TheVariants.{Done}
 use Rattle.cmd_records.specs.salvage_command.Salvage.{salvage_outcome}
 use Rattle.run_laws.specs.Statements.{frames_by_kind}
 
--- the header and the frames of these items, which end with Terminate
+-- the header and the frames of these items, ended by Terminate
 abbrev pub ended : List Item → List Item
 ended (items.Header profile ∷ rest) = items_of profile (flat_map kept rest ++ Terminate ∷ [])
 ended other = []
 
--- `salvage` is done exactly where Init was read
+-- `salvage` is done exactly if Init was read
 abbrev pub InitIsEnough : Type 0
 InitIsEnough = (record_bytes : List ℕ) → AreBytes record_bytes
     → ((salvage_outcome record_bytes).answer ≡ Done)
     ↔ (list_any is_init (items_in record_bytes) ≡ true)
 
--- a whole record, of the header and the frames of another one's items, and so of the same runs
+-- a whole record of the header and the frames of another one's items, and so of the same runs
 pub record IsMadeWhole (record_bytes whole : List ℕ) : Type 0 where
   pub sound : fault whole ≡ None
   pub items : items_in whole ≡ ended (items_in record_bytes)
   pub runs : runs_in (items_in whole) ≡ runs_in (items_in record_bytes)
 
--- what it gives where it is done
+-- what it gives if it is done
 abbrev pub SalvagedIsWhole : Type 0
 SalvagedIsWhole = (record_bytes : List ℕ) → AreBytes record_bytes
     → (salvage_outcome record_bytes).answer ≡ Done
     → IsMadeWhole record_bytes (salvage_outcome record_bytes).bytes
 
--- of a whole record it gives that record
+-- a whole record comes out unchanged
 abbrev pub WholeIsKept : Type 0
 WholeIsKept = (record_bytes : List ℕ) → AreBytes record_bytes → fault record_bytes ≡ None
     → salvage_outcome record_bytes ≡ record { answer = Done; bytes = record_bytes }
 
--- What `salvage` gives of the record of a stimulus: the record of the run over its blocks, which is
--- ended, and so that record itself where no bad line ended the stimulus.
+-- What `salvage` gives for the record of a stimulus: the record of the run over its blocks, ended.
+-- If no bad line ended the stimulus, this is the record itself.
 pub record IsRecordSalvaged (profile : ProfileValue) (run : List CycleInput → Bool → List Frame)
     (stimulus bytes : List ℕ) : Type 0 where
   pub ended : salvage_outcome bytes ≡ record {
@@ -65,7 +65,7 @@ pub record IsRecordSalvaged (profile : ProfileValue) (run : List CycleInput → 
   pub same : is_terminated (ending (length profile.events) stimulus) ≡ true
       → salvage_outcome bytes ≡ record { answer = Done; bytes = bytes }
 
--- what `salvage` gives of what `record` writes, where the manifest is taken
+-- what `salvage` gives for what `record` writes, if the manifest is accepted
 abbrev pub RecordIsSalvaged : Type 0
 RecordIsSalvaged =
     (strict : Bool) (manifest stimulus : List ℕ) (seed : Option ℕ) (m : ManifestValue)
@@ -74,7 +74,7 @@ RecordIsSalvaged =
     (frames_by_kind m.kind (profile_of m (unwrap_or seed 0))) stimulus
     (record_outcome strict manifest stimulus seed).bytes
 
--- and of what `demo` writes
+-- and for what `demo` writes
 abbrev pub DemoIsSalvaged : Type 0
 DemoIsSalvaged =
     (stimulus : List ℕ)

@@ -1,4 +1,4 @@
--- What the record of a run is read as, what is printed of it, and what its replay gives.
+-- What the record of a run is read as, what `show` prints of it, and what `replay` gives.
 use Rattle.std.specs.Prelude.{◌≡◌, ℕ, ◌^◌, ◌<◌, List, length, Bool, true, false, Option, Some, None}
 use Rattle.std.specs.Prelude.{Ok}
 use Rattle.std.specs.Option.{unwrap_or}
@@ -31,7 +31,7 @@ use Rattle.cmd_rerun.specs.replay_command.Replay.{replay_outcome}
 abbrev pub frames_by_kind : JobKind → ProfileValue → List CycleInput → Bool → List Frame
 frames_by_kind kind profile = by_kind (λ S G E L P m. frames m profile) kind
 
--- the record of a run that was ended has no fault, and that of another one only ends too early
+-- the record of a run that ended has no fault, and that of any other run is only truncated
 abbrev pub fault_if : Bool → List ℕ → Option RecordFault
 fault_if true bytes = None
 fault_if false bytes = Some (record { offset = length bytes; reason = Truncated })
@@ -42,14 +42,14 @@ pub record IsRunRead (profile : ProfileValue) (run : List Frame) (ended : Bool) 
   pub items : items bytes ≡ items_of profile run
   pub fault : fault bytes ≡ fault_if ended bytes
 
--- the same of the run over the blocks of a stimulus, ended where the stimulus is
+-- the same for the run over the blocks of a stimulus, ended if the stimulus is
 abbrev pub IsRecordRead : ProfileValue → (List CycleInput → Bool → List Frame) → List ℕ → List ℕ
     → Type 0
 IsRecordRead profile run stimulus bytes =
     let ended : Bool = is_terminated (ending (length profile.events) stimulus) in
     IsRunRead profile (run (blocks (length profile.events) stimulus) ended) ended bytes
 
--- what `record` writes, where the manifest is taken; without a seed it is 0
+-- what `record` writes, if the manifest is accepted; the seed is 0 if none is given
 abbrev pub RecordIsRead : Type 0
 RecordIsRead = (strict : Bool) (manifest stimulus : List ℕ) (seed : Option ℕ) (m : ManifestValue)
     → unwrap_or seed 0 < 2 ^ 64 → setup_of strict manifest ≡ Ok m
@@ -64,15 +64,15 @@ DemoIsRead =
     → IsRecordRead demo_profile (frames bank.meaning demo_profile) stimulus
     (demo_outcome stimulus).bytes
 
--- what `show` gives of the record of a run: the lines of its profile and of its frames, and, where
--- it was ended, what an audience reports of its cycles
+-- What `show` gives for the record of a run: the lines of its profile and of its frames. If the run
+-- ended, what an audience reports of its cycles comes after them.
 abbrev pub shown_of : AudienceState → ProfileValue → List Frame → Option RecordFault → Outcome
 shown_of audience profile run end = record {
   answer = by_fault end;
   bytes = text_from All audience (items_of profile run) end;
 }
 
--- the same of the run over the blocks of a stimulus
+-- the same for the run over the blocks of a stimulus
 abbrev pub IsRecordShown : ProfileValue → (List CycleInput → Bool → List Frame) → List ℕ → List ℕ
     → Type 0
 IsRecordShown profile run stimulus bytes =
@@ -81,7 +81,7 @@ IsRecordShown profile run stimulus bytes =
     ≡ shown_of audience profile (run (blocks (length profile.events) stimulus) ended)
     (fault_if ended bytes)
 
--- what `show` gives of what `record` writes, where the manifest is taken
+-- what `show` gives for what `record` writes, if the manifest is accepted
 abbrev pub RecordIsShown : Type 0
 RecordIsShown =
     (strict : Bool) (manifest stimulus : List ℕ) (seed : Option ℕ) (m : ManifestValue)
@@ -90,24 +90,24 @@ RecordIsShown =
     (frames_by_kind m.kind (profile_of m (unwrap_or seed 0))) stimulus
     (record_outcome strict manifest stimulus seed).bytes
 
--- and of what `demo` writes
+-- and for what `demo` writes
 abbrev pub DemoIsShown : Type 0
 DemoIsShown =
     (stimulus : List ℕ) → IsRecordShown demo_profile (frames bank.meaning demo_profile) stimulus
     (demo_outcome stimulus).bytes
 
--- bytes that are given again, and the answer by this fault
+-- the same bytes again, and the answer by this fault
 abbrev pub given_again : List ℕ → Option RecordFault → Outcome
 given_again bytes end = record { answer = by_fault end; bytes = bytes }
 
--- what `replay` gives of the record of a stimulus: that record, and it is done where the stimulus
--- is whole
+-- What `replay` gives for the record of a stimulus: that record. It is done if the stimulus is
+-- whole.
 abbrev pub IsRecordReplayed : ProfileValue → List ℕ → List ℕ → Type 0
 IsRecordReplayed profile stimulus bytes =
     let ended : Bool = is_terminated (ending (length profile.events) stimulus) in
     replay_outcome bytes ≡ given_again bytes (fault_if ended bytes)
 
--- what `replay` gives of what `record` writes, where the manifest is taken
+-- what `replay` gives for what `record` writes, if the manifest is accepted
 abbrev pub RecordIsReplayed : Type 0
 RecordIsReplayed =
     (strict : Bool) (manifest stimulus : List ℕ) (seed : Option ℕ) (m : ManifestValue)
@@ -115,7 +115,7 @@ RecordIsReplayed =
     → IsRecordReplayed (profile_of m (unwrap_or seed 0)) stimulus
     (record_outcome strict manifest stimulus seed).bytes
 
--- and of what `demo` writes
+-- and for what `demo` writes
 abbrev pub DemoIsReplayed : Type 0
 DemoIsReplayed =
     (stimulus : List ℕ) → IsRecordReplayed demo_profile stimulus (demo_outcome stimulus).bytes

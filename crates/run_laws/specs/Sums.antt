@@ -25,8 +25,8 @@ summed_up audience number record_bytes = text_outcome (summary_lines (record {
   digest = sha256 record_bytes;
 }) ++ reported audience (runs_in (items record_bytes)))
 
--- `sim` sums up what `record` writes of a manifest with its profile, of the stimulus that is made
--- of the number, and of the number as the seed
+-- `sim` sums up what `record` writes for a manifest with its profile, for the stimulus made of the
+-- number, with the number as the seed
 abbrev pub SimIsRecorded : Type 0
 SimIsRecorded = (audience : AudienceState) (strict : Bool) (manifest : List ℕ) (number : ℕ)
     (m : ManifestValue) → number < 2 ^ 64 → setup_of strict manifest ≡ Ok m

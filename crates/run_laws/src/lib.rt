@@ -1,7 +1,8 @@
-//! Laws of whole runs: what the record of a run is read as, what is printed of it, what its replay
-//! gives, when copies of it agree or have a majority, which copies dissent, when it is genuine,
-//! what it is upgraded to, what is salvaged of it, what a chain makes of its two clients, and what
-//! `sim` sums up. Each function is empty and its contract is the law.
+//! Laws of whole runs, which join several commands.
+//!
+//! They say what the record of a run is read as, and what `show`, `replay`, `check`, `upgrade` and
+//! `salvage` make of it. They say when `compare` and `vote` are done, what a chain makes of its two
+//! clients, and what `sim` sums up. Each function is empty, and its contract is the law.
 #![tactic(auto)]
 
 ghost use Rattle.run_laws.specs.Statements.{RecordIsRead, DemoIsRead, RecordIsShown, DemoIsShown};
@@ -17,91 +18,95 @@ ghost use Rattle.run_laws.specs.Salvages.{RecordIsSalvaged, DemoIsSalvaged};
 ghost use Rattle.run_laws.specs.Sums.{SimIsRecorded};
 
 /// The record of a manifest and a stimulus is read as its profile and the frames of its run, and as
-/// nothing else. A manifest is meant that is taken, and a stimulus of any bytes: where a bad line
-/// ends it, the record ends too early behind the frames of the complete blocks.
+/// nothing else.
+///
+/// The manifest is one that is accepted, and the stimulus may be any bytes. If a bad line ends it,
+/// the record is truncated after the frames of the complete blocks.
 pub fn decoding()
     ensures record { RecordIsRead }
     ensures demo { DemoIsRead }
 {}
 
-/// Of that record `show` prints the lines of the profile and of those frames, and behind them what
-/// its audience reports of the cycles; where a bad line ended the stimulus it prints the lines and
-/// no reports, and tells that the record ends too early.
+/// Of that record `show` prints the lines of the profile and of those frames, and then what its
+/// audience reports of the cycles. If a bad line ended the stimulus, it prints the lines and no
+/// reports, and says that the record is truncated.
 pub fn showing()
     ensures record { RecordIsShown }
     ensures demo { DemoIsShown }
 {}
 
-/// `replay` gives that record again, byte for byte, and is done; where a bad line ended the
-/// stimulus it gives the same bytes too, and tells that the record ends too early.
+/// `replay` writes that record again, byte for byte, and is done. If a bad line ended the stimulus,
+/// it writes the same bytes and says that the record is truncated.
 pub fn replaying()
     ensures record { RecordIsReplayed }
     ensures demo { DemoIsReplayed }
 {}
 
-/// `compare` is done exactly where all copies are one whole record, byte for byte, and then it
-/// prints that they agree and how many cycles they hold.
+/// `compare` is done exactly if all copies are one whole record, byte for byte. Then it prints that
+/// they agree, and how many cycles they have.
 pub fn comparing()
     ensures { CopiesAreCompared }
 {}
 
-/// `vote` is done exactly where more than half of the copies are one whole record, and then it has
-/// written that record.
+/// `vote` is done exactly if more than half of the copies are one whole record. Then it has written
+/// that record.
 pub fn voting()
     ensures written { MajorityIsWritten }
     ensures done { DoneIsMajority }
 {}
 
-/// Where `vote` finds no majority, no whole record is that of more than half of the copies. More
-/// than half of them begin with the bytes that it has written then; these are the most such rows,
-/// and the number that it answers is how many they are.
+/// If `vote` finds no majority, no whole record is that of more than half of the copies. More than
+/// half of them begin with the bytes that it has written. These are the most such rows, and it
+/// reports their number.
 pub fn splitting()
     ensures { SplitIsCommon }
 {}
 
-/// `vote --dissent` is answered as `vote` is. Where it is done, the copies that it names are those
-/// that aren't, byte for byte, the record that `vote` writes. Where all copies are one whole record
-/// it names none.
+/// `vote --dissent` has the same answer as `vote`. If it is done, the copies that it names are
+/// exactly those that aren't the record that `vote` writes, byte for byte. If all copies are one
+/// whole record, it names none.
 pub fn dissenting()
     ensures answer { AnsweredAlike }
     ensures named { OthersAreNamed }
     ensures none { NoneIsNamed }
 {}
 
-/// The record of the first client of a chain, which the command drops, is the one that `record`
-/// writes of the first manifest. What `cmd_run::chain` writes is read as the second manifest's profile and
-/// the frames of its run over the inputs that the first client passes on, and `check` finds it
-/// genuine; where a bad line ended the stimulus, it ends too early.
+/// The record of a chain's first client, which isn't written, is the one that `record` writes for
+/// the first manifest.
+///
+/// What `chain` writes is read as the second manifest's profile and the frames of its run over the
+/// inputs that the first client passes on. `check` finds it genuine. If a bad line ended the
+/// stimulus, it is truncated.
 pub fn chaining()
     ensures first { FirstIsRecorded }
     ensures second { ChainIsRead }
 {}
 
-/// Of that record `check` says that it is genuine, with the number of its cycles and what its
-/// audience reports of them; where a bad line ended the stimulus, it tells that the record ends too
-/// early.
+/// Of the record of a run `check` says that it is genuine, with the number of its cycles and what
+/// its audience reports of them. If a bad line ended the stimulus, it says that the record is
+/// truncated.
 pub fn checking()
     ensures record { RecordIsChecked }
     ensures demo { DemoIsChecked }
 {}
 
-/// `check` is done exactly where `replay` is done and gives the same record again, byte for byte.
-/// Any bytes are meant.
+/// For any bytes, `check` is done exactly if `replay` is done and writes the same bytes again.
 pub fn genuine()
     ensures { GenuineIsReplayed }
 {}
 
-/// A genuine record is upgraded to a genuine one of the same inputs in format 2. In format 2 it
-/// stays as it is.
+/// `upgrade` makes a genuine record into a genuine one of the same inputs in format 2. A genuine
+/// record in format 2 stays as it is.
 pub fn upgrading()
     ensures genuine { GenuineIsUpgraded }
     ensures format_two { FormatTwoStays }
 {}
 
-/// `salvage` is done exactly where Init was read. Then it gives a whole record: the header and the
-/// frames that were read, ended by Terminate, and so the same cycles. A whole record is given back,
-/// byte for byte. So is the record of a run; where a bad line ended the stimulus, it gives the
-/// record of the complete blocks, ended.
+/// `salvage` is done exactly if Init was read. Then it writes a whole record: the header and the
+/// frames that were read, ended by Terminate, and so the same cycles.
+///
+/// A whole record comes out unchanged, byte for byte, and so does the record of a run. If a bad
+/// line ended the stimulus, the output is the record of the complete blocks, ended.
 pub fn salvaging()
     ensures done { InitIsEnough }
     ensures whole { SalvagedIsWhole }
@@ -110,8 +115,8 @@ pub fn salvaging()
     ensures demo { DemoIsSalvaged }
 {}
 
-/// What `sim` prints of a number sums up a record: the one that `record` writes of a manifest with
-/// its profile, of the stimulus that is made of the number, and of the number as the seed.
+/// What `sim` prints for a number sums up a record that `record` writes. Its manifest has the
+/// profile of `sim`, its stimulus is made of the number, and its seed is the number.
 pub fn summing()
     ensures { SimIsRecorded }
 {}

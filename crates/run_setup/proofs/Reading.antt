@@ -1,4 +1,4 @@
--- What is known of a manifest that was read from a name whose bytes are told.
+-- What is known of a manifest that was read from a name whose bytes are known.
 use Rattle.std.proofs.Common.{◌≡◌, ◌<◌, ◌≤◌, ℕ, Bool, true, List, ◌++◌, length, refl, sym, ap, ◌∙◌, arith, length-append}
 use Rattle.std.specs.Prelude.{Result, Ok, Err, IfOk, IfErr, IsSome, false, nat_le}
 use Rattle.std.proofs.lemmas.Bool.{lt-leb}
@@ -15,7 +15,7 @@ use Rattle.cli_answers.proofs.Telling.{read-part}
 use Rattle.run_setup.specs.Setup.{setup_of, Takes}
 
 module _ (strict : Bool) (text all : List ℕ) (tells : Type 0) (same : tells → text ≡ all) where
-  -- the manifest of a text is that of the bytes which were told
+  -- the manifest of a text is that of the bytes which are known
   pub told-ok : (read : Result ManifestValue (Stopped BadManifest))
       → IfOk read (λ m. setup_of strict text ≡ Ok m) → IfOk read (λ m. tells → setup_of strict all ≡ Ok m)
   told-ok (Ok m) is = λ t. ap (setup_of strict) (sym (same t)) ∙ is

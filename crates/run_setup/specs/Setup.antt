@@ -1,4 +1,4 @@
--- The manifest that a text is, where its job takes its parameters.
+-- The manifest in a text, if its job takes its parameters.
 use Rattle.std.specs.Prelude.{◌≡◌, ℕ, ◌≤◌, Bool, List, length, Option, Some, None, Result, Ok, Err}
 use Rattle.std.specs.Option.{option_map_or}
 use Rattle.det_io.specs.Shelf.{ShelfState, Opens, Reads}
@@ -17,7 +17,7 @@ use Rattle.cli_answers.specs.Outcome.{Outcome, refusal}
 abbrev pub IsGood : ManifestValue → Type 0
 IsGood m = bad_param m.kind m.params (length m.events) ≡ None
 
--- the manifest, where its job refuses no parameter
+-- the manifest, if its job refuses no parameter
 abbrev pub judged : ManifestValue → Result ManifestValue BadManifest
 judged m =
     option_map_or (λ i. Err (Parameter i)) (bad_param m.kind m.params (length m.events)) (Ok m)
@@ -26,12 +26,11 @@ abbrev pub setup_from : Result ManifestValue ManifestFault → Result ManifestVa
 setup_from (Err fault) = Err (Fault fault)
 setup_from (Ok m) = judged m
 
--- the manifest that a text is, or why it is refused: its first fault, else the least parameter that
--- its job refuses
+-- the manifest in a text, or why it is refused: its first fault, else the least bad parameter
 abbrev pub setup_of : (strict : Bool) → List ℕ → Result ManifestValue BadManifest
 setup_of strict bytes = setup_from (manifest_of strict bytes)
 
--- what a command gives of a manifest, or the manifest's refusal
+-- what a command gives of a manifest, or the refusal of the manifest
 abbrev pub with_manifest : (ManifestValue → Outcome) → Result ManifestValue BadManifest → Outcome
 with_manifest given (Ok m) = given m
 with_manifest given (Err why) = refusal (answers.BadManifest why)
@@ -42,7 +41,7 @@ IsCalm None = Unit {0}
 IsCalm (Some OutOfMemory) = Unit {0}
 IsCalm (Some failure) = ⊥
 
--- a name was opened, and then at most `most` bytes were taken off its slot and off no other
+-- a name was opened, and then at most `most` bytes were read from its slot, and none from another
 pub record Takes (first last : ShelfState) (name : List ℕ) (most : ℕ) : Type 0 where
   pub opened : ShelfState
   pub slot : ℕ

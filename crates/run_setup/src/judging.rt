@@ -1,4 +1,5 @@
-//! Judges the text of a manifest, and its parameters by its job.
+//! Decodes the text of a manifest, and checks its parameters by its job. `read_setup` reads the
+//! text.
 ghost use Rattle.std.specs.Prelude.{◌≡◌, IfOk, IfErr, Ok, Err};
 ghost use Rattle.run_setup.specs.Setup.{judged, setup_of};
 ghost use Rattle.det_io.specs.Traffic.{failure_in, IfRefused};
@@ -11,7 +12,7 @@ use jobs::bad_param;
 use manifest::{Manifest, ManifestError, read_manifest, read_strict_manifest};
 use std::alloc::Global;
 
-/// The manifest, where its job takes its parameters.
+/// The manifest, if its job takes its parameters. Otherwise `Refused` has the least bad parameter.
 fn judged(manifest: Manifest) -> Result<Manifest, Stopped<BadManifest>>
     ensures manifest { IfOk result (λ m. judged manifest ≡ Ok m) }
     ensures good { IfOk result IsGood }
@@ -36,7 +37,8 @@ fn manifest_by(alloc: Global, text: &[u8], strict: bool) -> Result<Manifest, Man
     }
 }
 
-/// The manifest that a text is, where its job takes its parameters.
+/// The manifest in a text, if its job takes its parameters. If `strict` is set, a key that no table
+/// of a manifest knows is a fault.
 pub(crate) fn setup_of(
     alloc: Global,
     text: &[u8],

@@ -1,4 +1,5 @@
-//! Reads the manifest under a name of a shelf, and judges its parameters by its job.
+//! Reads what a run needs before it starts: a manifest whose parameters its job takes, or the
+//! header of a record.
 #![tactic(auto)]
 
 mod judging;

@@ -1,4 +1,4 @@
-//! Opens a record and reads its header, to run its job again.
+//! Opens a record and reads its header, so that its job can run again.
 
 mod bad_run;
 mod job_kind;

@@ -1,4 +1,4 @@
-//! Reads the manifest under a name of a shelf.
+//! Reads the manifest under a name of a shelf. `setup_of` decodes and checks it.
 ghost use Rattle.std.specs.Prelude.{◌≡◌, ◌⊎◌, ◌∷◌, [], Some, Ok, Err, IfOk, IfErr, IsSome};
 ghost use Rattle.det_io.specs.Shelf.{Asks, SlotsStay};
 ghost use Rattle.det_io.specs.Traffic.{ShelfTraffic, shelf_run, failure_in, IfRefused};
@@ -12,9 +12,13 @@ use det_io::{Failure, Shelf, Stopped, TooLong, read_limited};
 use manifest::{MOST_BYTES, Manifest, ManifestFault};
 use std::alloc::Global;
 
-/// Opens a name and reads the manifest under it, where its job takes its parameters. At most one
-/// piece of 4,096 bytes is read beyond the greatest length of a manifest, which is 65,536 bytes.
-/// Where it is read strictly, a key that no table of a manifest knows is a fault.
+/// Opens a name and reads the manifest under it, whose parameters its job takes. If `strict` is
+/// set, a key that no table of a manifest knows is a fault.
+///
+/// A manifest has at most 65,536 bytes. At most one piece of 4,096 bytes is read beyond that.
+///
+/// It returns the manifest and not a job: a value that is one of three jobs would need three arms
+/// wherever it is passed on.
 pub fn read_setup<S: Shelf>(
     alloc: Global,
     name: &str,

@@ -1,4 +1,4 @@
-//! A run that has just begun, and its crew.
+//! `Begun`: a run before its first cycle, and how its crew is started and ended.
 ghost use Rattle.std.specs.Prelude.{◌≡◌, length, min, max, None, IfOk};
 ghost use Rattle.job.specs.Passes.{blocks_of};
 ghost use Rattle.recorder.specs.run_writer.Recording.{IsNew};
@@ -13,7 +13,7 @@ use std::thread::Threads;
 use tickets::Room;
 use worker_pool::{Crew, CrewRoom, Gate};
 
-/// A run of which nothing was written yet, a room for its crew, and the workers that share it.
+/// A run before anything of it is written, the room for its crew, and the workers that it needs.
 #[derive(Drop)]
 pub(crate) struct Begun<'r, J: Job, R, G> {
     pub(crate) recording: Recording<J>,
@@ -21,7 +21,7 @@ pub(crate) struct Begun<'r, J: Job, R, G> {
     pub(crate) workers: Workers<'r, R, G>,
 }
 
-/// Begins the run of a job, for as many of the workers as there are blocks of elements.
+/// Makes the run of a job, for as many of the workers as there are blocks of elements.
 pub(crate) fn begin<'r, J: Job, R, G>(
     workers: &Workers<'r, R, G>,
     profile: Profile,
@@ -47,7 +47,7 @@ pub(crate) fn begin<'r, J: Job, R, G>(
     })
 }
 
-/// The run with a crew, whose threads are started in its room. The crew is ended by `stop`.
+/// Starts the threads of a crew in its room. `stop_crew` ends them.
 pub(crate) fn crewed<J, N, R, G>(
     begun: Begun<'_, J, R, G>,
 ) -> Result<Runner<J, Crew<J, N, G>>, OutOfMemory>
@@ -79,7 +79,7 @@ where
     Ok(Runner { recording, pool })
 }
 
-/// Ends the crew of a run. None of its threads is left running.
+/// Ends the crew of a run. None of its threads goes on.
 pub(crate) fn stop_crew<J, N, R, G>(runner: Runner<J, Crew<J, N, G>>, rt: &R)
 where
     J: Job + Send + Sync + 'static,

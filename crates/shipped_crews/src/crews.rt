@@ -1,4 +1,4 @@
-//! A run of a shipped job, and a crew for it.
+//! `with_crew`: an operation on the run of one shipped job, with a crew for it.
 ghost use Rattle.std.specs.Prelude.{◌≡◌, length, None, IfOk, OnErr};
 ghost use Rattle.det_io.specs.Traffic.{shelf_run, sink_run};
 ghost use Rattle.probes.specs.Shows.{seen};
@@ -19,14 +19,15 @@ use std::thread::Threads;
 use tickets::Room;
 use worker_pool::{Crew, Gate};
 
-/// What a shipped job runs by.
+/// A shipped job and the profile of its run.
 #[derive(Drop)]
 pub struct ShippedRun {
     pub kind: JobKind,
     pub profile: Profile,
 }
 
-/// Does it with a run by a crew in its room. The crew's threads end before the answer is given.
+/// Calls a visitor on a run with a crew, whose room has the name `N`. The threads of the crew end
+/// before this returns.
 fn in_room<J, N, V, S, K, R, G>(
     begun: Begun<'_, J, R, G>,
     visitor: V,
@@ -73,7 +74,8 @@ where
     Ok(answer)
 }
 
-/// Does it with the run of a job, on as many threads as there are blocks of elements for them.
+/// Calls a visitor on the run of a job, with a crew of as many threads as there are blocks of
+/// elements for them.
 fn at<J, V, S, K, R, G>(
     workers: &Workers<'_, R, G>,
     profile: Profile,
@@ -109,9 +111,9 @@ where
     in_room::<J, Brand, V, S, K, R, G>(begun, visitor, shelf, sink, audience)
 }
 
-/// Hands a visitor the run of the job of a kind and a crew for it, whose threads are kept from the
-/// first pass to the last, no more of them than there are blocks of elements. None of them is left
-/// running at any answer. Where memory couldn't be had nothing was done.
+/// Calls a visitor on the run of a shipped job and a crew for it. The threads of the crew are kept
+/// from the first pass to the last. There are no more of them than blocks of elements. All of them
+/// end before this returns. If memory runs out first, the visitor was not called.
 pub fn with_crew<V, S, K, R, G>(
     workers: &Workers<'_, R, G>,
     run: ShippedRun,

@@ -1,7 +1,7 @@
-//! The run of a shipped job, with a crew for its passes, handed to whatever is done with it.
+//! Starts the run of a shipped job with a crew for its passes, and passes both to a visitor.
 //!
-//! This is the one place that knows the shipped jobs, what threads ask of them, and how a crew is
-//! made. What is done with a run is a visitor, which is generic in the job and in its pool.
+//! Only this crate knows the list of shipped jobs, what threads require of them, and how a crew is
+//! made. A visitor is a `Visit` or a `VisitTwo`, which are generic in the job and in its pool.
 #![tactic(auto)]
 
 mod begun;

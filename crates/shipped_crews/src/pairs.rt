@@ -1,4 +1,4 @@
-//! The runs of two shipped jobs, and a crew for each.
+//! `with_two_crews`: an operation on the runs of two shipped jobs, with a crew for each.
 ghost use Rattle.std.specs.Prelude.{◌≡◌, length, None, IfOk, OnErr};
 ghost use Rattle.det_io.specs.Traffic.{shelf_run, sink_run};
 ghost use Rattle.recorder.specs.run_writer.Recording.{IsNew};
@@ -26,8 +26,8 @@ pub struct StaffedRun<'r, R, G> {
     pub workers: Workers<'r, R, G>,
 }
 
-/// Does it with a second run by a crew in its room. The crew's threads end before the answer is
-/// given.
+/// Calls a visitor on a first run and on a second one with a crew. The second crew's threads end
+/// before this returns.
 fn second_in_room<A, P, B, N, V, S, K, L, R, G>(
     first: &mut Runner<A, P>,
     second: Begun<'_, B, R, G>,
@@ -73,7 +73,7 @@ where
     Ok(answer)
 }
 
-/// Does it with the run of a job beside a first one.
+/// Calls a visitor on a first run and on the run of the second job.
 fn second_at<A, P, B, V, S, K, L, R, G>(
     first: &mut Runner<A, P>,
     second: StaffedRun<'_, R, G>,
@@ -123,7 +123,7 @@ where
     )
 }
 
-/// Does it with the run of the job of a kind beside a first one.
+/// Calls a visitor on a first run and on the run of the job of the second kind.
 fn second_of_kind<A, P, V, S, K, L, R, G>(
     first: &mut Runner<A, P>,
     second: StaffedRun<'_, R, G>,
@@ -184,8 +184,8 @@ where
     }
 }
 
-/// Does it with a first run by a crew in its room, and with a second run. The crew's threads end
-/// before the answer is given.
+/// Calls a visitor on a first run with a crew and on a second one. The first crew's threads end
+/// before this returns.
 fn first_in_room<A, N, V, S, K, L, R, G>(
     first: Begun<'_, A, R, G>,
     second: StaffedRun<'_, R, G>,
@@ -236,7 +236,7 @@ where
     answer
 }
 
-/// Does it with the run of a job and with a second run.
+/// Calls a visitor on the run of the first job and on a second run.
 fn first_at<A, V, S, K, L, R, G>(
     first: StaffedRun<'_, R, G>,
     second: StaffedRun<'_, R, G>,
@@ -284,10 +284,13 @@ where
     )
 }
 
-/// Hands a visitor the runs of the jobs of two kinds, each with a crew of its own, as `with_crew`
-/// does it with one: the threads of both crews are kept from the first pass to the last, no more of
-/// a crew's than there are blocks of its run's elements, and none is left running at any answer.
-/// Where memory couldn't be had nothing was done.
+/// Calls a visitor on the runs of two shipped jobs, each with a crew of its own. The threads of
+/// both crews are kept from the first pass to the last. A crew has no more of them than its run has
+/// blocks of elements. All of them end before this returns. If memory runs out first, the visitor
+/// was not called.
+///
+/// Another function, generic in the first run, matches on the second kind. So there are three arms
+/// and three, not nine.
 pub fn with_two_crews<V, S, K, L, R, G>(
     first: StaffedRun<'_, R, G>,
     second: StaffedRun<'_, R, G>,

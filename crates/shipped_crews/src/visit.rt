@@ -1,11 +1,12 @@
-//! What is done with a run, whatever its job.
+//! `Visit`: an operation on one run, whatever its job.
 use det_io::{Sink, Slots};
 use job::{Job, Pool};
 use probes::{Audience, Probe};
 use recorder::run_writer::Recording;
 
-/// Something that is done with the recording of a run, of which nothing was written yet, and with a
-/// pool for its passes.
+/// An operation on a recording and its pool, generic in the job. Nothing of the recording was
+/// written yet. It starts no threads itself: the kit refuses a trait method's implementation that
+/// does.
 pub trait Visit: Drop + Sized {
     ghost use Rattle.det_values.specs.Values.{ProfileValue};
     ghost use Rattle.det_io.specs.Shelf.{ShelfState};
@@ -17,10 +18,11 @@ pub trait Visit: Drop + Sized {
 
     type Answer;
 
-    /// What it asks of the profile and of the shelf.
+    /// What the operation requires of the profile and of the shelf.
     ghost Can: { Self → ProfileValue → ShelfState → Type 0 };
 
-    /// What its answer says, by the job's meaning and the profile.
+    /// What the operation ensures of its answer. Its arguments are the meaning of the job, the
+    /// profile, and what was done to the shelf, the sink and the audience.
     ghost Gives: { (S G E L P : Type 0) → Meaning S G E L P → ProfileValue → Self → ShelfRun
         → SinkRun → AudienceState → AudienceState → Self.Answer → Type 0 };
 

@@ -1,10 +1,10 @@
-//! What is done with two runs, whatever their jobs.
+//! `VisitTwo`: an operation on two runs, whatever their jobs.
 use det_io::{Sink, Slots};
 use job::{Job, Pool};
 use recorder::run_writer::Runner;
 
-/// Something that is done with two runs side by side, of which nothing was written yet, and with a
-/// pool for the passes of each.
+/// An operation on two recordings and their pools, generic in both jobs. Nothing of either
+/// recording was written yet.
 pub trait VisitTwo: Drop + Sized {
     ghost use Rattle.det_values.specs.Values.{ProfileValue};
     ghost use Rattle.det_io.specs.Shelf.{ShelfState};
@@ -14,10 +14,11 @@ pub trait VisitTwo: Drop + Sized {
 
     type Answer;
 
-    /// What it asks of the two profiles and of the shelf.
+    /// What the operation requires of the two profiles and of the shelf.
     ghost Can: { Self → ProfileValue → ProfileValue → ShelfState → Type 0 };
 
-    /// What its answer says, by the meaning and the profile of each run.
+    /// What the operation ensures of its answer. Its arguments are the meaning of each job, its
+    /// profile, and what was done to the shelf and the two sinks.
     ghost Gives: { (S G E L P : Type 0) → Meaning S G E L P → ProfileValue
         → (T H F M Q : Type 0) → Meaning T H F M Q → ProfileValue
         → Self → ShelfRun → SinkRun → SinkRun → Self.Answer → Type 0 };

@@ -1,4 +1,4 @@
-//! The workers of a run, and the machine that they run on.
+//! `Workers` and `Host`: the threads for a run, and the machine that they run on.
 ghost use Rattle.std.specs.Prelude.{◌≡◌, ◌≤◌, min, max};
 ghost use Rattle.job.specs.Passes.{blocks_of};
 
@@ -6,7 +6,7 @@ use job::block_count;
 use std::alloc::Global;
 use std::sync::Arc;
 
-/// The machine of a run: its threads, the gate that each worker passes, and the allocator.
+/// The machine of a run: its threads, the gate that each worker passes, and its allocator.
 #[derive(Drop)]
 pub struct Host<'h, R, G> {
     pub rt: &'h R,
@@ -15,7 +15,7 @@ pub struct Host<'h, R, G> {
 }
 
 impl<'h, R, G> Host<'h, R, G> {
-    /// So many workers on this machine.
+    /// This number of workers on this machine.
     pub fn workers(&self, count: u32) -> Workers<'h, R, G>
         requires some { 1 ≤ count }
         requires few { count ≤ 64 }
@@ -30,8 +30,8 @@ impl<'h, R, G> Host<'h, R, G> {
     }
 }
 
-/// How many workers run the passes of a run, from 1 to 64, the gate that each of them passes, and
-/// where the run takes memory from.
+/// How many workers run the passes of a run, from 1 to 64; the gate that each of them passes; and
+/// the allocator of the run.
 #[derive(Drop)]
 pub struct Workers<'r, R, G> {
     pub rt: &'r R,
@@ -42,8 +42,8 @@ pub struct Workers<'r, R, G> {
     ghost few: { count ≤ 64 },
 }
 
-/// As many of the workers as there are blocks of elements, and one at least. A worker beyond them
-/// isn't started and passes no gate.
+/// As many of the workers as there are blocks of elements, and never fewer than one. A worker
+/// beyond them isn't started and passes no gate.
 pub(crate) fn busy<'r, R, G>(workers: &Workers<'r, R, G>, elements: usize) -> Workers<'r, R, G>
     requires { elements ≤ 65536 }
     ensures { result.count ≡ max (min workers.now.count (blocks_of elements)) 1 }

@@ -18,7 +18,7 @@ inputs_append [] ys = refl
 inputs_append (items.Cycle input ∷ xs) ys = ap (λ l. input ∷ l) (inputs_append xs ys)
 inputs_append (items.Terminate ∷ xs) ys = inputs_append xs ys
 
--- so many blocks may still be completed
+-- this many blocks may still be completed
 abbrev more_blocks : Place → ℕ
 more_blocks First = 1000000
 more_blocks Between = 1000000

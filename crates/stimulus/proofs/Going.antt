@@ -72,7 +72,7 @@ goes_on events place p line xs ys given cut taken =
     ap (reading_from events place) cut ∙ read_whole events place line ys
     ∙ ap (λ s. go_on line s (λ q. reading_from events q (parts ys))) taken
 
--- a line that may not stand there
+-- a line that may not come there
 pub is_bad : (events : ℕ) (place : Place) (line xs ys : List ℕ) → parts xs ≡ line ∷ parts ys → taken_at events place line ≡ None
     → reading_from events place (parts xs) ≡ bad_at_once true
 is_bad events place line xs ys cut taken =
@@ -116,7 +116,7 @@ pub at_open : (events : ℕ) (place : Place) (line : List ℕ) → reading_from 
 unfolding reading_from
 at_open events place line = refl
 
--- nothing is given for a line that isn't whole
+-- a line that isn't whole completes nothing
 pub open_items : (place : Place) (line : List ℕ) → (at_end place line).items ≡ []
 open_items Ended [] = refl
 open_items Ended (b ∷ bs) = refl
@@ -150,6 +150,6 @@ pub ended_whole : (line : List ℕ) → length line ≡ 0 → (at_end Ended line
 ended_whole [] none = refl
 ended_whole (b ∷ bs) none = absurd (omega arith)
 
--- after a line that may not stand there, no other answer is left
+-- after a line that may not come there, there is no other result
 pub after_bad : (head : List (List ℕ)) (given : List StimItem) → after head given (bad_at_once true) ≡ found_bad head given
 after_bad head given = λ i. record { head = append-nil head i; items = append-nil given i; is_whole = false; bad_is_fed = true }

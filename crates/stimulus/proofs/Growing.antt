@@ -133,11 +133,11 @@ bad_stays events text more bad =
     ap (reading_from events First) (parts_append text more some.line some.others some.is)
     ∙ from_stays events First (parts text) some.line some.others bad
 
--- the inputs given, after one block more
+-- the returned inputs, after one block more
 pub inputs_then : (given : List StimItem) (input : CycleInput) → inputs_of (given ++ items.Cycle input ∷ []) ≡ inputs_of given ++ input ∷ []
 inputs_then given input = inputs_append given (items.Cycle input ∷ [])
 
--- the inputs given, after the end
+-- the returned inputs, after the end
 pub inputs_end : (given : List StimItem) → inputs_of (given ++ items.Terminate ∷ []) ≡ inputs_of given
 inputs_end given = inputs_append given (items.Terminate ∷ []) ∙ append-nil (inputs_of given)
 
@@ -152,7 +152,7 @@ given_first None r head bytes given on =
 given_first (Some fault) r head bytes given on =
     ([], append-nil given ∙ sym (ap (λ l. (reading r.events l).items) (sym (append-nil bytes)) ∙ ap (λ (x : Reading). x.items) (on.1 [])))
 
--- the items given are the first ones of the text that was fed
+-- the returned items are the first ones of the text that was fed
 pub stands_within : (r : StimReader) (bytes : List ℕ) (given : List StimItem) → StandsFor r bytes given
     → IsPrefix (inputs_of given) (blocks r.events bytes)
 stands_within r bytes given h =

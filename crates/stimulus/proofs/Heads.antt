@@ -45,7 +45,7 @@ nothing_onward Between = refl
 nothing_onward (Inside n input) = refl
 nothing_onward Ended = refl
 
--- what reading from a place on comes to
+-- the result of reading from a place on
 record HeadFrom (events : ℕ) (earlier : List Line) (place : Place) (texts : List (List ℕ)) (r : Reading) : Type 0 where
   pub says : List Line
   pub good : IsGoodAfter events earlier r.head says

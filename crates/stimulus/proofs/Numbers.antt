@@ -101,7 +101,7 @@ HasRead-done limit value i bs some whole h =
     let small : value < limit = elim h.within [ inl none ↦ absurd (omega arith) | inr small ↦ small ] in
     sym (ap (below limit) (h.same ∙ ap (number_after value) (drop_all i bs whole) ∙ at_last value) ∙ is_below limit value small)
 
--- the same where the number has at most so many digits
+-- the same if the number has at most this many digits
 pub record HasDigits (value i : ℕ) (bs : List ℕ) : Type 0 where
   pub same : number_after 0 bs ≡ number_after value (drop i bs)
   pub small : value < 10 ^ i

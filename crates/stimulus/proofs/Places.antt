@@ -1,4 +1,4 @@
--- The place after lines that stand in order.
+-- The place after lines in order.
 use Rattle.std.proofs.Common.{◌≡◌, ℕ, ◌+◌, ◌<◌, ◌≤◌, List, [], ◌∷◌, ◌++◌, length, Bool, true, false, cond, nat_lt, Option, Some, None, refl}
 use Rattle.std.proofs.Common.{sym, ap, ◌∙◌, arith, length-append}
 use Rattle.std.specs.List.{count_by}
@@ -36,7 +36,7 @@ At earlier Between = IsOpen earlier × (cycles earlier ≡ 0)
 At earlier (Inside n input) = IsInside earlier n input
 At earlier Ended = (0 < length earlier) × (ends earlier ≡ 1)
 
--- a line leads on where it may stand, and nowhere else
+-- a line leads on if it may come, and only then
 abbrev pub Leads : List Line → Line → Option Step → Type 0
 Leads earlier l None = ¬ (MayStand earlier l)
 Leads earlier l (Some s) = MayStand earlier l × At (earlier ++ l ∷ []) s.place
@@ -155,7 +155,7 @@ pub record Led (earlier : List Line) (p : Place) (l : Line) : Type 0 where
   pub is : taken p l ≡ Some to
   pub there : At (earlier ++ l ∷ []) to.place
 
--- a line that may stand leads on
+-- a line that may come leads on
 pub leads_on : (earlier : List Line) (p : Place) (l : Line) → At earlier p → MayStand earlier l → Led earlier p l
 leads_on earlier p l h may = choice (taken p l) refl (leads earlier p l h) where
   choice : (o : Option Step) → taken p l ≡ o → Leads earlier l o → Led earlier p l

@@ -1,4 +1,4 @@
--- What a reader stands for, and what its answers tell.
+-- What a reader stands for, and what its results say.
 use Rattle.std.proofs.Common.{◌≡◌, ◌↔◌, ℕ, ◌+◌, ◌<◌, ◌≤◌, List, [], ◌∷◌, ◌++◌, length, Bool, true, false, Option, Some, None, Ok, Err, refl}
 use Rattle.std.proofs.Common.{sym, ap, ◌∙◌, subst, append_assoc, append-nil}
 use Rattle.stimulus.specs.declared.state.State.{State}
@@ -47,7 +47,7 @@ stays_bad r fault head bytes given some all = record {
   settled = λ s n. absurd (cc);
 }
 
--- a found bad line tells all
+-- a bad line that was found decides everything
 told_bad : (events line : ℕ) (head : List (List ℕ)) (bytes : List ℕ) (given : List StimItem) → length head + 1 ≡ line
     → reading events (bytes ++ []) ≡ found_bad head given → FoundBad line events bytes given
 told_bad events line head bytes given count all =
@@ -73,7 +73,7 @@ next_bad old new (errors.Bad fault) bytes given none nothing bad (line, some, se
     (stays_bad new fault h.head bytes given some (count, all), told_bad new.events fault.line h.head bytes given count (all []))
 next_bad old new errors.OutOfMemory bytes given none nothing bad h stands = absurd h
 
--- the bad line is answered again
+-- the bad line is returned again
 pub next_again : (r : StimReader) (fault : StimFault) (bytes : List ℕ) (given : List StimItem) → r.fault ≡ Some fault
     → StandsFor r bytes given
     → NextIs (Err (errors.Bad fault)) r bytes given
@@ -186,7 +186,7 @@ finish_bad r bytes given none settled other h =
     (missing_there r.state (left r) (h.settled settled none).1 other)) (open_head p (left r))
     ∙ ap (λ n. BadLine (n + 1)) (resumes r bytes given none h).0
 
--- where the end isn't still to be given, nothing is
+-- if the end isn't still to be returned, nothing is
 pub owes_nothing : (s : State) (b : Bool) → (b ≡ true) ↔ (s ≡ states.Last) → b ≡ false → owed s ≡ []
 owes_nothing states.First b h lacks = refl
 owes_nothing states.Between b h lacks = refl

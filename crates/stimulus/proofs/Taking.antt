@@ -1,4 +1,4 @@
--- What taking a line leaves a reader to stand for.
+-- What a reader stands for after a line.
 use Rattle.std.proofs.Common.{◌≡◌, ℕ, ◌+◌, ◌<◌, ◌≤◌, List, [], ◌∷◌, ◌++◌, length, take, drop, true, Some, None, Result, Ok, Err, sym, ap}
 use Rattle.std.proofs.Common.{◌∙◌, arith, append_assoc, append-nil, drop-drop, add-zero, length-append, length-drop}
 use Rattle.stimulus.specs.declared.line.Line.{Line}
@@ -28,7 +28,7 @@ two_parts xs line ys one two =
     let e : xs ∷ [] ≡ line ∷ some.line ∷ some.others = sym one ∙ ap parts (sym (append-nil xs)) ∙ two ∙ ap (λ l. line ∷ l) some.is in
     cc
 
--- the bytes that are left begin with a line of so many bytes
+-- the remaining bytes begin with a line of this many bytes
 pub record Begins (end : ℕ) (r : StimReader) : Type 0 where
   pub short : length (take end (left r)) ≤ 128
   pub cut : (tail : List ℕ) → parts (left r ++ tail) ≡ take end (left r) ∷ parts (drop (end + 1) (left r) ++ tail)
@@ -129,7 +129,7 @@ line_past old new error bytes given none nothing (ended, some) bad h =
     next_bad old new error bytes given none nothing (λ tail. ap (λ s. reading_from old.events (place_of s) (parts (left old ++ tail))) ended
     ∙ past old.events (left old) tail some) bad h
 
--- the end is given
+-- the end is returned
 pub last_given : (old new : StimReader) (bytes : List ℕ) (given : List StimItem) → old.fault ≡ None → old.state ≡ states.Last → new.state
     ≡ states.Ended → new.fault ≡ old.fault
     → new.events ≡ old.events → new.lines ≡ old.lines → new.settled ≡ old.settled → left new ≡ left old → StandsFor old bytes given

@@ -21,7 +21,7 @@ use Rattle.stimulus.proofs.Spelling.{number_of_decimal, decimal_of_number}
 use Rattle.stimulus.proofs.Signed.{same_bytes, digits_of, is_below, below_some, value_of_decimal, decimal_of_value}
 use Rattle.stimulus.proofs.Within.{IfLine, line_within, timed, sampled}
 
--- the first space of two words stands right after the first
+-- the first space of two fields comes right after the first one
 first_space : (bs rest : List ℕ) → AllDigits 10 bs → position_or_len (λ b. nat_eq b 32) (bs ++ 32 ∷ rest) ≡ length bs
 first_space [] rest h = refl
 first_space (b ∷ bs) rest h =

@@ -1,4 +1,4 @@
--- Good lists of lines, said line by line: which line may stand after which others, and the blocks
+-- Good lists of lines, defined line by line: which line may come after which others, and the blocks
 -- of such a list.
 use Rattle.std.specs.Prelude.{◌≡◌, ℕ, ◌+◌, ◌<◌, ◌≤◌, nat_lt, ◌↔◌, ◌⊎◌, Bool, true, false, List, []}
 use Rattle.std.specs.Prelude.{◌∷◌, ◌++◌, length, map, Some}
@@ -28,7 +28,7 @@ cycles earlier = count_by is_cycle earlier
 abbrev pub ends : List Line → ℕ
 ends earlier = count_by is_end earlier
 
--- how many lines `sample` stand after the last line `cycle`, where n stand before these lines
+-- how many lines `sample` come after the last line `cycle`, with `n` before these lines
 abbrev pub samples_from : ℕ → List Line → ℕ
 samples_from n [] = n
 samples_from n (lines.Stim ∷ later) = samples_from n later
@@ -40,7 +40,7 @@ samples_from n (lines.Terminate ∷ later) = samples_from n later
 abbrev pub IsOpen : List Line → Type 0
 IsOpen earlier = (0 < length earlier) × (ends earlier ≡ 0)
 
--- this line may stand after these
+-- this line may come after these
 abbrev pub MayStand : List Line → Line → Type 0
 MayStand earlier lines.Stim = length earlier ≡ 0
 MayStand earlier (lines.Cycle time) = IsOpen earlier × (cycles earlier < 1000000)
@@ -48,18 +48,18 @@ MayStand earlier (lines.Sample s) =
     IsOpen earlier × (0 < cycles earlier) × (samples_from 0 earlier < 4096)
 MayStand earlier lines.Terminate = IsOpen earlier
 
--- each of these lines may stand after those before it
+-- each of these lines may come after those before it
 abbrev pub InOrder : List Line → List Line → Type 0
 InOrder earlier [] = Unit {0}
 InOrder earlier (l ∷ later) = MayStand earlier l × InOrder (earlier ++ l ∷ []) later
 
--- these texts are lines of at most 128 bytes that say this, in order
+-- these texts are lines of at most 128 bytes with this content, in order
 pub record IsGood (events : ℕ) (texts : List (List ℕ)) (says : List Line) : Type 0 where
   pub short : All (λ text. length text ≤ 128) texts
   pub spelled : map (line_of events) texts ≡ map Some says
   pub order : InOrder [] says
 
--- samples that stand before the first line `cycle`, and the inputs of the blocks after them
+-- the samples before the first line `cycle`, and the inputs of the blocks after them
 pub record Blocks : Type 0 where
   pub samples : List SampleValue
   pub inputs : List CycleInput
@@ -88,17 +88,17 @@ without_last false (input ∷ next ∷ inputs) = input ∷ without_last false (n
 abbrev pub complete_blocks : List Line → List CycleInput
 complete_blocks says = without_last (nat_lt 0 (ends says)) (blocks_in says).inputs
 
--- after lines that say this, a line counts as fed once its LF was fed, or its 129th byte, or, after
--- the line `terminate`, its first byte
+-- After lines with this content, a line counts as fed once its LF or its 129th byte was fed. After
+-- the line `terminate` it counts from its first byte.
 abbrev pub IsFed : List Line → List ℕ → List (List ℕ) → Type 0
 IsFed says line [] = (128 < length line) ⊎ ((ends says ≡ 1) × (0 < length line))
 IsFed says line (next ∷ later) = Unit {0}
 
--- what `good_lines`, `blocks`, `ending` and `has_bad` are of a text
+-- the meaning of `good_lines`, `blocks`, `ending` and `has_bad` of a text
 pub record IsHead (events : ℕ) (text : List ℕ) : Type 0 where
   pub says : List Line
   pub good : IsGood events (good_lines events text) says
-  -- whole lines at its beginning, and what follows them
+  -- whole lines at its beginning, and what comes after them
   pub line : List ℕ
   pub others : List (List ℕ)
   pub begins : parts text ≡ good_lines events text ++ line ∷ others
@@ -107,7 +107,7 @@ pub record IsHead (events : ℕ) (text : List ℕ) : Type 0 where
       → parts text ≡ texts ++ next ∷ later → IsGood events texts more
       → length texts ≤ length (good_lines events text)
   pub blocks : blocks events text ≡ complete_blocks says
-  -- they are all of it, and the last one is `terminate`
+  -- they are the whole text, and the last one is `terminate`
   pub terminated : (ending events text ≡ Terminated)
       ↔ ((parts text ≡ good_lines events text ++ [] ∷ []) × (ends says ≡ 1))
   pub bad : (ending events text ≡ Terminated → ⊥) → ending events text

@@ -1,4 +1,4 @@
--- What the inputs of a stimulus keep to.
+-- The limits of the inputs of a stimulus.
 use Rattle.std.specs.Prelude.{ℕ, ◌^◌, ◌<◌, ◌≤◌, length, Option, Some, None}
 use Rattle.std.specs.List.{All}
 use Rattle.det_values.specs.Values.{SampleValue}
@@ -9,7 +9,7 @@ use Rattle.stimulus.specs.declared.line.Line.TheVariants as lines
 use Rattle.stimulus.specs.declared.item.StimItem.{StimItem}
 use Rattle.stimulus.specs.declared.item.StimItem.TheVariants as items
 
--- a sample of one of so many events
+-- a sample of an event below `events`
 pub record IsSample (events : ℕ) (s : SampleValue) : Type 0 where
   pub event : s.event < events
   pub value : IsSampleValue s.value
@@ -19,7 +19,7 @@ abbrev pub IsTime : Option ℕ → Type 0
 IsTime None = Unit {0}
 IsTime (Some time) = time < 2 ^ 64
 
--- what a line may say
+-- the content of a line
 abbrev pub IsLine : ℕ → Line → Type 0
 IsLine events lines.Stim = Unit {0}
 IsLine events (lines.Cycle time) = IsTime time

@@ -1,10 +1,10 @@
--- The stimulus that is made of a number. Source of the words: SplitMix64, Steele, Lea and Flood
--- 2014.
+-- The stimulus that is generated from a number. Source of the random numbers: SplitMix64, Steele,
+-- Lea and Flood 2014.
 use Rattle.std.specs.Prelude.{ℕ, zero, suc, ◌+◌, ◌*◌, ◌%◌, ℤ, pos, ◌-ℤ◌, List, [], ◌++◌, codes}
 use Rattle.std.specs.Fmt.{decimal, signed_decimal}
 use Rattle.rand_xoshiro.specs.SplitMix64.{mix_u64}
 
--- the state of SplitMix64 started at k, after n outputs
+-- the state of SplitMix64 after `n` outputs, started at `k`
 unfoldable pub state_at : ℕ → ℕ → ℕ
 state_at k zero = k
 state_at k (suc n) = (mix_u64 (state_at k n)).1

@@ -1,4 +1,4 @@
--- Where a line may stand, and what it completes.
+-- The place of a line, and what a line completes there.
 use Rattle.std.specs.Prelude.{ℕ, ◌+◌, nat_lt, List, [], ◌∷◌, ◌++◌, length, Option, None, Some}
 use Rattle.std.specs.Prelude.{if◌then◌else◌}
 use Rattle.det_values.specs.Values.{SampleValue}
@@ -8,8 +8,8 @@ use Rattle.stimulus.specs.declared.line.Line.TheVariants as lines
 use Rattle.stimulus.specs.declared.item.StimItem.{StimItem}
 use Rattle.stimulus.specs.declared.item.StimItem.TheVariants as items
 
--- what stands before a line: nothing; the first line alone; so many blocks, of which the last one
--- has this input so far; all of a stimulus
+-- What comes before a line: nothing, only the first line, some blocks, or all of a stimulus. Of the
+-- last block this input was read.
 pub data Place : Type 0 where
   First : Place
   Between : Place
@@ -24,14 +24,14 @@ pub record Step : Type 0 where
 abbrev pub step : List StimItem → Place → Option Step
 step given place = Some (record { items = given; place = place })
 
--- a block that begins
+-- a block that was just begun
 abbrev pub begun : Option ℕ → CycleInput
 begun time = record { time = time; samples = [] }
 
 abbrev pub with_sample : CycleInput → SampleValue → CycleInput
 with_sample input s = record { time = input.time; samples = input.samples ++ s ∷ [] }
 
--- a line at a place; none where it may not stand there
+-- a line at a place; none if it may not come there
 abbrev pub taken : Place → Line → Option Step
 taken First lines.Stim = step [] Between
 taken Between (lines.Cycle time) = step [] (Inside 1 (begun time))

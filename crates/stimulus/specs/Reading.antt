@@ -1,4 +1,4 @@
--- What a text comes to as a stimulus. The format is this project's own.
+-- The reading of a text as a stimulus. The format is this project's own.
 use Rattle.std.specs.Prelude.{ℕ, ◌+◌, ◌==◌, nat_lt, Bool, true, false, List, [], ◌∷◌, ◌++◌, length}
 use Rattle.std.specs.Prelude.{Option, None, Some, if◌then◌else◌, option_and_then}
 use Rattle.std.specs.List.{slice_split}
@@ -8,20 +8,20 @@ use Rattle.stimulus.specs.declared.item.StimItem.TheVariants as items
 use Rattle.stimulus.specs.Lines.{line_of}
 use Rattle.stimulus.specs.Places.{Place, First, Ended, Step, taken}
 
--- how a text ends: by the line `terminate`, or by a bad line of this number
+-- how a text ends: with the line `terminate`, or with a bad line of this number
 pub data Ending : Type 0 where
   Terminated : Ending
   BadLine : ℕ → Ending
 
--- the good lines at the beginning of a text, the items that they complete, whether they are all of
--- a stimulus, and whether the bad line counts as fed
+-- The good lines at the beginning of a text, and the items that they complete. Then, whether they
+-- are all of a stimulus, and whether the bad line counts as fed.
 pub record Reading : Type 0 where
   pub head : List (List ℕ)
   pub items : List StimItem
   pub is_whole : Bool
   pub bad_is_fed : Bool
 
--- the whole lines of a text, and last what follows its last LF
+-- the whole lines of a text, and last what comes after its last LF
 abbrev pub parts : List ℕ → List (List ℕ)
 parts text = slice_split (λ b. b == 10) text
 
@@ -36,7 +36,7 @@ bad_at_once fed = record { head = []; items = []; is_whole = false; bad_is_fed =
 abbrev pub complete : Reading
 complete = record { head = []; items = []; is_whole = true; bad_is_fed = false }
 
--- what follows the last LF: it counts as fed from its 129th byte on, and after the end from its
+-- what comes after the last LF: it counts as fed from its 129th byte on, and at the end from its
 -- first
 abbrev pub at_end : Place → List ℕ → Reading
 at_end Ended [] = complete
@@ -58,7 +58,7 @@ reading_from events place (line ∷ []) = at_end place line
 reading_from events place (line ∷ next ∷ lines) =
     go_on line (taken_at events place line) (λ p. reading_from events p (next ∷ lines))
 
--- a whole text, with so many events
+-- a whole text, for this number of events
 abbrev pub reading : ℕ → List ℕ → Reading
 reading events text = reading_from events First (parts text)
 
@@ -82,6 +82,6 @@ blocks events text = inputs_of (reading events text).items
 abbrev pub ending : ℕ → List ℕ → Ending
 ending events text = ending_of (reading events text)
 
--- a line is bad whatever follows
+-- some line is bad, whatever comes after
 abbrev pub has_bad : ℕ → List ℕ → Bool
 has_bad events text = (reading events text).bad_is_fed

@@ -1,4 +1,4 @@
--- What a reader keeps of the bytes that were fed to it, and of the items that it gave.
+-- What a reader knows of the bytes that were fed to it, and of the items that it returned.
 use Rattle.std.specs.Prelude.{◌≡◌, ℕ, ◌+◌, ◌-◌, ◌*◌, ◌<◌, ◌≤◌, List, [], ◌∷◌, ◌++◌, length, drop}
 use Rattle.std.specs.Prelude.{Option, Some, None, Result, Ok, Err, true, false}
 use Rattle.stimulus.specs.declared.item.StimItem.{StimItem}
@@ -11,16 +11,16 @@ use Rattle.stimulus.specs.States.{place_of, owed, all_lines}
 use Rattle.stimulus.specs.Reading.{Reading, Terminated, BadLine, reading, reading_from, parts}
 use Rattle.stimulus.specs.Reading.{after, inputs_of, blocks, ending, has_bad}
 
--- bytes that weren't read yet
+-- the bytes that weren't read yet
 abbrev pub left : StimReader → List ℕ
 left r = drop r.read r.pending.items
 
--- the bad line was found, whatever follows
+-- the bad line was found, whatever comes after
 abbrev pub found_bad : List (List ℕ) → List StimItem → Reading
 found_bad head given = record { head = head; items = given; is_whole = false; bad_is_fed = true }
 
--- A reader in which no bad line was found goes on as if all were read from the beginning, whatever
--- follows.
+-- A reader that found no bad line goes on as if it read everything from the beginning, whatever
+-- comes after.
 abbrev pub Resumes : Option StimFault → StimReader → List (List ℕ) → List ℕ → List StimItem → Type 0
 Resumes None r head bytes given =
     (length head ≡ r.lines)
@@ -31,7 +31,7 @@ Resumes (Some fault) r head bytes given =
     (length head + 1 ≡ fault.line)
     × ((tail : List ℕ) → reading r.events (bytes ++ tail) ≡ found_bad head given)
 
--- these bytes were fed, and these items given
+-- these bytes were fed, and these items returned
 pub record StandsFor (r : StimReader) (bytes : List ℕ) (given : List StimItem) : Type 0 where
   -- the good lines that it read
   pub head : List (List ℕ)
@@ -39,17 +39,17 @@ pub record StandsFor (r : StimReader) (bytes : List ℕ) (given : List StimItem)
   pub settled : r.settled ≡ true → r.fault ≡ None → (parts (left r) ≡ left r ∷ [])
       × (owed r.state ≡ [])
 
--- Nothing was fed since the last answer, which was that nothing more can be given or that a line is
+-- Nothing was fed since the last result, which was that no more can be returned or that a line is
 -- bad.
 abbrev pub IsSettled : StimReader → Type 0
 IsSettled r = r.settled ≡ true
 
--- at most so many items can be given before more is fed: a line completes two at most
+-- at most this many items can be returned before more is fed: a line completes two at most
 abbrev pub waiting : StimReader → ℕ
 waiting r = 2 * length (left r) + length (owed r.state)
 
--- after so many bytes more a line is bad: a stimulus has at most so many lines, of at most 129
--- bytes
+-- after this many more bytes some line is bad: a stimulus has at most `all_lines` lines, of at most
+-- 129 bytes each
 abbrev pub room_before : Option StimFault → StimReader → ℕ
 room_before None r = 129 * (all_lines + 1 - r.lines) - length (left r)
 room_before (Some fault) r = 0
@@ -57,8 +57,8 @@ room_before (Some fault) r = 0
 abbrev pub room : StimReader → ℕ
 room r = room_before r.fault r
 
--- this item comes next, its samples are within their limits, and no more than 1,000,000 blocks were
--- given with it
+-- This item comes next, and its samples are within their limits. No more than 1,000,000 blocks were
+-- returned, this one included.
 pub record Gives (item : StimItem) (events : ℕ) (bytes : List ℕ) (given : List StimItem)
     : Type 0 where
   pub others : List StimItem
@@ -66,13 +66,13 @@ pub record Gives (item : StimItem) (events : ℕ) (bytes : List ℕ) (given : Li
   pub within : IsItem events item
   pub few : length (inputs_of (given ++ item ∷ [])) ≤ 1000000
 
--- all items of the lines that were fed are given, and none of them is bad
+-- all items of the lines that were fed were returned, and none of the lines is bad
 pub record GaveAll (events : ℕ) (bytes : List ℕ) (given : List StimItem) : Type 0 where
   pub items : (reading events bytes).items ≡ given
   pub blocks : blocks events bytes ≡ inputs_of given
   pub good : has_bad events bytes ≡ false
 
--- all items before the bad line are given, and it is bad whatever follows
+-- all items before the bad line were returned, and it is bad whatever comes after
 pub record FoundBad (line events : ℕ) (bytes : List ℕ) (given : List StimItem) : Type 0 where
   pub items : (reading events bytes).items ≡ given
   pub blocks : blocks events bytes ≡ inputs_of given
@@ -94,7 +94,7 @@ Settles (Ok None) r = IsSettled r × (1 ≤ room r)
 Settles (Err (errors.Bad fault)) r = IsSettled r
 Settles _ r = Unit {0}
 
--- with each item fewer wait
+-- with each item, fewer can be returned before more is fed
 abbrev pub Falls : Result (Option StimItem) StimError → StimReader → StimReader → Type 0
 Falls (Ok (Some item)) old new = waiting new < waiting old
 Falls _ old new = Unit {0}

@@ -1,4 +1,4 @@
--- A reader's state: the place at which it is, and what it has still to give.
+-- The state of a reader: its place, and what is still to be returned.
 use Rattle.std.specs.Prelude.{◌≡◌, ℕ, ◌+◌, ◌*◌, ◌≤◌, List, [], ◌∷◌, length, None}
 use Rattle.stimulus.specs.declared.line.Line.{Line}
 use Rattle.stimulus.specs.declared.state.State.{State}
@@ -16,7 +16,7 @@ place_of (states.Inside blocks input) = Inside blocks input
 place_of states.Last = Ended
 place_of states.Ended = Ended
 
--- the item that a line has completed and that is still to be given
+-- the item that a line completed and that is still to be returned
 abbrev pub owed : State → List StimItem
 owed states.Last = items.Terminate ∷ []
 owed _ = []
@@ -29,7 +29,7 @@ TakenIs (answers.Item item s) state line =
 TakenIs answers.Bad state line = taken (place_of state) line ≡ None
 TakenIs (answers.OutOfMemory s) state line = s ≡ state
 
--- how many lines can have been read in a state
+-- the greatest number of lines that can have been read in a state
 abbrev pub most_lines : State → ℕ
 most_lines states.First = 0
 most_lines states.Between = 1

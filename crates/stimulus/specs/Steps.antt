@@ -1,4 +1,4 @@
--- What a reader does with one line.
+-- The step of a reader over one line.
 use Rattle.std.specs.Prelude.{◌≡◌, ℕ, ◌+◌, ◌<◌, List, length, Some, None, Result, Ok, Err, true}
 use Rattle.stimulus.specs.declared.line.Line.{Line}
 use Rattle.stimulus.specs.declared.state.State.{State}
@@ -19,27 +19,27 @@ LineIs (Ok progress.Line) r bytes given = StandsFor r bytes given
 LineIs (Ok progress.Open) r bytes given = NextIs (Ok None) r bytes given
 LineIs (Err error) r bytes given = NextIs (Err error) r bytes given
 
--- a line was taken off, or an item given
+-- a line was read, or an item returned
 abbrev pub Shrinks : Result Progress StimError → StimReader → StimReader → Type 0
 Shrinks (Ok progress.Open) old new = Unit {0}
 Shrinks (Ok _) old new = waiting new < waiting old
 Shrinks (Err error) old new = Unit {0}
 
--- the bad line comes next, and is remembered
+-- the next line is bad, and this is recorded
 abbrev pub BadIs : StimError → StimReader → StimReader → Type 0
 BadIs (errors.Bad fault) old new =
     (fault.line ≡ old.lines + 1) × (new.fault ≡ Some fault) × (new.settled ≡ true)
     × (new.events ≡ old.events)
 BadIs errors.OutOfMemory old new = ⊥
 
--- what stays the same while a line is taken
+-- what stays the same over a line
 pub record Keeps (old new : StimReader) : Type 0 where
   pub events : new.events ≡ old.events
   pub fault : new.fault ≡ old.fault
   pub settled : new.settled ≡ old.settled
   pub pending : new.pending.items ≡ old.pending.items
 
--- so many bytes and lines were taken
+-- this many bytes and lines were read
 abbrev pub Moves : ℕ → ℕ → StimReader → StimReader → Type 0
 Moves len lines old new =
     Keeps old new × (new.read ≡ old.read + len) × (new.lines ≡ old.lines + lines)
@@ -54,11 +54,11 @@ TookIs (Err (errors.Bad fault)) line len old new =
     BadIs (errors.Bad fault) old new × TakenIs answers.Bad old.state line
 TookIs (Err errors.OutOfMemory) line len old new = Moves 0 0 old new × (new.state ≡ old.state)
 
--- `Terminate` is still to be given
+-- `Terminate` is still to be returned
 abbrev pub IsLast : State → Type 0
 IsLast state = state ≡ states.Last
 
--- bytes follow the line `terminate`
+-- there are bytes after the line `terminate`
 abbrev pub IsPastEnd : State → List ℕ → Type 0
 IsPastEnd state bytes = (state ≡ states.Ended) × (0 < length bytes)
 

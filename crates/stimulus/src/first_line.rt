@@ -1,4 +1,4 @@
-//! Where the first line ends.
+//! Finds the end of the first line.
 ghost use Rattle.stimulus.specs.FirstLine.{FirstLineIs};
 
 use crate::line::find;
@@ -8,14 +8,14 @@ const MAX_LINE: usize = 128;
 /// What some bytes begin with.
 #[derive(Clone, Copy, Debug, PartialEq, Eq, Drop)]
 pub enum FirstLine {
-    /// A line of so many bytes, and then its LF.
+    /// A line of this many bytes, and then its LF.
     Whole(usize),
     /// A line that may go on.
     Open,
     TooLong,
 }
 
-/// Looks at no more bytes than a line may have.
+/// What the bytes begin with. At most 129 of them are looked at.
 pub fn first_line(bytes: &[u8]) -> FirstLine
     ensures { FirstLineIs result bytes.now }
 {

@@ -1,4 +1,4 @@
-//! What a reader gives.
+//! What a reader returns.
 use det_values::CycleInput;
 
 /// A complete block, or the end of the stimulus.
@@ -8,13 +8,14 @@ pub enum StimItem {
     Terminate,
 }
 
-/// The first line with which no continuation makes a stimulus. Lines are counted from 1.
+/// The first line such that no continuation of the text up to it is a stimulus. Lines are counted
+/// from 1.
 #[derive(Clone, Copy, Debug, PartialEq, Eq, Drop)]
 pub struct StimFault {
     pub line: u64,
 }
 
-/// Why a reader gives nothing more.
+/// Why a reader returns nothing more.
 #[derive(Clone, Copy, Debug, PartialEq, Eq, Drop)]
 pub enum StimError {
     Bad(StimFault),

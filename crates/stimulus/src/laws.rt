@@ -1,4 +1,4 @@
-//! Laws of the definitions that the contracts cite.
+//! Laws of the definitions that the contracts use.
 ghost use Rattle.std.specs.Prelude.{◌≡◌, ℕ, ◌^◌, ◌<◌, ◌≤◌, List, ◌++◌, length, ℤ, Some, true};
 ghost use Rattle.std.specs.List.{All};
 ghost use Rattle.std.specs.Fmt.{decimal, signed_decimal};
@@ -11,8 +11,8 @@ ghost use Rattle.stimulus.specs.declared.line.Line.{Line};
 ghost use Rattle.stimulus.specs.Good.{IsHead};
 ghost use Rattle.stimulus.specs.Reading.{reading, blocks, has_bad};
 
-/// A number, a sample's value and a line have exactly one spelling each. Numbers and values are
-/// spelled as `Display` spells them.
+/// A number, a sample's value and a line have exactly one spelling each. For numbers and values it
+/// is the one of `Display`.
 pub fn one_spelling()
     ensures number { (n : ℕ) → n < 2 ^ 64 → number (decimal n) ≡ Some n }
     ensures only_number { (bytes : List ℕ) (n : ℕ) → number bytes ≡ Some n → n < 2 ^ 64 → bytes
@@ -26,7 +26,7 @@ pub fn one_spelling()
         → line_of events bytes ≡ Some l → (bytes ≡ spelling l) × IsLine events l }
 {}
 
-/// More text only adds blocks, and mends no bad line that was fed.
+/// More text only adds blocks, and never repairs a bad line that was fed.
 pub fn more_text()
     ensures blocks { (events : ℕ) (text more : List ℕ)
         → IsPrefix (blocks events text) (blocks events (text ++ more)) }
@@ -34,15 +34,15 @@ pub fn more_text()
         → reading events (text ++ more) ≡ reading events text }
 {}
 
-/// The blocks of every text keep to the limits of a run.
+/// The blocks of every text are within the limits of a run.
 pub fn limits()
     ensures few { (events : ℕ) (text : List ℕ) → length (blocks events text) ≤ 1000000 }
     ensures inputs { (events : ℕ) (text : List ℕ) → All (IsInput events) (blocks events text) }
 {}
 
-/// `good_lines`, `blocks`, `ending` and `has_bad` are what the table of lines says: the longest
-/// list of good whole lines, the inputs of its complete blocks, the bad line or the end, and
-/// whether the line after them counts as fed.
+/// `good_lines`, `blocks`, `ending` and `has_bad` agree with the table of lines. They are the
+/// longest list of good whole lines, and the inputs of its complete blocks. Then come the bad line
+/// or the end, and whether the line after them counts as fed.
 pub fn longest_head()
     ensures { (events : ℕ) (text : List ℕ) → IsHead events text }
 {}

@@ -1,4 +1,4 @@
-//! The stimulus: a text that gives the time and the samples of each cycle, read in pieces.
+//! The stimulus: a text with the time and the samples of each cycle, read in pieces.
 #![tactic(auto)]
 
 mod first_line;

@@ -1,11 +1,11 @@
-//! One line.
+//! One line, from its text.
 ghost use Rattle.std.specs.Prelude.{◌≡◌, ◌==◌, position};
 ghost use Rattle.stimulus.specs.Lines.{line_of, cycle_line, sample_line};
 
 use crate::number::{number_below, sample_value};
 use det_values::Sample;
 
-/// What a line says.
+/// The content of a line.
 #[derive(Clone, Copy, Debug, PartialEq, Eq, Drop)]
 pub enum Line {
     Stim,
@@ -51,8 +51,7 @@ fn sample(events: u16, words: &[u8]) -> Option<Line>
     }
 }
 
-/// Reads a line, without its LF, for a profile with so many events. None where no line is spelled
-/// so.
+/// Reads a line, without its LF, for a profile with this number of events. None for any other text.
 #[tactic(auto, unfolding(crate::specs::Lines::line_of))]
 pub fn parse_line(events: u16, line: &[u8]) -> Option<Line>
     ensures { result ≡ line_of events line.now }

@@ -1,4 +1,4 @@
-//! A stimulus that is made of a number.
+//! A stimulus that is generated from a number.
 
 ghost use Rattle.std.specs.Prelude.{◌≡◌, ◌≤◌, ◌+◌, ◌<◌, ℕ, length, IfOk};
 ghost use Rattle.std.specs.String.{string_bytes};
@@ -27,8 +27,8 @@ fn block(alloc: Global, time: u64, first: i64, second: i64) -> Result<String, Al
     format!(in alloc; "cycle {time}\nsample 0 {first}\nsample 1 {second}\n")
 }
 
-/// The stimulus that belongs to a number: 200 cycles of 10 ms, each with a sample of the events 0
-/// and 1.
+/// The stimulus of a number: 200 cycles, 10 ms apart, each with a sample of event 0 and one of
+/// event 1.
 pub fn made_stimulus(alloc: Global, number: u64) -> Result<Bytes, OutOfMemory>
     ensures { IfOk result (λ text. text ≡ made number) }
 {

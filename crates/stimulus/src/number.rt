@@ -6,7 +6,7 @@ ghost use Rattle.stimulus.specs.Numbers.{number, number_after, below, value_of};
 /// One more than the greatest magnitude of a sample's value.
 const MAGNITUDES: u128 = 1_000_000_000_001;
 
-/// The number that the bytes write, where it is below the limit.
+/// The number that the bytes spell, if it is below the limit.
 #[tactic(auto, using(crate::proofs::Numbers::number_empty, crate::proofs::Numbers::number_one, crate::proofs::Numbers::number_none, crate::proofs::Numbers::number_long))]
 pub fn number_below(limit: u128, bytes: &[u8]) -> Option<u64>
     requires { limit ≤ 2 ^ 64 }
@@ -20,10 +20,10 @@ pub fn number_below(limit: u128, bytes: &[u8]) -> Option<u64>
     }
 }
 
-/// A number of so many digits always fits 64 bits.
+/// A number of this many digits always fits 64 bits.
 const FEW_DIGITS: usize = 19;
 
-/// The number that one or more digits write, where it is below the limit.
+/// The number that one or more digits spell, if it is below the limit.
 fn digits_below(limit: u128, bytes: &[u8]) -> Option<u64>
     requires limit { limit ≤ 2 ^ 64 }
     requires some { 0 < length bytes.now }
@@ -38,7 +38,7 @@ fn digits_below(limit: u128, bytes: &[u8]) -> Option<u64>
     }
 }
 
-/// The number that at most 19 digits write.
+/// The number that at most 19 digits spell.
 fn few_digits(bytes: &[u8]) -> Option<u64>
     requires { length bytes.now ≤ 19 }
     ensures { result ≡ number_after 0 bytes.now }
@@ -57,7 +57,7 @@ fn few_digits(bytes: &[u8]) -> Option<u64>
     Some(value)
 }
 
-/// The same as `digits_below`, of however many digits.
+/// The same as `digits_below`, for any number of digits.
 fn many_digits_below(limit: u128, bytes: &[u8]) -> Option<u64>
     requires limit { limit ≤ 2 ^ 64 }
     requires some { 0 < length bytes.now }
@@ -81,7 +81,7 @@ fn many_digits_below(limit: u128, bytes: &[u8]) -> Option<u64>
     Some(value)
 }
 
-/// A sample's value: from minus 10^12 to 10^12.
+/// The value of a sample, from -10^12 to 10^12.
 #[tactic(auto, unfolding(crate::specs::Numbers::value_of))]
 pub fn sample_value(bytes: &[u8]) -> Option<i64>
     ensures value { result ≡ value_of bytes.now }

@@ -1,4 +1,5 @@
-//! A stimulus that comes in pieces.
+//! A stimulus that is fed in pieces. The reader of a slot is apart from it, so a text in memory can
+//! be read too.
 ghost use Rattle.std.specs.Prelude.{◌≡◌, ◌≤◌, ◌<◌, ◌+◌, ◌*◌, drop, length, true};
 ghost use Rattle.std.specs.Option.{ForSome};
 ghost use Rattle.std.specs.Vec.{vec_len};
@@ -12,19 +13,19 @@ use det_values::{CycleInput, OutOfMemory};
 use std::alloc::Global;
 use std::mem;
 
-/// Gives the blocks of a stimulus whose bytes are fed in any pieces.
+/// Returns the blocks of a stimulus whose bytes are fed in pieces of any length.
 #[derive(Drop)]
 pub struct StimReader {
     alloc: Global,
     events: u16,
-    /// Bytes that were fed, the first of which were read already.
+    /// Bytes that were fed. The first `read` of them were read.
     pending: Vec<u8>,
     read: usize,
-    /// How many good lines were read.
+    /// The number of good lines that were read.
     lines: u64,
     state: State,
     fault: Option<StimFault>,
-    /// Nothing was fed since `next_cycle` answered that it has no more.
+    /// Nothing was fed since `next_cycle` returned None or a bad line.
     settled: bool,
     ghost in_range: { read ≤ vec_len pending },
     ghost few: { lines ≤ most_lines state },
@@ -32,7 +33,7 @@ pub struct StimReader {
     ghost stuck: { ForSome fault (λ line. settled ≡ true) },
 }
 
-/// What looking at one line came to.
+/// The result of looking at one line.
 enum Progress {
     Item(StimItem),
     Line,
@@ -47,7 +48,7 @@ impl StimReader {
     ghost use Rattle.stimulus.specs.Steps.{LineIs, Shrinks, OpenSettles, TookIs, BadIs, IsPastEnd};
     ghost use Rattle.stimulus.specs.Steps.{IsLast};
 
-    /// A reader for a profile with so many events. It takes no memory.
+    /// A reader for a profile with this number of events. It takes no memory.
     pub fn new(alloc: Global, events: u16) -> StimReader
         ensures stands { StandsFor result [] [] }
         ensures events { result.events ≡ events }
@@ -64,8 +65,8 @@ impl StimReader {
         }
     }
 
-    /// Takes the next bytes of the text. After a refused call the reader gives and answers what it
-    /// gave and answered before. Once a bad line was answered, bytes are dropped.
+    /// Takes the next bytes of the text. On `OutOfMemory` no byte is taken, and the reader goes on
+    /// as before. Bytes after a bad line that was returned are dropped.
     pub fn feed(&mut self, piece: &[u8]) -> Result<(), OutOfMemory>
         ensures events { self.new.events ≡ self.old.events }
         ensures ok { OnOk result ((bytes : List ℕ) (given : List StimItem)
@@ -89,8 +90,8 @@ impl StimReader {
         Ok(())
     }
 
-    /// The next complete block, or `Terminate`. None where more bytes are needed. A bad line is
-    /// answered again by every later call. After `OutOfMemory` the reader is as before.
+    /// The next complete block, or `Terminate`. None if more bytes are needed. Once a bad line was
+    /// returned, every later call returns it again. After `OutOfMemory` the reader is as before.
     pub fn next_cycle(&mut self) -> Result<Option<StimItem>, StimError>
         ensures events { self.new.events ≡ self.old.events }
         ensures settles { Settles result self.new }
@@ -109,7 +110,7 @@ impl StimReader {
         }
     }
 
-    /// Takes an input that nobody needs, for the memory of the next one.
+    /// Takes an input that is no longer needed, and reuses its memory for the next one.
     pub fn take_back(&mut self, input: CycleInput)
         ensures { self.new ≡ self.old }
     {
@@ -117,7 +118,8 @@ impl StimReader {
         self.state = state.with_memory_of(input.samples);
     }
 
-    /// Whether the text that was fed is a whole stimulus, if no more bytes come.
+    /// Whether the text that was fed is a whole stimulus, if no more bytes come. If it isn't, the
+    /// fault is at the next line, or at the bad line that was found.
     pub fn finish(&self) -> Result<(), StimFault>
         requires { IsSettled self.now }
         ensures { (bytes : List ℕ) (given : List StimItem) → StandsFor self.now bytes given
@@ -132,7 +134,7 @@ impl StimReader {
         Err(self.next_fault())
     }
 
-    /// Gives what is still to be given, or looks at the next line.
+    /// Returns an item that is due, or looks at the next line.
     fn read_line(&mut self) -> Result<Progress, StimError>
         ensures events { self.new.events ≡ self.old.events }
         ensures settles { OpenSettles result self.new }
@@ -165,7 +167,8 @@ impl StimReader {
         }
     }
 
-    /// Takes a line that is spelled well, of so many bytes with its LF.
+    /// Takes a line that is spelled well, of `len` bytes with its LF. It is bad if it may not come
+    /// here.
     fn take(&mut self, line: Line, len: usize) -> Result<Progress, StimError>
         requires some { 0 < len }
         requires within { self.old.read + len ≤ vec_len self.old.pending }
@@ -193,7 +196,7 @@ impl StimReader {
         }
     }
 
-    /// The fault that the next line would be.
+    /// The fault of the next line, if it is bad.
     fn next_fault(&self) -> StimFault
         ensures { result.line ≡ self.now.lines + 1 }
     {
@@ -202,7 +205,7 @@ impl StimReader {
         }
     }
 
-    /// Remembers that the next line is bad.
+    /// Records that the next line is bad.
     fn bad_line(&mut self) -> StimError
         ensures { BadIs result self.old self.new }
     {
@@ -212,14 +215,14 @@ impl StimReader {
         StimError::Bad(fault)
     }
 
-    /// Whether `Terminate` is still to be given.
+    /// Whether `Terminate` is to be returned next.
     fn is_last(&self) -> bool
         ensures { IsTrue result ↔ IsLast self.now.state }
     {
         matches!(self.state, State::Last)
     }
 
-    /// Whether `Terminate` was given, and no byte is left.
+    /// Whether `Terminate` was returned, and no byte is left.
     fn is_at_end(&self) -> bool
         ensures { IsTrue result ↔ ((self.now.state ≡ State.Ended) × (length (left self.now) ≡ 0)) }
     {
@@ -229,7 +232,7 @@ impl StimReader {
         }
     }
 
-    /// Whether bytes are left behind the line `terminate`.
+    /// Whether bytes are left after the line `terminate`.
     fn is_past_end(&self) -> bool
         ensures { IsTrue result ↔ IsPastEnd self.now.state (left self.now) }
     {
@@ -247,8 +250,9 @@ fn rest_of(bytes: &[u8], read: usize) -> &[u8]
     bytes.split_at(read).1
 }
 
-/// Removes the first bytes, which were read, once they are no fewer than the others: so no byte is
-/// moved twice as often as one is read. Answers how many of the bytes that stay were read.
+/// Removes the bytes that were read, once they are at least as many as the others. So no call moves
+/// more bytes than it removes, and all moves together are linear. Returns how many of the remaining
+/// bytes were read.
 fn drop_read(bytes: &mut Vec<u8>, read: usize) -> usize
     requires { read ≤ vec_len bytes.old }
     ensures within { result ≤ vec_len bytes.new }

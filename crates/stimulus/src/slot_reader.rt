@@ -1,4 +1,4 @@
-//! A stimulus read from a slot, block by block.
+//! Reads a stimulus from a slot, block by block.
 
 mod reader;
 

@@ -1,4 +1,4 @@
-//! Where a reader is, and which lines lead on from there.
+//! The state of a reader, and the lines that may come in it.
 ghost use Rattle.std.specs.Prelude.{◌≡◌};
 ghost use Rattle.stimulus.specs.Places.{begun};
 ghost use Rattle.stimulus.specs.States.{TakenIs, Counts};
@@ -10,33 +10,33 @@ use std::alloc::Global;
 
 const MAX_BLOCKS: u32 = 1_000_000;
 
-/// Where a reader is.
+/// The state of a reader.
 #[derive(Drop)]
 pub enum State {
     /// Nothing was read.
     First,
-    /// The first line was read, and nothing else.
+    /// Only the first line was read.
     Between,
-    /// The last of so many blocks isn't complete. This much of it was read.
+    /// `blocks` blocks were begun, and the last one isn't complete. `input` is what was read of it.
     Inside { blocks: u32, input: CycleInput },
-    /// The line `terminate` was read and the block before it given. `Terminate` is still to be
-    /// given.
+    /// The line `terminate` was read, and the block before it was returned. `Terminate` is to be
+    /// returned next.
     Last,
-    /// All was given.
+    /// Everything was returned.
     Ended,
 }
 
-/// What a line leads to.
+/// The result of a line.
 #[derive(Drop)]
 pub enum Taken {
-    /// Nothing is complete yet.
+    /// The line completes no item.
     Line(State),
     Item(StimItem, State),
     Bad,
     OutOfMemory(State),
 }
 
-/// The same input, with this memory for its samples where it has none yet.
+/// The same input. If it has no samples yet, it takes the memory of `spare` for them.
 fn in_memory_of(input: CycleInput, spare: Samples) -> CycleInput
     ensures { result ≡ input }
 {
@@ -52,7 +52,7 @@ fn in_memory_of(input: CycleInput, spare: Samples) -> CycleInput
 }
 
 impl State {
-    /// The same, with this memory for the samples of a block of which none was read yet.
+    /// The same state. If a block has no samples yet, it takes the memory of `spare` for them.
     pub fn with_memory_of(self, spare: Samples) -> State
         ensures { result ≡ self }
     {
@@ -105,7 +105,7 @@ fn take_inside(alloc: Global, blocks: u32, block: CycleInput, line: Line) -> Tak
     }
 }
 
-/// Takes a line where a reader is.
+/// The result of a line in a state.
 pub fn take_line(alloc: Global, state: State, line: Line) -> Taken
     ensures taken { TakenIs result state line }
     ensures counts { Counts result state }

@@ -1,5 +1,5 @@
-//! Tests of the pool on real threads: with a job whose parts don't commute, with gates that hold
-//! workers, and against the pass on one thread.
+//! Tests of the pool on real threads. Its job has parts that don't commute, gates hold workers, and
+//! the results are compared with those of one thread.
 
 mod list_job;
 mod watch;

@@ -1,4 +1,4 @@
-//! Tests of threads that meet: two copies of a run, and the two ends of a queue.
+//! Tests of two threads that wait for each other: two copies of a run, and the two ends of a queue.
 
 #[cfg(test)]
 mod queue;

@@ -23,7 +23,7 @@ pub record Announced (T : Type 0) : Type 0 where
   pub number : ℕ
   pub work : List T
 
--- what a seat has
+-- a seat's data in a step
 abbrev pub Here : Type 0 → Type 0
 Here T = Me (Unit {0}) (View T)
 
@@ -42,7 +42,7 @@ module _ {T : Type 0} where
     claim = work;
   }
 
-  -- a seat that knows nothing but this
+  -- a seat that knows only this number and work
   abbrev pub paper : ℕ → List T → View T
   paper number work = record {
     keeps = false;
@@ -58,7 +58,7 @@ module _ {T : Type 0} where
   abbrev pub nobody : View T
   nobody = paper 0 []
 
-  -- the keeper, with a ticket that it took in
+  -- the keeper with a ticket that it took back
   abbrev pub with_ticket : View T → View T → View T
   with_ticket v w = record {
     keeps = v.keeps;

@@ -1,4 +1,4 @@
-//! The keeper of an office, and its tickets.
+//! The keeper, which announces work, and its tickets.
 ghost use Rattle.std.specs.Prelude.{◌≡◌, ◌+◌, ◌<◌, ◌^◌, []};
 ghost use Rattle.tickets.specs.Offices.{name_of};
 
@@ -9,7 +9,7 @@ use atomic_table::{Seat, Table};
 use std::alloc::Global;
 use std::marker::{Brand, Model, PhantomData};
 
-/// Who announces work. Contracts see its number, and the work announced last.
+/// Announces work under rising numbers. Contracts see the last number and its work.
 #[derive(Drop)]
 pub struct Keeper<T, B: Room> {
     table: Table<(), View<T>, (), TicketRule, Global>,
@@ -31,7 +31,8 @@ impl<T, B: Room> Model for Keeper<T, B> {
         × (k.table.shared.table_id ≡ B.table) × (k.table.shared.table_id.words ≡ 1) };
 }
 
-/// Goes with a piece of work, and comes back with its answer. Contracts see a number and that work.
+/// Goes with a piece of work and comes back with its result. Contracts see its number and that
+/// work.
 #[derive(Drop)]
 pub struct Ticket<T, B: Room> {
     seat: Seat<(), View<T>>,
@@ -52,7 +53,7 @@ impl<T, B: Room> Model for Ticket<T, B> {
 }
 
 impl<T, B: Room> Ticket<T, B> {
-    /// The number of the announcement that it is for.
+    /// The number of the announcement that the ticket is for.
     pub fn number(&self) -> u64
         ensures { result ≡ self.now.number }
     {
@@ -82,7 +83,7 @@ impl<T, B: Room> Keeper<T, B> {
         self.number
     }
 
-    /// Announces this work, under the next number.
+    /// Announces this work under the next number.
     pub fn announce(&mut self, work: &[T])
         requires { self.old.number < 2 ^ 63 }
         ensures { self.new ≡ record { number = self.old.number + 1; work = work.now } }
@@ -101,7 +102,7 @@ impl<T, B: Room> Keeper<T, B> {
         self.number += 1;
     }
 
-    /// A ticket for what was announced last.
+    /// A ticket for the work announced last.
     pub fn ticket(&mut self) -> Ticket<T, B>
         ensures same { self.new ≡ self.old }
         ensures ticket { result ≡ self.old }
@@ -115,7 +116,7 @@ impl<T, B: Room> Keeper<T, B> {
         }
     }
 
-    /// Takes a ticket in. One of the present number is for what was announced last.
+    /// Takes a ticket back. If it has the present number, it is for the work announced last.
     pub fn check(&mut self, ticket: Ticket<T, B>)
         ensures same { self.new ≡ self.old }
         ensures told { ticket.number ≡ self.old.number → ticket.work ≡ self.old.work }

@@ -1,10 +1,10 @@
-//! Tickets: how a fact crosses a thread that is kept.
+//! Tickets, by which a caller knows that a kept thread's reply is for its present work.
 //!
-//! A thread that is started once, and then given one piece of work after another through a ring,
-//! hands back values of which their type alone is known. A ticket is a token of no bytes, beside a
-//! number, that goes with the work and comes back with its answer. The work is written into the
-//! ticket's ghost view when the ticket is made. The keeper knows what it announced last, and learns
-//! by one load that a ticket of the present number is one for just that.
+//! A kept thread gets one piece of work after another through a ring. Of the values that it sends
+//! back only the type is known. A ticket goes with the work and comes back with the result. Besides
+//! its number it is a token without bytes, whose ghost view holds the work. The keeper knows the
+//! work that it announced last. By one load it learns that a ticket with the present number is for
+//! that work.
 #![tactic(auto)]
 
 mod keeper;

@@ -1,4 +1,4 @@
-//! An office, before it has its keeper.
+//! An office, the value from which a keeper is made.
 ghost use Rattle.std.specs.Prelude.{◌≡◌, []};
 ghost use Rattle.tickets.specs.Tickets.{beginning};
 
@@ -6,8 +6,7 @@ use crate::view::{TicketRule, View};
 use atomic_table::{Seat, Table};
 use std::alloc::{AllocError, Global};
 
-/// What the seats of a keeper and of its tickets lie at, and the seat of the keeper that is to
-/// come.
+/// The table at which the seats of a keeper and of its tickets are, and the keeper's seat.
 #[derive(Drop)]
 pub struct Office<T> {
     pub(crate) table: Table<(), View<T>, (), TicketRule, Global>,
@@ -18,6 +17,7 @@ pub struct Office<T> {
 }
 
 impl<T> Office<T> {
+    /// A new office, with a table of one word. Its name is that of the table.
     pub fn new(alloc: Global) -> Result<Office<T>, AllocError> {
         let words = Vec::from_elem(alloc, 0u64, 1)?;
         let (table, seat) = Table::of_words(alloc, words.as_slice(), &())?;

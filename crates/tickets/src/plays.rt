@@ -1,9 +1,10 @@
-//! What each step tells the keeper that makes it, as the table's steps ask for it.
+//! The facts that a keeper gets from its steps on the table, in the form that `atomic_table`
+//! requires.
 use crate::view::View;
 use atomic_table::{Join, Play, Split};
 use std::marker::{Brand, PhantomData};
 
-/// The work that is announced, which the step itself doesn't know.
+/// The work that a step announces. The step has it in a type, since it is a ghost.
 pub trait Site<T> {
     ghost use Rattle.std.specs.Prelude.{List};
 
@@ -27,7 +28,7 @@ impl<T, S: Site<T>> Play<(), View<T>> for Announce<S> {
     ghost then = { Announces S.work };
 }
 
-/// Compares the ticket taken in with what was announced.
+/// Compares a ticket that came back with the announced work.
 pub struct Check;
 
 impl<T> Play<(), View<T>> for Check {
@@ -36,7 +37,7 @@ impl<T> Play<(), View<T>> for Check {
     ghost then = { Checks };
 }
 
-/// Gives a ticket for what was announced last, and takes one in.
+/// Splits a ticket off the keeper's seat, and joins one to it.
 pub struct Paper;
 
 impl<T> Split<View<T>> for Paper {

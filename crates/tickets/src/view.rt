@@ -1,15 +1,15 @@
-//! What a seat knows, and the rule over all seats.
+//! The ghost view of a seat, and the rule over all seats.
 use atomic_table::TableRule;
 use std::collections::LinkedList;
 use std::marker::Brand;
 
-/// What a seat knows. No value of it is made.
+/// The facts that a seat knows. It is only a ghost: no value of it exists at run time.
 pub struct View<T> {
-    /// Whether it is the keeper's.
+    /// Whether the seat is the keeper's.
     pub keeps: bool,
-    /// The keeper's present number.
+    /// The present number of the keeper.
     pub number: u64,
-    /// The work announced with that number.
+    /// The work announced under that number.
     pub work: LinkedList<T>,
     /// The number of a ticket.
     pub claimed: u64,
@@ -17,8 +17,7 @@ pub struct View<T> {
     pub claim: LinkedList<T>,
 }
 
-/// The rule: a ticket's number is no greater than the keeper's, and where they are equal so is the
-/// work.
+/// The rule: a ticket's number is at most the keeper's, and if they are equal so is the work.
 pub struct TicketRule;
 
 impl<T> TableRule<(), View<T>, ()> for TicketRule {
@@ -29,8 +28,8 @@ impl<T> TableRule<(), View<T>, ()> for TicketRule {
     ghost first = { λ _. beginning };
 }
 
-/// Names one office in the types of its keeper and its tickets. The call that makes the office
-/// picks the name.
+/// The name of an office in the types of its keeper and its tickets, so that they can't be confused
+/// with those of another. The call that makes the office chooses it.
 pub trait Room {
     ghost use Rattle.atomic_table.specs.Seated.{TableId};
 

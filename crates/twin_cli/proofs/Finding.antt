@@ -62,7 +62,7 @@ module _ (twins : TwinsValue) (first : ShelfState) where
   tells-manifest (Ok m) t = t 0 twins.manifest (omega arith)
   tells-manifest (Err why) t = t 0 twins.manifest (omega arith)
 
-  -- what was asked for where the manifest was read alone
+  -- what was asked for if only the manifest was read
   asked-manifest : (last : ShelfState) (read : Result ManifestValue refusals.BadManifest) → Asks first last (twins.manifest ∷ [])
       → AsksPrefix first last (names read)
   asked-manifest last (Ok m) asked =
@@ -108,7 +108,7 @@ module _ (twins : TwinsValue) (first : ShelfState) where
   }
 
   module _ (m : ManifestValue) (is : IsSome (first.holds twins.manifest) → setup ≡ Ok m) where
-    -- where the manifest is told it is this one
+    -- if the manifest is known, it is this one
     is-told : Tells first (names setup) → setup ≡ Ok m
     is-told t = is (tells-manifest setup t)
 
@@ -134,7 +134,7 @@ module _ (twins : TwinsValue) (first : ShelfState) where
       asked-all = asks-then-prefix first mid last (twins.manifest ∷ []) (twins.stimulus ∷ []) asked
           (asks-all mid last (twins.stimulus ∷ []) more)
 
-      -- the stimulus is told behind the manifest too
+      -- the stimulus is still known after the manifest was read
       still-told : Tells first (names setup) → IsSome (mid.holds twins.stimulus)
       still-told t = subst (λ h. IsSome (h twins.stimulus)) (sym holds) (tells-stimulus t)
 

@@ -20,7 +20,7 @@ use Rattle.twin_cli.specs.Words.{TwinsValue, CommandValue, run}
 -- ---- any program's outcomes
 
 module _ {A : Type 0} {by : Failure → A} where
-  -- what was printed is the outcome, where that is told
+  -- what was printed is the outcome, if that is known
   pub meets-printed : {wanted printed : OutcomeIn A} {tells rose other : Type 0} {before after : List ℕ → Type 0} {answer : A}
       → (tells → wanted ≡ printed) → MeetsBy by printed (Unit {0}) ⊥ other before after answer
       → MeetsBy by wanted tells rose other before after answer
@@ -129,7 +129,7 @@ module _ {first last : ShelfState} {twins : TwinsValue} {found : Result Verdict 
     ]
   ]
 
-  -- copies were run, and what was found was told
+  -- copies were run, and what was found was reported
   pub runs-twins : answer ≢ BadWords → Runs (Some (run twins)) first last other before after answer
   runs-twins no_words = record {
     meets = record {

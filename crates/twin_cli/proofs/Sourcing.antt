@@ -21,7 +21,7 @@ use Rattle.twin_cli.specs.declared.text_inputs.TextInputs.{TextInputs}
 use Rattle.run_setup.specs.Setup.{IsCalm}
 use Rattle.twin_cli.specs.TextInputs.{IsBehind, Gives, IsWhole, Comes}
 
--- what a reader answers, of all that it stands for
+-- what a reader returns, for all texts that it can be reading
 abbrev Answered : Result (Option CycleInput) (Stopped StimFault) → ShelfState → ShelfState → StimulusReader → StimulusReader → Type 0
 Answered answer before after old new = (more : List ℕ) × Reads before after (slot_of old) more
     × ((read : List ℕ) (given : List CycleInput) → StandsFor old read given

@@ -1,4 +1,4 @@
--- What an answer of `det_twin` tells: its exit status, and its line for `err`.
+-- What an answer of `det_twin` reports: its exit status, and its line for `err`.
 use Rattle.std.specs.Prelude.{ℕ, List, [], Bool, true, false, codes}
 use Rattle.det_io.specs.declared.failure.Failure.{Failure}
 use Rattle.det_io.specs.declared.failure.Failure.TheVariants as failures
@@ -17,13 +17,13 @@ use Rattle.twin_cli.specs.declared.answer.TwinAnswer.TheVariants.{WriteFault, Ou
 use Rattle.twin_cli.specs.declared.status.TwinStatus.{TwinStatus}
 use Rattle.twin_cli.specs.declared.status.TwinStatus.TheVariants as statuses
 
--- what a failure is answered as
+-- the answer of a failure
 abbrev pub failed : Failure → TwinAnswer
 failed failures.Read = ReadFault
 failed failures.Write = WriteFault
 failed failures.OutOfMemory = OutOfMemory
 
--- what is answered where there is no manifest, no text, or no stimulus
+-- the answers if there is no manifest, no text, or no stimulus
 abbrev pub without_manifest : Stopped refusals.BadManifest → TwinAnswer
 without_manifest (Refused why) = BadManifest why
 without_manifest (Failed failure) = failed failure
@@ -36,7 +36,7 @@ abbrev pub without_stimulus : Stopped StimFault → TwinAnswer
 without_stimulus (Refused fault) = BadStimulus fault.line
 without_stimulus (Failed failure) = failed failure
 
--- an answer that a text on `out` comes with
+-- an answer that comes with a text on `out`
 abbrev pub has_text : TwinAnswer → Bool
 has_text Done = true
 has_text Differs = true
@@ -63,7 +63,7 @@ number_of statuses.ReadFault = 6
 number_of statuses.WriteFault = 7
 number_of statuses.OutOfMemory = 8
 
--- the line for `err`: the one of `det`, where `det` has this answer
+-- the line for `err`, which is that of `det` if `det` has this answer
 abbrev pub line_of : TwinAnswer → List ℕ
 line_of Done = []
 line_of Differs = []

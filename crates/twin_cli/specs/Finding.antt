@@ -1,4 +1,4 @@
--- What twins find of a manifest and of a stimulus.
+-- What twins find by running their copies.
 use Rattle.std.specs.Prelude.{◌≡◌, ◌≢◌, ◌⊎◌, Result, Ok, Err, Some}
 use Rattle.det_io.specs.Count.{Rose}
 use Rattle.det_io.specs.Shelf.{ShelfState, AsksPrefix}
@@ -11,18 +11,19 @@ use Rattle.twin_cli.specs.declared.answer.TwinAnswer.TheVariants.{WriteFault, Ou
 use Rattle.twin_cli.specs.Outcome.{telling, refusal, answer_to, twins_outcome, names_in, opened}
 use Rattle.twin_cli.specs.Words.{TwinsValue, run}
 
--- a verdict is printed, any other answer is told alone
+-- a verdict is printed; any other answer comes without a text
 abbrev pub found_by : Result Verdict TwinAnswer → OutcomeIn TwinAnswer
 found_by (Ok verdict) = telling (answer_to verdict) (verdict_line verdict)
 found_by (Err answer) = refusal answer
 
--- this outcome is found, unless memory couldn't be had
+-- this outcome is found, unless memory ran out
 abbrev pub Finds : Result Verdict TwinAnswer → OutcomeIn TwinAnswer → Type 0
 Finds result wanted = (result ≡ Err OutOfMemory) ⊎ (found_by result ≡ wanted)
 
 pub record Found (twins : TwinsValue) (first last : ShelfState) (result : Result Verdict TwinAnswer)
     : Type 0 where
-  -- the outcome is found where the names are told, unless a read failed or memory couldn't be had
+  -- if the bytes under the names are known, the outcome is found, unless a read failed or memory
+  -- ran out
   pub finds : Tells first (opened (Some (run twins)) (told first))
       → (result ≡ Err ReadFault) ⊎ Finds result (twins_outcome twins (told first))
   pub cause : result ≡ Err ReadFault → Rose first.faults last.faults

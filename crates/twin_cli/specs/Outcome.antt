@@ -1,4 +1,4 @@
--- What twins give of the bytes of a manifest and of a stimulus.
+-- The outcome of twins by the bytes of a manifest and of a stimulus.
 use Rattle.std.specs.Prelude.{ℕ, List, [], ◌∷◌, nat_lt, length, Option, Some, None}
 use Rattle.std.specs.Prelude.{if◌then◌else◌, Result, Ok, Err}
 use Rattle.det_values.specs.Values.{ProfileValue}
@@ -27,7 +27,7 @@ use Rattle.twin_cli.specs.declared.texts.TheConstants.{USAGE, VERSION}
 use Rattle.twin_cli.specs.declared.options.Flip.{Flip}
 use Rattle.twin_cli.specs.Words.{TwinsValue, CommandValue, printing, run}
 
--- a text and an answer
+-- an answer with a text
 abbrev pub telling : TwinAnswer → List ℕ → OutcomeIn TwinAnswer
 telling answer bytes = record { answer = answer; bytes = bytes }
 
@@ -38,7 +38,7 @@ abbrev pub answer_to : Verdict → TwinAnswer
 answer_to (Agree cycles) = Done
 answer_to (Differ copy at) = Differs
 
--- how a copy's frame of a number is altered
+-- the frame of a copy after the flip, by the copy and the frame's number
 abbrev pub altered_by : Option Flip → (copy number : ℕ) → Frame → Frame
 altered_by None copy number frame = frame
 altered_by (Some flip) copy number frame = turned_at flip.copy flip.number copy number frame
@@ -55,7 +55,7 @@ module _ (twins : TwinsValue) where
         telling (answer_to (verdict_on text)) (verdict_line (verdict_on text))
     by_ending (BadLine line) text = refusal (BadStimulus line)
 
-    -- a stimulus that has more than 1,048,576 bytes is refused, as is one with a bad line
+    -- a stimulus of more than 1,048,576 bytes is refused, as is one with a bad line
     abbrev pub twinned : List ℕ → OutcomeIn TwinAnswer
     twinned text =
         if nat_lt 1048576 (length text) then refusal LongStimulus
@@ -64,7 +64,7 @@ module _ (twins : TwinsValue) where
   abbrev pub twinned_by_kind : JobKind → ProfileValue → List ℕ → OutcomeIn TwinAnswer
   twinned_by_kind kind profile text = by_kind (λ S G E L P m. twinned m profile text) kind
 
-  -- the manifest's profile with the seed 0, over a stimulus, or the refusal of the manifest
+  -- the outcome for the manifest's profile with the seed 0, or the refusal of the manifest
   abbrev pub twinned_by : Result ManifestValue refusals.BadManifest → List ℕ → OutcomeIn TwinAnswer
   twinned_by (Ok m) stimulus = twinned_by_kind m.kind (profile_of m 0) stimulus
   twinned_by (Err why) stimulus = refusal (BadManifest why)
@@ -73,12 +73,12 @@ module _ (twins : TwinsValue) where
   twins_outcome holds =
       twinned_by (setup_of twins.options.strict (holds twins.manifest)) (holds twins.stimulus)
 
--- the text that a word asks for
+-- the text that an argument asks for
 abbrev pub text_of : TextWord → List ℕ
 text_of Help = USAGE.now
 text_of Version = VERSION.now
 
--- the outcome of a command where these are the bytes under each name
+-- the outcome of a command, if these are the bytes under each name
 abbrev pub outcome_of : Option CommandValue → (List ℕ → List ℕ) → OutcomeIn TwinAnswer
 outcome_of None holds = refusal BadWords
 outcome_of (Some (printing word)) holds = telling Done (text_of word)
@@ -94,8 +94,8 @@ abbrev pub names_by : (manifest stimulus : List ℕ) → Result ManifestValue re
 names_by manifest stimulus (Ok m) = manifest ∷ stimulus ∷ []
 names_by manifest stimulus (Err why) = manifest ∷ []
 
--- those that it opens where these are the bytes under each name: of a manifest that is refused it
--- opens no stimulus
+-- The names that it opens, if these are the bytes under each name. If the manifest is refused, the
+-- stimulus isn't opened.
 abbrev pub opened : Option CommandValue → (List ℕ → List ℕ) → List (List ℕ)
 opened (Some (run twins)) holds = names_by twins.manifest twins.stimulus
     (setup_of twins.options.strict (holds twins.manifest))

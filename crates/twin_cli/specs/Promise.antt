@@ -1,4 +1,4 @@
--- What the program `det_twin` promises.
+-- The promise of the program `det_twin`.
 use Rattle.std.specs.Prelude.{◌≡◌, ℕ, List, Option, None}
 use Rattle.det_io.specs.Count.{Rose}
 use Rattle.det_io.specs.Shelf.{ShelfState, AsksPrefix}
@@ -11,29 +11,28 @@ use Rattle.twin_cli.specs.Answers.{failed, status_of, line_of}
 use Rattle.twin_cli.specs.Outcome.{outcome_of, names_in, opened}
 use Rattle.twin_cli.specs.Words.{CommandValue, command_of}
 
--- A run of a command. `out` took what `before` and `after` say.
+-- A run of a command. `before` and `after` say what `out` took.
 pub record Runs (command : Option CommandValue) (first last : ShelfState) (out_failed : Type 0)
     (before after : List ℕ → Type 0) (answer : TwinAnswer) : Type 0 where
-  -- it answers and writes what the definition gives of the bytes under the names that it opens,
-  -- where they are told
+  -- it meets the outcome for the bytes under the names that it opens, if they are known
   pub meets : MeetsBy failed (outcome_of command (told first))
       (Tells first (opened command (told first))) (Rose first.faults last.faults) out_failed
       before after answer
-  -- it ends as bad words exactly where the words are no command
+  -- it ends as bad words exactly if the arguments are no command
   pub bad_words : (answer ≡ BadWords → command ≡ None) × (command ≡ None → answer ≡ BadWords)
-  -- no other name is opened, and none before its turn; where they are told, none beyond those that
-  -- are needed
+  -- It opens no other name, and none before its turn. If the names are known, it opens only those
+  -- that it needs.
   pub asked : AsksPrefix first last (names_in command)
   pub needed : Tells first (opened command (told first))
       → AsksPrefix first last (opened command (told first))
 
--- The program: a run of the command that the words give, its status, and one line for the user.
+-- The program: a run of the arguments' command, its status, and one line for the user.
 pub record IsPromised (words : List (List ℕ)) (first last : ShelfState) (out_failed : Type 0)
     (before after : List ℕ → Type 0) (err_failed : Type 0) (err_before err_after : List ℕ → Type 0)
     (status : TwinStatus) : Type 0 where
   pub answer : TwinAnswer
   pub is : status ≡ status_of answer
   pub runs : Runs (command_of words) first last out_failed before after answer
-  -- `err` took a prefix of the answer's line, and all of it where its count of faults didn't rise
+  -- `err` took a prefix of the answer's line, and all of it unless its count of faults rose
   pub line : GrewByPrefix err_before err_after (line_of answer)
   pub whole_line : ¬ err_failed → Grew err_before err_after (line_of answer)

@@ -1,4 +1,4 @@
--- What a text in memory gives of its stimulus, input by input.
+-- The inputs of a stimulus in memory, one by one.
 use Rattle.std.specs.Prelude.{◌≡◌, ℕ, ◌≤◌, List, [], ◌∷◌, ◌++◌, length, Option, Some, None, Result}
 use Rattle.std.specs.Prelude.{Ok, Err}
 use Rattle.det_values.specs.declared.frames.CycleInput.{CycleInput}
@@ -20,7 +20,7 @@ module _ (text : List ℕ) (events : ℕ) where
     pub fed : StandsFor source.reader read given
     pub known : events_of source.reader ≡ events
 
-  -- one input more, of no more than 1,000,000
+  -- one input more, at most 1,000,000 in all
   pub record Gives (source : TextInputs) (given : List CycleInput) : Type 0 where
     pub behind : IsBehind source given
     pub few : length given ≤ 1000000

@@ -1,4 +1,4 @@
--- The words of `det_twin`.
+-- The arguments of `det_twin`.
 use Rattle.std.specs.Prelude.{ℕ, ◌^◌, List, [], ◌∷◌, Bool, true, false, ◌&&◌, nat_lt}
 use Rattle.std.specs.Prelude.{Option, Some, None, option_map, option_and_then, if◌then◌else◌, codes}
 use Rattle.std.specs.Str.{bytes_eq}
@@ -62,7 +62,7 @@ flipping copies strict word copy number =
 abbrev pub alone : List ℕ → Option Options
 alone word = if is_strict word then Some (record { strict = true; flip = None }) else None
 
--- `--strict` in front of `--flip K F`, or behind it
+-- `--strict` and `--flip K F`, in either order
 abbrev pub both : ℕ → (a b c d : List ℕ) → Option Options
 both copies a b c d =
     if is_strict a then flipping copies true b c d
@@ -85,7 +85,7 @@ twins_by manifest stimulus copies rest = option_map (λ o. run (record {
   options = o;
 })) (options_of copies rest)
 
--- COPIES MANIFEST STIM, and options behind them
+-- COPIES MANIFEST STIM, and then options
 abbrev pub twins_of : (copies manifest stimulus : List ℕ) → List (List ℕ) → Option CommandValue
 twins_of copies manifest stimulus rest =
     if is_name manifest && is_name stimulus
@@ -93,7 +93,7 @@ twins_of copies manifest stimulus rest =
     (copies_of copies)
     else None
 
--- the command that the words after the program's name are
+-- the command that the arguments after the program's name are
 abbrev pub command_of : List (List ℕ) → Option CommandValue
 command_of (word ∷ []) = option_map printing (text_word word)
 command_of (copies ∷ manifest ∷ stimulus ∷ rest) = twins_of copies manifest stimulus rest

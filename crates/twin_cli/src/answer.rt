@@ -1,4 +1,4 @@
-//! How twins ended, with what their line for `err` tells.
+//! `TwinAnswer`, how twins ended, with its status and its line on standard error.
 ghost use Rattle.std.specs.Prelude.{◌≡◌};
 ghost use Rattle.twin_cli.specs.Answers.{line_of, status_of};
 
@@ -11,7 +11,7 @@ use stimulus::StimFault;
 #[derive(Clone, Copy, Debug, PartialEq, Eq, Drop)]
 pub enum TwinAnswer {
     Done,
-    /// The copies differ. The output tells where.
+    /// The copies differ. The place is on standard output, not in the line.
     Differs,
     BadWords,
     BadManifest(BadManifest),
@@ -99,7 +99,7 @@ impl TwinAnswer {
         }
     }
 
-    /// The line for `err`, which is empty where twins are done or differ. It takes no memory.
+    /// The line for standard error, empty for `Done` and `Differs`. It allocates nothing.
     pub fn line(self) -> Line
         ensures { result ≡ line_of self }
     {

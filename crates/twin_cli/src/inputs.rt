@@ -1,4 +1,4 @@
-//! A stimulus that is read into memory, and its inputs.
+//! Reads a stimulus into memory, and its inputs from there.
 ghost use Rattle.std.specs.Prelude.{◌≡◌, ℕ, ◌≤◌, ◌<◌, List, length, IfOk, IfErr, IsSome, Some};
 ghost use Rattle.std.specs.Prelude.{◌∷◌, []};
 ghost use Rattle.std.specs.List.{All};
@@ -16,10 +16,12 @@ use stimulus::StimFault;
 use stimulus::laws::limits;
 use twins::Inputs;
 
-/// The greatest length of a stimulus, in bytes.
+/// The greatest length of a stimulus, in bytes. It is read whole before a copy runs, so that each
+/// copy has all inputs.
 const MOST_BYTES: usize = 1_048_576;
 
-/// The text under a name. At most one piece of 4,096 bytes is read beyond its greatest length.
+/// The text under a name. A longer text is refused after at most one piece of 4,096 bytes beyond
+/// the greatest length.
 pub(crate) fn read_text<S: Shelf>(
     alloc: Global,
     name: &str,
@@ -41,7 +43,8 @@ pub(crate) fn read_text<S: Shelf>(
     Ok(Bytes::from_vec(text))
 }
 
-/// The inputs of a whole stimulus for a profile with so many events. Refused tells its bad line.
+/// The inputs of a whole stimulus. `events` is the number of the profile's events. `Refused` has
+/// the bad line.
 pub(crate) fn inputs_of(
     alloc: Global,
     text: Bytes,

@@ -1,9 +1,9 @@
 //! The program `det_twin` as one call, over any shelf and any sinks.
 //!
-//! Twins run one client in 2 to 8 copies in one process, each on a thread of its own, and compare
-//! their frames while they run. `specs/Words.antt` says which words it takes, `specs/Outcome.antt`
-//! what it gives of the bytes under their names, and `specs/Promise.antt` what `twin_top` promises
-//! of that.
+//! Twins run one client in 2 to 8 copies in one process, each on a thread of its own. Their frames
+//! are compared while they run. `specs/Words.antt` defines the program's arguments,
+//! `specs/Outcome.antt` its outcome by the bytes under their names, and `specs/Promise.antt` the
+//! promise of `twin_top`.
 #![tactic(auto)]
 
 mod answer;

@@ -1,17 +1,17 @@
-//! Copies of a run, as words ask for them.
+//! `Twins`, what the arguments ask for, and its options.
 ghost use Rattle.std.specs.Prelude.{◌≤◌};
 
-/// The frame of a copy of which a bit is turned, both counted from 0.
+/// The frame of a copy in which a bit is flipped. Both are counted from 0.
 #[derive(Clone, Copy, Debug, PartialEq, Eq)]
 pub struct Flip {
     pub copy: u32,
     pub number: u32,
 }
 
-/// What is told behind the names.
+/// The options after the names.
 #[derive(Clone, Copy, Debug, PartialEq, Eq)]
 pub struct Options {
-    /// Whether a key that no table of a manifest knows is a fault.
+    /// Whether an unknown key in the manifest is a fault.
     pub strict: bool,
     pub flip: Option<Flip>,
 }

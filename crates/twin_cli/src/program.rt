@@ -1,4 +1,4 @@
-//! The whole program.
+//! `twin_top`, which runs the command that the arguments name.
 ghost use Rattle.std.specs.Prelude.{◌≡◌, ◌≢◌, true, Err};
 ghost use Rattle.det_io.specs.Count.{Rose};
 ghost use Rattle.cli_words.specs.Names.{texts};
@@ -21,10 +21,11 @@ use std::alloc::Global;
 use std::sync::Wait;
 use std::thread::Threads;
 
-/// Runs the command that the words give, which are those after the program's name.
+/// Runs the command that the arguments after the program's name give.
 ///
-/// The stimulus is kept in memory as a whole, and each copy runs on a thread of its own, with one
-/// worker and the seed 0. Copies wait for one another, so that this call returns isn't promised.
+/// The stimulus is kept in memory as a whole. Each copy runs on a thread of its own, with one
+/// worker and the seed 0. Copies wait for one another, so no contract promises that this call
+/// returns.
 pub fn twin_top<S: Shelf, K: Sink, E: Sink, R: Threads + Wait + Sync>(
     rt: &R,
     alloc: Global,
@@ -63,7 +64,7 @@ fn run<S: Shelf, K: Sink, R: Threads + Wait + Sync>(
     }
 }
 
-/// Prints the line of a verdict.
+/// Prints the line of a verdict, or returns the answer if there is no verdict.
 fn tell<K: Sink>(alloc: Global, found: Result<Verdict, TwinAnswer>, out: &mut K) -> TwinAnswer
     requires writes_nothing { found ≢ Err TwinAnswer.WriteFault }
     requires words { found ≢ Err TwinAnswer.BadWords }
@@ -91,7 +92,7 @@ fn answer_to(verdict: Verdict) -> TwinAnswer
     }
 }
 
-/// Writes a text, and answers this where all of it was written.
+/// Writes a text. The answer is this one if all of it was written.
 fn print<K: Sink>(text: &[u8], answer: TwinAnswer, out: &mut K) -> TwinAnswer
     requires { has_text answer ≡ true }
     ensures meets { MeetsBy failed (telling answer text.now) (Unit {0}) ⊥

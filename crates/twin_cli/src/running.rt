@@ -1,4 +1,4 @@
-//! The job of a manifest, run in copies over a stimulus.
+//! Runs the job of a manifest in copies over a stimulus, and compares their frames.
 ghost use Rattle.std.specs.Prelude.{◌≡◌, ◌≢◌, ◌≤◌, ◌<◌, length, IfOk, None, Err};
 ghost use Rattle.std.specs.List.{All};
 ghost use Rattle.det_io.specs.Shelf.{Asks};
@@ -24,7 +24,7 @@ use std::sync::Wait;
 use std::thread::Threads;
 use twins::{FlipTamper, Tamper, TwinRun, run_twins};
 
-/// Turns a bit where one is to be turned.
+/// Flips a bit of one copy, if the options ask for it.
 #[derive(Clone, Copy, Drop)]
 struct MaybeFlip {
     flip: Option<Flip>,
@@ -109,8 +109,8 @@ fn compare_over<R: Threads + Wait + Sync>(
     }
 }
 
-/// Reads manifest and stimulus, runs the copies and compares them. The manifest is read and judged
-/// before the stimulus is opened.
+/// Reads the manifest and the stimulus, runs the copies and compares them. The stimulus is opened
+/// only after the manifest is accepted.
 pub(crate) fn find<S: Shelf, R: Threads + Wait + Sync>(
     rt: &R,
     alloc: Global,

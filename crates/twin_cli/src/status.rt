@@ -1,30 +1,30 @@
-//! The exit status of twins.
+//! The exit statuses of `det_twin`.
 ghost use Rattle.std.specs.Prelude.{◌≡◌};
 ghost use Rattle.twin_cli.specs.Answers.{number_of};
 
-/// How a run of `det_twin` ended.
+/// The exit status of a run of `det_twin`.
 #[derive(Clone, Copy, Debug, PartialEq, Eq, Drop)]
 pub enum TwinStatus {
     /// The copies are equal.
     Done,
     /// The copies differ.
     Differs,
-    /// The words are not those of twins.
+    /// The arguments are no twins.
     BadWords,
     /// The manifest is refused.
     BadManifest,
     /// The stimulus has a bad line, or it is too long.
     BadStimulus,
-    /// The shelf failed.
+    /// A file couldn't be opened or read.
     ReadFault,
-    /// The output failed.
+    /// Standard output failed.
     WriteFault,
-    /// Memory could not be had.
+    /// Memory ran out.
     OutOfMemory,
 }
 
 impl TwinStatus {
-    /// The program's exit status. All mean what they mean of `det`.
+    /// The number that the process exits with. Each means the same as for `det`.
     pub fn number(&self) -> u8
         ensures { result ≡ number_of self.now }
     {

@@ -1,4 +1,4 @@
-//! A text in memory that gives the inputs of its stimulus.
+//! `TextInputs`, which reads the inputs of a stimulus from a text in memory.
 ghost use Rattle.std.specs.Prelude.{◌≡◌};
 ghost use Rattle.stimulus.specs.slot_reader.StandsFor.{slot_of};
 
@@ -21,7 +21,7 @@ impl TextInputs {
     ghost use Rattle.det_values.specs.declared.frames.CycleInput.{CycleInput as Input};
     ghost use Rattle.twin_cli.specs.TextInputs.{IsBehind, Comes};
 
-    /// All of a text's inputs are still to come.
+    /// A source that has given no input of this text yet.
     pub(crate) fn of(alloc: Global, text: Bytes, events: u16) -> TextInputs
         ensures { IsBehind text events result [] }
     {

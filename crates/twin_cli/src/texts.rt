@@ -4,7 +4,7 @@ ghost use Rattle.twin_cli.specs.Outcome.{text_of};
 
 use cli_words::TextWord;
 
-/// The words of the program, and its exit statuses.
+/// What `--help` prints: the arguments of the program, and its exit statuses.
 pub const USAGE: &str = "\
 det_twin: runs a job in several copies in one process and compares their frames
 
@@ -32,10 +32,10 @@ Exit statuses:
   3  bad manifest              8  out of memory
 ";
 
-/// The name of the program and its version.
+/// What `--version` prints: the name of the program and its version.
 pub const VERSION: &str = "det_twin 0.1.0\n";
 
-/// The text that a word asks for.
+/// The text that an argument asks for.
 pub(crate) fn text_of(word: TextWord) -> &'static str
     ensures { result.now ≡ text_of word }
 {

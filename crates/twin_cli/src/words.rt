@@ -1,4 +1,4 @@
-//! The words of twins.
+//! `TwinCommand`, what the arguments ask for.
 ghost use Rattle.std.specs.Prelude.{◌≡◌, option_map};
 ghost use Rattle.cli_words.specs.Names.{texts};
 ghost use Rattle.twin_cli.specs.Words.{alone, both, command_of, command_seen};
@@ -7,14 +7,14 @@ ghost use Rattle.twin_cli.specs.Words.{flip_in, flip_of, flipping, is_strict, op
 use crate::options::{Flip, Options, Twins};
 use cli_words::{TextWord, copies_of, is_name, number_of};
 
-/// What the words after the program's name ask for.
+/// What the arguments after the program's name ask for.
 #[derive(Clone, Copy)]
 pub enum TwinCommand<'a> {
     Text(TextWord),
     Run(Twins<'a>),
 }
 
-/// A frame of one of so many copies.
+/// A frame of one of the copies, by its number of 32 bits.
 fn flip_in(copies: u32, copy: u64, number: u64) -> Option<Flip>
     ensures { result ≡ flip_in copies copy number }
 {
@@ -34,7 +34,7 @@ fn flip_of(copies: u32, copy: &str, number: &str) -> Option<Flip>
     flip_in(copies, number_of(copy)?, number_of(number)?)
 }
 
-/// The words `--flip K F`.
+/// Reads `--flip K F`.
 fn flipping(copies: u32, strict: bool, word: &str, copy: &str, number: &str) -> Option<Options>
     ensures { result ≡ flipping copies strict word.now copy.now number.now }
 {
@@ -67,7 +67,7 @@ fn alone(word: &str) -> Option<Options>
     }
 }
 
-/// `--strict` and `--flip K F`.
+/// Reads `--strict` and `--flip K F`, in either order.
 fn both(copies: u32, a: &str, b: &str, c: &str, d: &str) -> Option<Options>
     ensures { result ≡ both copies a.now b.now c.now d.now }
 {
@@ -80,7 +80,7 @@ fn both(copies: u32, a: &str, b: &str, c: &str, d: &str) -> Option<Options>
     None
 }
 
-/// The options that the words behind the names are.
+/// Reads the options after the names.
 fn options_of(copies: u32, words: &[String]) -> Option<Options>
     ensures { result ≡ options_of copies (texts words.now) }
 {
@@ -125,7 +125,7 @@ fn twins_of<'a>(
 }
 
 impl<'a> TwinCommand<'a> {
-    /// Reads the words after the program's name. None where they are no command.
+    /// Reads the arguments after the program's name. None if they are no command.
     pub fn of(words: &'a [String]) -> Option<TwinCommand<'a>>
         ensures { option_map command_seen result ≡ command_of (texts words.now) }
     {

@@ -71,7 +71,7 @@ same-rows (o ∷ ours) [] e f = absurd cc
 same-rows (o ∷ ours) (r ∷ rows) e zero = let first : r.frame ≡ o.frame = cc in ap (λ (x : Frame). reads.Item (items.Frame x)) first
 same-rows (o ∷ ours) (r ∷ rows) e (suc f) = same-rows ours rows (let rest : frames_in rows ≡ frames_in ours = cc in rest) f
 
--- of so many rows none parts the copies
+-- in this number of rows no copy differs
 none-each : (f more : ℕ) (copies : List (List Row)) → first_verdict f more copies ≡ None → (g : ℕ) → f ≤ g → g < f + more
     → row_verdict g copies ≡ None
 none-each f zero copies e g low high = absurd (omega arith)

@@ -1,4 +1,4 @@
--- Copies are begun, one after another.
+-- Copies are made, one after another.
 use Rattle.std.proofs.Common.{◌≡◌, ◌+◌, ℕ, List, [], ◌∷◌, ◌++◌, length, map, refl, sym, ap, ◌∙◌, zero-add}
 use Rattle.std.specs.List.{range_with_len}
 use Rattle.std.proofs.lemmas.List.{map-append, length-map}
@@ -56,7 +56,7 @@ module _ {S G E L P : Type 0} (m : Meaning S G E L P) (profile : ProfileValue) (
     taken = rw l (All-append (Took 0) old.intakes.items (intake ∷ []) all.taken (took-none intake rows taken));
   }
 
--- as many copies as were begun
+-- as many copies as were made
 pub many-begun : {S G E L P : Type 0} {m : Meaning S G E L P} {profile : ProfileValue} {inputs : List CycleInput}
     {altered : ℕ → ℕ → Frame → Frame} (count : ℕ) (copies : Copies S G E L P) → AreCopies m profile inputs altered count copies
     → length copies.twins.items ≡ count

@@ -19,7 +19,7 @@ use Rattle.twins.proofs.Pairs.{pair_none, pair_more, pair_set}
 use Rattle.twins.proofs.Rows.{row-last}
 use Rattle.twins.proofs.Verdicts.{verdict-more}
 
--- of the first `k` copies the row `n` was taken, and held against that of copy 0
+-- of the first `k` copies the row `n` was taken, and compared with that of copy 0
 pub record Round (k n : ℕ) (queues : List FrameQueue) (old now : List Intake) (ours : Row) (found : Option Verdict) : Type 0 where
   pub intakes : AreIntakes queues now
   pub many : length now ≡ length old
@@ -57,7 +57,7 @@ intakes-more k queues now d new within all one =
     pair_set IsIntakeOf queues now k new all within
     (λ x. subst (λ q. IsIntakeOf q new) (get_or_default queues k d x (let c = all.count in omega (arith, within))) one)
 
--- so many rows were taken of a copy
+-- this number of rows was taken of a copy
 abbrev pub Took : ℕ → Intake → Type 0
 Took n intake = (intake.rows ≡ n) × (length (rows_in intake) ≡ n)
 

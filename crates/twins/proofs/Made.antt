@@ -1,4 +1,4 @@
--- The frames of a run in their places, and an engine behind the first of them.
+-- The frames of a run in their places, and an engine after the first of them.
 use Rattle.std.proofs.Common.{◌≡◌, ◌<◌, ◌≤◌, ◌+◌, ◌-◌, ℕ, zero, suc, List, [], ◌∷◌, ◌++◌, length, take, drop, map, get_or, Some}
 use Rattle.std.proofs.Common.{true, false}
 use Rattle.std.proofs.Common.{sym, ap, ◌∙◌, subst, arith, length-append, append_assoc, length-take}
@@ -22,7 +22,7 @@ abbrev pub as_run : RunFrame → Frame
 as_run run = Run run
 
 module _ {S G E L P : Type 0} (m : Meaning S G E L P) (profile : ProfileValue) where
-  -- the runs of inputs of which one stands behind others
+  -- the run of an input that comes after others
   runs-at : (before : List CycleInput) (input : CycleInput) (after : List CycleInput)
       → (more : List RunFrame) × (runs m profile (before ++ input ∷ after)
       ≡ runs m profile before ++ frame_of m profile before (state_of m profile before) input ∷ more)
@@ -105,7 +105,7 @@ module _ {S G E L P : Type 0} (m : Meaning S G E L P) (profile : ProfileValue) w
       let l = length-map (runs m profile inputs) as_run in
       omega (arith, r, a, l)
 
-  -- ---- an engine behind frames
+  -- ---- an engine after frames
 
   -- it stays where it is up to Init
   pub made-opening : (inputs : List CycleInput) (number : ℕ) (engine : EngineState S G E) → number < 3

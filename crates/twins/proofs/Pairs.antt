@@ -98,7 +98,7 @@ module _ {X Y : Type 0} where
       at k a b h (inl e) = rw (e.1, get_or-set_same ys i z b within) (one a)
       at k a b h (inr e) = rw (get_or-set_other ys i k z b e.1) (p.each k a b h)
 
-  -- what is told of both alike
+  -- what is known of both alike
   pub pair_map : {Z : Type 0} (R : X → Y → Type 0) (f : X → Z) (g : Y → Z) → ((x : X) (y : Y) → R x y → f x ≡ g y)
       → (xs : List X) (ys : List Y) → EachPair R xs ys → map f xs ≡ map g ys
   pair_map R f g same [] [] p = refl
@@ -112,7 +112,7 @@ module _ {X Y : Type 0} where
       → EachPair (λ x y. R x y × P y) xs ys
   pair_with_right R P xs ys p all = record { count = p.count; each = λ k a b h. (p.each k a b h, All-get_or P ys k b h all) }
 
-  -- what the relation tells of each right item
+  -- what the relation says of each right item
   pub pair_all : (R : X → Y → Type 0) (P : Y → Type 0) → ((x : X) (y : Y) → R x y → P y) → (xs : List X) (ys : List Y)
       → EachPair R xs ys → All P ys
   pair_all R P next [] [] p = λ k d h. absurd (omega arith)

@@ -17,13 +17,13 @@ pub take-at : {X : Type 0} (xs : List X) (k : ℕ) (x : X) → slice_get xs k �
 take-at xs k x e =
     rw add-one (take-suc xs k x (slice_get_within xs k x e) ∙ ap (λ y. take k xs ++ y ∷ []) (get_or_from_slice_get xs k x x e))
 
--- what stands behind a list doesn't change what is in it
+-- what comes after a list doesn't change what is in it
 pub get-before : {X : Type 0} (xs ys : List X) (k : ℕ) → k < length xs → slice_get (xs ++ ys) k ≡ slice_get xs k
 get-before [] ys k h = absurd (omega arith)
 get-before (x ∷ xs) ys zero h = refl
 get-before (x ∷ xs) ys (suc k) h = get-before xs ys k (omega arith)
 
--- the first item behind a list
+-- the first item after a list
 pub get-behind : {X : Type 0} (xs : List X) (y : X) (ys : List X) → slice_get (xs ++ y ∷ ys) (length xs) ≡ Some y
 get-behind [] y ys = refl
 get-behind (x ∷ xs) y ys = get-behind xs y ys

@@ -44,7 +44,7 @@ verdict-more f ours others rows copy e =
     ∙ other-more (f + 1) (row_at f ours) 1 (map (row_at f) others) (row_at f rows)
     ∙ ap (λ i. option_or (row_verdict f (ours ∷ others)) (option_map (Differ i) (row_difference (f + 1) (row_at f ours) (row_at f rows)))) k
 
--- the verdict on a row is one on what stands there
+-- the verdict on a row is one on what is there
 of_reads : ℕ → List Read → Option Verdict
 of_reads f [] = None
 of_reads f (ours ∷ others) = first_other (f + 1) ours 1 others

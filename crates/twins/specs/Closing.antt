@@ -14,7 +14,7 @@ module _ {S G E L P : Type 0} where
   AreSenders queues twins =
       EachPair (λ q (twin : Twin S G E L P). IsSenderOf q twin.sender) queues twins
 
-  -- what was taken of each copy is the first of what it sent
+  -- the rows taken of each copy are the first of those that it sent
   abbrev pub AreBegun : List Intake → List (Twin S G E L P) → Type 0
   AreBegun intakes twins = EachPair (λ intake (twin : Twin S G E L P).
       IsPrefix (rows_in intake) (sent_of twin.sender)) intakes twins

@@ -1,4 +1,4 @@
--- Copies that have just begun.
+-- Copies that have sent nothing yet.
 use Rattle.std.specs.Prelude.{◌≡◌, ℕ, List}
 use Rattle.std.specs.List.{range_with_len}
 use Rattle.det_values.specs.Values.{ProfileValue}
@@ -9,7 +9,7 @@ use Rattle.twins.specs.declared.twin_copies.Copies.{Copies}
 use Rattle.twins.specs.Sending.{AreTwins, numbers_of}
 use Rattle.twins.specs.Taking.{AreIntakes, HaveTaken}
 
--- so many copies, each with its queue, of which nothing was taken
+-- this number of copies, each with its queue, before anything is taken from it
 pub record AreCopies {S G E L P : Type 0} (m : Meaning S G E L P) (profile : ProfileValue)
     (inputs : List CycleInput) (altered : ℕ → ℕ → Frame → Frame) (count : ℕ)
     (copies : Copies S G E L P) : Type 0 where

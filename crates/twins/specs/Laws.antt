@@ -9,7 +9,8 @@ use Rattle.twins.specs.Verdict.{first_verdict}
 abbrev pub frames_in : List Row → List Frame
 frames_in rows = map (λ (row : Row). row.frame) rows
 
--- copies with as many rows have no row that parts them exactly where all have the frames of copy 0
+-- copies with the same number of rows have no row that differs exactly where all of them have the
+-- frames of copy 0
 abbrev pub Agreeing : Type 0
 Agreeing = (ours : List Row) (others : List (List Row))
     → AllByRecursion (λ rows. length rows ≡ length ours) others

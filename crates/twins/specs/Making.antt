@@ -30,14 +30,14 @@ module _ {S G E L P : Type 0} (m : Meaning S G E L P) (profile : ProfileValue)
   IsRow altered number row = (frame : Frame) × IsFrame number frame
       × (row ≡ record { number = number; frame = altered number frame })
 
-  -- the engine made the first frames of the run, so many
+  -- the engine made this number of frames, the first of the run
   pub record HasMade (number : ℕ) (engine : EngineState S G E) : Type 0 where
     pub stands : StandsFor m profile engine (take (number - 3) inputs)
     pub going : number < length inputs + 4 → engine.stopped ≡ false
 
   module _ (altered : ℕ → ℕ → Frame → Frame) where
-    -- The copy sends to this queue, and sent the first of its rows. Unless it found no memory, its
-    -- engine stands behind them.
+    -- The copy sends to this queue, and sent the first of its rows. Unless it ran out of memory,
+    -- its engine has made their frames.
     pub record IsTwin (queue : FrameQueue) (twin : Twin S G E L P) : Type 0 where
       pub sender : IsSenderOf queue twin.sender
       pub number : twin.number ≤ length inputs + 4

@@ -1,4 +1,4 @@
--- Copies that send, beside what takes their rows.
+-- The copies, which send rows, and the taker, which takes them.
 use Rattle.std.specs.Prelude.{List, [], ◌∷◌, ◌++◌}
 use Rattle.twins.specs.declared.sides.Sides.{Sides}
 use Rattle.twins.specs.declared.twin.Twin.{Twin}

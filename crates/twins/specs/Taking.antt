@@ -1,4 +1,4 @@
--- What is taken of copies, and told of it.
+-- What is taken of copies, and what it says of them.
 use Rattle.std.specs.Prelude.{◌≡◌, ℕ, ◌+◌, ◌<◌, List, [], ◌∷◌, ◌++◌, length, map}
 use Rattle.std.specs.Prelude.{Option, Some, None}
 use Rattle.std.specs.List.{All}
@@ -19,17 +19,17 @@ AreIntakes queues intakes = EachPair IsIntakeOf queues intakes
 abbrev pub taken_by : List Intake → List (List Row)
 taken_by intakes = map rows_in intakes
 
--- one row more was taken of a copy
+-- one more row was taken of a copy
 abbrev pub TookOne : Intake → Intake → Type 0
 TookOne old new = (row : Row) × (rows_in new ≡ rows_in old ++ row ∷ [])
     × (new.rows ≡ old.rows + 1)
 
--- so many rows were taken of each
+-- this number of rows was taken of each copy
 abbrev pub HaveTaken : ℕ → List Intake → Type 0
 HaveTaken rows intakes =
     All (λ (i : Intake). (i.rows ≡ rows) × (length (rows_in i) ≡ rows)) intakes
 
--- so many rows were taken of each copy, and all have them equal
+-- this number of rows was taken of each copy, and all have them equal
 pub record Agreed (queues : List FrameQueue) (taker : Taker) : Type 0 where
   pub intakes : AreIntakes queues taker.intakes.items
   pub taken : HaveTaken taker.rows taker.intakes.items

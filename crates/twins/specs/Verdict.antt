@@ -1,4 +1,4 @@
--- The verdict on the rows of copies, which go side by side.
+-- The verdict on the rows of copies, which are compared row by row.
 use Rattle.std.specs.Prelude.{ℕ, zero, suc, ◌+◌, List, [], ◌∷◌, length, map, true}
 use Rattle.std.specs.Prelude.{Option, Some, None}
 use Rattle.std.specs.Option.{option_or, unwrap_or}
@@ -24,7 +24,7 @@ rows_from altered f [] = []
 rows_from altered f (frame ∷ more) =
     record { number = f; frame = altered f frame } ∷ rows_from altered (f + 1) more
 
--- ---- what is told of their rows
+-- ---- the verdict on rows
 
 -- a row as it is read in a record
 abbrev pub as_read : Option Row → Read
@@ -40,7 +40,7 @@ abbrev pub row_verdict : ℕ → List (List Row) → Option Verdict
 row_verdict f [] = None
 row_verdict f (ours ∷ others) = first_other (f + 1) (row_at f ours) 1 (map (row_at f) others)
 
--- the first of so many rows, counted on from `f`, that not all copies have equal
+-- the first of this number of rows, counted on from `f`, that not all copies have equal
 abbrev pub first_verdict : ℕ → ℕ → List (List Row) → Option Verdict
 first_verdict f zero copies = None
 first_verdict f (suc more) copies =

@@ -1,4 +1,4 @@
-//! The queues are closed.
+//! The end of a run: the queues of all copies are closed.
 ghost use Rattle.twins.specs.Closing.{AreSenders, AreBegun};
 ghost use Rattle.twins.specs.Taking.{AreIntakes};
 
@@ -7,8 +7,8 @@ use crate::twin::Twin;
 use frame_queue::FrameQueue;
 use job::Job;
 
-/// Closes the queues of all copies. From then on it is known that what was taken of a copy is the
-/// first of what it sent.
+/// Closes the queues of all copies. Only then is it known that the rows taken of a copy are the
+/// first of those that it sent.
 pub(crate) fn close_all<J: Job>(
     mut queues: Vec<FrameQueue>,
     mut twins: Vec<Twin<J>>,

@@ -1,4 +1,4 @@
-//! Rows are taken while they are sent.
+//! One turn of sending and taking, and the loop over turns.
 ghost use Rattle.std.specs.Prelude.{◌≡◌, ◌+◌, ◌<◌, ◌≤◌, ◌∷◌, ◌++◌, [], length};
 ghost use Rattle.std.specs.Prelude.{IfNone, IfOk};
 ghost use Rattle.std.specs.Thread.{IsSend, IsSync};
@@ -20,14 +20,14 @@ use std::alloc::Global;
 use std::sync::Wait;
 use std::thread::{Threads, join};
 
-/// The side that takes comes to all queues.
+/// Reports to all queues that the taking side comes.
 fn come_to(queues: &[FrameQueue]) {
     'queues: for queue in queues {
         queue.pace().receiver_comes();
     }
 }
 
-/// The side that takes leaves all queues, for good where it wants no more rows.
+/// Reports to all queues that the taking side leaves. If `is_over`, it refuses all further rows.
 fn leave(queues: &[FrameQueue], is_over: bool) {
     'queues: for queue in queues {
         let pace = queue.pace();
@@ -38,8 +38,8 @@ fn leave(queues: &[FrameQueue], is_over: bool) {
     }
 }
 
-/// Takes at most `more` rows of each copy, and gives the taker back.
-fn taken<R: Wait>(
+/// Takes at most `more` rows of each copy. Returns the taker, and the verdict if a row differs.
+fn take_from_copies<R: Wait>(
     rt: &R,
     queues: &[FrameQueue],
     mut taker: Taker,
@@ -58,9 +58,11 @@ fn taken<R: Wait>(
     (taker, found)
 }
 
-/// Each copy sends rows while its queue has a place, and at most `more` of each are taken
-/// meanwhile. Where all have a thread, this can go on to the last row. Where one side runs after
-/// the other, at most as many rows are sent as the queues have places for.
+/// One turn: each copy sends rows while its queue has a place, and meanwhile at most `more` rows of
+/// each are taken.
+///
+/// If all copies have a thread, one turn can go on to the last row. If one side runs after the
+/// other, a turn sends at most as many rows as the queues have places.
 pub(crate) fn exchange<J, T, R>(
     rt: &R,
     alloc: Global,
@@ -120,7 +122,7 @@ where
             requires agreed { Agreed queues.now taker }
             ensures judged { Judged result.1 queues.entry.now result.0 }
             ensures within { result.0.rows ≤ taker.rows + more }
-        { taken(rt, queues, taker, more) },
+        { take_from_copies(rt, queues, taker, more) },
     );
     let (last, others) = twins;
     let (taker, found) = looked;
@@ -132,12 +134,12 @@ where
     (sides, found)
 }
 
-/// Whether a copy found no memory.
+/// Whether a copy ran out of memory.
 fn any_failed<J: Job>(sides: &Sides<J>) -> bool {
     sides.last.failed || sides.others.iter().any(|twin| twin.failed)
 }
 
-/// Sends and takes all rows, up to the first that not all copies have equal.
+/// Sends and takes all rows, up to the first one that differs.
 pub(crate) fn exchange_all<J, T, R>(
     rt: &R,
     alloc: Global,

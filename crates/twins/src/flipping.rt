@@ -1,4 +1,4 @@
-//! One bit of one frame is turned.
+//! `FlipTamper`: flips one bit of one frame, to test that the difference is found.
 ghost use Rattle.std.specs.Prelude.{◌≡◌, IfOk};
 ghost use Rattle.twins.specs.Tampers.{kind_of, last_turned, output_turned, frame_turned};
 
@@ -7,8 +7,8 @@ use crate::pushing::push;
 use det_values::{Bytes, Frame, OutOfMemory, Outcome, RunFrame};
 use std::alloc::Global;
 
-/// Turns the lowest bit of the last byte of the output in one frame of one copy. A frame that is no
-/// finished cycle, or whose output is empty, stays as it is.
+/// Flips the lowest bit of the last byte of the output in one frame of one copy. The frame stays as
+/// it is if it isn't a finished cycle or if its output is empty.
 #[derive(Clone, Copy, Drop)]
 pub struct FlipTamper {
     copy: u32,
@@ -16,7 +16,7 @@ pub struct FlipTamper {
 }
 
 impl FlipTamper {
-    /// Alters this frame of this copy.
+    /// Flips a bit in frame `number` of this copy. Both count from 0.
     pub fn new(copy: u32, number: u32) -> FlipTamper
         ensures copy { result.copy ≡ copy }
         ensures number { result.number ≡ number }

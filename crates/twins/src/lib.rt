@@ -1,4 +1,4 @@
-//! Copies of a run in the threads of one process, compared while they run.
+//! Runs copies of a run in the threads of one process, and compares them while they run.
 #![tactic(auto)]
 
 mod closing;

@@ -1,4 +1,4 @@
-//! A copy makes the frames of the run, one after another.
+//! How a copy makes the frames of the run, one after another. `send_rows` sends them.
 ghost use Rattle.std.specs.Prelude.{◌≡◌, ◌≤◌, ◌<◌, ◌+◌, length, IfOk, OnOk};
 ghost use Rattle.twins.specs.Making.{AreKnown, IsFrame, HasMade};
 
@@ -11,7 +11,8 @@ use pass_in_blocks::InOrder;
 use std::alloc::Global;
 
 impl<J: Job> Twin<J> {
-    /// The frame of this copy's number. After OutOfMemory its engine isn't to be used.
+    /// The frame with the number that the copy has reached. After an error its engine must not be
+    /// used.
     pub(crate) fn next_frame<T>(
         &mut self,
         alloc: Global,
@@ -54,7 +55,7 @@ impl<J: Job> Twin<J> {
         Ok(Frame::Init(self.engine.shown(alloc)?))
     }
 
-    /// Runs the next cycle.
+    /// Runs the next cycle and returns its frame.
     fn next_run<T>(&mut self, alloc: Global, run: &TwinRun<T>) -> Result<Frame, OutOfMemory>
         requires known { AreKnown run.now.profile run.now.inputs }
         requires opened { 3 ≤ self.old.number }

@@ -1,9 +1,9 @@
-//! Lists that grow.
+//! Appending to a list, with `OutOfMemory` as the error.
 ghost use Rattle.std.specs.Prelude.{◌≡◌, ◌++◌, ◌∷◌, [], OnOk};
 
 use det_values::OutOfMemory;
 
-/// Adds an item at the end of a list.
+/// Appends an item to a list.
 pub(crate) fn push<T: Drop>(items: &mut Vec<T>, item: T) -> Result<(), OutOfMemory>
     ensures { OnOk result (items.new.items ≡ items.old.items ++ item ∷ []) }
 {

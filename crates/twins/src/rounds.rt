@@ -1,4 +1,4 @@
-//! Rows of all copies are taken and compared, one round after another.
+//! Takes one row of each copy and compares them, one round after another.
 ghost use Rattle.std.specs.Prelude.{◌≡◌, ◌≤◌, ◌<◌, ◌+◌, length, IfNone, Some};
 ghost use Rattle.std.specs.Option.{option_map};
 ghost use Rattle.copies.specs.declared.verdict.Verdict.TheVariants.{Differ};
@@ -13,8 +13,8 @@ use frame_queue::{FrameQueue, Row};
 use std::sync::Wait;
 
 impl Taker {
-    /// Takes at most `more` rows of each copy, as long as all send them, and ends behind the first
-    /// that not all have equal.
+    /// Takes at most `more` rows of each copy, while all of them send. It ends after the first row
+    /// that differs.
     pub(crate) fn take_rows<R: Wait>(
         &mut self,
         rt: &R,
@@ -39,7 +39,7 @@ impl Taker {
         None
     }
 
-    /// Takes one row more of each copy.
+    /// Takes one more row of each copy.
     fn take_next<R: Wait>(&mut self, rt: &R, queues: &[FrameQueue]) -> Option<Verdict>
         requires some { 0 < length queues.now }
         requires few { length queues.now ≤ 8 }
@@ -54,7 +54,7 @@ impl Taker {
     }
 }
 
-/// Whether a row of each copy is there to be taken. It waits for copies that are at work.
+/// Waits for a row of each copy, and returns whether there is one of each.
 fn all_have_rows<R: Wait>(rt: &R, queues: &[FrameQueue]) -> bool {
     'queues: for queue in queues {
         if !queue.pace().has_row(rt) {
@@ -64,7 +64,7 @@ fn all_have_rows<R: Wait>(rt: &R, queues: &[FrameQueue]) -> bool {
     true
 }
 
-/// Takes the row of this number of each copy, and holds it against that of copy 0.
+/// Takes the row of this number of each copy, and compares it with that of copy 0.
 fn take_round<R: Wait>(
     rt: &R,
     queues: &[FrameQueue],
@@ -89,7 +89,7 @@ fn take_round<R: Wait>(
     found
 }
 
-/// The verdict where the row of this copy isn't that of copy 0.
+/// The verdict that this copy differs, if its row isn't that of copy 0.
 fn parted(copy: u32, number: u32, ours: &Row, row: Row) -> Option<Verdict>
     ensures { result ≡ option_map (Differ copy)
         (row_difference (number + 1) (as_read (Some ours.now)) (as_read (Some row))) }

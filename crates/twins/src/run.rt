@@ -1,9 +1,9 @@
-//! The run that copies make.
+//! `TwinRun`: the run that all copies make.
 ghost use Rattle.std.specs.Prelude.{◌≡◌, ◌≤◌, ◌+◌, length};
 
 use det_values::{CycleInput, Limited, Profile};
 
-/// What the cycles of a run are given, in order.
+/// The inputs of the cycles of a run, in order.
 pub type Inputs = Limited<CycleInput, 1000000>;
 
 /// A run, and what may alter the frames of its copies.
@@ -15,7 +15,7 @@ pub struct TwinRun<T> {
 }
 
 impl<T> TwinRun<T> {
-    /// The number of its frames: a Run frame for each input, and four others.
+    /// The number of frames in the run: a Run frame for each input, and four others.
     pub(crate) fn rows(&self) -> u32
         ensures rows { result ≡ length self.now.inputs + 4 }
         ensures most { result ≤ 1000004 }

@@ -1,4 +1,4 @@
-//! Copies of a run are compared while they run.
+//! `run_twins`: the entry of the crate.
 ghost use Rattle.std.specs.Prelude.{◌≡◌, ◌≤◌, length, IfOk, None};
 ghost use Rattle.std.specs.Option.{unwrap_or};
 ghost use Rattle.copies.specs.declared.verdict.Verdict.TheVariants.{Agree};
@@ -18,15 +18,17 @@ use std::alloc::Global;
 use std::sync::Wait;
 use std::thread::Threads;
 
-/// Runs so many copies of a run, each on a thread of its own where there is one, and compares their
+/// Runs this number of copies of a run, each on a thread of its own if there is one. Compares their
 /// rows while they run. Each copy makes the frames of the whole run, from Register to Terminate,
 /// and runs its passes with one worker.
 ///
-/// All start at once, and each goes on while its queue has a place, while their rows are taken and
-/// compared on the caller's thread. So no more than 32 rows of a copy are held. Where there aren't
-/// threads for all, they take turns of as many rows. Once a row was found that not all copies have
-/// equal, no further row is begun. A copy that finds no memory ends its sending, and the answer is
-/// OutOfMemory. That copies run at the same time is not promised.
+/// All copies start together. Each goes on while its queue has a place, and the caller's thread
+/// takes and compares their rows. So at most 32 rows of a copy are held. If there aren't threads
+/// for all copies, they take turns of that many rows. After a row that differs no further row is
+/// started.
+///
+/// A copy that runs out of memory stops sending, and the result is `OutOfMemory`. It isn't promised
+/// that copies run at the same time.
 pub fn run_twins<J, T, R>(
     rt: &R,
     alloc: Global,
@@ -56,7 +58,7 @@ where
     }))
 }
 
-/// Runs so many copies that have just begun, and tells where they part.
+/// Runs copies that have sent nothing yet, and returns the verdict if a row differs.
 fn run_begun<J, T, R>(
     rt: &R,
     alloc: Global,

@@ -1,4 +1,4 @@
-//! A copy sends its rows.
+//! How a copy sends its rows. `next_frame` makes their frames.
 ghost use Rattle.std.specs.Prelude.{◌≡◌, ◌≤◌, ◌<◌, ◌+◌, length, take, IfOk, OnOk, Some, false};
 ghost use Rattle.cycle_engine.specs.Frames.{frames};
 ghost use Rattle.twins.specs.Making.{AreKnown, HasMade, IsTwin, IsRow};
@@ -12,8 +12,8 @@ use std::alloc::Global;
 use std::sync::Wait;
 
 impl<J: Job> Twin<J> {
-    /// Makes and sends rows while its queue has a place, up to the last. Where memory can't be had,
-    /// it ends its sending.
+    /// Makes and sends rows while the queue has a place, up to the last row. If memory runs out,
+    /// the copy stops sending.
     pub(crate) fn send_rows<T: Tamper, R: Wait>(
         &mut self,
         rt: &R,
@@ -66,7 +66,8 @@ impl<J: Job> Twin<J> {
         }
     }
 
-    /// The row of this copy's number. After OutOfMemory its engine isn't to be used.
+    /// The row with the number that the copy has reached. After an error its engine must not be
+    /// used.
     fn next_row<T: Tamper>(&mut self, alloc: Global, run: &TwinRun<T>) -> Result<Row, OutOfMemory>
         requires known { AreKnown run.now.profile run.now.inputs }
         requires more { self.old.number < length run.now.inputs + 4 }

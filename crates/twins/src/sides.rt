@@ -1,4 +1,4 @@
-//! Copies that send, and what takes their rows.
+//! `Sides`: the copies, which send rows, and the taker, which takes them.
 ghost use Rattle.std.specs.Prelude.{◌≡◌, ◌<◌, length, IfOk};
 ghost use Rattle.twins.specs.Sides.{twins_of};
 
@@ -19,7 +19,7 @@ pub(crate) struct Sides<J: Job> {
 }
 
 impl<J: Job> Sides<J> {
-    /// Copies of which nothing was taken.
+    /// The sides of a run before anything is taken.
     pub(crate) fn of(mut twins: Vec<Twin<J>>, intakes: Vec<Intake>) -> Sides<J>
         requires { 0 < length twins.items }
         ensures twins { twins_of result ≡ twins.items }
@@ -36,7 +36,7 @@ impl<J: Job> Sides<J> {
         }
     }
 
-    /// All copies, and the ends from which their rows are taken.
+    /// All copies in order, and the ends from which their rows are taken.
     pub(crate) fn parts(self) -> Result<(Vec<Twin<J>>, Vec<Intake>), OutOfMemory>
         ensures twins { IfOk result (λ parts. parts.0.items ≡ twins_of self) }
         ensures intakes { IfOk result (λ parts. parts.1 ≡ self.taker.intakes) }

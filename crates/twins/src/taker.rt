@@ -1,4 +1,4 @@
-//! The side that takes the rows of all copies.
+//! `Taker`: the side that takes the rows of all copies.
 ghost use Rattle.std.specs.Prelude.{◌≡◌, ◌+◌, ◌<◌, ◌++◌, ◌∷◌, []};
 ghost use Rattle.twins.specs.Intakes.{IsIntakeOf, rows_in};
 
@@ -9,7 +9,7 @@ use std::sync::Wait;
 #[derive(Drop)]
 pub(crate) struct Intake {
     pub(crate) receiver: Receiver,
-    /// How many rows were taken.
+    /// The number of rows that were taken.
     pub(crate) rows: u32,
 }
 
@@ -27,10 +27,10 @@ impl Intake {
     }
 }
 
-/// The ends of all copies, from which as many rows were taken of each.
+/// The ends of all copies. The same number of rows was taken of each.
 #[derive(Drop)]
 pub(crate) struct Taker {
     pub(crate) intakes: Vec<Intake>,
-    /// How many rows were taken of each copy.
+    /// The number of rows that were taken of each copy.
     pub(crate) rows: u32,
 }

@@ -1,19 +1,19 @@
-//! What may alter the frames of a copy.
+//! `Tamper`: what may alter the frames of a copy before they are sent.
 ghost use Rattle.std.specs.Prelude.{◌≡◌, IfOk};
 ghost use Rattle.twins.specs.Tampers.{kind_of};
 
 use det_values::{Frame, OutOfMemory};
 use std::alloc::Global;
 
-/// Alters the frames of copies before they are sent. Copies are numbered from 0, and so are the
-/// frames of each. All copies call it, at the same time.
+/// Alters the frames of copies before they are sent. Copies count from 0, and so do the frames of
+/// each. All copies call it at the same time.
 pub trait Tamper: Sync {
     ghost use Rattle.std.specs.Prelude.{ℕ};
     ghost use Rattle.det_values.specs.declared.frames.Frame.{Frame as FrameValue};
 
     ghost altered: { Self → ℕ → ℕ → FrameValue → FrameValue };
 
-    /// The frame of this number of a copy, as it is sent.
+    /// Returns the frame with this number of a copy as it is sent.
     fn alter(
         &self,
         alloc: Global,

@@ -1,4 +1,4 @@
-//! Copies send their rows, each on a thread of its own.
+//! Runs the sending of all copies, each on a thread of its own.
 ghost use Rattle.std.specs.Prelude.{◌≡◌, ◌+◌, ◌≤◌, ◌∷◌, ◌++◌, [], vec_len, vec_capacity};
 ghost use Rattle.std.specs.Thread.{IsSend, IsSync};
 ghost use Rattle.twins.specs.Making.{AreKnown, IsTwin};
@@ -12,7 +12,7 @@ use std::alloc::Global;
 use std::sync::Wait;
 use std::thread::{Threads, join};
 
-/// Adds a copy, for which there is room.
+/// Appends a copy to a list that has room for it.
 fn put_back<J: Job>(twins: &mut Vec<Twin<J>>, twin: Twin<J>)
     requires { vec_len twins.old + 1 ≤ vec_capacity twins.old }
     ensures items { twins.new.items ≡ twins.old.items ++ twin ∷ [] }
@@ -24,7 +24,7 @@ fn put_back<J: Job>(twins: &mut Vec<Twin<J>>, twin: Twin<J>)
     }
 }
 
-/// A copy sends rows to its queue, and is handed back.
+/// Lets one copy send rows to its queue. Returns the copy.
 fn send_alone<J: Job, T: Tamper, R: Wait>(
     rt: &R,
     alloc: Global,
@@ -43,8 +43,12 @@ fn send_alone<J: Job, T: Tamper, R: Wait>(
     twin
 }
 
-/// All copies send rows, each on a thread of its own where there is one. It takes no memory for
+/// Lets all copies send rows, each on a thread of its own if there is one. It allocates nothing for
 /// that.
+///
+/// If all copies have a thread, the threads last as long as the run. New threads start on their
+/// parent's processor and take milliseconds to move. With one thread for each batch of rows, the
+/// copies ran serially half of the time.
 pub(crate) fn send_all<J, T, R>(
     rt: &R,
     alloc: Global,

@@ -1,4 +1,4 @@
-//! A copy of a run.
+//! `Twin`: one copy of a run.
 
 use cycle_engine::Engine;
 use frame_queue::Sender;
@@ -9,10 +9,10 @@ use job::Job;
 pub(crate) struct Twin<J: Job> {
     pub(crate) engine: Engine<J>,
     pub(crate) sender: Sender,
-    /// Which copy it is, counted from 0.
+    /// The number of the copy, counted from 0.
     pub(crate) copy: u32,
-    /// How many rows it sent.
+    /// The number of rows that it sent.
     pub(crate) number: u32,
-    /// Whether it found no memory. It sends nothing from then on.
+    /// Whether it ran out of memory. It then sends nothing more.
     pub(crate) failed: bool,
 }

@@ -1,4 +1,4 @@
-//! Copies that have just begun.
+//! Copies that have sent nothing yet, and how they are made.
 ghost use Rattle.std.specs.Prelude.{◌≡◌, ◌+◌, ◌<◌, ◌≤◌, ◌∷◌, ◌++◌, [], length};
 ghost use Rattle.std.specs.Prelude.{IfOk, OnOk, None, false};
 ghost use Rattle.std.specs.List.{range_with_len};
@@ -24,7 +24,7 @@ pub(crate) struct Copies<J: Job> {
 }
 
 impl<J: Job> Copies<J> {
-    /// So many copies, none of which sent anything.
+    /// This number of copies. None of them has sent anything.
     pub(crate) fn begun<T: Tamper>(
         alloc: Global,
         run: &TwinRun<T>,
@@ -69,7 +69,7 @@ impl<J: Job> Copies<J> {
     }
 }
 
-/// A copy that sent nothing.
+/// A copy that has sent nothing.
 fn begin<J: Job, T>(
     alloc: Global,
     run: &TwinRun<T>,

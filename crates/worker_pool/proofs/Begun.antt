@@ -1,4 +1,4 @@
--- A table that is made shows the machine's start.
+-- A new table shows the machine's start.
 use Rattle.std.proofs.Common.{◌≡◌, ℕ, ◌+◌, List, [], length, set, get_or, replicate, sym, refl, ◌∙◌, subst, ⊎_elim, arith, get_or-set_same}
 use Rattle.std.proofs.Common.{get_or-set_other}
 use mathlib.Core.Option.{some, some-ne-none}

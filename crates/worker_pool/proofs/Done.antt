@@ -86,7 +86,7 @@ module _ {E P : Type 0} (block : ℕ → Result (Passed E P) Refusal) where
   works_skipped v cl u b rs h is took got = subst (λ (qs : List (BlockResult E P)). Works block u qs) (nil rs)
       (works_more v u Skipped rs [] h tt (marked_view v cl u Skipped b h.tidy.below took is got) refl)
 
-  -- the block that was claimed last has an answer and gets its mark
+  -- the block that was claimed last has a result and gets its mark
   pub works_marked : (k : Mark) (v cl lk u : PoolView) (b : ℕ) (rs qs : List (BlockResult E P)) (a : BlockAnswer E P) → Works block v rs
       → b ≡ v.seen → cl ≡ taken v → lk ≡ cl → u ≡ with_mark b k lk
       → answer_of a ≡ block b → qs ≡ rs ++ record { block = b; answer = a } ∷ []
@@ -102,7 +102,7 @@ pub taken_stands : (v w u : PoolView) (b : ℕ) → b ≡ v.seen → w ≡ taken
 taken_stands v w u b is took same = subst (λ (x : PoolView). Stands b Open x.entries) (sym (same ∙ took))
     (subst (λ (x : ℕ). Stands x Open (v.entries ++ entry v.seen Open ∷ [])) (sym is) (stands_last v.seen Open v.entries))
 
--- the block that was claimed last stands with its mark
+-- the block that was claimed last has its mark
 pub mark_stands : (k : Mark) (v cl lk u : PoolView) (b : ℕ) → Below v.seen v.entries → b ≡ v.seen → cl ≡ taken v → lk ≡ cl
     → u ≡ with_mark b k lk → Stands v.seen k u.entries
 mark_stands k v cl lk u b below is took same got = subst (λ (x : PoolView). Stands v.seen k x.entries)

@@ -1,4 +1,4 @@
--- What an ended machine gathers is the pass.
+-- An ended machine gathers the result of the pass.
 use Rattle.std.proofs.Common.{◌≡◌, ℕ, zero, suc, ◌<◌, ◌≤◌, ◌⊎◌, Bool, true, false, cond, ltb, List, [], ◌∷◌, length, Result, Ok, sym, refl}
 use Rattle.std.proofs.Common.{subst, inl, inr, ⊎_elim, arith}
 use mathlib.Core.Option.{some}
@@ -51,7 +51,7 @@ module _ {S G E L P : Type 0} (m : Meaning S G E L P) (j : S) (plan : L) (carry 
   abbrev all : Passed E P
   all = together (m.joined j) (m.unit_part j) at B
 
-  -- the answer, where the least refusing block is known or none refuses
+  -- the result, if the least refusing block is known or none refuses
   answer_is : (l : ℕ) → (((l < B) × (no l ≡ true)) ⊎ (B ≤ l)) → ((b : ℕ) → b < B → b < l → no b ≡ false)
       → cond (ltb l B) (at l) (Ok all) ≡ whole
   answer_is l which below = let C : Bool → Type 0 = λ t. cond t (at l) (Ok all) ≡ whole in ⊎_elim

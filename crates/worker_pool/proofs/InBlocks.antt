@@ -24,7 +24,7 @@ abbrev done : {E P : Type 0} → List E → List ℕ → P → Passed E P
 done es ds p = record { elements = es; draws = ds; part = p }
 
 module _ {E P : Type 0} (join : P → P → P) where
-  -- an answer after what is done
+  -- a result after an earlier one
   abbrev pub onto : Passed E P → Result (Passed E P) Refusal → Result (Passed E P) Refusal
   onto d (Ok e) = Ok (beside join d e)
   onto d (Err r) = Err r
@@ -54,7 +54,7 @@ module _ {S G E L P : Type 0} (m : Meaning S G E L P) (j : S) (plan : L) (carry 
   abbrev drew : ℕ → E → ℕ
   drew i e = m.drawn j plan carry pass e (key seed cycle pass i)
 
-  -- the answer of further elements
+  -- the result of further elements
   abbrev pub on_with : ℕ → List E → Result (Passed E P) Refusal → Result (Passed E P) Refusal
   on_with i es (Ok d) = taken m j plan carry seed cycle pass i es d
   on_with i es (Err r) = Err r
@@ -91,7 +91,7 @@ module _ {S G E L P : Type 0} (m : Meaning S G E L P) (j : S) (plan : L) (carry 
     onto_twice d e (Ok f) = λ k. Ok (done (sym (three d.elements e.elements f.elements) k) (sym (three d.draws e.draws f.draws) k)
         (sym (assoc d.part e.part f.part) k))
 
-    -- what is done before stands before what is done from nothing
+    -- the earlier result comes before the result from nothing
     from_nothing : (i : ℕ) (es : List E) (d : Passed E P) → from i es d ≡ onto join d (from i es none)
     from_nothing i [] d = λ k. Ok (done (sym (append_nil d.elements) k) (sym (append_nil d.draws) k) (sym (right d.part) k))
     from_nothing i (e ∷ es) d =

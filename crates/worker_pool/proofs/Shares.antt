@@ -40,7 +40,7 @@ module _ {E P : Type 0} (block : ℕ → Result (Passed E P) Refusal) (blocks : 
     tried = tried_joined v w h.tried;
   })
 
-  -- what a worker has done is a share where each block was tried, or a refusal is known
+  -- a worker's work is a share if each block was tried, or a refusal is known
   pub share_of : (v : PoolView) (rs qs : List (BlockResult E P)) → Works block v rs → (v.seen ≡ blocks) ⊎ Stops v.entries → qs ≡ rs
       → IsShare block blocks v qs
   share_of v rs qs works tried is = record {
@@ -48,7 +48,7 @@ module _ {E P : Type 0} (block : ℕ → Result (Passed E P) Refusal) (blocks : 
     tried = ⊎_elim (λ (x : v.seen ≡ blocks). inl (omega arith)) (λ (x : Stops v.entries). inr x) tried;
   }
 
--- what a reply that isn't short of memory brings to the task that its ticket is for
+-- the share in a reply without "out of memory", for the task of its ticket
 pub brought : {S G E L P : Type 0} (m : Meaning S G E L P) (announced : List (Task S G E L P)) (t : Task S G E L P) (seat : PassSeat)
     (results : Result (Vec (BlockResult E P) Global) OutOfMemory) (given : Vec (BlockResult E P) Global) → IsReply m announced seat results
     → announced ≡ t ∷ [] → results ≡ Ok given → AreOf m t given.items × IsShareOf m t seat given.items
@@ -59,7 +59,7 @@ abbrev first : {A : Type 0} → A → List A → A
 first a [] = a
 first a (x ∷ xs) = x
 
--- what a worker gives of the task that its ticket is for is a reply
+-- a worker's share of the task of its ticket is a reply
 pub replied : {S G E L P : Type 0} (m : Meaning S G E L P) (announced : List (Task S G E L P)) (d : Task S G E L P) (seat : PassSeat)
     (results : Result (Vec (BlockResult E P) Global) OutOfMemory) → announced ≡ d ∷ [] → IsAt seat d.table
     → IfOk results (λ x. AreOf m d x.items) → IfOk results (λ x. IsShareOf m d seat x.items) → IsReply m announced seat results

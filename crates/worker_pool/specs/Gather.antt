@@ -1,11 +1,11 @@
--- What an ended machine gathers from the answers of the blocks.
+-- The result that an ended machine gathers from the results of the blocks.
 use Rattle.std.specs.Prelude.{ℕ, zero, suc, Bool, cond, ltb, [], Result, Ok, Err, is_err}
 use Rattle.job.specs.Pass.{Passed, Refusal}
 use Rattle.pass_in_blocks.specs.Steps.{beside}
 use Rattle.worker_pool.specs.Machine.{Machine}
 
 module _ {E P : Type 0} where
-  -- whether a block is a refusal, by what each block gives
+  -- whether a block is a refusal, given the result of each block
   abbrev pub refuses : (ℕ → Result (Passed E P) Refusal) → ℕ → Bool
   refuses block b = is_err (block b)
 

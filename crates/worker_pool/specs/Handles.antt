@@ -1,10 +1,10 @@
--- What a clause reads of a table and a seat.
+-- The parts of a table and a seat that clauses use.
 use Rattle.std.specs.Prelude.{◌≡◌, ℕ}
 use Rattle.worker_pool.specs.declared.view.PoolView.{PoolView}
 use Rattle.worker_pool.specs.declared.seat.PassTable.{PassTable}
 use Rattle.worker_pool.specs.declared.seat.PassSeat.{PassSeat}
 
--- what the worker with this seat knows
+-- the facts that the worker with this seat knows
 abbrev pub view_of : PassSeat → PoolView
 view_of s = s.seat.me.0
 

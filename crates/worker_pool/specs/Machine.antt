@@ -1,5 +1,5 @@
--- The pool as a machine: which blocks are claimed, and what became of them. It knows no workers, so
--- every schedule of any number of workers is a list of its events.
+-- The pool as a machine: the claimed blocks and their marks. It has no workers, so every schedule
+-- of any number of workers is a list of its events.
 use Rattle.std.specs.Prelude.{◌≡◌, ℕ, ◌<◌, ◌⊎◌, min, Bool, true, false, cond, ltb, List, [], ◌∷◌}
 use Rattle.std.specs.Prelude.{◌++◌, length, slice_set}
 use mathlib.Core.Option.{some}
@@ -39,7 +39,7 @@ after (finish b) m = machine (slice_set m.marks b Finished) m.least
 after (look b) m = cond (ltb m.least b) (machine (slice_set m.marks b Skipped) m.least) m
 after (report b) m = machine (slice_set m.marks b Reported) (min m.least b)
 
--- over so many blocks, of which `refuses` says whether one is a refusal
+-- given the number of blocks, and for each whether it is a refusal
 module _ (blocks : ℕ) (refuses : ℕ → Bool) where
   abbrev pub Allowed : Event → Machine → Type 0
   Allowed claim m = next m < blocks
@@ -47,7 +47,7 @@ module _ (blocks : ℕ) (refuses : ℕ → Bool) where
   Allowed (look b) m = Has m b Open
   Allowed (report b) m = Has m b Open × (refuses b ≡ true)
 
-  -- the events are allowed one after another, and lead from the one state to the other
+  -- the events are allowed in order, and lead from the first state to the second
   abbrev pub Leads : List Event → Machine → Machine → Type 0
   Leads [] m n = m ≡ n
   Leads (e ∷ es) m n = Allowed e m × Leads es (after e m) n

@@ -1,4 +1,4 @@
--- What goes to a kept thread, and what comes back.
+-- The messages to a kept thread and back.
 use Rattle.std.specs.Prelude.{◌≡◌, ℕ, List, [], ◌∷◌, ◌++◌, ◌⊎◌, Result, IfOk}
 use Rattle.std.specs.List.{All}
 use Rattle.std.specs.Global.{Global}
@@ -24,7 +24,7 @@ module _ {S G E L P : Type 0} where
     pub ready : IsReady m Covers Own Fit t.pass
     pub sized : block_count t.table ≡ blocks_in t.pass
 
-  -- a result is that of a block of the pass, and shows what the block shows
+  -- a result equals that of its block of the pass, and shows the elements that the block shows
   abbrev pub IsOf : Meaning S G E L P → Task S G E L P → BlockResult E P → Type 0
   IsOf m t r = IsRight (block_in m t.pass) (blocks_in t.pass) r
       × Shows (shown_in m t.pass r.block) r.answer
@@ -32,8 +32,8 @@ module _ {S G E L P : Type 0} where
   abbrev pub AreOf : Meaning S G E L P → Task S G E L P → List (BlockResult E P) → Type 0
   AreOf m t results = All (IsOf m t) results
 
-  -- the results of the blocks that the worker with this seat claimed, and it has tried all blocks
-  -- of the pass or knows of a refusal
+  -- These are the results of the blocks that the worker with this seat claimed. It has tried all
+  -- blocks of the pass, or knows of a refusal.
   abbrev pub IsShareOf : Meaning S G E L P → Task S G E L P → PassSeat
       → List (BlockResult E P) → Type 0
   IsShareOf m t seat results = IsShare (block_in m t.pass) (block_count t.table)
@@ -48,8 +48,8 @@ module _ {S G E L P : Type 0} where
     pub here : IsAt seat t.table
     pub new : IsNew (view_of seat)
 
-  -- where the ticket is for one task, the seat is one at its table, and unless memory was short its
-  -- worker's share of the pass is there and right
+  -- If the ticket is for one task, the seat is at its table. Unless memory ran out, the worker's
+  -- share of the pass is also complete and right.
   abbrev pub IsReply : Meaning S G E L P → List (Task S G E L P) → PassSeat
       → Result (Vec (BlockResult E P) Global) OutOfMemory → Type 0
   IsReply m announced seat results =
@@ -58,7 +58,8 @@ module _ {S G E L P : Type 0} where
       × IfOk results (λ given. AreOf m t given.items × IsShareOf m t seat given.items)
 
 -- One more piece of work was received, and its reply was sent, unless there was no place for it.
--- What was received and sent stands before and after, and how many places are known to be free.
+-- `had` and `sent` are the lists before, `has` and `sends` those after, and `free` is the number of
+-- places known to be free.
 abbrev pub IsServed : {S B G E L P : Type 0} → List (Work S B G E L P) → List (Work S B G E L P)
     → List (Reply S B G E L P) → List (Reply S B G E L P) → ℕ → Type 0
 IsServed {S} {B} {G} {E} {L} {P} had has sent sends free = (work : Work S B G E L P)

@@ -1,4 +1,4 @@
--- What a worker has done: the marks of its entries, and its results.
+-- The work that a worker has done: the marks of its entries, and its results.
 use Rattle.std.specs.Prelude.{◌≡◌, ℕ, ◌+◌, ◌≤◌, ◌⊎◌, true, false, List, [], ◌∷◌, ◌++◌, map, Result}
 use Rattle.job.specs.Pass.{Passed, Refusal}
 use Rattle.worker_pool.specs.declared.view.Mark.{Mark}
@@ -23,9 +23,9 @@ module _ {E P : Type 0} where
   abbrev pub shown : BlockResult E P → ℕ × Result (Passed E P) Refusal
   shown r = (r.block, answer_of r.answer)
 
--- beside what each block gives
+-- given the result of each block
 module _ {E P : Type 0} (block : ℕ → Result (Passed E P) Refusal) where
-  -- no block is Open, what is Finished isn't a refusal, and what is Reported is one
+  -- no block is Open, a Finished block isn't a refusal, and a Reported block is one
   abbrev pub IsHonest : Mark → ℕ → Type 0
   IsHonest Open b = ⊥
   IsHonest Finished b = refuses block b ≡ false
@@ -58,8 +58,8 @@ module _ {E P : Type 0} (block : ℕ → Result (Passed E P) Refusal) where
     pub tidy : Tidy v
     pub results : map shown rs ≡ results_of v.entries
 
-  -- what a worker with this view gives of so many blocks: exactly the results of those that it
-  -- claimed, and it has tried each, or knows of one that refuses
+  -- The share of a worker with this view: exactly the results of the blocks that it claimed. It has
+  -- tried all blocks, or knows of one that refuses.
   pub record IsShare (blocks : ℕ) (v : PoolView) (rs : List (BlockResult E P)) : Type 0 where
     pub results : map shown rs ≡ results_of v.entries
     pub tried : (blocks ≤ v.seen) ⊎ Stops v.entries

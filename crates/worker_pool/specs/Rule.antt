@@ -10,7 +10,7 @@ use Rattle.worker_pool.specs.Views.{times, least_of, Below, SkipsAbove, total, a
 abbrev pub PoolState : Type 0
 PoolState = State (Unit {0}) PoolView
 
--- one view beside the words
+-- one view fits the words
 pub record Fits (words : List ℕ) (v : PoolView) : Type 0 where
   -- each of its blocks is one that it has seen
   pub below : Below v.seen v.entries
@@ -18,11 +18,11 @@ pub record Fits (words : List ℕ) (v : PoolView) : Type 0 where
   pub tried : (b : ℕ) → b < v.seen → slice_index words (b + 1) ≡ 1
   -- a block is skipped only above a refusal
   pub skips : SkipsAbove (slice_index words 0) v.entries
-  -- a seat that is spent knows nothing
+  -- a seat that was joined to another knows nothing
   pub idle : v.shares ≡ 0 → (v.entries ≡ []) × (v.seen ≡ 0)
 
--- Word 0 is the least Reported block. Word b + 1 says how often block b stands in all views: once
--- where it was claimed, else not at all. Blocks are claimed in order.
+-- Word 0 is the least Reported block. Word b + 1 is the number of entries of block b in all views:
+-- 1 if it was claimed, else 0. Blocks are claimed in order.
 pub record Ruled (blocks : ℕ) (s : PoolState) : Type 0 where
   pub sized : length s.words ≡ blocks + 1
   pub counted : (b : ℕ) → total (λ v. times b v.entries) s.views ≡ slice_index s.words (b + 1)

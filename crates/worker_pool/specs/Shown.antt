@@ -1,4 +1,4 @@
--- The machine's state that a table shows.
+-- The state of the machine that a table shows.
 use Rattle.std.specs.Prelude.{◌≡◌, ℕ, ◌+◌, ◌<◌, slice_index}
 use mathlib.Core.Option.{some}
 use lib.ListN.{get_elem?}

@@ -1,4 +1,4 @@
--- What each step tells the worker that makes it.
+-- The facts that each step gives to its worker.
 use Rattle.std.specs.Prelude.{◌≡◌, ℕ, ◌<◌, ◌≤◌, ◌⊎◌, min, slice_index}
 use mathlib.Core.Option.{some}
 use lib.ListN.{get_elem?}
@@ -15,8 +15,8 @@ use Rattle.worker_pool.specs.Moves.{moved}
 abbrev Here : Type 0
 Here = Me (Unit {0}) PoolView
 
--- There is a table under the rule in which this seat has the view v and the word is `found`. With
--- the word as `left` and the view w it is under the rule again.
+-- Some table keeps the rule, has the view v at this seat and `found` as the word. With the word
+-- `left` and the view w it keeps the rule again.
 abbrev pub Turn : ℕ → ℕ → PoolView → PoolView → ℕ → ℕ → ℕ → Type 0
 Turn blocks id v w word found left =
     (s : PoolState) × Ruled blocks s × (get_elem? s.views id ≡ some v)

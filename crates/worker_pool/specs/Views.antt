@@ -1,4 +1,4 @@
--- What a worker knows of a pass: an entry for each block that it claimed, the blocks that it has
+-- A worker's facts about a pass: an entry for each block that it claimed, the blocks that it has
 -- seen, and its shares of the table.
 use Rattle.std.specs.Prelude.{◌≡◌, ℕ, ◌+◌, ◌-◌, ◌<◌, ◌≤◌, ◌==◌, min, max, cond, List, [], ◌∷◌, ◌++◌}
 use Rattle.std.specs.Prelude.{◌⊎◌}
@@ -17,11 +17,11 @@ view es seen shares = record { entries = es; seen = seen; shares = shares }
 abbrev pub no_block : ℕ
 no_block = 18446744073709551615
 
--- a seat may be cut for as many workers as it has shares
+-- a seat may be split for as many workers as it has shares
 abbrev pub all_shares : ℕ
 all_shares = 64
 
--- how often a block stands among entries
+-- the number of entries of a block
 abbrev pub times : ℕ → List PoolEntry → ℕ
 times b [] = 0
 times b (e ∷ es) = cond (e.block == b) 1 0 + times b es
@@ -38,7 +38,7 @@ abbrev pub least_in : List PoolEntry → ℕ
 least_in [] = no_block
 least_in (e ∷ es) = min (reported e.mark e.block) (least_in es)
 
--- a block with a mark stands among entries
+-- the entries have this block with this mark
 abbrev pub Stands : ℕ → Mark → List PoolEntry → Type 0
 Stands b m [] = ⊥
 Stands b m (e ∷ es) = (e ≡ entry b m) ⊎ Stands b m es

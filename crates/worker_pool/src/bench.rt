@@ -1,4 +1,4 @@
-//! Memory in which the workers of a crew run their blocks.
+//! The memory in which a crew's kept threads run their blocks, and its way back to the caller.
 
 use crate::line::{Line, clear_line};
 use job::{Job, PassRoom};
@@ -7,11 +7,11 @@ use std::alloc::Global;
 use std::mem;
 use tickets::Room;
 
-/// More parts than any room holds.
+/// More spares than any room holds.
 const ALL: usize = usize::MAX;
 
-/// Memory in which a kept thread runs its blocks and lists their results. Nothing in it has a
-/// meaning before it is used.
+/// Memory in which a kept thread runs its blocks and lists their results. Its contents mean
+/// nothing.
 #[derive(Drop)]
 pub struct Bench<E, P> {
     pub room: PassRoom<E, P>,
@@ -19,7 +19,7 @@ pub struct Bench<E, P> {
 }
 
 impl<E: Drop, P: Drop> Bench<E, P> {
-    /// An empty one. It takes no memory.
+    /// An empty bench. It allocates nothing.
     pub fn new(alloc: Global) -> Bench<E, P> {
         Bench {
             room: PassRoom::new(alloc),
@@ -27,13 +27,13 @@ impl<E: Drop, P: Drop> Bench<E, P> {
         }
     }
 
-    /// Takes a room that comes back. What the one before has spare is moved to it.
+    /// Takes back a room, and moves the spares of the present one to it.
     pub(crate) fn take_room(&mut self, room: PassRoom<E, P>) {
         let mut before = mem::replace(&mut self.room, room);
         before.give(&mut self.room, ALL);
     }
 
-    /// Takes the memory of results that nobody needs any more.
+    /// Keeps the memory of results that are no longer needed.
     pub(crate) fn take_results(&mut self, mut results: Vec<BlockResult<E, P>>) {
         'each: while let Some(BlockResult { block: _, answer }) = results.pop() {
             keep_answer(&mut self.room, answer);
@@ -42,7 +42,7 @@ impl<E: Drop, P: Drop> Bench<E, P> {
     }
 }
 
-/// Keeps the memory of a block's answer.
+/// Keeps the memory of a block's result.
 fn keep_answer<E: Drop, P: Drop>(room: &mut PassRoom<E, P>, answer: BlockAnswer<E, P>) {
     if let BlockAnswer::Done(done) = answer {
         room.elements.keep_block(done.elements);
@@ -52,8 +52,8 @@ fn keep_answer<E: Drop, P: Drop>(room: &mut PassRoom<E, P>, answer: BlockAnswer<
     }
 }
 
-/// Takes the spares on the lines' benches back to the caller's room, and first those that late
-/// replies bring: it is called where no pass waits for any.
+/// Moves the spares of all benches back to the caller's room, late replies' memory included. No
+/// pass may wait for replies.
 pub(crate) fn clear_benches<J: Job, B: Room>(
     lines: &mut [Line<J, B>],
     room: &mut PassRoom<J::Element, J::Part>,
@@ -64,8 +64,8 @@ pub(crate) fn clear_benches<J: Job, B: Room>(
     }
 }
 
-/// Shares the spares out anew: each line's bench gets as many as the caller keeps. So none gathers
-/// at a worker that runs few blocks, and what the crew holds stops growing.
+/// Distributes the spares evenly: each bench gets as many as the caller keeps. So they don't gather
+/// at a worker that runs few blocks, and the crew's memory stops growing.
 pub(crate) fn fill_benches<J: Job, B: Room>(
     lines: &mut [Line<J, B>],
     room: &mut PassRoom<J::Element, J::Part>,

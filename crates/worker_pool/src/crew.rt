@@ -1,4 +1,5 @@
-//! A crew: threads that are kept from pass to pass.
+//! The pool `Crew`, which keeps its threads from pass to pass. A new thread can share its parent's
+//! processor for milliseconds, so new threads for each pass would mostly run one after another.
 ghost use Rattle.std.specs.Prelude.{◌+◌, ◌<◌, ◌≤◌, ◌^◌, length, IfOk};
 ghost use Rattle.job.specs.Passes.{IsReady, IsAnswer, block_in, blocks_in};
 ghost use Rattle.pass_in_blocks.specs.Answers.{AreRight, AreShown};
@@ -19,13 +20,14 @@ use std::sync::Arc;
 use std::thread::JoinHandle;
 use tickets::{Keeper, Room};
 
-/// The passes after which no more work is given away.
+/// The number of passes after which the crew gives no work to its threads. It keeps the tickets'
+/// numbers within their bound.
 const MOST_PASSES: u64 = 1_000_000_000_000;
 
-/// The caller and threads that are kept from pass to pass. Contracts see the number of workers.
+/// The caller and its kept threads. Contracts see the number of workers.
 ///
-/// An answer rests on no thread: what a kept thread doesn't give in time is run by the caller. A
-/// crew can't be dropped, so each ends by `stop`.
+/// No result depends on a thread: blocks that a kept thread doesn't return in time are run by the
+/// caller. A crew can't be dropped, so its owner must call `stop`.
 pub struct Crew<J: Job, B: Room, G: Gate> {
     pub(crate) keeper: Keeper<Task<J>, B>,
     pub(crate) lines: Vec<Line<J, B>>,
@@ -45,7 +47,7 @@ impl<J: Job, B: Room, G: Gate> Model for Crew<J, B, G> {
         × (length c.lines.items < c.workers) };
 }
 
-/// What the caller and these kept threads find of a pass. Some blocks may be missing.
+/// The results of a pass by the caller and these kept threads. Some blocks may be missing.
 fn shared_pass<J: Job, B: Room, G: Gate>(
     keeper: &mut Keeper<Task<J>, B>,
     lines: &mut [Line<J, B>],
@@ -68,15 +70,15 @@ fn shared_pass<J: Job, B: Room, G: Gate>(
     work_together(keeper, lines, &task, &mut seat, gate, room)
 }
 
-/// Lets the workers from this one on pass the gate on the caller's thread.
+/// Lets the workers from `first` on pass the gate on the caller's thread.
 fn enter_here<G: Gate>(gate: &G, first: u32, workers: u32) {
     for worker in first..workers {
         gate.enter(worker);
     }
 }
 
-/// A pass by the caller and the kept threads. No more of these get work than there are blocks
-/// beside the caller's first one, and where none gets any the caller has no table.
+/// A pass by the caller and the kept threads. At most as many threads get work as there are blocks
+/// besides the caller's first one. If none gets work, no table is made.
 fn crew_pass<J: Job, B: Room, G: Gate>(
     keeper: &mut Keeper<Task<J>, B>,
     lines: &mut [Line<J, B>],

@@ -1,23 +1,25 @@
-//! What each worker passes before it looks for its first block, and what it does while it has none.
+//! Gates: a hook before a worker's first block, for tests, and the wait of an idle thread.
 use std::sync::atomic::{AtomicBool, Ordering};
 use std::time::{Clock, Duration};
 use std::{hint, thread};
 
-/// The looks for work after which an idle thread lets others run between two looks.
+/// The number of looks for work after which an idle thread yields between two looks.
 const BUSY_LOOKS: u32 = 1_000;
 
-/// The looks after which it sleeps between two looks, where it may: a few milliseconds.
+/// The number of looks after which a thread of `NapGate` sleeps between two looks: a few
+/// milliseconds.
 const WAKEFUL_LOOKS: u32 = 10_000;
 
 /// The microseconds that it sleeps.
 const NAP: u64 = 200;
 
+/// A hook of a crew's workers. No contract depends on it.
 pub trait Gate: Drop {
-    /// Each worker calls it once in a pass, with its number, counted from 0.
+    /// Each worker calls it once in a pass, with its number counted from 0.
     fn enter(&self, worker: u32);
 
-    /// A kept thread calls it where it has found no work, and had found none so often before. Left
-    /// out, it gives way to every other thread, and takes a processor where none wants one.
+    /// A kept thread calls it when it finds no work, with the number of looks in vain before. By
+    /// default it yields to other threads, but keeps a processor busy if no other thread needs it.
     fn rest(&self, looks: u32) {
         if looks < BUSY_LOOKS {
             hint::spin_loop();
@@ -27,7 +29,7 @@ pub trait Gate: Drop {
     }
 }
 
-/// Lets every worker through.
+/// Lets each worker through at once.
 #[derive(Clone, Copy, Debug, Drop)]
 pub struct NoGate;
 
@@ -35,8 +37,8 @@ impl Gate for NoGate {
     fn enter(&self, _worker: u32) {}
 }
 
-/// Lets every worker through. A thread that is idle for a few milliseconds sleeps between its
-/// looks, so an idle crew takes a small part of a processor for each thread.
+/// Lets each worker through at once. A thread that is idle for a few milliseconds sleeps between
+/// its looks, so it uses only a small part of a processor.
 #[derive(Drop)]
 pub struct NapGate<R: Clock + Drop> {
     pub clock: R,
@@ -56,11 +58,10 @@ impl<R: Clock + Drop> Gate for NapGate<R> {
     }
 }
 
-/// The turns for which a worker waits for the other.
+/// The most turns for which a worker waits for the other.
 const MOST_TURNS: u32 = 100_000_000;
 
-/// Holds the workers 0 and 1 until each has seen the other come, for a while at most. It is made
-/// for tests.
+/// Holds the workers 0 and 1 until each has seen the other, up to a limit. It is for tests.
 #[derive(Drop)]
 pub struct MeetGate {
     first_came: AtomicBool,
@@ -70,6 +71,7 @@ pub struct MeetGate {
 }
 
 impl MeetGate {
+    /// A gate through which neither worker has come.
     pub fn new() -> MeetGate {
         MeetGate {
             first_came: AtomicBool::new(false),
@@ -79,13 +81,13 @@ impl MeetGate {
         }
     }
 
-    /// Whether each of the two saw the other.
+    /// Whether each of the two saw the other come.
     pub fn met(&self) -> bool {
         self.first_saw.load(Ordering::SeqCst) && self.second_saw.load(Ordering::SeqCst)
     }
 }
 
-/// Tells that one worker came, and waits for the other. Only the first call waits.
+/// Signals that one worker came, and waits for the other. Only the first call waits.
 fn meet(mine: &AtomicBool, other: &AtomicBool, saw: &AtomicBool) {
     if mine.swap(true, Ordering::SeqCst) {
         return;

@@ -1,5 +1,9 @@
-//! What holds of the machine and of the rule, whatever the workers do. Each law is a function that
-//! computes nothing, and its contract is the law.
+//! Laws of the machine and of the table's rule, for any order of steps. Each law is a function that
+//! computes nothing; its contract is the law.
+//!
+//! No contract of a pass depends on these laws: each result is right by its own clause, and the
+//! caller runs each block without one. The laws state that the workers share the blocks, and that
+//! each block is claimed once.
 ghost use Rattle.std.specs.Prelude.{◌≡◌, ◌≢◌, ℕ, ◌+◌, ◌<◌, ◌≤◌, List, [], ◌∷◌, ◌++◌, length, min};
 ghost use Rattle.std.specs.Prelude.{slice_index, slice_set, Result};
 ghost use mathlib.Core.Option.{some};
@@ -20,9 +24,9 @@ ghost use Rattle.worker_pool.specs.Moves.{begun, moved, regrouped};
 
 use job::Job;
 
-/// A table that is made shows the machine's start. Each kind of step keeps the rule, and changes
-/// the state that the table shows as one event of the machine does. A claim in vain, a load that
-/// tells nothing, a split and a join are no event.
+/// A new table shows the machine's start. Each kind of step keeps the rule, and changes the shown
+/// state as one event of the machine does. A claim in vain, a load without effect, a split and a
+/// join are no events.
 pub fn steps_are_events()
     ensures begin { (blocks : ℕ) → Becomes blocks (begun blocks) start }
     ensures claim { (blocks : ℕ) (s : PoolState) (id : ℕ) (v : PoolView) (m : Machine)
@@ -59,8 +63,8 @@ pub fn steps_are_events()
         (regrouped s (slice_set (slice_set s.views id (joined v w)) other (fresh 0))) m }
 {}
 
-/// Whatever events happen and in whatever order, an ended machine gathers what one thread answers
-/// that takes the elements one after another.
+/// After any events in any order, an ended machine gathers the result of one thread that takes the
+/// elements in order. The job is a type parameter, since a clause can't range over types.
 pub fn any_schedule<J: Job>()
     ensures { (job : J) (plan : J.Plan) (carry : J.Part) (seed cycle pass : ℕ)
         (elements : List J.Element)

@@ -1,13 +1,12 @@
-//! One pass of a job over its container, on several threads.
+//! The pool of several threads, which are kept over a run and claim blocks.
 //!
-//! The workers claim blocks of elements on a table of words. Whatever they do and in whatever
-//! order, the answer is that of one thread that takes the elements one after another: each element
-//! has random words of its own, the parts are joined in the order of the elements, and of several
-//! refusals the one of the least element is answered.
+//! The workers claim blocks of elements on a table of words. Whatever their order, the result is
+//! that of one thread that takes the elements in order. Each element has its own random numbers,
+//! and the parts are joined in the order of the elements. Of several refusals, that of the first
+//! element is returned.
 //!
-//! A crew keeps its threads from pass to pass. Each result that a kept thread gives is that of a
-//! block of the pass, and a block that has no result in time is run by the caller, so nothing rests
-//! on a thread's getting on.
+//! A crew keeps its threads from pass to pass. If a kept thread has no result for a block in time,
+//! the caller runs the block itself. So no pass depends on the progress of another thread.
 #![tactic(auto)]
 
 mod bench;

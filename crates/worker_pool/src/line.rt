@@ -1,4 +1,4 @@
-//! The way to one kept thread and back.
+//! The link to one kept thread: a ring of work to it, and a ring of replies back.
 ghost use Rattle.std.specs.Prelude.{◌≡◌, ◌+◌, ◌≤◌, [], ◌∷◌, ◌++◌, IfOk, OnOk, IfSome, IsTrue};
 ghost use Rattle.std.specs.Arc.{arc_value};
 ghost use Rattle.worker_pool.specs.Handles.{view_of, IsAt, IsSameSeat};
@@ -22,22 +22,22 @@ use std::mem;
 use std::sync::Arc;
 use tickets::{Keeper, Room};
 
-/// The most replies that wait in a line.
+/// The most replies that wait in one ring.
 pub(crate) const MOST_REPLIES: usize = 2;
 
-/// The way to one kept thread and back.
+/// The caller's end of the link to one kept thread.
 #[derive(Drop)]
 pub struct Line<J: Job, B: Room> {
     pub(crate) works: Producer<Work<J, B>, Global, WorkFits>,
     pub(crate) replies: Consumer<Reply<J, B>, Global, ReplyFits>,
     /// Memory for the next work.
     pub(crate) bench: Bench<J::Element, J::Part>,
-    /// Whether the thread was given work and has not replied yet.
+    /// Whether the thread has work and hasn't replied yet.
     pub(crate) is_busy: bool,
 }
 
 impl<J: Job, B: Room> Line<J, B> {
-    /// The next reply of the thread, if it has come. From then on it can be given work.
+    /// The next reply of the thread, if there is one. After it the thread can get work again.
     fn next_reply(&mut self) -> Option<Reply<J, B>>
         ensures { IfSome result (λ reply.
             IsReply J.meaning reply.ticket.work reply.seat reply.results) }
@@ -98,8 +98,8 @@ fn reply_to<J: Job, B: Room>(work: Work<J, B>) -> Reply<J, B>
     }
 }
 
-/// Takes the next piece of work, does it and replies, and says whether there was one. A reply that
-/// finds no place is thrown away.
+/// Takes the next piece of work, does it and replies. Returns whether there was one. A reply
+/// without a place in its ring is dropped.
 fn serve_next<J: Job, B: Room, G: Gate>(
     worker: u32,
     gate: &G,
@@ -119,7 +119,7 @@ fn serve_next<J: Job, B: Room, G: Gate>(
     true
 }
 
-/// What a kept thread does until the other end of its line is gone.
+/// The loop of a kept thread, which ends when the other end of its ring is dropped.
 pub(crate) fn serve<J: Job, B: Room, G: Gate>(
     worker: u32,
     gate: Arc<G, Global>,
@@ -139,8 +139,9 @@ pub(crate) fn serve<J: Job, B: Room, G: Gate>(
     }
 }
 
-/// Gives a task to a kept thread, with one of the seat's shares, and says whether it was given. A
-/// thread that is still at an earlier task gets none, so it is waited for once and not in each pass.
+/// Gives a task and one of the seat's shares to a kept thread, and returns whether it was given. A
+/// thread that still runs an earlier task gets none, so the crew waits for it once and not in each
+/// pass.
 pub(crate) fn give<J: Job, B: Room>(
     keeper: &mut Keeper<Task<J>, B>,
     line: &mut Line<J, B>,
@@ -176,7 +177,7 @@ pub(crate) fn give<J: Job, B: Room>(
     line.is_busy
 }
 
-/// Adds results to those found, and leaves the memory of their list.
+/// Adds results to those found, and puts their empty list in `left`.
 fn add_results<T: Drop>(
     found: &mut Vec<T>,
     mut more: Vec<T>,
@@ -189,8 +190,8 @@ fn add_results<T: Drop>(
     Ok(())
 }
 
-/// Adds the results that a reply to the task announced last brings. Its seat is joined to the
-/// caller's, and its memory comes back to the bench.
+/// Adds the results of a reply to the task announced last. Its seat is joined to the caller's, and
+/// its memory goes back to the bench.
 fn add_reply<J: Job, B: Room>(
     keeper: &mut Keeper<Task<J>, B>,
     bench: &mut Bench<J::Element, J::Part>,
@@ -225,7 +226,7 @@ fn add_reply<J: Job, B: Room>(
     add_results(found, results, &mut bench.results)
 }
 
-/// Takes the memory of a reply that came too late: its room, and its results with their blocks.
+/// Keeps the memory of a reply that came too late: its room, and its results with their blocks.
 fn keep_late<J: Job, B: Room>(bench: &mut Bench<J::Element, J::Part>, reply: Reply<J, B>) {
     let Reply {
         ticket: _,
@@ -239,7 +240,7 @@ fn keep_late<J: Job, B: Room>(bench: &mut Bench<J::Element, J::Part>, reply: Rep
     }
 }
 
-/// Takes the memory of all replies that are there, where no pass waits for them.
+/// Keeps the memory of all waiting replies. No pass may wait for them.
 pub(crate) fn clear_line<J: Job, B: Room>(line: &mut Line<J, B>) {
     for _ in 0..MOST_REPLIES {
         match line.next_reply() {
@@ -249,8 +250,8 @@ pub(crate) fn clear_line<J: Job, B: Room>(line: &mut Line<J, B>) {
     }
 }
 
-/// Adds what a kept thread has found that has replied to the task announced last, and says whether
-/// it has. Of a reply to an earlier task only the memory is taken.
+/// Adds the results of a kept thread, if it has replied to the task announced last. Returns whether
+/// it has. Of a reply to an earlier task only the memory is kept.
 pub(crate) fn take_reply<J: Job, B: Room>(
     keeper: &mut Keeper<Task<J>, B>,
     line: &mut Line<J, B>,

@@ -1,4 +1,4 @@
-//! A task for all kept threads of a crew, and their replies.
+//! One task for all kept threads of a crew, and the collection of their replies.
 ghost use Rattle.std.specs.Prelude.{◌≡◌, ◌+◌, ◌<◌, ◌≤◌, ◌^◌, [], ◌∷◌, length, IfOk};
 ghost use Rattle.std.specs.Arc.{arc_value};
 ghost use Rattle.worker_pool.specs.Handles.{view_of, IsAt, IsSameSeat};
@@ -17,16 +17,17 @@ use std::sync::Arc;
 use std::{hint, slice, thread};
 use tickets::{Keeper, Room};
 
-/// The looks for replies after which the caller runs the missing blocks itself, which is about a
-/// millisecond. When it finds no more block to claim, each other worker is at one block at most, so
-/// on a machine with a processor for each this is enough for blocks of a fifth of a millisecond and
-/// more, and on a busy one the caller soon goes on alone.
+/// The number of looks for replies after which the caller runs the missing blocks itself: about a
+/// millisecond. When no block is left to claim, each other worker runs at most one block. So with a
+/// processor for each worker this is enough for blocks of a fifth of a millisecond and more. On a
+/// busy machine the caller soon goes on by itself.
 const MOST_LOOKS: u32 = 20_000;
 
-/// The looks after which the caller lets other threads run once.
+/// The number of looks after which the caller yields once.
 const BUSY_LOOKS: u32 = 8_192;
 
-/// Gives the task to each kept thread, and says to how many. One that can't take it enters here.
+/// Gives the task to each kept thread, and returns the number of those that got it. A worker that
+/// can't get it passes the gate here.
 fn give_all<J: Job, B: Room, G: Gate>(
     keeper: &mut Keeper<Task<J>, B>,
     lines: &mut [Line<J, B>],
@@ -56,7 +57,7 @@ fn give_all<J: Job, B: Room, G: Gate>(
     given
 }
 
-/// Looks once for the reply of each kept thread, and says how many came.
+/// Looks once for the reply of each kept thread, and returns the number that came.
 fn take_replies<J: Job, B: Room>(
     keeper: &mut Keeper<Task<J>, B>,
     lines: &mut [Line<J, B>],
@@ -82,7 +83,7 @@ fn take_replies<J: Job, B: Room>(
     Ok(came)
 }
 
-/// Adds what comes while blocks are missing, as far as it comes in time.
+/// Adds the replies that come in time, while blocks are missing.
 fn collect<J: Job, B: Room>(
     keeper: &mut Keeper<Task<J>, B>,
     lines: &mut [Line<J, B>],
@@ -116,8 +117,8 @@ fn collect<J: Job, B: Room>(
     Ok(())
 }
 
-/// What the caller and the kept threads find of a task. Some blocks may be missing, but none that
-/// the caller claimed.
+/// The results of a task by the caller and the kept threads. Some blocks may be missing, but none
+/// that the caller claimed.
 pub(crate) fn work_together<J: Job, B: Room, G: Gate>(
     keeper: &mut Keeper<Task<J>, B>,
     lines: &mut [Line<J, B>],

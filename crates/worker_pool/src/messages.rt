@@ -1,4 +1,4 @@
-//! What goes to a kept thread, and what comes back.
+//! The messages to a kept thread and back, and the protocols of their rings.
 
 use crate::bench::Bench;
 use crate::seat::PassSeat;
@@ -11,7 +11,7 @@ use std::alloc::Global;
 use std::sync::Arc;
 use tickets::{Room, Ticket};
 
-/// A task, a seat at its table, a ticket for it, and memory to work in.
+/// A piece of work: a task, a seat at its table, a ticket for it, and memory to work in.
 #[derive(Drop)]
 pub struct Work<J: Job, B: Room> {
     pub ticket: Ticket<Task<J>, B>,
@@ -20,8 +20,8 @@ pub struct Work<J: Job, B: Room> {
     pub bench: Bench<J::Element, J::Part>,
 }
 
-/// A ticket that came back, with the seat, the results of the blocks that its worker claimed, and
-/// the room that it worked in.
+/// A reply: the ticket, the seat, the results of the blocks that the worker claimed, and the room
+/// that it worked in.
 #[derive(Drop)]
 pub struct Reply<J: Job, B: Room> {
     pub ticket: Ticket<Task<J>, B>,
@@ -30,7 +30,7 @@ pub struct Reply<J: Job, B: Room> {
     pub room: PassRoom<J::Element, J::Part>,
 }
 
-/// What is handed to a kept thread belongs together.
+/// The protocol of work: the ticket, the task and the seat of a message belong together.
 pub struct WorkFits;
 
 impl<J: Job, B: Room> Protocol<Work<J, B>> for WorkFits {
@@ -41,7 +41,7 @@ impl<J: Job, B: Room> Protocol<Work<J, B>> for WorkFits {
         (arc_value work.task) work.seat };
 }
 
-/// What comes back is right for the task that the ticket is for.
+/// The protocol of replies: the results are right for the task of the ticket.
 pub struct ReplyFits;
 
 impl<J: Job, B: Room> Protocol<Reply<J, B>> for ReplyFits {

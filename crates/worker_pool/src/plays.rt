@@ -1,4 +1,5 @@
-//! What each step tells the worker that makes it, as the table's steps ask for it.
+//! The facts that a worker gets from its steps on the table, in the form that `atomic_table`
+//! requires.
 ghost use Rattle.std.specs.Prelude.{ℕ};
 ghost use Rattle.worker_pool.specs.Steps.{claims, finishes, looks, reports};
 ghost use Rattle.worker_pool.specs.Views.{one_less, newcomer, joined, fresh};
@@ -7,9 +8,8 @@ use crate::view::PoolView;
 use atomic_table::{Join, Play, Split};
 use std::marker::{Brand, PhantomData};
 
-/// Where a step is made: the number of blocks, the seat's number and the block, which the step
-/// itself doesn't know. The public steps choose these, and the private ones below them carry them
-/// in a type.
+/// The place of a step: the number of blocks, the seat's number and the block. They are ghosts, so
+/// the private steps have them in a type, and the public steps choose them.
 pub trait Site {
     ghost blocks: { ℕ };
 
@@ -26,6 +26,7 @@ impl Site for Brand {
     ghost block = { 0 };
 }
 
+/// The step of `PassTable::claim`.
 pub struct Claim<B> {
     site: PhantomData<B>,
 }
@@ -34,6 +35,7 @@ impl<B: Site> Play<(), PoolView> for Claim<B> {
     ghost then = { claims B.blocks B.seat };
 }
 
+/// The step of `PassTable::finish`.
 pub struct Finish<B> {
     site: PhantomData<B>,
 }
@@ -42,6 +44,7 @@ impl<B: Site> Play<(), PoolView> for Finish<B> {
     ghost then = { finishes B.blocks B.seat B.block };
 }
 
+/// The step of `PassTable::look`.
 pub struct Look<B> {
     site: PhantomData<B>,
 }
@@ -50,6 +53,7 @@ impl<B: Site> Play<(), PoolView> for Look<B> {
     ghost then = { looks B.blocks B.seat B.block };
 }
 
+/// The step of `PassTable::report`.
 pub struct Report<B> {
     site: PhantomData<B>,
 }
@@ -58,7 +62,7 @@ impl<B: Site> Play<(), PoolView> for Report<B> {
     ghost then = { reports B.blocks B.seat B.block };
 }
 
-/// Gives one share to a new seat, and brings two seats together.
+/// Splits one share off to a new seat, and joins two seats.
 pub struct Shares;
 
 impl Split<PoolView> for Shares {

@@ -1,4 +1,4 @@
-//! One pass on threads of its own.
+//! One pass on threads of its own, for callers that keep no crew.
 ghost use Rattle.std.specs.Prelude.{◌≡◌, ◌≤◌};
 ghost use Rattle.job.specs.Passes.{IsReady, IsAnswer};
 ghost use Rattle.worker_pool.specs.Crews.{room_name};
@@ -13,7 +13,7 @@ use std::sync::Arc;
 use std::thread::Threads;
 use tickets::Room;
 
-/// Runs one pass with a crew in this room.
+/// Runs one pass with a crew started in this room.
 fn run_in_room<J, B, G, R>(
     rt: &R,
     alloc: Global,
@@ -44,9 +44,9 @@ where
 
 /// Runs one pass over all elements on a number of workers, from 1 to 64, on threads of its own.
 ///
-/// The refusal of the least element that refuses is answered, with its code. Each worker calls
-/// `gate.enter` once with its number before it looks for its first block. No more threads are
-/// started than there are blocks: a worker that can get none enters on the caller's thread.
+/// If elements refuse, the first of them and its code are returned. Each worker calls `gate.enter`
+/// once with its number before its first block. There are at most as many threads as blocks: a
+/// worker without a block passes the gate on the caller's thread.
 pub fn run_worker_pool<J, G, R>(
     rt: &R,
     alloc: Global,

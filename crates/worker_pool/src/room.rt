@@ -1,19 +1,20 @@
-//! What a crew is made of.
+//! The value from which a crew is started.
 use crate::task::Task;
 use det_values::OutOfMemory;
 use job::Job;
 use std::alloc::Global;
 use tickets::Office;
 
-/// What a crew is made of. The function that makes it names it for a function that starts a crew in
-/// it: as `run_worker_pool` does, it calls one over `B: Room` at `Brand`, and that call's ghosts
-/// are `record { table = room_name room }`.
+/// The value from which a crew is started. To start one, call a function over `B: Room` at
+/// `Brand`, as `run_worker_pool` does. The ghosts of that call are
+/// `record { table = room_name room }`, which names the room in the types of the crew.
 #[derive(Drop)]
 pub struct CrewRoom<J: Job> {
     pub(crate) office: Office<Task<J>>,
 }
 
 impl<J: Job> CrewRoom<J> {
+    /// A room for one crew.
     pub fn new(alloc: Global) -> Result<CrewRoom<J>, OutOfMemory> {
         Ok(CrewRoom {
             office: Office::new(alloc)?,

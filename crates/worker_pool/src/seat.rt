@@ -1,11 +1,11 @@
-//! The table of a pass, and a worker's seat at it.
+//! The table of a pass, a worker's seat at it, and the rule that the table keeps.
 ghost use Rattle.std.specs.Prelude.{◌≡◌, ◌+◌, ◌<◌, []};
 
 use crate::view::PoolView;
 use atomic_table::{Seat, Table, TableRule};
 use std::alloc::Global;
 
-/// The rule that holds on the table between any two steps. Its key is the number of blocks.
+/// The rule that holds on the table between two steps. Its key is the number of blocks.
 pub struct PoolRule;
 
 impl TableRule<(), PoolView, u32> for PoolRule {
@@ -17,8 +17,8 @@ impl TableRule<(), PoolView, u32> for PoolRule {
     ghost first = { λ _. fresh all_shares };
 }
 
-/// The table of one pass. Word 0 is the least block that was reported, or `u64::MAX`. Word b + 1 is
-/// 1 where block b was claimed, and 0 before.
+/// The table of one pass. Word 0 is the least reported block, or `u64::MAX`. Word b + 1 is 0 until
+/// block b is claimed, and 1 afterwards.
 #[derive(Drop)]
 pub struct PassTable {
     pub(crate) table: Table<(), PoolView, u32, PoolRule, Global>,

@@ -1,4 +1,4 @@
-//! How a table begins, and how seats are made, cut and brought together.
+//! The start of a table, and the splitting and joining of its seats.
 ghost use Rattle.std.specs.Prelude.{◌≡◌, ℕ, ◌+◌, ◌<◌, ◌≤◌, IfOk};
 ghost use Rattle.worker_pool.specs.Views.{one_less, newcomer, joined, fresh, all_shares};
 ghost use Rattle.worker_pool.specs.Handles.{view_of, block_count, IsAt, IsSameSeat};
@@ -9,12 +9,12 @@ use atomic_table::Table;
 use det_values::OutOfMemory;
 use std::alloc::Global;
 
-/// The words of a table for the most blocks that a pass has.
+/// The number of words of a table for 256 blocks, the most of a pass.
 const MOST_WORDS: usize = 257;
 
 impl PassTable {
-    /// A table on which nothing is claimed, and the seat with all shares. The words that it begins
-    /// with lie on the stack, since the table has a copy of its own.
+    /// A table without claims, and the seat with all shares. The initial words are on the stack,
+    /// since the table copies them.
     pub fn new(alloc: Global, blocks: u32) -> Result<(PassTable, PassSeat), OutOfMemory>
         requires few { blocks ≤ 256 }
         ensures { IfOk result (λ made.
@@ -28,7 +28,7 @@ impl PassTable {
         Ok((PassTable { table, blocks }, PassSeat { seat, seen: 0 }))
     }
 
-    /// Gives one of a seat's shares to a new seat that has seen nothing.
+    /// Splits one share off a seat into a new seat that has seen no block.
     pub fn split(&self, seat: &mut PassSeat) -> PassSeat
         requires here { IsAt seat.old self.now }
         requires two { 2 ≤ (view_of seat.old).shares }
@@ -43,7 +43,7 @@ impl PassTable {
         }
     }
 
-    /// Brings two seats together: one knows what both knew.
+    /// Joins two seats into one, which knows what both knew.
     pub fn join(&self, seat: &mut PassSeat, other: PassSeat)
         requires here { IsAt seat.old self.now }
         requires other { IsAt other self.now }

@@ -1,4 +1,4 @@
-//! How a crew begins and ends.
+//! The start and the end of a crew's threads.
 ghost use Rattle.std.specs.Prelude.{◌≡◌, ◌≤◌, ◌<◌, [], length, IfOk};
 ghost use Rattle.worker_pool.specs.Crews.{room_name};
 
@@ -17,12 +17,13 @@ use std::thread;
 use std::thread::{JoinHandle, Threads};
 use tickets::{Keeper, Room};
 
-/// The most threads that a crew uses, the caller's among them, where the processors can't be
-/// counted.
+/// The most threads of a crew, including the caller's. It is also the assumed number of processors
+/// if they can't be counted.
 const MOST_THREADS: usize = 64;
 
-/// The threads that so many workers use, the caller's among them: no more than there are
-/// processors, since more would only take turns, and two at least where there are two workers.
+/// The number of threads for `workers` workers, including the caller's. It is at most the number of
+/// processors, since more threads would only take turns. But with two workers or more it is at
+/// least two.
 fn threads_for<R: Threads>(rt: &R, workers: u32) -> u32
     requires { 1 ≤ workers }
     ensures some { 1 ≤ result }
@@ -35,14 +36,14 @@ fn threads_for<R: Threads>(rt: &R, workers: u32) -> u32
     workers.min(processors.clamp(2, MOST_THREADS) as u32)
 }
 
-/// A kept thread that was started.
+/// A kept thread after its start: the link to it, and its handle.
 #[derive(Drop)]
 struct Started<J: Job, B: Room> {
     line: Line<J, B>,
     handle: JoinHandle<()>,
 }
 
-/// Starts one kept thread. There is none where no thread can be had.
+/// Starts one kept thread, or returns None if the system refuses a thread.
 fn start_thread<J, B, G, R>(
     rt: &R,
     alloc: Global,
@@ -75,7 +76,7 @@ where
     Ok(Some(Started { line, handle }))
 }
 
-/// Starts a kept thread for each worker but the caller, as long as threads can be had.
+/// Starts a kept thread for each worker except the caller, until the system refuses one.
 fn start_threads<J, B, G, R>(
     rt: &R,
     alloc: Global,
@@ -119,9 +120,10 @@ where
     B: Room + Send + Sync + 'static,
     G: Gate + Send + Sync + 'static,
 {
-    /// A crew of so many workers: the caller, and a kept thread for each of the others, as far as
-    /// there are processors for them. Where threads can't be had there are fewer, and no answer
-    /// changes. A worker without a thread enters on the caller's, behind the others.
+    /// A crew of `workers` workers: the caller, and a kept thread for each other worker while there
+    /// are processors for them. If the system refuses threads there are fewer, and no result
+    /// changes. A worker without a thread passes the gate on the caller's thread, after the others.
+    /// The gate is behind an `Arc`, since the threads outlive this call.
     pub fn start<R: Threads>(
         rt: &R,
         alloc: Global,
@@ -155,7 +157,7 @@ where
         }
     }
 
-    /// Ends the crew. None of its threads is left running.
+    /// Ends the crew: it joins all threads.
     pub fn stop<R: Threads>(self, rt: &R) {
         let Crew {
             keeper: _,
@@ -164,7 +166,7 @@ where
             workers: _,
             gate: _,
         } = self;
-        // A thread ends when its line is gone.
+        // A thread ends when the other end of its ring is dropped.
         drop(lines);
         for handle in handles {
             handle.join(rt);

@@ -1,5 +1,5 @@
-//! The steps of a worker on the table. Each is one atomic step on one word, takes no memory, and
-//! changes the view of its own seat alone. It keeps the rule: it is a `Turn` of the table.
+//! The steps of a worker on the table. Each is one atomic step on one word, allocates nothing, and
+//! changes only the view of its own seat. It keeps the rule: it is a `Turn` of the table.
 ghost use Rattle.std.specs.Prelude.{◌≡◌, ℕ, ◌+◌, ◌<◌, ◌≤◌, min, MatchOption, IsTrue};
 ghost use Rattle.worker_pool.specs.declared.view.Mark.TheVariants.{Open, Finished, Reported};
 ghost use Rattle.worker_pool.specs.declared.view.Mark.TheVariants.{Skipped};
@@ -12,8 +12,8 @@ use crate::seat::{PassSeat, PassTable};
 use std::marker::Brand;
 
 impl PassSeat {
-    /// The number of blocks that the seat has seen: each of them was tried, by this worker or by
-    /// one whose seat was joined to its own.
+    /// The number of blocks that the seat has seen. Each was tried by this worker, or by one whose
+    /// seat was joined to its own.
     pub fn seen(&self) -> u32
         ensures { result ≡ (view_of self.now).seen }
     {
@@ -29,8 +29,9 @@ impl PassTable {
         self.blocks
     }
 
-    /// Tries the block after those that the seat has seen, by one `swap`. The answer is the block
-    /// where it was free, and None where it stands in the view of another seat.
+    /// Tries the block after those that the seat has seen, by one `swap`. Returns the block if it
+    /// was free, or None if another seat has claimed it. A separate range for each worker would be
+    /// kinder to caches, but needs another rule for the table, and so other laws.
     pub fn claim(&self, seat: &mut PassSeat) -> Option<u32>
         requires here { IsAt seat.old self.now }
         requires more { (view_of seat.old).seen < block_count self.now }
@@ -67,7 +68,7 @@ impl PassTable {
         if found == 0 { Some(block) } else { None }
     }
 
-    /// Marks an Open block as finished: none of its elements refused.
+    /// Marks an Open block as Finished: none of its elements refused.
     pub fn finish(&self, seat: &mut PassSeat, block: u32)
         requires here { IsAt seat.old self.now }
         requires open { Stands block Open (view_of seat.old).entries }
@@ -90,8 +91,8 @@ impl PassTable {
         self.table.shared.load::<Finish<B>>(&mut seat.seat, 0);
     }
 
-    /// Loads the least block that was reported. An Open block above it is skipped, and the answer
-    /// is true.
+    /// Loads the least reported block. If the Open block is above it, the step marks it as Skipped
+    /// and returns true.
     pub fn look(&self, seat: &mut PassSeat, block: u32) -> bool
         requires here { IsAt seat.old self.now }
         requires open { Stands block Open (view_of seat.old).entries }
@@ -125,7 +126,8 @@ impl PassTable {
         least < u64::from(block)
     }
 
-    /// Marks an Open block as one that refuses, and tells the others by one `fetch_min`.
+    /// Marks an Open block as Reported, and shows the refusal to the other workers by one
+    /// `fetch_min`.
     pub fn report(&self, seat: &mut PassSeat, block: u32)
         requires here { IsAt seat.old self.now }
         requires open { Stands block Open (view_of seat.old).entries }

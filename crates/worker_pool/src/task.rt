@@ -1,4 +1,4 @@
-//! What a crew works at.
+//! The data that a crew's threads share in a pass, which may outlive it.
 ghost use Rattle.std.specs.Prelude.{◌≡◌, IfOk};
 
 use crate::seat::PassTable;
@@ -8,7 +8,7 @@ use std::alloc::Global;
 use std::marker::Model;
 use std::sync::Arc;
 
-/// A pass that a thread may hold as long as it likes, since it has owners of its own.
+/// A pass that a thread may hold as long as it needs, since it owns its data.
 #[derive(Drop)]
 pub struct HeldPass<J: Job> {
     pub job: Arc<J, Global>,
@@ -42,7 +42,7 @@ impl<J: Job> Model for HeldPass<J> {
 }
 
 impl<J: Job> HeldPass<J> {
-    /// The same pass, with owners of its own.
+    /// The same pass with its own owners of the data.
     pub fn of(pass: &PassOf<'_, J>) -> Result<HeldPass<J>, OutOfMemory>
         ensures { IfOk result (λ held. held ≡ pass.now) }
     {
@@ -59,7 +59,7 @@ impl<J: Job> HeldPass<J> {
         })
     }
 
-    /// The pass, lent.
+    /// The pass, borrowed.
     pub fn pass(&self) -> PassOf<'_, J>
         ensures { result ≡ self.now }
     {
@@ -77,7 +77,7 @@ impl<J: Job> HeldPass<J> {
     }
 }
 
-/// A pass, and the table on which its blocks are claimed.
+/// A pass, and the table on which the workers claim its blocks.
 #[derive(Drop)]
 pub struct Task<J: Job> {
     pub pass: HeldPass<J>,

@@ -1,16 +1,17 @@
-//! What a worker knows of the pass. No value of these types is made: they are the views of seats.
+//! The ghost views of seats: the facts that a worker knows of a pass. No value of these types
+//! exists at run time.
 use std::collections::LinkedList;
 
-/// What became of a claimed block.
+/// The state of a claimed block.
 #[derive(Clone, Copy)]
 pub enum Mark {
-    /// Its elements are being run, or were given up where memory was short.
+    /// Its elements are being run, or were given up for lack of memory.
     Open,
     /// None of its elements refused.
     Finished,
     /// One of its elements refused.
     Reported,
-    /// It was left, since a block below it refused.
+    /// It was not run, since a block below it refused.
     Skipped,
 }
 
@@ -23,10 +24,10 @@ pub struct PoolEntry {
 
 /// The view of a seat.
 pub struct PoolView {
-    /// The blocks that were claimed with this seat, or with one that was joined to it.
+    /// The blocks that were claimed with this seat or with one joined to it.
     pub entries: LinkedList<PoolEntry>,
-    /// Each block below it was tried, with this seat or with one that was joined to it.
+    /// Each block below this number was tried with this seat or with one joined to it.
     pub seen: u64,
-    /// For how many workers the seat may be cut.
+    /// The number of workers for which the seat may be split.
     pub shares: u64,
 }

@@ -1,4 +1,4 @@
-//! What one worker does.
+//! The work of one worker in a pass: it claims blocks and runs them.
 ghost use Rattle.std.specs.Prelude.{◌≡◌, [], ◌+◌, ◌<◌, ◌≤◌, ◌⊎◌, IfOk, OnErr, IsTrue};
 ghost use Rattle.job.specs.Passes.{IsReady, block_in, blocks_in};
 ghost use Rattle.pass_in_blocks.specs.Answers.{AreRight, AreShown};
@@ -13,8 +13,9 @@ use det_values::OutOfMemory;
 use job::{Job, PassOf, PassRoom};
 use pass_in_blocks::{BlockResult, BlockResults, run_block};
 
-/// Tries the next block, runs it, and says whether to go on. A block above a known refusal is
-/// skipped.
+/// Tries to claim the next block and runs it. Returns whether to go on. A block above a known
+/// refusal is skipped. The worker looks for a refusal once a block and not once an element, since a
+/// look loads memory that all processors share.
 fn try_block<J: Job>(
     table: &PassTable,
     seat: &mut PassSeat,
@@ -55,8 +56,8 @@ fn try_block<J: Job>(
     }
 }
 
-/// No results, in the memory of this list. It gets room for so many at once; where that is refused
-/// it grows.
+/// An empty list of results in the memory of `list`. It reserves room for `count` results at once;
+/// if that fails, it grows later.
 fn emptied<E: Drop, P: Drop>(mut list: Vec<BlockResult<E, P>>, count: usize) -> BlockResults<E, P>
     ensures { result ≡ [] }
 {
@@ -67,8 +68,7 @@ fn emptied<E: Drop, P: Drop>(mut list: Vec<BlockResult<E, P>>, count: usize) -> 
 
 /// Claims and runs blocks until each block of the pass was tried, or a refusal is known.
 ///
-/// Where memory is short the worker stops with the block Open that it was at, and its results are
-/// lost.
+/// If memory runs out, the worker stops, its block stays Open, and its results are lost.
 pub fn work_blocks<J: Job>(
     table: &PassTable,
     seat: &mut PassSeat,
@@ -88,7 +88,7 @@ pub fn work_blocks<J: Job>(
     ensures shares { (view_of seat.new).shares ≡ (view_of seat.old).shares }
     ensures all_tried { IfOk result (λ results.
         ((view_of seat.new).seen ≡ block_count table.now) ⊎ Stops (view_of seat.new).entries) }
-    // The last entry is the Open one, and the others are as they would be after Ok.
+    // The last entry is Open, and the others are as after Ok.
     ensures given_up { OnErr result ((before : PoolView)
         × Tidy (block_in J.meaning pass.now) before
         × (before.seen < block_count table.now) × (view_of seat.new ≡ taken before)) }

@@ -108,7 +108,8 @@ uint32_t det_block_count(uint32_t len);
 /* ---- Windows of events ----
  *
  * `places` has room for two times the capacity, and `count` tells for how many. The first `seen`
- * are what the window shows, oldest first; what arrives stands behind the first `capacity`. */
+ * are what the window shows, oldest first; what arrives stands behind the first `capacity`. No call
+ * changes the places after the first two times the capacity. */
 
 /* Makes an empty window. False where the capacity isn't 1 to 1,024 or the policy isn't 0 or 1. */
 bool det_window_new(DetWindow *window, uint16_t capacity, uint8_t policy);

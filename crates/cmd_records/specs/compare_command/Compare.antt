@@ -1,4 +1,4 @@
--- What `compare` gives of copies of a record.
+-- The outcome of `compare`, by copies of a record.
 use Rattle.std.specs.Prelude.{ℕ, List, Result, Ok, Err}
 use Rattle.copies.specs.declared.verdict.BadCopy.{BadCopy}
 use Rattle.copies.specs.declared.verdict.Verdict.{Verdict}
@@ -17,6 +17,6 @@ abbrev pub compared : Result Verdict BadCopy → Outcome
 compared (Ok v) = record { answer = answer_to v; bytes = verdict_line v }
 compared (Err bad) = refusal (BadRecord bad.copy bad.fault)
 
--- the line of the verdict on the copies, or the first bad one
+-- the line of the verdict on the copies, or the fault of the first bad one
 abbrev pub compare_outcome : List (List ℕ) → Outcome
 compare_outcome copies = compared (verdict copies)

@@ -5,13 +5,13 @@ use Rattle.det_io.specs.Shelf.{ShelfState}
 
 pub record Opened (before after : ShelfState) (names : List (List ℕ)) (slots : List ℕ)
     : Type 0 where
-  -- the slots are the next ones of the shelf, one for each name in their order
+  -- the slots are the next ones of the shelf, in the order of the names
   pub numbered : slots ≡ range_with_len before.slots (length names)
   pub count : after.slots ≡ before.slots + length names
-  -- the shelf has given the slots
+  -- the shelf has these slots
   pub given : All (λ slot. slot < after.slots) slots
   -- they all differ
   pub apart : AllPairs (λ slot other. slot ≢ other) slots
-  -- each has all bytes of its name left, where these are told
+  -- each slot has all bytes of its name left, if they are known
   pub left : AllZip
       (λ name slot. IfSome (before.holds name) (λ bytes. after.left slot ≡ Some bytes)) names slots

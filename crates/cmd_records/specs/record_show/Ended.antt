@@ -1,4 +1,4 @@
--- How the printing of a record ends.
+-- What is true when the printing of a record ends.
 use Rattle.std.specs.Prelude.{◌≡◌, ◌⊎◌, ℕ, List, [], ◌++◌, length, Some, None, Result, Ok, Err}
 use Rattle.std.specs.Prelude.{OnOk}
 use Rattle.det_values.specs.declared.frames.RunFrame.{RunFrame}
@@ -32,7 +32,7 @@ pub record IsShown (shown : Shown) (part : ShowPart) (audience : AudienceState)
   pub grew : Grew out.before out.after (text_of part audience record_bytes)
   pub cycles : shown.cycles ≡ length (runs_in (items_in record_bytes))
 
--- what an answer says of a record, and of what the sink took
+-- what a result says of a record, and of what the sink took
 abbrev pub Answers : Result Shown (Stopped RecordFault) → ShowPart → AudienceState → List ℕ
     → SinkRun → Type 0
 Answers (Ok shown) part audience record_bytes out = IsShown shown part audience record_bytes out
@@ -57,27 +57,27 @@ pub record SawFirst (part : ShowPart) (old now : AudienceState) (record_bytes : 
   pub lines : IsPrefix (lines_of part seen) taken
   pub grew : Grew before after taken
 
--- The same at an answer: where the record is whole the audience has seen all its runs and reported
--- of them, and no probe is left. Where memory was wanting nothing is said: some probes may have
--- seen one run more, or be gone.
+-- The same for each result. If the record is whole, the audience has seen all its runs and reported
+-- on them, and no probe is left. Nothing is said after "out of memory": some probes may have seen
+-- one run more, or have left.
 abbrev pub Sees : Result Shown (Stopped RecordFault) → ShowPart → AudienceState → AudienceState
     → List ℕ → SinkRun → Type 0
 Sees (Err (Failed OutOfMemory)) part old now record_bytes out = Unit {0}
 Sees result part old now record_bytes out =
     SawFirst part old now record_bytes out.before out.after
 
--- all reports are given and no probe is left, unless one run alone is printed
+-- all reports are given and no probe is left, unless only one run is printed
 abbrev pub Finished : ShowPart → AudienceState → AudienceState → List RunFrame → Type 0
 Finished All old now runs = now ≡ record { seeing = []; left = reported old runs }
 Finished Reports old now runs = now ≡ record { seeing = []; left = reported old runs }
 Finished (Cycle number) old now runs = now ≡ old
 
--- no probe is left, unless one run alone is printed
+-- no probe is left, unless only one run is printed
 abbrev pub IsGone : ShowPart → AudienceState → Type 0
 IsGone (Cycle number) now = Unit {0}
 IsGone part now = now.seeing ≡ []
 
--- the reports were printed, where there are any, or the audience or the sink failed
+-- the reports, if there are any, were printed, or the audience or the sink failed
 abbrev pub FinishIs : Result Shown (Stopped RecordFault) → ShowPart → ℕ → AudienceState
     → AudienceState → SinkRun → Type 0
 FinishIs (Ok shown) part cycles old now out = (shown.cycles ≡ cycles) × Finished part old now []
@@ -89,7 +89,7 @@ FinishIs (Err stop) part cycles old now out = ⊥
 
 -- ---- the whole
 
--- how far a record was read: to its end, or as far as its fault shows whatever follows
+-- how far a record was read: to its end, or until its fault is certain whatever follows
 abbrev pub ReadsTo : Result Shown (Stopped RecordFault) → List ℕ → Type 0 → Type 0
 ReadsTo (Ok shown) read at_end = at_end
 ReadsTo (Err (Refused fault)) read at_end =
@@ -97,13 +97,13 @@ ReadsTo (Err (Refused fault)) read at_end =
 ReadsTo (Err (Failed Read)) read at_end = fault_so_far read ≡ None
 ReadsTo (Err stop) read at_end = Unit {0}
 
--- where a read failed, the lines of all items of the bytes read were taken
+-- if a read failed, the lines of all items in the bytes that were read were taken
 abbrev pub WroteRead : Result Shown (Stopped RecordFault) → ShowPart → List ℕ → SinkRun → Type 0
 WroteRead (Err (Failed Read)) part read out =
     Grew out.before out.after (lines_of part (items_in read))
 WroteRead result part read out = Unit {0}
 
--- the answer after these bytes were read
+-- the result after these bytes were read
 pub record Ended (result : Result Shown (Stopped RecordFault)) (part : ShowPart)
     (old now : AudienceState) (read : List ℕ) (shelf : ShelfRun) (slot : ℕ) (out : SinkRun)
     : Type 0 where

@@ -14,39 +14,39 @@ use Rattle.record_text.specs.declared.part.ShowPart.TheVariants.{All, Reports, C
 use Rattle.record_text.specs.Records.{run_lines, record_lines}
 use Rattle.probes.specs.Reports.{AudienceState, reported}
 
--- the format that a record's header tells
+-- the format in a record's header
 abbrev pub format_in : List Item → Format
 format_in (items.Header profile ∷ rest) = profile.format
 format_in other = One
 
--- the lines of the Run frame of this number, counted from 1, or nothing where it isn't there
+-- the lines of the Run frame of this cycle, counted from 1, or nothing if there is none
 abbrev pub cycle_lines : ℕ → List Item → List ℕ
 cycle_lines zero xs = []
 cycle_lines (suc before) xs =
     let lines = run_lines (format_in xs) (suc before) in
     unwrap_or (option_map lines (slice_get (runs_in xs) before)) []
 
--- the lines that are printed of items
+-- the lines that are printed for items
 abbrev pub lines_of : ShowPart → List Item → List ℕ
 lines_of All xs = record_lines xs
 lines_of Reports xs = []
 lines_of (Cycle number) xs = cycle_lines number xs
 
--- one run alone is printed without reports
+-- whether reports are printed, which they aren't for only one run
 abbrev pub has_reports : ShowPart → Bool
 has_reports (Cycle number) = false
 has_reports other = true
 
--- what an audience reports behind them
+-- what an audience reports after the lines
 abbrev pub reports_of : ShowPart → AudienceState → List RunFrame → List ℕ
 reports_of part audience runs = if has_reports part then reported audience runs else []
 
--- the lines of items, and behind those of a whole record what the audience reports of its runs
+-- the lines of items and, after those of a whole record, what the audience reports of its runs
 abbrev pub text_from : ShowPart → AudienceState → List Item → Option RecordFault → List ℕ
 text_from part audience xs None = lines_of part xs ++ reports_of part audience (runs_in xs)
 text_from part audience xs (Some fault) = lines_of part xs
 
--- the text of a part of a record: the lines of its items, and reports where it is whole
+-- the text of a part of a record: the lines of its items, and reports if it is whole
 abbrev pub text_of : ShowPart → AudienceState → List ℕ → List ℕ
 text_of part audience record_bytes =
     text_from part audience (items_in record_bytes) (fault_in record_bytes)

@@ -1,4 +1,4 @@
--- How salvaging ends, by what it ought to give, and what an audience has seen then.
+-- What is true when salvaging ends: of the outcome, and of what an audience has seen.
 use Rattle.std.specs.Prelude.{◌≡◌, ℕ, List, [], Result, Ok, Err, OnOk}
 use Rattle.det_io.specs.declared.failure.Failure.TheVariants.{Read, OutOfMemory}
 use Rattle.det_io.specs.declared.failure.Stopped.{Stopped}
@@ -17,7 +17,7 @@ use Rattle.cli_answers.specs.declared.answer.Answer.TheVariants.{Done, BadRecord
 use Rattle.cli_answers.specs.Outcome.{Outcome}
 use Rattle.cmd_records.specs.salvage_command.Salvage.{salvage_reports_outcome}
 
--- what an answer says of the outcome, and of what the sink took of it
+-- what a result says of the outcome, and of how much of it the sink took
 abbrev pub Gives : {T : Type 0} → Result T (Stopped RecordFault) → Outcome → SinkRun → Type 0
 Gives (Ok value) wanted out = (wanted.answer ≡ Done) × Grew out.before out.after wanted.bytes
 Gives (Err (Refused f)) wanted out =
@@ -30,15 +30,15 @@ pub record SawFirst (old now : AudienceState) (record_bytes : List ℕ) : Type 0
   pub first : IsPrefix seen (items_in record_bytes)
   pub saw : SawRuns old now (runs_in seen)
 
--- the same at an answer; where memory was wanting nothing is said: some probes may have seen one
--- run more, or be gone
+-- The same for each result. Nothing is said after "out of memory": some probes may have seen one
+-- run more, or have left.
 abbrev pub Sees : Result (Unit {0}) (Stopped RecordFault) → AudienceState → AudienceState → List ℕ
     → Type 0
 Sees (Err (Failed OutOfMemory)) old now record_bytes = Unit {0}
 Sees result old now record_bytes = SawFirst old now record_bytes
 
--- the answer after these bytes were read; where it is Ok no probe is left, and where a read failed
--- nothing was written
+-- The result after these bytes were read. If it is Ok, no probe is left. If a read failed, nothing
+-- was written.
 pub record Ended (result : Result (Unit {0}) (Stopped RecordFault)) (old now : AudienceState)
     (read : List ℕ) (shelf : ShelfRun) (slot : ℕ) (out : SinkRun) : Type 0 where
   pub gives : OfSlot shelf slot read

@@ -1,4 +1,5 @@
--- What `salvage` gives by the bytes of a record: the record made whole, or reports of its runs.
+-- The outcome of `salvage`, by the bytes of a record: the record made whole, or reports of its
+-- runs.
 use Rattle.std.specs.Prelude.{ℕ, List, [], ◌++◌, Option, Some, None, Result, Ok, Err, codes}
 use Rattle.std.specs.Option.{option_map}
 use Rattle.det_io.specs.declared.failure.Stopped.{Stopped}
@@ -15,8 +16,7 @@ use Rattle.cli_answers.specs.declared.answer.Answer.TheVariants.{Done, BadRecord
 use Rattle.cli_answers.specs.Answers.{failed, by_fault}
 use Rattle.cli_answers.specs.Outcome.{Outcome, text_outcome, refusal}
 
--- the bytes that are given where something is saved, and else the fault that a record has of which
--- nothing is
+-- the bytes that are written if something is saved, or else the refusal by the record's fault
 abbrev pub outcome_by : Option (List ℕ) → Option RecordFault → Outcome
 outcome_by (Some bytes) end = text_outcome bytes
 outcome_by None end = refusal (by_fault end)
@@ -25,18 +25,18 @@ outcome_by None end = refusal (by_fault end)
 abbrev pub salvage_outcome : List ℕ → Outcome
 salvage_outcome record_bytes = outcome_by (salvaged record_bytes) (fault_in record_bytes)
 
--- how many runs are saved of these items, and what an audience reports of them
+-- the number of runs that are saved of these items, and what an audience reports of them
 abbrev pub salvaged_text : AudienceState → List Item → List ℕ
 salvaged_text audience xs =
     number_line (codes "salvaged") (cycles_of xs) ++ reported audience (runs_in xs)
 
--- this text in place of the salvaged record
+-- the same with this text in place of the record
 abbrev pub salvage_reports_outcome : AudienceState → List ℕ → Outcome
 salvage_reports_outcome audience record_bytes =
     outcome_by (option_map (λ saved. salvaged_text audience (items_in record_bytes))
     (salvaged record_bytes)) (fault_in record_bytes)
 
--- what a command answers by the end of the salvaging
+-- the answer of the command by its result
 abbrev pub answer_of : {T : Type 0} → Result T (Stopped RecordFault) → Answer
 answer_of (Ok value) = Done
 answer_of (Err (Refused f)) = BadRecord 0 f

@@ -1,4 +1,4 @@
--- A watch and an audience, to which the items of a record are given.
+-- The state of a watch and an audience, to which the items of a record are passed.
 use Rattle.std.specs.Prelude.{◌≡◌, ◌+◌, ◌||◌, List, [], Some}
 use Rattle.std.specs.List.{list_any}
 use Rattle.det_io.specs.Traffic.{SinkRun}
@@ -14,7 +14,7 @@ use Rattle.probes.specs.Reports.{AudienceState}
 use Rattle.probes.specs.Shows.{Shows}
 use Rattle.cmd_records.specs.declared.salvage_command.watch.Watch.{Watch}
 
--- these items were noted, and their runs shown to an audience
+-- these items were noted, and their runs were shown to an audience
 pub record Watched (first now : AudienceState) (watch : Watch) (given : List Item) : Type 0 where
   pub headed : IsHeaded given
   pub has_begun : watch.has_begun ≡ list_any is_init given
@@ -26,7 +26,7 @@ pub record Noted (kind : ItemKind) (old new : Watch) : Type 0 where
   pub has_begun : new.has_begun ≡ (begins_runs kind || old.has_begun)
   pub cycles : new.cycles ≡ old.cycles + runs_of kind
 
--- a watch and an audience as a taker, which writes nothing
+-- a watch and an audience as a taker of items, which writes nothing
 abbrev pub watching : AudienceState → AudienceState → Watch → Taking RecordFault
 watching first now watch = record {
   fault_of = Some;
@@ -35,7 +35,7 @@ watching first now watch = record {
   stopped = λ stop given item. Unit {0};
 }
 
--- where nothing is written
+-- a sink to which nothing is written
 abbrev pub no_sink : SinkRun
 no_sink = record {
   before = λ bytes. bytes ≡ [];

@@ -1,4 +1,4 @@
--- What `show` gives by the bytes of a record: its text, and whether it is whole.
+-- The outcome of `show`, by the bytes of a record: its text, and whether it is whole.
 use Rattle.std.specs.Prelude.{ℕ, List, Result, Ok, Err}
 use Rattle.det_io.specs.declared.failure.Stopped.{Stopped}
 use Rattle.det_io.specs.declared.failure.Stopped.TheVariants.{Refused, Failed}
@@ -13,14 +13,14 @@ use Rattle.cli_answers.specs.declared.answer.Answer.TheVariants.{Done, BadRecord
 use Rattle.cli_answers.specs.Answers.{failed, by_fault}
 use Rattle.cli_answers.specs.Outcome.{Outcome}
 
--- a part of the record's text, with what the audience reports of its runs
+-- a part of the record's text, and what the audience reports of its runs
 abbrev pub show_outcome : ShowPart → AudienceState → List ℕ → Outcome
 show_outcome part audience record_bytes = record {
   answer = by_fault (fault record_bytes);
   bytes = text_of part audience record_bytes;
 }
 
--- what the command answers by the end of the printing
+-- the answer of the command by its result
 abbrev pub answer_of : Result Shown (Stopped RecordFault) → Answer
 answer_of (Ok shown) = Done
 answer_of (Err (Refused f)) = BadRecord 0 f

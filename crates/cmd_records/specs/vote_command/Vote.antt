@@ -1,4 +1,4 @@
--- What `vote` gives of copies of a record.
+-- The outcome of `vote`, by copies of a record.
 use Rattle.std.specs.Prelude.{◌≡◌, ℕ, ◌+◌, ◌<◌, ◌⊎◌, true, List, [], ◌++◌, length, get_or, map}
 use Rattle.std.specs.Prelude.{codes, decimal, Option, Some, None, Result, Ok, Err}
 use Rattle.std.specs.List.{flat_map}
@@ -20,11 +20,11 @@ use Rattle.cli_answers.specs.Answers.{failed}
 use Rattle.cli_answers.specs.Ends.{Work, writes_alone}
 use Rattle.cli_answers.specs.Outcome.{Outcome, text_outcome, refusal, told}
 
--- it takes the majority of copies
+-- a command that takes the majority of copies
 abbrev pub vote_work : Work
 vote_work = record writes_alone { votes = true }
 
--- what a vote is answered
+-- the answer by the result of a vote
 abbrev pub answer_of : Result Vote (Stopped voting.NoMajority) → Answer
 answer_of (Ok vote) = Done
 answer_of (Err (Refused split)) = NoMajority split.row
@@ -60,14 +60,14 @@ dissent_by (Some whole) copies =
     text_outcome (dissent_text (cycles_of whole) (dissent whole 0 copies))
 dissent_by None copies = refusal (NoMajority (length (common copies)))
 
--- what is printed in place of the record
+-- the outcome of `vote --dissent`
 abbrev pub dissent_outcome : List (List ℕ) → Outcome
 dissent_outcome copies = dissent_by (majority copies) copies
 
 -- ---- a read that failed
 
--- All that was read of the copy under one of these names shows these rows, and neither a row more
--- nor a fault; the rest is left of its slot.
+-- All that was read of the copy under one of these names shows these rows, and neither a further
+-- row nor a fault. The rest is left in its slot.
 pub record CopyShows (first last : ShelfState) (names : List (List ℕ)) (rows : List Item)
     : Type 0 where
   pub copy : ℕ
@@ -79,8 +79,8 @@ pub record CopyShows (first last : ShelfState) (names : List (List ℕ)) (rows :
   pub items : items_in read ≡ rows
   pub sound : fault_so_far read ≡ None
 
--- Where a read failed, `out` took all rows that one copy shows so far, with which more than half of
--- the copies begin; or a name couldn't be opened, and there are none.
+-- If a read failed, `out` took all rows that one copy shows so far, with which more than half of
+-- the copies begin. If a name couldn't be opened, there are no rows.
 pub record VoteBreaksOff (first last : ShelfState) (names : List (List ℕ))
     (before after : List ℕ → Type 0) : Type 0 where
   pub rows : List Item

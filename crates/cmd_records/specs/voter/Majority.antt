@@ -1,4 +1,4 @@
--- The majority of copies of a record, and how far more than half of them are equal.
+-- The majority of copies of a record, and the rows that more than half of them have in common.
 use Rattle.std.specs.Prelude.{ℕ, ◌+◌, List, [], ◌∷◌, ◌++◌, length, map, Bool, true, false, ◌&&◌}
 use Rattle.std.specs.Prelude.{nat_le, nat_lt, find, Option, if◌then◌else◌}
 use Rattle.std.specs.List.{count_by, starts_with}
@@ -25,12 +25,12 @@ is_record given copy = is_none (fault copy) && pointwise item.eq-value.it given 
 abbrev pub is_majority : List (List ℕ) → List Item → Bool
 is_majority copies given = is_most (count_by (is_record given) copies) (length copies)
 
--- the items of the record that more than half of the copies are; there is one at most
+-- the items of the record that more than half of the copies are; there is at most one
 abbrev pub majority : List (List ℕ) → Option (List Item)
 majority copies = find (is_majority copies) (map items_in copies)
 
--- The copies, counted on from `copy`, that aren't the record of these items, each with the first
--- row in which it differs from it: the one behind the items that both begin with.
+-- The copies, counted on from `copy`, that aren't the record of these items. Each has the first row
+-- in which it differs, which is the one after the items with which both begin.
 abbrev pub dissent : (whole : List Item) → ℕ → List (List ℕ) → List Dissenter
 dissent whole copy [] = []
 dissent whole copy (other ∷ others) =
@@ -46,7 +46,7 @@ are_held copies given =
     is_most (count_by (λ copy. starts_with item.eq-value.it (items_in copy) given) copies)
     (length copies)
 
--- the given items and those behind them, as far as more than half of the copies begin with them
+-- `given` and the items after it, as far as more than half of the copies begin with them
 abbrev pub held : List (List ℕ) → (given behind : List Item) → List Item
 held copies given [] = given
 held copies given (next ∷ behind) = if are_held copies (given ++ next ∷ []) then
@@ -58,7 +58,7 @@ longest [] = []
 longest (first ∷ others) =
     if nat_le (length (longest others)) (length first) then first else longest others
 
--- the most items with which more than half of the copies begin
+-- the longest list of items with which more than half of the copies begin
 abbrev pub common : List (List ℕ) → List Item
 common copies = longest (map (λ copy. held copies [] (items_in copy)) copies)
 

@@ -1,4 +1,4 @@
--- Copies that are in step or left, and the rows that they hold.
+-- Copies that are in step or have left, and the rows that they hold.
 use Rattle.std.specs.Prelude.{◌≡◌, ℕ, ◌+◌, ◌<◌, List, [], ◌∷◌, length, get_or, Bool, true}
 use Rattle.std.specs.Prelude.{false, cond, map, take, Option, Some, None, Result, Ok, Err, is_none}
 use Rattle.std.specs.List.{count_by, Contains}
@@ -31,23 +31,23 @@ use Rattle.cmd_records.specs.voter.Voted.{ShowsRows}
 
 -- ---- rows
 
--- whether two copies hold equal rows; a fault equals nothing, and one that left holds none
+-- whether two copies hold equal rows; a fault equals nothing, and a copy that left holds no row
 abbrev pub same_row : Option Row → Option Row → Bool
 same_row (Some (rows.Item x)) (Some (rows.Item y)) = item.eq-value.it x y
 same_row (Some rows.Whole) (Some rows.Whole) = true
 same_row row other = false
 
--- whether more than half of these rows are equal to one
+-- whether more than half of all rows equal this one
 abbrev pub is_held : List (Option Row) → Option Row → Bool
 is_held all row = is_most (count_by (same_row row) all) (length all)
 
--- the copies whose rows are equal to one
+-- the copies whose rows equal this one
 pub record AreHolders (holders : Holders) (row : Option Row) (all : List (Option Row))
     : Type 0 where
   pub same : take (length all) holders.same ≡ map (same_row row) all
   pub count : holders.count ≡ count_by (same_row row) all
 
--- a row that is held stands at the first of its holders, or no row is held
+-- the first holder's row is held by more than half of the copies, or no row is
 abbrev pub MostHeld : Option Holders → List (Option Row) → Type 0
 MostHeld (Some holders) all = (holders.first < length all)
     × AreHolders holders (get_or all holders.first None) all
@@ -62,14 +62,14 @@ is_in_step voter = is_none voter.left
 abbrev pub voter_slot : Voter → ℕ
 voter_slot voter = slot_of voter.reader
 
--- the number of the first item in which a list doesn't begin with these, counted on from n
+-- the number of the first of these items with which a list doesn't begin, counted on from n
 abbrev pub parts_at : ℕ → (given all : List Item) → Option ℕ
 parts_at n [] all = None
 parts_at n (x ∷ given) [] = Some n
 parts_at n (x ∷ given) (y ∷ all) =
     cond (item.eq-value.it x y) (parts_at (n + 1) given all) (Some n)
 
--- a copy that left in this row, among those before the items that are given
+-- a copy that left in this row, before the end of the given items
 pub record HasLeft (first now : ShelfState) (given : List Item) (slot : ℕ) (reader : ItemReader)
     (row : ℕ) : Type 0 where
   pub at : slot_of reader ≡ slot
@@ -82,21 +82,21 @@ abbrev pub VoterIs : Option ℕ → ShelfState → ShelfState → List Item → 
 VoterIs None first now given slot reader = ReaderBehind first now given slot reader
 VoterIs (Some row) first now given slot reader = HasLeft first now given slot reader row
 
--- the same of all copies, one a slot
+-- the same for all copies, one for each slot
 abbrev pub AreVoters : ShelfState → ShelfState → List Item → List ℕ → List Voter → Type 0
 AreVoters first now given [] [] = Unit {0}
 AreVoters first now given (slot ∷ slots) (v ∷ voters) =
     VoterIs v.left first now given slot v.reader × AreVoters first now given slots voters
 AreVoters first now given slots voters = ⊥
 
--- a copy in step gave these items and then a row; one that left gives none
+-- a copy in step gave these items and then a row; a copy that left gives no row
 abbrev pub VoteIs : Option ℕ → Option Row → ShelfState → ShelfState → List Item → ℕ
     → ItemReader → Type 0
 VoteIs None (Some row) first now given slot reader = ReaderAtRow first now given slot reader row
 VoteIs (Some left) None first now given slot reader = HasLeft first now given slot reader left
 VoteIs left row first now given slot reader = ⊥
 
--- the same of all copies
+-- the same for all copies
 abbrev pub HaveVotes : ShelfState → ShelfState → List Item → List ℕ → List Voter
     → List (Option Row) → Type 0
 HaveVotes first now given [] [] [] = Unit {0}
@@ -106,7 +106,7 @@ HaveVotes first now given slots voters more = ⊥
 
 -- ---- rows that are held
 
--- the place behind items that stand from a place on, and behind the first items of a record
+-- the place after items that begin at a place, and after the first items of a record
 abbrev pub place_after : Place → List Item → Place
 place_after place [] = place
 place_after place (x ∷ xs) = place_after (after place x) xs
@@ -114,12 +114,12 @@ place_after place (x ∷ xs) = place_after (after place x) xs
 abbrev pub place_behind : List Item → Place
 place_behind given = place_after places.Header given
 
--- a reader holds an item, which stands in this place
+-- a reader holds this item, at this place
 pub record HoldsAt (place : Place) (reader : ItemReader) (view : ItemView) (x : Item) : Type 0 where
   pub holds : Holds reader view x
   pub at : view.place ≡ place
 
--- a row as it was read, of a reader in this place
+-- a row as it was read, by a reader at this place
 abbrev pub HoldsAs : Option RowView → Place → ItemReader → Option Row → Type 0
 HoldsAs (Some (views.Item view)) place reader (Some (rows.Item x)) = HoldsAt place reader view x
 HoldsAs (Some views.Whole) place reader (Some rows.Whole) = Unit {0}
@@ -127,7 +127,7 @@ HoldsAs (Some views.Fault) place reader (Some (rows.Fault found)) = Unit {0}
 HoldsAs None place reader None = Unit {0}
 HoldsAs view place reader row = ⊥
 
--- the same of a copy, and of all copies
+-- the same for a copy, and for all copies
 abbrev pub HoldsRow : Place → Voter → Option Row → Type 0
 HoldsRow place v row = HoldsAs v.row place v.reader row
 
@@ -138,21 +138,21 @@ AreHeld place voters more = ⊥
 
 -- ---- answers
 
--- what a reader answers, as a row
+-- the row of what a reader returned
 abbrev pub view_answer : Result (Option ItemView) (Stopped RecordFault) → Result RowView Failure
 view_answer (Ok (Some view)) = Ok (views.Item view)
 view_answer (Ok None) = Ok views.Whole
 view_answer (Err (Refused found)) = Ok views.Fault
 view_answer (Err (Failed failure)) = Err failure
 
--- why a slot gave no row behind the items given: where a read failed, all that was read of it shows
--- these and no more
+-- Why a slot gave no row after the given items. If a read failed, all that was read of the slot
+-- shows these items and no more.
 abbrev pub FailedAt : Failure → ShelfState → ShelfState → List Item → ℕ → Type 0
 FailedAt Read first now given slot = ShowsRows first now given slot
 FailedAt Write first now given slot = ⊥
 FailedAt OutOfMemory first now given slot = Unit {0}
 
--- the same of one of several slots
+-- the same for one of several slots
 abbrev pub FailedAmong : Failure → ShelfState → ShelfState → List Item → List ℕ → Type 0
 FailedAmong failure first now given slots =
     (slot : ℕ) × Contains slots slot × FailedAt failure first now given slot
@@ -178,12 +178,12 @@ RowsRead (Ok u) first now given slots voters = (more : List (Option Row))
 RowsRead (Err failure) first now given slots voters =
     FailedAmong failure first now given slots
 
--- a copy stays in step, or leaves in the row of this number if it hasn't left before
+-- a copy stays in step, or leaves in this row unless it left before
 abbrev pub stayed : Bool → ℕ → Voter → Voter
 stayed holds number v =
     record v { left = cond holds v.left (option_or v.left (Some number)) }
 
--- those that don't hold a row leave
+-- the copies that don't hold a row leave
 abbrev pub parted : ℕ → List Bool → List Voter → List Voter
 parted number (b ∷ same) (v ∷ voters) = stayed b number v ∷ parted number same voters
 parted number same voters = []

@@ -1,4 +1,4 @@
--- All copies behind the items that more than half of them hold.
+-- The state of all copies after the items that more than half of them hold.
 use Rattle.std.specs.Prelude.{◌≡◌, ℕ, ◌+◌, ◌<◌, List, [], ◌∷◌, ◌++◌, length, get_or, true, Option}
 use Rattle.std.specs.Prelude.{Some, None, Result, Ok, Err}
 use Rattle.std.specs.List.{count_by}
@@ -30,7 +30,7 @@ use Rattle.cmd_records.specs.voter.Rows.{is_in_step, AreVoters, HoldsAt, place_b
 abbrev pub AreMost : List Voter → Type 0
 AreMost voters = is_most (count_by is_in_step voters) (length voters) ≡ true
 
--- the copies in step gave these items, which are counted
+-- the copies in step gave these items, and the counts are theirs
 pub record Stand (first now : ShelfState) (given : List Item) (slots : List ℕ) (voters : Voters)
     : Type 0 where
   pub readers : AreVoters first now given slots voters.voters.items
@@ -71,7 +71,7 @@ pub record Decided (first now : ShelfState) (given : List Item) (slots : List �
   pub cycles : voters.cycles ≡ cycles_of given
 
 -- these are the items that more than half of the copies hold, and no whole record is that of more
--- than half
+-- than half of them
 pub record AreSplit (given : List Item) (copies : List (List ℕ)) : Type 0 where
   pub common : common copies ≡ given
   pub none : majority copies ≡ None
@@ -83,7 +83,7 @@ abbrev pub held_in : ℕ → Option RowView → Option HeldItem
 held_in copy (Some (views.Item view)) = Some (record { copy = copy; view = view })
 held_in copy row = None
 
--- a copy holds this item, which stands in this place
+-- a copy holds this item, at this place
 pub record IsHeldIn (voters : List Voter) (held : HeldItem) (place : Place) (item : Item)
     : Type 0 where
   pub there : held.copy < length voters
@@ -97,7 +97,7 @@ Writes (Err stop) bytes out = ⊥
 
 -- ---- answers
 
--- the copies go on behind an item, or the vote is decided
+-- the copies go on after an item, or the vote is decided
 abbrev pub RowTaken : Result (Option HeldItem) (Stopped NoMajority) → ShelfState → ShelfState
     → List Item → List ℕ → Voters → Type 0
 RowTaken (Ok (Some held)) first now given slots voters = (item : Item)
@@ -109,7 +109,7 @@ RowTaken (Err (Refused split)) first now given slots voters = (split.row ≡ len
 RowTaken (Err (Failed failure)) first now given slots voters =
     FailedAmong failure first now given slots
 
--- an item more is counted
+-- one item more is counted
 abbrev pub Counts : Option HeldItem → Voters → Voters → Type 0
 Counts None old new = new ≡ old
 Counts (Some held) old new =

@@ -1,4 +1,4 @@
--- What a vote over the copies in slots comes to.
+-- The result of a vote over the copies in slots.
 use Rattle.std.specs.Prelude.{◌≡◌, ℕ, ◌+◌, List, [], ◌∷◌, length, Bool, true, false, ◌==◌, Some}
 use Rattle.std.specs.Prelude.{None, Result, Ok, Err}
 use Rattle.std.specs.List.{list_any, Contains}
@@ -25,22 +25,22 @@ pub record Elects (vote : Vote) (copies : List (List ℕ)) (out : SinkRun) : Typ
   pub dissent : vote.dissent ≡ dissent whole 0 copies
   pub grew : Grew out.before out.after (spelled_items whole)
 
--- no whole record is that of more than half of the copies; the sink took the rows before the first
--- one that more than half don't hold together
+-- No whole record is that of more than half of the copies. The sink took the rows before the first
+-- one that not more than half of them hold together.
 pub record Splits (number : ℕ) (copies : List (List ℕ)) (out : SinkRun) : Type 0 where
   pub none : majority copies ≡ None
   pub row : number ≡ length (common copies)
   pub grew : Grew out.before out.after (voted copies)
 
--- all that was read of a slot shows these rows, and neither a row more nor a fault
+-- all that was read of a slot shows these rows, and neither a further row nor a fault
 pub record ShowsRows (first now : ShelfState) (rows : List Item) (slot : ℕ) : Type 0 where
   pub read : List ℕ
   pub gave : Gave first now slot read
   pub items : items_in read ≡ rows
   pub sound : fault_so_far read ≡ None
 
--- A read failed: what was read of one copy shows these rows and no more. More than half of the
--- copies begin with them, and the sink took them all; of what is voted they come first.
+-- If a read failed, all that was read of one copy shows these rows and no more. More than half of
+-- the copies begin with them, and the sink took them all. They are a beginning of what is voted.
 pub record Breaks (first now : ShelfState) (slots : List ℕ) (copies : List (List ℕ)) (out : SinkRun)
     : Type 0 where
   pub rows : List Item
@@ -51,7 +51,7 @@ pub record Breaks (first now : ShelfState) (slots : List ℕ) (copies : List (Li
   pub grew : Grew out.before out.after (spelled_items rows)
   pub part : GrewByPrefix out.before out.after (voted copies)
 
--- what an answer says of the copies, of what was read of them, and of what the sink took
+-- what a result says of the copies, of what was read of them, and of what the sink took
 abbrev pub Answers : Result Vote (Stopped NoMajority) → (first now : ShelfState) → List ℕ
     → List (List ℕ) → SinkRun → Type 0
 Answers (Ok vote) first now slots copies out = Elects vote copies out
@@ -77,7 +77,7 @@ abbrev pub EndsWhere : Result Vote (Stopped NoMajority) → ShelfState → List 
 EndsWhere (Ok vote) now slots = OthersEnd vote.dissent now 0 slots
 EndsWhere (Err stop) now slots = Unit {0}
 
--- a vote ended with the right answer on all that the slots can have had at first
+-- a vote ended with the right result for any bytes that the slots can have had
 pub record HasVoted (result : Result Vote (Stopped NoMajority)) (first now : ShelfState)
     (slots : List ℕ) (out : SinkRun) : Type 0 where
   pub answers : (copies : List (List ℕ)) → AreLeft first slots copies

@@ -1,4 +1,4 @@
-//! The command `compare`.
+//! The command `compare` over names, around `copies::compare` over slots.
 ghost use Rattle.std.specs.Prelude.{◌≡◌, ◌≤◌, map, length, true, Ok};
 ghost use Rattle.det_io.specs.Count.{Rose};
 ghost use Rattle.det_io.specs.Shelf.{AsksPrefix};
@@ -15,7 +15,7 @@ use copies::verdict_text::verdict_line;
 use det_io::{Shelf, Sink, Stopped, write_all};
 use std::alloc::Global;
 
-/// What the command answers by its verdict.
+/// The answer by the verdict.
 fn answer_to(verdict: Verdict) -> Answer
     ensures is { result ≡ answer_to verdict }
     ensures ends { can_end compares_records result ≡ true }
@@ -42,8 +42,10 @@ fn print<K: Sink>(alloc: Global, verdict: Verdict, out: &mut K) -> Answer
 }
 
 /// Prints whether the records under these names are equal and whole, or the first place where they
-/// part. The names are opened in their order, before the first record is read. Where a record has a
-/// fault at that place it is told, and nothing is printed.
+/// differ.
+///
+/// All names are opened in their order before the first record is read. If a record has a fault at
+/// that place, the answer reports the fault and nothing is printed.
 pub fn compare<S: Shelf, K: Sink>(
     alloc: Global,
     recorded: &[&str],

@@ -1,4 +1,4 @@
-//! Names that are opened, each in a slot of its own.
+//! `open_all`, which opens each name in a slot of its own.
 ghost use Rattle.std.specs.Prelude.{◌≡◌, ◌≢◌, ◌+◌, ◌<◌, length, map, Some, IfOk, OnOk};
 ghost use Rattle.det_io.specs.declared.failure.Failure.TheVariants as failures;
 ghost use Rattle.det_io.specs.Shelf.{Asks, AsksPrefix};
@@ -9,8 +9,7 @@ ghost use Rattle.cmd_records.specs.open_names.Opened.{Opened};
 use det_io::{Failure, Shelf};
 use std::alloc::Global;
 
-/// Opens the names in their order, each in a slot of its own. The slots are in the order of the
-/// names.
+/// Opens the names in their order, each in a slot of its own. Returns the slots in the same order.
 pub fn open_all<S: Shelf>(alloc: Global, names: &[&str], shelf: &mut S) -> Result<Vec<u32>, Failure>
     ensures opened { IfOk result (λ slots. Opened (S.sees shelf.old) (S.sees shelf.new)
         (map (λ name. name.now) names.now) slots.items) }

@@ -1,4 +1,4 @@
-//! Runs, shown to an audience.
+//! `Presenter`, which shows the runs of a record to an audience.
 ghost use Rattle.std.specs.Prelude.{OnOk};
 ghost use Rattle.record_grammar.specs.declared.item.Item.{Item};
 ghost use Rattle.record_view.specs.Shows.{IsSpelling};
@@ -11,8 +11,8 @@ use record_codec::RunRoom;
 use record_view::ItemView;
 use std::alloc::Global;
 
-/// Shows the Run frames of a record to an audience. Each is made of its view in memory that is used
-/// again, and none is made where no probe looks any more.
+/// Shows the Run frames of a record to an audience. A frame is decoded into memory that is used
+/// again, and only while a probe still looks.
 #[derive(Drop)]
 pub struct Presenter {
     alloc: Global,
@@ -20,7 +20,7 @@ pub struct Presenter {
 }
 
 impl Presenter {
-    /// It takes no memory yet.
+    /// It allocates nothing yet.
     pub fn new(alloc: Global) -> Presenter {
         Presenter {
             alloc,
@@ -28,7 +28,7 @@ impl Presenter {
         }
     }
 
-    /// Shows an item where it is a Run frame. After an error a part of the probes may have seen it.
+    /// Shows an item if it is a Run frame. After an error some of the probes may have seen it.
     pub fn show(
         &mut self,
         view: ItemView,

@@ -1,4 +1,4 @@
-//! Items, printed one after another and shown to an audience.
+//! `Printer`, which prints items one after another and shows them to an audience.
 ghost use Rattle.std.specs.Prelude.{◌≡◌, ◌<◌, ◌+◌, ◌++◌, ◌∷◌, [], ℕ, List, OnOk, length};
 ghost use Rattle.record_grammar.specs.declared.place.Place.{Place};
 ghost use Rattle.record_grammar.specs.declared.item.Item.{Item};
@@ -22,19 +22,20 @@ use record_text::{ShowPart, put_frame_lines, put_header_lines};
 use record_view::{FrameKind, ItemKind, ItemView};
 use std::alloc::Global;
 
-/// Where the items of a record are printed.
+/// Prints the items of one part of a record.
 #[derive(Drop)]
 pub struct Printer {
     alloc: Global,
     pub part: ShowPart,
-    /// The lines of the last item that was printed, in room that is used again.
+    /// The lines of the last item that was printed. The buffer is used again.
     lines: Vec<u8>,
     presenter: Presenter,
-    /// How many Run frames came.
+    /// The number of Run frames so far.
     pub cycles: u32,
 }
 
-/// Whether the lines of an item of this kind are printed. A Run frame is that of cycle `number`.
+/// Whether the lines of an item of this kind are printed. A Run frame is that of cycle `number`,
+/// counted from 1.
 fn prints(part: ShowPart, number: u32, kind: ItemKind) -> bool
     ensures { (place : Place) (len : ℕ) (bytes : List ℕ) (item : Item)
         → ShowsParts place kind len bytes item → result ≡ is_printed part number item }
@@ -61,7 +62,7 @@ impl Printer {
     ghost use Rattle.cmd_records.specs.record_show.Showing.{printed_of};
     ghost use Rattle.cmd_records.specs.record_show.Showing.{IsFailed};
 
-    /// A printer that printed nothing. It takes no memory.
+    /// A printer that has printed nothing. It allocates nothing.
     pub fn new(alloc: Global, part: ShowPart) -> Printer
         ensures { (audience : AudienceState) → AreShown part audience audience result [] }
     {
@@ -74,8 +75,8 @@ impl Printer {
         }
     }
 
-    /// Prints the lines of an item, where they are printed, and then shows it to the audience,
-    /// where it is a Run frame.
+    /// Prints the lines of an item, if the part has them, and then shows it to the audience, if it
+    /// is a Run frame.
     pub fn take<K: Sink>(
         &mut self,
         view: ItemView,
@@ -105,7 +106,7 @@ impl Printer {
         Ok(())
     }
 
-    /// Prints the lines of an item that was counted, where they are printed.
+    /// Prints the lines of an item that is counted already, if the part has them.
     fn print<K: Sink>(
         &mut self,
         view: ItemView,
@@ -129,7 +130,7 @@ impl Printer {
         Ok(())
     }
 
-    /// Puts the lines of an item in place of those before.
+    /// Replaces the buffer by the lines of an item.
     fn put(&mut self, view: ItemView, bytes: &[u8]) -> Result<(), OutOfMemory>
         requires { (item : Item) × IsSpelling view item bytes.now }
         ensures lines { OnOk result ((item : Item) → IsSpelling view item bytes.now
@@ -143,7 +144,7 @@ impl Printer {
         }
     }
 
-    /// Shows an item to the audience, unless one run alone is printed.
+    /// Shows an item to the audience, unless only one run is printed.
     fn show(
         &mut self,
         view: ItemView,

@@ -1,4 +1,4 @@
-//! A record, printed and shown to an audience as it is read.
+//! `show_run`, which prints a record and shows it to an audience as it is read.
 ghost use Rattle.std.specs.Prelude.{◌≡◌, ℕ, ◌<◌, List, []};
 ghost use Rattle.det_io.specs.Traffic.{ShelfTraffic, SinkTraffic, shelf_run, sink_run};
 ghost use Rattle.det_io.specs.Traffic.{failure_in};
@@ -18,11 +18,14 @@ use record_reader::item_reader::ItemReader;
 use record_text::ShowPart;
 use std::alloc::Global;
 
-/// Prints a part of the record that a reader reads, item by item. Each Run frame is printed and
-/// then shown to the audience, and behind a whole record all its reports are printed. One run alone
-/// is printed without the audience, which stays as it is. The whole record is read in any case.
-/// `Refused` has its fault; then the lines of all whole items before it were written, and no
-/// reports. After a failed read the lines of all items that were read were written.
+/// Prints a part of the record that a reader reads, item by item.
+///
+/// Each Run frame is printed and then shown to the audience. After a whole record all reports are
+/// printed. If only one run is printed, the audience takes no part and stays as it is. The whole
+/// record is read, whatever the part.
+///
+/// `Refused` has the record's fault. The lines of all whole items before it are written then, and
+/// no reports. After a failed read, the lines of all items that were read are written.
 pub fn show_run<S: Slots, K: Sink>(
     alloc: Global,
     part: ShowPart,
@@ -32,9 +35,9 @@ pub fn show_run<S: Slots, K: Sink>(
     audience: &mut Audience,
 ) -> Result<Shown, Stopped<RecordFault>>
     requires slot { slot_of reader.old < (S.sees shelf.old).slots }
-    // The reader has given nothing yet.
+    // The reader is new.
     requires new { StandsFor reader.old [] [] }
-    // By the bytes that were read, of every record that begins with them.
+    // For the bytes that were read, and every record that begins with them.
     ensures run { (read : List ℕ)
         × Ended result part (seen (λ b. life (b.vtable, b.value)) audience.old)
         (seen (λ b. life (b.vtable, b.value)) audience.new)
@@ -58,7 +61,7 @@ pub fn show_run<S: Slots, K: Sink>(
     Ok(shown)
 }
 
-/// Gives all items to a printer and an audience.
+/// Passes all items to a printer and an audience.
 fn show_items<S: Slots, K: Sink>(
     reader: &mut ItemReader,
     shelf: &mut S,

@@ -1,6 +1,6 @@
-//! What printing a record comes to.
+//! `Shown`, the result of printing a record.
 
-/// How many Run frames the record has.
+/// The number of Run frames of the record.
 #[derive(Clone, Copy, Debug, PartialEq, Eq, Drop)]
 pub struct Shown {
     pub cycles: u32,

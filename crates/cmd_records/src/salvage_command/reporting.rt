@@ -1,4 +1,4 @@
-//! A record that breaks off, shown to an audience as it is read.
+//! `report_run`, which shows a truncated record to an audience as it is read.
 ghost use Rattle.std.specs.Prelude.{◌≡◌, ℕ, ◌<◌, List, [], ◌++◌, IfOk, codes};
 ghost use Rattle.det_io.specs.Traffic.{ShelfTraffic, SinkTraffic, shelf_run, sink_run};
 ghost use Rattle.det_io.specs.Traffic.{failure_in};
@@ -20,9 +20,10 @@ use record_reader::item_reader::ItemReader;
 use record_text::put_salvaged_line;
 use std::alloc::Global;
 
-/// Shows the runs of the record that a reader reads to the audience, and after the last of them
-/// prints how many there are and what is reported of them. `Refused` has the fault of a record that
-/// has no Init before it; then nothing is printed.
+/// Shows the runs of a record to the audience, and then prints how many there are and what is
+/// reported of them.
+///
+/// `Refused` has the fault of a record without Init before it. Nothing is printed then.
 pub(crate) fn report_run<S: Slots, K: Sink>(
     alloc: Global,
     reader: &mut ItemReader,
@@ -31,9 +32,9 @@ pub(crate) fn report_run<S: Slots, K: Sink>(
     audience: &mut Audience,
 ) -> Result<(), Stopped<RecordFault>>
     requires slot { slot_of reader.old < (S.sees shelf.old).slots }
-    // The reader has given nothing yet.
+    // The reader is new.
     requires new { StandsFor reader.old [] [] }
-    // By the bytes that were read, of every record that begins with them.
+    // For the bytes that were read, and every record that begins with them.
     ensures run { (read : List ℕ)
         × Ended result (seen (λ b. life (b.vtable, b.value)) audience.old)
         (seen (λ b. life (b.vtable, b.value)) audience.new)
@@ -53,7 +54,7 @@ pub(crate) fn report_run<S: Slots, K: Sink>(
     Ok(())
 }
 
-/// Gives all items to a watch and an audience.
+/// Passes all items to a watch and an audience.
 fn watch_items<S: Slots>(
     reader: &mut ItemReader,
     shelf: &mut S,
@@ -78,7 +79,7 @@ fn watch_items<S: Slots>(
     }
 }
 
-/// A fault stops nothing where Init was read before it.
+/// Ignores a fault after Init.
 fn settled(
     read: Result<(), Stopped<RecordFault>>,
     has_begun: bool,
@@ -91,7 +92,7 @@ fn settled(
     }
 }
 
-/// The line of a salvaged record, then the reports.
+/// The line with the number of salvaged runs, then the reports.
 fn lines_of(alloc: Global, cycles: u32, reports: &[u8]) -> Result<Vec<u8>, OutOfMemory>
     ensures { IfOk result (λ lines.
         lines.items ≡ number_line (codes "salvaged") cycles ++ reports.now) }

@@ -1,4 +1,4 @@
-//! The command `salvage`, and `salvage --reports`.
+//! The commands `salvage` and `salvage --reports` over names.
 ghost use Rattle.std.specs.Prelude.{◌≡◌, ◌≢◌, ℕ, ◌<◌, List, ◌∷◌, ◌++◌, [], true, Some};
 ghost use Rattle.det_io.specs.Count.{Rose};
 ghost use Rattle.det_io.specs.Shelf.{AsksPrefix, Reads};
@@ -23,7 +23,7 @@ use record_reader::item_reader::ItemReader;
 use record_reader::salvage_run;
 use std::alloc::Global;
 
-/// What a command answers. The one record that it reads is copy 0.
+/// The answer by the result. The only record that is read is copy 0.
 fn answer_of<T: Drop>(saved: Result<T, Stopped<RecordFault>>) -> Answer
     ensures is { result ≡ answer_of saved }
     ensures ends { can_end reads_records result ≡ true }
@@ -54,8 +54,8 @@ fn salvage_slot<S: Slots, K: Sink>(alloc: Global, slot: u32, shelf: &mut S, out:
     answer_of(saved)
 }
 
-/// Writes the record under this name, made whole up to its last whole frame. A record that has no
-/// Init before its fault is refused, and nothing is written.
+/// Writes the record under this name, made whole up to its last whole frame. A record without Init
+/// before its fault is refused, and nothing is written.
 pub fn salvage<S: Shelf, K: Sink>(
     alloc: Global,
     recorded: &str,
@@ -69,7 +69,7 @@ pub fn salvage<S: Shelf, K: Sink>(
     ensures ends { can_end reads_records result ≡ true }
     ensures asked { AsksPrefix (S.sees shelf.old) (S.sees shelf.new) (recorded.now ∷ []) }
     ensures earlier { KeepsSlots (S.sees shelf.old) (S.sees shelf.new) }
-    // Where a read fails, all that is saved of what was read is written.
+    // If a read fails, all that is saved of what was read is written.
     ensures broken { result ≡ Answer.ReadFault → Tells (S.sees shelf.old) (recorded.now ∷ [])
         → BreaksOff (S.sees shelf.old) (S.sees shelf.new) recorded.now saved_of
         (K.took out.old) (K.took out.new) }
@@ -81,7 +81,7 @@ pub fn salvage<S: Shelf, K: Sink>(
     salvage_slot(alloc, slot, shelf, out)
 }
 
-/// Reports of the record in a slot.
+/// Prints the reports of the record in a slot.
 fn report_slot<S: Slots, K: Sink>(
     alloc: Global,
     slot: u32,
@@ -111,7 +111,7 @@ fn report_slot<S: Slots, K: Sink>(
 }
 
 /// Prints `salvaged C` and what the audience reports of the C runs that can be saved of the record
-/// under this name. No probe is left then. A record that has no Init before its fault is refused,
+/// under this name. All probes have left then. A record without Init before its fault is refused,
 /// and nothing is printed.
 pub fn salvage_reports<S: Shelf, K: Sink>(
     alloc: Global,
@@ -128,14 +128,14 @@ pub fn salvage_reports<S: Shelf, K: Sink>(
     ensures ends { can_end reads_records result ≡ true }
     ensures asked { AsksPrefix (S.sees shelf.old) (S.sees shelf.new) (recorded.now ∷ []) }
     ensures earlier { KeepsSlots (S.sees shelf.old) (S.sees shelf.new) }
-    // At every answer but want of memory the audience has seen first runs of the record.
+    // Whatever the answer, except "out of memory", the audience has seen first runs of the record.
     ensures saw { result ≢ Answer.OutOfMemory → Tells (S.sees shelf.old) (recorded.now ∷ [])
         → SawFirst (seen (λ b. life (b.vtable, b.value)) audience.old)
         (seen (λ b. life (b.vtable, b.value)) audience.new)
         (told (S.sees shelf.old) recorded.now) }
     ensures gone { result ≡ Answer.Done
         → (seen (λ b. life (b.vtable, b.value)) audience.new).seeing ≡ [] }
-    // Nothing is printed before the end, so where a read fails nothing is.
+    // Nothing is printed before the end, so if a read fails nothing is printed.
     ensures broken { result ≡ Answer.ReadFault → Grew (K.took out.old) (K.took out.new) [] }
 {
     let slot = match shelf.open_input(recorded) {

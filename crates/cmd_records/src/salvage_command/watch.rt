@@ -1,4 +1,4 @@
-//! Items that are watched on their way to an audience.
+//! `Watch`, which notes the items of a record on their way to an audience.
 ghost use Rattle.std.specs.Prelude.{◌≡◌, ◌<◌, ◌+◌, OnOk};
 ghost use Rattle.record_grammar.specs.declared.item.Item.{Item};
 ghost use Rattle.record_view.specs.Shows.{IsSpelling};
@@ -12,12 +12,12 @@ use record_reader::{begins_runs, runs_of};
 use record_view::ItemView;
 use std::alloc::Global;
 
-/// What is known of the items that were read of a record.
+/// What is known of the items that were read.
 #[derive(Drop)]
 pub struct Watch {
-    /// Init was read.
+    /// Whether Init was read.
     pub has_begun: bool,
-    /// How many Run frames came.
+    /// The number of Run frames so far.
     pub cycles: u32,
     presenter: Presenter,
 }
@@ -27,7 +27,7 @@ impl Watch {
     ghost use Rattle.probes.specs.Reports.{AudienceState};
     ghost use Rattle.cmd_records.specs.salvage_command.Watching.{Watched, Noted};
 
-    /// After no items. It takes no memory.
+    /// A watch that has seen no items. It allocates nothing.
     pub fn new(alloc: Global) -> Watch
         ensures { (audience : AudienceState) → Watched audience audience result [] }
     {
@@ -38,8 +38,8 @@ impl Watch {
         }
     }
 
-    /// Notes an item, and shows it to the audience where it is a Run frame. After an error a part
-    /// of the probes has seen the run.
+    /// Notes an item, and shows it to the audience if it is a Run frame. After an error some of the
+    /// probes may have seen the run.
     pub fn take(
         &mut self,
         view: ItemView,

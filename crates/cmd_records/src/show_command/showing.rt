@@ -1,4 +1,4 @@
-//! The command `show`.
+//! The command `show` over names, around `show_run` over slots.
 ghost use Rattle.std.specs.Prelude.{◌≡◌, ◌≢◌, ℕ, ◌<◌, List, ◌∷◌, ◌++◌, [], true, Some};
 ghost use Rattle.det_io.specs.Count.{Rose};
 ghost use Rattle.det_io.specs.Shelf.{AsksPrefix, Reads};
@@ -23,7 +23,7 @@ use record_reader::item_reader::ItemReader;
 use record_text::ShowPart;
 use std::alloc::Global;
 
-/// What the command answers. The one record that it reads is copy 0.
+/// The answer by the result. The only record that is read is copy 0.
 fn answer_of(shown: Result<Shown, Stopped<RecordFault>>) -> Answer
     ensures is { result ≡ answer_of shown }
     ensures ends { can_end reads_records result ≡ true }
@@ -72,8 +72,9 @@ fn show_slot<S: Slots, K: Sink>(
 }
 
 /// Prints a part of the record under this name, item by item, and shows its runs to the audience.
-/// What that reports is printed behind a whole record, and no probe is left then. One run alone is
-/// printed without the audience, which stays as it is.
+///
+/// After a whole record the audience's reports are printed, and all probes have left then. If only
+/// one run is printed, the audience takes no part and stays as it is.
 pub fn show<S: Shelf, K: Sink>(
     alloc: Global,
     recorded: &str,
@@ -86,14 +87,15 @@ pub fn show<S: Shelf, K: Sink>(
         (told (S.sees shelf.old) recorded.now)) (Tells (S.sees shelf.old) (recorded.now ∷ []))
         (Rose (S.sees shelf.old).faults (S.sees shelf.new).faults)
         (Rose (K.faults out.old) (K.faults out.new)) (K.took out.old) (K.took out.new) result }
-    // Where a read fails, the lines of all items that were read are written.
+    // If a read fails, the lines of all items that were read are written.
     ensures broken { result ≡ Answer.ReadFault → Tells (S.sees shelf.old) (recorded.now ∷ [])
         → BreaksOff (S.sees shelf.old) (S.sees shelf.new) recorded.now
         (λ read. lines_of part (items_in read)) (K.took out.old) (K.took out.new) }
     ensures ends { can_end reads_records result ≡ true }
     ensures asked { AsksPrefix (S.sees shelf.old) (S.sees shelf.new) (recorded.now ∷ []) }
     ensures earlier { KeepsSlots (S.sees shelf.old) (S.sees shelf.new) }
-    // At every answer but want of memory the audience has seen first runs whose lines `out` took.
+    // Whatever the answer, except "out of memory", the audience has seen first runs whose lines
+    // `out` took.
     ensures saw { result ≢ Answer.OutOfMemory → Tells (S.sees shelf.old) (recorded.now ∷ [])
         → SawFirst part (seen (λ b. life (b.vtable, b.value)) audience.old)
         (seen (λ b. life (b.vtable, b.value)) audience.new)

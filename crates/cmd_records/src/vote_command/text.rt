@@ -1,4 +1,4 @@
-//! The lines that tell who dissents from the majority.
+//! The text of `vote --dissent`.
 ghost use Rattle.std.specs.Prelude.{◌≡◌, ◌++◌, OnOk, IfOk};
 ghost use Rattle.std.specs.List.{flat_map};
 ghost use Rattle.cmd_records.specs.vote_command.Vote.{dissenter_line, dissent_text};
@@ -8,7 +8,7 @@ use det_values::OutOfMemory;
 use record_text::{put_number, put_number_line, put_words};
 use std::alloc::{AllocError, Global};
 
-/// Appends the line of a dissenter. After a refusal a part of it may stand there.
+/// Appends the line of a dissenter. After an error a part of it may be appended.
 fn put_dissenter(out: &mut Vec<u8>, dissenter: Dissenter) -> Result<(), AllocError>
     ensures { OnOk result (out.new.items ≡ out.old.items ++ dissenter_line dissenter) }
 {
@@ -30,7 +30,7 @@ fn put_dissenters(out: &mut Vec<u8>, dissenters: &[Dissenter]) -> Result<(), All
     Ok(())
 }
 
-/// The number of cycles that the majority's record has, and the dissenters.
+/// The line with the number of the majority's cycles, and a line for each dissenter.
 pub(crate) fn text_of(alloc: Global, vote: &Vote) -> Result<Vec<u8>, OutOfMemory>
     ensures { IfOk result (λ text. text.items ≡ dissent_text vote.now.cycles vote.now.dissent) }
 {

@@ -1,4 +1,4 @@
-//! The command `vote`.
+//! The commands `vote` and `vote --dissent` over names, around `voter::vote` over slots.
 ghost use Rattle.std.specs.Prelude.{◌≡◌, ◌≤◌, map, length, true, Ok, []};
 ghost use Rattle.det_io.specs.Count.{Rose};
 ghost use Rattle.det_io.specs.Shelf.{AsksPrefix};
@@ -16,7 +16,7 @@ use cli_answers::Answer;
 use det_io::{Discard, Shelf, Sink, Stopped, write_all};
 use std::alloc::Global;
 
-/// What a vote is answered.
+/// The answer by the result of a vote.
 fn answer_of(voted: Result<Vote, Stopped<NoMajority>>) -> Answer
     ensures is { result ≡ answer_of voted }
     ensures ends { can_end vote_work result ≡ true }
@@ -29,9 +29,10 @@ fn answer_of(voted: Result<Vote, Stopped<NoMajority>>) -> Answer
 }
 
 /// Writes the record of the majority of the records under these names, row by row as they are read.
-/// The names are opened in their order, before the first record is read. Where more than half of
-/// the records aren't one whole record, the rows that more than half have in common are written.
-/// Where a read fails, all rows that were voted are written before that is answered.
+///
+/// All names are opened in their order before the first record is read. If more than half of the
+/// records aren't one whole record, the rows that more than half have in common are written. If a
+/// read fails, all rows that were voted are written.
 pub fn vote<S: Shelf, K: Sink>(
     alloc: Global,
     recorded: &[&str],
@@ -61,7 +62,7 @@ pub fn vote<S: Shelf, K: Sink>(
     answer_of(crate::voter::vote(alloc, shelf, &slots, out))
 }
 
-/// Prints how many cycles the majority's record has and who dissents from it.
+/// Prints how many cycles the majority's record has, and which copies dissent from it.
 fn print<K: Sink>(alloc: Global, vote: &Vote, out: &mut K) -> Answer
     ensures meets { Meets (record {
       answer = Answer.Done;
@@ -79,9 +80,9 @@ fn print<K: Sink>(alloc: Global, vote: &Vote, out: &mut K) -> Answer
     }
 }
 
-/// Prints, in place of the majority's record, how many cycles it has, and of each copy that isn't
-/// that record its number and the first row in which it differs. Where there is no majority, or a
-/// read fails, nothing is printed.
+/// Prints how many cycles the majority's record has, in place of the record. For each copy that
+/// isn't that record, it prints the copy's number and the first row in which it differs. If there
+/// is no majority, or a read fails, nothing is printed.
 pub fn vote_dissent<S: Shelf, K: Sink>(
     alloc: Global,
     recorded: &[&str],

@@ -1,4 +1,4 @@
-//! Which row more than half of the copies hold.
+//! Finds the row that more than half of the copies hold.
 ghost use Rattle.std.specs.Prelude.{◌≡◌, ◌<◌, ◌≤◌, List, Some, None, cond, length};
 ghost use Rattle.std.specs.Prelude.{Option, get_or};
 ghost use Rattle.record_grammar.specs.declared.item.Item.{Item};
@@ -17,15 +17,15 @@ use record_view::{ItemView, are_equal};
 /// The copies that hold a row.
 #[derive(Clone, Copy, Drop)]
 pub struct Holders {
-    /// The first of them.
+    /// The first copy that holds it.
     pub first: usize,
-    /// Of each copy, whether it does; no vote has more than seven.
+    /// For each copy, whether it holds the row. No vote has more than seven copies.
     pub same: [bool; 7],
-    /// How many they are.
+    /// The number of copies that hold it.
     pub count: usize,
 }
 
-/// Whether two copies hold equal rows. A fault equals nothing, and one that left holds none.
+/// Whether two copies hold equal rows. A fault equals nothing, and a copy that left holds no row.
 fn are_same(voter: &Voter, other: &Voter) -> bool
     requires { (place : Place) × (row more : Option Row) × HoldsRow place voter.now row
         × HoldsRow place other.now more }
@@ -40,7 +40,7 @@ fn are_same(voter: &Voter, other: &Voter) -> bool
     }
 }
 
-/// Whether a copy holds the item that this reader gave last.
+/// Whether a copy holds the item that this reader read last.
 fn is_item(reader: &ItemReader, view: ItemView, other: &Voter) -> bool
     requires { (place : Place) × (x : Item) × (more : Option Row) × HoldsAt place reader.now view x
         × HoldsRow place other.now more }
@@ -69,7 +69,7 @@ fn is_whole(other: &Voter) -> bool
     }
 }
 
-/// Whether two readers gave equal items last, in one place.
+/// Whether two readers read equal items last, at the same place.
 fn are_same_items(
     reader: &ItemReader,
     view: ItemView,
@@ -89,7 +89,7 @@ fn are_same_items(
     )
 }
 
-/// Whether a copy holds a row that equals itself.
+/// Whether a copy holds a row that can equal another one.
 fn may_be_held(voter: &Voter) -> bool
     ensures { (place : Place) (row : Option Row) → HoldsRow place voter.now row
         → result ≡ same_row row row }
@@ -102,7 +102,7 @@ fn may_be_held(voter: &Voter) -> bool
     }
 }
 
-/// Whether a copy holds the row of another one. No row is compared with itself.
+/// Whether two copies hold equal rows, by their places. No row is compared with itself.
 fn holds_row_of(voters: &[Voter], first: usize, at: usize) -> bool
     requires first { first < length voters.now }
     requires at { at < length voters.now }
@@ -122,7 +122,7 @@ fn one_if(holds: bool) -> usize
     if holds { 1 } else { 0 }
 }
 
-/// The copies that hold the row of this one.
+/// The copies that hold the row of the copy `first`.
 fn holders_of(voters: &[Voter], first: usize) -> Holders
     requires first { first < length voters.now }
     requires few { length voters.now ≤ 7 }
@@ -141,7 +141,8 @@ fn holders_of(voters: &[Voter], first: usize) -> Holders
     Holders { first, same, count }
 }
 
-/// The copies that hold the first row that more than half of all hold.
+/// The copies that hold a row which more than half of all copies hold. None if there is no such
+/// row.
 pub fn most_held(voters: &[Voter]) -> Option<Holders>
     requires few { length voters.now ≤ 7 }
     requires rows { (place : Place) × (more : List (Option Row)) × AreHeld place voters.now more }
@@ -157,7 +158,8 @@ pub fn most_held(voters: &[Voter]) -> Option<Holders>
     None
 }
 
-/// The copies that don't hold a row leave, in the row of this number.
+/// Marks the copies that don't hold the majority's row as having left in this row, unless they left
+/// before.
 pub fn part(voters: &mut Vec<Voter>, same: &[bool], number: u32)
     requires { length voters.old.items ≤ length same.now }
     ensures parted { voters.new.items ≡ parted number same.now voters.old.items }

@@ -1,4 +1,4 @@
-//! Copies that are read row by row, as long as each is in step.
+//! `Voter`, a copy that is read row by row until it differs from the majority.
 ghost use Rattle.std.specs.Prelude.{◌≡◌, ℕ, ◌<◌, List, [], ◌∷◌, Some, IfOk, map, length, cond};
 ghost use Rattle.std.specs.List.{count_by};
 ghost use Rattle.std.specs.Option.{option_or};
@@ -20,10 +20,10 @@ use record_reader::item_reader::ItemReader;
 use record_view::ItemView;
 use std::alloc::Global;
 
-/// A row of a copy, as its reader gave it.
+/// A row of a copy, as its reader read it.
 #[derive(Clone, Copy, Drop)]
 pub enum RowView {
-    /// An item, whose bytes the reader holds.
+    /// An item. The reader has its bytes.
     Item(ItemView),
     /// The record is whole.
     Whole,
@@ -35,14 +35,14 @@ pub enum RowView {
 #[derive(Drop)]
 pub struct Voter {
     pub reader: ItemReader,
-    /// The row that was read last; a copy that left has none.
+    /// The row that was read last. A copy that left has none.
     pub row: Option<RowView>,
-    /// The first row in which it differs from the majority; it isn't read any further.
+    /// The first row in which the copy differs from the majority. It isn't read any further.
     pub left: Option<u32>,
 }
 
 impl Voter {
-    /// Reads the next row of a copy that is in step.
+    /// Reads the next row, unless the copy has left.
     fn read<S: Slots>(&mut self, shelf: &mut S) -> Result<(), Failure>
         requires { slot_of self.old.reader < (S.sees shelf.old).slots }
         ensures row { (first : ShelfState) (given : List Item) (slot : ℕ)
@@ -67,7 +67,8 @@ impl Voter {
         Ok(())
     }
 
-    /// A copy that doesn't hold the majority's row leaves, if it hasn't before.
+    /// Marks a copy that doesn't hold the majority's row as having left in this row, unless it left
+    /// before.
     pub fn stay(&mut self, holds: bool, number: u32)
         ensures { self.new ≡ record self.old {
           left = cond holds self.old.left (option_or self.old.left (Some number));
@@ -79,7 +80,7 @@ impl Voter {
     }
 }
 
-/// The next row of the record that a reader reads.
+/// Reads the next row of a record.
 fn next_row<S: Slots>(reader: &mut ItemReader, shelf: &mut S) -> Result<RowView, Failure>
     requires { slot_of reader.old < (S.sees shelf.old).slots }
     ensures row { (first : ShelfState) (given : List Item) (slot : ℕ)
@@ -96,7 +97,7 @@ fn next_row<S: Slots>(reader: &mut ItemReader, shelf: &mut S) -> Result<RowView,
     row_in(reader.next(shelf))
 }
 
-/// A fault is a row and no refusal.
+/// The row of what a reader returned. A record's fault is a row, not an error.
 fn row_in(answer: Result<Option<ItemView>, Stopped<RecordFault>>) -> Result<RowView, Failure>
     ensures { result ≡ view_answer answer }
 {
@@ -129,7 +130,7 @@ pub fn voters_at(alloc: Global, slots: &[u32]) -> Result<Vec<Voter>, OutOfMemory
     Ok(voters)
 }
 
-/// Reads a row of each copy that is in step.
+/// Reads the next row of each copy that hasn't left.
 pub fn read_rows<S: Slots>(voters: &mut Vec<Voter>, shelf: &mut S) -> Result<(), Failure>
     requires given { AreGiven (S.sees shelf.old) (map voter_slot voters.old.items) }
     ensures rows { (first : ShelfState) (given : List Item) (slots : List ℕ)

@@ -1,4 +1,4 @@
-//! All copies, read side by side.
+//! `Voters`, all copies of a vote side by side.
 ghost use Rattle.std.specs.Prelude.{◌≡◌, ℕ, ◌+◌, ◌<◌, ◌≤◌, List, [], ◌++◌, IfOk, OnOk, map};
 ghost use Rattle.std.specs.Prelude.{length, true};
 ghost use Rattle.std.specs.List.{count_by};
@@ -26,27 +26,27 @@ use det_values::OutOfMemory;
 use record_view::{ItemView, events_at};
 use std::alloc::Global;
 
-/// The copies, and the rows that more than half of them hold together.
+/// The copies, and how many rows more than half of them held together.
 #[derive(Drop)]
 pub struct Voters {
     pub voters: Vec<Voter>,
-    /// How many rows were held.
+    /// The number of rows that were held.
     pub rows: u32,
-    /// How many of them were Run frames.
+    /// The number of these rows that are Run frames.
     pub cycles: u32,
 }
 
-/// An item that more than half of the copies hold.
+/// An item that more than half of the copies hold, in the bytes of one of them.
 #[derive(Clone, Copy, Drop)]
 pub struct HeldItem {
     /// The first copy that holds it.
     pub copy: usize,
-    /// Where its parts are in the bytes that the reader of that copy holds.
+    /// The places of its parts in the bytes of that copy's reader.
     pub view: ItemView,
 }
 
 impl Voters {
-    /// Copies of which nothing is read.
+    /// Copies of which nothing was read yet.
     pub fn at(alloc: Global, slots: &[u32]) -> Result<Voters, OutOfMemory>
         requires { 1 ≤ length slots.now }
         ensures { IfOk result (λ voters. (state : ShelfState)
@@ -92,7 +92,7 @@ impl Voters {
         Ok(item)
     }
 
-    /// Counts an item that is held.
+    /// Counts a held item.
     fn count(&mut self, item: Option<HeldItem>)
         requires rows { self.old.rows < 4294967295 }
         requires cycles { self.old.cycles ≤ self.old.rows }
@@ -104,7 +104,7 @@ impl Voters {
         }
     }
 
-    /// Writes the bytes of an item that is held, as they were read.
+    /// Writes the bytes of a held item as they were read.
     pub fn write<K: Sink>(&self, item: HeldItem, sink: &mut K) -> Result<(), Stopped<NoMajority>>
         requires { (place : Place) × (x : Item) × IsHeldIn self.now.voters.items item place x }
         ensures writes { (place : Place) (x : Item) → IsHeldIn self.now.voters.items item place x
@@ -117,7 +117,7 @@ impl Voters {
         write_bytes(self.voters[item.copy].reader.bytes(item.view), sink)
     }
 
-    /// The vote behind the end of the majority's record.
+    /// The result of the vote at the end of the majority's record.
     pub fn outcome(&self, alloc: Global) -> Result<Vote, Stopped<NoMajority>>
         requires most { is_most (count_by is_in_step self.now.voters.items)
             (length self.now.voters.items) ≡ true }
@@ -132,7 +132,7 @@ impl Voters {
     }
 }
 
-/// The item of the row that this copy holds; None at the end of a whole record.
+/// The item of the row that this copy holds. None at the end of a whole record.
 fn held_in(copy: usize, row: Option<RowView>) -> Option<HeldItem>
     ensures { result ≡ held_in copy row }
 {
@@ -142,7 +142,7 @@ fn held_in(copy: usize, row: Option<RowView>) -> Option<HeldItem>
     }
 }
 
-/// Its second clause says what a slice is known for.
+/// Writes these bytes. The second clause states that a slice of `u8` consists of bytes.
 fn write_bytes<K: Sink>(bytes: &[u8], sink: &mut K) -> Result<(), Stopped<NoMajority>>
     ensures writes { Writes result bytes.now (sink_run K.took K.faults sink.old sink.new) }
     ensures bytes { AreBytes bytes.now }

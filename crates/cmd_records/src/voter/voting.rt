@@ -1,4 +1,4 @@
-//! Copies of a record, voted into one.
+//! `vote`, which votes copies in slots into one record.
 ghost use Rattle.std.specs.Prelude.{◌≡◌, ℕ, ◌≤◌, List, length};
 ghost use Rattle.det_io.specs.Traffic.{ShelfTraffic, SinkTraffic};
 ghost use Rattle.det_io.specs.Traffic.{shelf_run, sink_run, failure_in};
@@ -12,13 +12,15 @@ use crate::voter::{NoMajority, Vote};
 use det_io::{Sink, Slots, Stopped};
 use std::alloc::Global;
 
-/// Votes the copies of a record in these slots into one, row by row: a row is the header or a
-/// frame, or how the record ends, and a fault equals nothing. Each row that more than half of all
-/// copies hold behind equal rows is written as it is read. A copy that differs from it isn't read
-/// further. At most one row of each copy is held at a time, in the bytes in which it was read.
+/// Votes the copies of a record in these slots into one, row by row.
 ///
-/// `Refused` tells the first row that not more than half of the copies hold; what was written
-/// before it stands.
+/// A row is the header, a frame, or how the record ends. A fault equals nothing. Each row that more
+/// than half of all copies hold after equal rows is written as it is read. A copy that differs from
+/// it isn't read further. At most one row of each copy is held in memory at a time, in the bytes in
+/// which it was read.
+///
+/// `Refused` has the first row that not more than half of the copies hold. What was written before
+/// it stays written.
 pub fn vote<S: Slots, K: Sink>(
     alloc: Global,
     shelf: &mut S,
@@ -31,8 +33,8 @@ pub fn vote<S: Slots, K: Sink>(
     requires different { AreDifferent slots.now }
     ensures voted { HasVoted result (S.sees shelf.old) (S.sees shelf.new) slots.now
         (sink_run K.took K.faults sink.old sink.new) }
-    // No byte of a copy is read behind the row that decides: before the last piece of it was read,
-    // no row behind the items that are voted was shown.
+    // No copy is read further than the deciding row needs: all bytes before a copy's last piece
+    // showed no row after the voted items.
     ensures needed { (copies : List (List ℕ)) → AreLeft (S.sees shelf.old) slots.now copies
         → AllNeeded (S.sees shelf.old) (S.sees shelf.new) (length (voted_items copies)) slots.now }
     ensures reads { ReadsAmong (S.sees shelf.old) (S.sees shelf.new) slots.now }

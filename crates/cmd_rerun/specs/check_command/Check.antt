@@ -1,4 +1,4 @@
--- What `check` gives by the bytes of a record: whether it is what its inputs give, and what an
+-- What `check` gives for the bytes of a record: whether it is what its inputs give, and what an
 -- audience reports of the runs that were compared.
 use Rattle.std.specs.Prelude.{ℕ, List, [], ◌++◌, codes, Result, Ok, Err}
 use Rattle.det_io.specs.Prefix.{IsPrefix}
@@ -41,7 +41,7 @@ checked_with m profile audience record_bytes =
     outcome_by (check_verdict m profile record_bytes)
     (reported audience (checked_runs m profile record_bytes))
 
--- the same with the run that the record's header names, or the refusal of that
+-- the same with the run that the header of the record names, or why it names none
 abbrev pub check_outcome : AudienceState → List ℕ → Outcome
 check_outcome audience record_bytes =
     over_run (λ S G E L P m profile. checked_with m profile audience record_bytes)
@@ -49,7 +49,7 @@ check_outcome audience record_bytes =
 
 -- ---- the audience
 
--- the runs of a record that are checked: none where its header names no run
+-- the runs of a record that are checked: none if its header names no run
 abbrev pub runs_checked : List ℕ → List RunFrame
 runs_checked record_bytes = over_run (λ S G E L P m profile. checked_runs m profile record_bytes)
     (λ why. []) (run_of record_bytes)

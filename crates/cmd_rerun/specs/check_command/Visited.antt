@@ -1,4 +1,4 @@
--- What the answer of checking by a crew says.
+-- What checking by a crew ensures of its result.
 use Rattle.std.specs.Prelude.{◌≡◌, ℕ, List, [], ◌∷◌, Result}
 use Rattle.det_values.specs.Values.{ProfileValue}
 use Rattle.det_values.specs.declared.frames.RunFrame.{RunFrame}
@@ -33,7 +33,7 @@ pub record IsUntouched (sink : SinkRun) : Type 0 where
   pub took : Same sink.before sink.after
   pub faults : sink.faults_after ≡ sink.faults_before
 
--- the rest of the record was checked behind the bytes that the reader had read
+-- the rest of the record was checked, after the bytes that the reader had read
 pub record HasChecked {S G E L P : Type 0} (m : Meaning S G E L P) (profile : ProfileValue)
     (frames : FrameReader) (shelf : ShelfRun) (sink : SinkRun) (old now : AudienceState)
     (result : Result CheckVerdict (Stopped RecordFault)) : Type 0 where

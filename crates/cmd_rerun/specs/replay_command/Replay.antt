@@ -1,4 +1,4 @@
--- What `replay` gives by the bytes of a record: the record that its inputs give now.
+-- What `replay` gives for the bytes of a record: the record that its inputs give now.
 use Rattle.std.specs.Prelude.{ℕ, List, Result, Ok, Err}
 use Rattle.det_values.specs.Values.{ProfileValue}
 use Rattle.det_io.specs.declared.failure.Stopped.{Stopped}
@@ -14,7 +14,8 @@ use Rattle.cli_answers.specs.Answers.{failed, by_fault}
 use Rattle.cli_answers.specs.Outcome.{Outcome, refusal}
 use Rattle.run_setup.specs.recorded_run.Run.{run_of, over_run, refused}
 
--- the record that the inputs of a record give, and the fault where theirs ends
+-- the record that the inputs of a record give; the answer has the fault of the first record, if
+-- there is one
 abbrev pub replayed_with : {S G E L P : Type 0} → Meaning S G E L P → ProfileValue → List ℕ
     → Outcome
 replayed_with m profile record_bytes = record {
@@ -22,12 +23,12 @@ replayed_with m profile record_bytes = record {
   bytes = again m profile record_bytes;
 }
 
--- the same with the run that the record's header names, or the refusal of that
+-- the same with the run that the header of the record names, or why it names none
 abbrev pub replay_outcome : List ℕ → Outcome
 replay_outcome record_bytes = over_run (λ S G E L P m profile. replayed_with m profile record_bytes)
     (λ why. refusal (refused why)) (run_of record_bytes)
 
--- what a command answers by the end of the replay
+-- the answer of a command for the result of a replay
 abbrev pub answer_of : Result Counts (Stopped RecordFault) → Answer
 answer_of (Ok counts) = Done
 answer_of (Err (Refused fault)) = BadRecord 0 fault

@@ -1,4 +1,4 @@
--- What the answer of replaying by a crew says.
+-- What replaying by a crew ensures of its result.
 use Rattle.std.specs.Prelude.{ℕ, List, [], ◌∷◌, Result}
 use Rattle.det_values.specs.Values.{ProfileValue}
 use Rattle.det_values.specs.declared.job_kind.JobKind.{JobKind}
@@ -20,7 +20,7 @@ abbrev pub replayed : JobKind → ProfileValue → List ℕ → Outcome
 replayed kind profile record_bytes =
     by_kind (λ S G E L P m. replayed_with m profile record_bytes) kind
 
--- the rest of the record was run again behind the bytes that the reader had read
+-- the rest of the record was run again, after the bytes that the reader had read
 pub record HasReplayed {S G E L P : Type 0} (m : Meaning S G E L P) (profile : ProfileValue)
     (frames : FrameReader) (shelf : ShelfRun) (sink : SinkRun)
     (result : Result Counts (Stopped RecordFault)) : Type 0 where

@@ -1,4 +1,4 @@
--- What `upgrade` gives by the bytes of a record: the record of the same run in format 2.
+-- What `upgrade` gives for the bytes of a record: the record of the same run in format 2.
 use Rattle.std.specs.Prelude.{ℕ, List, is_none, if◌then◌else◌, Result, Ok, Err}
 use Rattle.det_values.specs.Values.{ProfileValue}
 use Rattle.det_io.specs.declared.failure.Stopped.{Stopped}
@@ -24,13 +24,13 @@ upgraded_with m profile record_bytes = record {
   bytes = upgraded m profile record_bytes;
 }
 
--- the same with the run that the record's header names, or the refusal of that
+-- the same with the run that the header of the record names, or why it names none
 abbrev pub upgrade_outcome : List ℕ → Outcome
 upgrade_outcome record_bytes =
     over_run (λ S G E L P m profile. upgraded_with m profile record_bytes)
     (λ why. refusal (refused why)) (run_of record_bytes)
 
--- what the command answers by the end of the upgrade
+-- the answer of the command for the result of an upgrade
 abbrev pub answer_of : Result CheckVerdict (Stopped RecordFault) → Answer
 answer_of (Ok (Genuine cycles)) = Done
 answer_of (Ok (Departs at)) = Differs

@@ -1,4 +1,4 @@
--- What upgrading by a crew asks of a record and a shelf, and what its answer says.
+-- What upgrading by a crew requires of a record and a shelf, and what it ensures of its result.
 use Rattle.std.specs.Prelude.{◌≡◌, ℕ, List, [], ◌∷◌, Result}
 use Rattle.det_values.specs.Values.{ProfileValue}
 use Rattle.det_values.specs.declared.format.Format.TheVariants.{Two}
@@ -23,14 +23,14 @@ abbrev pub upgraded_by_kind : JobKind → ProfileValue → List ℕ → Outcome
 upgraded_by_kind kind profile record_bytes =
     by_kind (λ S G E L P m. upgraded_with m profile record_bytes) kind
 
--- the profile is that of a record but for its format, which is Two; and of the record the header
--- alone was given
+-- the profile is that of a record except for its format, which is Two; of the record only the
+-- header was read
 pub record CanUpgrade (original : Original) (profile : ProfileValue) (shelf : ShelfState)
     : Type 0 where
   pub two : profile.format ≡ Two
   pub opened : IsOpen original.frames (header_of original profile) shelf
 
--- the rest of the record was upgraded behind the bytes that its reader had read
+-- the rest of the record was upgraded, after the bytes that its reader had read
 pub record HasUpgraded {S G E L P : Type 0} (m : Meaning S G E L P) (profile : ProfileValue)
     (original : Original) (shelf : ShelfRun) (sink : SinkRun)
     (result : Result CheckVerdict (Stopped RecordFault)) : Type 0 where

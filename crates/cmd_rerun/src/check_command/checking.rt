@@ -1,4 +1,4 @@
-//! The command `check`.
+//! The command `check`: opens the record, checks it by a crew, and prints the verdict.
 ghost use Rattle.std.specs.Prelude.{◌≡◌, ◌≢◌, ℕ, List, ◌∷◌, [], ◌++◌, true, length, None, Some};
 ghost use Rattle.det_io.specs.Count.{Rose};
 ghost use Rattle.det_io.specs.Shelf.{AsksPrefix, Reads};
@@ -6,7 +6,7 @@ ghost use Rattle.record_grammar.specs.declared.item.Item.TheVariants as items;
 ghost use Rattle.record_reader.specs.Frames.{IsOpen, StandsFor, slot_of};
 ghost use Rattle.probes.specs.Shows.{seen};
 ghost use Rattle.jobs.specs.Kinds.{bad_param};
-ghost use Rattle.cli_answers.specs.Ends.{can_end, compares_records};
+ghost use Rattle.cli_answers.specs.Ends.{can_end, compares_runs};
 ghost use Rattle.cli_answers.specs.Outcome.{Meets, Tells, told};
 ghost use Rattle.cli_answers.specs.Slots.{KeepsSlots};
 ghost use Rattle.cmd_rerun.specs.check_command.Check.{check_outcome, SawFirst};
@@ -24,7 +24,7 @@ use shipped_crews::{ShippedRun, Workers, with_crew};
 use std::thread::Threads;
 use worker_pool::Gate;
 
-/// Checks the rest of a record by a crew, and prints what was found.
+/// Checks the rest of a record by a crew, and prints the verdict and the reports.
 fn check_by_crew<S, K, R, G>(
     workers: &Workers<'_, R, G>,
     run: RecordedRun,
@@ -44,7 +44,7 @@ where
         (read ++ rest)) ((S.sees shelf.old).left (slot_of run.frames) ≡ Some rest)
         (Rose (S.sees shelf.old).faults (S.sees shelf.new).faults)
         (Rose (K.faults out.old) (K.faults out.new)) (K.took out.old) (K.took out.new) result }
-    ensures ends { can_end compares_records result ≡ true }
+    ensures ends { can_end compares_runs result ≡ true }
     ensures reads { (read : List ℕ)
         × Reads (S.sees shelf.old) (S.sees shelf.new) (slot_of run.frames) read }
     ensures saw { (read rest : List ℕ) → StandsFor run.frames read (items.Header run.profile ∷ [])
@@ -79,10 +79,11 @@ where
 }
 
 /// Runs the job of the record under this name again over its inputs, and shows its runs to the
-/// audience. After the last frame that was compared it prints whether the record is what its
-/// inputs give, or the first place at which it isn't, and what the audience reports. Where the
-/// record has a fault and departs nowhere before it, nothing is printed. Where no shipped job takes
-/// what the header says, nobody is shown anything either.
+/// audience. After the last frame that was compared it prints whether the record is what its inputs
+/// give, or the first place where it isn't. Then it prints the reports of the audience.
+///
+/// If the record has a fault and departs nowhere before it, nothing is printed. If no shipped job
+/// takes what the header says, the audience isn't shown anything either.
 pub fn check<S, K, R, G>(
     workers: &Workers<'_, R, G>,
     recorded: &str,
@@ -99,10 +100,10 @@ where
         (told (S.sees shelf.old) recorded.now)) (Tells (S.sees shelf.old) (recorded.now ∷ []))
         (Rose (S.sees shelf.old).faults (S.sees shelf.new).faults)
         (Rose (K.faults out.old) (K.faults out.new)) (K.took out.old) (K.took out.new) result }
-    ensures ends { can_end compares_records result ≡ true }
+    ensures ends { can_end compares_runs result ≡ true }
     ensures asked { AsksPrefix (S.sees shelf.old) (S.sees shelf.new) (recorded.now ∷ []) }
     ensures earlier { KeepsSlots (S.sees shelf.old) (S.sees shelf.new) }
-    // At every answer but want of memory the audience has seen the first of the runs checked.
+    // At every answer but `OutOfMemory` the audience has seen the first of the runs checked.
     ensures saw { result ≢ Answer.OutOfMemory → Tells (S.sees shelf.old) (recorded.now ∷ [])
         → SawFirst (seen (λ b. life (b.vtable, b.value)) audience.old)
         (seen (λ b. life (b.vtable, b.value)) audience.new)

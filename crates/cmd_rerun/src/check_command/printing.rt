@@ -1,7 +1,7 @@
-//! What a check prints.
+//! The output of `check`: the line of a verdict, then the reports.
 ghost use Rattle.std.specs.Prelude.{◌≡◌, ◌++◌, true, Ok, IfOk, OnOk};
 ghost use Rattle.det_io.specs.Count.{Rose};
-ghost use Rattle.cli_answers.specs.Ends.{can_end, compares_records};
+ghost use Rattle.cli_answers.specs.Ends.{can_end, compares_runs};
 ghost use Rattle.cli_answers.specs.Outcome.{Meets};
 ghost use Rattle.cmd_rerun.specs.check_command.Check.{answer_to, check_line, outcome_by};
 
@@ -14,10 +14,10 @@ use record_text::{put_number_line, put_words};
 use rerun::checker::CheckVerdict;
 use std::alloc::Global;
 
-/// What the command answers by its verdict.
+/// The answer of the command for a verdict.
 fn answer_to(verdict: CheckVerdict) -> Answer
     ensures is { result ≡ answer_to verdict }
-    ensures ends { can_end compares_records result ≡ true }
+    ensures ends { can_end compares_runs result ≡ true }
 {
     match verdict {
         CheckVerdict::Genuine { .. } => Answer::Done,
@@ -57,7 +57,7 @@ fn lines_of(alloc: Global, verdict: CheckVerdict, reports: &[u8]) -> Result<Vec<
     Ok(lines)
 }
 
-/// Prints the line of a verdict and the reports behind it.
+/// Prints the line of a verdict, then the reports.
 pub(crate) fn print<K: Sink>(
     alloc: Global,
     verdict: CheckVerdict,
@@ -66,7 +66,7 @@ pub(crate) fn print<K: Sink>(
 ) -> Answer
     ensures meets { Meets (outcome_by (Ok verdict) reports.now) (Unit {0}) ⊥
         (Rose (K.faults out.old) (K.faults out.new)) (K.took out.old) (K.took out.new) result }
-    ensures ends { can_end compares_records result ≡ true }
+    ensures ends { can_end compares_runs result ≡ true }
 {
     let Ok(lines) = lines_of(alloc, verdict, reports) else {
         return Answer::OutOfMemory;

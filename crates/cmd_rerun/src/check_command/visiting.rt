@@ -1,4 +1,4 @@
-//! The checker as what is done with a run.
+//! Adapts `check_run` to `Visit`, so that `with_crew` can call it.
 use det_io::{Sink, Slots, Stopped};
 use job::{Job, Pool};
 use probes::{Audience, Probe};
@@ -8,7 +8,7 @@ use recorder::run_writer::Recording;
 use rerun::checker::{CheckVerdict, check_run};
 use shipped_crews::Visit;
 
-/// Checks a record, whose header alone was read.
+/// Checks a record. Only its header was read before.
 #[derive(Drop)]
 pub(crate) struct Check {
     pub frames: FrameReader,

@@ -1,11 +1,11 @@
-//! The command `replay`.
+//! The command `replay`: opens the record and replays it by a crew.
 ghost use Rattle.std.specs.Prelude.{◌≡◌, ℕ, List, ◌∷◌, [], ◌++◌, true, length, None, Some};
 ghost use Rattle.det_io.specs.Count.{Rose};
 ghost use Rattle.det_io.specs.Shelf.{AsksPrefix, Reads};
 ghost use Rattle.record_grammar.specs.declared.item.Item.TheVariants as items;
 ghost use Rattle.record_reader.specs.Frames.{StandsFor, IsOpen, slot_of};
 ghost use Rattle.jobs.specs.Kinds.{bad_param};
-ghost use Rattle.cli_answers.specs.Ends.{can_end, reads_records};
+ghost use Rattle.cli_answers.specs.Ends.{can_end, reruns_records};
 ghost use Rattle.cli_answers.specs.Outcome.{Meets, Tells, told};
 ghost use Rattle.cli_answers.specs.Slots.{KeepsSlots};
 ghost use Rattle.cmd_rerun.specs.replay_command.Replay.{replay_outcome, answer_of};
@@ -22,10 +22,10 @@ use shipped_crews::{ShippedRun, Workers, with_crew};
 use std::thread::Threads;
 use worker_pool::Gate;
 
-/// What a replay is answered. The one record that is read is copy 0.
+/// The answer of the command for the result of a replay. The one record that is read is copy 0.
 fn answer_of(replayed: Result<Counts, Stopped<RecordFault>>) -> Answer
     ensures is { result ≡ answer_of replayed }
-    ensures ends { can_end reads_records result ≡ true }
+    ensures ends { can_end reruns_records result ≡ true }
 {
     match replayed {
         Ok(_) => Answer::Done,
@@ -34,7 +34,7 @@ fn answer_of(replayed: Result<Counts, Stopped<RecordFault>>) -> Answer
     }
 }
 
-/// Runs a record's job over the rest of the record, by a crew. Nobody looks at the runs.
+/// Replays the rest of a record by a crew, without an audience.
 fn replay_by_crew<S, K, R, G>(
     workers: &Workers<'_, R, G>,
     run: RecordedRun,
@@ -53,7 +53,7 @@ where
         ((S.sees shelf.old).left (slot_of run.frames) ≡ Some rest)
         (Rose (S.sees shelf.old).faults (S.sees shelf.new).faults)
         (Rose (K.faults out.old) (K.faults out.new)) (K.took out.old) (K.took out.new) result }
-    ensures ends { can_end reads_records result ≡ true }
+    ensures ends { can_end reruns_records result ≡ true }
     ensures reads { (read : List ℕ)
         × Reads (S.sees shelf.old) (S.sees shelf.new) (slot_of run.frames) read }
 {
@@ -72,9 +72,9 @@ where
 }
 
 /// Runs the job of the record under this name again over its inputs, and writes the record that
-/// they give, whatever outcomes the record holds. Where the record has a fault, the runs of all
-/// inputs before it are written, and no Terminate. Where no shipped job takes what the header
-/// says, nothing is written.
+/// they give. The outcomes in the record that is read don't matter. If it has a fault, the runs of
+/// all inputs before the fault are written, without Terminate. If no shipped job takes what the
+/// header says, nothing is written.
 pub fn replay<S, K, R, G>(
     workers: &Workers<'_, R, G>,
     recorded: &str,
@@ -90,7 +90,7 @@ where
         (Tells (S.sees shelf.old) (recorded.now ∷ []))
         (Rose (S.sees shelf.old).faults (S.sees shelf.new).faults)
         (Rose (K.faults out.old) (K.faults out.new)) (K.took out.old) (K.took out.new) result }
-    ensures ends { can_end reads_records result ≡ true }
+    ensures ends { can_end reruns_records result ≡ true }
     ensures asked { AsksPrefix (S.sees shelf.old) (S.sees shelf.new) (recorded.now ∷ []) }
     ensures earlier { KeepsSlots (S.sees shelf.old) (S.sees shelf.new) }
 {

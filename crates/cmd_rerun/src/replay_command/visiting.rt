@@ -1,4 +1,4 @@
-//! The replayer as what is done with a run.
+//! Adapts `replay_run` to `Visit`, so that `with_crew` can call it.
 use det_io::{Sink, Slots, Stopped};
 use job::{Job, Pool};
 use probes::Audience;
@@ -8,7 +8,7 @@ use recorder::run_writer::{Counts, Recording};
 use rerun::replayer::replay_run;
 use shipped_crews::Visit;
 
-/// Runs the inputs of a record again, whose header alone was read.
+/// Replays a record. Only its header was read before.
 #[derive(Drop)]
 pub(crate) struct Replay {
     pub frames: FrameReader,

@@ -1,4 +1,4 @@
-//! The command `upgrade`.
+//! The command `upgrade`: opens the record and upgrades it by a crew.
 ghost use Rattle.std.specs.Prelude.{◌≡◌, ℕ, List, ◌∷◌, [], ◌++◌, true, length};
 ghost use Rattle.std.specs.Prelude.{None, Some};
 ghost use Rattle.det_io.specs.Count.{Rose};
@@ -7,7 +7,7 @@ ghost use Rattle.record_grammar.specs.declared.item.Item.TheVariants as items;
 ghost use Rattle.record_reader.specs.Frames.{IsOpen, StandsFor, slot_of};
 ghost use Rattle.jobs.specs.Kinds.{bad_param};
 ghost use Rattle.rerun.specs.upgrader.Upgraded.{in_format_two};
-ghost use Rattle.cli_answers.specs.Ends.{can_end, compares_records};
+ghost use Rattle.cli_answers.specs.Ends.{can_end, compares_runs};
 ghost use Rattle.cli_answers.specs.Outcome.{Meets, Tells, told};
 ghost use Rattle.cli_answers.specs.Slots.{KeepsSlots};
 ghost use Rattle.cmd_rerun.specs.upgrade_command.Upgrade.{upgrade_outcome};
@@ -28,10 +28,10 @@ use shipped_crews::{ShippedRun, Workers, with_crew};
 use std::thread::Threads;
 use worker_pool::Gate;
 
-/// What an upgrade is answered.
+/// The answer of the command for the result of an upgrade.
 fn answer_of(upgraded: Result<CheckVerdict, Stopped<RecordFault>>) -> Answer
     ensures is { result ≡ answer_of upgraded }
-    ensures ends { can_end compares_records result ≡ true }
+    ensures ends { can_end compares_runs result ≡ true }
 {
     match upgraded {
         Ok(CheckVerdict::Genuine { .. }) => Answer::Done,
@@ -50,7 +50,7 @@ fn in_format_two(profile: Profile) -> Profile
     }
 }
 
-/// Runs a record's job over the rest of the record, by a crew. Nobody looks at the runs.
+/// Upgrades the rest of a record by a crew, without an audience.
 fn upgrade_by_crew<S, K, R, G>(
     workers: &Workers<'_, R, G>,
     run: RecordedRun,
@@ -69,7 +69,7 @@ where
         ((S.sees shelf.old).left (slot_of run.frames) ≡ Some rest)
         (Rose (S.sees shelf.old).faults (S.sees shelf.new).faults)
         (Rose (K.faults out.old) (K.faults out.new)) (K.took out.old) (K.took out.new) result }
-    ensures ends { can_end compares_records result ≡ true }
+    ensures ends { can_end compares_runs result ≡ true }
     ensures reads { (read : List ℕ)
         × Reads (S.sees shelf.old) (S.sees shelf.new) (slot_of run.frames) read }
 {
@@ -90,10 +90,11 @@ where
     }
 }
 
-/// Runs the job of the record under this name again over its inputs, and writes the record of that
-/// run in format 2, up to the first frame that isn't what the inputs give. Where the record has a
-/// fault, the frames before it are written, and no Terminate. Where no shipped job takes what the
-/// header says, nothing is written.
+/// Runs the job of the record under this name again over its inputs. Writes the record of that run
+/// in format 2, up to the first frame that isn't what the inputs give.
+///
+/// If the record has a fault, the frames before it are written, without Terminate. If no shipped
+/// job takes what the header says, nothing is written.
 pub fn upgrade<S, K, R, G>(
     workers: &Workers<'_, R, G>,
     recorded: &str,
@@ -109,7 +110,7 @@ where
         (Tells (S.sees shelf.old) (recorded.now ∷ []))
         (Rose (S.sees shelf.old).faults (S.sees shelf.new).faults)
         (Rose (K.faults out.old) (K.faults out.new)) (K.took out.old) (K.took out.new) result }
-    ensures ends { can_end compares_records result ≡ true }
+    ensures ends { can_end compares_runs result ≡ true }
     ensures asked { AsksPrefix (S.sees shelf.old) (S.sees shelf.new) (recorded.now ∷ []) }
     ensures earlier { KeepsSlots (S.sees shelf.old) (S.sees shelf.new) }
 {

@@ -1,4 +1,4 @@
-//! The upgrader as what is done with a run.
+//! Adapts `upgrade_run` to `Visit`, so that `with_crew` can call it.
 use det_io::{Sink, Slots, Stopped};
 use job::{Job, Pool};
 use probes::Audience;
@@ -8,7 +8,7 @@ use rerun::checker::CheckVerdict;
 use rerun::upgrader::{Original, upgrade_run};
 use shipped_crews::Visit;
 
-/// Upgrades a record, whose header alone was read.
+/// Upgrades a record. Only its header was read before.
 #[derive(Drop)]
 pub(crate) struct Upgrade {
     pub original: Original,

@@ -1,4 +1,4 @@
--- Where a chain begins.
+-- What `chain_run` requires of both recordings and of the reader.
 use Rattle.std.specs.Prelude.{◌≡◌, ◌<◌, [], length}
 use Rattle.det_io.specs.Shelf.{ShelfState}
 use Rattle.job.specs.Meaning.{Meaning}
@@ -7,7 +7,8 @@ use Rattle.recorder.specs.run_writer.Recording.{IsNew}
 use Rattle.stimulus.specs.declared.slot_reader.reader.StimulusReader.{StimulusReader}
 use Rattle.stimulus.specs.slot_reader.StandsFor.{StandsFor, slot_of, events_of}
 
--- nothing of either run was written, and nothing of the stimulus read, which is the first client's
+-- nothing of either run was written, and nothing of the stimulus was read; its events are the first
+-- client's
 pub record IsBegun {S G E L P : Type 0} (m : Meaning S G E L P) (recording : Recording S G E L P)
     {T H F M Q : Type 0} (n : Meaning T H F M Q) (other : Recording T H F M Q)
     (stimulus : StimulusReader) (shelf : ShelfState) : Type 0 where

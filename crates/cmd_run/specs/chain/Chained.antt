@@ -10,15 +10,15 @@ use Rattle.cmd_run.specs.chain.Derived.{derived}
 
 module _ {S G E L P : Type 0} (m : Meaning S G E L P) (first : ProfileValue)
     {T H F M Q : Type 0} (n : Meaning T H F M Q) (second : ProfileValue) where
-  -- the inputs of the second client, where the first one was given these
+  -- the inputs of the second client, if the first one was given these
   abbrev pub passed_on : List CycleInput → List CycleInput
   passed_on inputs = derived m first inputs (length second.events)
 
-  -- the second client's record of them, with Terminate where the run is ended
+  -- the second client's record of these, with Terminate if the run is ended
   abbrev pub second_with : List CycleInput → Bool → List ℕ
   second_with inputs ended = record_with n second (passed_on inputs) ended
 
-  -- the second client's record of a text, which the events of the first profile judge
+  -- the second client's record of a text, which is checked against the events of the first profile
   abbrev pub second_of : List ℕ → List ℕ
   second_of text = second_with (blocks (length first.events) text)
       (is_terminated (ending (length first.events) text))

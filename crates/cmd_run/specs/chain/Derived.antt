@@ -10,28 +10,28 @@ use Rattle.det_values.specs.declared.frames.RunFrame.{RunFrame}
 use Rattle.job.specs.Meaning.{Meaning}
 use Rattle.cycle_engine.specs.Frames.{runs}
 
--- a word as the sample of an event, or none where it isn't from -10^12 to 10^12
+-- a word as the sample of an event; none if it is beyond 10^12 in either direction
 abbrev pub sample_of : ℕ → ℤ → List SampleValue
 sample_of event word = if int_le (negsuc 999999999999) word && int_le word (pos 1000000000000)
     then record { event = event; value = word } ∷ [] else []
 
--- the word that stands first: eight bytes, as a number in two's complement, big-endian
+-- the first word: eight bytes as a number, big-endian, in two's complement
 abbrev pub first_word : List ℕ → ℤ
 first_word bytes = cast_signed w64 (from_be_bytes w64 (take 8 bytes))
 
--- The words of an output as samples of so many events, counted on from `event`, one word an event.
--- A rest of fewer than 8 bytes is no word, and words behind those of all events are left out.
+-- The words of an output as samples of this number of events, counted on from `event`, one word an
+-- event. Fewer than 8 bytes at the end are no word. Words after those of all events are left out.
 abbrev pub samples_from : (event events : ℕ) → (output : List ℕ) → List SampleValue
 samples_from event zero output = []
 samples_from event (suc events) output = if nat_le 8 (length output) then
     sample_of event (first_word output) ++ samples_from (event + 1) events (drop 8 output) else []
 
--- the samples that a cycle gives: none where it was refused
+-- the samples that a cycle gives: none if it was refused
 abbrev pub samples_of : ℕ → Outcome → List SampleValue
 samples_of events (Finished elements output) = samples_from 0 events output
 samples_of events (Refused at) = []
 
--- a cycle's input for a second client of so many events, at the same time
+-- a cycle's input for a second client with this number of events, at the same time
 abbrev pub derived_input : ℕ → RunFrame → CycleInput
 derived_input events run = record run.input { samples = samples_of events run.outcome }
 

@@ -1,4 +1,4 @@
--- How a chain ends.
+-- How `chain_run` ends: what its result says of the text and of what the two sinks took.
 use Rattle.std.specs.Prelude.{◌≡◌, ◌⊎◌, ℕ, List, [], ◌++◌, length, true, false, IfSome, Result}
 use Rattle.std.specs.Prelude.{Ok, Err}
 use Rattle.std.specs.List.{count_by}
@@ -54,14 +54,14 @@ module _ {S G E L P : Type 0} (m : Meaning S G E L P) (first : ProfileValue)
     pub bad : ending (length first.events) text ≡ BadLine line
     pub grew : BothGrew sinks (record_of m first text) (second_of m first n second text)
 
-  -- what an answer says of a text and of what the sinks took
+  -- what a result says of a text and of what the sinks took
   abbrev pub Answers : Result ChainCounts (Stopped StimFault) → List ℕ → Sinks → Type 0
   Answers (Ok counts) text sinks = Finishes text counts sinks
   Answers (Err (Refused fault)) text sinks = Stops text fault.line sinks
   Answers (Err (Failed failure)) text sinks =
       BothGrewByPrefix sinks (record_of m first text) (second_of m first n second text)
 
-  -- How far a text was read: to its end, or as far as its bad line counts as fed; and what was
+  -- How far a text was read: to its end, or as far as its bad line counts as fed. And what was
   -- written where a read failed.
   abbrev pub ReadsTo : Result ChainCounts (Stopped StimFault) → List ℕ → Type 0 → Sinks → Type 0
   ReadsTo (Ok counts) read at_end sinks = at_end
@@ -73,8 +73,8 @@ module _ {S G E L P : Type 0} (m : Meaning S G E L P) (first : ProfileValue)
   ReadsTo (Err (Failed Write)) read at_end sinks = Unit {0}
   ReadsTo (Err (Failed OutOfMemory)) read at_end sinks = Unit {0}
 
-  -- The answer after these bytes were read. It holds of every text that begins with them, or of
-  -- them alone at the end.
+  -- The result after these bytes were read. It holds of every text that begins with them. At the
+  -- end of the text it holds only of the bytes themselves.
   pub record Ended (result : Result ChainCounts (Stopped StimFault)) (read : List ℕ)
       (at_end : Type 0) (sinks : Sinks) : Type 0 where
     pub reads_to : ReadsTo result read at_end sinks
@@ -82,8 +82,8 @@ module _ {S G E L P : Type 0} (m : Meaning S G E L P) (first : ProfileValue)
 
   pub record IsChained (slot : ℕ) (shelf : ShelfRun) (sinks : Sinks)
       (result : Result ChainCounts (Stopped StimFault)) : Type 0 where
-    -- of the text that the slot had left, where the shelf tells it
+    -- of the text that the slot had left, where that is known
     pub answers : IfSome (shelf.first.left slot) (λ text. Answers result text sinks)
-    -- what was read, also where the shelf tells nothing
+    -- what was read, also where the rest of the text is unknown
     pub run : (read : List ℕ) × Reads shelf.first shelf.last slot read
         × Ended result read (IsAtEnd shelf.last slot) sinks

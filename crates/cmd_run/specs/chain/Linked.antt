@@ -1,4 +1,4 @@
--- How two clients stand side by side, and what a step of both writes.
+-- How far two clients are in their runs, and what a cycle of both writes.
 use Rattle.std.specs.Prelude.{◌≡◌, ◌⊎◌, ℕ, ◌≤◌, List, [], ◌∷◌, ◌++◌, length, Option, Some}
 use Rattle.det_values.specs.Values.{ProfileValue}
 use Rattle.det_values.specs.declared.frames.CycleInput.{CycleInput}
@@ -16,7 +16,7 @@ use Rattle.cmd_run.specs.chain.Derived.{derived_input}
 use Rattle.cmd_run.specs.chain.Chained.{passed_on}
 use Rattle.cmd_run.specs.chain.Ends.{Sinks, BothGrew, BothGrewByPrefix}
 
--- a failure that cuts a record off
+-- a failure that cuts off a record
 abbrev pub IsCut : Failure → Type 0
 IsCut Read = ⊥
 IsCut Write = Unit {0}
@@ -27,21 +27,21 @@ pub record CutOff (failure : Failure) (sinks : Sinks) (bytes others : List ℕ) 
   pub cause : IsCut failure
   pub grew : BothGrewByPrefix sinks bytes others
 
--- a write failed only where one of the counts of faults rose, which never fall
+-- a write failed only if one of the counts of faults rose; the counts never fall
 pub record BothTraffic (sinks : Sinks) (failure : Option Failure) : Type 0 where
   pub cause : failure ≡ Some Write → Rose sinks.first.faults_before sinks.first.faults_after
       ⊎ Rose sinks.second.faults_before sinks.second.faults_after
   pub first : sinks.first.faults_before ≤ sinks.first.faults_after
   pub second : sinks.second.faults_before ≤ sinks.second.faults_after
 
--- the frame of the run behind these inputs
+-- the frame of the cycle after these inputs
 abbrev pub next_run : {S G E L P : Type 0} → Meaning S G E L P → ProfileValue → List CycleInput
     → CycleInput → RunFrame
 next_run m profile given input = frame_of m profile given (state_of m profile given) input
 
 module _ {S G E L P : Type 0} (m : Meaning S G E L P) {T H F M Q : Type 0} (n : Meaning T H F M Q)
   where
-    -- the first stands behind these inputs, the second behind those that they give it
+    -- the first client has run these inputs, and the second those that they give it
     pub record BothStand (recording : Recording S G E L P) (other : Recording T H F M Q)
         (given : List CycleInput) : Type 0 where
       pub first : Stands m recording given
@@ -52,7 +52,7 @@ module _ {S G E L P : Type 0} (m : Meaning S G E L P) {T H F M Q : Type 0} (n : 
       abbrev pub next_input : CycleInput
       next_input = derived_input (length second.events) (next_run m first given input)
 
-      -- the two frames of the cycle behind these inputs
+      -- the two frames of the cycle after these inputs
       abbrev pub first_frame : List ℕ
       first_frame = spelled_frame first.format (Run (next_run m first given input))
 
@@ -60,7 +60,7 @@ module _ {S G E L P : Type 0} (m : Meaning S G E L P) {T H F M Q : Type 0} (n : 
       second_frame = spelled_frame second.format
           (Run (next_run n second (passed_on m first n second given) next_input))
 
-      -- both ran one cycle more and wrote its frame
+      -- both ran one more cycle and wrote its frame
       pub record Linked (recording : Recording S G E L P) (other : Recording T H F M Q)
           (sinks : Sinks) : Type 0 where
         pub stands : BothStand recording other (given ++ input ∷ [])

@@ -1,4 +1,4 @@
--- What `cmd_run::chain` gives of two manifests and a stimulus.
+-- What `chain` gives for two manifests and a stimulus.
 use Rattle.std.specs.Prelude.{ℕ, Bool, List, [], ◌∷◌, length, Option, Result, Ok, Err}
 use Rattle.std.specs.Option.{unwrap_or}
 use Rattle.det_values.specs.Values.{ProfileValue}
@@ -20,13 +20,13 @@ use Rattle.cli_answers.specs.Outcome.{Outcome}
 use Rattle.run_setup.specs.Setup.{setup_of, with_manifest}
 use Rattle.cmd_run.specs.record_command.Outcomes.{answer_to, record_names}
 
--- what a run of a chain is answered
+-- the answer of the command for the result of a chain
 abbrev pub answer_of : Result ChainCounts (Stopped StimFault) → Answer
 answer_of (Ok counts) = answers.Done
 answer_of (Err (Refused fault)) = answers.BadStimulus fault.line
 answer_of (Err (Failed failure)) = failed failure
 
--- the second client's record of a text, also where a bad line ends it
+-- the second client's record of a text, also if a bad line ends it
 abbrev pub chained : {S G E L P : Type 0} → Meaning S G E L P → ProfileValue → {T H F M Q : Type 0}
     → Meaning T H F M Q → ProfileValue → List ℕ → Outcome
 chained m first n second text = record {
@@ -40,14 +40,14 @@ chained_by seed stimulus first second =
     by_kind (λ S G E L P m. by_kind (λ T H F M Q n.
     chained m (profile_of first seed) n (profile_of second seed) stimulus) second.kind) first.kind
 
--- the names that `cmd_run::chain` opens: none behind a manifest that is refused
+-- the names that `chain` opens: none after a manifest that is refused
 abbrev pub chain_names : (first second stimulus : List ℕ)
     → (judged other : Result ManifestValue BadManifest) → List (List ℕ)
 chain_names first second stimulus (Ok m) other = first ∷ record_names second stimulus other
 chain_names first second stimulus (Err why) other = first ∷ []
 
--- What `cmd_run::chain` gives of two manifests and a stimulus, with the seed 0 where none is given. The first
--- manifest is judged before the second.
+-- What `chain` gives for two manifests and a stimulus, with seed 0 if there is none. The first
+-- manifest is checked before the second.
 abbrev pub chain_outcome : (strict : Bool) (first second stimulus : List ℕ) → Option ℕ → Outcome
 chain_outcome strict first second stimulus seed =
     with_manifest (λ m. with_manifest (chained_by (unwrap_or seed 0) stimulus m)

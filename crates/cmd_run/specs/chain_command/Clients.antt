@@ -1,4 +1,4 @@
--- What `cmd_run::chain` gives by its two clients.
+-- What `chain` gives for its two clients.
 use Rattle.std.specs.Prelude.{ℕ, List, Result}
 use Rattle.det_values.specs.Values.{ProfileValue}
 use Rattle.det_values.specs.declared.job_kind.JobKind.{JobKind}
@@ -25,12 +25,12 @@ chained_by_kinds first second text =
     by_kind (λ S G E L P m. by_kind (λ T H F M Q n.
     chained m first.profile n second.profile text) second.kind) first.kind
 
--- behind a first client: the second manifest's, over a stimulus, or the refusal of that manifest
+-- after a first client: what the second manifest gives over a stimulus, or its refusal
 abbrev pub chained_behind : ℕ → Client → List ℕ → Result ManifestValue BadManifest → Outcome
 chained_behind seed first stimulus =
     with_manifest (λ m. chained_by_kinds first (client_of seed m) stimulus)
 
--- the first manifest is judged before the second
+-- the first manifest is checked before the second
 abbrev pub chained_from : ℕ → List ℕ → (first second : Result ManifestValue BadManifest) → Outcome
 chained_from seed stimulus first second =
     with_manifest (λ m. chained_behind seed (client_of seed m) stimulus second) first

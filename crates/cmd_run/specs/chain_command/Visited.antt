@@ -1,4 +1,4 @@
--- What the visitor of two runs does.
+-- What the visitor of two runs requires and ensures.
 use Rattle.std.specs.Prelude.{◌≡◌, ◌<◌, ◌⊎◌, ℕ, length, Some, Result}
 use Rattle.det_values.specs.Values.{ProfileValue}
 use Rattle.det_io.specs.Count.{Rose}
@@ -11,12 +11,12 @@ use Rattle.stimulus.specs.declared.item.StimFault.{StimFault}
 use Rattle.cmd_run.specs.declared.chain.counts.ChainCounts.{ChainCounts}
 use Rattle.cmd_run.specs.chain.Ends.{IsChained}
 
--- the slot was given, and the events are the first profile's
+-- the shelf gave the slot, and the events are those of the first profile
 pub record CanChain (slot events : ℕ) (first : ProfileValue) (shelf : ShelfState) : Type 0 where
   pub given : slot < shelf.slots
   pub named : events ≡ length first.events
 
--- the chain of a slot's stimulus, with what it did to the shelf and to the two sinks
+-- the chain over a slot's stimulus, and what it did to the shelf and to the two sinks
 pub record HasChained {S G E L P : Type 0} (m : Meaning S G E L P) (first : ProfileValue)
     {T H F M Q : Type 0} (n : Meaning T H F M Q) (second : ProfileValue) (slot : ℕ)
     (shelf : ShelfRun) (first_sink second_sink : SinkRun)

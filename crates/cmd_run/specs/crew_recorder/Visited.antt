@@ -1,4 +1,4 @@
--- What recording by a crew asks of a slot, and what its answer says.
+-- What recording by a crew requires of a slot, and what it ensures of its result.
 use Rattle.std.specs.Prelude.{◌≡◌, ℕ, ◌<◌, Result}
 use Rattle.det_io.specs.Shelf.{ShelfState}
 use Rattle.det_io.specs.Traffic.{ShelfRun, SinkRun, ShelfTraffic, SinkTraffic, failure_in}

@@ -1,4 +1,4 @@
--- What is printed of a manifest: its job, its cycle, its workers, its platform and its needs.
+-- The lines of a manifest: its job, its cycle time, its workers, its platform and its needs.
 use Rattle.std.specs.Prelude.{ℕ, List, ◌++◌, Option, Some, None, unwrap_or, codes}
 use Rattle.det_values.specs.declared.job_kind.JobKind.{JobKind}
 use Rattle.det_values.specs.declared.job_kind.JobKind.TheVariants.{Bank, Cloud, Guard}
@@ -14,7 +14,7 @@ job_line Guard = codes "job guard\n"
 abbrev pub platform_line : Option (List ℕ) → List ℕ
 platform_line name = codes "platform " ++ (unwrap_or name (codes "none") ++ codes "\n")
 
--- the needs of an initialisation or of a run, each line behind that word
+-- the needs of an initialisation or of a run, each line after that keyword
 abbrev pub needs_of : List ℕ → Option Needs → List ℕ
 needs_of word None = word ++ codes " none\n"
 needs_of word (Some needs) =

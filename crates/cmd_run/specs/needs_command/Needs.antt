@@ -1,4 +1,4 @@
--- What `needs` gives by its manifest.
+-- What `needs` gives for its manifest.
 use Rattle.std.specs.Prelude.{ℕ, Bool, true, List}
 use Rattle.cli_answers.specs.Ends.{Work, writes_alone}
 use Rattle.cli_answers.specs.Outcome.{Outcome, text_outcome}

@@ -25,26 +25,26 @@ use Rattle.cli_answers.specs.Ends.{Work, writes_alone}
 use Rattle.cli_answers.specs.Outcome.{Outcome}
 use Rattle.run_setup.specs.Setup.{setup_of, with_manifest}
 
--- `demo` reads a stimulus, `record` a manifest besides
+-- `demo` reads a stimulus, and `record` a manifest as well
 abbrev pub demo_work : Work
 demo_work = record writes_alone { stimulus = true }
 
 abbrev pub record_work : Work
 record_work = record demo_work { manifest = true }
 
--- what a stimulus that ends like this is answered
+-- the answer for a stimulus that ends like this
 abbrev pub answer_to : Ending → Answer
 answer_to Terminated = answers.Done
 answer_to (BadLine line) = answers.BadStimulus line
 
--- what a run of the recorder is answered
+-- the answer for the result of a recording
 abbrev pub answer_of : Result Counts (Stopped StimFault) → Answer
 answer_of (Ok counts) = answers.Done
 answer_of (Err (Refused fault)) = answers.BadStimulus fault.line
 answer_of (Err (Failed failure)) = failed failure
 
 module _ {S G E L P : Type 0} (m : Meaning S G E L P) (profile : ProfileValue) where
-  -- the record of a text, also where a bad line ends it
+  -- the record of a text, also if a bad line ends it
   abbrev pub recorded : List ℕ → Outcome
   recorded text = record {
     answer = answer_to (ending (length profile.events) text);
@@ -62,7 +62,7 @@ demo_profile = record {
   events = record { capacity = 2; name = codes "x"; policy = Last } ∷ [];
 }
 
--- what `demo` gives of a stimulus
+-- what `demo` gives for a stimulus
 unfoldable pub demo_outcome : List ℕ → Outcome
 demo_outcome stimulus = recorded bank.meaning demo_profile stimulus
 
@@ -70,13 +70,13 @@ demo_outcome stimulus = recorded bank.meaning demo_profile stimulus
 abbrev pub recorded_by_kind : JobKind → ProfileValue → List ℕ → Outcome
 recorded_by_kind kind profile text = by_kind (λ S G E L P m. recorded m profile text) kind
 
--- the names that `record` opens: of a manifest that is refused it opens no stimulus
+-- the names that `record` opens; no stimulus after a manifest that is refused
 abbrev pub record_names : (manifest stimulus : List ℕ) → Result ManifestValue BadManifest
     → List (List ℕ)
 record_names manifest stimulus (Ok m) = manifest ∷ stimulus ∷ []
 record_names manifest stimulus (Err why) = manifest ∷ []
 
--- what `record` gives of a manifest and a stimulus, with the seed 0 where none is given
+-- what `record` gives for a manifest and a stimulus, with seed 0 if there is none
 abbrev pub record_outcome : (strict : Bool) (manifest stimulus : List ℕ) → Option ℕ → Outcome
 record_outcome strict manifest stimulus seed = with_manifest (λ m.
     recorded_by_kind m.kind (profile_of m (unwrap_or seed 0)) stimulus) (setup_of strict manifest)

@@ -1,6 +1,5 @@
--- What `sim` gives of a number: a summary of the run of a cloud over the stimulus that is made of
--- the number, and what the
--- probes report of it.
+-- What `sim` gives for a number: a summary of the run of a cloud over the stimulus that is
+-- generated from the number, and what the probes report of it.
 use Rattle.std.specs.Prelude.{ℕ, pos, List, [], ◌∷◌, ◌++◌, length, codes}
 use Rattle.std.specs.List.{count_by}
 use Rattle.sha2.specs.Sha256.{sha256}
@@ -21,7 +20,7 @@ use Rattle.record_text.specs.Summaries.{summary_lines}
 use Rattle.record_text.specs.declared.summary_lines.Summary.{Summary}
 use Rattle.cli_answers.specs.Outcome.{Outcome, text_outcome}
 
--- an event that keeps its newest sample
+-- an event that keeps only its newest sample
 abbrev pub newest_of : List ℕ → EventSpecValue
 newest_of name = record { capacity = 1; name = name; policy = Last }
 
@@ -42,7 +41,7 @@ module _ {S G E L P : Type 0} (m : Meaning S G E L P) (profile : ProfileValue) (
   abbrev pub runs_over : List RunFrame
   runs_over = runs m profile (blocks (length profile.events) text)
 
-  -- its number, how many cycles it had and how many of them were refused, the length of its record
+  -- its number, the number of cycles and how many of them were refused, the length of its record
   -- and the digest
   abbrev pub summary_over : ℕ → Summary
   summary_over number = record {
@@ -53,11 +52,11 @@ module _ {S G E L P : Type 0} (m : Meaning S G E L P) (profile : ProfileValue) (
     digest = sha256 (record_of m profile text);
   }
 
--- the cycles of the cloud over the made stimulus
+-- the cycles of the cloud over the generated stimulus
 unfoldable pub sim_runs : ℕ → List RunFrame
 sim_runs number = runs_over meaning (sim_profile number) (made number)
 
--- what is told of them
+-- the summary of these cycles
 unfoldable pub summary_of : ℕ → Summary
 summary_of number = summary_over meaning (sim_profile number) (made number) number
 

@@ -1,4 +1,4 @@
-//! Two clients run side by side.
+//! The loop of a chain: reads an input, runs a cycle of both clients, writes both frames.
 ghost use Rattle.std.specs.Prelude.{◌≡◌, ◌⊎◌, ◌≤◌, Some};
 ghost use Rattle.det_io.specs.Count.{Rose};
 ghost use Rattle.det_io.specs.Traffic.{ShelfTraffic, shelf_run, sink_run, failure_in};
@@ -15,13 +15,14 @@ use recorder::run_writer::Runner;
 use stimulus::StimFault;
 use stimulus::slot_reader::StimulusReader;
 
-/// Runs two clients side by side and writes the record of each: the first over the stimulus that a
-/// slot has left, the second over the outputs of the first. The second sees the output of a cycle
-/// in its next cycle, as it sees every sample.
+/// Runs two clients side by side and writes the record of each: the first over the stimulus that is
+/// left in a slot, the second over the outputs of the first. An output gives samples to the second
+/// client's cycle of the same number. As every sample, the second client sees them in its next
+/// cycle at the earliest.
 ///
-/// Both headers and the frames up to Init are written before the first line is judged, then for
-/// each complete block the first client's frame and the second's. Refused tells the bad line,
-/// behind both records of all before it. After an error neither runner is to be used.
+/// Both headers and the frames up to Init are written before the stimulus is read. Each complete
+/// block then gives the first client's frame and the second's. `Refused` has the bad line; both
+/// records of all blocks before it were written. After an error neither runner may be used.
 pub fn chain_run<A, P, B, Q, S, K, L>(
     first: &mut Runner<A, P>,
     second: &mut Runner<B, Q>,

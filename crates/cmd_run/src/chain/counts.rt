@@ -1,6 +1,6 @@
-//! What is counted of a chain.
+//! The counts of a chain.
 
-/// The cycles, which both clients run alike, and how many of them each refused.
+/// The number of cycles, which is the same for both clients, and how many each of them refused.
 #[derive(Clone, Copy, Debug, PartialEq, Eq, Drop)]
 pub struct ChainCounts {
     pub cycles: u32,

@@ -1,4 +1,4 @@
-//! The outputs of a client as the samples of another.
+//! The input of the second client: the output of the first client as samples.
 ghost use Rattle.std.specs.Prelude.{◌≡◌, ◌<◌, ◌≤◌, ◌++◌, [], length, drop, OnOk, IfOk};
 ghost use Rattle.std.specs.Prelude.{IfSome, IfNone};
 ghost use Rattle.std.specs.List.{All};
@@ -11,10 +11,11 @@ use std::alloc::Global;
 /// The greatest sample; its negation is the least one.
 const MOST: i64 = 1000000000000;
 
-/// The input that a cycle gives to another client of so many events: its time, and word j of its
-/// output, counted from 0, as the sample of event j. A word is 8 bytes, big-endian, in two's
-/// complement; one beyond 10^12 in either direction leaves its event without a sample. A refused
-/// cycle gives no samples.
+/// The input that a cycle gives to another client with this number of events: its time, and word j
+/// of its output as the sample of event j. Words count from 0.
+///
+/// A word is 8 bytes, big-endian, in two's complement. A word beyond 10^12 in either direction
+/// gives no sample. A refused cycle gives no samples.
 pub fn derived_input(alloc: Global, run: &RunFrame, events: u16) -> Result<CycleInput, OutOfMemory>
     requires { events ≤ 256 }
     ensures is { IfOk result (λ input. input ≡ derived_input events run.now) }
@@ -42,7 +43,7 @@ fn samples_of(alloc: Global, outcome: &Outcome, events: u16) -> Result<Samples, 
     }
 }
 
-/// Pushes the words of an output, one for each event.
+/// Pushes the words of an output as samples, one word for each event.
 fn push_words(output: &[u8], events: u16, samples: &mut Samples) -> Result<(), OutOfMemory>
     requires few { events ≤ 256 }
     requires none { samples.old ≡ [] }
@@ -60,7 +61,7 @@ fn push_words(output: &[u8], events: u16, samples: &mut Samples) -> Result<(), O
     Ok(())
 }
 
-/// Pushes a word as the sample of an event, unless it is out of the range.
+/// Pushes a word as the sample of an event, unless it is out of range.
 fn push_word(samples: &mut Samples, event: u16, word: i64) -> Result<(), OutOfMemory>
     requires { length samples.old < 4096 }
     ensures { OnOk result (samples.new ≡ samples.old ++ sample_of event word) }
@@ -74,7 +75,7 @@ fn push_word(samples: &mut Samples, event: u16, word: i64) -> Result<(), OutOfMe
     samples.push(Sample { event, value: word })
 }
 
-/// The first word, and what stands behind it.
+/// The first word, and the bytes after it. None if there are fewer than 8 bytes.
 fn word_in(bytes: &[u8]) -> Option<(i64, &[u8])>
     ensures some { IfSome result (λ x. 8 ≤ length bytes.now) }
     ensures word { IfSome result (λ x. x.0 ≡ first_word bytes.now) }

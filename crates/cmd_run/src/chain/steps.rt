@@ -1,4 +1,4 @@
-//! What both clients do in a step.
+//! The steps of a chain, each for both clients: opening, a cycle, closing.
 ghost use Rattle.std.specs.Prelude.{◌≡◌, ◌<◌, ◌+◌, List, [], length, OnOk, IfOk, IfErr};
 ghost use Rattle.std.specs.List.{All};
 ghost use Rattle.det_values.specs.declared.frames.CycleInput.{CycleInput as Input};
@@ -63,8 +63,8 @@ where
     Ok(())
 }
 
-/// Runs the next cycle of both, the second client's over the output of the first one's, and writes
-/// their frames. The input is answered, for its memory.
+/// Runs the next cycle of both clients and writes their frames. The second client's input is the
+/// output of the first one's cycle. Returns the input, so that its memory can be used again.
 pub(crate) fn link<A, P, B, Q, K, L>(
     first: &mut Runner<A, P>,
     second: &mut Runner<B, Q>,
@@ -125,7 +125,7 @@ where
     Ok(first.recording.take_back(run))
 }
 
-/// Ends both runs.
+/// Ends both runs and writes both Terminate frames.
 pub(crate) fn close_both<A, P, B, Q, K, L>(
     first: &mut Runner<A, P>,
     second: &mut Runner<B, Q>,

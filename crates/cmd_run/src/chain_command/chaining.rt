@@ -1,4 +1,4 @@
-//! The command `cmd_run::chain`.
+//! The command `chain`: reads two manifests and plans both runs.
 ghost use Rattle.std.specs.Prelude.{◌≡◌, ◌∷◌, [], length, None, IfSome, true};
 ghost use Rattle.std.specs.Option.{unwrap_or};
 ghost use Rattle.det_io.specs.Count.{Rose};
@@ -22,7 +22,7 @@ use shipped_crews::{Host, StaffedRun};
 use std::thread::Threads;
 use worker_pool::Gate;
 
-/// What is to be chained.
+/// The arguments of `chain`.
 #[derive(Drop)]
 pub struct ChainTask<'t> {
     /// The name of the first client's manifest.
@@ -33,13 +33,13 @@ pub struct ChainTask<'t> {
     pub strict: bool,
     /// The name of the stimulus.
     pub stimulus: &'t str,
-    /// The seed of both; 0 where none is given.
+    /// The seed of both clients. 0 if there is none.
     pub seed: Option<u64>,
-    /// As many for each client as its manifest says where none is given.
+    /// The number of workers of each client. If there is none, the one in its manifest.
     pub workers: Option<u32>,
 }
 
-/// Chains the second manifest's client behind a first one.
+/// Reads the second manifest, and chains its client to the first one.
 fn chain_behind<S, K, R, G>(
     host: &Host<'_, R, G>,
     first: StaffedRun<'_, R, G>,
@@ -86,8 +86,8 @@ where
 }
 
 /// Writes the record of a second client, whose samples are the outputs of a first one over a
-/// stimulus. The first manifest is read and judged before the second is opened, and the second
-/// before the stimulus. The first client's record is made and dropped.
+/// stimulus. The first client's record is made and dropped. The first manifest is read and checked
+/// before the second is opened, and the second before the stimulus.
 pub fn chain<S, K, R, G>(
     host: &Host<'_, R, G>,
     task: &ChainTask<'_>,

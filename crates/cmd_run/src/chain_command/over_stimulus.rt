@@ -1,4 +1,4 @@
-//! Chains two shipped jobs over a stimulus.
+//! Opens the stimulus of a chain and runs both clients over it.
 ghost use Rattle.std.specs.Prelude.{◌≡◌, ◌∷◌, [], IsSome, None, length, true};
 ghost use Rattle.det_io.specs.Count.{Rose};
 ghost use Rattle.det_io.specs.Shelf.{AsksPrefix};
@@ -19,7 +19,7 @@ use std::thread::Threads;
 use stimulus::StimFault;
 use worker_pool::Gate;
 
-/// What a run of a chain is answered.
+/// The answer of the command for the result of a chain.
 fn answer_of(chained: Result<ChainCounts, Stopped<StimFault>>) -> Answer
     ensures is { result ≡ answer_of chained }
     ensures ends { can_end record_work result ≡ true }
@@ -31,7 +31,8 @@ fn answer_of(chained: Result<ChainCounts, Stopped<StimFault>>) -> Answer
     }
 }
 
-/// Chains two clients over the stimulus under a name. Nobody takes the first one's record.
+/// Chains two clients over the stimulus under a name. The record of the first client is discarded:
+/// `record` writes the same one for the first manifest.
 pub(crate) fn chain_named<S, K, R, G>(
     first: StaffedRun<'_, R, G>,
     second: StaffedRun<'_, R, G>,

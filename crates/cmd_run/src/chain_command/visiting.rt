@@ -1,4 +1,4 @@
-//! The chain as what is done with two runs.
+//! Adapts `chain_run` to `VisitTwo`, so that `with_two_crews` can call it.
 use crate::chain::{ChainCounts, chain_run};
 use det_io::{Sink, Slots, Stopped};
 use job::{Job, Pool};
@@ -7,7 +7,7 @@ use shipped_crews::VisitTwo;
 use stimulus::StimFault;
 use stimulus::slot_reader::StimulusReader;
 
-/// Chains two clients over the stimulus in a slot, which names so many events.
+/// Chains two clients over the stimulus in a slot. The stimulus may name this many events.
 #[derive(Drop)]
 pub(crate) struct StimulusIn {
     pub slot: u32,

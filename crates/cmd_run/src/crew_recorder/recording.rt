@@ -1,4 +1,4 @@
-//! The recorder over a crew.
+//! Adapts `record_run` to `Visit`, so that `with_crew` can call it.
 ghost use Rattle.std.specs.Prelude.{◌≡◌, ◌<◌, length, None};
 ghost use Rattle.det_io.specs.Traffic.{ShelfTraffic, SinkTraffic};
 ghost use Rattle.det_io.specs.Traffic.{shelf_run, sink_run, failure_in};
@@ -17,7 +17,7 @@ use stimulus::StimFault;
 use stimulus::slot_reader::StimulusReader;
 use worker_pool::Gate;
 
-/// Records the stimulus in a slot, which names so many events.
+/// Records the stimulus in a slot. The stimulus may name this many events.
 #[derive(Drop)]
 struct StimulusIn {
     slot: u32,
@@ -49,8 +49,8 @@ impl Visit for StimulusIn {
     }
 }
 
-/// Records the stimulus that a slot has left with a shipped job, as `record_run` does, by a number
-/// of workers. Their threads are kept from the first cycle to the last.
+/// Records the stimulus that is left in a slot with a shipped job, as `record_run` does, by a crew
+/// of workers. The threads of the crew are kept from the first cycle to the last.
 pub fn record_by_crew<S, K, R, G>(
     workers: &Workers<'_, R, G>,
     run: ShippedRun,

@@ -1,4 +1,4 @@
-//! The command `needs`.
+//! The command `needs`: reads the manifest and prints its lines.
 ghost use Rattle.std.specs.Prelude.{◌≡◌, ◌∷◌, [], true, IfOk, IsSome};
 ghost use Rattle.det_io.specs.Count.{Rose};
 ghost use Rattle.det_io.specs.Shelf.{Asks};
@@ -16,7 +16,7 @@ use manifest::Manifest;
 use run_setup::read_setup;
 use std::alloc::Global;
 
-/// The lines of a manifest.
+/// The lines of a manifest, in memory of their own.
 fn needs_text(alloc: Global, manifest: &Manifest) -> Result<Vec<u8>, OutOfMemory>
     ensures { IfOk result (λ text. text.items ≡ needs_lines manifest.now) }
 {
@@ -25,9 +25,9 @@ fn needs_text(alloc: Global, manifest: &Manifest) -> Result<Vec<u8>, OutOfMemory
     Ok(text)
 }
 
-/// Writes the lines of the manifest under this name: its job, its cycle time in nanoseconds, its
-/// workers, its platform, and what an initialisation and a run need. Where it is read strictly, a
-/// key that no table of a manifest knows is a fault.
+/// Prints the lines of the manifest under this name: its job, its cycle time in nanoseconds, its
+/// workers, its platform, and what an initialisation and a run need. If `strict` is set, a key that
+/// no table of a manifest knows is a fault.
 pub fn needs<S: Shelf, K: Sink>(
     alloc: Global,
     name: &str,

@@ -1,4 +1,4 @@
-//! The lines of a manifest, appended to a text.
+//! The lines of a manifest as text. `needs` reads the manifest and prints them.
 ghost use Rattle.std.specs.Prelude.{◌≡◌, ◌++◌, OnOk, option_map, unwrap_or, codes};
 ghost use Rattle.record_text.specs.Words.{number_line};
 ghost use Rattle.cmd_run.specs.needs_command.Lines.{job_line, platform_line, needs_of};
@@ -77,8 +77,8 @@ fn put_needs(out: &mut Vec<u8>, word: &str, needs: Option<&Needs>) -> Result<(),
 }
 
 /// Appends the lines of a manifest: its job, its cycle time in nanoseconds, its workers, its
-/// platform, and the needs of an initialisation and of a run, where the speedup is in thousandths.
-/// After a refusal some may stand there.
+/// platform, and the needs of an initialisation and of a run. Speedups are in thousandths. At
+/// `OutOfMemory` some of the lines may have been appended.
 pub(crate) fn put_needs_lines(out: &mut Vec<u8>, manifest: &Manifest) -> Result<(), OutOfMemory>
     ensures { OnOk result (out.new.items ≡ out.old.items ++ needs_lines manifest.now) }
 {

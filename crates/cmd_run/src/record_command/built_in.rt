@@ -1,4 +1,4 @@
-//! The command `demo`.
+//! The command `demo` and its built-in profile.
 ghost use Rattle.std.specs.Prelude.{◌≡◌, ◌∷◌, [], IfOk, true};
 ghost use Rattle.det_io.specs.Count.{Rose};
 ghost use Rattle.det_io.specs.Shelf.{AsksPrefix};

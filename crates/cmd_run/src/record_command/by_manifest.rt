@@ -1,4 +1,4 @@
-//! The command `record`.
+//! The command `record`: reads the manifest and plans its run.
 ghost use Rattle.std.specs.Prelude.{◌≡◌, ◌∷◌, [], IfSome, true};
 ghost use Rattle.det_io.specs.Count.{Rose};
 ghost use Rattle.det_io.specs.Shelf.{AsksPrefix};
@@ -18,7 +18,7 @@ use shipped_crews::{Host, StaffedRun};
 use std::thread::Threads;
 use worker_pool::Gate;
 
-/// What is to be recorded.
+/// The arguments of `record`.
 #[derive(Drop)]
 pub struct RecordTask<'t> {
     /// The name of the manifest.
@@ -27,13 +27,13 @@ pub struct RecordTask<'t> {
     pub strict: bool,
     /// The name of the stimulus.
     pub stimulus: &'t str,
-    /// 0 where none is given.
+    /// The seed. 0 if there is none.
     pub seed: Option<u64>,
-    /// As many as the manifest says where none is given.
+    /// The number of workers. If there is none, the one in the manifest.
     pub workers: Option<u32>,
 }
 
-/// Writes the record of a manifest's profile over a stimulus. The manifest is read and judged
+/// Writes the record of a manifest's profile over a stimulus. The manifest is read and checked
 /// before the stimulus is opened.
 pub fn record_stimulus<S, K, R, G>(
     host: &Host<'_, R, G>,

@@ -1,4 +1,4 @@
-//! Records a stimulus with a shipped job.
+//! Opens the stimulus of a record and runs a shipped job over it.
 ghost use Rattle.std.specs.Prelude.{◌≡◌, ◌∷◌, [], IsSome, None, length, true};
 ghost use Rattle.det_io.specs.Count.{Rose};
 ghost use Rattle.det_io.specs.Shelf.{AsksPrefix};
@@ -18,7 +18,7 @@ use std::thread::Threads;
 use stimulus::StimFault;
 use worker_pool::Gate;
 
-/// What a run of the recorder is answered.
+/// The answer of the command for the result of a recording.
 fn answer_of(recorded: Result<Counts, Stopped<StimFault>>) -> Answer
     ensures is { result ≡ answer_of recorded }
     ensures ends { can_end demo_work result ≡ true }
@@ -30,7 +30,7 @@ fn answer_of(recorded: Result<Counts, Stopped<StimFault>>) -> Answer
     }
 }
 
-/// Records the stimulus under a name, which nobody looks at.
+/// Records the stimulus under a name, without an audience.
 pub(crate) fn record_named<S, K, R, G>(
     workers: &Workers<'_, R, G>,
     run: ShippedRun,

@@ -1,4 +1,4 @@
-//! The run of a manifest, and the workers for it.
+//! Plans the run of a manifest: its profile and its number of workers. `record` and `chain` use it.
 ghost use Rattle.std.specs.Prelude.{◌≡◌, length, None, IfOk, IfSome};
 ghost use Rattle.std.specs.Option.{unwrap_or};
 ghost use Rattle.manifest.specs.Limits.{IsWorkers};
@@ -10,7 +10,7 @@ use det_values::OutOfMemory;
 use manifest::Manifest;
 use shipped_crews::{Host, ShippedRun, StaffedRun};
 
-/// The number of workers that is given, or else the manifest's.
+/// The number of workers: `given`, or else that of the manifest.
 fn workers_or(given: Option<u32>, own: u32) -> u32
     requires given { IfSome given IsWorkers }
     requires own { IsWorkers own }
@@ -23,8 +23,8 @@ fn workers_or(given: Option<u32>, own: u32) -> u32
     }
 }
 
-/// The run of a manifest, and the workers for it. The seed is 0 where none is given, and there are
-/// as many workers as the manifest says where no number is given.
+/// The run of a manifest, and the workers for it. Without `seed` the seed is 0. Without `workers`
+/// their number is that of the manifest.
 pub fn staffed<'h, R, G>(
     host: &Host<'h, R, G>,
     setup: &Manifest,

@@ -1,4 +1,4 @@
-//! The profile of `sim`.
+//! The built-in profile of `sim`.
 ghost use Rattle.std.specs.Prelude.{◌≡◌, IfOk};
 ghost use Rattle.cmd_run.specs.sim_command.Sim.{newest_of, sim_profile};
 
@@ -44,7 +44,7 @@ fn sim_params(alloc: Global) -> Result<Params, OutOfMemory>
     Ok(params)
 }
 
-/// The cloud that runs over the stimulus of a number.
+/// The profile of the cloud, with this number as its seed.
 pub(crate) fn sim_profile(alloc: Global, number: u64) -> Result<Profile, OutOfMemory>
     ensures { IfOk result (λ profile. profile ≡ sim_profile number) }
 {

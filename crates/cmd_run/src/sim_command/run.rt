@@ -1,4 +1,4 @@
-//! A shipped job run over a text in memory.
+//! Runs a shipped job over a text in memory, and sums up the record without keeping it.
 ghost use Rattle.std.specs.Prelude.{◌≡◌, [], length, None, Ok, OnOk, IfOk, IfErr};
 ghost use Rattle.stimulus.specs.Reading.{Terminated, ending};
 ghost use Rattle.probes.specs.Reports.{reported};
@@ -18,7 +18,7 @@ use std::thread::Threads;
 use stimulus::StimFault;
 use worker_pool::Gate;
 
-/// The counts of a run that nothing but want of memory ends early.
+/// The counts of a run that only `OutOfMemory` can end early.
 fn counts_of(run: Result<Counts, Stopped<StimFault>>) -> Result<Counts, OutOfMemory>
     requires { IfErr run (λ why. why ≡ Stopped.Failed Failure.OutOfMemory) }
     ensures { IfOk result (λ counts. run ≡ Ok counts) }
@@ -29,8 +29,8 @@ fn counts_of(run: Result<Counts, Stopped<StimFault>>) -> Result<Counts, OutOfMem
     }
 }
 
-/// Runs a shipped job over a whole stimulus before an audience, and sums up the record without
-/// keeping it.
+/// Runs a shipped job over a whole stimulus before an audience. Returns the summary of the record,
+/// which isn't kept.
 pub(crate) fn run_over<R, G>(
     workers: &Workers<'_, R, G>,
     run: ShippedRun,

@@ -1,4 +1,4 @@
-//! The command `sim`.
+//! The command `sim`: makes the stimulus and the profile, and prints the summary.
 ghost use Rattle.std.specs.Prelude.{◌≡◌, ◌≢◌, [], ◌++◌, true, OnOk, IfOk};
 ghost use Rattle.det_io.specs.Count.{Rose};
 ghost use Rattle.manifest.specs.Limits.{IsWorkers};
@@ -33,7 +33,8 @@ fn lines_of(alloc: Global, summary: &Summary, reports: &[u8]) -> Result<Vec<u8>,
     Ok(lines)
 }
 
-/// The text of `sim`.
+/// The output of `sim`. It is made whole before a byte is written. The record goes only into a
+/// digest.
 fn sim_text<R, G>(
     workers: &Workers<'_, R, G>,
     number: u64,
@@ -61,8 +62,8 @@ where
     lines_of(alloc, &summary, audience.reports())
 }
 
-/// Prints a summary of the built-in cloud's run over the stimulus that is made of a number, and
-/// shows its cycles to the audience. What it reports is printed after the summary.
+/// Prints a summary of the built-in cloud's run over the stimulus that is generated from a number.
+/// The cycles are shown to the audience, and its reports are printed after the summary.
 pub fn sim<K, R, G>(
     workers: &Workers<'_, R, G>,
     number: u64,
@@ -73,8 +74,8 @@ where
     K: Sink,
     R: Threads,
     G: Gate + Send + Sync + 'static,
-    // True of every `Workers`. Without it rattle refuses this function, since it hands an audience
-    // on and requires nothing.
+    // True of every `Workers`. Without a `requires`, rattle refuses a function that passes on an
+    // audience.
     requires { IsWorkers workers.now.count }
     ensures meets { Meets
         (sim_outcome

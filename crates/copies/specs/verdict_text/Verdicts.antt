@@ -1,4 +1,4 @@
--- The lines that tell whether copies agree, and the place where they part.
+-- The lines of `compare`: whether copies agree, and where they first differ.
 use Rattle.std.specs.Prelude.{ℕ, List, ◌++◌, codes, decimal}
 use Rattle.record_text.specs.Words.{number_line}
 use Rattle.copies.specs.declared.difference.Difference.{Difference}
@@ -18,7 +18,7 @@ place_text (Element cycle element) =
     codes "element " ++ (decimal cycle ++ (codes " " ++ decimal element))
 place_text (Output cycle) = codes "output " ++ decimal cycle
 
--- what `compare` prints
+-- the line of a verdict
 abbrev pub verdict_line : Verdict → List ℕ
 verdict_line (Agree cycles) = number_line (codes "agree") cycles
 verdict_line (Differ copy at) =

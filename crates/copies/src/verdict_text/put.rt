@@ -1,4 +1,4 @@
-//! Verdicts as text.
+//! Appends verdicts and places to a text.
 ghost use Rattle.std.specs.Prelude.{◌≡◌, ◌++◌, IfOk, OnOk, codes, decimal};
 ghost use Rattle.copies.specs.verdict_text.Verdicts.{place_text, verdict_line};
 
@@ -7,7 +7,7 @@ use det_values::OutOfMemory;
 use record_text::{put_number, put_number_line, put_words};
 use std::alloc::{AllocError, Global};
 
-/// Appends a word and the number behind it.
+/// Appends a keyword and a number.
 fn put_numbered(out: &mut Vec<u8>, word: &str, number: u32) -> Result<(), AllocError>
     ensures { OnOk result (out.new.items ≡ out.old.items ++ (word.now ++ decimal number)) }
 {
@@ -23,7 +23,7 @@ fn put_element(out: &mut Vec<u8>, cycle: u32, element: u32) -> Result<(), AllocE
     put_numbered(out, " ", element)
 }
 
-/// Appends a place. After a refusal a part of it may stand there.
+/// Appends a place. At `OutOfMemory` a part of it may have been appended.
 pub fn put_place(out: &mut Vec<u8>, place: Difference) -> Result<(), OutOfMemory>
     ensures { OnOk result (out.new.items ≡ out.old.items ++ place_text place) }
 {
@@ -39,7 +39,7 @@ pub fn put_place(out: &mut Vec<u8>, place: Difference) -> Result<(), OutOfMemory
     Ok(())
 }
 
-/// Appends a place behind a space, and the end of the line.
+/// Appends a space, a place and the end of the line.
 fn put_last_place(out: &mut Vec<u8>, place: Difference) -> Result<(), OutOfMemory>
     ensures { OnOk result (out.new.items
         ≡ out.old.items ++ (codes " " ++ (place_text place ++ codes "\n"))) }
@@ -70,7 +70,7 @@ fn put_verdict_line(out: &mut Vec<u8>, verdict: &Verdict) -> Result<(), OutOfMem
     }
 }
 
-/// The line of a verdict.
+/// The line of a verdict, in memory of its own.
 pub fn verdict_line(alloc: Global, verdict: &Verdict) -> Result<Vec<u8>, OutOfMemory>
     ensures { IfOk result (λ line. line.items ≡ verdict_line verdict.now) }
 {

@@ -1,5 +1,5 @@
--- Keys, and the random words of a key. The generators are published ones: SplitMix64 of Steele, Lea
--- and Flood (2014), and xoshiro256++ of Blackman and Vigna (2019). The form of the keys is this
+-- Keys, and the random numbers of a key. The generators are published ones: SplitMix64 of Steele,
+-- Lea and Flood (2014), and xoshiro256++ of Blackman and Vigna (2019). The form of the keys is this
 -- project's own.
 use Rattle.std.specs.Prelude.{◌≡◌, ℕ, zero, suc, ◌+◌, ◌-◌, ◌*◌, ◌^◌, min, List, [], ◌∷◌, bit_xor}
 use Rattle.std.specs.Prelude.{◌==◌, ◌&&◌, slice_index, if◌then◌else◌}
@@ -17,7 +17,7 @@ unfoldable pub key : ℕ → ℕ → ℕ → ℕ → ℕ
 key seed cycle pass element =
     mixed (bit_xor (mixed (bit_xor (mixed seed) cycle)) (pass * 2 ^ 32 + element))
 
--- what the keys of a pass share: the seed and the cycle, mixed, and the pass
+-- the common part of the keys of a pass: the hash of seed and cycle, and the pass
 pub record AreKeysOf (keys : PassKeys) (seed cycle pass : ℕ) : Type 0 where
   pub shared : keys.shared ≡ mixed (bit_xor (mixed seed) cycle)
   pub of_pass : keys.pass ≡ pass
@@ -28,22 +28,22 @@ unfoldable pub state_at : ℕ → ℕ → List ℕ
 state_at key zero = first_words mix_u64 4 key
 state_at key (suc n) = next_state (state_at key n)
 
--- word number n of a key, counted from 0
+-- the random number with index n of a key, counted from 0
 unfoldable pub word : ℕ → ℕ → ℕ
 word key n = (plus_plus (state_at key n)).0
 
--- what a stream keeps: the state of its generator, and the count of the words drawn
+-- a stream's state: that of its generator, and the count of the numbers drawn
 pub record Place : Type 0 where
   pub state : List ℕ
   pub draws : ℕ
 
--- A stream stands for a key and the number of words drawn. Its count stops at the greatest u64.
+-- A stream is that of a key after `drawn` numbers. Its count saturates at the greatest u64.
 pub record StandsFor (place : Place) (key drawn : ℕ) : Type 0 where
   pub state : place.state ≡ state_at key drawn
   pub draws : place.draws ≡ min drawn (2 ^ 64 - 1)
 
--- the state that four words are: themselves, but for four zeros, which no stream reaches, the first
--- state of the key 0
+-- the state that four numbers give: the numbers themselves, but the first state of the key 0 for
+-- four zeros, which no stream reaches
 unfoldable pub state_of_words : List ℕ → List ℕ
 state_of_words s =
     if (slice_index s 0 == 0) && (slice_index s 1 == 0)

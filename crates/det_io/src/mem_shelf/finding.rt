@@ -1,4 +1,4 @@
-//! Looks files up in a list of files.
+//! Looks up files by name, and reads from a place in a file.
 ghost use Rattle.std.specs.Prelude.{◌≡◌, ◌<◌, ◌≤◌, ◌+◌, ◌^◌, min, length, take, IfSome};
 ghost use Rattle.det_io.specs.MemShelf.{index_of, rest_of};
 
@@ -6,7 +6,7 @@ use super::MemFile;
 use super::place::Place;
 use crate::copying::copy_front;
 
-// The index of the first file with this name.
+// The index of the first file with this name, or None.
 pub(super) fn index_of(files: &[MemFile], name: &str) -> Option<usize>
     ensures value { result ≡ index_of files.now name.now }
     ensures within { IfSome result (λ i. i < length files.now) }
@@ -14,7 +14,7 @@ pub(super) fn index_of(files: &[MemFile], name: &str) -> Option<usize>
     files.iter().position(|file| file.name.as_str() == name)
 }
 
-// What a place has left. A place past the end of its file has nothing left.
+// The bytes from a place to the end of its file; none for a place past the end.
 fn rest_at(files: &[MemFile], place: Place) -> &[u8]
     ensures rest { result.now ≡ rest_of files.now place }
     ensures fits { place.at + length result.now < 2 ^ 64 }
@@ -25,7 +25,7 @@ fn rest_at(files: &[MemFile], place: Place) -> &[u8]
     }
 }
 
-// Copies what a place has left, at most `most` bytes, and answers how many.
+// Copies the next bytes at a place, at most `most`, and returns their number.
 pub(super) fn copy_from(files: &[MemFile], place: Place, buf: &mut [u8], most: usize) -> usize
     ensures count { result ≡ min (min (length buf.old) most) (length (rest_of files.now place)) }
     ensures fits { place.at + result < 2 ^ 64 }

@@ -1,6 +1,6 @@
-//! How far a slot of a shelf in memory was read.
+//! The position of a slot of a shelf in memory.
 
-// A file by its index, and how many of its bytes were read.
+/// A file by its index, and the number of its bytes that were read.
 #[derive(Clone, Copy, Debug)]
 pub struct Place {
     pub file: usize,

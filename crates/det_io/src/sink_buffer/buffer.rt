@@ -1,12 +1,12 @@
-//! A buffer that is a sink.
+//! A front as a sink, for functions that are generic in `Sink`.
 ghost use Rattle.std.specs.Prelude.{◌≡◌, ◌≤◌};
 
 use crate::sink_buffer::{Gather, Start};
 use crate::{Sink, SinkFailed};
 use std::marker::PhantomData;
 
-/// A front as a sink. It tells of it the bytes that it took since the start: those that the sink
-/// took and, behind them, those that are held.
+/// A front as a sink. It counts as taken, since the start, the bytes that the sink took and, after
+/// them, the bytes that are held.
 pub struct SinkBuffer<P: Gather, B: Start> {
     front: P,
     start: PhantomData<B>,
@@ -17,7 +17,8 @@ pub struct SinkBuffer<P: Gather, B: Start> {
 impl<P: Gather, B: Start> SinkBuffer<P, B> {
     ghost use Rattle.std.specs.Prelude.{◌≡◌, ◌≤◌};
 
-    /// A buffer over a front. Whoever makes it takes the front out again at the end.
+    /// A buffer over a front. The maker takes the front out again at the end, and writes the held
+    /// bytes.
     pub fn new(front: P) -> SinkBuffer<P, B>
         requires name { P.name front ≡ B.name }
         requires faults { B.faults ≤ P.faults front }
@@ -29,7 +30,7 @@ impl<P: Gather, B: Start> SinkBuffer<P, B> {
         }
     }
 
-    /// The front, over the same sink, whose count of faults is no less than at the start.
+    /// The front again, over the same sink, whose count of faults has not fallen since the start.
     pub fn into_front(self) -> P
         ensures front { result ≡ self.front }
         ensures name { P.name result ≡ B.name }

@@ -1,18 +1,18 @@
-//! A sink with what is held in front of it.
+//! A sink with held bytes in front of it.
 ghost use Rattle.std.specs.Prelude.{◌<◌, ◌≤◌, vec_len, vec_capacity};
 
 use crate::sink_buffer::passing::{append, pass};
 use crate::sink_buffer::{BUFFER_ROOM, Gather};
 use crate::{Sink, SinkFailed};
 
-/// A piece of so many bytes goes to the sink as it is where nothing is held.
+/// A piece of at least this many bytes goes straight to the sink if nothing is held.
 const LONG: usize = 4_096;
 
-/// A sink with what is held in front of it. Whoever takes it apart writes to the sink what is held,
-/// else that is lost.
+/// A sink with held bytes in front of it. Its owner must write `held` to the sink at the end, or
+/// those bytes are lost.
 ///
 /// Short pieces are held until there is no room for the next one, and then go to the sink in one
-/// write. It makes at most one write for a piece, and asks for no memory.
+/// write. A piece causes at most one write, and no allocation.
 #[derive(Drop)]
 pub struct Front<'a, 'r, K: Sink> {
     pub sink: &'a mut K,
@@ -24,7 +24,7 @@ pub struct Front<'a, 'r, K: Sink> {
 impl<'a, 'r, K: Sink> Front<'a, 'r, K> {
     ghost use Rattle.std.specs.Prelude.{◌≡◌, ◌≤◌, [], vec_capacity};
 
-    /// A front in which nothing is held, over the memory of `buffer_room`.
+    /// A front that holds nothing, over memory from `buffer_room`.
     pub fn new(sink: &'a mut K, held: &'r mut Vec<u8>) -> Front<'a, 'r, K>
         requires none { held.old.items ≡ [] }
         requires room { 65536 ≤ vec_capacity held.old }

@@ -1,4 +1,4 @@
-//! What holds pieces in front of a sink.
+//! The trait of fronts, so that a `SinkBuffer` doesn't depend on how bytes are held.
 ghost use Rattle.std.specs.Prelude.{◌≡◌, ◌<◌, ◌≤◌, ℕ, List, ◌++◌, length, take, IfOk, OnErr};
 ghost use Rattle.det_io.specs.Count.{Rose};
 ghost use Rattle.det_io.specs.Sink.{Same};
@@ -6,10 +6,10 @@ ghost use Rattle.det_io.specs.sink_buffer.Front.{TakesFront};
 
 use crate::SinkFailed;
 
-/// Holds pieces in front of a sink.
+/// Holds bytes in front of a sink.
 ///
-/// `name` is that of the reference to the sink, `took` and `faults` are the sink's, and `held` is
-/// what is held.
+/// `name` identifies the reference to the sink, `took` and `faults` are the sink's, and `held` is
+/// the list of held bytes.
 pub trait Gather {
     ghost name: { Self → ℕ };
 
@@ -19,9 +19,10 @@ pub trait Gather {
 
     ghost faults: { Self → ℕ };
 
-    /// Takes bytes from the beginning of the piece and answers how many: at least one, unless the
-    /// piece is empty. The sink takes of what is held and of those bytes as many as it will, and
-    /// the rest is held. Where a write of the sink fails nothing has changed.
+    /// Takes bytes from the front of the piece and returns their number: at least one, unless the
+    /// piece is empty. The sink takes a front of the held bytes and those, and the rest is held. If
+    /// a write of the sink fails, nothing has changed. So it makes at most one write: after one
+    /// that succeeded, a second that failed would break this.
     fn gather(&mut self, piece: &[u8]) -> Result<usize, SinkFailed>
         ensures same_sink { name self.new ≡ name self.old }
         ensures within { IfOk result (λ n. n ≤ length piece.now) }

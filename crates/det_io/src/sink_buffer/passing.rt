@@ -1,4 +1,4 @@
-//! How what is held is passed on to a sink.
+//! The held bytes of a front: their memory, and their way to the sink.
 ghost use Rattle.std.specs.Prelude.{◌≡◌, ◌+◌, ◌<◌, ◌≤◌, ◌++◌, [], length, take, drop};
 ghost use Rattle.std.specs.Prelude.{vec_len, vec_capacity, IfOk, OnErr};
 ghost use Rattle.det_io.specs.Count.{Rose};
@@ -9,10 +9,10 @@ use crate::{Sink, SinkFailed};
 use det_values::OutOfMemory;
 use std::alloc::Global;
 
-/// For how many bytes a buffer has room. Between calls it holds fewer.
+/// The room of a buffer, in bytes. Between calls it holds fewer.
 pub const BUFFER_ROOM: usize = 65_536;
 
-/// The memory of a buffer, which is asked for once.
+/// The memory of a buffer. It is the only allocation that a buffer needs.
 pub fn buffer_room(alloc: Global) -> Result<Vec<u8>, OutOfMemory>
     ensures none { IfOk result (λ held. held.items ≡ []) }
     ensures room { IfOk result (λ held. 65536 ≤ vec_capacity held) }
@@ -20,7 +20,7 @@ pub fn buffer_room(alloc: Global) -> Result<Vec<u8>, OutOfMemory>
     Ok(Vec::with_capacity(alloc, BUFFER_ROOM)?)
 }
 
-/// Puts a piece behind what is held.
+/// Adds a piece after the held bytes.
 pub(crate) fn append(held: &mut Vec<u8>, piece: &[u8])
     requires { vec_len held.old + length piece.now ≤ vec_capacity held.old }
     ensures items { held.new.items ≡ held.old.items ++ piece.now }
@@ -32,7 +32,7 @@ pub(crate) fn append(held: &mut Vec<u8>, piece: &[u8])
     }
 }
 
-/// Lets the first bytes go.
+/// Drops the first `count` held bytes.
 fn drop_front(held: &mut Vec<u8>, count: usize)
     requires { count ≤ vec_len held.old }
     ensures items { held.new.items ≡ drop count held.old.items }
@@ -45,9 +45,9 @@ fn drop_front(held: &mut Vec<u8>, count: usize)
     held.truncate(rest);
 }
 
-/// Passes on what is held, with as much of the piece behind it as there is room for, in one write,
-/// and answers how much of the piece that was. What the sink doesn't take stays held. Where the
-/// write fails nothing has changed.
+/// Writes the held bytes, and after them as much of the piece as there is room for, in one write.
+/// It returns how many bytes of the piece that was. Bytes that the sink doesn't take stay held. If
+/// the write fails, nothing has changed.
 pub(crate) fn pass<K: Sink>(
     sink: &mut K,
     held: &mut Vec<u8>,

@@ -1,11 +1,11 @@
-//! What a buffer began in front of.
+//! The state of a front at the start of a buffer, for proofs only.
 ghost use Rattle.std.specs.Prelude.{ℕ, List};
 
 use std::marker::Brand;
 
-/// What a front was when a buffer was made of it, for the proof alone: the name of its reference to
-/// the sink, the sink's count of faults and what it took. A function over `B: Start` is called at
-/// `Brand`, and that call's ghosts are those of the front that it is given.
+/// The state of a front when its buffer was made, for proofs only. `name` is that of its reference
+/// to the sink, and `faults` and `took` are the sink's. A function over `B: Start` is called at
+/// `Brand`, and the ghosts of that call are those of its front.
 pub trait Start {
     ghost name: { ℕ };
 

@@ -1,4 +1,4 @@
--- What a cache keeps of each event.
+-- The state of a cache: two rings for each event.
 use Rattle.std.specs.Prelude.{ℕ, ℤ, List, [], ◌∷◌, ◌++◌, map}
 use Rattle.std.specs.List.{All}
 use Rattle.circular_buffer.specs.Buffer.{keep_last}

@@ -1,5 +1,5 @@
--- Which values of the samples that came in rounds the window of an event holds, by the policy of
--- the event. The rounds are the samples that arrived before each turn.
+-- The values that the window of an event holds after some rounds of samples, by the event's policy.
+-- A round is the samples that arrived before one turn.
 use Rattle.std.specs.Prelude.{◌≡◌, ℕ, suc, ℤ, ◌==◌, List, [], ◌∷◌, ◌++◌, length, slice_index_or}
 use Rattle.std.specs.Prelude.{if◌then◌else◌}
 use Rattle.std.specs.List.{All}
@@ -21,13 +21,13 @@ unfoldable pub all_of : List (List SampleValue) → List SampleValue
 all_of [] = []
 all_of (round ∷ rounds) = round ++ all_of rounds
 
--- the samples of the last round, or none where there is no round
+-- the samples of the last round, or none if there is no round
 unfoldable pub last_of : List (List SampleValue) → List SampleValue
 last_of [] = []
 last_of (round ∷ []) = round
 last_of (round ∷ next ∷ rounds) = last_of (next ∷ rounds)
 
--- the samples that a policy looks at: Last at those of all rounds, Fresh at those of the last one
+-- the samples that a policy looks at: Last at all rounds, Fresh at the last one
 abbrev pub looked_at : Policy → List (List SampleValue) → List SampleValue
 looked_at Last rounds = all_of rounds
 looked_at Fresh rounds = last_of rounds
@@ -37,7 +37,7 @@ looked_at Fresh rounds = last_of rounds
 abbrev pub window : EventSpecValue → ℕ → List (List SampleValue) → List ℤ
 window spec event rounds = keep_last spec.capacity (values_of event (looked_at spec.policy rounds))
 
--- the windows of these events, the first of which has this number
+-- the windows of these events, where the first event has this number
 unfoldable pub windows_from : ℕ → List EventSpecValue → List (List SampleValue) → List (List ℤ)
 windows_from event [] rounds = []
 windows_from event (spec ∷ specs) rounds =
@@ -47,22 +47,22 @@ windows_from event (spec ∷ specs) rounds =
 abbrev pub windows_after : List EventSpecValue → List (List SampleValue) → List (List ℤ)
 windows_after specs rounds = windows_from 0 specs rounds
 
--- the window of one event among all, and no value where there is no such event
+-- the window of one event among all; empty if there is no such event
 abbrev pub window_of : List (List ℤ) → ℕ → List ℤ
 window_of windows event = slice_index_or windows event []
 
--- what stays of an old window
+-- the part of an old window that stays
 abbrev pub staying : Policy → List ℤ → List ℤ
 staying Last old = old
 staying Fresh old = []
 
--- the window of an event after a further round: the last values of what stays of the old one, and
--- then of the round
+-- the window of an event after a further round: the last values of the old window's staying part
+-- and then of the round
 abbrev pub next_window : EventSpecValue → ℕ → List ℤ → List SampleValue → List ℤ
 next_window spec event old round =
     keep_last spec.capacity (staying spec.policy old ++ values_of event round)
 
--- the windows of these events after a further round, the first of which has this number
+-- the windows of these events after a further round, where the first event has this number
 unfoldable pub next_windows_from : ℕ → List EventSpecValue → List (List ℤ) → List SampleValue
     → List (List ℤ)
 next_windows_from event [] olds round = []
@@ -74,7 +74,7 @@ next_windows_from event (spec ∷ specs) (old ∷ olds) round =
 abbrev pub next_windows : List EventSpecValue → List (List ℤ) → List SampleValue → List (List ℤ)
 next_windows specs olds round = next_windows_from 0 specs olds round
 
--- the rings of these events, the first of which has this number
+-- the rings of these events, where the first event has this number
 unfoldable pub rings_from : ℕ → List EventSpecValue → List (List SampleValue) → List SampleValue
     → List Rings
 rings_from event [] rounds arrived = []
@@ -86,14 +86,14 @@ rings_from event (spec ∷ specs) rounds arrived =
       arriving = keep_last spec.capacity (values_of event arrived);
     } ∷ rings_from (suc event) specs rounds arrived
 
--- A cache of these events was given the samples of these rounds, each before a turn, and since then
--- those that arrived.
+-- A cache of these events got the samples of these rounds, each before a turn, and since then those
+-- that arrived.
 pub record HasSeen (cache : List Rings) (specs : List EventSpecValue)
     (rounds : List (List SampleValue)) (arrived : List SampleValue)
     : Type 0 where
   pub rings : cache ≡ rings_from 0 specs rounds arrived
 
--- so many windows, all of whose values are values of samples
+-- `events` windows, all of whose values are values of samples
 pub record AreWindows (events : ℕ) (windows : List (List ℤ)) : Type 0 where
   pub count : length windows ≡ events
   pub values : All (All IsSampleValue) windows

@@ -1,4 +1,4 @@
-//! The windows of all events.
+//! The windows of all events of a client.
 
 ghost use Rattle.std.specs.Prelude.{◌≡◌, ◌<◌, ◌≤◌, List, [], ◌∷◌, ◌++◌, length, IfOk, map};
 ghost use Rattle.std.specs.Prelude.{slice_index_or};
@@ -34,7 +34,7 @@ impl EventCache {
     ghost use Rattle.job.specs.event_cache.Windows.{HasSeen, AreWindows, windows_after, window_of};
     ghost use Rattle.job.specs.event_cache.Windows.{next_windows};
 
-    /// A cache of these events, to which no sample has come.
+    /// A cache of these events, before any sample.
     #[tactic(auto, using(crate::proofs::lemmas::event_cache::Rounds::made_more))]
     pub fn new(alloc: Global, events: &Events) -> Result<EventCache, OutOfMemory>
         ensures seen { IfOk result (λ cache. HasSeen cache events.now [] []) }
@@ -49,8 +49,8 @@ impl EventCache {
         Ok(EventCache { rings })
     }
 
-    /// Adds a sample that no window shows before the next turn. Where its event has as many as its
-    /// capacity, the oldest of those that wait goes.
+    /// Adds a sample. No window shows it before the next `turn`. If as many samples of its event
+    /// wait as its capacity, the oldest of them is dropped.
     #[tactic(auto, using(crate::proofs::lemmas::event_cache::Rounds::windows_kept, crate::proofs::lemmas::event_cache::Rounds::seen_arrived))]
     pub fn arrive(&mut self, sample: Sample)
         requires event { sample.event < length self.old }
@@ -63,7 +63,7 @@ impl EventCache {
         self.rings[usize::from(sample.event)].arrive(sample);
     }
 
-    /// Shows the samples that arrived, by the policies of their events.
+    /// Moves the samples that arrived into the windows, by the policies of their events.
     #[tactic(auto, using(crate::proofs::lemmas::event_cache::Rounds::turned_more))]
     pub fn turn(&mut self)
         ensures turned { self.new ≡ map turned self.old }
@@ -105,7 +105,7 @@ impl EventCache {
         self.rings[usize::from(event)].len()
     }
 
-    /// A value of the window of an event. The oldest one has the index 0.
+    /// A value of the window of an event. The oldest has the index 0.
     #[tactic(auto, using(crate::proofs::lemmas::event_cache::Rounds::window_is, crate::proofs::lemmas::event_cache::Rounds::seen_windows))]
     pub fn sample(&self, event: u16, index: usize) -> i64
         requires event { event < length self.now }
@@ -119,7 +119,7 @@ impl EventCache {
         self.rings[usize::from(event)].value(index)
     }
 
-    /// The last value of the window of an event. None where the window is empty.
+    /// The last value of the window of an event, or None if the window is empty.
     #[tactic(auto, using(crate::proofs::lemmas::event_cache::Rounds::window_is, crate::proofs::lemmas::event_cache::Rounds::seen_windows))]
     pub fn newest(&self, event: u16) -> Option<i64>
         requires { event < length self.now }

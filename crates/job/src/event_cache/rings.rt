@@ -1,4 +1,4 @@
-//! The two rings of one event.
+//! The two rings of one event: its window, and the samples that wait.
 
 ghost use Rattle.std.specs.Prelude.{◌≡◌, ◌<◌, List, [], ◌∷◌, ◌++◌, length, IfOk, slice_index_or};
 ghost use Rattle.circular_buffer.specs.Buffer.{last_item, keep_last};
@@ -36,7 +36,7 @@ impl Model for EventRings {
 impl EventRings {
     ghost use Rattle.job.specs.event_cache.Rings.{turned, joined};
 
-    /// The rings of an event, both empty.
+    /// Both rings of an event, empty.
     pub fn new(alloc: Global, spec: &EventSpec) -> Result<EventRings, OutOfMemory>
         ensures { IfOk result (λ r. r
             ≡ record {
@@ -54,14 +54,15 @@ impl EventRings {
         })
     }
 
-    /// Adds the value of a sample that arrived. The oldest one goes where there is no room.
+    /// Adds the value of a sample that arrived. If the ring is full, the oldest value is dropped.
     pub fn arrive(&mut self, sample: Sample)
         ensures { self.new ≡ joined self.old sample.value }
     {
         self.arriving.push_back(sample.value);
     }
 
-    /// Moves the values that arrived into the window: behind its own, or in their place.
+    /// Moves the values that arrived into the window: after its values (`Last`) or in their place
+    /// (`Fresh`).
     pub fn turn(&mut self)
         ensures { self.new ≡ turned self.old }
     {
@@ -79,7 +80,7 @@ impl EventRings {
         self.seen.len()
     }
 
-    /// A value of the window. The oldest one has the index 0.
+    /// A value of the window. The oldest has the index 0.
     pub fn value(&self, index: usize) -> i64
         requires { index < length self.now.seen }
         ensures { result ≡ slice_index_or self.now.seen index result }
@@ -90,7 +91,7 @@ impl EventRings {
         }
     }
 
-    /// The last value of the window.
+    /// The last value of the window, or None if it is empty.
     pub fn newest(&self) -> Option<i64>
         ensures { result ≡ last_item self.now.seen }
     {
@@ -98,7 +99,7 @@ impl EventRings {
     }
 }
 
-/// Adds the items of one ring at the end of another one, which keeps the latest that fit.
+/// Adds the items of one ring at the end of another, which keeps the latest that fit.
 #[tactic(auto, using(crate::proofs::lemmas::event_cache::Keeping::kept_twice))]
 fn append(to: &mut HeapCircularBuffer<i64>, from: &HeapCircularBuffer<i64>)
     ensures items { to.new.items ≡ keep_last to.old.capacity (to.old.items ++ from.now.items) }

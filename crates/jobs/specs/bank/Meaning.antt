@@ -34,7 +34,7 @@ made ps events = record {
   short = events_few events;
 }
 
--- the event of channel i; 0 where there are fewer than two
+-- the event of channel i; 0 if there are fewer than two
 abbrev pub event_of : Bank → ℕ → ℕ
 event_of j i = if nat_le 2 j.events then i % j.events else 0
 
@@ -44,7 +44,7 @@ first_channel j i = record { event = event_of j i; level = pos 0 }
 abbrev pub first_channels : Bank → List Channel
 first_channels j = map (first_channel j) (range_with_len 0 j.channels)
 
--- a level after one step towards a target, where there is one
+-- a level after one step towards a target; without a target it stays
 abbrev pub level_after : Option ℤ → ℤ → ℕ → ℤ
 level_after None level shift = level
 level_after (Some target) level shift = towards level target shift
@@ -73,11 +73,11 @@ joined (Some left) (Some right) = Some (record {
 abbrev pub summary_bytes : Summary → List ℕ
 summary_bytes s = i64_bytes s.sum ++ i64_bytes s.least ++ i64_bytes s.greatest
 
--- all 0 where there is no channel
+-- all 0 if there is no channel
 abbrev pub output : Option Summary → List ℕ
 output part = summary_bytes (unwrap_or part (summary_of (pos 0)))
 
--- where there are several events, the event too
+-- if there are several events, the event too
 abbrev pub shown : Bank → Channel → List ℕ
 shown j e = if nat_le 2 j.events then u16_bytes e.event ++ i64_bytes e.level else i64_bytes e.level
 

@@ -1,4 +1,4 @@
--- The bank's own channels and fit plans, and what a part covers.
+-- The bank's own channels, its fit plans, and the channels that a part covers.
 use Rattle.std.specs.Prelude.{ℕ, ℤ, pos, neg_ℤ, ◌*◌, ◌<◌, ◌≤◌, ◌≤ℤ◌, List, max, Option, None, Some}
 use Rattle.det_values.specs.Limits.{IsSampleValue}
 use Rattle.job_shared.specs.Samples.{AreSamples}

@@ -169,7 +169,7 @@ fit_target n ws h = record {
   y_range = or_zero (newest ws 1) (newest_ok ws 1 h.values);
 }
 
--- what holds of an answer that isn't refused
+-- facts about a result that isn't a refusal
 answered : {T : Type 0} (P : T → Type 0) (t : Bool) (code : ℕ) (x y : T) → P x →
     ◌≡◌ {A = Result T ℕ} (cond t (Err code) (Ok x)) (Ok y) → P y
 answered P true code x y h e = cc

@@ -51,16 +51,16 @@ first_particle i = record { number = i; x = pos 0; y = pos 0 }
 abbrev pub first_particles : Cloud → List Particle
 first_particles j = map first_particle (range_with_len 0 j.particles)
 
--- a negative sample of event 2 refuses the cycle
+-- a negative newest sample of event 2 refuses the cycle
 abbrev pub is_held : Option ℤ → Bool
 is_held None = false
 is_held (Some v) = int_lt v (pos 0)
 
--- the seed is drawn anew in each cycle whose number is a multiple of `reseed`, unless that is 0
+-- the job draws a new seed in each cycle whose number is a multiple of `reseed`, unless that is 0
 abbrev pub reseeds : Cloud → ℕ → Bool
 reseeds j cycle = not (j.reseed == 0) && (cycle % j.reseed == 0)
 
--- the first word of the client's own stream
+-- the first random number of the client's own stream
 abbrev pub seed_of : Cloud → ℕ → ℕ → ℕ
 seed_of j seed cycle = if reseeds j cycle then word (key seed cycle 255 0) 0 else seed
 
@@ -78,21 +78,21 @@ prepared j windows seed cycle =
 abbrev pub distance : Target → ℤ → ℤ → ℕ
 distance target x y = unsigned_abs (x -ℤ target.tx) + unsigned_abs (y -ℤ target.ty)
 
--- a coordinate after a step: where it would leave -10^12 to 10^12, the nearer end
+-- a coordinate after a step, clamped to -10^12 to 10^12
 abbrev pub moved : ℤ → ℤ → ℤ
 moved z by = int_max (negsuc 999999999999) (int_min (pos 1000000000000) (z +ℤ by))
 
 abbrev pub stepped : Particle → Step → Particle
 stepped e s = record e { x = moved e.x s.dx; y = moved e.y s.dy }
 
--- an eighth of the way to the best particle; where there is none, and for every eighth word, no way
--- at all
+-- an eighth of the way to the best particle; no way if there is none, or for one of eight random
+-- numbers
 abbrev pub pulled : Option Best → Particle → ℕ → Particle
 pulled None e w = e
 pulled (Some best) e w =
     if w % 8 == 0 then e else record e { x = towards e.x best.x 3; y = towards e.y best.y 3 }
 
--- a particle after a pass, by the key of its words
+-- a particle after a pass, from the key of its stream
 abbrev pub after_pass : Cloud → Option Best → ℕ → Particle → ℕ → Particle
 after_pass j carry pass e k =
     if pass == 0 then stepped e (step_of j.spread k (landing j.spread k))
@@ -118,7 +118,7 @@ is_better best other =
     nat_lt best.distance other.distance
     || ((best.distance == other.distance) && nat_lt best.number other.number)
 
--- the left one where neither is better
+-- the left one if neither is better
 abbrev pub better : Best → Best → Best
 better left right = if is_better right left then right else left
 
@@ -131,7 +131,7 @@ abbrev pub is_far : ℕ → Option Best → Bool
 is_far far None = false
 is_far far (Some best) = nat_lt far best.distance
 
--- one more, as far as a u32 tells
+-- one more, saturating at the greatest u32
 abbrev pub one_more : Finished → ℕ
 one_more g = min (g.cycles + 1) 4294967295
 

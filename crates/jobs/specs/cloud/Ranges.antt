@@ -1,4 +1,4 @@
--- The cloud's own particles and fit plans, and what a part covers.
+-- The cloud's own particles, its fit plans, and the particles that a part covers.
 use Rattle.std.specs.Prelude.{ℕ, ℤ, ◌<◌, ◌≤◌, Option, None, Some}
 use Rattle.det_values.specs.Limits.{IsSampleValue}
 use Rattle.jobs.specs.declared.cloud.cloud.Cloud.{Cloud}

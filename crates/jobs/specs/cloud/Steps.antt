@@ -5,11 +5,11 @@ use Rattle.std.specs.Prelude.{Option, None, Some, if◌then◌else◌, int_le, u
 use Rattle.det_client.specs.element_random.Words.{word}
 use Rattle.jobs.specs.declared.cloud.steps.Step.{Step}
 
--- a number from -spread to spread, by a word
+-- a number from -spread to spread, from a random number of 64 bits
 abbrev pub offset : ℕ → ℕ → ℤ
 offset spread w = pos (w % (2 * spread + 1)) -ℤ pos spread
 
--- the try that begins with word number n of a key
+-- the try that begins with the random number of index n of a key
 abbrev pub try_of : ℕ → ℕ → ℕ → Step
 try_of spread key n = record {
   dx = offset spread (word key n);
@@ -20,14 +20,14 @@ try_of spread key n = record {
 abbrev pub lands : ℕ → Step → Bool
 lands spread s = int_le (s.dx *ℤ s.dx +ℤ s.dy *ℤ s.dy) (pos spread *ℤ pos spread)
 
--- the first that lands of so many tries, of which the first has the number i; none where none lands
+-- the first try that lands among `tries` tries from number i on; none if none lands
 unfoldable pub landing_from : ℕ → ℕ → ℕ → ℕ → Option ℕ
 landing_from spread key i zero = None
 landing_from spread key i (suc tries) =
     if lands spread (try_of spread key (2 * i)) then Some i
     else landing_from spread key (i + 1) tries
 
--- the first that lands of 8 tries
+-- the first of 8 tries that lands
 abbrev pub landing : ℕ → ℕ → Option ℕ
 landing spread key = landing_from spread key 0 8
 
@@ -36,7 +36,7 @@ abbrev pub step_of : ℕ → ℕ → Option ℕ → Step
 step_of spread key None = record { dx = pos 0; dy = pos 0 }
 step_of spread key (Some i) = try_of spread key (2 * i)
 
--- two words for each try up to the one that landed, or for all 8
+-- two random numbers for each try up to the one that landed, or for all 8
 abbrev pub words_drawn : Option ℕ → ℕ
 words_drawn None = 16
 words_drawn (Some i) = 2 * i + 2

@@ -1,4 +1,4 @@
--- The range of samples that a channel holds.
+-- The range of samples that a guard's channels accept.
 use Rattle.std.specs.Prelude.{ℤ, Bool, ◌&&◌, int_le}
 use Rattle.jobs.specs.declared.guard.bounds.Bounds.{Bounds}
 

@@ -27,7 +27,7 @@ use Rattle.jobs.specs.guard.Meaning.{judged, joined, next_bytes, output, total_a
 use Rattle.jobs.specs.guard.Meaning.{shown}
 use Rattle.jobs.specs.guard.Ranges.{Own, Fit, IsPartOf, Covers}
 
--- what holds of each answer of a choice holds of the answer
+-- a fact about both results of a choice is a fact about its result
 chosen : (P : Worked Channel (List ℕ) → Type 0) (b c : Bool) (x y w : Worked Channel (List ℕ)) →
     P x → (c ≡ false → P y)
     → ◌≡◌ {A = Result (Worked Channel (List ℕ)) ℕ} (cond b (Ok x) (cond c (Err 1) (Ok y))) (Ok w)

@@ -42,7 +42,7 @@ made ps events = record {
   short = events_few events;
 }
 
--- the event of channel i; 0 where there are none
+-- the event of channel i; 0 if there are no events
 abbrev pub event_of : Guard → ℕ → ℕ
 event_of j i = if j.events == 0 then 0 else i % j.events
 
@@ -52,11 +52,11 @@ first_channel j i = record { number = i; event = event_of j i; held = pos 0; str
 abbrev pub first_channels : Guard → List Channel
 first_channels j = map (first_channel j) (range_with_len 0 j.channels)
 
--- what a channel reads: the newest sample of its event
+-- the reading of a channel: the newest sample of its event
 abbrev pub reading : List (Option ℤ) → Channel → Option ℤ
 reading samples e = sample_of samples e.event
 
--- a channel that goes on holding its value
+-- a channel that keeps its value
 abbrev pub corrected : Channel → Worked Channel (List ℕ)
 corrected e = record { element = record e { streak = e.streak + 1 }; part = e.number ∷ [] }
 
@@ -64,8 +64,8 @@ corrected e = record { element = record e { streak = e.streak + 1 }; part = e.nu
 abbrev pub holding : Channel → ℤ → Worked Channel (List ℕ)
 holding e value = record { element = record e { held = value; streak = 0 }; part = [] }
 
--- a channel after a reading: without one it stays, in range it holds the reading, else it is
--- corrected, unless that would be the correction in a row whose number is `limit`
+-- A channel after a reading: without one it stays, and it holds one in range. Otherwise it is
+-- corrected, or refuses at the correction in a row whose number is `limit`.
 abbrev pub judged : Guard → Channel → Option ℤ → Result (Worked Channel (List ℕ)) ℕ
 judged j e None = Ok (record { element = e; part = [] })
 judged j e (Some value) =
@@ -87,7 +87,7 @@ output total corrections next =
     u64_bytes total ++ (u32_bytes (length corrections) ++
     (flat_map u32_bytes corrections ++ next_bytes next))
 
--- the sum, as far as a u64 tells
+-- the sum, saturating at the greatest u64
 abbrev pub total_after : Total → List ℕ → ℕ
 total_after g part = min (g.corrections + length part) (2 ^ 64 - 1)
 

@@ -1,4 +1,4 @@
--- The guard's own channels and fit plans, and what a part covers.
+-- The guard's own channels, its fit plans, and the channels that a part covers.
 use Rattle.std.specs.Prelude.{◌≡◌, ℕ, ◌<◌, ◌≤◌, List, length}
 use Rattle.det_values.specs.Limits.{IsSampleValue}
 use Rattle.job_shared.specs.Samples.{AreSamples}

@@ -1,4 +1,4 @@
-//! The bank's parameters.
+//! The type `Bank`: the parameters of a filter bank.
 
 ghost use Rattle.std.specs.Prelude.{◌≡◌, ◌≤◌, MatchResult, None, Some};
 
@@ -19,7 +19,7 @@ pub struct Bank {
 impl Bank {
     ghost use Rattle.jobs.specs.bank.Meaning.{bad_param, made, event_of};
 
-    /// The bank of these parameters: channels, 1 to 65,536, and shift, 0 to 16.
+    /// The bank with these parameters: channels, 1 to 65,536, and shift, 0 to 16.
     pub(crate) fn of_params(params: &[i64], events: u16) -> Result<Bank, BadParam>
         ensures { MatchResult result
             (λ job. (bad_param params.now events ≡ None) × (job ≡ made params.now events))
@@ -35,7 +35,7 @@ impl Bank {
         })
     }
 
-    /// The event of a channel.
+    /// The event that a channel reads; 0 if there are fewer than two.
     pub(crate) fn event_of(&self, channel: u32) -> u16
         ensures { result ≡ event_of self.now channel }
     {

@@ -1,4 +1,4 @@
-//! Channels, and their levels.
+//! The bank's elements: channels, their levels and their bytes.
 
 ghost use Rattle.std.specs.Prelude.{◌≡◌, ◌+◌, ◌<◌, ◌≤◌, ◌++◌, IfOk, OnOk, OnErr, length};
 ghost use Rattle.std.specs.Vec.{vec_capacity, vec_len};
@@ -23,7 +23,7 @@ pub struct Channel {
     pub(crate) level: i64,
 }
 
-/// A level after one step towards a target, where there is one.
+/// A level after one step towards a target. Without a target it stays.
 pub(crate) fn level_after(target: Option<i64>, level: i64, shift: u32) -> i64
     requires level { IsSampleValue level }
     requires target { IsSample target }
@@ -51,7 +51,7 @@ pub(crate) fn first_channels(alloc: Global, bank: &Bank) -> Result<Container<Cha
     Ok(channels)
 }
 
-/// Event and level.
+/// The event and the level, in 10 bytes.
 #[inline(always)]
 fn bytes_of(channel: &Channel) -> [u8; 10]
     ensures { result ≡ u16_bytes channel.now.event ++ i64_bytes channel.now.level }
@@ -62,7 +62,7 @@ fn bytes_of(channel: &Channel) -> [u8; 10]
     bytes
 }
 
-/// Appends the level, and before it the event where there are several: 8 or 10 bytes.
+/// Appends the level in 8 bytes, after the event in 2 if there are several events.
 #[inline(always)]
 pub(crate) fn put_channel(
     bank: &Bank,
@@ -80,7 +80,7 @@ pub(crate) fn put_channel(
     Ok(())
 }
 
-/// Event and level, with their number before them and the draws after them.
+/// The event and the level, after the number of their bytes and before the draws.
 #[inline(always)]
 #[tactic(auto, unfolding(det_values::specs::Spelling::spelled_u16, det_values::specs::Spelling::spelled_u32))]
 fn drawn_with_event(channel: &Channel, draws: u32) -> [u8; 16]
@@ -94,7 +94,7 @@ fn drawn_with_event(channel: &Channel, draws: u32) -> [u8; 16]
     bytes
 }
 
-/// The level, with the number of its bytes before it and the draws after it.
+/// The level, after the number of its bytes and before the draws.
 #[inline(always)]
 #[tactic(auto, unfolding(det_values::specs::Spelling::spelled_u16, det_values::specs::Spelling::spelled_u32))]
 fn drawn_level(channel: &Channel, draws: u32) -> [u8; 14]
@@ -107,7 +107,7 @@ fn drawn_level(channel: &Channel, draws: u32) -> [u8; 14]
     bytes
 }
 
-/// Appends the same as `put_channel` with the number of its bytes and the draws, at once.
+/// Appends the bytes of `put_channel`, after their number and before the draws, by one append.
 #[inline(always)]
 #[tactic(auto, unfolding(det_values::specs::Spelling::spelled_drawn))]
 pub(crate) fn put_drawn_channel(

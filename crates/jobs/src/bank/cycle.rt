@@ -1,4 +1,4 @@
-//! The bank as a job.
+//! The implementation of `Job` for `Bank`.
 
 use crate::bank::channel::{first_channels, level_after, put_channel, put_drawn_channel};
 use crate::bank::summary::{joined, output, summary_of};
@@ -11,7 +11,7 @@ use job::{BadParam, Concluded, Job, JobFault, Started};
 use job_shared::{NewestSamples, newest_samples, sample_of};
 use std::alloc::Global;
 
-/// Nothing is kept between cycles beside the channels.
+/// The bank keeps nothing between cycles besides its channels.
 #[derive(Clone, Copy, Debug, PartialEq, Eq, Drop)]
 pub struct NoGlobals;
 
@@ -27,7 +27,7 @@ impl Job for Bank {
     /// The newest sample of each event.
     type Plan = NewestSamples;
 
-    /// None where there is no channel.
+    /// None for no channel.
     type Part = Option<Summary>;
 
     ghost meaning = { meaning };

@@ -1,4 +1,4 @@
-//! What a pass gathers of the levels.
+//! The bank's parts: the sum, the least and the greatest of levels, and the output made of them.
 
 ghost use Rattle.std.specs.Prelude.{◌≡◌, IfOk, Some};
 ghost use Rattle.det_values.specs.Limits.{IsSampleValue};
@@ -31,7 +31,7 @@ pub(crate) fn summary_of(level: i64) -> Summary
     }
 }
 
-/// The summary of the channels of two summaries.
+/// The summary of the channels of both.
 #[inline(always)]
 fn both(left: Summary, right: Summary) -> Summary
     requires { CoverTogether IsSummaryOf left right }
@@ -44,7 +44,7 @@ fn both(left: Summary, right: Summary) -> Summary
     }
 }
 
-/// The same, where each may be of no channel.
+/// The same for parts, which may be of no channel.
 #[inline(always)]
 pub(crate) fn joined(left: Option<Summary>, right: Option<Summary>) -> Option<Summary>
     requires { CoverTogether IsPartOf left right }
@@ -60,7 +60,7 @@ pub(crate) fn joined(left: Option<Summary>, right: Option<Summary>) -> Option<Su
     }
 }
 
-/// The sum, the least and the greatest level, 24 bytes; all three are 0 where there is no channel.
+/// The sum, the least and the greatest level, in 24 bytes. All three are 0 if there is no channel.
 pub(crate) fn output(part: Option<Summary>, spare: Bytes) -> Result<Bytes, OutOfMemory>
     ensures { IfOk result (λ bytes. bytes ≡ output part) }
 {

@@ -1,4 +1,4 @@
-//! The particle that stands nearest to the target.
+//! The cloud's parts: the particle nearest to the target, and the output made of it.
 
 ghost use Rattle.std.specs.Prelude.{◌≡◌, IfOk};
 ghost use Rattle.job.specs.Laws.{CoverTogether, CoversBoth};
@@ -19,7 +19,7 @@ pub struct Best {
     pub(crate) y: i64,
 }
 
-/// The best of one particle.
+/// The part of one particle.
 #[inline(always)]
 pub(crate) fn best_of(target: Target, particle: Particle) -> Best
     requires target { IsPlace target.tx target.ty }
@@ -35,7 +35,7 @@ pub(crate) fn best_of(target: Target, particle: Particle) -> Best
     }
 }
 
-/// Whether one is better than another: nearer, or as near and of a lesser number.
+/// Whether a particle is better than another: nearer, or as near and of a lesser number.
 #[inline(always)]
 fn is_better(best: Best, other: Best) -> bool
     ensures { result ≡ is_better best other }
@@ -44,7 +44,7 @@ fn is_better(best: Best, other: Best) -> bool
         || (best.distance == other.distance && best.number < other.number)
 }
 
-/// The best of two; the left one where neither is better.
+/// The better of two parts; the left one if neither is better.
 #[inline(always)]
 pub(crate) fn joined(left: Option<Best>, right: Option<Best>) -> Option<Best>
     requires { CoverTogether IsPartOf left right }
@@ -64,7 +64,7 @@ pub(crate) fn joined(left: Option<Best>, right: Option<Best>) -> Option<Best>
     }
 }
 
-/// Whether the best particle is farther than allowed.
+/// Whether the best particle is farther from the target than allowed.
 pub(crate) fn is_far(far: u64, part: Option<Best>) -> bool
     ensures { result ≡ is_far far part }
 {
@@ -74,8 +74,8 @@ pub(crate) fn is_far(far: u64, part: Option<Best>) -> bool
     }
 }
 
-/// The best particle's number, coordinates and distance, all 0 where there is none, and the number
-/// of finished cycles: 32 bytes.
+/// The best particle's number, coordinates and distance, and the number of finished cycles, in 32
+/// bytes. Without a particle the first four are 0.
 pub(crate) fn output(part: Option<Best>, finished: u32, spare: Bytes) -> Result<Bytes, OutOfMemory>
     ensures { IfOk result (λ bytes. bytes ≡ output part finished) }
 {

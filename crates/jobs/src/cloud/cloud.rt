@@ -1,4 +1,4 @@
-//! The cloud's parameters.
+//! The type `Cloud`: the parameters of a particle cloud.
 
 ghost use Rattle.std.specs.Prelude.{◌≡◌, ◌≤◌, MatchResult, None, Some};
 
@@ -22,8 +22,8 @@ pub struct Cloud {
 impl Cloud {
     ghost use Rattle.jobs.specs.cloud.Meaning.{bad_param, made, reseeds};
 
-    /// The cloud of these parameters: particles, 1 to 65,536, spread, 1 to 1,000,000, reseed, 0 to
-    /// 1,000,000, and far, 0 to 4,000,000,000,000.
+    /// The cloud with these parameters: particles, 1 to 65,536, spread, 1 to 1,000,000, reseed, 0
+    /// to 1,000,000, and far, 0 to 4,000,000,000,000.
     pub(crate) fn of_params(params: &[i64], events: u16) -> Result<Cloud, BadParam>
         ensures { MatchResult result
             (λ job. (bad_param params.now events ≡ None) × (job ≡ made params.now events))
@@ -43,7 +43,7 @@ impl Cloud {
         })
     }
 
-    /// Whether the seed is drawn anew in a cycle.
+    /// Whether the job draws a new seed in this cycle.
     pub(crate) fn reseeds(&self, cycle: u32) -> bool
         ensures { result ≡ reseeds self.now cycle }
     {

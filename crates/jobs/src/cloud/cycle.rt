@@ -1,4 +1,4 @@
-//! The cloud as a job.
+//! The implementation of `Job` for `Cloud`.
 
 ghost use Rattle.std.specs.Prelude.{◌≡◌, ℕ, ◌≤◌, ◌%◌, ◌==◌};
 ghost use Rattle.det_client.specs.element_random.Words.{StandsFor, key, word};
@@ -22,7 +22,7 @@ use job::{BadParam, Concluded, Job, JobFault, Started};
 use job_shared::{newest, towards};
 use std::alloc::Global;
 
-/// The number of finished cycles. It stands at `u32::MAX`.
+/// The number of finished cycles. It saturates at `u32::MAX`.
 #[derive(Clone, Copy, Debug, PartialEq, Eq, Drop)]
 pub struct Finished {
     pub(crate) cycles: u32,
@@ -38,7 +38,7 @@ fn is_held(cache: &EventCache) -> bool
     }
 }
 
-/// Where the newest samples of events 0 and 1 lead; a coordinate without one is 0.
+/// The target, from the newest samples of events 0 and 1. A coordinate without a sample is 0.
 fn target_of(cache: &EventCache) -> Target
     ensures target { result ≡ target_of (windows cache.now) }
     ensures limits { IsPlace result.tx result.ty }
@@ -49,7 +49,7 @@ fn target_of(cache: &EventCache) -> Target
     }
 }
 
-/// Draws a new seed in the cycles that ask for one.
+/// Draws a new seed in the cycles that need one.
 fn reseed(cloud: &Cloud, client: &mut Client)
     requires { OwnAt client.old 0 }
     ensures seed { client.new.seed ≡ seed_of cloud.now client.old.seed client.old.cycle }
@@ -80,7 +80,8 @@ fn stepped(cloud: &Cloud, particle: &Particle, random: &mut ElementRandom) -> Pa
     }
 }
 
-/// A particle that may be pulled to the best one.
+/// A particle after pass 1: one of eight random numbers leaves it, the others pull it to the best
+/// one.
 fn pulled(
     cloud: &Cloud,
     carry: Option<Best>,
@@ -122,7 +123,7 @@ impl Job for Cloud {
 
     type Plan = Target;
 
-    /// None where there is no particle.
+    /// None for no particle.
     type Part = Option<Best>;
 
     ghost meaning = { meaning };

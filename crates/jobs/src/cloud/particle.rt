@@ -1,4 +1,4 @@
-//! Particles, and where they stand.
+//! The cloud's elements: particles, their moves and their bytes.
 
 ghost use Rattle.std.specs.Prelude.{◌≡◌, ◌+◌, ◌<◌, ◌≤◌, ◌++◌, IfOk, OnOk, OnErr, length};
 ghost use Rattle.std.specs.Vec.{vec_capacity, vec_len};
@@ -21,7 +21,7 @@ pub struct Particle {
     pub(crate) y: i64,
 }
 
-/// Where the particles are to go.
+/// The place to which the particles move.
 #[derive(Clone, Copy, Debug, PartialEq, Eq, Drop)]
 pub struct Target {
     pub(crate) tx: i64,
@@ -44,7 +44,7 @@ pub(crate) fn first_particles(
     Ok(particles)
 }
 
-/// How far a place is from the target, along both coordinates.
+/// The distance of a place from the target: the sum along both coordinates.
 pub(crate) fn distance(target: Target, x: i64, y: i64) -> u64
     requires target { IsPlace target.tx target.ty }
     requires place { IsPlace x y }
@@ -54,7 +54,7 @@ pub(crate) fn distance(target: Target, x: i64, y: i64) -> u64
     x.abs_diff(target.tx) + y.abs_diff(target.ty)
 }
 
-/// A coordinate after a step. It stays from -10^12 to 10^12.
+/// A coordinate after a step, clamped to -10^12 to 10^12.
 pub(crate) fn moved(coordinate: i64, by: i64) -> i64
     requires coordinate { IsSampleValue coordinate }
     requires by { IsSampleValue by }
@@ -64,7 +64,7 @@ pub(crate) fn moved(coordinate: i64, by: i64) -> i64
     (coordinate + by).clamp(-1_000_000_000_000, 1_000_000_000_000)
 }
 
-/// Number and coordinates.
+/// The number and the coordinates, in 20 bytes.
 #[inline(always)]
 fn bytes_of(particle: &Particle) -> [u8; 20]
     ensures { result ≡ shown particle.now }
@@ -76,7 +76,7 @@ fn bytes_of(particle: &Particle) -> [u8; 20]
     bytes
 }
 
-/// The same with their number before them and the draws after them.
+/// The same bytes, after their number and before the draws.
 #[inline(always)]
 #[tactic(auto, unfolding(det_values::specs::Spelling::spelled_u16, det_values::specs::Spelling::spelled_u32))]
 fn drawn_bytes(particle: &Particle, draws: u32) -> [u8; 26]
@@ -89,7 +89,7 @@ fn drawn_bytes(particle: &Particle, draws: u32) -> [u8; 26]
     bytes
 }
 
-/// Appends number and coordinates.
+/// Appends the number and the coordinates.
 #[inline(always)]
 pub(crate) fn put_particle(particle: &Particle, out: &mut Vec<u8>) -> Result<(), OutOfMemory>
     ensures ok { OnOk result (out.new.items ≡ out.old.items ++ shown particle.now) }
@@ -101,7 +101,7 @@ pub(crate) fn put_particle(particle: &Particle, out: &mut Vec<u8>) -> Result<(),
     Ok(())
 }
 
-/// Appends the same bytes with their number and the draws, at once.
+/// Appends the same bytes, after their number and before the draws, by one append.
 #[inline(always)]
 #[tactic(auto, unfolding(det_values::specs::Spelling::spelled_drawn))]
 pub(crate) fn put_drawn_particle(

@@ -1,4 +1,4 @@
-//! Random steps inside a circle.
+//! Random steps inside a circle, by rejection.
 
 ghost use Rattle.std.specs.Prelude.{◌≡◌, ℕ, ℤ, ◌+◌, ◌*◌, ◌≤◌, ◌*ℤ◌, ◌≤ℤ◌, pos, unsigned_abs};
 ghost use Rattle.det_client.specs.element_random.Words.{StandsFor, word};
@@ -7,14 +7,14 @@ ghost use Rattle.jobs.specs.cloud.Steps.{IsStep};
 
 use det_client::element_random::ElementRandom;
 
-/// By how much a particle moves.
+/// The move of a particle along both coordinates.
 #[derive(Clone, Copy, Debug, PartialEq, Eq, Drop)]
 pub(crate) struct Step {
     pub(crate) dx: i64,
     pub(crate) dy: i64,
 }
 
-/// A number from -spread to spread, by a random word.
+/// A number from -spread to spread, from a random number of 64 bits.
 fn offset(spread: u32, word: u64) -> i64
     requires { spread ≤ 1000000 }
     ensures offset { result ≡ offset spread word }
@@ -42,7 +42,7 @@ fn lands(spread: u32, step: Step) -> bool
     squared(step.dx) + squared(step.dy) <= squared(i64::from(spread))
 }
 
-/// A step by the next two words.
+/// A step from the next two random numbers.
 fn try_once(spread: u32, random: &mut ElementRandom) -> Step
     requires { spread ≤ 1000000 }
     ensures step { (key n : ℕ) → StandsFor random.old key n → result ≡ try_of spread key n }
@@ -57,7 +57,7 @@ fn try_once(spread: u32, random: &mut ElementRandom) -> Step
     }
 }
 
-/// The first of at most 8 tries that ends inside the circle; no step where none does.
+/// The first of at most 8 tries that ends inside the circle, or no move if none does.
 pub(crate) fn random_step(spread: u32, random: &mut ElementRandom) -> Step
     requires { spread ≤ 1000000 }
     ensures step { (key : ℕ) → StandsFor random.old key 0

@@ -1,4 +1,4 @@
-//! The range of samples that a channel holds.
+//! The range of samples that a guard's channels accept.
 
 ghost use Rattle.std.specs.Prelude.{◌≡◌, pos, true, false, IfOk, IfErr};
 ghost use Rattle.job_shared.specs.Params.{param, is_param};
@@ -7,7 +7,7 @@ ghost use Rattle.jobs.specs.guard.Bounds.{contains};
 use job::BadParam;
 use job_shared::whole_param;
 
-/// The least and the greatest sample that a channel holds.
+/// The least and the greatest sample that a channel accepts.
 #[derive(Clone, Copy, Debug, PartialEq, Eq, Drop)]
 pub struct Bounds {
     pub(crate) low: i64,
@@ -15,7 +15,7 @@ pub struct Bounds {
 }
 
 impl Bounds {
-    /// From `low` to `high`.
+    /// The range from `low` to `high`.
     pub(crate) fn new(low: i64, high: i64) -> Bounds
         ensures { result ≡ record { low = low; high = high } }
     {

@@ -1,4 +1,4 @@
-//! Channels, and what a sample makes of them.
+//! The guard's elements: channels, their corrections and their bytes.
 
 ghost use Rattle.std.specs.Prelude.{◌≡◌, ◌+◌, ◌<◌, ◌≤◌, ◌++◌, IfOk, OnOk, OnErr, length};
 ghost use Rattle.std.specs.Vec.{vec_capacity, vec_len};
@@ -16,8 +16,9 @@ use job::JobFault;
 use job_shared::{NewestSamples, sample_of};
 use std::alloc::Global;
 
-/// A channel: its number and its event, the value that it holds, from -10^12 to 10^12, and how
-/// often in a row it was corrected.
+/// A channel: its number, its event, the value that it holds, from -10^12 to 10^12, and the number
+/// of its corrections in a row. It keeps the event, so that no cycle divides by the number of
+/// events.
 #[derive(Clone, Copy, Debug, PartialEq, Eq, Drop)]
 pub struct Channel {
     pub(crate) number: u32,
@@ -49,7 +50,7 @@ pub(crate) fn first_channels(
     Ok(channels)
 }
 
-/// What a channel reads: the newest sample of its event.
+/// The reading of a channel: the newest sample of its event.
 #[inline(always)]
 pub(crate) fn reading(samples: &NewestSamples, channel: &Channel) -> Option<i64>
     ensures { result ≡ reading samples.now channel.now }
@@ -57,8 +58,8 @@ pub(crate) fn reading(samples: &NewestSamples, channel: &Channel) -> Option<i64>
     sample_of(samples, u32::from(channel.event))
 }
 
-/// A channel after a reading. Where it is corrected, its number comes behind those in `part`. It
-/// refuses with code 1 where it would have to be corrected once too often.
+/// A channel after a reading. If it is corrected, its number is added to `part`. It refuses with
+/// code 1 at the correction in a row whose number is `limit`.
 #[inline(always)]
 pub(crate) fn judged(
     guard: &Guard,
@@ -96,7 +97,7 @@ pub(crate) fn judged(
     })
 }
 
-/// Number, held value and streak.
+/// The number, the held value and the streak, in 14 bytes.
 #[inline(always)]
 fn bytes_of(channel: &Channel) -> [u8; 14]
     ensures { result ≡ shown channel.now }
@@ -108,7 +109,7 @@ fn bytes_of(channel: &Channel) -> [u8; 14]
     bytes
 }
 
-/// Appends number, held value and streak. The event follows from the number.
+/// Appends the number, the held value and the streak. The event follows from the number.
 #[inline(always)]
 pub(crate) fn put_channel(channel: &Channel, out: &mut Vec<u8>) -> Result<(), OutOfMemory>
     ensures ok { OnOk result (out.new.items ≡ out.old.items ++ shown channel.now) }
@@ -120,7 +121,7 @@ pub(crate) fn put_channel(channel: &Channel, out: &mut Vec<u8>) -> Result<(), Ou
     Ok(())
 }
 
-/// The same with their number before them and the draws after them.
+/// The same bytes, after their number and before the draws.
 #[inline(always)]
 #[tactic(auto, unfolding(det_values::specs::Spelling::spelled_u16, det_values::specs::Spelling::spelled_u32))]
 fn drawn_bytes(channel: &Channel, draws: u32) -> [u8; 20]
@@ -133,7 +134,7 @@ fn drawn_bytes(channel: &Channel, draws: u32) -> [u8; 20]
     bytes
 }
 
-/// Appends the same bytes with their number and the draws, at once.
+/// Appends the same bytes, after their number and before the draws, by one append.
 #[inline(always)]
 #[tactic(auto, unfolding(det_values::specs::Spelling::spelled_drawn))]
 pub(crate) fn put_drawn_channel(

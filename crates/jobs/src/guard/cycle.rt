@@ -1,4 +1,4 @@
-//! The guard as a job.
+//! The implementation of `Job` for `Guard`.
 
 ghost use Rattle.std.specs.Prelude.{◌≡◌, [], OnOk};
 ghost use Rattle.det_client.specs.State.{next_time};
@@ -17,14 +17,14 @@ use job::{BadParam, Concluded, Job, JobFault, Started};
 use job_shared::{NewestSamples, newest_samples};
 use std::alloc::Global;
 
-/// How many corrections there were in all finished cycles. It stands at `u64::MAX`.
+/// The number of corrections in all finished cycles. It saturates at `u64::MAX`.
 #[derive(Clone, Copy, Debug, PartialEq, Eq, Drop)]
 pub struct Total {
     pub(crate) corrections: u64,
 }
 
-/// What a cycle is judged by: the newest sample of each event, and the next activation time, where
-/// it is available.
+/// The plan of a cycle: the newest sample of each event, and the next activation time, if it is
+/// available.
 #[derive(Debug, Drop)]
 pub struct Plan {
     pub(crate) samples: NewestSamples,
@@ -34,7 +34,7 @@ pub struct Plan {
 /// The numbers of corrected channels, in order.
 pub type Corrections = Limited<u32, 65536>;
 
-/// Adds the corrections of the right neighbour behind those of a part.
+/// Adds the corrections of the right neighbour after those of a part.
 #[inline(always)]
 fn join(left: &mut Corrections, right: &Corrections) -> Result<(), OutOfMemory>
     requires { CoverTogether IsPartOf left.old right.now }
@@ -44,7 +44,7 @@ fn join(left: &mut Corrections, right: &Corrections) -> Result<(), OutOfMemory>
     left.extend_from_slice(right.as_slice())
 }
 
-/// An empty list, in the memory of one that nobody needs, if there is one.
+/// An empty list, in the memory of `spare` if there is one.
 fn empty_corrections(alloc: Global, spare: Option<Corrections>) -> Corrections
     ensures { result ≡ [] }
 {
@@ -65,7 +65,7 @@ fn samples_of(plan: Plan) -> NewestSamples
     samples
 }
 
-/// The next activation time.
+/// The next activation time, if it is available.
 fn next_time(client: &Client) -> Option<u64>
     ensures { result ≡ next_time client.now.cycle_time client.now.time }
 {

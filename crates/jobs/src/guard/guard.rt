@@ -1,4 +1,4 @@
-//! The guard's parameters.
+//! The type `Guard`: the parameters of a guard.
 
 ghost use Rattle.std.specs.Prelude.{◌≡◌, ◌≤◌, MatchResult, None, Some};
 
@@ -24,7 +24,7 @@ pub struct Guard {
 impl Guard {
     ghost use Rattle.jobs.specs.guard.Meaning.{bad_param, made, event_of};
 
-    /// The guard of these parameters: channels, 1 to 65,536, low, -10^12 to 10^12, high, low to
+    /// The guard with these parameters: channels, 1 to 65,536, low, -10^12 to 10^12, high, low to
     /// 10^12, limit, 1 to 1,000, and most, 0 to 65,536.
     pub(crate) fn of_params(params: &[i64], events: u16) -> Result<Guard, BadParam>
         ensures { MatchResult result
@@ -46,7 +46,7 @@ impl Guard {
         })
     }
 
-    /// The event of a channel; 0 where there are none.
+    /// The event that a channel reads; 0 if there are no events.
     pub(crate) fn event_of(&self, channel: u32) -> u16
         ensures { result ≡ event_of self.now channel }
     {

@@ -1,4 +1,4 @@
-//! The output of a cycle.
+//! The output of the guard's cycles.
 
 ghost use Rattle.std.specs.Prelude.{◌≡◌, ◌+◌, ◌*◌, ◌≤◌, ◌++◌, length, IfOk, OnOk};
 ghost use Rattle.std.specs.List.{flat_map};
@@ -9,7 +9,7 @@ use crate::guard::Corrections;
 use det_values::{Bytes, OutOfMemory};
 use job_shared::empty_output;
 
-/// Adds the bytes of these numbers.
+/// Appends the bytes of these numbers.
 fn append_numbers(bytes: &mut Bytes, numbers: &[u32]) -> Result<(), OutOfMemory>
     requires { length bytes.old + 4 * length numbers.now ≤ 1048576 }
     ensures items { OnOk result (bytes.new ≡ bytes.old ++ flat_map u32_bytes numbers.now) }
@@ -21,7 +21,7 @@ fn append_numbers(bytes: &mut Bytes, numbers: &[u32]) -> Result<(), OutOfMemory>
     Ok(())
 }
 
-/// Adds the next activation time behind a 1, or a 0 where it isn't available.
+/// Appends a 1 and the next activation time, or a 0 if it isn't available.
 fn append_next(bytes: &mut Bytes, next: Option<u64>) -> Result<(), OutOfMemory>
     requires { length bytes.old + 9 ≤ 1048576 }
     ensures { OnOk result (bytes.new ≡ bytes.old ++ next_bytes next) }
@@ -35,7 +35,8 @@ fn append_next(bytes: &mut Bytes, next: Option<u64>) -> Result<(), OutOfMemory>
     }
 }
 
-/// The total, the count and the numbers of the corrected channels, and the next activation time.
+/// The total of corrections, the count and the numbers of this cycle's corrected channels, and the
+/// next activation time.
 pub(crate) fn output(
     total: u64,
     corrections: &Corrections,

@@ -1,10 +1,10 @@
--- What a shelf over children shows.
+-- What contracts see of a shelf over children.
 use Rattle.std.specs.Prelude.{ℕ, None, IsSome}
 use mathlib.Core.Path.{refl, ◌∙◌}
 use Rattle.det_io.specs.Shelf.{ShelfState}
 use Rattle.lane.specs.child_processes.Spawners.{SpawnerState, Stays}
 
--- slot k is child k; names are not told
+-- slot k is child k; what is under a name isn't known
 abbrev pub shelf_state : SpawnerState → ShelfState
 shelf_state s = record {
   slots = s.children;
@@ -14,8 +14,8 @@ shelf_state s = record {
   left = s.left;
 }
 
--- what reads leave: all but the count of faults and what children have left is the same, and what
--- was told to be left is told on
+-- Reads change only the count of faults and what children have left. What was known to be left
+-- stays known.
 pub record ShelfStays (before after : SpawnerState) : Type 0 where
   pub stays : Stays before after
   pub told : (child : ℕ) → IsSome (before.left child) → IsSome (after.left child)

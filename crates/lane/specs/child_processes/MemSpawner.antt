@@ -1,4 +1,4 @@
--- What a spawner in memory shows, and when its next call fails.
+-- What contracts see of a spawner in memory, and when its next call fails.
 use Rattle.std.specs.Prelude.{◌≡◌, ℕ, ◌+◌, List, [], map, length, Bool, false, cond, nat_eq, not}
 use Rattle.std.specs.Prelude.{◌||◌, ◌&&◌, is_some, Option, Some, None, unwrap_or, slice_get}
 use Rattle.det_io.specs.PlannedCalls.{is_listed}
@@ -24,29 +24,28 @@ state_of scripts children told asked faults = record {
   left = slice_get (map (rest_of scripts) children);
 }
 
--- what such a spawner shows: all that its children do, and the lists of words asked for as long as
--- they are told
+-- its state: all that its children do, and the calls of `start` as long as they are known
 abbrev pub mem_spawner_state : MemSpawner → SpawnerState
 mem_spawner_state s = state_of s.scripts s.children.items s.is_told s.asked.items s.faults
 
--- what a spawner was made of, which no call changes
+-- what a spawner was made from, which no call changes
 pub record MemSpawnerSetup : Type 0 where
   pub scripts : List Script
-  -- the numbers of the calls that are to fail
+  -- the numbers of the calls that fail
   pub fails : List ℕ
 
 abbrev pub setup_of : MemSpawner → MemSpawnerSetup
 setup_of s = record { scripts = s.scripts; fails = s.calls.fails }
 
--- how many calls were made
+-- the number of calls so far
 abbrev pub calls_of : MemSpawner → ℕ
 calls_of s = s.calls.made
 
--- how many calls of start took room
+-- the number of calls of `start` that took room
 abbrev pub starts_of : MemSpawner → ℕ
 starts_of s = s.starts
 
--- a new spawner: no call was made, it has no children, and it tells that it was asked for none
+-- a new spawner: no call was made, it has no children, and it is known that `start` wasn't called
 pub record IsNewMemSpawner (s : MemSpawner) (made_of : MemSpawnerSetup) : Type 0 where
   pub setup : setup_of s ≡ made_of
   pub calls : calls_of s ≡ 0
@@ -62,17 +61,17 @@ pub record IsNewMemSpawner (s : MemSpawner) (made_of : MemSpawnerSetup) : Type 0
     left = λ child. None;
   }
 
--- a start with these words finds room and a script, whether or not it is to fail
+-- a start with these arguments finds room and a script, whether it fails or not
 abbrev pub has_room_for : MemSpawner → Words → Bool
 has_room_for s words = not (nat_eq (starts_of s) 64)
     && is_some (bytes_under (setup_of s).scripts words)
 
--- the next call is to fail
+-- the next call fails
 abbrev pub call_fails : MemSpawner → Bool
 call_fails s = is_listed (setup_of s).fails (calls_of s + 1)
 
--- a start with these words fails as the next call: it is to fail, its words are no script's, or
--- there is no room
+-- a start with these arguments fails as the next call: it is listed, or there is no script or no
+-- room for it
 abbrev pub start_fails : MemSpawner → Words → Bool
 start_fails s words = call_fails s || not (has_room_for s words)
 

@@ -1,4 +1,4 @@
--- What a spawner of processes shows.
+-- What contracts see of a spawner of processes.
 use Rattle.std.specs.Prelude.{◌≡◌, ℕ, ◌<◌, pos, List, Bool, Some, slice_get, option_and_then}
 use Rattle.std.specs.Prelude.{vec_len, vec_capacity}
 use Rattle.std.specs.declared.io.traits.Read.{Ghosts as ReadGhosts}

@@ -1,12 +1,12 @@
--- What is told of processes: how many were started, which of them were given to `finish`, how often
--- a call failed, and how one ended.
+-- What contracts know of processes: how many were started, which of them were given to `finish`,
+-- how often a call failed, and how one ended.
 use Rattle.std.specs.Prelude.{ℕ, ℤ, List, Bool, false, Option, None, length, slice_index_or}
 use Rattle.std.specs.Prelude.{option_and_then}
 use Rattle.std.specs.Process.{child_status, exit_code}
 use Rattle.std.specs.declared.process.child.Child.{Child}
 use Rattle.lane.specs.child_processes.Spawners.{SpawnerState}
 
--- a spawner that tells neither words nor bytes nor statuses
+-- a spawner whose arguments, bytes and exit statuses aren't known
 abbrev pub untold : List Bool → ℕ → SpawnerState
 untold finished faults = record {
   children = length finished;
@@ -19,6 +19,6 @@ untold finished faults = record {
   left = λ child. None;
 }
 
--- the exit status of a process, once it was waited for, where it has one
+-- the exit status of a process that was waited for, if it has one
 abbrev pub code_of : {P I O E : Type 0} → Child P I O E → Option ℤ
 code_of process = option_and_then exit_code (child_status process)

@@ -14,7 +14,7 @@ same_words a b = pointwise bytes_eq a b
 abbrev pub words_in : Script → Words
 words_in script = words_of script.words.items
 
--- the index of the first script with these words
+-- the index of the first script with these arguments
 abbrev pub index_of : List Script → Words → Option ℕ
 index_of scripts words = position (λ script. same_words (words_in script) words) scripts
 
@@ -27,11 +27,11 @@ bytes_at scripts index = slice_index_or (map (λ (s : Script). s.bytes.items) sc
 abbrev pub status_at : List Script → ℕ → ℕ
 status_at scripts index = slice_index_or (map (λ (s : Script). s.status) scripts) index 0
 
--- the bytes of the first script with these words
+-- the bytes of the first script with these arguments
 abbrev pub bytes_under : List Script → Words → Option (List ℕ)
 bytes_under scripts words = option_map (bytes_at scripts) (index_of scripts words)
 
--- the status of the first script with these words
+-- the exit status of the first script with these arguments
 abbrev pub status_under : List Script → Words → Option ℕ
 status_under scripts words = option_map (status_at scripts) (index_of scripts words)
 
@@ -39,6 +39,6 @@ status_under scripts words = option_map (status_at scripts) (index_of scripts wo
 abbrev pub rest_of : List Script → Running → List ℕ
 rest_of scripts child = cond child.is_finished [] (drop child.at (bytes_at scripts child.script))
 
--- a child keeps to the first script with its words
+-- a child keeps to the first script with its arguments
 abbrev pub KeepsToFirst : List Script → Running → Type 0
 KeepsToFirst scripts child = index_of scripts (words_at scripts child.script) ≡ Some child.script

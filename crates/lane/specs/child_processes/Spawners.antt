@@ -1,4 +1,4 @@
--- What a spawner shows of its children, and how its calls change it.
+-- What contracts see of a spawner and its children, and how its calls change it.
 use Rattle.std.specs.Prelude.{◌≡◌, ◌≢◌, ℕ, ◌+◌, Bool, true, false, List, [], ◌++◌, map, take}
 use Rattle.std.specs.Prelude.{String, string_bytes, Option, Some, IfSome, Result, Ok, Err}
 use Rattle.std.specs.Option.{option_map}
@@ -13,27 +13,27 @@ words_of words = map string_bytes words
 pub record SpawnerState : Type 0 where
   -- how many children were started
   pub children : ℕ
-  -- how often it has failed
+  -- the number of its failures so far
   pub faults : ℕ
-  -- the words with which a child was started, where they are told
+  -- the arguments with which a child was started, if they are known
   pub words : ℕ → Option Words
   -- whether a child was given to `finish`
   pub finished : ℕ → Bool
-  -- the lists of words with which `start` was called, where they are told
+  -- the lists of arguments with which `start` was called, if they are known
   pub asked : Option (List Words)
-  -- the output of a child that is started with these words, where it is told
+  -- the output of a child that is started with these arguments, if it is known
   pub gives : Words → Option (List ℕ)
-  -- the exit status of a child that is started with these words, where it is told
+  -- the exit status of a child that is started with these arguments, if it is known
   pub ends : Words → Option ℕ
-  -- the output of a child that wasn't read yet, where it is told
+  -- the output of a child that wasn't read yet, if it is known
   pub left : ℕ → Option (List ℕ)
 
--- the bytes that a read moved into the buffer
+-- the bytes that a read copied into the buffer
 abbrev pub moved : Result ℕ SpawnFailed → List ℕ → List ℕ
 moved (Ok n) buf = take n buf
 moved (Err e) buf = []
 
--- all but the count of faults and what children have left is the same
+-- only the count of faults and what children have left may differ
 pub record Stays (before after : SpawnerState) : Type 0 where
   pub children : after.children ≡ before.children
   pub words : after.words ≡ before.words
@@ -42,13 +42,13 @@ pub record Stays (before after : SpawnerState) : Type 0 where
   pub gives : after.gives ≡ before.gives
   pub ends : after.ends ≡ before.ends
 
--- a child gave these bytes, where they are told, and nothing else happened
+-- a child gave these bytes, if they are known, and nothing else happened
 pub record ReadsChild (before after : SpawnerState) (child : ℕ) (bytes : List ℕ) : Type 0 where
   pub stays : Stays before after
   pub left : before.left child ≡ option_map (λ rest. bytes ++ rest) (after.left child)
   pub others : (k : ℕ) → k ≢ child → after.left k ≡ before.left k
 
--- nothing is left of a child, where it is told
+-- nothing is left of a child, if what is left is known
 abbrev pub IsAtEnd : SpawnerState → ℕ → Type 0
 IsAtEnd state child = IfSome (state.left child) (λ rest. rest ≡ [])
 
@@ -57,7 +57,7 @@ pub record Fixed (before after : SpawnerState) : Type 0 where
   pub gives : after.gives ≡ before.gives
   pub ends : after.ends ≡ before.ends
 
--- a child was started with these words. Where its output is told, so are its words
+-- A child was started with these arguments. If its output is known, so are its arguments.
 pub record Starts (before after : SpawnerState) (words : Words) (child : ℕ) : Type 0 where
   pub number : child ≡ before.children
   pub children : after.children ≡ before.children + 1
@@ -75,7 +75,7 @@ pub record ChildrenStay (before after : SpawnerState) : Type 0 where
   pub words : after.words ≡ before.words
   pub finished : after.finished ≡ before.finished
 
--- `start` was called with these lists of words, where it is told afterwards
+-- `start` was called with these lists of arguments, if the calls are known afterwards
 pub record Asks (before after : SpawnerState) (lists : List Words) : Type 0 where
   pub told : (all : List Words) → after.asked ≡ Some all
       → (earlier : List Words) × (before.asked ≡ Some earlier) × (earlier ++ lists ≡ all)
@@ -90,7 +90,8 @@ pub record Finishes (before after : SpawnerState) (child : ℕ) : Type 0 where
   pub none_left : IsAtEnd after child
   pub other_left : (k : ℕ) → k ≢ child → after.left k ≡ before.left k
 
--- where nothing was left and it is told, the status is that of the child's words
+-- If all of the output was read, and the exit status for the child's arguments is known, it is that
+-- one.
 abbrev pub StatusIs : SpawnerState → ℕ → ℕ → Type 0
 StatusIs before child status =
     (words : Words) (end : ℕ) → before.words child ≡ Some words → before.left child ≡ Some []

@@ -1,4 +1,4 @@
-//! The outputs of children as slots.
+//! `ChildShelf`, so that copies can be compared while children still write them.
 use crate::child_processes::Spawner;
 use det_io::{ShelfFailed, Slots};
 

@@ -1,4 +1,4 @@
-//! A spawner in memory that fails at chosen calls.
+//! `MemSpawner`, a spawner in memory that fails at chosen calls, for tests.
 ghost use Rattle.std.specs.Prelude.{◌≤◌, vec_len, vec_capacity};
 ghost use Rattle.std.specs.List.{All};
 ghost use Rattle.lane.specs.child_processes.Scripts.{KeepsToFirst};
@@ -12,7 +12,7 @@ use det_values::{Limited, OutOfMemory};
 use running::Running;
 use std::alloc::Global;
 
-/// What a child with these words writes, and the status with which it ends.
+/// What a child with these arguments writes, and the exit status with which it ends.
 #[derive(Drop)]
 pub struct Script {
     pub words: Vec<String>,
@@ -23,7 +23,7 @@ pub struct Script {
 impl Script {
     ghost use Rattle.std.specs.Prelude.{◌≡◌};
 
-    /// A child with these words writes these bytes and ends with this status.
+    /// A child with these arguments writes these bytes and ends with this status.
     pub fn new(words: Vec<String>, bytes: Vec<u8>, status: u8) -> Script
         ensures { result ≡ record { words = words; bytes = bytes; status = status } }
     {
@@ -35,24 +35,26 @@ impl Script {
     }
 }
 
-/// Scripts. Of those with equal words the first counts.
+/// Scripts. Of those with equal arguments the first counts.
 pub type Scripts = Limited<Script, 64>;
 
-// For how many calls of `start` there is room.
+// The number of calls of `start` that find room.
 const MOST_STARTS: u32 = 64;
 
-/// A spawner of children that keep to scripts, for tests. It tells everything, but the lists of
-/// words asked for only until one was no script's or there was no room for it. All its room is
-/// taken when it is made: no later call takes memory.
+/// A spawner of children that keep to scripts, for tests.
+///
+/// Contracts know everything about it. Only the list of calls of `start` becomes unknown, once a
+/// call has the arguments of no script or finds no room. All memory is allocated by `new`: no later
+/// call allocates.
 #[derive(Drop)]
 pub struct MemSpawner {
     scripts: Scripts,
     calls: PlannedCalls,
     faults: u64,
-    // How many calls of `start` took room.
+    // The number of calls of `start` that took room.
     starts: u32,
     is_told: bool,
-    // The lists of words asked for, each as the index of its script.
+    // The arguments of each call of `start`, as the index of their script.
     asked: Vec<usize>,
     children: Vec<Running>,
     ghost starts_within: { starts ≤ 64 },
@@ -67,8 +69,8 @@ impl MemSpawner {
     ghost use Rattle.std.specs.Prelude.{IfOk};
     ghost use Rattle.lane.specs.child_processes.MemSpawner.{IsNewMemSpawner};
 
-    /// A spawner that knows these scripts, with room for 64 calls of `start`. All its calls are
-    /// counted together, from 1, and fail where their number is listed.
+    /// A spawner that knows these scripts, with room for 64 calls of `start`. Its calls are
+    /// numbered together from 1. A call fails if its number is listed.
     pub fn new(alloc: Global, scripts: Scripts, fails: FailList) -> Result<MemSpawner, OutOfMemory>
         ensures { IfOk result (λ spawner. IsNewMemSpawner spawner
             (record { scripts = scripts; fails = fails })) }
@@ -201,7 +203,7 @@ impl Spawner for MemSpawner {
             ≤ (mem_spawner_state self.new).faults }
 
         ensures fails { is_err result ≡ call_fails self.old }
-        // Also where output was left.
+        // This holds also if output was left.
         ensures ends { IfOk result (λ status. (words : Words)
             → (mem_spawner_state self.old).words child ≡ Some words
             → (mem_spawner_state self.old).ends words ≡ Some status) }

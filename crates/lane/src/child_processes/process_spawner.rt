@@ -1,4 +1,4 @@
-//! Processes of the system as children.
+//! `ProcessSpawner`, which starts real processes.
 ghost use Rattle.std.specs.Prelude.{◌≡◌, ◌<◌, ◌≤◌, length, vec_len, pos, Some, IfOk};
 ghost use Rattle.lane.specs.child_processes.Processes.{code_of};
 
@@ -8,38 +8,39 @@ use std::alloc::Global;
 use std::io::{self, BufReader};
 use std::process::{Child, Command, OpenProcess, Processes, Stdio};
 
-/// How many bytes of a child's output are read at once, at most: what a pipe of Linux holds. So the
-/// child can fill it again while they are looked at.
+/// How many bytes of a child's output are read at once, at most: as many as a Linux pipe holds. The
+/// child can then fill the pipe again while they are compared.
 const READ_AHEAD: usize = 65_536;
 
 /// The output of a child.
 type Output<R> = BufReader<<<R as Processes>::Started as OpenProcess>::Stdout>;
 
-/// Starts programs of the system. A child's input is empty, its output is a pipe, and what it
-/// writes to standard error is dropped. It tells neither words nor bytes nor statuses.
+/// Starts programs of the system. A child's input is empty, its output is a pipe, and its standard
+/// error is dropped. Contracts know neither the arguments nor the bytes nor the exit statuses of
+/// its children.
 ///
-/// Each failure of the system is a fault, and so are want of memory for one more child or its
-/// words, and an end without an exit status, as after a signal. A read that is interrupted is tried
+/// Each failure of the system is a fault. So is running out of memory for one more child or its
+/// arguments, and an end without an exit status, as after a signal. An interrupted read is tried
 /// again, up to 1,000 times in all.
 ///
 /// - A name without a slash is looked for in `PATH`.
-/// - `read` waits until a child writes or closes its output, and `finish` until it ends. Both can
-///   wait for ever, which no contract says.
-/// - A process that a child started and that holds the pipe can delay the end of a read beyond the
-///   child's own end.
-/// - `finish` kills a child of whose output no read has met the end. If that child was about to end
-///   by itself, whether it has a status depends on what comes first.
-/// - A spawner that is dropped leaves the children running that weren't given to `finish`.
+/// - `read` waits until a child writes or closes its output, and `finish` waits until it ends. Both
+///   can wait for ever, and no contract promises otherwise.
+/// - A read meets the end of an output only when every process that holds the pipe has closed it. A
+///   process that the child started can delay that beyond the child's own end.
+/// - `finish` kills a child unless a read met the end of its output. If the child was about to end
+///   by itself, it has an exit status or none, depending on what comes first.
+/// - Dropping the spawner leaves the children running that weren't given to `finish`.
 #[derive(Drop)]
 pub struct ProcessSpawner<R: Processes> {
     rt: R,
     alloc: Global,
     children: Vec<Child<R::Started>>,
-    // What they write. A child that was given to `finish` has none.
+    // The outputs of the children. A child that was given to `finish` has none.
     outputs: Vec<Option<Output<R>>>,
-    // Of which children a read met the end of the output.
+    // For each child, whether a read met the end of its output.
     at_end: Vec<bool>,
-    // Which children were given to `finish`.
+    // For each child, whether it was given to `finish`.
     finished: Vec<bool>,
     faults: u64,
     ghost one_child_each: { vec_len children ≡ vec_len finished },
@@ -77,7 +78,7 @@ impl<R: Processes> ProcessSpawner<R> {
     ghost use Rattle.lane.specs.child_processes.ProcessSpawner.{process_state, finished_of};
     ghost use Rattle.lane.specs.child_processes.ProcessSpawner.{HasRoom};
 
-    // Keeps a child that was started.
+    // Adds a child that was started.
     fn keep(&mut self, child: Child<R::Started>, output: Output<R>)
         requires { HasRoom self.old }
         ensures { process_state self.new
@@ -89,7 +90,7 @@ impl<R: Processes> ProcessSpawner<R> {
         push_within(&mut self.finished, false);
     }
 
-    // Starts a child. The room for it in the lists is taken first.
+    // Starts a child. Room in the lists is reserved first, so that a started child is never lost.
     fn add(&mut self, words: &[String]) -> Option<u32>
         requires { 0 < length words.now }
         ensures starts { IfSome result
@@ -111,7 +112,7 @@ impl<R: Processes> ProcessSpawner<R> {
         Some(number)
     }
 
-    // Hands an answer on, and counts it where it is a failure.
+    // Counts an answer that is a failure, and returns the answer.
     fn counted<T>(&mut self, answer: Result<T, SpawnFailed>) -> Result<T, SpawnFailed>
         ensures answer { result ≡ answer }
         ensures children { self.new.children ≡ self.old.children }
@@ -186,13 +187,13 @@ fn launch<R: Processes>(rt: &R, alloc: Global, words: &[String]) -> io::Result<C
         .spawn(rt)
 }
 
-// The output of a child that was just started; none where there is no memory to read it ahead.
+// The output of a child that was just started. None if there is no memory for its buffer.
 fn output_of<R: Processes>(alloc: Global, child: &mut Child<R::Started>) -> Option<Output<R>> {
     let pipe = child.stdout.take()?;
     BufReader::with_capacity(alloc, READ_AHEAD, pipe).ok()
 }
 
-// One read of what a child writes. A child without an output has failed.
+// Reads once from a child's output. A child without an output is a failure.
 fn read_output<R: Processes>(
     output: &mut Option<Output<R>>,
     buf: &mut [u8],
@@ -205,8 +206,8 @@ fn read_output<R: Processes>(
     }
 }
 
-// Waits for the end of a child of which nothing more is read. One that may still write is stopped
-// first.
+// Waits for the end of a child whose output isn't read any more. A child that may still write is
+// killed first.
 fn end_of<R: Processes>(child: &mut Child<R::Started>, is_at_end: bool) -> Result<u8, SpawnFailed>
     ensures { IfOk result (λ status. code_of child.new ≡ Some (pos status)) }
 {

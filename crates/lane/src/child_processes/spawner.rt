@@ -1,4 +1,4 @@
-//! A spawner starts children.
+//! `Spawner`, the trait of what starts children.
 ghost use Rattle.std.specs.Prelude.{◌≡◌, ℕ, ◌<◌, ◌≤◌, ◌∷◌, [], List, length, true, false, IfOk};
 ghost use Rattle.std.specs.Prelude.{OnErr};
 ghost use Rattle.det_io.specs.Count.{Rose};
@@ -11,14 +11,14 @@ use crate::child_processes::SpawnFailed;
 
 /// Starts children, numbered from 0, reads what each writes, and waits for their ends.
 ///
-/// `sees` is what contracts see of a state: how many children were started and which of them were
-/// given to `finish`, the count of faults, and, where they are told, the words of each child and
-/// what it has left, the lists of words that were asked for, and the output and the exit status of
-/// a child with some words.
+/// `sees` is the state that contracts see: how many children were started, which of them were given
+/// to `finish`, and the count of faults. More may be known: each child's arguments and the rest of
+/// its output, the calls of `start`, and a child's output and exit status by its arguments.
 pub trait Spawner {
     ghost sees: { Self → SpawnerState };
 
-    /// Starts a child with these words and answers its number. The first word is the program.
+    /// Starts a child with these arguments and returns its number. The first argument is the
+    /// program.
     fn start(&mut self, words: &[String]) -> Result<u32, SpawnFailed>
         requires { 0 < length words.now }
         ensures starts { IfOk result
@@ -29,8 +29,8 @@ pub trait Spawner {
         ensures cause { OnErr result (Rose (sees self.old).faults (sees self.new).faults) }
         ensures counted { (sees self.old).faults ≤ (sees self.new).faults };
 
-    /// Moves the next bytes of a child's output into the beginning of the buffer and answers how
-    /// many. It waits for them. Of a child that was given to `finish` there are none.
+    /// Reads the next bytes of a child's output into the front of the buffer and returns how many.
+    /// It waits for them. A child that was given to `finish` has none.
     fn read(&mut self, child: u32, buf: &mut [u8]) -> Result<usize, SpawnFailed>
         requires { child < (sees self.old).children }
         ensures within { IfOk result (λ n. n ≤ length buf.old) }
@@ -41,9 +41,10 @@ pub trait Spawner {
         ensures cause { OnErr result (Rose (sees self.old).faults (sees self.new).faults) }
         ensures counted { (sees self.old).faults ≤ (sees self.new).faults };
 
-    /// Gives up the rest of a child's output, stops the child where its output wasn't read to its
-    /// end, waits for its end and answers its exit status. A child that ends without one is a
-    /// fault. Also where the call failed the child counts as finished.
+    /// Ends the use of a child and returns its exit status. The child is stopped if its output
+    /// wasn't read to its end, and then waited for. A child that ends without an exit status is a
+    /// fault. The child counts as finished even if the call fails. Without the stop, a child that
+    /// neither writes nor ends would hold the lane up after a difference.
     fn finish(&mut self, child: u32) -> Result<u8, SpawnFailed>
         requires started { child < (sees self.old).children }
         requires running { (sees self.old).finished child ≡ false }

@@ -1,4 +1,4 @@
--- The laws, over the definitions of a record.
+-- The laws over the definitions of a record.
 use Rattle.std.specs.Prelude.{◌≡◌, ℕ, ◌^◌, ◌≤◌, ◌⊎◌, List, ◌++◌, length, Some, None}
 use Rattle.det_values.specs.declared.frames.Frame.{Frame}
 use Rattle.det_values.specs.Values.{ProfileValue}
@@ -12,7 +12,7 @@ use Rattle.record_grammar.specs.Record.{items, fault, fault_so_far}
 use Rattle.record_grammar.specs.Spelling.{AreBytes, Spells, SpellsWhole}
 use Rattle.record_grammar.specs.Laws.{HaveOneSpelling, IsDecoded, IsInOrder, items_of}
 
--- two bytes can spell the number of each event that the place knows of
+-- two bytes can spell the number of each of the place's events
 abbrev pub EventsFit : Place → Type 0
 EventsFit (places.Runs layout before) = layout.events ≤ 2 ^ 16
 EventsFit place = Unit {0}
@@ -38,7 +38,7 @@ EarlyEnd =
 abbrev pub ItemsGrow : Type 0
 ItemsGrow = (bytes more : List ℕ) → IsPrefix (items bytes) (items (bytes ++ more))
 
--- bytes that were refused, with more behind them
+-- refused bytes, with more after them
 pub record IsStillRefused (bytes more : List ℕ) (f : RecordFault) : Type 0 where
   pub items : items (bytes ++ more) ≡ items bytes
   pub so_far : fault_so_far (bytes ++ more) ≡ Some f
@@ -53,7 +53,7 @@ abbrev pub InOrder : Type 0
 InOrder =
     (profile : ProfileValue) (frames : List Frame) (bytes : List ℕ) → IsInOrder profile frames bytes
 
--- what a spelling is read as
+-- how a spelling is read
 pub record IsRead (profile : ProfileValue) (frames : List Frame) (bytes : List ℕ) : Type 0 where
   pub items : items bytes ≡ items_of profile frames
   pub no_fault : fault_so_far bytes ≡ None

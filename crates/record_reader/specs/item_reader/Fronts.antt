@@ -1,4 +1,4 @@
--- How far the next bytes of a slot are those of an item.
+-- How far the next bytes of a slot are equal to those of an item.
 use Rattle.std.specs.Prelude.{◌≡◌, ◌≢◌, ℕ, ◌+◌, ◌<◌, ◌⊎◌, List, [], ◌++◌, length}
 use Rattle.std.specs.Prelude.{take, drop, Result, Ok, Err}
 use Rattle.det_io.specs.Shelf.{ShelfState, Reads, IsAtEnd}
@@ -13,20 +13,19 @@ use Rattle.record_reader.specs.item_reader.Held.{held}
 use Rattle.record_reader.specs.item_reader.StandsFor.{unread}
 use Rattle.record_reader.specs.item_reader.Steps.{count_of}
 
--- no item was given last, and nothing was read of the next one
+-- no last item is held, and nothing was read of the next one
 pub record Begins (r : ItemReader) : Type 0 where
   pub last : r.last ≡ 0
   pub scan : r.scan ≡ record { partial = Nothing; read = 0 }
 
--- nothing differs but what is held and what was let go of
+-- only the held and the dropped bytes differ
 pub record Aside (old new : ItemReader) : Type 0 where
   pub slot : new.slot ≡ old.slot
   pub place : new.place ≡ old.place
   pub fault : new.fault ≡ old.fault
   pub begins : Begins new
 
--- before the last of these bytes were read, all that was there was the front of an item, and not
--- all of it
+-- before the last piece was read, all bytes were a proper prefix of the item's
 pub record IsLastNeeded (start bytes more : List ℕ) : Type 0 where
   pub first : List ℕ
   pub last : List ℕ
@@ -39,7 +38,7 @@ pub record IsLastNeeded (start bytes more : List ℕ) : Type 0 where
 abbrev pub AreNeeded : List ℕ → List ℕ → List ℕ → Type 0
 AreNeeded start bytes more = (more ≡ []) ⊎ IsLastNeeded start bytes more
 
--- why so many bytes were passed and no more
+-- why this number of bytes was passed, and no more
 abbrev pub FrontIs : Result Front Failure → List ℕ → ℕ → List ℕ → Type 0 → Type 0
 FrontIs (Ok fronts.Whole) bytes matched left at_end = matched ≡ length bytes
 FrontIs (Ok fronts.Differs) bytes matched left at_end =
@@ -51,7 +50,7 @@ FrontIs (Err Read) bytes matched left at_end = matched < length bytes
 FrontIs (Err Write) bytes matched left at_end = ⊥
 FrontIs (Err OutOfMemory) bytes matched left at_end = matched < length bytes
 
--- so many bytes were passed, as they came
+-- this number of bytes was passed, as they came
 pub record Passing (bytes : List ℕ) (matched : ℕ) (before after : ShelfState) (old new : ItemReader)
     : Type 0 where
   pub more : List ℕ
@@ -67,12 +66,12 @@ pub record Passed (result : Result Front Failure) (bytes : List ℕ) (matched : 
   pub so_far : Passing bytes matched before after old new
   pub front : FrontIs result bytes matched (held new.window) (IsAtEnd after old.slot)
 
--- all that was read is held again
+-- all bytes that were read are held again
 pub record Restored (all : List ℕ) (count : ℕ) (new : ItemReader) : Type 0 where
   pub is : unread new ≡ all
   pub counted : count_of new ≡ count
 
--- what was compared, of all bytes from the item on
+-- the result of a comparison, by all bytes from the item on
 abbrev pub ComparedIs : Result Front Failure → List ℕ → List ℕ → ℕ → ItemReader → Type 0 → Type 0
 ComparedIs (Ok fronts.Whole) bytes all count new at_end =
     (all ≡ bytes ++ unread new) × (count_of new ≡ count)

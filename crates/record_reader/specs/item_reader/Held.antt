@@ -10,14 +10,14 @@ use Rattle.record_reader.specs.declared.item_reader.window.Window.{Window}
 abbrev pub held : Window → List ℕ
 held w = drop w.from (take w.to w.buffer.items)
 
--- what an answer says of the bytes that were read
+-- what a result says of the bytes that were read
 abbrev pub Told : Result ℕ Failure → List ℕ → Type 0 → Type 0
 Told (Ok n) more at_end = (n ≡ length more) × (more ≡ [] → at_end)
 Told (Err Read) more at_end = more ≡ []
 Told (Err Write) more at_end = ⊥
 Told (Err OutOfMemory) more at_end = more ≡ []
 
--- these bytes were read, and are held behind those that were
+-- these bytes were read, and are held after those before
 pub record Took (result : Result ℕ Failure) (before after : ShelfState) (slot : ℕ)
     (old new : List ℕ) : Type 0 where
   pub more : List ℕ
@@ -26,8 +26,8 @@ pub record Took (result : Result ℕ Failure) (before after : ShelfState) (slot 
   pub told : Told result more (IsAtEnd after slot)
   pub are : AreBytes more
 
--- from one place of some bytes on up to another they were held first and let go of; then they end,
--- or nothing more is held, or another byte is
+-- The bytes from one offset up to another were held first and are dropped. After them `bytes` end,
+-- or no more is held, or the next byte differs.
 pub record Matched (bytes : List ℕ) (from to : ℕ) (old new : List ℕ) : Type 0 where
   pub order : from ≤ to
   pub within : to ≤ length bytes

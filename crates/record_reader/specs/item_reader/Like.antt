@@ -1,4 +1,4 @@
--- The next item of a record, held against one of another record that stands in the same place.
+-- The comparison of the next item of a record with one of another record in the same place.
 use Rattle.std.specs.Prelude.{◌≡◌, ℕ, ◌<◌, List, [], ◌∷◌, ◌++◌, Result, Ok, Err}
 use Rattle.det_io.specs.declared.failure.Failure.TheVariants.{Read, Write, OutOfMemory}
 use Rattle.det_io.specs.declared.failure.Stopped.{Stopped}
@@ -19,8 +19,8 @@ abbrev pub IsOther : ItemView → List ℕ → List ℕ → List Item → Type 0
 IsOther view bytes read given = (item : Item) (others : List Item) → IsSpelling view item bytes
     → items_in read ≡ given ++ item ∷ others → ⊥
 
--- The same item was given; or what is told is given, and it is another one, where the other
--- record's item stands in the place in which the reader was.
+-- The equal item counts as returned, or the next item is returned. That one differs, if the other
+-- record's item is of the place in which the reader was.
 abbrev pub LikeIs : Result Like (Stopped RecordFault) → ItemView → List ℕ → Place → ItemReader
     → Type 0 → List ℕ → List Item → Type 0
 LikeIs (Ok likes.Same) view bytes place r at_end read given =
@@ -33,13 +33,13 @@ LikeIs (Err (Failed Read)) view bytes place r at_end read given = StandsFor r re
 LikeIs (Err (Failed Write)) view bytes place r at_end read given = ⊥
 LikeIs (Err (Failed OutOfMemory)) view bytes place r at_end read given = Unit {0}
 
--- an item leaves fewer that may come, and any other answer leaves as many
+-- an item lowers the number of items that may come, and any other result leaves it
 abbrev pub LikeFell : Result Like (Stopped RecordFault) → ℕ → ℕ → Type 0
 LikeFell (Ok likes.Same) old new = new < old
 LikeFell (Ok (likes.Other row)) old new = RoomFell (Ok row) old new
 LikeFell (Err stop) old new = new ≡ old
 
--- what is given where nothing was compared
+-- what is returned without a comparison
 abbrev pub OtherIs : Result Like (Stopped RecordFault) → ItemReader → Type 0
     → List ℕ → List Item → Type 0
 OtherIs (Ok likes.Same) r at_end read given = ⊥

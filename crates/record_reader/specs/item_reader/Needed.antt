@@ -1,7 +1,7 @@
--- Bytes that were read one piece after another, and what was so before the last piece.
+-- Bytes that were read piece by piece, and what held before the last piece.
 use Rattle.std.specs.Prelude.{◌≡◌, ◌≢◌, ℕ, ◌⊎◌, List, [], ◌++◌}
 
--- this was so before the last of these bytes were read
+-- this held before the last piece of these bytes was read
 pub record LastPiece (Before : List ℕ → Type 0) (read : List ℕ) : Type 0 where
   pub first : List ℕ
   pub last : List ℕ
@@ -9,6 +9,6 @@ pub record LastPiece (Before : List ℕ → Type 0) (read : List ℕ) : Type 0 w
   pub some : last ≢ []
   pub before : Before first
 
--- bytes were read only while this was so of those that had been read
+-- pieces were read only while this held of the bytes read so far
 abbrev pub ReadsWhile : (List ℕ → Type 0) → List ℕ → Type 0
 ReadsWhile Before read = (read ≡ []) ⊎ LastPiece Before read

@@ -1,4 +1,4 @@
--- What a reader keeps of the bytes that it read and of the items that it gave.
+-- What a reader knows of the bytes that it read and of the items that it returned.
 use Rattle.std.specs.Prelude.{◌≡◌, ◌≢◌, ℕ, ◌+◌, ◌<◌, ◌⊎◌, List, [], ◌∷◌, ◌++◌, length, drop, Option}
 use Rattle.std.specs.Prelude.{Some, None, Result, Ok, Err}
 use Rattle.det_io.specs.Shelf.{ShelfState, Reads}
@@ -21,18 +21,18 @@ use Rattle.record_reader.specs.declared.item_reader.reader.ItemReader.{ItemReade
 use Rattle.record_reader.specs.item_reader.Held.{held}
 use Rattle.record_reader.specs.item_reader.Needed.{ReadsWhile}
 
--- the bytes that were read, and are no part of an item that was given
+-- the bytes that were read and belong to no returned item
 abbrev pub unread : ItemReader → List ℕ
 unread r = drop r.last (held r.window)
 
--- these bytes were read, these items given, and no fault was found
+-- these bytes were read, these items returned, and no fault was found
 pub record StandsFor (r : ItemReader) (read : List ℕ) (given : List Item) : Type 0 where
   pub leads : Leads places.Header read given r.place (unread r)
   pub scan : IsScan r.place r.scan (unread r)
   pub counted : r.before + length (held r.window) ≡ length read
   pub going : r.fault ≡ None
 
--- the fault that was answered
+-- the fault that was returned
 abbrev pub fault_of : ItemReader → Option RecordFault
 fault_of r = r.fault
 
@@ -40,20 +40,20 @@ fault_of r = r.fault
 abbrev pub slot_of : ItemReader → ℕ
 slot_of r = r.slot
 
--- where the next item may stand
+-- the place of the next item
 abbrev pub place_of : ItemReader → Place
 place_of r = r.place
 
--- how many items may still come
+-- the greatest number of items that may still come
 abbrev pub room : ItemReader → ℕ
 room r = may_come r.place
 
--- whatever bytes follow, these are the items, and this is the fault
+-- whatever bytes come after, these are the items and this is the fault
 abbrev pub IsFaulty : RecordFault → List ℕ → List Item → Type 0
 IsFaulty f read given = (tail : List ℕ)
     → (items_in (read ++ tail) ≡ given) × (fault_in (read ++ tail) ≡ Some f)
 
--- all items before the fault are given; the bytes read show it, or the slot has no more bytes
+-- all items before the fault were returned; the bytes read show it, or the slot has no more
 pub record FoundFault (f : RecordFault) (at_end : Type 0) (read : List ℕ) (given : List Item)
     : Type 0 where
   pub before : items_in read ≡ given
@@ -61,23 +61,24 @@ pub record FoundFault (f : RecordFault) (at_end : Type 0) (read : List ℕ) (giv
   pub found : IsFaulty f read given ⊎ at_end
   pub truncated : f.reason ≡ Truncated → at_end
 
--- a piece is read only where what was read before gives neither an item nor a fault
+-- a piece is read only if the bytes before it give neither an item nor a fault
 abbrev pub ReadsIfNeeded : List ℕ → List Item → List ℕ → Type 0
 ReadsIfNeeded read given more = ReadsWhile
     (λ first. (items_in (read ++ first) ≡ given) × (fault_so_far (read ++ first) ≡ None)) more
 
--- bytes were read that were needed, and what the reader stood for before is known of it afterwards
+-- Only bytes that were needed were read. `Then` is known of all bytes that the reader read, these
+-- included, and of the items that it had returned.
 abbrev pub HasRead : ShelfState → ShelfState → ItemReader → (List ℕ → List Item → Type 0) → Type 0
 HasRead before after r Then = (more : List ℕ) × Reads before after (slot_of r) more
     × ((read : List ℕ) (given : List Item) → StandsFor r read given
     → ReadsIfNeeded read given more × Then (read ++ more) given) × AreBytes more
 
--- this item was given last, and its bytes are held
+-- this was the last item, and its bytes are held
 pub record Holds (r : ItemReader) (view : ItemView) (item : Item) : Type 0 where
   pub last : view.span.len ≡ r.last
   pub shows : Shows view.place view.span (held r.window) item
 
--- an item is given that comes next, in the place to which those before it lead
+-- the next item is returned, in the place to which those before it lead
 pub record GaveItem (view : ItemView) (r : ItemReader) (read : List ℕ) (given : List Item)
     : Type 0 where
   pub item : Item
@@ -87,13 +88,13 @@ pub record GaveItem (view : ItemView) (r : ItemReader) (read : List ℕ) (given 
   pub others : List Item
   pub is : items_in read ≡ given ++ item ∷ others
 
--- a view that is given is of an item whose bytes are held
+-- a view that is returned is of an item whose bytes are held
 abbrev pub GaveView : Result (Option ItemView) (Stopped RecordFault) → ItemReader → Type 0
 GaveView (Ok (Some view)) r = (item : Item) × Holds r view item
 GaveView (Ok None) r = Unit {0}
 GaveView (Err stop) r = Unit {0}
 
--- what an answer says of the bytes read and the items given
+-- what a result says of the bytes read and the items returned
 abbrev pub ItemIs : Result (Option ItemView) (Stopped RecordFault) → ItemReader → Type 0
     → List ℕ → List Item → Type 0
 ItemIs (Ok (Some view)) r at_end read given = GaveItem view r read given
@@ -106,7 +107,7 @@ ItemIs (Err (Failed Read)) r at_end read given = StandsFor r read given × (item
 ItemIs (Err (Failed Write)) r at_end read given = ⊥
 ItemIs (Err (Failed OutOfMemory)) r at_end read given = Unit {0}
 
--- an item leaves fewer that may come, and any other answer leaves as many
+-- an item lowers the number of items that may come, and any other result leaves it
 abbrev pub RoomFell : Result (Option ItemView) (Stopped RecordFault) → ℕ → ℕ → Type 0
 RoomFell (Ok (Some view)) old new = new < old
 RoomFell (Ok None) old new = new ≡ old

@@ -1,4 +1,4 @@
--- What a reader does in one step.
+-- One step of a reader.
 use Rattle.std.specs.Prelude.{◌≡◌, ℕ, ◌+◌, ◌-◌, ◌^◌, ◌<◌, List, length, Option, Some, None, Result}
 use Rattle.std.specs.Prelude.{Ok, Err}
 use Rattle.det_io.specs.declared.failure.Stopped.{Stopped}
@@ -21,11 +21,11 @@ use Rattle.record_reader.specs.item_reader.StandsFor.{FoundFault, Holds}
 abbrev pub count_of : ItemReader → ℕ
 count_of r = r.before + length (held r.window)
 
--- how many bytes may still be read: all are counted in 64 bits
+-- how many bytes may still be read, since all are counted in 64 bits
 abbrev pub countable : ItemReader → ℕ
 countable r = 2 ^ 64 - count_of r
 
--- no byte was read, no item given, and nothing is known of the next one
+-- no byte was read, no item returned, and nothing is known of the next one
 pub record Stays (old new : ItemReader) : Type 0 where
   pub slot : new.slot ≡ old.slot
   pub place : new.place ≡ old.place
@@ -34,16 +34,16 @@ pub record Stays (old new : ItemReader) : Type 0 where
   pub unread : unread new ≡ unread old
   pub count : count_of new ≡ count_of old
 
--- no item was given last
+-- no last item is held
 pub record Forgot (old new : ItemReader) : Type 0 where
   pub stays : Stays old new
   pub last : new.last ≡ 0
 
--- so much is known of the item whose first bytes are held
+-- the scan is right for the item whose first bytes are held
 abbrev pub Scanned : ItemReader → Type 0
 Scanned r = IsScan r.place r.scan (unread r)
 
--- an item is given whose bytes are held, or more of it is known
+-- the item is returned whose bytes are held, or the scan of the next one is right
 abbrev pub ScannedOf : Result (Option ItemView) RecordFault → ItemReader → Type 0
 ScannedOf (Ok (Some view)) r = (item : Item) × Holds r view item
 ScannedOf (Ok None) r = Scanned r
@@ -55,24 +55,24 @@ ScannedBy (Ok progress.Piece) r = Scanned r
 ScannedBy (Ok progress.End) r = Unit {0}
 ScannedBy (Err stop) r = Unit {0}
 
--- all items of what was read are given, and more bytes are needed
+-- all items of the bytes read were returned, and more bytes are needed
 pub record GaveAll (r : ItemReader) (read : List ℕ) (given : List Item) : Type 0 where
   pub stands : StandsFor r read given
   pub more : item_at r.place (unread r) ≡ More
 
--- what is held shows
+-- what the held bytes show
 abbrev pub HeldIs : Result (Option ItemView) RecordFault → ItemReader → List ℕ → List Item → Type 0
 HeldIs (Ok (Some view)) r read given = GaveItem view r read given
 HeldIs (Ok None) r read given = GaveAll r read given
 HeldIs (Err f) r read given = FoundFault f ⊥ read given × (fault_of r ≡ Some f)
 
--- an item leaves fewer that may come, and any other answer leaves as many
+-- an item lowers the number of items that may come, and any other result leaves it
 abbrev pub RoomOf : Result (Option ItemView) RecordFault → ℕ → ℕ → Type 0
 RoomOf (Ok (Some view)) old new = new < old
 RoomOf (Ok None) old new = new ≡ old
 RoomOf (Err f) old new = new ≡ old
 
--- where no item is held, none was given last
+-- if the held bytes have no whole item, no last item is held either
 abbrev pub KeepsOn : Result (Option ItemView) RecordFault → ItemReader → ItemReader → Type 0
 KeepsOn (Ok (Some view)) old new = Unit {0}
 KeepsOn (Ok None) old new = (new.last ≡ 0) × (fault_of new ≡ None) × (count_of new ≡ count_of old)
@@ -85,7 +85,7 @@ StepIs (Ok progress.Piece) r at_end read given = StandsFor r read given
 StepIs (Ok progress.End) r at_end read given = ItemIs (Ok None) r at_end read given
 StepIs (Err stop) r at_end read given = ItemIs (Err stop) r at_end read given
 
--- an item leaves fewer that may come, and any other step leaves as many
+-- an item lowers the number of items that may come, and any other step leaves it
 abbrev pub Shrinks : Result Progress (Stopped RecordFault) → ℕ → ℕ → Type 0
 Shrinks (Ok (progress.Item view)) old new = new < old
 Shrinks (Ok progress.Piece) old new = new ≡ old
@@ -100,7 +100,7 @@ GoesOn (Ok progress.Piece) old new =
 GoesOn (Ok progress.End) old new = Unit {0}
 GoesOn (Err stop) old new = Unit {0}
 
--- nothing but what is held differs
+-- only the held bytes differ
 pub record ReadsOn (old new : ItemReader) : Type 0 where
   pub slot : new.slot ≡ old.slot
   pub place : new.place ≡ old.place
@@ -109,7 +109,7 @@ pub record ReadsOn (old new : ItemReader) : Type 0 where
   pub last : new.last ≡ old.last
   pub before : new.before ≡ old.before
 
--- what a record lacks whose slot has no more bytes
+-- the fault of a record whose slot has no more bytes, if it has one
 abbrev pub FinishIs : Result (Unit {0}) RecordFault → ItemReader → ItemReader → Type 0
 FinishIs (Ok u) old new = (new ≡ old)
     × ((read : List ℕ) (given : List Item) → GaveAll old read given → fault_in read ≡ None)

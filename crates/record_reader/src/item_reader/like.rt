@@ -1,4 +1,5 @@
-//! The next item of a record, held against one of another record.
+//! Compares the next item of a record with an item of another record. Equal items are passed
+//! without being held, so this is apart from `next`.
 ghost use Rattle.std.specs.Prelude.{◌≡◌, ◌≤◌, ◌<◌, ◌+◌, ◌++◌, length, take};
 
 use crate::item_reader::ItemReader;
@@ -7,23 +8,23 @@ use det_values::OutOfMemory;
 use record_grammar::{Place, RecordFault};
 use record_view::{ItemView, events_at, place_after};
 
-/// What comes next in a record, held against an item of another one.
+/// The result of comparing the next item with an item of another record.
 #[derive(Clone, Copy, Drop)]
 pub enum Like {
-    /// The same item.
+    /// The items are equal.
     Same,
-    /// Another item, or the end of a whole record.
+    /// The next item is another one, or the record is whole and has no more.
     Other(Option<ItemView>),
 }
 
-/// How far the next bytes are those of an item.
+/// How the next bytes compare with those of an item.
 #[derive(Clone, Copy, Drop)]
 enum Front {
-    /// They are all of them.
+    /// They begin with all of them.
     Whole,
     /// A byte differs.
     Differs,
-    /// The slot has no more.
+    /// The slot ends before the item does.
     Ends,
 }
 
@@ -42,10 +43,10 @@ impl ItemReader {
     ghost use Rattle.record_reader.specs.item_reader.Like.{LikeIs, OtherIs, LikeFell};
     ghost use Rattle.record_reader.specs.item_reader.Fronts.{Begins, Aside, Passed, Compared};
 
-    /// The next item, held against one of these bytes that another reader gave in the same place.
-    /// Where it is the same it counts as given, though its bytes were compared as they came and
-    /// none is held; else it is given as by `next`. After want of memory the reader isn't to be
-    /// used.
+    /// Compares the next item with the one of these bytes, which another reader returned in the
+    /// same place. An equal item is passed: it counts as returned, but its bytes are compared as
+    /// they come, and none is held. Another item is returned as by `next`. After `OutOfMemory` the
+    /// reader must not be used again.
     pub fn next_like<S: Slots>(
         &mut self,
         view: ItemView,
@@ -57,11 +58,11 @@ impl ItemReader {
         ensures like { HasRead (S.sees shelf.old) (S.sees shelf.new) self.old
             (LikeIs result view bytes.now (place_of self.old) self.new
             (IsAtEnd (S.sees shelf.new) (slot_of self.old))) }
-        // Each item leaves fewer that may come.
+        // Each item lowers the number of items that may come.
         ensures room { (read : List ℕ) (given : List Item) → StandsFor self.old read given
             → LikeFell result (room self.old) (room self.new) }
         ensures slot { slot_of self.new ≡ slot_of self.old }
-        // Nothing is read where a fault is answered again.
+        // Nothing is read when a fault is returned again.
         ensures again { (fault : RecordFault) → fault_of self.old ≡ Some fault
             → (result ≡ Err (Stopped.Refused fault)) × (fault_of self.new ≡ Some fault)
             × (S.sees shelf.new ≡ S.sees shelf.old) }
@@ -84,7 +85,7 @@ impl ItemReader {
         }
     }
 
-    /// Whether no fault was answered, and the next item may stand in this place.
+    /// Whether no fault was returned, and the next item may come in this place.
     fn goes_on_at(&self, place: Place) -> bool
         ensures is { IsTrue result ↔ ((fault_of self.now ≡ None) × (place_of self.now ≡ place)) }
         ensures few { events_of place ≤ 65536 }
@@ -93,7 +94,7 @@ impl ItemReader {
         self.fault.is_none() && self.place == place
     }
 
-    /// The next item, which no other is held against.
+    /// The next item, without a comparison.
     fn next_other<S: Slots>(&mut self, shelf: &mut S) -> Result<Like, Stopped<RecordFault>>
         requires { slot_of self.old < (S.sees shelf.old).slots }
         ensures other { HasRead (S.sees shelf.old) (S.sees shelf.new) self.old
@@ -113,8 +114,8 @@ impl ItemReader {
         }
     }
 
-    /// Compares the next bytes with these as they come. Where they are all the same they are let go
-    /// of, and else all that were read are held.
+    /// Compares the next bytes with these as they come. If all are equal, they are dropped;
+    /// otherwise all bytes that were read are held.
     fn compare<S: Slots>(&mut self, bytes: &[u8], shelf: &mut S) -> Result<Front, Failure>
         requires { slot_of self.old < (S.sees shelf.old).slots }
         ensures compared { Compared result bytes.now (S.sees shelf.old) (S.sees shelf.new)
@@ -131,7 +132,7 @@ impl ItemReader {
         front
     }
 
-    /// Lets go of the next bytes as far as they are these, and counts them.
+    /// Drops the next bytes as long as they are equal to these, and counts them.
     fn pass_front<S: Slots>(
         &mut self,
         bytes: &[u8],
@@ -162,8 +163,8 @@ impl ItemReader {
         }
     }
 
-    /// Lets go of the bytes that are held, as far as they are these from `matched` on, and counts
-    /// them in.
+    /// Drops held bytes as long as they are equal to those of `bytes` from `matched` on. Returns
+    /// the new number of matched bytes.
     fn pass_equal(&mut self, bytes: &[u8], matched: usize) -> usize
         requires matched { matched ≤ length bytes.now }
         requires begins { Begins self.old }
@@ -177,7 +178,7 @@ impl ItemReader {
         equal
     }
 
-    /// Holds bytes again that were let go of.
+    /// Holds bytes again that were dropped.
     fn put_back(&mut self, bytes: &[u8]) -> Result<(), OutOfMemory>
         requires before { length bytes.now ≤ self.old.before }
         requires begins { Begins self.old }

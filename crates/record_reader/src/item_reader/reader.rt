@@ -1,4 +1,4 @@
-//! Records in slots.
+//! The reader of the items of a record in a slot.
 ghost use Rattle.std.specs.Prelude.{◌≡◌, ◌≤◌, ◌<◌, ◌^◌, ◌+◌, length};
 ghost use Rattle.record_reader.specs.item_reader.Held.{held};
 
@@ -8,36 +8,37 @@ use record_grammar::{Place, Reason, RecordFault};
 use record_view::{ItemView, Partial, Scan, Step, Stop, events_at, place_after, view_item};
 use std::alloc::Global;
 
-/// Gives the items of the record in a slot, one after another, as views of the bytes that it
-/// holds. It holds the item that it gave last and the bytes after it that were read: one item and
-/// one piece of 65,536 bytes. A piece is read only where what is held has no whole item.
+/// Reads the items of the record in a slot, and returns each as a view of bytes that it holds. It
+/// holds the last item and the bytes read after it, so one item and one piece of 65,536 bytes. A
+/// piece is read only if the held bytes have no whole item.
 #[derive(Drop)]
 pub struct ItemReader {
     pub(crate) slot: u32,
     pub(crate) window: Window,
-    /// The length of the item that was given last, with which the window begins.
+    /// The length of the last item, with which the window begins.
     pub(crate) last: usize,
-    /// How many bytes were let go of.
+    /// How many bytes were dropped. `next` returns `OutOfMemory` before a u64 is too small for the
+    /// offset of a byte.
     pub(crate) before: u64,
     pub(crate) place: Place,
     /// How far the item after the last one was read.
     pub(crate) scan: Scan,
-    /// The fault that was answered.
+    /// The fault, once it was returned.
     pub(crate) fault: Option<RecordFault>,
     ghost in_range: { last + scan.read ≤ length (held window) },
     ghost countable: { before + length (held window) < 2 ^ 64 },
 }
 
-/// What one step comes to.
+/// The result of one step.
 enum Progress {
     Item(ItemView),
     /// A piece was read.
     Piece,
-    /// The slot was read to its end, and its record is whole.
+    /// The slot ends, and its record is whole.
     End,
 }
 
-/// Nothing was read of an item.
+/// The scan of an item before any of its bytes is read.
 pub(crate) fn no_scan() -> Scan
     ensures { result ≡ record { partial = Partial.Nothing; read = 0 } }
 {
@@ -66,7 +67,7 @@ impl ItemReader {
     ghost use Rattle.record_reader.specs.item_reader.Steps.{Scanned};
     ghost use Rattle.record_reader.specs.item_reader.Steps.{ScannedOf, ScannedBy};
 
-    /// A reader of what a slot has left. It takes no memory, and reads nothing yet.
+    /// A reader of the bytes that a slot still has. It takes no memory, and reads nothing yet.
     pub fn new(alloc: Global, slot: u32) -> ItemReader
         ensures stands { StandsFor result [] [] }
         ensures slot { slot_of result ≡ slot }
@@ -85,9 +86,12 @@ impl ItemReader {
         }
     }
 
-    /// The next item. None where the slot was read to its end and its record is whole. `Refused`
-    /// has the record's fault, which is answered again from then on. After a failed read the
-    /// reader goes on; after want of memory it isn't to be used.
+    /// The next item, or None at the end of a slot with a whole record. `Refused` has the record's
+    /// fault, and every later call returns it again. After a failed read the call can be repeated.
+    /// After `OutOfMemory` the reader must not be used again.
+    ///
+    /// An item that an earlier call read in part is checked from its beginning again. Only a failed
+    /// read leaves such a part.
     pub fn next<S: Slots>(
         &mut self,
         shelf: &mut S,
@@ -95,13 +99,13 @@ impl ItemReader {
         requires { slot_of self.old < (S.sees shelf.old).slots }
         ensures item { HasRead (S.sees shelf.old) (S.sees shelf.new) self.old
             (ItemIs result self.new (IsAtEnd (S.sees shelf.new) (slot_of self.old))) }
-        // A view is of the bytes that are held, whatever was read before.
+        // The view is of the bytes that are held, whatever was read before.
         ensures held { GaveView result self.new }
-        // Each item leaves fewer that may come.
+        // Each item lowers the number of items that may come.
         ensures room { (read : List ℕ) (given : List Item) → StandsFor self.old read given
             → RoomFell result (room self.old) (room self.new) }
         ensures slot { slot_of self.new ≡ slot_of self.old }
-        // Nothing is read where a fault is answered again.
+        // Nothing is read when a fault is returned again.
         ensures again { (fault : RecordFault) → fault_of self.old ≡ Some fault
             → (result ≡ Err (Stopped.Refused fault)) × (fault_of self.new ≡ Some fault)
             × (S.sees shelf.new ≡ S.sees shelf.old) }
@@ -121,7 +125,7 @@ impl ItemReader {
         }
     }
 
-    /// The bytes of the item that was given last: its one spelling.
+    /// The bytes of the last item: its only spelling.
     pub fn bytes(&self, view: ItemView) -> &[u8]
         requires { (item : Item) × Holds self.now view item }
         ensures { (item : Item) → Holds self.now view item → IsSpelling view item result.now }
@@ -130,14 +134,14 @@ impl ItemReader {
         &self.window.as_slice()[..view.span.len]
     }
 
-    /// Where the next item may stand.
+    /// The place of the next item.
     pub fn place(&self) -> Place
         ensures { result ≡ place_of self.now }
     {
         self.place
     }
 
-    /// Lets go of the item that was given last, and of what was seen of the next one.
+    /// Drops the last item, and forgets how far the next one was read.
     pub(crate) fn forget_last(&mut self)
         ensures { Forgot self.old self.new }
     {
@@ -147,7 +151,7 @@ impl ItemReader {
         self.scan = no_scan();
     }
 
-    /// Gives an item of what is held, or reads on.
+    /// Returns an item from the held bytes, or reads a piece.
     fn step<S: Slots>(&mut self, shelf: &mut S) -> Result<Progress, Stopped<RecordFault>>
         requires slot { slot_of self.old < (S.sees shelf.old).slots }
         requires last { self.old.last ≡ 0 }
@@ -172,7 +176,7 @@ impl ItemReader {
         }
     }
 
-    /// The next item, where it is held whole.
+    /// The next item, if the held bytes have it as a whole.
     fn next_held(&mut self) -> Result<Option<ItemView>, RecordFault>
         requires last { self.old.last ≡ 0 }
         requires going { fault_of self.old ≡ None }
@@ -235,7 +239,7 @@ impl ItemReader {
         }
     }
 
-    /// Reads a piece, and tells its length. It is refused where more than 2^64 - 1 bytes could have
+    /// Reads a piece and returns its length. `OutOfMemory` if more than 2^64 - 1 bytes could have
     /// been read.
     pub(crate) fn read_piece<S: Slots>(&mut self, shelf: &mut S) -> Result<usize, Failure>
         requires { slot_of self.old < (S.sees shelf.old).slots }
@@ -251,7 +255,7 @@ impl ItemReader {
         self.window.read(self.slot, shelf)
     }
 
-    /// What the record lacks, where its slot has no more bytes.
+    /// The fault of a record whose slot has no more bytes, or none if it is whole.
     pub(crate) fn finish(&mut self) -> Result<(), RecordFault>
         requires { fault_of self.old ≡ None }
         ensures { FinishIs result self.old self.new }

@@ -1,4 +1,4 @@
-//! The bytes of a slot that were read and are still needed.
+//! A window over a slot: the bytes that were read and are still needed.
 ghost use Rattle.std.specs.Prelude.{◌≡◌, ℕ, ◌+◌, ◌-◌, ◌<◌, ◌≤◌, List, [], ◌++◌, length, take, drop};
 ghost use Rattle.std.specs.Prelude.{OnOk, OnErr, IfOk, ◌≢◌, ◌⊎◌};
 ghost use Rattle.det_io.specs.Count.{Rose};
@@ -10,18 +10,19 @@ use det_io::{Failure, ShelfFailed, Slots};
 use det_values::OutOfMemory;
 use std::alloc::Global;
 
-/// How many bytes are asked for at a time: so many that the call costs little beside moving them,
-/// and so few that they are still in the processor's cache when they are looked at.
+/// The number of bytes that a read asks for. It is large enough that the cost of a call is small
+/// beside that of moving the bytes. It is small enough that they are still in the processor's cache
+/// when they are checked.
 pub const PIECE: usize = 65_536;
 
-/// A buffer of which one part is held. Bytes are read into its free end, so that none is copied or
+/// A buffer, a part of which is held. Bytes are read into its free end, so none is copied or
 /// cleared for that.
 #[derive(Drop)]
 pub struct Window {
     buffer: Vec<u8>,
-    /// The first byte that is held.
+    /// The offset of the first held byte.
     from: usize,
-    /// The first byte after those.
+    /// The offset after the last held byte.
     to: usize,
     ghost order: { from ≤ to },
     ghost within: { to ≤ vec_len buffer },
@@ -31,7 +32,7 @@ impl Window {
     ghost use Rattle.det_io.specs.Traffic.{ShelfTraffic, shelf_run, failure_of};
     ghost use Rattle.record_reader.specs.item_reader.Held.{held, Took, Matched};
 
-    /// Holds nothing, and takes no memory.
+    /// A window that holds nothing. It takes no memory.
     pub fn new(alloc: Global) -> Window
         ensures { held result ≡ [] }
     {
@@ -42,13 +43,14 @@ impl Window {
         }
     }
 
+    /// The number of held bytes.
     pub fn len(&self) -> usize
         ensures { result ≡ length (held self.now) }
     {
         self.to - self.from
     }
 
-    /// The bytes that are held.
+    /// The held bytes.
     pub fn as_slice(&self) -> &[u8]
         ensures value { result.now ≡ held self.now }
         ensures bytes { AreBytes result.now }
@@ -56,7 +58,7 @@ impl Window {
         part_of(&self.buffer, self.from, self.to)
     }
 
-    /// Lets go of the first bytes.
+    /// Drops the first bytes.
     pub fn skip(&mut self, count: usize)
         requires { count ≤ length (held self.old) }
         ensures { held self.new ≡ drop count (held self.old) }
@@ -64,8 +66,8 @@ impl Window {
         self.from += count;
     }
 
-    /// Lets go of the bytes with which this begins, as far as they are those of `bytes` from
-    /// `matched` on, and counts them in.
+    /// Drops the first bytes as long as they are equal to those of `bytes` from `matched` on.
+    /// Returns the new number of matched bytes.
     pub fn skip_equal(&mut self, bytes: &[u8], matched: usize) -> usize
         requires { matched ≤ length bytes.now }
         ensures { Matched bytes.now matched result (held self.old) (held self.new) }
@@ -76,7 +78,7 @@ impl Window {
         matched + equal
     }
 
-    /// Puts bytes before those that are held.
+    /// Puts bytes before the held ones.
     pub fn put_front(&mut self, bytes: &[u8]) -> Result<(), OutOfMemory>
         ensures ok { OnOk result (held self.new ≡ bytes.now ++ held self.old) }
         ensures err { OnErr result (held self.new ≡ held self.old) }
@@ -88,7 +90,7 @@ impl Window {
         Ok(())
     }
 
-    /// Moves what is held so far back that so many bytes have room before it.
+    /// Moves the held bytes back, until there is room for `count` bytes before them.
     fn move_back(&mut self, count: usize) -> Result<(), OutOfMemory>
         ensures same { held self.new ≡ held self.old }
         ensures room { OnOk result (count ≤ self.new.from) }
@@ -101,7 +103,7 @@ impl Window {
         Ok(())
     }
 
-    /// Moves what is held to another place of the buffer.
+    /// Moves the held bytes to another offset of the buffer.
     fn move_to(&mut self, place: usize)
         requires { place + length (held self.old) ≤ vec_len self.old.buffer }
         ensures same { held self.new ≡ held self.old }
@@ -113,7 +115,7 @@ impl Window {
         self.to = place + len;
     }
 
-    /// Sees that the buffer is so long.
+    /// Makes the buffer at least `len` bytes long.
     fn lengthen_to(&mut self, len: usize) -> Result<(), OutOfMemory>
         ensures same { held self.new ≡ held self.old }
         ensures places { (self.new.from ≡ self.old.from) × (self.new.to ≡ self.old.to) }
@@ -125,7 +127,7 @@ impl Window {
         lengthen(&mut self.buffer, len)
     }
 
-    /// Writes bytes right before those that are held.
+    /// Writes bytes right before the held ones.
     fn write_front(&mut self, bytes: &[u8])
         requires { length bytes.now ≤ self.old.from }
         ensures { held self.new ≡ bytes.now ++ held self.old }
@@ -135,7 +137,7 @@ impl Window {
         self.from = from;
     }
 
-    /// Reads a piece behind the bytes that are held, and tells its length. 0 is the end of the
+    /// Reads a piece after the held bytes and returns its length, which is 0 at the end of the
     /// slot.
     pub fn read<S: Slots>(&mut self, slot: u32, shelf: &mut S) -> Result<usize, Failure>
         requires { slot < (S.sees shelf.old).slots }
@@ -155,8 +157,8 @@ impl Window {
         }
     }
 
-    /// Makes room for a piece at the end. It moves what is held to the front where that costs no
-    /// more than was let go of, so that all moves together are linear, and else doubles the buffer.
+    /// Makes room for a piece at the end. It moves the held bytes to the front if that costs no
+    /// more than was dropped, so all moves together are linear. Otherwise it doubles the buffer.
     fn make_room(&mut self) -> Result<(), OutOfMemory>
         ensures same { held self.new ≡ held self.old }
         ensures room { OnOk result (self.new.to + 65536 ≤ vec_len self.new.buffer) }
@@ -170,7 +172,8 @@ impl Window {
         self.double()
     }
 
-    /// Makes room for a piece at the end, by twice as long a buffer where it isn't there.
+    /// Makes room for a piece at the end. If there is none, the buffer becomes at least twice as
+    /// long.
     fn double(&mut self) -> Result<(), OutOfMemory>
         ensures same { held self.new ≡ held self.old }
         ensures room { OnOk result (self.new.to + 65536 ≤ vec_len self.new.buffer) }
@@ -183,7 +186,7 @@ impl Window {
     }
 }
 
-/// The bytes from one place up to another.
+/// The bytes from offset `from` up to offset `to`.
 fn part_of(bytes: &[u8], from: usize, to: usize) -> &[u8]
     requires order { from ≤ to }
     requires within { to ≤ length bytes.now }
@@ -193,7 +196,7 @@ fn part_of(bytes: &[u8], from: usize, to: usize) -> &[u8]
     &bytes[from..to]
 }
 
-/// Reads the next bytes of a slot, and tells how many.
+/// Reads the next bytes of a slot and returns their number.
 fn fill<S: Slots>(buffer: &mut [u8], slot: u32, shelf: &mut S) -> Result<usize, ShelfFailed>
     requires { slot < (S.sees shelf.old).slots }
     ensures within { IfOk result (λ n. n ≤ length buffer.old) }
@@ -208,7 +211,7 @@ fn fill<S: Slots>(buffer: &mut [u8], slot: u32, shelf: &mut S) -> Result<usize, 
     shelf.read(slot, buffer)
 }
 
-/// Lengthens a buffer, by bytes of which nothing is said.
+/// Makes a buffer longer. The new bytes have no meaning.
 fn lengthen(buffer: &mut Vec<u8>, len: usize) -> Result<(), OutOfMemory>
     requires { vec_len buffer.old ≤ len }
     ensures same { take (vec_len buffer.old) buffer.new.items ≡ buffer.old.items }
@@ -219,7 +222,7 @@ fn lengthen(buffer: &mut Vec<u8>, len: usize) -> Result<(), OutOfMemory>
     Ok(())
 }
 
-/// Writes bytes over those that stand from a place on.
+/// Overwrites the bytes from offset `at` on.
 fn write_at(buffer: &mut Vec<u8>, at: usize, bytes: &[u8])
     requires { at + length bytes.now ≤ vec_len buffer.old }
     ensures items { buffer.new.items ≡ take at buffer.old.items
@@ -229,7 +232,7 @@ fn write_at(buffer: &mut Vec<u8>, at: usize, bytes: &[u8])
     buffer[at..at + bytes.len()].copy_from_slice(bytes);
 }
 
-/// How many bytes two lists of one length begin with in common.
+/// The length of the longest common prefix of two slices of the same length.
 fn equal_front(one: &[u8], other: &[u8]) -> usize
     requires { length one.now ≡ length other.now }
     ensures within { result ≤ length one.now }
@@ -244,7 +247,7 @@ fn equal_front(one: &[u8], other: &[u8]) -> usize
     blocks + equal_bytes(&one[blocks..], &other[blocks..])
 }
 
-/// How many bytes whole blocks of 64 have that are equal.
+/// The length of the common prefix in blocks of 64 bytes.
 fn equal_blocks(one: &[u8], other: &[u8]) -> usize
     requires { length one.now ≡ length other.now }
     ensures within { result ≤ length one.now }

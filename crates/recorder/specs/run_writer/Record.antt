@@ -11,7 +11,7 @@ use Rattle.record_grammar.specs.Spelling.{spelled}
 use Rattle.probes.specs.Shipped.{is_refused}
 use Rattle.recorder.specs.declared.run_writer.counts.Counts.{Counts}
 
--- a count of bytes stands at the last value of its type
+-- a count of bytes saturates at the last value of its type
 abbrev pub counted : ℕ → ℕ
 counted n = min n (2 ^ 64 - 1)
 
@@ -26,6 +26,6 @@ module _ {S G E L P : Type 0} (m : Meaning S G E L P) (profile : ProfileValue) w
   unfoldable pub record_with : List CycleInput → Bool → List ℕ
   record_with inputs ended = spelled profile (frames m profile inputs ended)
 
-  -- what stands in a record before its first run
+  -- the bytes of a record before its first run
   unfoldable pub opening : List ℕ
   opening = spelled profile (Register ∷ Discover ∷ Init (init_of m profile) ∷ [])

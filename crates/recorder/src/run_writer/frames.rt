@@ -1,4 +1,4 @@
-//! Runs in their frames.
+//! Runs and their frames, and which runs are written in parts.
 ghost use Rattle.std.specs.Prelude.{◌≡◌, ◌≤◌, [], ◌∷◌, length, IfSome};
 ghost use Rattle.std.specs.List.{count_by};
 ghost use Rattle.det_values.specs.declared.frames.RunFrame.{RunFrame as RunValue};
@@ -39,11 +39,12 @@ pub(crate) fn run_in(frame: Frame) -> RunFrame
     }
 }
 
-/// A block of so many bytes isn't copied before it is written.
+/// The least length, in bytes, of an element block that is written without a copy.
 const LONG: usize = 4_096;
 
-/// The input, the elements and the output of a finished run in format Two whose first block of
-/// elements has 4,096 bytes or more. Such blocks get writes of their own.
+/// The input, the elements and the output of a run that is written in parts: a finished run in
+/// format Two whose first block of elements has 4,096 bytes or more. None for every other frame.
+/// Each block of such a run gets a write of its own.
 pub(crate) fn long_run(
     format: Format,
     frame: &Frame,

@@ -1,4 +1,4 @@
-//! A frame that is written in parts.
+//! Writes a frame in parts, so that long blocks of elements aren't copied before the write.
 ghost use Rattle.std.specs.Prelude.{◌≡◌, ◌+◌, ◌≤◌, ◌++◌, length, OnOk, OnErr};
 ghost use Rattle.det_values.specs.Blocks.{joined};
 ghost use Rattle.det_values.specs.Spelling.{spelled_all};
@@ -9,7 +9,7 @@ ghost use Rattle.recorder.specs.run_writer.Record.{counted};
 use det_io::{Sink, SinkFailed, write_all};
 use det_values::DrawnBlock;
 
-/// Writes the parts of a frame, one behind another. It takes no memory.
+/// Writes the parts of a frame: `front`, the blocks in order, `behind`. It allocates nothing.
 pub(crate) fn write_parts<K: Sink>(
     front: &[u8],
     blocks: &[DrawnBlock],
@@ -28,7 +28,8 @@ pub(crate) fn write_parts<K: Sink>(
     write_all(sink, behind)
 }
 
-/// Writes blocks of elements where they stand, as format Two spells them.
+/// Writes blocks of elements from the memory they are in, which holds them as format Two spells
+/// them.
 fn write_blocks<K: Sink>(blocks: &[DrawnBlock], sink: &mut K) -> Result<(), SinkFailed>
     ensures all { OnOk result
         (Grew (K.took sink.old) (K.took sink.new) (spelled_all (joined blocks.now))) }
@@ -43,7 +44,7 @@ fn write_blocks<K: Sink>(blocks: &[DrawnBlock], sink: &mut K) -> Result<(), Sink
     Ok(())
 }
 
-/// A count of bytes with those of blocks added. It stands at the last value of its type.
+/// Adds the bytes of blocks to a count. The sum saturates at the last value of its type.
 pub(crate) fn count_blocks(blocks: &[DrawnBlock], before: u64) -> u64
     ensures { result ≡ counted (before + length (spelled_all (joined blocks.now))) }
 {

@@ -1,4 +1,4 @@
-//! A run whose record is being written.
+//! `Recording`: a run, and the record that is written of it call by call.
 ghost use Rattle.std.specs.Prelude.{◌≡◌};
 
 use crate::run_writer::counts::Counts;
@@ -11,14 +11,14 @@ use job::{Job, Pool};
 use record_codec::{encode_frame, encode_header, encode_init_head, encode_run_ends};
 use std::alloc::Global;
 
-/// An engine with the profile of its run, and the counts of the record that was written of it.
+/// An engine, the profile of its run, and the counts of the record that was written so far.
 #[derive(Drop)]
 pub struct Recording<J: Job> {
     alloc: Global,
     engine: Engine<J>,
     desk: Desk<J>,
     profile: Profile,
-    /// The bytes that are written next.
+    /// The bytes that `write` writes.
     buffer: Vec<u8>,
     counts: Counts,
 }
@@ -39,7 +39,7 @@ impl<J: Job> Recording<J> {
     ghost use Rattle.recorder.specs.run_writer.Record.{opening, record_with, Counted};
     ghost use Rattle.recorder.specs.run_writer.Recording.{IsNew, Stands, Cuts, Ran, Keeps, wrote};
 
-    /// The record of this engine's run, of which nothing was written yet. It takes no memory.
+    /// A recording of this engine's run, before anything of it is written. It allocates nothing.
     pub fn of(alloc: Global, engine: Engine<J>, profile: Profile) -> Recording<J>
         requires stands { EngineStands J.meaning profile engine [] }
         requires going { engine.stopped ≡ false }
@@ -62,7 +62,7 @@ impl<J: Job> Recording<J> {
     }
 
     /// Writes the header and the frames Register, Discover and Init. After a failure the recording
-    /// isn't to be used.
+    /// must not be used.
     pub fn open<K: Sink>(&mut self, sink: &mut K) -> Result<(), Failure>
         requires new { IsNew J.meaning self.old }
         ensures opened { OnOk result (Stands J.meaning self.new []
@@ -77,9 +77,9 @@ impl<J: Job> Recording<J> {
         self.write(sink)
     }
 
-    /// Runs the next cycle on a pool and writes its frame, which it answers. A refused cycle is a
-    /// cycle too. After a failure the recording isn't to be used; of `OutOfMemory` nothing was
-    /// written.
+    /// Runs the next cycle on a pool, writes its frame and returns it. A refused cycle counts as a
+    /// cycle too. After a failure the recording must not be used. At `OutOfMemory` nothing of the
+    /// frame was written.
     pub fn cycle<P: Pool<J>, K: Sink>(
         &mut self,
         pool: &mut P,
@@ -110,7 +110,8 @@ impl<J: Job> Recording<J> {
         Ok(run_in(frame))
     }
 
-    /// Runs the next cycle on a pool and answers its frame, which is neither written nor counted.
+    /// Runs the next cycle on a pool and returns its frame, which is neither written nor counted.
+    /// After an error the recording must not be used.
     pub fn run_cycle<P: Pool<J>>(
         &mut self,
         pool: &mut P,
@@ -137,15 +138,16 @@ impl<J: Job> Recording<J> {
         self.engine.cycle(&mut self.desk, pool, input)
     }
 
-    /// Takes back a run that nobody needs, for its memory: that of its outcome stays here, that of
-    /// its input is answered.
+    /// Takes back a run that is no longer needed, to use its memory again. The memory of its
+    /// outcome stays here. Its input is returned, for the next input to be read into.
     pub fn take_back(&mut self, run: RunFrame) -> CycleInput
         ensures { self.new ≡ self.old }
     {
         self.desk.take_back(run)
     }
 
-    /// The frame Init of a run that stands at its beginning. Nothing is written.
+    /// The frame Init, with the elements as they are now. It is that of the record only before the
+    /// first cycle. Nothing is written.
     pub fn init(&self) -> Result<Frame, OutOfMemory>
         ensures { IfOk result (λ frame. frame ≡ Frame.Init
             (map (J.meaning.shown self.now.engine.job) self.now.engine.state.elements)) }
@@ -153,7 +155,7 @@ impl<J: Job> Recording<J> {
         Ok(Frame::Init(self.engine.shown(self.alloc)?))
     }
 
-    /// Makes the header what is written next.
+    /// Encodes the header into the buffer, from which `write` writes it.
     pub fn spell_header(&mut self) -> Result<(), OutOfMemory>
         ensures bytes { OnOk result (self.new.buffer.items ≡ spelled self.old.profile []) }
         ensures keeps { Keeps self.old self.new }
@@ -162,7 +164,7 @@ impl<J: Job> Recording<J> {
         encode_header(&self.profile, &mut self.buffer)
     }
 
-    /// Makes a frame what is written next.
+    /// Encodes a frame into the buffer, from which `write` writes it.
     pub fn spell(&mut self, frame: &Frame) -> Result<(), OutOfMemory>
         requires { CanSpell self.old.profile.format (length self.old.profile.events) frame.now }
         ensures bytes { OnOk result (self.new.buffer.items
@@ -173,8 +175,8 @@ impl<J: Job> Recording<J> {
         self.append(frame)
     }
 
-    /// Ends the run, writes Terminate, and answers the counts of the whole record. The recording
-    /// isn't to be used afterwards.
+    /// Ends the run, writes Terminate, and returns the counts of the whole record. Afterwards the
+    /// recording must not be used.
     pub fn close<K: Sink>(&mut self, sink: &mut K) -> Result<Counts, Failure>
         ensures closed { IfOk result (λ counts. (given : List Input)
             → Stands J.meaning self.old given
@@ -185,6 +187,7 @@ impl<J: Job> Recording<J> {
         ensures cut { IfErr result (λ failure. Cuts failure (K.took sink.old) (K.took sink.new)
             (spelled_frame self.old.profile.format Frame.Terminate)) }
         ensures profile { self.new.profile ≡ self.old.profile }
+        ensures engine { self.new.engine ≡ record self.old.engine { stopped = true } }
         ensures traffic { SinkTraffic (sink_run K.took K.faults sink.old sink.new)
             (failure_of result) }
     {
@@ -193,14 +196,14 @@ impl<J: Job> Recording<J> {
         Ok(self.counts)
     }
 
-    /// What was counted so far.
+    /// The counts of the record so far.
     pub fn counts(&self) -> Counts
         ensures { result ≡ self.now.counts }
     {
         self.counts
     }
 
-    /// The number of elements, which stays over a run.
+    /// The number of elements. It is the same in every cycle.
     pub fn elements(&self) -> usize
         ensures count { result ≡ length self.now.engine.state.elements }
         ensures few { result ≤ 65536 }
@@ -208,7 +211,7 @@ impl<J: Job> Recording<J> {
         self.engine.elements()
     }
 
-    /// The number of events of its profile.
+    /// The number of events in the profile.
     pub fn events(&self) -> u16
         ensures number { result ≡ length self.now.profile.events }
         ensures most { result ≤ 256 }
@@ -216,12 +219,12 @@ impl<J: Job> Recording<J> {
         self.profile.events.len() as u16
     }
 
-    /// Where it takes memory from.
+    /// The allocator of the recording.
     pub fn alloc(&self) -> Global {
         self.alloc
     }
 
-    /// Makes the opening what is written next.
+    /// Encodes the header and the frames up to Init into the buffer.
     fn encode_opening(&mut self) -> Result<(), OutOfMemory>
         ensures bytes { OnOk result (self.new.buffer.items ≡ spelled self.old.profile
             (Frame.Register ∷ Frame.Discover
@@ -235,8 +238,8 @@ impl<J: Job> Recording<J> {
         self.append_init()
     }
 
-    /// Appends the frame Init of a run that stands at its beginning to what is written next. The
-    /// elements are spelled where they stand.
+    /// Appends the frame Init, with the elements as they are now, to the buffer. The elements are
+    /// encoded without a copy of the list.
     fn append_init(&mut self) -> Result<(), OutOfMemory>
         ensures bytes { OnOk result (self.new.buffer.items ≡ self.old.buffer.items
             ++ spelled_frame self.old.profile.format (Frame.Init
@@ -248,7 +251,7 @@ impl<J: Job> Recording<J> {
         Ok(())
     }
 
-    /// Appends a frame to what is written next.
+    /// Appends a frame to the buffer.
     fn append(&mut self, frame: &Frame) -> Result<(), OutOfMemory>
         requires { CanSpell self.old.profile.format (length self.old.profile.events) frame.now }
         ensures bytes { OnOk result (self.new.buffer.items
@@ -280,8 +283,9 @@ impl<J: Job> Recording<J> {
         self.write(sink)
     }
 
-    /// Writes the frame of a finished run in format Two and counts its bytes. The elements are
-    /// written where they stand, and all memory is asked for before the first write.
+    /// Writes the frame of a finished run in format Two and counts its bytes. The blocks of
+    /// elements are written from the memory they are in. All memory is allocated before the first
+    /// write.
     fn write_run<K: Sink>(
         &mut self,
         input: &CycleInput,
@@ -309,8 +313,8 @@ impl<J: Job> Recording<J> {
         Ok(())
     }
 
-    /// Makes what stands around the elements of a finished run what is written next, and answers
-    /// the place of the elements.
+    /// Encodes what comes before and after the elements of a finished run into the buffer. Returns
+    /// the offset between the two.
     fn spell_ends(
         &mut self,
         input: &CycleInput,
@@ -336,7 +340,7 @@ impl<J: Job> Recording<J> {
         )
     }
 
-    /// Counts the bytes of a frame whose elements don't stand in the buffer.
+    /// Counts the bytes of a frame whose elements aren't in the buffer.
     fn count(&mut self, elements: &DrawnElements)
         ensures counts { self.new.counts ≡ wrote self.old.counts
             (spelled_all elements.now ++ self.old.buffer.items) }
@@ -347,7 +351,7 @@ impl<J: Job> Recording<J> {
         self.counts.bytes = count_blocks(elements.blocks(), bytes);
     }
 
-    /// Writes what is written next, and counts its bytes.
+    /// Writes the bytes of the buffer and counts them.
     pub fn write<K: Sink>(&mut self, sink: &mut K) -> Result<(), Failure>
         ensures took { OnOk result
             (Grew (K.took sink.old) (K.took sink.new) self.old.buffer.items) }

@@ -1,4 +1,4 @@
-//! A run and the workers for it.
+//! `Runner`: a recording with its pool, as an operation on two runs needs them.
 use crate::run_writer::Recording;
 use job::Job;
 

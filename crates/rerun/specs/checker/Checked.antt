@@ -1,4 +1,4 @@
--- What a check says of a record's bytes, and of what an audience has seen.
+-- What `check_run` ensures of a record's bytes, and of what an audience has seen.
 use Rattle.std.specs.Prelude.{◌≡◌, ◌⊎◌, ℕ, List, ◌++◌, Some, None, Result, Ok, Err, IfSome}
 use Rattle.det_values.specs.Values.{ProfileValue}
 use Rattle.det_values.specs.declared.frames.RunFrame.{RunFrame}
@@ -28,7 +28,7 @@ module _ {S G E L P : Type 0} (m : Meaning S G E L P) (profile : ProfileValue)
     pub first : IsPrefix seen (checked_runs m profile record_bytes)
     pub saw : SawRuns old now seen
 
-  -- what an answer says of a record
+  -- what a result says of a record
   abbrev pub Answers : Result CheckVerdict (Stopped RecordFault) → List ℕ → Type 0
   Answers (Ok verdict) record_bytes = (check_verdict m profile record_bytes ≡ Ok verdict)
       × SawRuns old now (checked_runs m profile record_bytes)
@@ -48,18 +48,18 @@ module _ {S G E L P : Type 0} (m : Meaning S G E L P) (profile : ProfileValue)
       × (departure m profile read ≡ None)
   ReadsTo (Err stop) read at_end = Unit {0}
 
-  -- The answer where some bytes were read before and these bytes behind them. It holds of every
-  -- record that begins with them, or of them alone at the end.
+  -- The result where some bytes were read before the call and these bytes by it. It holds of every
+  -- record that begins with them. At the end of the record it holds only of the bytes themselves.
   pub record Ended (result : Result CheckVerdict (Stopped RecordFault)) (before more : List ℕ)
       (shelf : ShelfRun) (slot : ℕ) : Type 0 where
     pub reads_to : ReadsTo result (before ++ more) (IsAtEnd shelf.last slot)
     pub needed : IsNeeded m profile before more
     pub answers : OfSlot shelf slot more (λ bytes. Answers result (before ++ bytes))
 
-  -- of a record that begins with bytes read before
+  -- of a record that begins with the bytes that were read before the call
   pub record IsChecked (before : List ℕ) (slot : ℕ) (shelf : ShelfRun)
       (result : Result CheckVerdict (Stopped RecordFault)) : Type 0 where
-    -- where the shelf tells the rest
+    -- where the rest of the record is known
     pub told : IfSome (shelf.first.left slot) (λ rest. Answers result (before ++ rest))
-    -- the same by the bytes that were read, also where the shelf tells nothing
+    -- by the bytes that were read, also where the rest is unknown
     pub run : (more : List ℕ) × Ended result before more shelf slot

@@ -17,7 +17,7 @@ use Rattle.rerun.specs.replayer.Again.{inputs}
 
 -- ---- frames, number by number
 
--- how many frames come before the first that differs from the one of its number in another list
+-- the number of frames before the first one that differs from the one of its number in another list
 unfoldable pub agreeing : ℕ → List Frame → List Frame → ℕ
 agreeing number (frame ∷ others) (given ∷ later) =
     if is_none (frame_difference number frame given) then suc (agreeing (suc number) others later)
@@ -44,7 +44,8 @@ module _ {S G E L P : Type 0} (m : Meaning S G E L P) (profile : ProfileValue) w
   abbrev pub given_by : List ℕ → List Frame
   given_by record_bytes = frames m profile (inputs record_bytes) true
 
-  -- how many frames of a record are those of their numbers in that run
+  -- the number of frames of a record before the first that differs from the frame of its number in
+  -- that run
   abbrev pub genuine_frames : List ℕ → ℕ
   genuine_frames record_bytes = agreeing 0 (frames_in record_bytes) (given_by record_bytes)
 
@@ -52,7 +53,7 @@ module _ {S G E L P : Type 0} (m : Meaning S G E L P) (profile : ProfileValue) w
   abbrev pub departure : List ℕ → Option Difference
   departure record_bytes = departure_from 0 (frames_in record_bytes) (given_by record_bytes)
 
-  -- the runs of a record up to and with the one at which it departs, or all
+  -- the runs of a record up to and including the one in which it departs, or all
   abbrev pub checked_runs : List ℕ → List RunFrame
   checked_runs record_bytes =
       flat_map run_of (take (suc (genuine_frames record_bytes)) (frames_in record_bytes))

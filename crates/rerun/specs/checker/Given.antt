@@ -28,8 +28,8 @@ AreAlike (Run run) (Run other) = Unit {0}
 AreAlike Terminate Terminate = Unit {0}
 AreAlike frame other = ⊥
 
--- A frame that is read asks this of a run: for a Run frame a cycle is left, and its samples are of
--- the run's events.
+-- What a frame that is read requires of a run: for a Run frame one more cycle is possible, and its
+-- samples are of the run's events.
 abbrev pub CanCome : (cycles events : ℕ) → Frame → Type 0
 CanCome cycles events (Run run) = (cycles < 1000000)
     × All (λ s. s.event < events) run.input.samples
@@ -41,7 +41,7 @@ pub record IsPlaced (place : Place) (profile : ProfileValue) : Type 0 where
   pub events : events_of place ≡ length profile.events
 
 module _ {S G E L P : Type 0} (m : Meaning S G E L P) where
-  -- the frame that a run behind these inputs gives in the place of one that was read
+  -- the frame that a run, after these inputs, gives in the place of one that was read
   abbrev pub given_frame : ProfileValue → List CycleInput → Frame → Frame
   given_frame profile before (Init elements) =
       Init (map (m.shown (job_of m profile)) (state_of m profile before).elements)
@@ -49,7 +49,7 @@ module _ {S G E L P : Type 0} (m : Meaning S G E L P) where
       Run (frame_of m profile before (state_of m profile before) run.input)
   given_frame profile before frame = frame
 
-  -- its engine stands behind these inputs, whatever was written
+  -- its engine has run these inputs, whatever was written
   pub record IsBehind (recording : Recording S G E L P) (given : List CycleInput) : Type 0 where
     pub engine : EngineStands m recording.profile recording.engine given
     pub going : recording.engine.stopped ≡ false

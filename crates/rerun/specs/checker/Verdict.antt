@@ -1,4 +1,4 @@
--- What is found out of a record by running its inputs again.
+-- The verdict on a record, by running its inputs again.
 use Rattle.std.specs.Prelude.{ℕ, List, length, Option, Some, None, Result, Ok, Err}
 use Rattle.det_values.specs.Values.{ProfileValue}
 use Rattle.job.specs.Meaning.{Meaning}

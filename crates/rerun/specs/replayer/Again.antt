@@ -1,4 +1,4 @@
--- The record that the inputs of a record give, whatever came of their runs there.
+-- The record that the inputs of a record give, whatever their outcomes were there.
 use Rattle.std.specs.Prelude.{ℕ, List, map, Bool}
 use Rattle.std.specs.List.{flat_map}
 use Rattle.std.specs.Option.{is_none}
@@ -22,6 +22,6 @@ abbrev pub is_whole : List ℕ → Bool
 is_whole record_bytes = is_none (fault_in record_bytes)
 
 module _ {S G E L P : Type 0} (m : Meaning S G E L P) (profile : ProfileValue) where
-  -- the record of a run over the inputs of a record, ended where that is whole
+  -- the record of a run over the inputs of a record, with Terminate where that is whole
   abbrev pub again : List ℕ → List ℕ
   again record_bytes = record_with m profile (inputs record_bytes) (is_whole record_bytes)

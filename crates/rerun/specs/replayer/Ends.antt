@@ -1,4 +1,4 @@
--- How a record that is run again ends.
+-- How `replay_run` ends: what its result says of the record and of what the sink took.
 use Rattle.std.specs.Prelude.{◌≡◌, ℕ, List, ◌++◌, false, Some, None, Result, Ok, Err}
 use Rattle.det_values.specs.Values.{ProfileValue}
 use Rattle.det_io.specs.Shelf.{IsAtEnd}
@@ -31,7 +31,7 @@ module _ {S G E L P : Type 0} (m : Meaning S G E L P) (profile : ProfileValue) w
     pub has : fault_in record_bytes ≡ Some fault
     pub grew : Grew out.before out.after (again m profile record_bytes)
 
-  -- what an answer says of a record and of what the sink took
+  -- what a result says of a record and of what the sink took
   abbrev pub Answers : Result Counts (Stopped RecordFault) → List ℕ → SinkRun → Type 0
   Answers (Ok counts) record_bytes out = Finishes record_bytes counts out
   Answers (Err (Refused fault)) record_bytes out = Stops record_bytes fault out
@@ -42,7 +42,7 @@ module _ {S G E L P : Type 0} (m : Meaning S G E L P) (profile : ProfileValue) w
   Answers (Err (Failed OutOfMemory)) record_bytes out =
       GrewByPrefix out.before out.after (again m profile record_bytes)
 
-  -- How far a record was read: to its end, or as far as its fault shows; and what was written where
+  -- How far a record was read: to its end, or as far as its fault shows. And what was written where
   -- a read failed.
   abbrev pub ReadsTo : Result Counts (Stopped RecordFault) → List ℕ → Type 0 → SinkRun → Type 0
   ReadsTo (Ok counts) read at_end out = at_end
@@ -52,8 +52,8 @@ module _ {S G E L P : Type 0} (m : Meaning S G E L P) (profile : ProfileValue) w
   ReadsTo (Err (Failed Write)) read at_end out = Unit {0}
   ReadsTo (Err (Failed OutOfMemory)) read at_end out = Unit {0}
 
-  -- The answer where some bytes were read before and these bytes behind them. It holds of every
-  -- record that begins with them, or of them alone at the end.
+  -- The result where some bytes were read before the call and these bytes by it. It holds of every
+  -- record that begins with them. At the end of the record it holds only of the bytes themselves.
   pub record Ended (result : Result Counts (Stopped RecordFault)) (before more : List ℕ)
       (shelf : ShelfRun) (slot : ℕ) (out : SinkRun) : Type 0 where
     pub reads_to : ReadsTo result (before ++ more) (IsAtEnd shelf.last slot) out

@@ -1,4 +1,4 @@
--- What a reader keeps of a record's bytes that it read and of the inputs that it gave.
+-- What `next_input` ensures of a record's bytes that it read and of the inputs that it gave.
 use Rattle.std.specs.Prelude.{◌≡◌, ℕ, ◌<◌, ◌≤◌, List, [], ◌∷◌, ◌++◌, length, Option, Some, None}
 use Rattle.std.specs.Prelude.{Result, Ok, Err}
 use Rattle.std.specs.List.{All, flat_map}
@@ -18,28 +18,28 @@ use Rattle.record_reader.specs.declared.frames.FrameReader.{FrameReader}
 use Rattle.record_reader.specs.Frames.{StandsFor, slot_of}
 use Rattle.rerun.specs.replayer.Again.{input_in, inputs}
 
--- of a record with this header these bytes were read, and these inputs of its runs given
+-- these bytes of a record with this header were read, and these inputs of its runs were given
 pub record HasGiven (profile : ProfileValue) (r : FrameReader) (read : List ℕ)
     (given : List CycleInput) : Type 0 where
-  -- the items behind the header
+  -- the items after the header
   pub behind : List Item
   pub stands : StandsFor r read (items.Header profile ∷ behind)
   pub inputs : flat_map input_in behind ≡ given
 
--- This input comes next. Its samples are of the profile's events, and no more than 1,000,000 inputs
--- are given.
+-- This input comes next. Its samples are of the profile's events, and at most 1,000,000 inputs are
+-- given.
 pub record IsNext (input : CycleInput) (profile : ProfileValue) (given : List CycleInput)
     : Type 0 where
   pub known : All (λ s. s.event < length profile.events) input.samples
   pub few : length (given ++ input ∷ []) ≤ 1000000
 
--- all inputs of what was read are given, and no fault is in it
+-- all inputs of what was read are given, and there is no fault in it
 pub record HasAll (read : List ℕ) (given : List CycleInput) : Type 0 where
   pub inputs : inputs read ≡ given
   pub sound : fault_so_far read ≡ None
 
--- Bytes were read, the last of them only where all inputs before them are given and no fault is in
--- them. What the reader had given before is known of it afterwards.
+-- Bytes were read, the last of them only once all inputs before them were given and there was no
+-- fault in them. What is known of the reader before the call is known of it afterwards.
 abbrev pub ReadsOn : ShelfState → ShelfState → FrameReader
     → (ProfileValue → List ℕ → List CycleInput → Type 0) → Type 0
 ReadsOn before after r Then = (more : List ℕ) × Reads before after (slot_of r) more
@@ -60,7 +60,7 @@ pub record HasFault (fault : RecordFault) (at_end : Type 0) (read : List ℕ)
   pub inputs : inputs read ≡ given
   pub found : FoundFault fault at_end read (items_in read)
 
--- what an answer says of the bytes read and the inputs given
+-- what a result says of the bytes read and the inputs given
 abbrev pub InputIs : Result (Option CycleInput) (Stopped RecordFault) → ProfileValue → FrameReader
     → Type 0 → List ℕ → List CycleInput → Type 0
 InputIs (Ok (Some input)) profile r at_end read given =

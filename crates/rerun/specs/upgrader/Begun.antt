@@ -1,4 +1,4 @@
--- Where a record is upgraded from.
+-- What `upgrade_run` requires of the recording and of the original.
 use Rattle.std.specs.Prelude.{◌≡◌}
 use Rattle.det_values.specs.declared.format.Format.{Format}
 use Rattle.det_values.specs.declared.format.Format.TheVariants.{Two}
@@ -18,8 +18,8 @@ in_format_of format profile = record profile { format = format }
 abbrev pub header_of : Original → ProfileValue → ProfileValue
 header_of original profile = in_format_of original.format profile
 
--- nothing of the run was written, which is one of format 2; and of the record its header alone was
--- given, which is the run's but for the format
+-- nothing of the run was written, and it is one of format 2; of the record only the header was
+-- read, and it is the run's except for the format
 pub record IsBegun {S G E L P : Type 0} (m : Meaning S G E L P) (recording : Recording S G E L P)
     (original : Original) (shelf : ShelfState) : Type 0 where
   pub new : IsNew m recording

@@ -1,4 +1,4 @@
--- How a record that is upgraded ends.
+-- How `upgrade_run` ends: what its result says of the record and of what the sink took.
 use Rattle.std.specs.Prelude.{◌≡◌, ◌⊎◌, ℕ, List, ◌++◌, false, Some, None, Result, Ok, Err, IfSome}
 use Rattle.det_values.specs.Values.{ProfileValue}
 use Rattle.det_io.specs.Shelf.{IsAtEnd}
@@ -19,7 +19,7 @@ use Rattle.rerun.specs.checker.Verdict.{check_verdict}
 use Rattle.rerun.specs.upgrader.Upgraded.{upgraded_with, upgraded}
 
 module _ {S G E L P : Type 0} (m : Meaning S G E L P) (profile : ProfileValue) where
-  -- what an answer says of a record with this header, and of what the sink took
+  -- what a result says of a record with this header, and of what the sink took
   abbrev pub Answers : Result CheckVerdict (Stopped RecordFault) → List ℕ → SinkRun → Type 0
   Answers (Ok verdict) record_bytes out = (check_verdict m profile record_bytes ≡ Ok verdict)
       × Grew out.before out.after (upgraded m profile record_bytes)
@@ -33,7 +33,7 @@ module _ {S G E L P : Type 0} (m : Meaning S G E L P) (profile : ProfileValue) w
   Answers (Err (Failed OutOfMemory)) record_bytes out =
       GrewByPrefix out.before out.after (upgraded m profile record_bytes)
 
-  -- How far a record was read: to its end, as far as a departure, or as far as its fault shows; and
+  -- How far a record was read: to its end, as far as a departure, or as far as its fault shows. And
   -- what was written where a read failed.
   abbrev pub ReadsTo : Result CheckVerdict (Stopped RecordFault) → List ℕ → Type 0 → SinkRun
       → Type 0
@@ -47,18 +47,18 @@ module _ {S G E L P : Type 0} (m : Meaning S G E L P) (profile : ProfileValue) w
   ReadsTo (Err (Failed Write)) read at_end out = Unit {0}
   ReadsTo (Err (Failed OutOfMemory)) read at_end out = Unit {0}
 
-  -- The answer where some bytes were read before and these bytes behind them. It holds of every
-  -- record that begins with them, or of them alone at the end.
+  -- The result where some bytes were read before the call and these bytes by it. It holds of every
+  -- record that begins with them. At the end of the record it holds only of the bytes themselves.
   pub record Ended (result : Result CheckVerdict (Stopped RecordFault)) (before more : List ℕ)
       (shelf : ShelfRun) (slot : ℕ) (out : SinkRun) : Type 0 where
     pub reads_to : ReadsTo result (before ++ more) (IsAtEnd shelf.last slot) out
     pub needed : IsNeeded m profile before more
     pub answers : OfSlot shelf slot more (λ bytes. Answers result (before ++ bytes) out)
 
-  -- of a record that begins with bytes read before
+  -- of a record that begins with the bytes that were read before the call
   pub record IsUpgraded (before : List ℕ) (slot : ℕ) (shelf : ShelfRun) (out : SinkRun)
       (result : Result CheckVerdict (Stopped RecordFault)) : Type 0 where
-    -- where the shelf tells the rest
+    -- where the rest of the record is known
     pub told : IfSome (shelf.first.left slot) (λ rest. Answers result (before ++ rest) out)
-    -- the same by the bytes that were read, also where the shelf tells nothing
+    -- by the bytes that were read, also where the rest is unknown
     pub run : (more : List ℕ) × Ended result before more shelf slot out

@@ -1,4 +1,4 @@
--- What is done with a frame of a record that is upgraded.
+-- What an upgrade does with one frame of a record.
 use Rattle.std.specs.Prelude.{◌≡◌, ℕ, ◌+◌, List, [], ◌++◌, length, Option, Some, None}
 use Rattle.std.specs.Prelude.{Result, Ok, Err}
 use Rattle.det_values.specs.declared.frames.CycleInput.{CycleInput}
@@ -14,24 +14,24 @@ use Rattle.recorder.specs.declared.run_writer.recording.Recording.{Recording}
 use Rattle.rerun.specs.checker.Given.{IsBehind, input_of}
 use Rattle.rerun.specs.declared.upgrader.upgrading.Upgrade.{Upgrade}
 
--- what is written in the place of a frame: of Terminate nothing yet
+-- what is written in the place of a frame: nothing yet for Terminate
 abbrev pub unless_last : Frame → List ℕ → List ℕ
 unless_last Terminate bytes = []
 unless_last frame bytes = bytes
 
--- one frame more was compared
+-- one more frame was compared
 pub record Counted (frame : Frame) (old new : Upgrade) : Type 0 where
   pub compared : new.compared ≡ old.compared + 1
   pub cycles : new.cycles ≡ old.cycles + length (input_of frame)
 
--- the run goes on behind this frame, and one more was compared
+-- the run goes on after this frame, and one more frame was compared
 pub record GoesOn {S G E L P : Type 0} (m : Meaning S G E L P) (given : List CycleInput)
     (frame : Frame) (recording : Recording S G E L P) (old new : Upgrade) : Type 0 where
   pub behind : IsBehind m recording (given ++ input_of frame)
   pub counted : Counted frame old new
 
--- what an answer says of a frame with this difference, for which these bytes are written; where it
--- has none the run goes on
+-- what a result says of a frame with this difference, for which these bytes are written; without a
+-- difference the run goes on
 abbrev pub Takes : Result (Option Difference) Failure → Option Difference → List ℕ → Type 0
     → SinkRun → Type 0
 Takes (Ok None) difference bytes goes_on out =

@@ -1,4 +1,4 @@
--- The record of a run in format 2, as far as a record is what its inputs give.
+-- The record in format 2 of a run, as far as a record is what its inputs give.
 use Rattle.std.specs.Prelude.{ℕ, List, take, Bool}
 use Rattle.det_values.specs.Values.{ProfileValue}
 use Rattle.det_values.specs.declared.format.Format.TheVariants.{Two}
@@ -19,6 +19,6 @@ module _ {S G E L P : Type 0} (m : Meaning S G E L P) (profile : ProfileValue) w
       (take (genuine_frames m profile record_bytes)
       (frames m (in_format_two profile) (inputs record_bytes) ended))
 
-  -- the same, ended where the record is whole
+  -- the same of the inputs of a record, with Terminate where the record is whole
   abbrev pub upgraded : List ℕ → List ℕ
   upgraded record_bytes = upgraded_with record_bytes (is_whole record_bytes)

@@ -1,4 +1,4 @@
-//! A record, held against the run that its inputs give.
+//! The loop of a check: reads a frame and compares it with the one that the run gives.
 ghost use Rattle.std.specs.Prelude.{◌≡◌, ℕ, List, [], ◌∷◌};
 ghost use Rattle.det_io.specs.Traffic.{ShelfTraffic, shelf_run, failure_in};
 ghost use Rattle.record_grammar.specs.declared.item.Item.TheVariants as items;
@@ -16,13 +16,13 @@ use record_grammar::RecordFault;
 use record_reader::FrameReader;
 use recorder::run_writer::Recording;
 
-/// Runs a job on a pool over the inputs of a record's runs, and compares each frame of the record
-/// with the one that they give. Each Run frame is shown to the audience before the check goes on or
-/// ends. At the first difference the check is over, and no more is read. The reader has given the
-/// header alone.
+/// Runs a job on a pool over the inputs of a record's runs. Compares each frame of the record with
+/// the one that they give. Each Run frame is shown to the audience before the check goes on or
+/// ends. At the first difference the check ends and reads no further. Only the header was read
+/// before the call.
 ///
-/// `Refused` has the record's fault, where it has no difference before that. After want of memory
-/// neither recording nor reader is to be used.
+/// `Refused` has the record's fault if there is no difference before it. After `OutOfMemory`
+/// neither the recording nor the reader may be used.
 pub fn check_run<J: Job, P: Pool<J>, S: Slots>(
     recording: &mut Recording<J>,
     pool: &mut P,
@@ -31,7 +31,7 @@ pub fn check_run<J: Job, P: Pool<J>, S: Slots>(
     audience: &mut Audience,
 ) -> Result<CheckVerdict, Stopped<RecordFault>>
     requires { IsBegun J.meaning recording.old frames.old (S.sees shelf.old) }
-    // By the bytes that were read before.
+    // For the bytes that were read before the call.
     ensures checked { (read : List ℕ)
         → StandsFor frames.old read (items.Header recording.old.profile ∷ [])
         → IsChecked J.meaning recording.old.profile

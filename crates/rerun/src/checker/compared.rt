@@ -1,4 +1,4 @@
-//! A frame that was read, and the one that is given in its place.
+//! A frame that was read, paired with the one that the run gives in its place.
 ghost use Rattle.std.specs.Prelude.{◌≡◌};
 ghost use Rattle.copies.specs.FirstDifference.{frame_difference};
 ghost use Rattle.rerun.specs.checker.Compared.{given_in};
@@ -6,17 +6,17 @@ ghost use Rattle.rerun.specs.checker.Compared.{given_in};
 use copies::{Difference, first_difference};
 use det_values::Frame;
 
-/// A frame that was read, and the one that is given in its place.
+/// A frame that was read, and the frame that the run gives in its place.
 #[derive(Drop)]
 pub struct Compared {
     /// The frame that was read.
     pub read: Frame,
-    /// The given frame. None where it is the one that was read.
+    /// The frame that the run gives. None where it is equal to `read`.
     pub other: Option<Frame>,
 }
 
 impl Compared {
-    /// The first difference of the two, which have this number.
+    /// The first difference of the two, which have this frame number.
     pub fn difference(&self, number: u32) -> Option<Difference>
         ensures { result ≡ frame_difference number self.now.read (given_in self.now) }
     {

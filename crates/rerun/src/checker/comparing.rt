@@ -1,4 +1,4 @@
-//! The frames of a record, compared one after another with those that a run gives.
+//! One step of a check: a frame is compared, counted and shown to the audience.
 ghost use Rattle.std.specs.Prelude.{◌≡◌};
 
 use crate::checker::{Compared, FrameRoom};
@@ -10,12 +10,12 @@ use record_view::FrameView;
 use recorder::run_writer::Recording;
 use std::alloc::Global;
 
-/// How far a record was compared.
+/// How far a record was compared, and the memory for the next comparison.
 #[derive(Drop)]
 pub(crate) struct Checker {
-    /// How many frames were compared, which is the number of the next one.
+    /// The number of frames that were compared, which is the number of the next frame.
     pub compared: u32,
-    /// The Run frames among them.
+    /// How many of these frames were Run frames.
     pub cycles: u32,
     room: FrameRoom,
 }
@@ -30,7 +30,7 @@ impl Checker {
     ghost use Rattle.rerun.specs.checker.Departure.{run_of};
     ghost use Rattle.rerun.specs.checker.Given.{IsBehind, CanCome, IsPlaced, input_of, given_frame};
 
-    /// Nothing was compared.
+    /// Nothing was compared yet.
     pub fn new(alloc: Global) -> Checker
         ensures compared { result.compared ≡ 0 }
         ensures cycles { result.cycles ≡ 0 }
@@ -42,9 +42,10 @@ impl Checker {
         }
     }
 
-    /// Compares a frame that was read with the one that the run gives, and shows the first to the
-    /// audience, where it is a Run frame: in what they differ, or none. After want of memory the
-    /// recording isn't to be used.
+    /// Compares a frame that was read with the one that the run gives. Returns the first
+    /// difference, or None. A Run frame is shown to the audience before the difference is looked
+    /// for, so the reports count the cycle that departs. After an error the recording must not be
+    /// used.
     pub fn take<J: Job, P: Pool<J>>(
         &mut self,
         recording: &mut Recording<J>,
@@ -84,7 +85,7 @@ impl Checker {
         Ok(difference)
     }
 
-    /// Shows a frame to the audience and counts it, where it is a Run frame.
+    /// Counts a Run frame and shows it to the audience. It ignores other frames.
     fn show(
         &mut self,
         alloc: Global,

@@ -1,4 +1,4 @@
-//! The frames that a run gives in the places of those that were read.
+//! The frames that a run gives, in the places of those that were read from a record.
 ghost use Rattle.std.specs.Prelude.{◌≡◌, ◌<◌, ◌++◌, List, length, OnOk, IfOk};
 ghost use Rattle.std.specs.List.{All};
 ghost use Rattle.det_values.specs.declared.frames.CycleInput.{CycleInput as Input};
@@ -15,9 +15,9 @@ use record_codec::fill_input;
 use record_view::{FrameKind, FrameView};
 use recorder::run_writer::Recording;
 
-/// The frame that a run gives in the place of one that was read. In the place of a Run frame the
-/// next cycle is run on a pool, over the input of that frame, which is made in the memory of
-/// `spare`. Nothing is written. After want of memory the recording isn't to be used.
+/// The frame that the run gives in the place of one that was read. For a Run frame the next cycle
+/// is run on a pool over the input of the frame that was read. `spare` is the memory for that
+/// input. Nothing is written. After an error the recording must not be used.
 pub(crate) fn given_frame<J: Job, P: Pool<J>>(
     recording: &mut Recording<J>,
     pool: &mut P,
@@ -47,7 +47,7 @@ pub(crate) fn given_frame<J: Job, P: Pool<J>>(
     }
 }
 
-/// The frame of the next cycle, run over the input of a Run frame.
+/// The frame of the next cycle, which is run over the input of a Run frame.
 fn given_run<J: Job, P: Pool<J>>(
     recording: &mut Recording<J>,
     pool: &mut P,

@@ -1,4 +1,4 @@
-//! Memory in which frames are given and compared, one after another.
+//! `FrameRoom`: the memory that a check uses again for each frame.
 ghost use Rattle.std.specs.Prelude.{◌≡◌, IfOk, IsTrue};
 ghost use Rattle.det_values.specs.declared.frames.Frame.{Frame as FrameValue};
 ghost use Rattle.record_grammar.specs.Places.{format_of};
@@ -17,14 +17,14 @@ use recorder::run_writer::Recording;
 use std::alloc::Global;
 use std::mem;
 
-/// Gives frames in the places of those that were read, and compares the two, in memory that is used
-/// again.
+/// Gives the frames of a run in the places of those that were read, and compares the two. Its
+/// memory is used again for each frame.
 #[derive(Drop)]
 pub struct FrameRoom {
     alloc: Global,
-    /// The input of the next cycle takes its memory.
+    /// The memory for the input of the next cycle.
     spare: CycleInput,
-    /// The given frame, spelled.
+    /// The frame of the run in the bytes of the record.
     spelling: Vec<u8>,
 }
 
@@ -34,7 +34,7 @@ impl FrameRoom {
     ghost use Rattle.rerun.specs.checker.Given.{IsBehind, CanCome, input_of, given_frame};
     ghost use Rattle.rerun.specs.checker.Compared.{given_in};
 
-    /// It takes no memory yet.
+    /// An empty room. It allocates nothing.
     pub fn new(alloc: Global) -> FrameRoom {
         FrameRoom {
             alloc,
@@ -43,9 +43,9 @@ impl FrameRoom {
         }
     }
 
-    /// The frame that a run gives in the place of one that was read. In the place of a Run frame
-    /// the next cycle is run on a pool, over the input of that frame. Nothing is written. After
-    /// want of memory the recording isn't to be used.
+    /// The frame that the run gives in the place of one that was read. For a Run frame the next
+    /// cycle is run on a pool over the input of the frame that was read. Nothing is written. After
+    /// an error the recording must not be used.
     pub fn give<J: Job, P: Pool<J>>(
         &mut self,
         recording: &mut Recording<J>,
@@ -70,8 +70,8 @@ impl FrameRoom {
         given_frame(recording, pool, view, bytes, spare)
     }
 
-    /// Compares a frame that was read with the one that is given in its place. Where the bytes of
-    /// the two are the same, no value is made of the first.
+    /// Compares a frame that was read with the one that the run gives. The frame that was read
+    /// becomes a value only where the bytes of the two differ.
     pub fn compare(
         &mut self,
         view: FrameView,
@@ -98,7 +98,7 @@ impl FrameRoom {
         })
     }
 
-    /// Takes back a frame that nobody needs, for its memory, where it is a Run frame.
+    /// Takes back a frame that is no longer needed, to use the memory of a Run frame again.
     pub fn take_back<J: Job>(&mut self, recording: &mut Recording<J>, frame: Frame)
         ensures { recording.new ≡ recording.old }
     {
@@ -108,7 +108,7 @@ impl FrameRoom {
     }
 }
 
-/// Whether the bytes of a frame that was read are those of a given one of its kind.
+/// Whether the bytes of a frame that was read are those of another frame of its kind.
 fn is_spelled(
     view: FrameView,
     bytes: &[u8],

@@ -1,11 +1,11 @@
-//! What is found out of a record by running its inputs again.
+//! `CheckVerdict`: what a check or an upgrade finds out about a record.
 use copies::Difference;
 
 /// Whether a record is what its inputs give.
 #[derive(Clone, Copy, Debug, PartialEq, Eq, Drop)]
 pub enum CheckVerdict {
-    /// It is, and is whole: so many Run frames, refused ones too.
+    /// It is, and it is whole. This is the number of its Run frames, the refused ones among them.
     Genuine { cycles: u32 },
-    /// The first place at which it isn't.
+    /// It differs; this is the first place.
     Departs(Difference),
 }

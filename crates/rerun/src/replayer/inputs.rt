@@ -1,4 +1,4 @@
-//! The inputs of the runs of a record.
+//! Reads the inputs out of the Run frames of a record.
 ghost use Rattle.std.specs.Prelude.{◌≡◌, ℕ, ◌<◌, List};
 ghost use Rattle.det_values.specs.Values.{ProfileValue};
 ghost use Rattle.det_values.specs.declared.frames.CycleInput.{CycleInput as Input};
@@ -13,10 +13,11 @@ use record_codec::fill_input;
 use record_grammar::RecordFault;
 use record_reader::FrameReader;
 
-/// The input of the record's next Run frame, whatever outcome that has, in the memory of `spare`.
-/// None where the slot was read to its end and its record is whole. `Refused` has the record's
-/// fault, after the inputs of all runs before it. After a failed read the reader goes on; after
-/// want of memory it isn't to be used.
+/// The input of the record's next Run frame, whatever its outcome, in the memory of `spare`. None
+/// once the slot was read to its end and the record is whole.
+///
+/// `Refused` has the record's fault, after the inputs of all runs before it. After a failed read
+/// the reader can go on. After `OutOfMemory` it must not be used.
 pub fn next_input<S: Slots>(
     frames: &mut FrameReader,
     shelf: &mut S,

@@ -1,4 +1,4 @@
-//! A record, run again.
+//! The loop of a replay: reads an input, runs a cycle, writes its frame.
 ghost use Rattle.std.specs.Prelude.{ℕ, List, [], ◌∷◌};
 ghost use Rattle.det_io.specs.Traffic.{ShelfTraffic, SinkTraffic};
 ghost use Rattle.det_io.specs.Traffic.{shelf_run, sink_run, failure_in};
@@ -16,13 +16,15 @@ use record_reader::FrameReader;
 use recorder::run_writer::{Counts, Recording};
 use std::alloc::Global;
 
-/// Runs a job on a pool over the inputs of a record's runs, and writes the record that they give,
-/// whatever outcomes the record holds. The reader has given the header alone.
+/// Runs a job on a pool over the inputs of a record's runs, and writes the record that they give.
+/// The outcomes in the record that is read don't matter. Only its header was read before the call.
 ///
-/// The header and the frames up to Init are written before the first frame of the record is read,
-/// then a Run frame for each of its Run frames, and Terminate once the record was read to its end
-/// and is whole. `Refused` has the record's fault, after the runs of all inputs before it. After an
-/// error neither recording nor reader is to be used.
+/// The header and the frames up to Init are written before the first frame is read. Each Run frame
+/// that is read then gives a Run frame. Terminate is written once the record was read to its end
+/// and is whole.
+///
+/// `Refused` has the record's fault; the runs of all inputs before it were written. After an error
+/// neither the recording nor the reader may be used.
 pub fn replay_run<J: Job, P: Pool<J>, S: Slots, K: Sink>(
     recording: &mut Recording<J>,
     pool: &mut P,
@@ -31,7 +33,7 @@ pub fn replay_run<J: Job, P: Pool<J>, S: Slots, K: Sink>(
     sink: &mut K,
 ) -> Result<Counts, Stopped<RecordFault>>
     requires { IsBegun J.meaning recording.old frames.old (S.sees shelf.old) }
-    // By the bytes that were read before.
+    // For the bytes that were read before the call.
     ensures replayed { (read : List ℕ)
         → StandsFor frames.old read (items.Header recording.old.profile ∷ [])
         → IsReplayed J.meaning recording.old.profile read (slot_of frames.old)
@@ -52,7 +54,7 @@ pub fn replay_run<J: Job, P: Pool<J>, S: Slots, K: Sink>(
     Ok(counts)
 }
 
-/// An input without samples, which takes no memory.
+/// An input without samples. It allocates nothing.
 pub fn empty_input(alloc: Global) -> CycleInput {
     CycleInput {
         time: None,

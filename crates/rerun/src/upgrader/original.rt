@@ -1,8 +1,9 @@
-//! The record that is upgraded.
+//! `Original`: the record that is upgraded.
 use det_values::Format;
 use record_reader::FrameReader;
 
-/// A record that is upgraded: its format, and its frames, of which none was given.
+/// The format of a record that is upgraded, and the reader of its frames, which has given only the
+/// header.
 #[derive(Drop)]
 pub struct Original {
     pub format: Format,

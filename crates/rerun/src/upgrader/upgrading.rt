@@ -1,4 +1,4 @@
-//! A record, upgraded.
+//! The loop of an upgrade: compares a frame with the one that the run gives, and writes the latter.
 ghost use Rattle.std.specs.Prelude.{◌≡◌, ◌≤◌, ℕ, List, [], ◌∷◌, length, OnOk, IfErr};
 ghost use Rattle.det_io.specs.Sink.{Grew};
 ghost use Rattle.det_io.specs.Traffic.{ShelfTraffic, SinkTraffic};
@@ -22,14 +22,14 @@ use record_grammar::RecordFault;
 use record_view::FrameView;
 use recorder::run_writer::Recording;
 
-/// What of a record was compared.
+/// How far a record was compared, and the memory for the next comparison.
 #[derive(Drop)]
 struct Upgrade {
     /// The format of the record.
     format: Format,
-    /// How many frames agree with those that were given.
+    /// The number of frames that were compared and agree.
     compared: u32,
-    /// How many of them are Run frames.
+    /// How many of these frames are Run frames.
     cycles: u32,
     room: FrameRoom,
 }
@@ -47,8 +47,9 @@ impl Upgrade {
     ghost use Rattle.rerun.specs.upgrader.Begun.{in_format_of};
     ghost use Rattle.rerun.specs.upgrader.Frames.{Counted, GoesOn, Takes};
 
-    /// Makes what is given in the place of a frame that was read what is written next, and compares
-    /// the two in the format of the record.
+    /// Encodes the frame that the run gives, for the next write, and compares it with the one that
+    /// was read. They are compared as the format of the record keeps them. The frame is encoded
+    /// before its draws are taken away, so no frame is copied.
     fn compare<J: Job, P: Pool<J>>(
         &mut self,
         recording: &mut Recording<J>,
@@ -95,8 +96,9 @@ impl Upgrade {
         self.cycles += cycles_in(read);
     }
 
-    /// Compares a frame that was read with the one that is given in its place, and writes that one,
-    /// unless it is Terminate. Where they differ it returns how, and writes nothing.
+    /// Compares a frame that was read with the one that the run gives. If they agree, the latter is
+    /// written, except Terminate. If they differ, the difference is returned and nothing is
+    /// written.
     fn take<J: Job, P: Pool<J>, K: Sink>(
         &mut self,
         recording: &mut Recording<J>,
@@ -148,7 +150,8 @@ fn cycles_in(frame: &Frame) -> u32
     }
 }
 
-/// Writes what is written next in the place of a frame, unless that is Terminate.
+/// Writes the buffer of the recording, which holds this frame, unless the frame is Terminate.
+/// Terminate is written only once the record was read to its end.
 fn write_unless_last<J: Job, K: Sink>(
     recording: &mut Recording<J>,
     frame: &Frame,
@@ -188,13 +191,13 @@ fn write_header<J: Job, K: Sink>(recording: &mut Recording<J>, sink: &mut K) -> 
 
 /// Runs a job on a pool over the inputs of a record's runs, and writes the record of that run in
 /// format 2: the header, then each frame of the record that is what the inputs give. The two are
-/// compared as the record's format keeps them, so draws only where that is format 2. At the first
-/// difference the upgrade is over: nothing is written in its place, and no more is read. Of the
-/// record the header alone was given.
+/// compared as the record's format keeps them, so draws are compared only if it is format 2. At the
+/// first difference the upgrade ends: nothing is written in its place, and nothing more is read.
+/// Only the header was read before the call.
 ///
 /// Terminate is written once the record was read to its end and is whole. `Refused` has the
-/// record's fault, where it has no difference before that. After an error neither recording nor
-/// original is to be used.
+/// record's fault if there is no difference before it. After an error neither the recording nor the
+/// original may be used.
 pub fn upgrade_run<J: Job, P: Pool<J>, S: Slots, K: Sink>(
     recording: &mut Recording<J>,
     pool: &mut P,
@@ -203,7 +206,7 @@ pub fn upgrade_run<J: Job, P: Pool<J>, S: Slots, K: Sink>(
     sink: &mut K,
 ) -> Result<CheckVerdict, Stopped<RecordFault>>
     requires { IsBegun J.meaning recording.old original.old (S.sees shelf.old) }
-    // By the bytes that were read before.
+    // For the bytes that were read before the call.
     ensures upgraded { (read : List ℕ)
         → StandsFor original.old.frames read
         (items.Header (header_of original.old recording.old.profile) ∷ [])

@@ -23,15 +23,15 @@ pub record RunValue : Type 0 where
   pub kind : JobKind
   pub profile : ProfileValue
 
--- a kind, where its job refuses no parameter of a profile
+-- a kind, if its job refuses no parameter of a profile
 abbrev pub taking : ProfileValue → JobKind → Option JobKind
 taking p kind = if is_none (bad_param kind p.params (length p.events)) then Some kind else None
 
--- the kind whose number a profile has, where its job takes that
+-- the kind with the number of a profile, if its job takes that profile
 abbrev pub kind_of : ProfileValue → Option JobKind
 kind_of p = option_and_then (taking p) (kind_of_number p.job)
 
--- by the items of a record and its fault; a record without a header has one
+-- by the items of a record and its fault; a record without a header has a fault
 abbrev pub run_by : List Item → Option RecordFault → Result RunValue BadRun
 run_by (Header p ∷ xs) end =
     ok_or (option_map (λ kind. record { kind = kind; profile = p }) (kind_of p)) Profile
@@ -43,24 +43,24 @@ run_by xs None = Err Profile
 abbrev pub run_of : List ℕ → Result RunValue BadRun
 run_of record_bytes = run_by (items_in record_bytes) (fault_in record_bytes)
 
--- why there is no run where a record has no whole header
+-- why a record without a whole header has no run
 abbrev pub without_header : Stopped RecordFault → Stopped BadRun
 without_header (Refused fault) = Refused (Fault fault)
 without_header (Failed failure) = Failed failure
 
--- why a run that is refused isn't there, as a command answers it
+-- why a refused run is missing, as the answer of a command
 abbrev pub refused : BadRun → Answer
 refused (Fault fault) = BadRecord 0 fault
 refused Profile = BadProfile
 
--- what is given over the run of a record, by its job and its profile, or by why there is none
+-- what the run of a record gives, by its job and its profile, or by why there is none
 abbrev pub over_run : {A : Type 0}
     → ((S G E L P : Type 0) → Meaning S G E L P → ProfileValue → A) → (BadRun → A)
     → Result RunValue BadRun → A
 over_run given otherwise (Ok run) = by_kind (λ S G E L P m. given S G E L P m run.profile) run.kind
 over_run given otherwise (Err why) = otherwise why
 
--- what a command answers that has no run
+-- the answer of a command without a run
 abbrev pub without_run : Stopped BadRun → Answer
 without_run (Refused why) = refused why
 without_run (Failed failure) = failed failure

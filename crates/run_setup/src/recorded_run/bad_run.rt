@@ -1,4 +1,4 @@
-//! Why the run of a record can't be had.
+//! `BadRun`: why a record has no run that can run again.
 ghost use Rattle.std.specs.Prelude.{◌≡◌};
 ghost use Rattle.run_setup.specs.recorded_run.Run.{without_run, without_header};
 
@@ -6,16 +6,16 @@ use cli_answers::Answer;
 use det_io::Stopped;
 use record_grammar::RecordFault;
 
-/// Why a record's run can't be had.
+/// Why a record has no run that can run again.
 #[derive(Clone, Copy, Debug, PartialEq, Eq, Drop)]
 pub enum BadRun {
-    /// The record has this fault before its header is whole.
+    /// The record has this fault before the end of its header.
     Fault(RecordFault),
-    /// No shipped job has the header's number, or that job refuses the header's parameters.
+    /// No shipped job has the number in the header, or that job refuses the parameters in it.
     Profile,
 }
 
-/// Why there is no run where a record has no whole header.
+/// The reason why a record without a whole header has no run.
 pub(crate) fn without_header(end: Stopped<RecordFault>) -> Stopped<BadRun>
     ensures { result ≡ without_header end }
 {
@@ -25,7 +25,7 @@ pub(crate) fn without_header(end: Stopped<RecordFault>) -> Stopped<BadRun>
     }
 }
 
-/// What a command answers that has no run. The one record that it reads is copy 0.
+/// The answer of a command without a run. The one record that it reads is copy 0.
 pub fn without_run(end: Stopped<BadRun>) -> Answer
     ensures { result ≡ without_run end }
 {

@@ -1,4 +1,4 @@
-//! The run of a record.
+//! `RecordedRun`: the run that a record names, and how it is opened.
 ghost use Rattle.std.specs.Prelude.{◌≡◌, ◌∷◌, [], length, None, Some, Ok, Err};
 ghost use Rattle.std.specs.Prelude.{IfOk, IfErr, IsSome};
 ghost use Rattle.det_io.specs.Shelf.{Asks};
@@ -18,19 +18,18 @@ use det_values::{JobKind, Profile};
 use record_reader::{FrameReader, OpenRecord, open};
 use std::alloc::Global;
 
-/// The run that a record's header names, and the record, of which the header was read.
+/// The run that a record's header names, and the rest of the record.
 #[derive(Drop)]
 pub struct RecordedRun {
-    /// The job of the profile's number.
+    /// The job with the number in the profile.
     pub kind: JobKind,
     pub profile: Profile,
-    /// What comes after the header.
+    /// The reader of the record, which has read only the header.
     pub frames: FrameReader,
 }
 
-/// Opens the name of a record and reads its header. A piece of up to 65,536 bytes is read only
-/// where those before it have no whole header and no fault. `Failed` has `Read` where the shelf
-/// fails to open or to read.
+/// Opens the name of a record and reads its header. Pieces of up to 65,536 bytes are read until the
+/// header is whole or has a fault. `Failed` has `Read` if the shelf fails to open or to read.
 pub fn read_run<S: Shelf>(
     alloc: Global,
     recorded: &str,
@@ -59,7 +58,7 @@ pub fn read_run<S: Shelf>(
     }
 }
 
-/// The run of a record, by the job that takes its profile.
+/// The run of an opened record, if a shipped job takes its profile.
 fn run_in(opened: OpenRecord) -> Result<RecordedRun, Stopped<BadRun>>
     ensures kind { IfOk result (λ run. kind_of opened.profile ≡ Some run.kind) }
     ensures profile { IfOk result (λ run. run.profile ≡ opened.profile) }

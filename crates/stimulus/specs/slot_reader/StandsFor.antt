@@ -1,4 +1,4 @@
--- What a reader keeps of the bytes that it read and of the inputs that it gave.
+-- What a reader knows of the bytes that it read and of the inputs that it returned.
 use Rattle.std.specs.Prelude.{◌≡◌, ◌⊎◌, ℕ, ◌≤◌, List, [], ◌∷◌, ◌++◌, length, true, false, Option}
 use Rattle.std.specs.Prelude.{Some, None, Result, Ok, Err}
 use Rattle.det_io.specs.Prefix.{IsPrefix}
@@ -17,40 +17,40 @@ use Rattle.stimulus.specs.declared.slot_reader.reader.StimulusReader.{StimulusRe
 abbrev pub slot_of : StimulusReader → ℕ
 slot_of r = r.slot
 
--- how many events its profile has
+-- the number of events of its profile
 abbrev pub events_of : StimulusReader → ℕ
 events_of r = r.text.events
 
--- these bytes were read, and the inputs of these blocks given
+-- these bytes were read, and the inputs of these blocks returned
 pub record StandsFor (r : StimulusReader) (read : List ℕ) (given : List CycleInput) : Type 0 where
   pub items : List StimItem
   pub reads : Reads r.text read items
   pub inputs : inputs_of items ≡ given
 
--- bytes are read only where all complete blocks of what was read are given
+-- bytes are read only if all complete blocks of those before were returned
 abbrev pub ReadsIfNeeded : ℕ → List ℕ → List CycleInput → (more : List ℕ) → Type 0
 ReadsIfNeeded events read given more = (more ≡ []) ⊎ (blocks events read ≡ given)
 
--- This block comes next. Its input is within its limits, and no more than 1,000,000 are given.
+-- This block comes next. Its input is within its limits, and no more than 1,000,000 were returned.
 pub record IsNext (input : CycleInput) (events : ℕ) (read : List ℕ) (given : List CycleInput)
     : Type 0 where
   pub first : IsPrefix (given ++ input ∷ []) (blocks events read)
   pub within : IsInput events input
   pub few : length (given ++ input ∷ []) ≤ 1000000
 
--- all complete blocks of what was read are given, and no line of it is bad
+-- all complete blocks of the bytes read were returned, and no line of them is bad
 pub record HasAll (events : ℕ) (read : List ℕ) (given : List CycleInput) : Type 0 where
   pub blocks : blocks events read ≡ given
   pub good : has_bad events read ≡ false
 
--- the text is a whole stimulus, and all of its blocks are given
+-- the text is a whole stimulus, and all of its blocks were returned
 pub record IsWhole (events : ℕ) (at_end : Type 0) (read : List ℕ) (given : List CycleInput)
     : Type 0 where
   pub blocks : blocks events read ≡ given
   pub ending : ending events read ≡ Terminated
   pub end : at_end
 
--- all blocks before the bad line are given, and it counts as fed or the slot has no more bytes
+-- all blocks before the bad line were returned, and it counts as fed or the slot has no more bytes
 pub record IsBad (line events : ℕ) (at_end : Type 0) (read : List ℕ) (given : List CycleInput)
     : Type 0 where
   pub blocks : blocks events read ≡ given

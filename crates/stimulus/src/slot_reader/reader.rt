@@ -1,4 +1,4 @@
-//! A stimulus in a slot.
+//! The reader of a stimulus in a slot.
 ghost use Rattle.std.specs.Prelude.{◌≡◌};
 ghost use Rattle.stimulus.specs.slot_reader.Steps.{stopped_by};
 
@@ -7,7 +7,7 @@ use det_io::{Failure, PIECE, Slots, Stopped};
 use det_values::CycleInput;
 use std::alloc::Global;
 
-/// Gives the inputs of the stimulus in a slot, which it reads in pieces of 4,096 bytes. It keeps
+/// Returns the inputs of the stimulus in a slot, which it reads in pieces of 4,096 bytes. It holds
 /// one block and one piece.
 #[derive(Drop)]
 pub struct StimulusReader {
@@ -35,8 +35,8 @@ impl StimulusReader {
     ghost use Rattle.stimulus.specs.slot_reader.Steps.{PieceIs};
     ghost use Rattle.stimulus.specs.slot_reader.Steps.{Shrinks};
 
-    /// A reader of what a slot has left, for a profile with so many events. It takes no memory,
-    /// and reads nothing yet.
+    /// A reader of the bytes that a slot still has, for a profile with this number of events. It
+    /// takes no memory, and reads nothing yet.
     pub fn at(alloc: Global, slot: u32, events: u16) -> StimulusReader
         ensures stands { StandsFor result [] [] }
         ensures slot { slot_of result ≡ slot }
@@ -48,10 +48,9 @@ impl StimulusReader {
         }
     }
 
-    /// The input of the next complete block. None where the slot was read to its end and its text
-    /// is a whole stimulus. Refused tells the bad line, as soon as it counts as fed. After a failed
-    /// read the reader stands as before; after a refusal and after `OutOfMemory` it isn't to be
-    /// used.
+    /// The input of the next complete block, or None at the end of a slot with a whole stimulus.
+    /// `Refused` has the bad line, as soon as it counts as fed. After a failed read the reader is
+    /// as before. After `Refused` or `OutOfMemory` it must not be used again.
     pub fn next_input<S: Slots>(
         &mut self,
         shelf: &mut S,
@@ -78,14 +77,14 @@ impl StimulusReader {
         }
     }
 
-    /// Takes an input that nobody needs, for the memory of the next one.
+    /// Takes an input that is no longer needed, and reuses its memory for the next one.
     pub fn take_back(&mut self, input: CycleInput)
         ensures { self.new ≡ self.old }
     {
         self.text.take_back(input);
     }
 
-    /// The input of the next complete block of what was fed.
+    /// The input of the next complete block of the bytes that were fed.
     fn fed_input(&mut self) -> Result<Option<CycleInput>, Stopped<StimFault>>
         ensures input { (read : List ℕ) (given : List Input) → StandsFor self.old read given
             → FedIs result self.new read given }
@@ -109,7 +108,7 @@ impl StimulusReader {
         }
     }
 
-    /// Reads a piece. False at the end of the slot, where its text is a whole stimulus.
+    /// Reads a piece. False at the end of a slot with a whole stimulus.
     fn read_on<S: Slots>(&mut self, shelf: &mut S) -> Result<bool, Stopped<StimFault>>
         requires slot { slot_of self.old < (S.sees shelf.old).slots }
         requires hungry { IsHungry self.old }

@@ -1,4 +1,4 @@
--- What the list job means.
+-- The functions that define the list job.
 use Rattle.std.specs.Prelude.{ℕ, ◌≤◌, ◌%◌, ◌==◌, cond, ltb, if◌then◌else◌, List, [], ◌∷◌, ◌++◌}
 use Rattle.std.specs.Prelude.{length, None, Result, Ok, Err}
 use Rattle.det_client.specs.element_random.Words.{word}

@@ -1,4 +1,4 @@
-//! A gate that holds a worker.
+//! A gate that holds one worker until something happens.
 use crate::pool_tests::watch::{MOST_TURNS, Watch};
 use std::alloc::Global;
 use std::sync::Arc;
@@ -6,12 +6,12 @@ use std::sync::atomic::{AtomicBool, AtomicU64, Ordering};
 use std::thread;
 use worker_pool::Gate;
 
-/// What a gate waits for.
+/// The event that a gate waits for.
 #[derive(Clone, Copy, Drop)]
 pub(crate) enum Wanted {
-    /// So many elements were run.
+    /// This number of elements was run.
     Runs(u64),
-    /// A kept thread has no work after so many elements were run: it has replied.
+    /// A kept thread found no work after this number of elements was run: it has replied.
     Rest(u64),
     /// An element is held.
     Hold,
@@ -19,14 +19,14 @@ pub(crate) enum Wanted {
     LetGo,
 }
 
-/// Holds one worker until what is wanted comes, for a while at most, and keeps whether it came.
+/// Holds one worker until the wanted event comes, up to a limit, and records whether it came.
 #[derive(Drop)]
 pub(crate) struct HoldGate {
     pub(crate) watch: Arc<Watch, Global>,
     pub(crate) worker: u32,
     pub(crate) wanted: Wanted,
     pub(crate) came: AtomicBool,
-    /// The elements that were run when a kept thread had no work last.
+    /// The number of elements run when a kept thread last found no work.
     pub(crate) rested: AtomicU64,
 }
 

@@ -1,4 +1,5 @@
-//! A job for tests. Its part is the list of the elements met, so the order of joining shows.
+//! A job for tests. Its part is the list of the elements met, so a wrong order of joining is
+//! visible.
 
 ghost use Rattle.std.specs.Prelude.{◌≡◌, ℕ, ◌%◌};
 ghost use Rattle.det_client.specs.element_random.Words.{StandsFor};
@@ -14,8 +15,8 @@ use std::alloc::Global;
 use std::sync::Arc;
 
 /// Elements from `limit` on refuse, with their value as the code. Of the others an odd one becomes
-/// a random byte, for which it draws one word, and an even one stays. `watch` sees each element
-/// that is run, where it is there.
+/// a random byte, for which it draws one number, and an even one stays. `watch`, if there is one,
+/// sees each element that is run.
 #[derive(Drop)]
 pub struct ListJob {
     pub limit: u32,
@@ -23,18 +24,18 @@ pub struct ListJob {
     pub events: u16,
 }
 
-/// Nothing is kept between cycles.
+/// The job keeps nothing between cycles.
 #[derive(Clone, Copy, Debug, PartialEq, Eq, Drop)]
 pub struct NoGlobals;
 
-/// Nothing is planned.
+/// The job plans nothing.
 #[derive(Clone, Copy, Debug, PartialEq, Eq, Drop)]
 pub struct NoPlan;
 
 /// The elements that a pass met, in order.
 pub type Met = Limited<u8, 65536>;
 
-/// An even byte again, or a random one.
+/// The next value of a byte: an even byte stays, an odd one becomes random.
 fn byte_after(byte: u8, random: &mut ElementRandom) -> u8
     ensures byte { (key : ℕ) → StandsFor random.old key 0 → result ≡ byte_after byte key }
     ensures draws { (key : ℕ) → StandsFor random.old key 0 → random.new.draws ≡ byte % 2 }

@@ -1,4 +1,4 @@
-//! Passes of the list job, by a crew and in order.
+//! Passes of the list job, by a crew and in order, and comparisons of their results.
 ghost use Rattle.std.specs.Prelude.{◌≡◌, ◌≤◌, length};
 ghost use Rattle.std.specs.Arc.{arc_value};
 ghost use Rattle.job.specs.Passes.{IsReady};
@@ -23,10 +23,10 @@ use worker_pool::{Crew, CrewRoom, HeldPass, NoGate, run_worker_pool};
 /// A pass of a list job.
 pub(crate) type ListPass = HeldPass<ListJob>;
 
-/// What such a pass answers.
+/// The result of such a pass.
 pub(crate) type ListDone = Result<PassDone<u8, Met>, PoolFault>;
 
-/// A value that can have several owners.
+/// A value behind a new `Arc`.
 pub(crate) fn shared<T: Drop, R: Abort>(rt: &R, alloc: Global, value: T) -> Arc<T, Global>
     ensures { arc_value result ≡ value }
 {
@@ -36,7 +36,7 @@ pub(crate) fn shared<T: Drop, R: Abort>(rt: &R, alloc: Global, value: T) -> Arc<
     }
 }
 
-/// One more owner.
+/// A clone of the `Arc`.
 fn again<T: Drop, R: Abort>(rt: &R, owner: &Arc<T, Global>) -> Arc<T, Global>
     ensures { arc_value result ≡ arc_value owner.now }
 {
@@ -66,7 +66,7 @@ fn elements_of<R: Abort>(rt: &R, alloc: Global, bytes: &[u8]) -> Container<u8>
     elements
 }
 
-/// Pass 0 of cycle 1 over these elements, of a list job in which those from `limit` on refuse.
+/// Pass 0 of cycle 1 over these elements. Elements from `limit` on refuse.
 pub(crate) fn list_pass<R: Abort>(
     rt: &R,
     alloc: Global,
@@ -95,7 +95,7 @@ pub(crate) fn list_pass<R: Abort>(
     }
 }
 
-/// Such a pass by one thread. Nothing watches it.
+/// The result of such a pass by one thread, without a watch.
 pub(crate) fn alone<R: Abort>(rt: &R, alloc: Global, limit: u32, bytes: &[u8]) -> ListDone
     requires { length bytes.now ≤ 65536 }
 {
@@ -103,7 +103,7 @@ pub(crate) fn alone<R: Abort>(rt: &R, alloc: Global, limit: u32, bytes: &[u8]) -
     InOrder.run_pass(&pass.pass(), &mut PassRoom::new(alloc))
 }
 
-/// Whether two passes ended alike. What they show holds each element with its draws.
+/// Whether two passes ended alike. Their shown bytes hold each element with its draws.
 fn is_same(left: &ListDone, right: &ListDone) -> bool {
     match (left, right) {
         (Ok(left), Ok(right)) => left.part == right.part && left.shown == right.shown,
@@ -112,14 +112,14 @@ fn is_same(left: &ListDone, right: &ListDone) -> bool {
     }
 }
 
-/// Whether a pass over these elements, none of which refuses, ended as by one thread.
+/// Whether a pass without refusals over these elements ended as by one thread.
 pub(crate) fn ended_as_alone<R: Abort>(rt: &R, alloc: Global, done: ListDone, bytes: &[u8]) -> bool
     requires { length bytes.now ≤ 65536 }
 {
     is_same(&done, &alone(rt, alloc, 65536, bytes))
 }
 
-/// Whether a pass was refused by this element, whose byte is its number.
+/// Whether this element refused the pass. Its byte equals its number.
 pub(crate) fn is_refused(done: &ListDone, element: u32) -> bool {
     match done {
         Ok(_) => false,
@@ -133,7 +133,7 @@ pub(crate) fn is_refused(done: &ListDone, element: u32) -> bool {
     }
 }
 
-/// Whether a pass ends with this answer by whatever number of workers.
+/// Whether a pass has this result with several numbers of workers.
 pub(crate) fn is_alike<R: Threads + Abort>(
     rt: &R,
     alloc: Global,
@@ -154,7 +154,7 @@ pub(crate) fn is_alike<R: Threads + Abort>(
     true
 }
 
-/// A gate that holds a worker, and what watches the elements.
+/// A gate that holds a worker, with a watch of the elements.
 pub(crate) fn gate_of<R: Abort>(
     rt: &R,
     alloc: Global,
@@ -189,8 +189,8 @@ pub(crate) fn watched_pass<R: Abort>(
     list_pass(rt, alloc, 65536, Some(again(rt, &gate.watch)), bytes)
 }
 
-/// Whether one crew in this room ends each of these passes as one thread does, in memory of those
-/// before. A row has a number of elements, and the byte from which on one refuses.
+/// Whether one crew in this room ends each of these passes as one thread does, in memory of the
+/// passes before. A row has the number of elements, and the least byte that refuses.
 fn is_alike_in_room<B: Room + Send + Sync + 'static, R: Threads + Abort>(
     rt: &R,
     alloc: Global,
@@ -217,7 +217,7 @@ fn is_alike_in_room<B: Room + Send + Sync + 'static, R: Threads + Abort>(
     is_alike
 }
 
-/// Whether one crew of so many workers ends each of these passes as one thread does.
+/// Whether one crew of `workers` workers ends each of these passes as one thread does.
 pub(crate) fn is_crew_alike<R: Threads + Abort>(
     rt: &R,
     alloc: Global,

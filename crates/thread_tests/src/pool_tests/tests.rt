@@ -7,8 +7,8 @@ use crate::pool_tests::passes::{
 use std::sync::atomic::Ordering;
 use worker_pool::{MeetGate, run_worker_pool};
 
-/// The numbers of elements, element i having the byte i % 251, and the byte from which on an
-/// element refuses. So the element `limit` is the least that does.
+/// Numbers of elements, where element i has the byte i % 251, and the least byte that refuses. So
+/// the element `limit` is the first that refuses.
 const ROWS: [(usize, u32); 12] = [
     (0, 65536),
     (1, 65536),
@@ -32,8 +32,8 @@ fn workers_meet(rt: HostRuntime) {
     assert!(rt; gate.met() && ended_as_alone(&rt, rt.alloc(), done, &[3; 128]));
 }
 
-/// The pool gives what the pass in order gives, whose part is the list of the elements, and of the
-/// elements that refuse it answers the least.
+/// The result of the pool is that of the pass in order, whose part is the list of the elements. Of
+/// several elements that refuse, the first is returned.
 #[test]
 fn every_number_of_workers_answers_alike(rt: HostRuntime) {
     let bytes = many_bytes(&rt, rt.alloc());
@@ -53,7 +53,7 @@ fn every_number_of_workers_answers_alike(rt: HostRuntime) {
     }
 }
 
-/// The same of the passes of one crew, some of which refuse, in memory of those before them.
+/// The same for the passes of one crew, some of which refuse, in memory of the passes before.
 #[test]
 fn one_crew_answers_alike_pass_after_pass(rt: HostRuntime) {
     for workers in [2, 8, 64] {
@@ -64,7 +64,9 @@ fn one_crew_answers_alike_pass_after_pass(rt: HostRuntime) {
     }
 }
 
-/// Worker 1 is held until the caller has run all elements, and is not waited for.
+/// Worker 1 is held until the caller has run all elements, and the caller doesn't wait for it. It
+/// is one pass only: in a second the thread may still be at the first. A test that waits for it
+/// would fail on a busy machine.
 #[test]
 fn blocks_are_claimed(rt: HostRuntime) {
     let gate = gate_of(&rt, rt.alloc(), 1, Wanted::Runs(128));
@@ -74,8 +76,8 @@ fn blocks_are_claimed(rt: HostRuntime) {
     assert!(rt; ended_as_alone(&rt, rt.alloc(), done, &[3; 128]));
 }
 
-/// The caller is held until a kept thread has run all elements and has replied. What it replied is
-/// taken, and no element is run again.
+/// The caller is held until a kept thread has run all elements and has replied. The reply is used,
+/// and no element is run again.
 #[test]
 fn a_block_of_a_kept_thread_is_run_once(rt: HostRuntime) {
     let gate = gate_of(&rt, rt.alloc(), 0, Wanted::Rest(128));
@@ -85,8 +87,8 @@ fn a_block_of_a_kept_thread_is_run_once(rt: HostRuntime) {
     assert!(rt; ended_as_alone(&rt, rt.alloc(), done, &[3; 128]));
 }
 
-/// The caller is held in the second pass of a crew until a kept thread has run all its elements and
-/// has replied: a thread that replied to one pass gets work in the next one.
+/// A thread that replied to one pass gets work in the next. The caller is held in the second pass
+/// until a kept thread has run all its elements and has replied.
 #[test]
 fn a_kept_thread_works_in_each_pass(rt: HostRuntime) {
     let gate = gate_of(&rt, rt.alloc(), 0, Wanted::Rest(128));
@@ -99,7 +101,7 @@ fn a_kept_thread_works_in_each_pass(rt: HostRuntime) {
 }
 
 /// A kept thread is held at the gate through a whole pass, and let go before the next one. Its
-/// reply to the first pass comes too late, and is no part of the second.
+/// reply to the first pass comes too late, and is not used in the second.
 #[test]
 fn a_reply_to_an_earlier_pass_is_thrown_away(rt: HostRuntime) {
     let gate = gate_of(&rt, rt.alloc(), 1, Wanted::LetGo);
@@ -111,8 +113,8 @@ fn a_reply_to_an_earlier_pass_is_thrown_away(rt: HostRuntime) {
     assert!(rt; ended_as_alone(&rt, rt.alloc(), after, &[5; 300]));
 }
 
-/// A kept thread claims a block and is held in it until the caller has given it up and run the
-/// block itself.
+/// A kept thread claims a block and is held in it until the caller gives up and runs the block
+/// itself.
 #[test]
 fn a_block_that_is_given_up_is_run_again(rt: HostRuntime) {
     let gate = gate_of(&rt, rt.alloc(), 0, Wanted::Hold);

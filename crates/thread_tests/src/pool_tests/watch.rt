@@ -1,14 +1,14 @@
-//! What a list job tells of its elements, and what holds one of them.
+//! A watch of the list job's elements, which counts them and holds one.
 use std::sync::atomic::{AtomicBool, AtomicU64, Ordering};
 
 /// The byte whose first run is held.
 pub const HELD: u8 = 248;
 
-/// The turns for which a worker is held.
+/// The most turns for which a worker is held.
 pub(crate) const MOST_TURNS: u32 = 100_000_000;
 
 /// Counts the elements that are run, and holds the first run of a byte `HELD` until it is let go,
-/// for a while at most.
+/// up to a limit.
 #[derive(Drop)]
 pub struct Watch {
     pub runs: AtomicU64,
@@ -17,7 +17,7 @@ pub struct Watch {
 }
 
 impl Watch {
-    /// A byte is run.
+    /// Records that a byte is run.
     pub(crate) fn see(&self, byte: u8) {
         self.runs.fetch_add(1, Ordering::SeqCst);
         if byte == HELD && !self.holds.swap(true, Ordering::SeqCst) {
@@ -25,7 +25,7 @@ impl Watch {
         }
     }
 
-    /// Turns until the element is let go, for a while at most.
+    /// Spins until the element is let go, up to a limit.
     fn wait(&self) {
         for _turn in 0..MOST_TURNS {
             if self.let_go.load(Ordering::SeqCst) {

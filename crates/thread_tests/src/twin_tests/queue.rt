@@ -14,7 +14,7 @@ fn row(number: u32) -> Row {
     }
 }
 
-/// Sends so many rows, from number 0 on.
+/// Sends `count` rows, from number 0 on.
 fn send_rows<R: Wait>(rt: &R, queue: &FrameQueue, mut sender: Sender, count: u32) -> Sender
     requires { IsSenderOf queue.now sender }
     ensures { IsSenderOf queue.now result }
@@ -25,7 +25,7 @@ fn send_rows<R: Wait>(rt: &R, queue: &FrameQueue, mut sender: Sender, count: u32
     sender
 }
 
-/// Takes so many rows, and returns whether their numbers go from 0 on.
+/// Takes `count` rows, and returns whether their numbers go from 0 on.
 fn take_rows<R: Wait>(
     rt: &R,
     queue: &FrameQueue,
@@ -42,7 +42,7 @@ fn take_rows<R: Wait>(
     (receiver, are_in_order)
 }
 
-/// Sends so many rows on one thread and takes them on another.
+/// Sends `count` rows on one thread and takes them on another.
 fn send_and_take<R: Threads + Wait + Sync>(
     rt: &R,
     queue: &FrameQueue,
@@ -68,7 +68,7 @@ fn send_and_take<R: Threads + Wait + Sync>(
     )
 }
 
-/// A queue has 32 places, so neither end comes to an end without the other.
+/// A queue has 32 places, so neither end can finish without the other.
 #[test]
 fn a_hundred_rows_come_in_order(rt: HostRuntime) -> Result<(), Fail> {
     let (queue, sender, receiver) = FrameQueue::new(rt.alloc())?;

@@ -1,4 +1,4 @@
-//! Two copies of a run of the heavy job, on real threads.
+//! Two copies of a run of the heavy job, each on its own thread.
 ghost use Rattle.std.specs.Prelude.{◌≡◌, ◌≤◌, length, IfOk};
 ghost use Rattle.det_values.specs.Values.{ProfileValue};
 ghost use Rattle.twins.specs.Making.{AreKnown};
@@ -31,7 +31,7 @@ fn inputs(alloc: Global, count: u32) -> Result<Inputs, OutOfMemory>
     Ok(inputs)
 }
 
-/// A run of five elements, whose output in each cycle is their number in 8 bytes.
+/// A run of five elements. Its output in each cycle is their number in 8 bytes.
 fn run_of(alloc: Global, tamper: Watch) -> Result<TwinRun<Watch>, OutOfMemory>
     ensures { IfOk result (λ run. AreKnown run.profile run.inputs) }
 {
@@ -51,7 +51,7 @@ fn run_of(alloc: Global, tamper: Watch) -> Result<TwinRun<Watch>, OutOfMemory>
     })
 }
 
-/// The verdict on two copies of a run, where the job takes its parameters.
+/// The verdict on two copies of a run, or None if the job refuses its parameters.
 fn verdict_on<R: Threads + Wait + Sync>(
     rt: &R,
     alloc: Global,
@@ -65,16 +65,16 @@ fn verdict_on<R: Threads + Wait + Sync>(
     Ok(Some(run_twins::<Heavy, Watch, R>(rt, alloc, run, 2)?))
 }
 
-/// How often a copy looks for the other one.
+/// The most looks of a copy for the other one.
 const MOST_LOOKS: u32 = 100_000_000;
 
-/// Turns a bit, counts the frames that are made, and holds each copy at frame 3 until the other one
-/// is there, for a while at most.
+/// Flips a bit, counts the frames made, and holds each copy at frame 3 until the other is there, up
+/// to a limit.
 #[derive(Drop)]
 struct Watch {
     flip: FlipTamper,
     frames: AtomicU64,
-    /// The copies that came to frame 3, and those that saw both there.
+    /// The number of copies that came to frame 3, and of those that saw both there.
     came: AtomicU64,
     met: AtomicU64,
 }
@@ -129,8 +129,8 @@ impl Tamper for Watch {
     }
 }
 
-/// Frame 107 belongs to cycle 105, and is the 108th that is taken. A queue has 32 places, so each
-/// of the two copies makes 140 frames at most, of 204.
+/// Frame 107 belongs to cycle 105, and is the 108th taken. A queue has 32 places, so each of the
+/// two copies makes at most 140 of its 204 frames.
 #[test]
 fn copies_meet_and_end_behind_a_difference(rt: HostRuntime) -> Result<(), Fail> {
     let alloc = rt.alloc();

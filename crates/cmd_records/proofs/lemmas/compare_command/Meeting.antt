@@ -15,7 +15,7 @@ use Rattle.cli_answers.proofs.Meeting.{meets-refusal}
 use Rattle.cmd_records.specs.compare_command.Compare.{compared, compare_outcome}
 use Rattle.cmd_records.proofs.lemmas.open_names.Copies.{texts, are-left}
 
--- what was printed is the outcome, where the names are told
+-- what was printed is the outcome, if the names are known
 meets-printed : {wanted printed : Outcome} {tells rose other : Type 0} {before after : List ℕ → Type 0} {answer : Answer}
     → (tells → wanted ≡ printed) → Meets printed (Unit {0}) ⊥ other before after answer
     → Meets wanted tells rose other before after answer

@@ -23,7 +23,7 @@ different-of (slot ∷ slots) apart = (
 told-at : (holds : Option (List ℕ)) (bytes : List ℕ) (P : List ℕ → Type 0) → holds ≡ Some bytes → IfSome holds P → P bytes
 told-at holds bytes P e p = rw e at p
 
--- each slot has left what its name held, where that is told
+-- each slot has left what its name held, if that is known
 left-of : (first mid : ShelfState) (names : List (List ℕ)) (slots : List ℕ) → Tells first names
     → AllZip (λ name slot. IfSome (first.holds name) (λ bytes. mid.left slot ≡ Some bytes)) names slots
     → AreLeft mid slots (map (told first) names)

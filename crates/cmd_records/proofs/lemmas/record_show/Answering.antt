@@ -308,7 +308,7 @@ reports_are All other mid = refl
 reports_are Reports other mid = refl
 reports_are (Cycle number) other mid = absurd (other number refl)
 
--- one run alone has no reports
+-- a single run has no reports
 pub finish-one : (part : ShowPart) (number : ℕ) (shown : Shown) (mid : AudienceState) (one : SinkRun) → part ≡ Cycle number
     → FinishIs (Ok shown) part shown.cycles mid mid (behind one one.after one.faults_after)
 finish-one part number shown mid one is =

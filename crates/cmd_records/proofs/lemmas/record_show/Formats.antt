@@ -34,7 +34,7 @@ format_next (places.Runs layout before) (items.Frame (Run r)) on = refl
 format_next (places.Runs layout before) (items.Frame Terminate) on = absurd (on refl)
 format_next places.End (items.Frame f) on = refl
 
--- items lead to a place whose frames have the format behind them, where one more can follow
+-- items lead to a place whose frames have the format after them, if one more can follow
 pub format_there : (xs : List Item) (from to : Place) (bytes rest : List ℕ) (x : Item) → Leads from bytes xs to rest → CanFollow to x
     → format_of to ≡ format_behind (format_of from) xs
 unfolding format_behind

@@ -1,4 +1,4 @@
--- An audience of which no probe is left has seen all runs.
+-- An audience without probes left has seen all runs.
 use Rattle.std.proofs.Common.{◌≡◌, ℕ, ◌+◌, List, [], ◌∷◌, ◌++◌, length, refl, sym, ap, ◌∙◌, arith}
 use Rattle.det_values.specs.declared.frames.RunFrame.{RunFrame}
 use Rattle.probes.specs.Reports.{ProbeLife, AudienceState, reports, reported, in_turn}

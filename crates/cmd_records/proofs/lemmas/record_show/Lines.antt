@@ -1,4 +1,4 @@
--- The lines of items behind others.
+-- The lines of items after others.
 use Rattle.std.proofs.Common.{◌≡◌, ℕ, ◌+◌, List, [], ◌∷◌, ◌++◌, length, refl, sym, ap, ◌∙◌, arith, append_assoc, append-nil, add-zero}
 use Rattle.std.proofs.Common.{zero-add, length-append}
 use Rattle.std.proofs.lemmas.Grind.{flat_map-append}
@@ -34,7 +34,7 @@ pub format_one : (format : Format) (x : Item) → format_behind format (x ∷ []
 unfolding format_behind
 format_one format x = refl
 
--- the lines of one item and of those behind it
+-- the lines of one item and of those after it
 
 one_then : (lines : List ℕ) (format : Format) (runs : ℕ) (more : List Item) → lines ++ item_lines format runs more ≡ (lines ++ [])
     ++ item_lines format (runs + 0) more
@@ -64,7 +64,8 @@ runs_cons : (n : ℕ) (x : Item) (xs : List Item) → n + length (run_in x) + le
 runs_cons n x xs = let m : length (runs_in (x ∷ xs)) ≡ length (run_in x) + length (runs_in xs) = length-append (run_in x) (runs_in xs) in
     omega arith
 
--- the lines of items are those of the first ones and, behind their format and runs, those of the others
+-- the lines of items are those of the first ones and, by the format and the runs after these, those
+-- of the others
 pub lines_append : (format : Format) (runs : ℕ) (xs ys : List Item)
     → item_lines format runs (xs ++ ys) ≡ item_lines format runs xs ++ item_lines (format_behind format xs) (runs + length (runs_in xs)) ys
 lines_append format runs [] ys = lines_none format runs ys
@@ -110,7 +111,7 @@ pub format_none_yet : format_behind One [] ≡ One
 unfolding format_behind
 format_none_yet = refl
 
--- the lines of an item alone
+-- the lines of a single item
 pub item_is : (format : Format) (runs : ℕ) (x : Item) → item_lines format runs (x ∷ [])
     ≡ lines_at (format_by format x) (runs + length (run_in x)) x
 item_is format runs (items.Header p) = header_is format runs p

@@ -86,7 +86,7 @@ module _ (first mid : AudienceState) (watch : Watch) (given : List Item) (bytes 
   not-failed true failure is = cc
   not-failed false failure is = cc
 
-  -- the reading came behind the last item of a record that can be saved
+  -- the reading came past the last item of a record that can be saved
   settled-seen : (read : Result (Unit {0}) (Stopped RecordFault)) → settled_by watch.has_begun read ≡ Ok tt
       → RecordRead read (watching first mid watch) given bytes no_sink → AllSeen first mid watch.cycles bytes
   settled-seen (Ok u) settled h =

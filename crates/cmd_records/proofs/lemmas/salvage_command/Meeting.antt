@@ -106,7 +106,7 @@ module _ {T : Type 0} (wanted : Outcome) (tells : Type 0) (shelf : ShelfRun) (ou
 told-at : (left : Option (List ℕ)) (bytes : List ℕ) (P : List ℕ → Type 0) → left ≡ Some bytes → IfSome left P → P bytes
 told-at left bytes P e p = rw e at p
 
--- what the slot had left, where that is told
+-- what the slot had left, if that is known
 pub meets-left : {T : Type 0} (result : Result T (Stopped RecordFault)) (answer : Answer) (wanted : List ℕ → Outcome) (read : List ℕ)
     (shelf : ShelfRun) (slot here : ℕ) (out : SinkRun) → answer ≡ answer_of result → slot ≡ here
     → OfSlot shelf slot read (λ bytes. Gives result (wanted bytes) out) → (bytes : List ℕ)
@@ -185,7 +185,7 @@ at-done (Err (Failed Read)) answer is p done = absurd (cc)
 at-done (Err (Failed Write)) answer is p done = absurd (cc)
 at-done (Err (Failed OutOfMemory)) answer is p done = absurd (cc)
 
--- where the command tells a read's fault a read failed
+-- if the command reports a read fault, a read failed
 pub at-fault : (result : Result (Unit {0}) (Stopped RecordFault)) (answer : Answer) {P : Type 0} → answer ≡ answer_of result
     → (result ≡ Err (Failed Read) → P) → answer ≡ answers.ReadFault → P
 at-fault (Ok u) answer is p e = absurd (cc)

@@ -76,7 +76,7 @@ sees-by (Err (Failed failures.OutOfMemory)) part old now bytes out ne h = absurd
 module _ (result : Result Shown (Stopped RecordFault)) (answer : Answer) (is : answer ≡ answer_of result) (part : ShowPart)
     (old now : AudienceState) (read : List ℕ) (shelf : ShelfRun) (slot here : ℕ) (out : SinkRun) (same : slot ≡ here)
     (ended : Ended result part old now read shelf slot out) where
-  -- what the slot had left, where that is told
+  -- what the slot had left, if that is known
   pub meets-left : (bytes : List ℕ) → ShelfTraffic shelf (failure_in result) → SinkTraffic out (failure_in result)
       → Meets (show_outcome part old bytes) (shelf.first.left here ≡ Some bytes) (Rose shelf.first.faults shelf.last.faults)
       (Rose out.faults_before out.faults_after) out.before out.after answer

@@ -36,7 +36,7 @@ meets-given {wanted = wanted} {before = before} {after = after} not_read not_wri
   write_fault = λ e. absurd (not_write e);
 }
 
--- what was printed is the outcome, where the names are told
+-- what was printed is the outcome, if the names are known
 pub meets-printed : {wanted printed : Outcome} {tells rose other : Type 0} {before after : List ℕ → Type 0} {answer : Answer}
     → (tells → wanted ≡ printed) → Meets printed (Unit {0}) ⊥ other before after answer
     → Meets wanted tells rose other before after answer
@@ -118,7 +118,7 @@ module _ {first mid : ShelfState} {slots here : List ℕ} (recorded : List (Bor 
         → Meets (dissent_outcome copies) tells rose other before after answer
     meets-dissent vote h m = meets-printed (λ t. dissent-is vote copies out (answered (Ok vote) h t)) m
 
-    -- nothing was printed, for want of a majority or after a failure
+    -- nothing was printed, since there is no majority or something failed
     pub meets-unprinted : {other : Type 0} {before : List ℕ → Type 0} (why : Stopped voting.NoMajority)
         → HasVoted (Err why) mid last here out → ShelfTraffic shelf (failure_in {A = Vote} (Err why))
         → SinkTraffic out (failure_in {A = Vote} (Err why)) → (Rose out.faults_before out.faults_after → ⊥)

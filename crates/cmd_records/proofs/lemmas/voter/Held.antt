@@ -228,7 +228,7 @@ none-held all none row e =
     no-way : false ≡ true → ⊥
     no-way d = cc
 
--- an item is held as a row where more than half begin with it behind those that are given
+-- an item is held as a row if more than half begin with it after the given items
 pub held-row : (copies : List (List ℕ)) (given : List Item) (x : Item)
     → is_held (map (row_behind given) copies) (Some (rows.Item x)) ≡ are_held copies (given ++ x ∷ [])
 held-row copies given x =

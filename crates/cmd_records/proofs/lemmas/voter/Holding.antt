@@ -1,4 +1,4 @@
--- Rows that are held, and the items that stand in the bytes that are held.
+-- Rows that are held, and the items in the bytes that readers hold.
 use Rattle.std.proofs.Common.{◌≡◌, ◌<◌, ◌≤◌, ◌+◌, ℕ, zero, suc, Bool, true, cond, List, [], ◌∷◌, map, length, take, get_or, set, Option}
 use Rattle.std.proofs.Common.{Some, None, refl, sym, ap, subst, ◌∙◌, arith}
 use Rattle.std.specs.List.{count_by}

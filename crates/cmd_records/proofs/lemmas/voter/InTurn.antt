@@ -33,7 +33,7 @@ use Rattle.cmd_records.proofs.lemmas.voter.Spelled.{leads-place}
 
 -- ---- one copy
 
--- an item stands in the place behind those that were given
+-- an item is at the place after the given ones
 stands-behind : (view : ItemView) (reader : ItemReader) (read : List ℕ) (given : List Item) → GaveItem view reader read given
     → view.place ≡ place_behind given
 stands-behind view reader read given p = sym (leads-place given places.Header view.place read p.behind.0 p.behind.1)
@@ -160,14 +160,14 @@ all-later first mid now given slot (other ∷ slots) (v ∷ voters) ne p h = (
 
 -- ---- one after another
 
--- the first copies were read, and the others stand behind the items given
+-- the first copies were read, and the others are after the given items
 abbrev pub HaveFirst : ShelfState → ShelfState → List Item → List ℕ → List Voter → List (Option Row) → Type 0
 HaveFirst first now given slots voters [] = AreVoters first now given slots voters
 HaveFirst first now given (slot ∷ slots) (v ∷ voters) (row ∷ more) =
     VoteIs v.left row first now given slot v.reader × HoldsRow (place_behind given) v row × HaveFirst first now given slots voters more
 HaveFirst first now given slots voters (row ∷ more) = ⊥
 
--- so many of the copies were read
+-- this number of copies was read
 pub record HaveRows (index : ℕ) (first now : ShelfState) (given : List Item) (slots : List ℕ) (voters : List Voter) : Type 0 where
   pub more : List (Option Row)
   pub count : length more ≡ index

@@ -87,7 +87,7 @@ pub none-item : (o : Option HeldItem) → ((item : HeldItem) → o ≡ Some item
 none-item (Some item) none = absurd (none item refl)
 none-item None none = refl
 
--- it goes on behind the item
+-- the vote continues after the item
 pub smaller : {first now later : ShelfState} (given : List Item) (x : Item) {slots : List ℕ} {old new : Voters}
     → Stand first now given slots old → Stand first later (given ++ x ∷ []) slots new → 1000006 - new.rows < 1000006 - old.rows
 smaller given x h k =
@@ -154,7 +154,7 @@ tells-sink out new (Err (Refused split)) t s = absurd t
 
 -- ---- what was read
 
--- what the row behind the items given needs is needed behind all that are voted
+-- what the row after the given items needs is needed after all items that are voted
 pub needed-by : (first old now : ShelfState) (given : List Item) (slots : List ℕ) (voters : Voters) (copies : List (List ℕ))
     → Stand first old given slots voters → AllNeeded first now (length given) slots → AreLeft first slots copies
     → AllNeeded first now (length (voted_items copies)) slots

@@ -6,7 +6,7 @@ use Rattle.cmd_records.specs.declared.voter.reading.Voter.{Voter}
 use Rattle.cmd_records.specs.declared.voter.majority.Holders.{Holders}
 use Rattle.cmd_records.specs.voter.Rows.{same_row, AreHolders, stayed, parted}
 
--- the same of so many copies
+-- the same for this number of copies
 abbrev pub parted_to : ℕ → ℕ → List Bool → List Voter → List Voter
 parted_to zero n same voters = voters
 parted_to (suc k) n (b ∷ same) (v ∷ voters) = stayed b n v ∷ parted_to k n same voters

@@ -76,7 +76,7 @@ parts-longer n (x ∷ given) more (y ∷ all) m e = by (parts-longer (n + 1) giv
     by on true e = on e
     by on false e = e
 
--- they share what stands before that
+-- they share what comes before that
 pub parts-shared : (n : ℕ) (given all : List Item) (m : ℕ) → parts_at n given all ≡ Some m → n + length (shared given all) ≡ m
 parts-shared n [] all m e = absurd cc
 parts-shared n (x ∷ given) [] m e = let s : n ≡ m = cc in omega (arith, s)
@@ -161,7 +161,7 @@ same-is (Some rows.Whole) None e = absurd cc
 same-is (Some (rows.Fault f)) other e = absurd cc
 same-is None other e = absurd cc
 
--- the row behind the items given is a row that equals itself, where the record is sound
+-- the row after the given items equals itself if the record is sound
 pub sound-row : (rest : List Item) → same_row (Some (first_row rest None)) (Some (first_row rest None)) ≡ true
 sound-row [] = refl
 sound-row (x ∷ rest) = equal-items x

@@ -49,7 +49,7 @@ spelled-prefix (items.Header h ∷ a) b p =
 
 -- ---- the layout of a header stays
 
--- a place behind a header
+-- a place after a header
 abbrev HasLayout : Layout → Place → Type 0
 HasLayout layout places.Header = ⊥
 HasLayout layout (places.Register other) = other ≡ layout
@@ -120,7 +120,7 @@ no-frame-first (frames.Init elements) k = k
 no-frame-first (frames.Run r) k = k
 no-frame-first frames.Terminate k = k
 
--- an item is spelled behind those that were given
+-- an item is spelled after the given ones
 pub spelled-next : (given : List Item) (x : Item) → AreFirst given → MayStand (place_behind given) x
     → spelled_items (given ++ x ∷ []) ≡ spelled_items given ++ item_spelling (place_behind given) x
 spelled-next [] (items.Header p) h may = append-nil (spelled_header p)

@@ -1,4 +1,4 @@
--- What is told of the copies, and how they go on behind a row that is held.
+-- What is known of the copies, and how they continue after a row that is held.
 use Rattle.std.proofs.Common.{◌≡◌, ◌+◌, ◌<◌, ℕ, Bool, true, false, cond, List, [], ◌∷◌, ◌++◌, map, length, get_or, Option, Some, None, Ok}
 use Rattle.std.proofs.Common.{refl, sym, ap, subst, ◌∙◌, append-nil, length-append, arith}
 use Rattle.std.specs.Prelude.{is_none}
@@ -119,7 +119,7 @@ split-told first old now given slots voters after more h most votes none copies 
 
 -- ---- an item is held
 
--- what was needed behind some items is needed behind one more
+-- what was needed after some items is needed after one more
 needed-on : (given : List Item) (x : Item) (read : List ℕ) → IsNeeded (length given) read → IsNeeded (length (given ++ x ∷ [])) read
 needed-on given x read h =
     wider (length given) (length (given ++ x ∷ [])) read (let all = length-append given (x ∷ []) in omega (arith, all)) h
@@ -175,7 +175,7 @@ whole-there given copy p e =
     let ends = ends-whole p.0 (fault_in copy) (sym (follows given p.0 copy p.1) ∙ e) in
     record { items = sym p.1 ∙ ap (λ r. given ++ r) ends.0 ∙ append-nil given; whole = ends.1 }
 
--- the row of a whole record behind its items
+-- the row of a whole record after its items
 whole-row : (given : List Item) (copy : List ℕ) → IsRecord given copy → row_at (length given) copy ≡ rows.Whole
 whole-row given copy w = follows given [] copy (append-nil given ∙ sym w.items) ∙ ap (first_row []) w.whole
 
@@ -281,7 +281,7 @@ held-still place n same voters held x d all less holds = record {
   holds = λ e. subst (λ (r : ItemReader). HoldsAt place r held.view x) (sym (parted-reader n same voters held.copy e d all less)) holds;
 }
 
--- an item of one kind is so many cycles
+-- the number of cycles of an item, by its kind
 held-runs : (place : Place) (reader : ItemReader) (view : ItemView) (x : Item) → HoldsAt place reader view x
     → length (run_in x) ≡ runs_of view.span.kind
 held-runs place reader view x h = runs-are view.place view.span.kind _ _ x h.holds.shows.parts

@@ -40,7 +40,7 @@ checked_by audience record_bytes named =
 at-told : (left : Option (List ℕ)) (rest : List ℕ) (P : List ℕ → Type 0) → left ≡ Some rest → IfSome left P → P rest
 at-told left rest P e p = rw e at p
 
--- what was printed is the outcome, where the rest of the record is told
+-- what was printed is the outcome, where the rest of the record is known
 meets-printed : {wanted printed : Outcome} {tells rose other : Type 0} {before after : List ℕ → Type 0} {answer : Answer}
     → (tells → wanted ≡ printed) → Meets printed (Unit {0}) ⊥ other before after answer
     → Meets wanted tells rose other before after answer
@@ -51,7 +51,7 @@ meets-printed is m = record {
   write_fault = m.write_fault;
 }
 
--- nothing was written before or behind what was
+-- nothing was written before or after what was
 same-first : {wanted : Outcome} {tells rose other : Type 0} {before mid after : List ℕ → Type 0} {answer : Answer} → Same before mid
     → Meets wanted tells rose other mid after answer → Meets wanted tells rose other before after answer
 same-first same m = record {
@@ -90,7 +90,7 @@ same-last same m = record {
 
 module _ {S G E L P : Type 0} (m : Meaning S G E L P) (profile : ProfileValue) (frames : FrameReader) (read : List ℕ)
     (stands : StandsFor frames read (Header profile ∷ [])) (shelf : ShelfRun) (sink : SinkRun) (old now : AudienceState) where
-  -- what an answer says of the record, where the rest of it is told
+  -- what a result says of the record, where the rest of it is known
   pub answers : (result : Result CheckVerdict (Stopped RecordFault)) (rest : List ℕ)
       → HasChecked m profile frames shelf sink old now result → shelf.first.left (slot_of frames) ≡ Some rest
       → Answers m profile old now result (read ++ rest)

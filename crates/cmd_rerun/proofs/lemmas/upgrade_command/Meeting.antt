@@ -46,7 +46,7 @@ upgraded_by record_bytes named =
 at-told : (left : Option (List ℕ)) (rest : List ℕ) (P : List ℕ → Type 0) → left ≡ Some rest → IfSome left P → P rest
 at-told left rest P e p = rw e at p
 
--- ---- what a verdict is answered
+-- ---- the answer for a verdict
 
 -- the end of an upgrade that came to a verdict, or to a fault
 abbrev ended_as : Result CheckVerdict RecordFault → Result CheckVerdict (Stopped RecordFault)
@@ -73,7 +73,7 @@ no-write-fault (Genuine cycles) e = cc
 no-write-fault (Departs at) e = cc
 
 module _ {S G E L P : Type 0} (m : Meaning S G E L P) (profile : ProfileValue) where
-  -- a verdict is answered as the departure and the fault are
+  -- the answer for a verdict is that for the departure and the fault
   as-answered : (bytes : List ℕ) (verdict : Result CheckVerdict RecordFault) → check_verdict m profile bytes ≡ verdict
       → answer_of (ended_as verdict) ≡ answer_by (departure m profile bytes) (fault_in bytes)
   as-answered bytes verdict is =
@@ -147,7 +147,7 @@ module _ {S G E L P : Type 0} (m : Meaning S G E L P) (profile : ProfileValue) w
 
 -- ---- by the job of a kind
 
--- the record's profile is the header that is told of its run's
+-- the record's profile is the header that the run's profile gives
 header-is : (profile : ProfileValue) (original : Original) → original.format ≡ profile.format
     → header_of original (in_format_two profile) ≡ profile
 header-is profile original is = λ i. record profile { format = is i }

@@ -58,7 +58,7 @@ module _ {S G E L P : Type 0} (m : Meaning S G E L P) (first : ProfileValue) {T 
   HasRun slot shelf sinks result = (read : List ℕ) × Reads shelf.first shelf.last slot read
       × Ended m first n second result read (IsAtEnd shelf.last slot) sinks
 
-  -- what an answer needs where both records were cut off
+  -- what a result needs where both records were cut off
   cut-off : (failure : Failure) (read : List ℕ) (at_end : Type 0) (sinks : Sinks) → IsCut failure
       → ((rest : List ℕ) → (at_end → rest ≡ [])
       → BothGrewByPrefix sinks (record_of m first (read ++ rest)) (second_of m first n second (read ++ rest)))
@@ -67,7 +67,7 @@ module _ {S G E L P : Type 0} (m : Meaning S G E L P) (first : ProfileValue) {T 
   cut-off Write read at_end sinks cut grew = record { reads_to = tt; answers = grew }
   cut-off OutOfMemory read at_end sinks cut grew = record { reads_to = tt; answers = grew }
 
-  -- what stands in both records of first inputs stands first in those of every text that goes on
+  -- both records of the first inputs are prefixes of those of every text that goes on
   within : (given : List CycleInput) (read rest : List ℕ) → IsPrefix given (blocks (length first.events) read)
       → IsPrefix (record_with m first given false) (record_of m first (read ++ rest))
       × IsPrefix (second_with m first n second given false) (second_of m first n second (read ++ rest))
@@ -116,7 +116,7 @@ module _ {S G E L P : Type 0} (m : Meaning S G E L P) (first : ProfileValue) {T 
     };
   }
 
-  -- ---- the answers
+  -- ---- the results
 
   -- the openings weren't written
   pub open-failed : (slot : ℕ) (state : ShelfState) (stays : Type 0) (sinks : Sinks) (failure : Failure)

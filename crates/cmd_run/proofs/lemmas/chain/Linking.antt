@@ -129,7 +129,7 @@ module _ {S G E L P : Type 0} (m : Meaning S G E L P) (first : ProfileValue) whe
     passed-is given input events run passed is count ran = is ∙ ap (λ k. derived_input k run) count
         ∙ ap (derived_input (length second.events)) ran
 
-    -- behind it the second client stands behind all that the first one gives
+    -- after it the second client has run all that the first one gives
     pub passed-next : (given : List CycleInput) (input passed : CycleInput) (one other : ProfileValue) → one ≡ first → other ≡ second
         → passed ≡ next_input m n first second given input
         → passed_on m first n second given ++ passed ∷ [] ≡ passed_on m one n other (given ++ input ∷ [])

@@ -27,7 +27,7 @@ use Rattle.cmd_run.specs.chain.Ends.{Sinks, BothGrew}
 use Rattle.cmd_run.specs.chain.Linked.{IsCut, BothStand, BothTraffic, first_frame, second_frame}
 use Rattle.cmd_run.proofs.lemmas.chain.Linking.{derived-none, second-opened, second-next}
 
--- what the reader answers, of all that it stands for
+-- what the reader returns, for all bytes that it can have read
 abbrev pub Answered : Result (Option CycleInput) (Stopped StimFault) → ShelfState → ShelfState → StimulusReader → StimulusReader → Type 0
 Answered answer mid now old new = (more : List ℕ) × Reads mid now (slot_of old) more
     × ((read : List ℕ) (given : List CycleInput) → StandsFor old read given
@@ -83,7 +83,7 @@ module _ {S G E L P : Type 0} (m : Meaning S G E L P) (first : ProfileValue) {T 
     };
   }
 
-  -- the reader's answer, of all that was read
+  -- the reader's result, for all that was read
   pub next-read : {start mid now : ShelfState} {slot : ℕ} {sinks : Sinks} {reader : StimulusReader} {recording : Recording S G E L P}
       {other : Recording T H F M Q} {read : List ℕ} {given : List CycleInput} (next : StimulusReader)
       (answer : Result (Option CycleInput) (Stopped StimFault))

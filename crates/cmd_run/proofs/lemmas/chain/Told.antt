@@ -1,4 +1,4 @@
--- What the bytes that a shelf tells come to.
+-- What follows for the text where the shelf knows it.
 use Rattle.std.proofs.Common.{◌≡◌, ℕ, List, [], ◌++◌, sym, subst}
 use Rattle.std.specs.Prelude.{Option, Some, None, Result, IfSome}
 use Rattle.std.specs.Option.{option_map}
@@ -12,7 +12,7 @@ use Rattle.cmd_run.specs.declared.chain.counts.ChainCounts.{ChainCounts}
 use Rattle.cmd_run.specs.chain.Ends.{Sinks, Answers, IsChained}
 use Rattle.cmd_run.proofs.lemmas.chain.Ending.{HasRun}
 
--- a fact about the text, where a shelf tells it, from what was read and what is left
+-- a fact about the text, where a shelf knows it, from what was read and what is left
 told-left : (read : List ℕ) (P : List ℕ → Type 0) (left : Option (List ℕ))
     → ((rest : List ℕ) → (IfSome left (λ r. r ≡ []) → rest ≡ []) → P (read ++ rest))
     → IfSome (option_map (λ rest. read ++ rest) left) P

@@ -26,7 +26,7 @@ use Rattle.cmd_run.specs.chain_command.Chain.{chained, answer_of}
 use Rattle.cmd_run.specs.chain_command.Clients.{Client, chained_by_kinds}
 use Rattle.cmd_run.specs.chain_command.Visited.{HasChained}
 
--- of two, of which the first is refuted
+-- of two cases the first is refuted
 the-other : {A B : Type 0} → (A → ⊥) → A ⊎ B → B
 the-other never (inl a) = absurd (never a)
 the-other never (inr b) = b
@@ -42,7 +42,7 @@ module _ (text : List ℕ) (slot : ℕ) (shelf : ShelfRun) (one out : SinkRun) (
 
   module _ {S G E L P : Type 0} (m : Meaning S G E L P) (first : ProfileValue)
       {T H F M Q : Type 0} (n : Meaning T H F M Q) (second : ProfileValue) where
-    -- what its answer says of the text
+    -- what its result says of the text
     said : (result : Result ChainCounts (Stopped StimFault)) → HasChained m first n second slot shelf one out result → tells
         → Answers m first n second result text sinks
     said result has t =

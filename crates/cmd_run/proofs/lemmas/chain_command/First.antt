@@ -1,4 +1,4 @@
--- The outcome of a chain is that behind the first manifest's client.
+-- The outcome of a chain is that after the first manifest's client.
 use Rattle.std.proofs.Common.{◌≡◌, ℕ, Bool, List, [], ◌∷◌, refl, sym, ap, subst, ◌∙◌}
 use Rattle.std.proofs.lemmas.List.Elements.{All-tail}
 use Rattle.std.specs.Prelude.{Result, Ok, Err, Some, IsSome}
@@ -25,7 +25,7 @@ use Rattle.cmd_run.specs.chain_command.Chain.{chain_names}
 use Rattle.cmd_run.specs.chain_command.Clients.{chained_behind, chained_from}
 
 module _ (strict : Bool) (shelf : ShelfState) (first second stimulus : List ℕ) where
-  -- what the second manifest is told to be
+  -- the second manifest, where its bytes are known
   abbrev other : Result ManifestValue BadManifest
   other = setup_of strict (told shelf second)
 
@@ -33,7 +33,7 @@ module _ (strict : Bool) (shelf : ShelfState) (first second stimulus : List ℕ)
   abbrev names : Result ManifestValue BadManifest → List (List ℕ)
   names read = chain_names first second stimulus read other
 
-  -- the names behind a first manifest that is good
+  -- the names after a first manifest that is good
   abbrev rest : List (List ℕ)
   rest = record_names second stimulus other
 
@@ -42,7 +42,7 @@ module _ (strict : Bool) (shelf : ShelfState) (first second stimulus : List ℕ)
   tells-manifest (Ok m) tells = tells-first shelf first rest tells
   tells-manifest (Err why) tells = tells-first shelf first [] tells
 
-  -- what was asked for where the first manifest was read alone
+  -- the names that were opened where only the first manifest was read
   pub asked-first : (last : ShelfState) (read : Result ManifestValue BadManifest) → Asks shelf last (first ∷ [])
       → AsksPrefix shelf last (names read)
   asked-first last (Ok m) asked =
@@ -50,12 +50,12 @@ module _ (strict : Bool) (shelf : ShelfState) (first second stimulus : List ℕ)
   asked-first last (Err why) asked = asks-all shelf last (first ∷ []) asked
 
   module _ (m : ManifestValue) (is : IsSome (shelf.holds first) → setup_of strict (told shelf first) ≡ Ok m) where
-    -- where the first manifest is told it is this one
+    -- where the bytes of the first manifest are known it is this one
     is-first : Tells shelf (names (setup_of strict (told shelf first))) → setup_of strict (told shelf first) ≡ Ok m
     is-first tells = is (tells-manifest (setup_of strict (told shelf first)) tells)
 
     module _ (mid : ShelfState) (holds : mid.holds ≡ shelf.holds) where
-      -- so the names behind it are told, also after it was read
+      -- so the bytes of the names after it are known, also after it was read
       pub tells-rest : Tells shelf (names (setup_of strict (told shelf first)))
           → Tells mid (record_names second stimulus (setup_of strict (told mid second)))
       tells-rest tells =
@@ -63,7 +63,7 @@ module _ (strict : Bool) (shelf : ShelfState) (first second stimulus : List ℕ)
           (sym holds) (All-tail (λ name. IsSome (shelf.holds name)) first rest
           (subst (λ r. Tells shelf (names r)) (is-first tells) tells))
 
-      -- the same outcome, where the names are told
+      -- the same outcome, where the bytes of the names are known
       pub by-first : (seed : ℕ) (kind : JobKind) (p : ProfileValue) → kind ≡ m.kind → p ≡ profile_of m seed
           → Tells shelf (names (setup_of strict (told shelf first)))
           → chained_from seed (told shelf stimulus) (setup_of strict (told shelf first)) other

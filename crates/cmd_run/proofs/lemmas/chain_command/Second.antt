@@ -1,4 +1,4 @@
--- The outcome behind a first client is that of the second manifest's.
+-- The outcome after a first client is that of the second manifest's client.
 use Rattle.std.proofs.Common.{◌≡◌, ℕ, Bool, List, [], refl, sym, ap, ◌∙◌}
 use Rattle.std.specs.Prelude.{Ok, Err, Some, IsSome}
 use Rattle.std.specs.Option.{unwrap_or}
@@ -20,7 +20,7 @@ use Rattle.cmd_run.proofs.lemmas.record_command.ByManifest.{is-told, bad-told}
 use Rattle.cmd_run.specs.chain_command.Clients.{Client, chained_behind, chained_by_kinds}
 
 module _ (strict : Bool) (first : ShelfState) (name stimulus : List ℕ) (seed : ℕ) (client : Client) where
-  -- the same outcome, where the manifest and the stimulus are told
+  -- the same outcome, where the bytes of the manifest and of the stimulus are known
   pub by-told : (m : ManifestValue) → (IsSome (first.holds name) → setup_of strict (told first name) ≡ Ok m) → (mid : ShelfState)
       (kind : JobKind) (p : ProfileValue) → mid.holds ≡ first.holds → kind ≡ m.kind → p ≡ profile_of m seed
       → Tells first (record_names name stimulus (setup_of strict (told first name)))

@@ -1,7 +1,7 @@
 -- Texts appended one after another.
 use Rattle.std.proofs.Common.{◌≡◌, ℕ, List, ◌++◌, append_assoc, ap, ◌∙◌}
 
--- four texts, each behind the same word
+-- four texts, each after the same word
 pub four-appended : (out word a b c d : List ℕ) → (((out ++ (word ++ a)) ++ (word ++ b)) ++ (word ++ c)) ++ (word ++ d) ≡ out
     ++ (word ++ (a ++ (word ++ (b ++ (word ++ (c ++ (word ++ d)))))))
 four-appended out word a b c d =

@@ -26,7 +26,7 @@ use Rattle.cmd_run.specs.record_command.Outcomes.{record_names, record_outcome}
 abbrev pub recorded_by : ℕ → List ℕ → Result ManifestValue BadManifest → Outcome
 recorded_by seed stimulus = with_manifest (λ m. recorded_by_kind m.kind (profile_of m seed) stimulus)
 
--- the first of some told names, and the second
+-- the first of some names whose bytes are known, and the second
 pub tells-first : (shelf : ShelfState) (name : List ℕ) (names : List (List ℕ)) → Tells shelf (name ∷ names) → IsSome (shelf.holds name)
 tells-first shelf name names t = t 0 name (omega arith)
 
@@ -53,7 +53,7 @@ module _ (strict : Bool) (first : ShelfState) (name stimulus : List ℕ) where
   tells-manifest (Ok m) tells = tells-first first name (stimulus ∷ []) tells
   tells-manifest (Err why) tells = tells-first first name [] tells
 
-  -- what was asked for where the manifest was read alone
+  -- the names that were opened where only the manifest was read
   pub asked-manifest : (last : ShelfState) (read : Result ManifestValue BadManifest) → Asks first last (name ∷ [])
       → AsksPrefix first last (names read)
   asked-manifest last (Ok m) asked =
@@ -61,7 +61,7 @@ module _ (strict : Bool) (first : ShelfState) (name stimulus : List ℕ) where
   asked-manifest last (Err why) asked = asks-all first last (name ∷ []) asked
 
   module _ (m : ManifestValue) (is : IsSome (first.holds name) → setup_of strict (told first name) ≡ Ok m) where
-    -- where the manifest is told it is this one
+    -- where the bytes of the manifest are known it is this one
     pub is-told : Tells first (names (setup_of strict (told first name))) → setup_of strict (told first name) ≡ Ok m
     is-told tells = is (tells-manifest (setup_of strict (told first name)) tells)
 
@@ -74,7 +74,7 @@ module _ (strict : Bool) (first : ShelfState) (name stimulus : List ℕ) where
         → AsksPrefix first last (names (setup_of strict (told first name)))
     asked-both last asked tells = subst (λ r. AsksPrefix first last (names r)) (sym (is-told tells)) asked
 
-    -- the same outcome, where the manifest and the stimulus are told
+    -- the same outcome, where the bytes of the manifest and of the stimulus are known
     pub by-told : (mid : ShelfState) (seed : Option ℕ) (kind : JobKind) (p : ProfileValue) → mid.holds ≡ first.holds
         → kind ≡ m.kind → p ≡ profile_of m (unwrap_or seed 0) → Tells first (names (setup_of strict (told first name)))
         → record_outcome strict (told first name) (told first stimulus) seed ≡ recorded_by_kind kind p (told mid stimulus)
@@ -84,12 +84,12 @@ module _ (strict : Bool) (first : ShelfState) (name stimulus : List ℕ) where
         ∙ ap (λ q. recorded_by_kind kind q (told first stimulus)) (sym profile)
         ∙ ap (λ h. recorded_by_kind kind p (unwrap_or (h stimulus) [])) (sym holds)
 
-    -- the stimulus is told behind the manifest
+    -- the bytes of the stimulus are known after the manifest was read
     pub still-told : (mid : ShelfState) → mid.holds ≡ first.holds → Tells first (names (setup_of strict (told first name)))
         → IsSome (mid.holds stimulus)
     still-told mid holds tells = subst (λ h. IsSome (h stimulus)) (sym holds) (tells-second first name stimulus [] (tells-both tells))
 
-  -- where the manifest is told it is refused so
+  -- where the bytes of the manifest are known it is refused so
   pub bad-told : (end : Stopped BadManifest)
       → IfRefused end (λ why. IsSome (first.holds name) → setup_of strict (told first name) ≡ Err why)
       → IfRefused end (λ why. Tells first (names (setup_of strict (told first name))) → setup_of strict (told first name) ≡ Err why)

@@ -9,7 +9,7 @@ pub rose-later : (first mid last : ℕ) → first ≤ mid → Rose mid last → 
 rose-later first mid last le (inl lt) = inl (omega arith)
 rose-later first mid last le (inr most) = inr most
 
--- a run meets any outcome that is the same where the names are told
+-- a run meets any outcome that is the same where the bytes of the names are known
 pub meets-as : (wanted other : Outcome) (tells rose failed tells2 rose2 : Type 0) (before after : List ℕ → Type 0) (answer : Answer)
     → (tells2 → tells) → (tells2 → other ≡ wanted) → (rose → rose2)
     → Meets wanted tells rose failed before after answer → Meets other tells2 rose2 failed before after answer

@@ -1,4 +1,4 @@
--- How a run over a whole text in memory ends, and what is told of it.
+-- How a run over a whole text in memory ends, and what is known of it.
 use Rattle.std.proofs.Common.{◌≡◌, ℕ, List, [], length, refl, ap}
 use Rattle.std.specs.Prelude.{Option, Some, Result, Ok, Err, IfSome, IfOk, IfErr, OnOk}
 use Rattle.sha2.specs.Sha256.{sha256}
@@ -57,7 +57,7 @@ module _ {S G E L P : Type 0} (m : Meaning S G E L P) (profile : ProfileValue) (
   ends (Failed Write) is h = absurd (rose-none 0 (h.write (ap failure_in is)))
   ends (Failed OutOfMemory) is h = refl
 
-  -- a run over a whole text, from a shelf and into a sink that count no fault, is ended early by want of memory alone
+  -- a run over a whole text, from a shelf and into a sink that count no fault, ends early only if memory runs out
   only-memory : left ≡ Some text → ending (length profile.events) text ≡ Terminated
       → IfSome left (λ t. (fault : StimFault) → run ≡ Err (Refused fault) → Stops m profile t fault.line before after)
       → (failure_in run ≡ Some Read → Rose 0 0) → (failure_in run ≡ Some Write → Rose 0 0) → IfErr run (λ why. why ≡ Failed OutOfMemory)

@@ -1,4 +1,4 @@
--- What the run of `sim` comes to.
+-- The result of the run of `sim`.
 use Rattle.std.proofs.Common.{◌≡◌, ℕ, List, [], ◌++◌, length, refl, sym, ap, ◌∙◌, subst, append-nil}
 use Rattle.std.specs.Prelude.{None, Result, Ok, Err, IfOk, OnOk}
 use Rattle.det_io.specs.Sink.{Grew, GrewByPrefix}

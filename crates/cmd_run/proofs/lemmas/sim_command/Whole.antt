@@ -136,7 +136,7 @@ made_input k n = record {
   samples = record { event = 0; value = made_value (word k (2 * n)) } ∷ record { event = 1; value = made_value (word k (2 * n + 1)) } ∷ [];
 }
 
--- what stands before a line that follows the first n blocks
+-- what comes before a line that follows the first n blocks
 abbrev place_behind : ℕ → ℕ → Place
 place_behind k zero = Between
 place_behind k (suc n) = Inside (suc n) (made_input k n)
@@ -180,7 +180,7 @@ ends n input =
     (All-from_recursion (λ b. is_lf b ≡ false) (codes "terminate") (search rules)) (omega arith) refl
     ∙ ap (λ r. r.is_whole) (at_open 3 Ended [])
 
--- the answer to a made text is never a bad line
+-- the result for a generated text is never a bad line
 pub made-is-good : (k : ℕ) → ending 3 (made k) ≡ Terminated
 made-is-good k =
     let good : (reading 3 (made k)).is_whole ≡ true =

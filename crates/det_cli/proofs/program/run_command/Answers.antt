@@ -1,12 +1,13 @@
-use Rattle.std.proofs.Common.{[], ◌∷◌, true, false, refl, sym, ◌∙◌, arith}
+use Rattle.std.proofs.Common.{[], ◌∷◌, true, false, refl, sym, ◌∙◌, inl, inr, arith}
 use Rattle.std.specs.Prelude.{Some, None}
 use Rattle.det_io.proofs.Opening.{asks-all, asks-prefix-none}
+use Rattle.cli_answers.specs.Ends.{writes_alone, reads_records}
 use Rattle.cli_answers.proofs.Keeping.{keeps-same}
 use Rattle.cli_answers.proofs.Meeting.{meets-under}
 use Rattle.cli_words.specs.declared.table.CommandWord.TheVariants as words
 use Rattle.cli_words.specs.Command.{command_seen}
 use Rattle.det_cli.proofs.Helping.{help-there}
-use Rattle.det_cli.proofs.Joining.{same-command, sole-name, no-name, workers-fit, is-kept, is-gone, help-is}
+use Rattle.det_cli.proofs.Joining.{same-command, sole-name, no-name, workers-fit, is-kept, is-gone, no-difference, help-is}
 use Rattle.det_cli.proofs.Joining.{runs-command, reported-runs}
 use Rattle.det_cli.proofs.Joining.{same-reports, names-enough}
 use Rattle.det_cli.proofs.ThroughBuffer.{record-of}
@@ -46,7 +47,10 @@ returns-in-Show g c =
       needed = λ t. c.show.ensures.asked;
       earlier = c.show.ensures.earlier;
       left = rw (← part) (is-kept c.part.result _ _ c.show.ensures.kept);
-      gone = rw (← part) (λ e done. is-gone c.part.result _ (c.show.ensures.gone done) e);
+      gone = rw (← part) (λ e done. is-gone c.part.result _ (elim done [
+        | inl is ↦ c.show.ensures.gone is
+        | inr is ↦ absurd (no-difference reads_records _ is c.show.ensures.ends refl)
+      ]) e);
       saw = rw (← part) (λ t ne. c.show.ensures.saw ne t);
     })
 
@@ -63,7 +67,10 @@ returns-in-Sim g c =
       needed = λ t. asks-prefix-none first first [] refl;
       earlier = keeps-same first;
       left = λ e. absurd cc;
-      gone = λ e done. c.sim.ensures.gone done;
+      gone = λ e done. elim done [
+        | inl is ↦ c.sim.ensures.gone is
+        | inr is ↦ absurd (no-difference writes_alone _ is c.sim.ensures.ends refl)
+      ];
       saw = rw (sym number) (λ t ne. c.sim.ensures.saw ne);
     })
 
@@ -122,7 +129,10 @@ returns-in-Check g c =
       needed = λ t. c.check.ensures.asked;
       earlier = c.check.ensures.earlier;
       left = λ e. absurd cc;
-      gone = λ e done. c.check.ensures.gone done;
+      gone = λ e done. elim done [
+        | inl is ↦ c.check.ensures.gone is
+        | inr is ↦ c.check.ensures.gone_differing is
+      ];
       saw = λ t ne. c.check.ensures.saw ne t;
     })
 
@@ -174,7 +184,10 @@ returns-then-command g c =
       needed = λ t. c.salvage_reports.ensures.asked;
       earlier = c.salvage_reports.ensures.earlier;
       left = λ e. absurd cc;
-      gone = λ e done. c.salvage_reports.ensures.gone done;
+      gone = λ e done. elim done [
+        | inl is ↦ c.salvage_reports.ensures.gone is
+        | inr is ↦ absurd (no-difference reads_records _ is c.salvage_reports.ensures.ends refl)
+      ];
       saw = λ t ne e. reported-runs (c.salvage_reports.ensures.saw ne t) (c.salvage_reports.ensures.meets.part t);
     })
 

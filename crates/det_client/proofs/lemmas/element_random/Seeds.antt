@@ -1,4 +1,4 @@
--- The state that a key is given is never all zero, so it is the first four outputs of SplitMix64.
+-- The first state of a key is never all zero, so it is the first four outputs of SplitMix64.
 use Rattle.std.proofs.Common.{◌≡◌, ℕ, ◌*◌, ◌/◌, ◌%◌, ◌^◌, ◌<◌, List, [], ◌∷◌, ◌++◌, Bool, true, false, cond, eqb, ◌&&◌, refl, sym, ap, ◌∙◌}
 use Rattle.std.proofs.Common.{arith}
 use lib.Bits.{bit_xor, xor_assoc, xor_self, xor_zero_l, xor_zero_r, xor_lt}

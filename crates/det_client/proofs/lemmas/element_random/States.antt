@@ -1,4 +1,4 @@
--- A state that a key leads to is four words that are not all zero, so its bytes give it back.
+-- A state of a key is four numbers that are not all zero, so its bytes determine it.
 use Rattle.std.proofs.Common.{◌≡◌, ℕ, zero, suc, ◌*◌, ◌/◌, ◌%◌, ◌^◌, ◌<◌, ◌≤◌, List, [], ◌∷◌, Bool}
 use Rattle.std.proofs.Common.{true, false, cond, eqb, ◌&&◌, refl, sym, ap, subst, ◌∙◌, arith}
 use Rattle.std.proofs.Common.{mod-lt, pow_pos}
@@ -109,7 +109,7 @@ reached k (suc n) = stepped (state_at k n) (reached k n)
 pub given_back : (k n : ℕ) → state_of_words (state_at k n) ≡ state_at k n
 given_back k n = back (state_at k n) (reached k n)
 
--- the words that a state's bytes are read as
+-- the numbers that a state's bytes are read as
 abbrev pub words_of : List ℕ → List ℕ
 words_of bytes = u64_at bytes 0 ∷ u64_at bytes 1 ∷ u64_at bytes 2 ∷ u64_at bytes 3 ∷ []
 

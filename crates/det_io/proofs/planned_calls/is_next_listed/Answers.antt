@@ -7,7 +7,7 @@ use Rattle.det_io.proofs.planned_calls.is_next_listed.Goals as goal
 differs : (n number : ℕ) → n < number → nat_eq n number ≡ false
 differs n number h = grind (arith, h)
 
--- a number past all that can stand in a list isn't listed
+-- a number beyond all that a list can have isn't listed
 beyond : (fails : List ℕ) (number : ℕ) → ((i : ℕ) → get_or fails i 0 < number) → is_listed fails number ≡ false
 beyond fails number below = list_any_none (λ n. nat_eq n number) fails
     (All-from_get_or (λ n. nat_eq n number ≡ false) fails 0 (λ i h. differs _ number (below i)))

@@ -10,7 +10,7 @@ use Rattle.stimulus.specs.StandsFor.{StandsFor, NextIs, FinishIs}
 use Rattle.hints_on_files.proofs.stimuli.bad_line.Goals.{in-Ok, in-Err}
 use Rattle.hints_on_files.proofs.stimuli.bad_line.Goals as goal
 
--- after a block the reader stands behind the same text
+-- after a block the reader has read the same text
 some-stands : (next : Option StimItem) (item : StimItem) (r : StimReader) (text : List ℕ) (given : List StimItem)
     → next ≡ Some item → NextIs (Ok next) r text given → (all : List StimItem) × StandsFor r text all
 some-stands (Some other) item r text given is next = (_, next.0)

@@ -3,7 +3,7 @@ use Rattle.stimulus.specs.declared.item.StimItem.{StimItem}
 use Rattle.stimulus.specs.StandsFor.{StandsFor}
 use Rattle.hints_on_files.proofs.stimuli.bad_line.Given as goal
 
--- the reader stands behind the whole text
+-- the reader has read the whole text
 abbrev pub invariant-loop : goal.invariant-loop
 invariant-loop l = record {
   events : l.reader.events ≡ l.events;

@@ -73,7 +73,7 @@ windows_from_rings event [] rounds arrived = refl
 windows_from_rings event (spec ∷ specs) rounds arrived =
     ap (λ l. window spec event rounds ∷ l) (windows_from_rings (suc event) specs rounds arrived)
 
--- a sample of one event changes the arriving values of that event alone
+-- a sample of one event changes only the arriving values of that event
 joined_arriving : (event capacity : ℕ) (arrived : List SampleValue) (sample : SampleValue) → event ≡ sample.event
     → keep_last capacity (keep_last capacity (values_of event arrived) ++ sample.value ∷ [])
     ≡ keep_last capacity (values_of event (arrived ++ sample ∷ []))

@@ -6,7 +6,7 @@ use Rattle.std.proofs.lemmas.Int.{ints, to_z-of_z}
 use mir.Val.{to_z, of_z, SFits}
 use Rattle.job_shared.proofs.Ranges.{wide_fits}
 
--- what the machine computes is the sum
+-- the machine computes the sum
 pub sum_computed : (left right : ℤ) (a b : ℕ) → a + b ≤ 65536 → neg_ℤ (pos (a * 1000000000000)) ≤ℤ left → left ≤ℤ pos (a * 1000000000000) →
     neg_ℤ (pos (b * 1000000000000)) ≤ℤ right → right ≤ℤ pos (b * 1000000000000) →
     to_z w64 (of_z w64 (to_z w64 (of_z w64 left) +ℤ to_z w64 (of_z w64 right))) ≡ left +ℤ right

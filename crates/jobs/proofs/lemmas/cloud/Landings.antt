@@ -38,7 +38,7 @@ never spread key i o h e =
     let left : 8 - i ≡ zero = omega arith in
     e ∙ ap (landing_from spread key i) left ∙ landing_none spread key i
 
--- what the machine computes is the test
+-- the machine computes the test
 pub circle_computed : (a b r : ℤ) → pos 0 ≤ℤ a → a ≤ℤ pos 1000000000000 → pos 0 ≤ℤ b → b ≤ℤ pos 1000000000000 → pos 0 ≤ℤ r →
     r ≤ℤ pos 1000000000000
     → int_le (to_z w64 (of_z w64 (to_z w64 (of_z w64 a) +ℤ to_z w64 (of_z w64 b)))) (to_z w64 (of_z w64 r)) ≡ int_le (a +ℤ b) r

@@ -1,4 +1,4 @@
--- A particle that is pulled.
+-- A particle after pass 1.
 use Rattle.std.proofs.Common.{◌≡◌, ℕ, ◌%◌, Some, false, refl}
 use Rattle.std.specs.Prelude.{nat_eq}
 use Rattle.job_shared.specs.Filter.{towards}

@@ -1,4 +1,4 @@
--- Good parameters, and when two guards are the same.
+-- Good parameters, and the equality of two guards.
 use Rattle.std.proofs.Common.{◌≡◌, ◌≤◌, ◌<◌, ℕ, ℤ, List, pos, negsuc, Bool, true, false, not, cond, Option, Some, None, length, ap, ◌∙◌}
 use Rattle.std.proofs.Common.{arith}
 use Rattle.std.proofs.Props.{props}

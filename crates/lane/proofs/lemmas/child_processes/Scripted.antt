@@ -56,7 +56,7 @@ pub first-at : (scripts : List Script) (children : List Running) (i : ℕ) (chil
     → child ≡ get_or children i child → All (KeepsToFirst scripts) children → KeepsToFirst scripts child
 first-at scripts children i child h e all = rw e (All-get_or (KeepsToFirst scripts) children i child h all)
 
--- a child that goes on keeps to its script
+-- a child that is read further keeps to its script
 pub firsts-put : (scripts : List Script) (children : List Running) (i : ℕ) (child next : Running) → i < length children
     → child ≡ get_or children i child → next.script ≡ child.script → All (KeepsToFirst scripts) children
     → All (KeepsToFirst scripts) (set children i next)
@@ -110,7 +110,7 @@ rest-next : (bytes : List ℕ) (at n : ℕ) (finished : Bool)
 rest-next bytes at n true = sym (drop-none n)
 rest-next bytes at n false = sym (drop-drop n at bytes)
 
--- a child of which n more bytes were read
+-- a child after n more bytes of it were read
 abbrev pub gone_on : Running → ℕ → Running
 gone_on child n = record { script = child.script; at = child.at + n; is_finished = child.is_finished }
 

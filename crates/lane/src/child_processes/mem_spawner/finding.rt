@@ -1,4 +1,4 @@
-//! Looks scripts up in a list of scripts.
+//! Looks up the scripts of a spawner in memory.
 ghost use Rattle.std.specs.Prelude.{◌≡◌, ◌<◌, ◌+◌, ◌^◌, min, length, take};
 ghost use Rattle.lane.specs.child_processes.Spawners.{words_of};
 ghost use Rattle.lane.specs.child_processes.Scripts.{same_words, index_of, status_at, rest_of};
@@ -12,7 +12,7 @@ fn same_words(a: &[String], b: &[String]) -> bool
     a == b
 }
 
-// The index of the first script with these words.
+// The index of the first script with these arguments.
 pub(super) fn index_of(scripts: &[Script], words: &[String]) -> Option<usize>
     ensures { result ≡ index_of scripts.now (words_of words.now) }
 {
@@ -21,14 +21,14 @@ pub(super) fn index_of(scripts: &[Script], words: &[String]) -> Option<usize>
         .position(|script| same_words(script.words.as_slice(), words))
 }
 
-// The exit status of a script; 0 past the last one.
+// The exit status of a script, or 0 after the last one.
 pub(super) fn status_at(scripts: &[Script], index: usize) -> u8
     ensures { result ≡ status_at scripts.now index }
 {
     scripts.get(index).map_or(0, |script| script.status)
 }
 
-// What a child has left. A child past the end of its output has nothing left.
+// What a child has left, which is nothing after the end of its output.
 fn rest_at(scripts: &[Script], child: Running) -> &[u8]
     ensures rest { result.now ≡ rest_of scripts.now child }
     ensures fits { child.at + length result.now < 2 ^ 64 }
@@ -41,7 +41,7 @@ fn rest_at(scripts: &[Script], child: Running) -> &[u8]
     }
 }
 
-// Copies as much of what a child has left as fits, and answers how many bytes.
+// Copies as much of what a child has left as fits, and returns how many bytes.
 pub(super) fn copy_rest(scripts: &[Script], child: Running, buf: &mut [u8]) -> usize
     ensures count { result ≡ min (length buf.old) (length (rest_of scripts.now child)) }
     ensures fits { child.at + result < 2 ^ 64 }

@@ -1,7 +1,7 @@
-//! How far a child of a spawner in memory has come.
+//! `Running`, how far a child of a spawner in memory has come.
 
-// A script by its index, how many of its bytes were read, and whether the child was given to
-// `finish`.
+// The index of the child's script, how many of its bytes were read, and whether the child was given
+// to `finish`.
 #[derive(Clone, Copy, Debug)]
 pub struct Running {
     pub script: usize,

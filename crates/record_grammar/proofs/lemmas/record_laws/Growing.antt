@@ -56,7 +56,7 @@ first_items given to bytes rest (Got x) h e = let g = all_at_got given to bytes 
 first_items given to bytes rest More h e = ([], append-nil given ∙ sym (all_at_more given to bytes rest h e).0)
 first_items given to bytes rest (Bad reason left) h e = ([], append-nil given ∙ sym (all_at_bad given to bytes rest reason left h e).0)
 
--- more bytes add items behind those that are there
+-- more bytes add items after those that are there
 pub items_grow : ItemsGrow
 items_grow bytes more =
     let d = reads (suc (length bytes)) places.Header bytes (omega arith) (item_at places.Header bytes) refl in

@@ -74,7 +74,7 @@ moved_on (places.Runs layout before) (items.Frame (frames.Run r)) h e = absurd c
 moved_on (places.Runs layout before) (items.Frame frames.Terminate) h e = absurd cc
 moved_on place item h e = elim h [ ]
 
--- the header's place is the first alone
+-- the header's place is only the first one
 pub at_header : (xs : List Item) (place : Place) → AreItems place xs places.Header → (place ≡ places.Header) × (xs ≡ [])
 at_header [] place h = (h, refl)
 at_header (x ∷ xs) place h = absurd (moved_on place x h.0 (at_header xs (after place x) h.1).0)

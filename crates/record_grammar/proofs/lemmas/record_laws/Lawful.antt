@@ -7,7 +7,7 @@ use Rattle.record_grammar.specs.Read.{Read, Got, More, Bad, ◌>>=◌}
 use Rattle.record_grammar.specs.Spelling.{AreBytes}
 use Rattle.record_grammar.proofs.Steady.{got, got_is, bad, bad_is, bind_got, bind_bad, by_first}
 
--- the bytes are in front of, at and behind the faulty one
+-- the bytes before the faulty one, that byte, and the bytes after it
 pub record IsRefused {A : Type 0} (read : List ℕ → Read A) (bytes : List ℕ) (reason : Reason) (left : ℕ) : Type 0 where
   pub before : List ℕ
   pub byte : ℕ

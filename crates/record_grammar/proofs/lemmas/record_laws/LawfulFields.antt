@@ -36,7 +36,7 @@ bind_same (Bad reason left) f g h = refl
 
 -- ---- fixed bytes
 
--- one byte may stand there
+-- one byte may come there
 pub lawful_tag : {A : Type 0} (Fits : A → Type 0) (k : ℕ) (body : A → List ℕ) (g : List ℕ → Read A) (why : ℕ → Reason) (a : A) → Fits a
     → k < 256 → IsLawful Fits body g
     → IsLawful Fits (λ c. k ∷ body c) (by_first (λ b bytes. cond (eqb b k) (g bytes) (Bad (why b) (suc (length bytes)))))
@@ -69,7 +69,7 @@ exactly_lawful reason k small =
     same [] = refl
     same (b ∷ bytes) = refl
 
--- a byte that has to be this one, and what stands behind it
+-- a byte that must be this one, and what comes after it
 pub fixed_then : {C : Type 0} (reason : Reason) (k : ℕ) (Fits : C → Type 0) (c : C) (spell : C → List ℕ) (r : List ℕ → Read C) → k < 256
     → Fits c → IsLawful Fits spell r → IsLawful Fits (λ d. k ∷ spell d) (λ bytes. exactly_at reason k bytes >>= λ x. r x.1)
 fixed_then reason k Fits c spell r small fits l =

@@ -174,7 +174,7 @@ name_lawful =
     (counted_lawful IsNameByte (λ b. b ∷ []) name_byte_at 97 refl name_byte_lawful 1 1 32 (λ n. n ∷ [])
     (byte_lawful 1 32 (lit≤ tt) (lit≤ tt)))
 
--- format 1 knows the policy Last alone
+-- format 1 knows only the policy Last
 abbrev KnowsPolicy : Format → Policy → Type 0
 KnowsPolicy One policy = policy ≡ Last
 KnowsPolicy Two policy = Unit {0}

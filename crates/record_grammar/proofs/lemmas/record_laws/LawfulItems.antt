@@ -33,7 +33,7 @@ use Rattle.record_grammar.proofs.lemmas.record_laws.LawfulRuns.{nothing_before, 
 
 -- ---- a frame without fields
 
--- this frame alone, with this tag
+-- only this frame, with this tag
 bare_lawful : (f : Frame) (tag : ℕ) (place : Place) → tag < 256
     → ((b : ℕ) (bytes : List ℕ) → tagged_at place b bytes ≡ cond (eqb b tag) (Got (f, bytes)) (Bad (tag_reason b) (suc (length bytes))))
     → IsLawful (λ g. g ≡ f) (λ g. tag ∷ []) (frame_at place)

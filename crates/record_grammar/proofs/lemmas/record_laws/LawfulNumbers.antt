@@ -11,12 +11,12 @@ use Rattle.record_grammar.specs.Numbers.{IsWithin, lowest, highest, can_be, numb
 use Rattle.record_grammar.proofs.Steady.{by_first, number_is}
 use Rattle.record_grammar.proofs.lemmas.record_laws.Lawful.{IsLawful, lawful_give, lawful_read, lawful_values, lawful_first}
 
--- what is left of a number without its lowest bytes, so many of them
+-- the rest of a number without this many of its lowest bytes
 unfoldable pub front : ℕ → ℕ → ℕ
 front zero n = n
 front (suc low) n = front low n / 256
 
--- the lowest bytes of a number, so many of them, the highest first
+-- this many of the lowest bytes of a number, the highest first
 unfoldable pub big_endian : ℕ → ℕ → List ℕ
 big_endian zero n = []
 big_endian (suc low) n = front low n % 256 ∷ big_endian low n
@@ -161,7 +161,7 @@ lowest-zero (suc k) = lowest-zero k
 no_front : (width n : ℕ) → n ≤ highest width 0 → front width n ≡ 0
 no_front width n h = only_front width 0 n (omega (arith, lowest-zero width)) h
 
--- a number of so many bytes
+-- a number of `width` bytes
 pub number_lawful : (width least most : ℕ) → least ≤ most → most ≤ highest width 0
     → IsLawful (λ n. (least ≤ n) × (n ≤ most)) (big_endian width) (number width least most)
 number_lawful width least most proper fits =

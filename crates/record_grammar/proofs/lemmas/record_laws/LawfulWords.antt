@@ -1,4 +1,4 @@
--- Bytes, words of two, four and eight bytes, and strings are read lawfully.
+-- Bytes, numbers of two, four and eight bytes, and strings are read lawfully.
 use Rattle.std.proofs.Common.{◌≡◌, ℕ, zero, suc, ◌-◌, ◌/◌, ◌%◌, ◌^◌, ◌<◌, ◌≤◌, List, [], ◌∷◌, ◌++◌, length, take, drop, refl, sym, ap}
 use Rattle.std.proofs.Common.{subst, ◌∙◌, arith, inl, inr, length-append, shr-shr}
 use Rattle.std.proofs.lemmas.Bool.{cases_lt}
@@ -134,7 +134,7 @@ raw_lawful n = record {
   ];
 }
 
--- a length, and so many bytes
+-- a length, and that many bytes
 pub string_lawful : (width most : ℕ) (spell : ℕ → List ℕ) → IsLawful (IsFrom 0 most) spell (number width 0 most)
     → IsLawful (IsString most) (λ xs. spell (length xs) ++ xs) (string_at width most)
 unfolding string_at

@@ -9,7 +9,7 @@ use Rattle.record_grammar.proofs.Steady.{got_is}
 use Rattle.record_grammar.specs.record_laws.Statements.{OneSpelling}
 use Rattle.record_grammar.proofs.lemmas.record_laws.LawfulItems.{item_lawful}
 
--- nothing stands behind the end
+-- nothing comes after the end
 pub not_end : (place : Place) (x : Item) → MayStand place x → place ≡ places.End → ⊥
 not_end place x h e = subst (λ (p : Place). MayStand p x) e h
 

@@ -20,7 +20,7 @@ abbrev Follow : Place → List Frame → Place → Type 0
 Follow place [] to = place ≡ to
 Follow place (f ∷ fs) to = CanFollow place (items.Frame f) × Follow (after place (items.Frame f)) fs to
 
--- a place behind a header
+-- a place after a header
 abbrev IsBehind : Layout → Place → Type 0
 IsBehind layout places.Header = ⊥
 IsBehind layout (places.Register other) = other ≡ layout
@@ -190,7 +190,7 @@ follow_append : (fs more : List Frame) (place to end : Place) → Follow place f
 follow_append [] more place to end h k = subst (λ (p : Place). Follow p more end) (sym h) k
 follow_append (f ∷ fs) more place to end h k = (h.0, follow_append fs more (after place (items.Frame f)) to end h.1 k)
 
--- from each place behind a header some frames end the run
+-- from each place after a header some frames end the run
 ends : (layout : Layout) (to : Place) → IsBehind layout to → (fs : List Frame) × Follow to fs places.End
 ends layout places.Header b = absurd b
 ends layout (places.Register other) b =

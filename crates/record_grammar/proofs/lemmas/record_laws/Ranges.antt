@@ -1,4 +1,4 @@
--- Behind the version of a header, and behind the tag of a frame, each fault is Range.
+-- After the version of a header, and after the tag of a frame, each fault is Range.
 use Rattle.std.proofs.Common.{◌≡◌, ℕ, zero, suc, ◌-◌, ◌*◌, ◌+◌, Bool, true, false, cond, eqb, List, [], ◌∷◌, ◌++◌, length, Some, None, sym}
 use Rattle.std.proofs.Common.{inl, inr}
 use Rattle.std.specs.Int.{w64, cast_signed}

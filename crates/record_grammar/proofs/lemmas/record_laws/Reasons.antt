@@ -40,7 +40,7 @@ framed_bad (Bad why n) reason left e =
     let p = bad_is {A = Item} why reason n left e in ap (λ (m : ℕ). bad {A = Frame} why m) p.1
     ∙ ap (λ (w : Reason). bad {A = Frame} w left) p.0
 
--- a reader behind the first byte
+-- a reader after the first byte
 says_behind : (bytes : List ℕ) (first : Reason) (r : List ℕ → Read Frame) (reason : Reason) (left : ℕ) → OnlyRange r → IsSteady 0 r
     → r bytes ≡ Bad reason left → Says bytes first reason left
 says_behind bytes first r reason left h s e =

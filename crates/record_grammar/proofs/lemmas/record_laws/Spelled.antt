@@ -15,7 +15,7 @@ use Rattle.record_grammar.specs.record_laws.Statements.{IsRead, OneRecord}
 use Rattle.record_grammar.proofs.lemmas.record_laws.Order.{in_order}
 use Rattle.record_grammar.proofs.lemmas.record_laws.Whole.{nil_more, all_leads_on}
 
--- items that lead to a place, and nothing behind them
+-- items that lead to a place, and nothing after them
 stops : (profile : ProfileValue) (frames : List Frame) (bytes : List ℕ) (to : Place) → AreItems places.Header (items_of profile frames) to
     → bytes ≡ items_spelling places.Header (items_of profile frames)
     → (items_in bytes ≡ items_of profile frames) × (fault_so_far bytes ≡ None) × (fault bytes ≡ fault_from (length bytes) (ending_at to))

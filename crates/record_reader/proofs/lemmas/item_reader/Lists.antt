@@ -38,7 +38,7 @@ wrote_front at from to xs bytes e order within =
     ∙ take_past bytes (drop from xs) (to - from)
     ∙ ap (λ (ys : List ℕ). bytes ++ ys) (sym (drop-take from (to - from) xs) ∙ ap (λ (k : ℕ). drop from (take k xs)) f)
 
--- a piece was read behind what is held
+-- a piece was read after the held bytes
 pub read_behind : (from to n : ℕ) (xs piece rest : List ℕ) → from ≤ to → to ≤ length xs → n ≤ length piece
     → drop from (take (to + n) (take to xs ++ (piece ++ rest))) ≡ drop from (take to xs) ++ take n piece
 read_behind from to n xs piece rest order within fits =
@@ -67,7 +67,7 @@ differs_at i xs ys lx ly ne e =
     head : (x y : ℕ) → (x ∷ []) ≡ (y ∷ []) → x ≡ y
     head x y e = cc
 
--- blocks that are equal behind equal fronts
+-- blocks that are equal after equal fronts
 pub same_more : (n m : ℕ) (xs ys : List ℕ) → n ≤ length xs → n ≤ length ys → take n xs ≡ take n ys → take m (drop n xs) ≡ take m (drop n ys)
     → take (n + m) xs ≡ take (n + m) ys
 same_more n m xs ys lx ly front more =

@@ -107,7 +107,7 @@ front_failed OutOfMemory before after slot old new bytes m left at_end t lt = lt
 
 -- ---- what was compared
 
--- where bytes were passed up to a place, all of them stand before it
+-- if bytes were passed up to a place, all of them are before it
 pub all_is : (old start new : ItemReader) (bytes more : List ℕ) (m : ℕ) → held start.window ≡ unread old
     → held start.window ++ more ≡ take m bytes ++ held new.window → unread old ++ more ≡ take m bytes ++ held new.window
 all_is old start new bytes more m e is = ap (λ (xs : List ℕ). xs ++ more) (sym e) ∙ is

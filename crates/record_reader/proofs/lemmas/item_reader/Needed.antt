@@ -7,7 +7,7 @@ pub while-weaker : (P Q : List ℕ → Type 0) (read : List ℕ) → ((first : L
 while-weaker P Q read on (inl none) = inl none
 while-weaker P Q read on (inr l) = inr (record { first = l.first; last = l.last; is = l.is; some = l.some; before = on l.first l.before })
 
--- more bytes were read behind some
+-- more bytes were read after some
 pub while-then : (P : List ℕ → Type 0) (read more : List ℕ) → ReadsWhile P read → ReadsWhile (λ first. P (read ++ first)) more
     → ReadsWhile P (read ++ more)
 while-then P read more p (inl none) =

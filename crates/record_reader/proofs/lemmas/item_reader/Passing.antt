@@ -1,4 +1,4 @@
--- Errors that are passed on, and bytes of which there are none.
+-- Errors that are passed on, and lists of no bytes.
 use Rattle.std.proofs.Common.{◌≡◌, [], Result, Ok, Err, sym, subst, arith}
 use Rattle.std.specs.Result.{IsErrAnd}
 use Rattle.record_grammar.specs.Spelling.{AreBytes}

@@ -1,4 +1,4 @@
--- What an answer over the bytes that are held leaves of a reader.
+-- The state of a reader after a result over the held bytes.
 use Rattle.std.proofs.Common.{◌≡◌, ℕ, ◌+◌, ◌-◌, ◌<◌, ◌≤◌, inl, List, [], ◌∷◌, ◌++◌, length, drop, Option, Some, None, Result, Ok}
 use Rattle.std.proofs.Common.{Err, refl, sym, ap, subst, ◌∙◌, arith, length-append}
 use Rattle.record_grammar.specs.declared.fault.Reason.{Reason}
@@ -31,7 +31,7 @@ use Rattle.record_reader.proofs.lemmas.item_reader.Unshort.{unshort}
 abbrev some_fault : ℕ → Reason → Option RecordFault
 some_fault offset reason = Some (record { offset = offset; reason = reason })
 
--- what the step says, by its answer
+-- what the step says, by its result
 pub viewed_more : (place : Place) (step : Step) (bytes : List ℕ) → IsStep place step bytes → step.answer ≡ Err stops.More
     → (item_at place bytes ≡ More) × IsScan place step.scan bytes
 viewed_more place step bytes h e = subst (λ (a : Result ItemSpan Stop). IsAnswer place a step.scan bytes) e h
@@ -105,7 +105,7 @@ reads_stand old new read more given none on is h =
       going = on.fault ∙ h.going;
     }
 
--- an item that is read next was given
+-- the item that is read next was returned
 pub stands_next : (old new : ItemReader) (read : List ℕ) (given : List Item) (item : Item) → StandsFor old read given
     → item_at old.place (unread old) ≡ Got (item, unread new) → (CanFollow old.place item → new.place ≡ after old.place item)
     → IsScan new.place new.scan (unread new) → count_of new ≡ count_of old → new.fault ≡ None → StandsFor new read (given ++ item ∷ [])

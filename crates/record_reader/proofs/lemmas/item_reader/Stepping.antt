@@ -32,7 +32,7 @@ pub gave : (r : ItemReader) (read : List ℕ) (given : List Item) → GaveAll r 
     × (fault_so_far read ≡ None)
 gave r read given h = let all = all_at_more given r.place read (unread r) h.stands.leads h.more in (all.0, all.1)
 
--- a piece is read where all items are given
+-- a piece is read once all items were returned
 pub needed : (read : List ℕ) (given : List Item) (more : List ℕ) → items_in read ≡ given → fault_so_far read ≡ None
     → ReadsIfNeeded read given more
 needed read given [] all sound = inl refl
@@ -44,7 +44,7 @@ needed read given (b ∷ more) all sound = inr (record {
   before = (ap items_in (append-nil read) ∙ all, ap fault_so_far (append-nil read) ∙ sound);
 })
 
--- all items were given, and there was no fault, when these bytes were read behind others
+-- all items were returned, and there was no fault, when these bytes were read after others
 abbrev All : List ℕ → List Item → List ℕ → Type 0
 All read given first = (items_in (read ++ first) ≡ given) × (fault_so_far (read ++ first) ≡ None)
 

@@ -75,7 +75,7 @@ module _ {S G E L P : Type 0} (m : Meaning S G E L P) where
       (known, may_draw profile.format _) in
       rw (frame_is, run_is) all
 
-  -- the frame that the engine answers can be spelled
+  -- the frame that the engine returns can be spelled
   pub spelled-run : {F : Type 0} (engine : EngineState S G E) (profile : ProfileValue) (given : List CycleInput) (input : CycleInput)
       (result : Result RunFrame F)
       → IfOk result (λ run. (p : ProfileValue) (inputs : List CycleInput) → EngineStands m p engine inputs

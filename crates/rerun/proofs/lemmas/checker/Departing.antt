@@ -29,7 +29,7 @@ inputs_of fs = flat_map input_of fs
 abbrev as_run : RunFrame → Frame
 as_run run = Run run
 
--- these frames may stand in a record from a place on
+-- these frames may come in a record from a place on
 abbrev pub AreInOrder : Place → List Frame → Type 0
 AreInOrder place [] = Unit {0}
 AreInOrder place (x ∷ xs) = CanFollow place (items.Frame x) × AreInOrder (after place (items.Frame x)) xs
@@ -41,7 +41,7 @@ either-none (Some x) p e = absurd cc
 either-none None p e = (refl, e)
 
 module _ {S G E L P : Type 0} (m : Meaning S G E L P) (profile : ProfileValue) where
-  -- the first difference of frames from those that the run gives in their places, behind these inputs; the first frame has this number
+  -- the first difference of frames from those that the run gives in their places, after these inputs; the first frame has this number
   unfoldable pub departs : ℕ → List CycleInput → List Frame → Option Difference
   departs number before [] = None
   departs number before (x ∷ xs) =
@@ -53,7 +53,7 @@ module _ {S G E L P : Type 0} (m : Meaning S G E L P) (profile : ProfileValue) w
   agrees number before (x ∷ xs) =
       cond (is_none (frame_difference number x (given_frame m profile before x))) (suc (agrees (suc number) (before ++ input_of x) xs)) 0
 
-  -- ---- more frames behind some
+  -- ---- more frames after some
 
   -- a difference that was found stays the first one
   pub departs-stays : (front rest : List Frame) (number : ℕ) (before : List CycleInput) (at : Difference)
@@ -75,7 +75,7 @@ module _ {S G E L P : Type 0} (m : Meaning S G E L P) (profile : ProfileValue) w
       by (Some d) later e = (e, refl)
       by None later e = let both = later e in (both.0, ap suc both.1)
 
-  -- where no frame differs, those behind decide
+  -- where no frame differs, those after them decide
   pub departs-on : (front rest : List Frame) (number next : ℕ) (before : List CycleInput) → next ≡ number + length front
       → departs number before front ≡ None
       → (departs number before (front ++ rest) ≡ departs next (before ++ inputs_of front) rest)
@@ -157,7 +157,7 @@ module _ {S G E L P : Type 0} (m : Meaning S G E L P) (profile : ProfileValue) w
         ∙ ap (λ (k : ℕ). cond (is_none (frame_difference number x (given_frame m profile before x))) (suc k) 0) both.1,
   )
 
-  -- the frames that a run gives from the Run frames on, in a state behind these inputs
+  -- the frames that a run gives from the Run frames on, in the state after these inputs
   abbrev rest_of : List CycleInput → State G E → List Frame → List Frame
   rest_of before state fs = map as_run (runs_behind m profile before state (inputs_of fs)) ++ Terminate ∷ []
 

@@ -52,7 +52,7 @@ frames-all : (profile : ProfileValue) (front : List Frame) (bytes : List ℕ) �
 frames-all profile front bytes is = ap (λ (xs : List Item). flat_map frame_in xs) is ∙ frames-are front
 
 module _ {S G E L P : Type 0} (m : Meaning S G E L P) (profile : ProfileValue) where
-  -- a record that begins with these items, of whose frames the last one alone differs
+  -- a record that begins with these items, of whose frames only the last one differs
   departed : (front others : List Frame) (frame : Frame) (at : Difference) (bytes : List ℕ) → frames_in bytes ≡ front ++ frame ∷ others
       → departs m profile 0 [] front ≡ None
       → frame_difference (length front) frame (given_frame m profile (inputs_of front) frame) ≡ Some at
@@ -78,7 +78,7 @@ module _ {S G E L P : Type 0} (m : Meaning S G E L P) (profile : ProfileValue) w
           run = (more, record { reads_to = to; needed = needed; answers = all });
         }
 
-    -- for want of memory nothing is said
+    -- if memory runs out, nothing is said
     unsaid : {read more : List ℕ} {shelf : ShelfRun} {slot : ℕ} → Reads shelf.first shelf.last slot more
         → IsNeeded m profile read more → IsChecked m profile start now read slot shelf (Err (Failed OutOfMemory))
     unsaid reads needed = ended reads needed tt (λ rest end. tt)

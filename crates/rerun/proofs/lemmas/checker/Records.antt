@@ -64,7 +64,7 @@ frames-behind profile front others xs is =
     ∙ flat_map-append frame_in (map items.Frame front) others
     ∙ ap (λ (l : List Frame). l ++ flat_map frame_in others) (frames-are front)
 
--- ---- the frames of a record stand in order
+-- ---- the frames of a record are in order
 
 abbrev IsPast : Place → Type 0
 IsPast places.Header = ⊥
@@ -135,7 +135,7 @@ checked : ℕ → List Frame → List RunFrame
 checked genuine fs = runs_of (take (suc genuine) fs)
 
 module _ {S G E L P : Type 0} (m : Meaning S G E L P) (profile : ProfileValue) where
-  -- a record's departure, frame by frame, behind the inputs of the frames before each
+  -- a record's departure, frame by frame, after the inputs of the frames before each
   pub same-of : (bytes : List ℕ) → AreSame m profile 0 [] (frames_in bytes) (given_by m profile bytes)
   same-of bytes =
       let leads = leads-all bytes in
@@ -156,7 +156,7 @@ module _ {S G E L P : Type 0} (m : Meaning S G E L P) (profile : ProfileValue) w
   runs-checked bytes fs genuine is count =
       ap (λ (k : ℕ). runs_of (take (suc k) (frames_in bytes))) count ∙ ap (λ (l : List Frame). runs_of (take (suc genuine) l)) is
 
-  -- ---- a record whose frames are these, none of which differs
+  -- ---- a record whose frames are these; none differs
 
   pub agree-all : (bytes : List ℕ) (fs : List Frame) → frames_in bytes ≡ fs → departs m profile 0 [] fs ≡ None
       → (departure m profile bytes ≡ None) × (checked_runs m profile bytes ≡ runs_of fs)

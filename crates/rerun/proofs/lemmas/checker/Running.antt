@@ -65,14 +65,14 @@ held-one : (r : FrameReader) (view : FrameView) (x y : Frame) → Holds r view x
 held-one r view x y h k =
     same-frame x y (ap (λ (p : Item × List ℕ). p.0) (got_is (items.Frame x, _) (items.Frame y, _) (sym h.shows.read ∙ k.shows.read)))
 
--- what an answer says, by the frame that it gives
+-- what a result says, by the frame that it gives
 abbrev pub Gives : Result (Option Frame) (Stopped RecordFault) → FrameReader → Type 0 → List ℕ → List Item → Type 0
 Gives (Ok (Some frame)) r at_end read given = StandsFor r read (given ++ items.Frame frame ∷ []) × (others : List Item)
     × (items_in read ≡ given ++ items.Frame frame ∷ others)
 Gives (Ok None) r at_end read given = inner.ItemIs (Ok None) r.items at_end read given
 Gives (Err stop) r at_end read given = inner.ItemIs (Err stop) r.items at_end read given
 
--- an answer by its view, and by the frame that the view shows
+-- a result by its view, and by the frame that the view shows
 abbrev pub AnswersAs : FrameReader → Result (Option FrameView) (Stopped RecordFault) → Result (Option Frame) (Stopped RecordFault) → Type 0
 AnswersAs r (Ok (Some view)) (Ok (Some frame)) = Holds r view frame
 AnswersAs r (Ok None) (Ok None) = Unit {0}
@@ -111,7 +111,7 @@ placed-at places.Header profile x h k = absurd h
 placed-at places.End profile x h k = absurd k
 
 module _ {S G E L P : Type 0} (m : Meaning S G E L P) (profile : ProfileValue) where
-  -- behind what `old` had read these bytes were read, and these frames compared, none of which differs
+  -- after what `old` had read these bytes were read, and these frames compared; none differs
   pub record Comparing (first now : ShelfState) (slot : ℕ) (start seen : AudienceState) (old reader : FrameReader)
       (recording : Recording S G E L P) (checker : Checker) (more : List ℕ) (front : List Frame) : Type 0 where
     pub reads : Reads first now slot more
@@ -138,7 +138,7 @@ module _ {S G E L P : Type 0} (m : Meaning S G E L P) (profile : ProfileValue) w
     cycles = cycles;
   }
 
-  -- the reader's answer, of all that was read behind what `old` had read
+  -- the reader's result, for all that was read after what `old` had read
   pub record Next (first now : ShelfState) (slot : ℕ) (old next : FrameReader) (front : List Frame)
       (answer : Result (Option Frame) (Stopped RecordFault)) : Type 0 where
     pub all : List ℕ

@@ -29,7 +29,7 @@ pub spelling-one : (view : FrameView) (x y : Frame) (bytes : List ℕ) → IsFra
 spelling-one view x y bytes h k =
     same-frame x y (ap (λ (p : Item × List ℕ). p.0) (got_is (items.Frame x, _) (items.Frame y, _) (sym h.shows.read ∙ k.shows.read)))
 
--- a frame may stand where one of its kind does
+-- a frame may come where one of its kind does
 stands-too : (place : Place) (read given : Frame) → MayStand place (items.Frame read) → AreAlike read given
     → IsFrame (format_of place) (events_of place) given → MayStand place (items.Frame given)
 stands-too (places.Register layout) Register Register m k f = tt

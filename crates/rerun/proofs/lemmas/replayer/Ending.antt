@@ -85,7 +85,7 @@ module _ {S G E L P : Type 0} (m : Meaning S G E L P) (profile : ProfileValue) w
     grew = subst (Grew out.before out.after) (sym (again-is bytes given (Some fault) is has)) grew;
   }
 
-  -- ---- the answers
+  -- ---- the results
 
   -- the opening wasn't written
   pub open-failed : (read : List ℕ) (slot : ℕ) (state : ShelfState) (stays : Type 0) (out : SinkRun) (failure : Failure)

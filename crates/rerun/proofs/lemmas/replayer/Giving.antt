@@ -139,7 +139,7 @@ all-given {profile} read more next {given} h needed =
     (λ first all. subst (λ (bytes : List ℕ). HasAll bytes given) (append_assoc read more first)
     (record { inputs = inputs-of ((read ++ more) ++ first) h all.0; sound = all.1 })) needed
 
--- the reader's answer, behind what was read
+-- the reader's result, after what was read
 module _ {before mid now : ShelfState} {old at : FrameReader} (next : FrameReader) (same : slot_of at ≡ slot_of old)
     (on : ReadsOn before mid old (λ profile. HasGiven profile at)) where
   then : (P : ProfileValue → ℕ → List ℕ → List CycleInput → Type 0) (Q : ℕ → List ℕ → List Item → Type 0)

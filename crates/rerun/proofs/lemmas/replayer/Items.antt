@@ -20,7 +20,7 @@ pub inputs-next : (xs : List Item) (x : Item) → flat_map input_in (xs ++ x ∷
 inputs-next xs x =
     flat_map-append input_in xs (x ∷ []) ∙ ap (λ (is : List CycleInput). flat_map input_in xs ++ is) (append-nil (input_in x))
 
--- ---- at most 1,000,000 runs stand in a record
+-- ---- at most 1,000,000 runs are in a record
 
 -- how many Run frames may come from a place on
 abbrev runs_left : Place → ℕ

@@ -36,7 +36,7 @@ use Rattle.rerun.specs.replayer.Again.{inputs}
 use Rattle.rerun.specs.replayer.Giving.{HasGiven, HasAll, ReadsOn, InputIs}
 use Rattle.rerun.proofs.lemmas.replayer.Giving.{inputs-first}
 
--- what the reader answers, of every record whose header it gave
+-- what the reader returns, for every record whose header it gave
 abbrev pub Answered : Result (Option CycleInput) (Stopped RecordFault) → ShelfState → ShelfState → FrameReader → FrameReader → Type 0
 Answered answer mid now old new = ReadsOn mid now old (λ profile. InputIs answer profile new (IsAtEnd now (slot_of old)))
 
@@ -45,7 +45,7 @@ abbrev pub IsNeeded : List ℕ → List ℕ → Type 0
 IsNeeded before more = ReadsWhile (λ first. fault_so_far (before ++ first) ≡ None) more
 
 module _ {S G E L P : Type 0} (m : Meaning S G E L P) (profile : ProfileValue) where
-  -- behind what `old` had read these bytes were read, and these inputs run again
+  -- after what `old` had read these bytes were read, and these inputs run again
   pub record Running (first now : ShelfState) (slot : ℕ) (before took : List ℕ → Type 0) (old reader : FrameReader)
       (recording : Recording S G E L P) (more : List ℕ) (given : List CycleInput) : Type 0 where
     pub reads : Reads first now slot more
@@ -54,7 +54,7 @@ module _ {S G E L P : Type 0} (m : Meaning S G E L P) (profile : ProfileValue) w
     pub stands : Stands m recording given
     pub grew : Grew before took (record_with m profile given false)
 
-  -- the frame of the run behind these inputs
+  -- the frame of the run after these inputs
   abbrev pub next_run : List CycleInput → CycleInput → RunFrame
   next_run given input = frame_of m profile given (state_of m profile given) input
 
@@ -70,7 +70,7 @@ module _ {S G E L P : Type 0} (m : Meaning S G E L P) (profile : ProfileValue) w
     grew = subst (Grew before took) (sym (record-opened m profile)) grew;
   }
 
-  -- the reader's answer, of all that was read behind what `old` had read
+  -- the reader's result, for all that was read after what `old` had read
   pub record Next (first now : ShelfState) (slot : ℕ) (old next : FrameReader) (given : List CycleInput)
       (answer : Result (Option CycleInput) (Stopped RecordFault)) : Type 0 where
     pub all : List ℕ
@@ -103,7 +103,7 @@ module _ {S G E L P : Type 0} (m : Meaning S G E L P) (profile : ProfileValue) w
           (h.2 profile (read ++ more) given (running.gave read stands)).1);
     }
 
-    -- the same of an answer that is known
+    -- the same for a result that is known
     pub next-as : (next : FrameReader) (answer other : Result (Option CycleInput) (Stopped RecordFault)) → answer ≡ other
         → Answered answer mid now reader next → slot_of reader ≡ slot → Next first now slot old next given other
     next-as next answer other is h same =
@@ -162,7 +162,7 @@ shelf-then failure first mid last earlier later stays a b same = record {
   stays = same;
 }
 
--- an answer without an input tells the failure that the reader told
+-- a result without an input has the failure that the reader reported
 pub same-failure : (why : Stopped RecordFault) → failure_in {A = Option CycleInput} (Err why) ≡ failure_in {A = Counts} (Err why)
 same-failure (Refused fault) = refl
 same-failure (Failed failure) = refl

@@ -1,4 +1,4 @@
--- What the bytes that a shelf tells come to.
+-- What follows for the text where the shelf knows it.
 use Rattle.std.proofs.Common.{◌≡◌, ℕ, List, ◌++◌, subst}
 use Rattle.std.specs.Prelude.{Result, Ok, Err, IfOk}
 use Rattle.det_values.specs.Values.{ProfileValue}

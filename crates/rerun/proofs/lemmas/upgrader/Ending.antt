@@ -86,7 +86,7 @@ module _ {S G E L P : Type 0} (m : Meaning S G E L P) (profile : ProfileValue) w
       (part-whole out.before out.after (spelled two (so_far m profile done)) grew)
       (so_far-first m profile bytes done more (is_none (fault_in bytes)) are agree)
 
-  -- the record has a fault, and no difference stands before it
+  -- the record has a fault, and no difference before it
   faulty : (bytes : List ℕ) (behind : List Item) (done : List Frame) (fault : RecordFault) (out : SinkRun)
       → items_in bytes ≡ items.Header profile ∷ behind → flat_map frame_in behind ≡ done → fault_in bytes ≡ Some fault
       → Agree m profile done → Grew out.before out.after (spelled two (so_far m profile done))
@@ -98,7 +98,7 @@ module _ {S G E L P : Type 0} (m : Meaning S G E L P) (profile : ProfileValue) w
             (sym (ap (λ (end : Option RecordFault). upgraded_with m profile bytes (is_none end)) has ∙ all.upgraded)) grew,
       )
 
-  -- ---- the answers
+  -- ---- the results
 
   -- the header wasn't written
   pub header-failed : (read : List ℕ) (slot : ℕ) (state : ShelfState) (stays : Type 0) (out : SinkRun) (failure : Failure)

@@ -21,7 +21,7 @@ abbrev pub as_run : RunFrame → Frame
 as_run run = Run run
 
 module _ {S G E L P : Type 0} (m : Meaning S G E L P) (profile : ProfileValue) where
-  -- in the places of these frames, which come behind inputs
+  -- in the places of these frames, which come after inputs
   abbrev pub given_frames : List CycleInput → List Frame → List Frame
   given_frames before [] = []
   given_frames before (x ∷ xs) = given_frame m profile before x ∷ given_frames (before ++ input_of x) xs
@@ -47,7 +47,7 @@ module _ {S G E L P : Type 0} (m : Meaning S G E L P) (profile : ProfileValue) w
     pub first : given_frames before xs ++ rest ≡ all
     pub ends : to ≡ places.End → rest ≡ []
 
-  -- the frames behind these inputs
+  -- the frames after these inputs
   abbrev runs_from : List CycleInput → List CycleInput → List Frame
   runs_from before later = map as_run (runs_behind m profile before (state_of m profile before) later) ++ Terminate ∷ []
 

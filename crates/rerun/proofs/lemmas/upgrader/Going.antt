@@ -100,7 +100,7 @@ none-of None other = refl
 
 -- a record's header was given, and these frames of it
 pub record HasGone (profile : ProfileValue) (r : FrameReader) (read : List ℕ) (done : List Frame) : Type 0 where
-  -- the items behind the header
+  -- the items after the header
   pub behind : List Item
   pub stands : StandsFor r read (items.Header profile ∷ behind)
   pub frames : flat_map frame_in behind ≡ done
@@ -139,7 +139,7 @@ module _ {S G E L P : Type 0} (m : Meaning S G E L P) (profile : ProfileValue) w
   abbrev two : ProfileValue
   two = in_format_two profile
 
-  -- behind what `old` had read these bytes were read, and these frames compared and written
+  -- after what `old` had read these bytes were read, and these frames compared and written
   pub record Running (first now : ShelfState) (slot : ℕ) (before took : List ℕ → Type 0) (old reader : FrameReader)
       (recording : Recording S G E L P) (more : List ℕ) (done : List Frame) : Type 0 where
     pub reads : Reads first now slot more
@@ -162,7 +162,7 @@ module _ {S G E L P : Type 0} (m : Meaning S G E L P) (profile : ProfileValue) w
     grew = grew;
   }
 
-  -- the reader's answer, of all that was read behind what `old` had read
+  -- the reader's result, for all that was read after what `old` had read
   pub record Next (first now : ShelfState) (slot : ℕ) (old next : FrameReader) (done : List Frame)
       (answer : Result (Option Frame) (Stopped RecordFault)) : Type 0 where
     pub all : List ℕ
@@ -264,7 +264,7 @@ module _ {S G E L P : Type 0} (m : Meaning S G E L P) (profile : ProfileValue) w
   abbrev pub piece : List Frame → Frame → List ℕ
   piece done frame = unless_last frame (spelled_frame two.format (given_frame m two (inputs_of done) frame))
 
-  -- what an answer says of a frame, in these terms
+  -- what a result says of a frame, in these terms
   pub takes-as : (answer result : Result (Option Difference) Failure) (number : ℕ) (format : Format) (other : ProfileValue)
       (done : List Frame) (frame : Frame) (goes_on : Type 0) (out : SinkRun) → answer ≡ result → number ≡ length done
       → format ≡ profile.format → other ≡ two

@@ -1,4 +1,4 @@
--- The order in which the frames of a record stand.
+-- The order of the frames of a record.
 use Rattle.std.proofs.Common.{◌≡◌, ◌≤◌, ℕ, zero, suc, List, [], ◌∷◌, length, None, refl, ap, subst, ◌∙◌, arith}
 use Rattle.std.specs.List.{flat_map}
 use Rattle.det_values.specs.Values.{ProfileValue}
@@ -58,7 +58,7 @@ no_fault len (faulty reason left) e = absurd cc
 
 -- ---- their frames
 
--- these frames stand in order from one place to another
+-- these frames are in order from one place to another
 abbrev pub Follow : Place → List Frame → Place → Type 0
 Follow place [] to = place ≡ to
 Follow place (x ∷ xs) to = CanFollow place (items.Frame x) × Follow (after place (items.Frame x)) xs to

@@ -1,4 +1,4 @@
--- A record of which the first frames were compared: what its departure is, and what is written of it.
+-- A record whose first frames were compared: its departure, and what is written of it.
 use Rattle.std.proofs.Common.{◌≡◌, ◌≤◌, ℕ, zero, suc, ◌+◌, List, [], ◌∷◌, ◌++◌, length, take, Bool, true, false, refl, sym, ap, subst, ◌∙◌}
 use Rattle.std.proofs.Common.{arith, None, Some, append_assoc, append-nil, length-append, cond}
 use Rattle.std.specs.List.{flat_map}
@@ -47,7 +47,7 @@ module _ {S G E L P : Type 0} (m : Meaning S G E L P) (profile : ProfileValue) w
       → frame_difference (length done) x (given_frame m profile (inputs_of done) x) ≡ None → Agree (done ++ x ∷ [])
   agree-next done x agree same = departs-next m profile done x 0 (length done) [] (omega arith) agree same
 
-  -- the frames behind them decide
+  -- the frames after them decide
   genuine-done : (bytes : List ℕ) (done more : List Frame) → AreFrames profile bytes (done ++ more) → Agree done
       → (departure m profile bytes ≡ departs m profile (length done) (inputs_of done) more)
       × (genuine_frames m profile bytes ≡ length done + agrees m profile (length done) (inputs_of done) more)

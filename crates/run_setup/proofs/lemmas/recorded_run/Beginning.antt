@@ -14,7 +14,7 @@ use Rattle.run_setup.specs.recorded_run.Run.{RunValue, run_of}
 use Rattle.run_setup.specs.recorded_run.Begun.{HasBegun}
 use Rattle.run_setup.proofs.lemmas.recorded_run.Resting.{rest, rest-told}
 
--- a run meets any outcome that is the same where the names are told
+-- a run meets any outcome that is the same where the bytes of the names are known
 meets-as : (wanted other : Outcome) (tells tells2 rose rose2 failed : Type 0) (before after : List ℕ → Type 0) (answer : Answer)
     → (tells2 → tells) → (tells2 → other ≡ wanted) → (rose → rose2)
     → Meets wanted tells rose failed before after answer → Meets other tells2 rose2 failed before after answer
@@ -51,7 +51,7 @@ module _ (wanted : List ℕ → Result RunValue BadRun → Outcome) {first mid :
       (mid.left (slot_of run.frames) ≡ Some (rest begun)) (Tells first (name ∷ [])) rose rose2 failed before after answer
       (λ t. (rest-told begun (tells-name first name t)).0) (λ t. outcome-is (tells-name first name t)) later met
 
--- why there is no run, where the name is told
+-- why there is no run, where the bytes of the name are known
 pub if-refused : (first : ShelfState) (name : List ℕ) (end : Stopped BadRun)
     → IfRefused end (λ why. IsSome (first.holds name) → run_of (told first name) ≡ Err why)
     → IfRefused end (λ why. Tells first (name ∷ []) → run_of (told first name) ≡ Err why)

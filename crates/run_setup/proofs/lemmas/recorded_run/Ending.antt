@@ -36,10 +36,10 @@ fails-reading false true recorded votes is = refl
 fails-reading false false true votes is = refl
 fails-reading false false false votes is = absurd cc
 
--- a command that reads a record can end so
-pub can-end : (end : Stopped BadRun) (work : Work) → work.recorded ≡ true → can_end work (without_run end) ≡ true
-can-end (Refused (Fault fault)) work is = is
-can-end (Refused Profile) work is = is
-can-end (Failed Read) work is = fails-reading work.manifest work.stimulus work.recorded work.votes is
-can-end (Failed Write) work is = refl
-can-end (Failed OutOfMemory) work is = refl
+-- a command that runs the inputs of a record again can end so
+pub can-end : (end : Stopped BadRun) (work : Work) → work.recorded ≡ true → work.reruns ≡ true → can_end work (without_run end) ≡ true
+can-end (Refused (Fault fault)) work is again = is
+can-end (Refused Profile) work is again = again
+can-end (Failed Read) work is again = fails-reading work.manifest work.stimulus work.recorded work.votes is
+can-end (Failed Write) work is again = refl
+can-end (Failed OutOfMemory) work is again = refl

@@ -1,4 +1,4 @@
--- What the slot of a record has left behind its header.
+-- What the slot of a record has left after its header.
 use Rattle.std.proofs.Common.{◌≡◌, ◌<◌, ℕ, List, [], ◌++◌, sym, ap, ◌∙◌}
 use Rattle.std.specs.Prelude.{Option, Some, IsSome}
 use Rattle.std.specs.Option.{unwrap_or}
@@ -14,7 +14,7 @@ use Rattle.run_setup.specs.declared.recorded_run.run.RecordedRun.{RecordedRun}
 use Rattle.run_setup.specs.recorded_run.Begun.{HasBegun}
 
 module _ {first last : ShelfState} {name : List ℕ} {run : RecordedRun} (begun : HasBegun first last name run) where
-  -- the bytes behind those that were read, where they are told
+  -- the bytes after those that were read, where they are known
   abbrev pub rest : List ℕ
   rest = unwrap_or (last.left (slot_of run.frames)) []
 

@@ -1,4 +1,4 @@
--- What is known of the run of a record that was opened under a name whose bytes are told.
+-- What is known of the run of a record that was opened under a name whose bytes are known.
 use Rattle.std.proofs.Common.{◌≡◌, ℕ, List, [], ◌∷◌, ◌++◌, sym, ap, ◌∙◌}
 use Rattle.std.specs.Prelude.{Option, Some, None, Result, Ok, Err, IsSome, IfOk, IfErr, ok_or, option_map}
 use Rattle.det_values.specs.Values.{ProfileValue}

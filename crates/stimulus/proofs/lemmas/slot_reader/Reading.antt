@@ -1,4 +1,4 @@
--- What the answers of a text's reader come to at its slot's.
+-- The results of a text's reader, as those of a slot's reader.
 use Rattle.std.proofs.Common.{◌≡◌, ◌≤◌, inl, inr, ℕ, List, [], ◌∷◌, ◌++◌, length, take, true, false, Option, Some, None, Result, Ok, Err}
 use Rattle.std.proofs.Common.{refl, sym, ap, subst, ◌∙◌, append_assoc, append-nil}
 use Rattle.det_io.specs.Prefix.{IsPrefix}
@@ -24,7 +24,7 @@ use Rattle.stimulus.specs.slot_reader.Steps.{stopped_by, FedIs, Hungers, GaveAll
 
 -- ---- what was fed
 
--- what the text's reader answers, of all that it stands for
+-- the result of the text's reader, by all that it stands for
 abbrev pub Answers : Result (Option StimItem) StimError → StimReader → StimReader → Type 0
 Answers answer old new = (bytes : List ℕ) (given : List StimItem) → Stands old bytes given → NextIs answer new bytes given
 
@@ -36,7 +36,7 @@ pub item-is : (item : Option StimItem) (x y : StimItem) → item ≡ Some x → 
     → ◌≡◌ {A = Result (Option StimItem) StimError} (Ok item) (Ok (Some y))
 item-is item x y p q = ap Ok (p ∙ ap Some q)
 
--- the inputs of the items that were given come first
+-- the inputs of the returned items come first
 comes-first : (r : StimReader) (read : List ℕ) (items : List StimItem) (given : List CycleInput) → Stands r read items
     → inputs_of items ≡ given → IsPrefix given (blocks r.events read)
 comes-first r read items given stands is = subst (λ xs. IsPrefix xs (blocks r.events read)) is (stands_within r read items stands)
@@ -137,18 +137,18 @@ HasRead before after r P = (more : List ℕ) × Reads before after (slot_of r) m
     × ((read : List ℕ) (given : List CycleInput) → StandsFor r read given → ReadsIfNeeded (events_of r) read given more
     × P (read ++ more) given)
 
--- all blocks of what was read are given, and so are those of what was read first
+-- all blocks of the bytes read were returned, and so were those of the bytes read first
 all-first : (events : ℕ) (read more : List ℕ) (given : List CycleInput) → ReadsIfNeeded events read given more
     → blocks events (read ++ more) ≡ given → blocks events read ≡ given
 all-first events read more given (inl none) all = ap (blocks events) (sym (append-nil read) ∙ ap (λ xs. read ++ xs) (sym none)) ∙ all
 all-first events read more given (inr is) all = is
 
--- what was fed answers
+-- the result for the bytes that were fed
 pub fed-then : {before mid : ShelfState} (old : StimulusReader) (P Q : List ℕ → List CycleInput → Type 0)
     → HasRead before mid old P → ((read : List ℕ) (given : List CycleInput) → P read given → Q read given) → HasRead before mid old Q
 fed-then old P Q h on = (h.0, h.1, λ read given stands. let s = h.2 read given stands in (s.0, on (read ++ h.0) given s.1))
 
--- all of what was read is given, and a piece is read
+-- everything of the bytes read was returned, and a piece is read
 pub read-then : {before mid after : ShelfState} (old at : StimulusReader) (Q : ℕ → List ℕ → List CycleInput → Type 0)
     → slot_of at ≡ slot_of old → events_of at ≡ events_of old
     → HasRead before mid old (GaveAll at)
