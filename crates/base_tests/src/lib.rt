@@ -4,8 +4,8 @@
 #![tactic(auto)]
 
 #[cfg(test)]
-mod edges;
+mod read_folder;
 #[cfg(test)]
-mod folders;
+mod sink_buffer_front;
 #[cfg(test)]
-mod fronts;
+mod std_failures;

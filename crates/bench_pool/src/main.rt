@@ -1,9 +1,9 @@
 //! The program `bench_pool`: prints the time of a pass of the heavy job by 1, 2 and 4 workers.
 #![tactic(auto)]
 
-mod timed;
+mod time_pass;
 
-use crate::timed::timed_pass;
+use crate::time_pass::time_crew_pass;
 use anyhow::Context;
 use det_values::Params;
 use job_heavy::Heavy;
@@ -24,7 +24,7 @@ fn main(rt: HostRuntime) -> anyhow::Result<()> {
     let mut params = Params::new(alloc);
     params.push(ELEMENTS).ok().context("out of memory")?;
     for workers in WORKERS {
-        let time = timed_pass::<Heavy, _>(&rt, alloc, &params, workers.clamp(1, 64))?;
+        let time = time_crew_pass::<Heavy, _>(&rt, alloc, &params, workers.clamp(1, 64))?;
         println!(rt; "{ELEMENTS} heavy elements, {workers} workers: {time:?}")?;
     }
     Ok(())

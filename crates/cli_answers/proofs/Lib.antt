@@ -1,3 +1,3 @@
 pub mod Keeping
-pub mod Meeting
-pub mod Telling
+pub mod AnswerMeets
+pub mod KnownBytes

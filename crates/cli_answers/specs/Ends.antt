@@ -31,13 +31,13 @@ can_end work (NoMajority row) = work.votes
 can_end work other = true
 
 -- a command that reads no file
-abbrev pub writes_alone : Work
-writes_alone = record
+abbrev pub reads_nothing : Work
+reads_nothing = record
     { manifest = false; stimulus = false; recorded = false; reruns = false; compares = false; votes = false }
 
 -- a command that reads records
 abbrev pub reads_records : Work
-reads_records = record writes_alone { recorded = true }
+reads_records = record reads_nothing { recorded = true }
 
 -- a command that compares records with each other
 abbrev pub compares_records : Work

@@ -27,29 +27,29 @@ abbrev pub refusal : Answer → Outcome
 refusal answer = record { answer = answer; bytes = [] }
 
 -- the bytes under these names are known
-abbrev pub Tells : ShelfState → List (List ℕ) → Type 0
-Tells shelf names = All (λ name. IsSome (shelf.holds name)) names
+abbrev pub KnowsBytes : ShelfState → List (List ℕ) → Type 0
+KnowsBytes shelf names = All (λ name. IsSome (shelf.holds name)) names
 
 -- the bytes under a name, if they are known
-abbrev pub told : ShelfState → List ℕ → List ℕ
-told shelf name = unwrap_or (shelf.holds name) []
+abbrev pub known_bytes : ShelfState → List ℕ → List ℕ
+known_bytes shelf name = unwrap_or (shelf.holds name) []
 
--- A run meets the outcome `wanted`. `failed` gives the answers of failures. `tells` says that all
+-- A run meets the outcome `wanted`. `failed` gives the answers of failures. `is_known` says that all
 -- bytes that the outcome depends on are known. `read_failed` and `write_failed` say that the count
 -- of faults of what is read, or of `out`, rose.
 pub record MeetsBy {A : Type 0} (failed : Failure → A) (wanted : OutcomeIn A)
-    (tells read_failed write_failed : Type 0) (before after : List ℕ → Type 0) (answer : A)
+    (is_known read_failed write_failed : Type 0) (before after : List ℕ → Type 0) (answer : A)
     : Type 0 where
   -- whatever the answer, `out` took a prefix of the bytes
-  pub part : tells → GrewByPrefix before after wanted.bytes
+  pub part : is_known → GrewByPrefix before after wanted.bytes
   -- the answer is that of a failure, or it is the outcome's and `out` took all bytes
-  pub whole : tells → (answer ≡ failed Read) ⊎ ((answer ≡ failed Write)
+  pub whole : is_known → (answer ≡ failed Read) ⊎ ((answer ≡ failed Write)
       ⊎ ((answer ≡ failed OutOfMemory)
       ⊎ ((answer ≡ wanted.answer) × Grew before after wanted.bytes)))
   pub read_fault : answer ≡ failed Read → read_failed
   pub write_fault : answer ≡ failed Write → write_failed
 
 -- the same for a command of `det`
-abbrev pub Meets : Outcome → (tells read_failed write_failed : Type 0)
+abbrev pub Meets : Outcome → (is_known read_failed write_failed : Type 0)
     → (before after : List ℕ → Type 0) → Answer → Type 0
 Meets = MeetsBy failed

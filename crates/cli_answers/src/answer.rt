@@ -5,7 +5,7 @@ ghost use Rattle.cli_answers.specs.Answers.{status_of, reason_word, ended, err_l
 ghost use Rattle.cli_answers.specs.Answers.{table_text, unknown_text};
 ghost use Rattle.cli_answers.specs.Answers.{bad_manifest_text, bad_record_text};
 
-use crate::line::Line;
+use crate::line::AnswerLine;
 use crate::status::Status;
 use det_io::{Failure, Stopped};
 use manifest::{Key, KeyTable, ManifestFault, UnknownKey};
@@ -99,29 +99,29 @@ fn word_of(reason: Reason) -> &'static str
     }
 }
 
-fn key_line(words: &str, key: Key) -> Line
+fn key_line(words: &str, key: Key) -> AnswerLine
     requires { length words.now ≤ 40 }
     ensures { result ≡ ended (words.now ++ key_text key) }
 {
-    let mut line = Line::new();
+    let mut line = AnswerLine::new();
     line.push(words);
     line.push(key.text().as_str());
     line.push("\n");
     line
 }
 
-fn number_line(words: &str, number: u64) -> Line
+fn number_line(words: &str, number: u64) -> AnswerLine
     requires { length words.now ≤ 40 }
     ensures { result ≡ ended (words.now ++ decimal number) }
 {
-    let mut line = Line::new();
+    let mut line = AnswerLine::new();
     line.push(words);
     line.push_number(number);
     line.push("\n");
     line
 }
 
-impl Line {
+impl AnswerLine {
     fn push_table(&mut self, table: KeyTable)
         requires { length self.old ≤ 40 }
         ensures text { self.new ≡ self.old ++ table_text table }
@@ -140,23 +140,23 @@ impl Line {
     }
 }
 
-fn unknown_line(key: UnknownKey) -> Line
+fn unknown_line(key: UnknownKey) -> AnswerLine
     ensures { result ≡ ended (codes "bad manifest: unknown key " ++ unknown_text key) }
 {
-    let mut line = Line::of("bad manifest: unknown key ");
+    let mut line = AnswerLine::from_text("bad manifest: unknown key ");
     line.push_table(key.table);
     line.push_printable(key.as_slice());
     line.push("\n");
     line
 }
 
-fn fault_line(fault: ManifestFault) -> Line
+fn fault_line(fault: ManifestFault) -> AnswerLine
     ensures { result
         ≡ ended (codes "bad manifest: " ++ bad_manifest_text (BadManifest.Fault fault)) }
 {
     match fault {
-        ManifestFault::TooLong => Line::of("bad manifest: too long\n"),
-        ManifestFault::NotToml => Line::of("bad manifest: not toml\n"),
+        ManifestFault::TooLong => AnswerLine::from_text("bad manifest: too long\n"),
+        ManifestFault::NotToml => AnswerLine::from_text("bad manifest: not toml\n"),
         ManifestFault::Missing(key) => key_line("bad manifest: missing ", key),
         ManifestFault::WrongKind(key) => key_line("bad manifest: wrong kind ", key),
         ManifestFault::OutOfRange(key) => key_line("bad manifest: out of range ", key),
@@ -164,11 +164,11 @@ fn fault_line(fault: ManifestFault) -> Line
         ManifestFault::DuplicateEvent(number) => {
             number_line("bad manifest: duplicate event ", number as u64)
         }
-        ManifestFault::UnknownJob => Line::of("bad manifest: unknown job\n"),
+        ManifestFault::UnknownJob => AnswerLine::from_text("bad manifest: unknown job\n"),
     }
 }
 
-fn manifest_line(why: BadManifest) -> Line
+fn manifest_line(why: BadManifest) -> AnswerLine
     ensures { result ≡ ended (codes "bad manifest: " ++ bad_manifest_text why) }
 {
     match why {
@@ -179,10 +179,10 @@ fn manifest_line(why: BadManifest) -> Line
     }
 }
 
-fn record_line(copy: u32, fault: RecordFault) -> Line
+fn record_line(copy: u32, fault: RecordFault) -> AnswerLine
     ensures { result ≡ ended (bad_record_text copy fault) }
 {
-    let mut line = Line::new();
+    let mut line = AnswerLine::new();
     line.push("bad record: copy ");
     line.push_number(copy as u64);
     line.push(" offset ");
@@ -215,20 +215,20 @@ impl Answer {
 
     /// The line for standard error, empty for `Done` and `Differs`. It allocates nothing, so a
     /// command that ran out of memory can still report it.
-    pub fn line(self) -> Line
+    pub fn line(self) -> AnswerLine
         ensures { result ≡ err_line self }
     {
         match self {
-            Answer::Done => Line::new(),
-            Answer::Differs => Line::new(),
-            Answer::BadWords => Line::of("bad words\n"),
+            Answer::Done => AnswerLine::new(),
+            Answer::Differs => AnswerLine::new(),
+            Answer::BadWords => AnswerLine::from_text("bad words\n"),
             Answer::BadManifest(why) => manifest_line(why),
             Answer::BadStimulus { line } => number_line("bad stimulus: line ", line),
             Answer::BadRecord { copy, fault } => record_line(copy, fault),
-            Answer::BadProfile => Line::of("bad record: profile\n"),
-            Answer::ReadFault => Line::of("read fault\n"),
-            Answer::WriteFault => Line::of("write fault\n"),
-            Answer::OutOfMemory => Line::of("out of memory\n"),
+            Answer::BadProfile => AnswerLine::from_text("bad record: profile\n"),
+            Answer::ReadFault => AnswerLine::from_text("read fault\n"),
+            Answer::WriteFault => AnswerLine::from_text("write fault\n"),
+            Answer::OutOfMemory => AnswerLine::from_text("out of memory\n"),
             Answer::NoMajority { row } => number_line("no majority: row ", row as u64),
         }
     }

@@ -8,5 +8,5 @@ mod line;
 mod status;
 
 pub use answer::{Answer, BadManifest};
-pub use line::Line;
+pub use line::AnswerLine;
 pub use status::Status;

@@ -1,4 +1,4 @@
-//! `Line`, a short text in an array, so that an error can be reported when no memory is left.
+//! `AnswerLine`, a short text in an array, so that an error can be reported when no memory is left.
 ghost use Rattle.std.specs.Prelude.{◌≡◌, ◌+◌, ◌≤◌, [], ◌∷◌, ◌++◌, length, map, decimal};
 ghost use Rattle.cli_answers.specs.Answers.{printable};
 
@@ -9,12 +9,12 @@ const ROOM: usize = 160;
 
 /// A text of at most 160 bytes. The longest line of an answer fits.
 #[derive(Drop)]
-pub struct Line {
+pub struct AnswerLine {
     bytes: [u8; 160],
     len: usize,
 }
 
-impl Model for Line {
+impl Model for AnswerLine {
     ghost use Rattle.std.specs.Prelude.{ℕ, List, take, ◌≤◌};
 
     ghost Value = { List ℕ };
@@ -30,23 +30,23 @@ fn printable(byte: u8) -> u8
     if byte.is_ascii_graphic() { byte } else { b'?' }
 }
 
-impl Line {
+impl AnswerLine {
     /// The empty text.
-    pub fn new() -> Line
+    pub fn new() -> AnswerLine
         ensures { result ≡ [] }
     {
-        Line {
+        AnswerLine {
             bytes: [0; ROOM],
             len: 0,
         }
     }
 
     /// A line of this text.
-    pub fn of(text: &str) -> Line
+    pub fn from_text(text: &str) -> AnswerLine
         requires { length text.now ≤ 160 }
         ensures { result ≡ text.now }
     {
-        let mut line = Line::new();
+        let mut line = AnswerLine::new();
         line.push(text);
         line
     }

@@ -13,19 +13,19 @@ use Rattle.cli_words.specs.declared.options.Options.{Options}
 use Rattle.cli_words.specs.Table.{row}
 use Rattle.cli_words.specs.Command.{CommandValue}
 use Rattle.cli_words.specs.Ranges.{value_of, IsInRange}
-use Rattle.cli_words.specs.Reading.{with_words, read_by, meant, meant_pair, in_full, read_in_full, command_of}
-use Rattle.cli_words.specs.Items.{Item, name, option, words_in, names_in, is_same, values_in, Gives, IsSpelling, told_items, words_of}
+use Rattle.cli_words.specs.Reading.{with_words, read_by, long_form, long_form_pair, in_long_form, read_long_form, command_of}
+use Rattle.cli_words.specs.Items.{Item, name, option, words_in, names_in, is_same, values_in, Gives, IsSpelling, given_items, words_of}
 use Rattle.cli_words.proofs.Ranging.{in_range}
 use Rattle.cli_words.proofs.Parting.{own-command}
 use Rattle.cli_words.proofs.Growing.{read-given}
 use Rattle.cli_words.proofs.Spelling.{spelled}
-use Rattle.cli_words.specs.First.{read}
+use Rattle.cli_words.specs.FirstWord.{read}
 
-pub exactly : (words : List (List ℕ)) (c : CommandValue) → (command_of words ≡ Some c) ↔ (IsInRange c × IsSpelling words c)
-exactly words c = (
-  (λ e. (in_range words c e, spelled (in_full words) c e)),
+pub grammar_law : (words : List (List ℕ)) (c : CommandValue) → (command_of words ≡ Some c) ↔ (IsInRange c × IsSpelling words c)
+grammar_law words c = (
+  (λ e. (in_range words c e, spelled (in_long_form words) c e)),
   λ both. let s = both.1 in
-      ap read_in_full s.1 ∙ read-given (row c.word).word s.0 c both.0 s.2 (own-command c.word),
+      ap read_long_form s.1 ∙ read-given (row c.word).word s.0 c both.0 s.2 (own-command c.word),
 )
 
 -- ---- the words of a command
@@ -35,7 +35,7 @@ unfolding with_words
 no-help Demo = refl
 no-help word = refl
 
-no-other : (word : CommandWord) → meant (row word).word ≡ (row word).word
+no-other : (word : CommandWord) → long_form (row word).word ≡ (row word).word
 no-other Demo = refl
 no-other word = refl
 
@@ -52,16 +52,16 @@ own-words word (second ∷ []) c e = by_help (bytes_eq second (codes "--help")) 
   own : List ℕ
   own = (row word).word
 
-  by_help : (b : Bool) → bytes_eq second (codes "--help") ≡ b → read_in_full (meant_pair (row word).word second) ≡ Some c
+  by_help : (b : Bool) → bytes_eq second (codes "--help") ≡ b → read_long_form (long_form_pair (row word).word second) ≡ Some c
   by_help true is =
       let same : second ≡ codes "--help" = (bytes_eq-Decides second (codes "--help")).0 is in
       let none : read (row word).word (second ∷ []) ≡ None =
       ap (λ (w : List ℕ). read (row word).word (w ∷ [])) same
       ∙ ap (option_and_then (read_by (codes "--help" ∷ []))) (own-command word) ∙ no-help word in absurd cc
   by_help false is =
-      ap (λ (b : Bool). read_in_full (cond b (codes "--help" ∷ second ∷ []) (cond (bytes_eq second (codes "--help"))
+      ap (λ (b : Bool). read_long_form (cond b (codes "--help" ∷ second ∷ []) (cond (bytes_eq second (codes "--help"))
       (codes "--help" ∷ (row word).word ∷ []) ((row word).word ∷ second ∷ [])))) (no-helper word)
-      ∙ ap (λ (b : Bool). read_in_full (cond b (codes "--help" ∷ (row word).word ∷ []) ((row word).word ∷ second ∷ []))) is ∙ e
+      ∙ ap (λ (b : Bool). read_long_form (cond b (codes "--help" ∷ (row word).word ∷ []) ((row word).word ∷ second ∷ []))) is ∙ e
 own-words word (second ∷ third ∷ rest) c e = e
 
 pub names-append : (items more : List Item) → names_in (items ++ more) ≡ names_in items ++ names_in more
@@ -73,11 +73,11 @@ names-named : (names : List (List ℕ)) → names_in (map (λ n. name n) names) 
 names-named [] = refl
 names-named (first ∷ rest) = ap (λ (ns : List (List ℕ)). first ∷ ns) (names-named rest)
 
-names-told : (options : Options) (os : List OptionWord) → names_in (flat_map (told_items options) os) ≡ []
+names-told : (options : Options) (os : List OptionWord) → names_in (flat_map (given_items options) os) ≡ []
 names-told options [] = refl
 names-told options (o ∷ os) = by_value (value_of o options) (names-told options os) where
-  by_value : (v : Option ℕ) → names_in (flat_map (told_items options) os) ≡ []
-      → names_in (map (λ n. option o n) (option_to_list v) ++ flat_map (told_items options) os) ≡ []
+  by_value : (v : Option ℕ) → names_in (flat_map (given_items options) os) ≡ []
+      → names_in (map (λ n. option o n) (option_to_list v) ++ flat_map (given_items options) os) ≡ []
   by_value (Some n) rest = rest
   by_value None rest = rest
 
@@ -100,20 +100,20 @@ values_among : OptionWord → Options → List OptionWord → List ℕ
 values_among o options os = flat_map (λ p. cond (is_same o p) (option_to_list (value_of p options)) []) os
 
 values-told : (o : OptionWord) (options : Options) (os : List OptionWord)
-    → values_in o (flat_map (told_items options) os) ≡ values_among o options os
+    → values_in o (flat_map (given_items options) os) ≡ values_among o options os
 unfolding values_among
 values-told o options [] = refl
 values-told o options (p ∷ os) = by_case (value_of p options) (is_same o p) refl (values-told o options os) where
-  by_case : (v : Option ℕ) (b : Bool) → is_same o p ≡ b → values_in o (flat_map (told_items options) os) ≡ values_among o options os
-      → values_in o (map (λ n. option p n) (option_to_list v) ++ flat_map (told_items options) os)
+  by_case : (v : Option ℕ) (b : Bool) → is_same o p ≡ b → values_in o (flat_map (given_items options) os) ≡ values_among o options os
+      → values_in o (map (λ n. option p n) (option_to_list v) ++ flat_map (given_items options) os)
       ≡ cond b (option_to_list v) [] ++ values_among o options os
   by_case None true same e = e
   by_case None false same e = e
   by_case (Some n) true same e =
-      ap (λ (b : Bool). cond b (n ∷ values_in o (flat_map (told_items options) os)) (values_in o (flat_map (told_items options) os))) same
+      ap (λ (b : Bool). cond b (n ∷ values_in o (flat_map (given_items options) os)) (values_in o (flat_map (given_items options) os))) same
       ∙ ap (λ (vs : List ℕ). n ∷ vs) e
   by_case (Some n) false same e =
-      ap (λ (b : Bool). cond b (n ∷ values_in o (flat_map (told_items options) os)) (values_in o (flat_map (told_items options) os))) same
+      ap (λ (b : Bool). cond b (n ∷ values_in o (flat_map (given_items options) os)) (values_in o (flat_map (given_items options) os))) same
       ∙ e
 
 values-own : (o : OptionWord) (options : Options) → values_among o options OPTIONS ≡ option_to_list (value_of o options)
@@ -125,17 +125,17 @@ values-own Reports options = append-nil (option_to_list (value_of Reports option
 values-own Dissent options = append-nil (option_to_list (value_of Dissent options))
 values-own Strict options = append-nil (option_to_list (value_of Strict options))
 
-given : (c : CommandValue) → Gives (map (λ n. name n) c.names ++ flat_map (told_items c.options) OPTIONS) c
+given : (c : CommandValue) → Gives (map (λ n. name n) c.names ++ flat_map (given_items c.options) OPTIONS) c
 given c =
     let named = map (λ n. name n) c.names in
-    let told = flat_map (told_items c.options) OPTIONS in record {
+    let told = flat_map (given_items c.options) OPTIONS in record {
       names = names-append named told ∙ ap (λ (ns : List (List ℕ)). ns ++ names_in told) (names-named c.names)
           ∙ ap (λ (ns : List (List ℕ)). c.names ++ ns) (names-told c.options OPTIONS) ∙ append-nil c.names;
       options = λ o. values-append o named told ∙ ap (λ (vs : List ℕ). vs ++ values_in o told) (values-named o c.names)
           ∙ values-told o c.options OPTIONS ∙ values-own o c.options;
     }
 
-pub canonical : (c : CommandValue) → IsInRange c → command_of (words_of c) ≡ Some c
-canonical c range =
-    let items = map (λ n. name n) c.names ++ flat_map (told_items c.options) OPTIONS in
+pub canonical_law : (c : CommandValue) → IsInRange c → command_of (words_of c) ≡ Some c
+canonical_law c range =
+    let items = map (λ n. name n) c.names ++ flat_map (given_items c.options) OPTIONS in
     own-words c.word (words_in items) c (read-given (row c.word).word items c range (given c) (own-command c.word))

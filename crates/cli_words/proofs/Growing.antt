@@ -10,13 +10,13 @@ use Rattle.cli_words.specs.declared.table.OptionWord.{OptionWord}
 use Rattle.cli_words.specs.declared.options.Options.{Options}
 use Rattle.cli_words.specs.Names.{is_name, is_name_of, is_of_kind}
 use Rattle.cli_words.specs.Table.{row, command_word, option_row, is_among}
-use Rattle.cli_words.specs.Command.{CommandValue, with_told}
+use Rattle.cli_words.specs.Command.{CommandValue, with_given}
 use Rattle.cli_words.specs.Ranges.{value_of, IsWithin, IsInRange}
-use Rattle.cli_words.specs.Reading.{settled, begun, with_words, finished, read_by}
+use Rattle.cli_words.specs.Reading.{into_reading, bare_command, with_words, into_command, read_by}
 use Rattle.cli_words.specs.Items.{Item, name, option, words_in, names_in, is_same, values_in, Gives}
-use Rattle.cli_words.proofs.Ranging.{Fits, IsOptionOf, untold}
-use Rattle.cli_words.proofs.Parting.{name-step, option-step, told-value, same-itself, none-untold, same-options}
-use Rattle.cli_words.specs.First.{read}
+use Rattle.cli_words.proofs.Ranging.{Fits, IsOptionOf, not_given}
+use Rattle.cli_words.proofs.Parting.{name-step, option-step, told-value, same-itself, none-not_given, same-options}
+use Rattle.cli_words.specs.FirstWord.{read}
 
 abbrev pub told_list : OptionWord → CommandValue → List ℕ
 told_list o c = option_to_list (value_of o c.options)
@@ -92,7 +92,7 @@ module _ (from to : CommandValue) (fits : Fits to) where
         (subst (λ (w : CommandWord). is_among (row w).options o ≡ true) g.word own.0, own.1)
 
     with-option : CommandValue
-    with-option = record from { options = with_told o n from.options }
+    with-option = record from { options = with_given o n from.options }
 
     option-values : (p : OptionWord) (same : Bool)
         → told_list p to ≡ told_list p from ++ cond same (n ∷ values_in p rest) (values_in p rest)
@@ -110,13 +110,13 @@ module _ (from to : CommandValue) (fits : Fits to) where
       options = λ p. option-values p (is_same p o) (g.options p)
           ∙ ap (λ (v : Option ℕ). option_to_list v ++ values_in p rest) (sym (told-other p));
     } where
-      told-other : (p : OptionWord) → value_of p (with_told o n from.options) ≡ cond (is_same p o) (Some n) (value_of p from.options)
+      told-other : (p : OptionWord) → value_of p (with_given o n from.options) ≡ cond (is_same p o) (Some n) (value_of p from.options)
       told-other p = told-value o p n from.options has-it.1
 
 reads : (items : List Item) (from to : CommandValue) → Fits to → Grows from items to
-    → with_words (words_in items) (settled from) ≡ Some (settled to)
+    → with_words (words_in items) (into_reading from) ≡ Some (into_reading to)
 unfolding with_words with-name with-option
-reads [] from to fits g = ap (λ (c : CommandValue). Some (settled c)) (grown-none from to g)
+reads [] from to fits g = ap (λ (c : CommandValue). Some (into_reading c)) (grown-none from to g)
 reads (name word ∷ rest) from to fits g =
     let is = is-name from to fits word rest g in
     let both = and_parts (is_name word) (is_of_kind (row from.word).names word) is in
@@ -124,23 +124,23 @@ reads (name word ∷ rest) from to fits g =
     ∙ reads rest (with-name from to fits word rest g) to fits (name-grows from to fits word rest g)
 reads (option o n ∷ rest) from to fits g =
     let has = has-it from to fits o n rest g in
-    option-step o from has.0 (none-untold o from.options (once from to fits o n rest g).0) n (words_in rest) has.1
+    option-step o from has.0 (none-not_given o from.options (once from to fits o n rest g).0) n (words_in rest) has.1
     ∙ reads rest (with-option from to fits o n rest g) to fits (option-grows from to fits o n rest g)
 
 fits-range : (c : CommandValue) → IsInRange c → Fits c
 fits-range c range = record { names = range.names; most = range.most; options = range.options }
 
-finishes : (c : CommandValue) → IsInRange c → finished (settled c) ≡ Some c
+finishes : (c : CommandValue) → IsInRange c → into_command (into_reading c) ≡ Some c
 finishes c range =
     ap (λ (b : Bool). cond b (Some c) None)
     (and_from (nat_le (row c.word).least (length c.names)) (not (c.options.reports && is_some c.options.cycle))
     (le-leb (row c.word).least (length c.names) range.least) (not_from_false (c.options.reports && is_some c.options.cycle) range.apart))
 
-begins : (items : List Item) (c : CommandValue) → Gives items c → Grows (begun c.word).command items c
+begins : (items : List Item) (c : CommandValue) → Gives items c → Grows (bare_command c.word).command items c
 begins items c gives = record {
   word = refl;
   names = sym gives.names;
-  options = λ o. sym (gives.options o) ∙ ap (λ (v : Option ℕ). option_to_list v ++ values_in o items) (sym (untold o));
+  options = λ o. sym (gives.options o) ∙ ap (λ (v : Option ℕ). option_to_list v ++ values_in o items) (sym (not_given o));
 }
 
 -- a command's word, and after it items that give it
@@ -148,4 +148,5 @@ pub read-given : (first : List ℕ) (items : List Item) (c : CommandValue) → I
     → read first (words_in items) ≡ Some c
 read-given first items c range gives is =
     ap (option_and_then (read_by (words_in items))) is
-    ∙ ap (option_and_then finished) (reads items (begun c.word).command c (fits-range c range) (begins items c gives)) ∙ finishes c range
+    ∙ ap (option_and_then into_command) (reads items (bare_command c.word).command c (fits-range c range) (begins items c gives))
+    ∙ finishes c range

@@ -15,9 +15,9 @@ use Rattle.cli_words.specs.declared.table.TheConstants.{OPTIONS, COMMANDS}
 use Rattle.cli_words.specs.declared.options.Options.{Options}
 use Rattle.cli_words.specs.Names.{is_name, is_name_of}
 use Rattle.cli_words.specs.Table.{row, command_word, option_row, option_word, option_in, is_among}
-use Rattle.cli_words.specs.Command.{CommandValue, is_told, with_told}
+use Rattle.cli_words.specs.Command.{CommandValue, is_given, with_given}
 use Rattle.cli_words.specs.Ranges.{value_if, value_of, IsWithin}
-use Rattle.cli_words.specs.Reading.{Reading, settled, is_in_range, with_number, with_value, with_word, with_words}
+use Rattle.cli_words.specs.Reading.{Reading, into_reading, is_in_range, with_number, with_value, with_word, with_words}
 use Rattle.cli_words.specs.Items.{option_words, is_same}
 use Rattle.cli_words.proofs.Decimals.{number_of-decimal}
 use Rattle.cli_words.proofs.Choosing.{with_option_or_name}
@@ -112,57 +112,60 @@ more word rest r = refl
 -- a name more
 pub name-step : (word : List ℕ) (rest : List (List ℕ)) (c : CommandValue) → is_name_of (row c.word).names word ≡ true → is_name word ≡ true
     → length c.names < (row c.word).most
-    → with_words (word ∷ rest) (settled c) ≡ with_words rest (settled (record c { names = c.names ++ word ∷ [] }))
+    → with_words (word ∷ rest) (into_reading c) ≡ with_words rest (into_reading (record c { names = c.names ++ word ∷ [] }))
 name-step word rest c is name room =
-    more word rest (settled c)
+    more word rest (into_reading c)
     ∙ ap (λ (o : Option OptionWord). option_and_then (with_words rest) (with_option_or_name o word c))
     (name-no-option (row c.word).options word name)
-    ∙ ap (λ (b : Bool). option_and_then (with_words rest) (cond b (Some (settled (record c { names = c.names ++ word ∷ [] }))) None))
+    ∙ ap (λ (b : Bool). option_and_then (with_words rest) (cond b (Some (into_reading (record c { names = c.names ++ word ∷ [] }))) None))
     (and_from (is_name_of (row c.word).names word)
     (nat_lt (length c.names) (row c.word).most) is (lt-ltb (length c.names) (row c.word).most room))
 
-module _ (o : OptionWord) (c : CommandValue) (has : is_among (row c.word).options o ≡ true) (untold : is_told o c.options ≡ false) where
+module _ (o : OptionWord) (c : CommandValue) (has : is_among (row c.word).options o ≡ true) (not_given : is_given o c.options ≡ false) where
   awaiting : Reading
   awaiting = record { command = c; awaited = Some o }
 
   with_it : ℕ → CommandValue
-  with_it n = record c { options = with_told o n c.options }
+  with_it n = record c { options = with_given o n c.options }
 
   first-step : (valued : Bool) → is_some (option_row o).range ≡ valued
-      → with_word (option_row o).word (settled c) ≡ cond valued (Some awaiting) (Some (settled (with_it 0)))
+      → with_word (option_row o).word (into_reading c) ≡ cond valued (Some awaiting) (Some (into_reading (with_it 0)))
   unfolding awaiting with_it
   first-step valued e =
       ap (λ (p : Option OptionWord). with_option_or_name p (option_row o).word c) (has-own (row c.word).options o has)
-      ∙ ap (λ (b : Bool). cond b None (cond (is_some (option_row o).range) (Some awaiting) (Some (settled (with_it 0))))) untold
-      ∙ ap (λ (b : Bool). cond b (Some awaiting) (Some (settled (with_it 0)))) e
+      ∙ ap (λ (b : Bool). cond b None (cond (is_some (option_row o).range) (Some awaiting) (Some (into_reading (with_it 0))))) not_given
+      ∙ ap (λ (b : Bool). cond b (Some awaiting) (Some (into_reading (with_it 0)))) e
 
   value-step : (n : ℕ) → is_some (option_row o).range ≡ true → IsWithin (option_row o).range n
-      → with_value o (decimal n) c ≡ Some (settled (with_it n))
+      → with_value o (decimal n) c ≡ Some (into_reading (with_it n))
   unfolding with_it
   value-step n e within =
       ap (option_and_then (λ (m : ℕ). with_number o m c)) (number_of-decimal n (small o n e within))
-      ∙ ap (λ (b : Bool). cond b (Some (settled (with_it n))) None) (in-range (option_row o).range n e within)
+      ∙ ap (λ (b : Bool). cond b (Some (into_reading (with_it n))) None) (in-range (option_row o).range n e within)
 
   -- an option more, with its value
   pub option-step : (n : ℕ) (rest : List (List ℕ)) → IsWithin (option_row o).range n
-      → with_words (option_words o n ++ rest) (settled c) ≡ with_words rest (settled (record c { options = with_told o n c.options }))
+      → with_words (option_words o n ++ rest) (into_reading c) ≡ with_words rest (into_reading (record c {
+        options = with_given o n
+            c.options;
+      }))
   unfolding awaiting with_it
   option-step n rest within = by_valued (is_some (option_row o).range) refl where
     by_valued : (valued : Bool) → is_some (option_row o).range ≡ valued
-        → with_words (cond valued ((option_row o).word ∷ decimal n ∷ []) ((option_row o).word ∷ []) ++ rest) (settled c)
-        ≡ with_words rest (settled (record c { options = with_told o n c.options }))
+        → with_words (cond valued ((option_row o).word ∷ decimal n ∷ []) ((option_row o).word ∷ []) ++ rest) (into_reading c)
+        ≡ with_words rest (into_reading (record c { options = with_given o n c.options }))
     by_valued true e =
-        more (option_row o).word (decimal n ∷ rest) (settled c)
+        more (option_row o).word (decimal n ∷ rest) (into_reading c)
         ∙ ap (option_and_then (with_words (decimal n ∷ rest))) (first-step true e)
         ∙ more (decimal n) rest awaiting ∙ ap (option_and_then (with_words rest)) (value-step n e within)
     by_valued false e =
-        more (option_row o).word rest (settled c) ∙ ap (option_and_then (with_words rest)) (first-step false e)
-        ∙ ap (λ (m : ℕ). with_words rest (settled (record c { options = with_told o m c.options })))
+        more (option_row o).word rest (into_reading c) ∙ ap (option_and_then (with_words rest)) (first-step false e)
+        ∙ ap (λ (m : ℕ). with_words rest (into_reading (record c { options = with_given o m c.options })))
         (sym (flag-value (option_row o).range n e within))
 
 -- the value of an option after one more was given
 pub told-value : (o p : OptionWord) (n : ℕ) (options : Options) → IsWithin (option_row o).range n
-    → value_of p (with_told o n options) ≡ cond (is_same p o) (Some n) (value_of p options)
+    → value_of p (with_given o n options) ≡ cond (is_same p o) (Some n) (value_of p options)
 told-value Workers Workers n options within = refl
 told-value Workers p n options within = refl
 told-value Seed Seed n options within = refl
@@ -188,25 +191,25 @@ flag-none : (flag : Bool) → value_if flag ≡ None → flag ≡ false
 flag-none true e = absurd cc
 flag-none false e = refl
 
-pub none-untold : (o : OptionWord) (options : Options) → value_of o options ≡ None → is_told o options ≡ false
-none-untold Workers options e = ap (λ (v : Option ℕ). is_some v) e
-none-untold Seed options e = ap (λ (v : Option ℕ). is_some v) e
-none-untold Cycle options e = ap (λ (v : Option ℕ). is_some v) e
-none-untold Reports options e = flag-none options.reports e
-none-untold Dissent options e = flag-none options.dissent e
-none-untold Strict options e = flag-none options.strict e
+pub none-not_given : (o : OptionWord) (options : Options) → value_of o options ≡ None → is_given o options ≡ false
+none-not_given Workers options e = ap (λ (v : Option ℕ). is_some v) e
+none-not_given Seed options e = ap (λ (v : Option ℕ). is_some v) e
+none-not_given Cycle options e = ap (λ (v : Option ℕ). is_some v) e
+none-not_given Reports options e = flag-none options.reports e
+none-not_given Dissent options e = flag-none options.dissent e
+none-not_given Strict options e = flag-none options.strict e
 
-untold-some : (v : Option ℕ) → is_some v ≡ false → v ≡ None
-untold-some (Some n) e = absurd cc
-untold-some None e = refl
+not_given-some : (v : Option ℕ) → is_some v ≡ false → v ≡ None
+not_given-some (Some n) e = absurd cc
+not_given-some None e = refl
 
-pub untold-none : (o : OptionWord) (options : Options) → is_told o options ≡ false → value_of o options ≡ None
-untold-none Workers options e = untold-some options.workers e
-untold-none Seed options e = untold-some options.seed e
-untold-none Cycle options e = untold-some options.cycle e
-untold-none Reports options e = ap value_if e
-untold-none Dissent options e = ap value_if e
-untold-none Strict options e = ap value_if e
+pub not_given-none : (o : OptionWord) (options : Options) → is_given o options ≡ false → value_of o options ≡ None
+not_given-none Workers options e = not_given-some options.workers e
+not_given-none Seed options e = not_given-some options.seed e
+not_given-none Cycle options e = not_given-some options.cycle e
+not_given-none Reports options e = ap value_if e
+not_given-none Dissent options e = ap value_if e
+not_given-none Strict options e = ap value_if e
 
 same-value : (a b : Option ℕ) → option_to_list a ≡ option_to_list b → a ≡ b
 same-value (Some x) (Some y) e = cc

@@ -9,20 +9,20 @@ use Rattle.cli_words.specs.declared.table.CommandWord.{CommandWord}
 use Rattle.cli_words.specs.declared.table.OptionWord.{OptionWord}
 use Rattle.cli_words.specs.declared.table.OptionWord.TheVariants.{Workers, Seed, Cycle, Reports, Dissent, Strict}
 use Rattle.cli_words.specs.declared.options.Options.{Options}
-use Rattle.cli_words.specs.declared.options.TheConstants.{UNTOLD}
+use Rattle.cli_words.specs.declared.options.TheConstants.{NOTHING_GIVEN}
 use Rattle.cli_words.specs.Number.{number_of}
 use Rattle.cli_words.specs.Names.{is_name_of}
 use Rattle.cli_words.specs.Table.{row, command_word, option_row, option_word, option_in, is_among}
-use Rattle.cli_words.specs.Command.{CommandValue, is_told, with_told}
+use Rattle.cli_words.specs.Command.{CommandValue, is_given, with_given}
 use Rattle.cli_words.specs.Ranges.{value_of, IsWithin, IsInRange}
-use Rattle.cli_words.specs.Reading.{Reading, settled, begun, with_name, is_in_range, with_number, with_value, with_option}
-use Rattle.cli_words.specs.Reading.{with_next, with_word, with_words, is_whole, finished, read_by, in_full}
-use Rattle.cli_words.specs.Reading.{read_in_full, command_of}
+use Rattle.cli_words.specs.Reading.{Reading, into_reading, bare_command, with_name, is_in_range, with_number, with_value, with_option}
+use Rattle.cli_words.specs.Reading.{with_next, with_word, with_words, is_whole, into_command, read_by, in_long_form}
+use Rattle.cli_words.specs.Reading.{read_long_form, command_of}
 use Rattle.cli_words.proofs.Choosing.{with_option_or_name}
 
 -- the value of an option after one more was given
 pub told-cases : (o p : OptionWord) (n m : ℕ) (options : Options) → IsWithin (option_row o).range n
-    → value_of p (with_told o n options) ≡ Some m → ((p ≡ o) × (m ≡ n)) ⊎ (value_of p options ≡ Some m)
+    → value_of p (with_given o n options) ≡ Some m → ((p ≡ o) × (m ≡ n)) ⊎ (value_of p options ≡ Some m)
 told-cases Workers Workers n m options within e = inl (refl, cc)
 told-cases Workers p n m options within e = inr e
 told-cases Seed Seed n m options within e = inl (refl, cc)
@@ -36,13 +36,13 @@ told-cases Dissent p n m options within e = inr e
 told-cases Strict Strict n m options within e = inl (refl, cc)
 told-cases Strict p n m options within e = inr e
 
-pub untold : (o : OptionWord) → value_of o UNTOLD ≡ None
-untold Workers = refl
-untold Seed = refl
-untold Cycle = refl
-untold Reports = refl
-untold Dissent = refl
-untold Strict = refl
+pub not_given : (o : OptionWord) → value_of o NOTHING_GIVEN ≡ None
+not_given Workers = refl
+not_given Seed = refl
+not_given Cycle = refl
+not_given Reports = refl
+not_given Dissent = refl
+not_given Strict = refl
 
 pub within-range : (range : Option (ℕ × ℕ)) (n : ℕ) → is_in_range range n ≡ true → IsWithin range n
 within-range (Some (least, most)) n e = let both =
@@ -61,11 +61,11 @@ pub record Fits (c : CommandValue) : Type 0 where
 abbrev FitsSoFar : Reading → Type 0
 FitsSoFar r = Fits r.command × IfSome r.awaited (IsOptionOf r.command)
 
-pub fits-begun : (word : CommandWord) → Fits (begun word).command
-fits-begun word = record {
+pub fits-bare_command : (word : CommandWord) → Fits (bare_command word).command
+fits-bare_command word = record {
   names = All-nil (λ name. is_name_of (row word).names name ≡ true);
   most = omega arith;
-  options = λ o n e. let clash : None ≡ Some n = sym (untold o) ∙ e in cc;
+  options = λ o n e. let clash : None ≡ Some n = sym (not_given o) ∙ e in cc;
 }
 
 if_true : {T : Type 0} (P : T → Type 0) (b : Bool) (x : T) → (b ≡ true → P x) → IfSome (cond b (Some x) None) P
@@ -81,7 +81,7 @@ fits-name name c fits is room = record {
 }
 
 pub fits-told : (o : OptionWord) (n : ℕ) (c : CommandValue) → Fits c → IsOptionOf c o → IsWithin (option_row o).range n
-    → Fits (record c { options = with_told o n c.options })
+    → Fits (record c { options = with_given o n c.options })
 fits-told o n c fits has within = record {
   names = fits.names;
   most = fits.most;
@@ -98,7 +98,7 @@ fits-told o n c fits has within = record {
 name-fits : (name : List ℕ) (c : CommandValue) → Fits c → IfSome (with_name name c) FitsSoFar
 name-fits name c fits =
     if_true FitsSoFar (is_name_of (row c.word).names name && nat_lt (length c.names) (row c.word).most)
-    (settled (record c { names = c.names ++ name ∷ [] }))
+    (into_reading (record c { names = c.names ++ name ∷ [] }))
     (λ passed. let both = and_parts (is_name_of (row c.word).names name) (nat_lt (length c.names) (row c.word).most) passed in
     (fits-name name c fits both.0 (ltb-true (length c.names) (row c.word).most both.1), tt))
 
@@ -106,7 +106,7 @@ value-fits : (o : OptionWord) (text : List ℕ) (c : CommandValue) → Fits c �
 value-fits o text c fits has = by_number (number_of text) where
   by_number : (number : Option ℕ) → IfSome (option_and_then (λ n. with_number o n c) number) FitsSoFar
   by_number (Some n) =
-      if_true FitsSoFar (is_in_range (option_row o).range n) (settled (record c { options = with_told o n c.options }))
+      if_true FitsSoFar (is_in_range (option_row o).range n) (into_reading (record c { options = with_given o n c.options }))
       (λ passed. (fits-told o n c fits has (within-range (option_row o).range n passed), tt))
   by_number None = tt
 
@@ -115,10 +115,10 @@ none-within (Some range) e = cc
 none-within None e = refl
 
 option-fits : (o : OptionWord) (c : CommandValue) → Fits c → IsOptionOf c o → IfSome (with_option o c) FitsSoFar
-option-fits o c fits has = by_told (is_told o c.options) (is_some (option_row o).range) refl where
+option-fits o c fits has = by_told (is_given o c.options) (is_some (option_row o).range) refl where
   by_told : (told valued : Bool) → is_some (option_row o).range ≡ valued
       → IfSome (cond told None (cond valued (Some (record { command = c; awaited = Some o }))
-      (Some (settled (record c { options = with_told o 0 c.options }))))) FitsSoFar
+      (Some (into_reading (record c { options = with_given o 0 c.options }))))) FitsSoFar
   by_told true valued e = tt
   by_told false true e = (fits, has)
   by_told false false e = (fits-told o 0 c fits has (none-within (option_row o).range e), tt)
@@ -148,8 +148,8 @@ words-fit (first ∷ rest) r fits = by_more (with_word first r) (word-fits first
   by_more (Some more) further each = each more further
   by_more None further each = tt
 
-finished-fits : (r : Reading) → FitsSoFar r → IfSome (finished r) IsInRange
-finished-fits r fits = if_true IsInRange (is_whole r) r.command (λ passed.
+into_command-fits : (r : Reading) → FitsSoFar r → IfSome (into_command r) IsInRange
+into_command-fits r fits = if_true IsInRange (is_whole r) r.command (λ passed.
     let least = nat_le (row r.command.word).least (length r.command.names) in
     let outer = and_parts (is_none r.awaited && least) (not (r.command.options.reports && is_some r.command.options.cycle)) passed in
     let inner = and_parts (is_none r.awaited) least outer.0 in record {
@@ -161,12 +161,12 @@ finished-fits r fits = if_true IsInRange (is_whole r) r.command (λ passed.
     })
 
 read-fits : (rest : List (List ℕ)) (word : CommandWord) → IfSome (read_by rest word) IsInRange
-read-fits rest word = by_told (with_words rest (begun word)) (words-fit rest (begun word) (fits-begun word, tt)) where
-  by_told : (o : Option Reading) → IfSome o FitsSoFar → IfSome (option_and_then finished o) IsInRange
-  by_told (Some r) fits = finished-fits r fits
+read-fits rest word = by_told (with_words rest (bare_command word)) (words-fit rest (bare_command word) (fits-bare_command word, tt)) where
+  by_told : (o : Option Reading) → IfSome o FitsSoFar → IfSome (option_and_then into_command o) IsInRange
+  by_told (Some r) fits = into_command-fits r fits
   by_told None fits = tt
 
-pub full-fits : (words : List (List ℕ)) → IfSome (read_in_full words) IsInRange
+pub full-fits : (words : List (List ℕ)) → IfSome (read_long_form words) IsInRange
 full-fits [] = tt
 full-fits (first ∷ rest) = by_command (command_word first) where
   by_command : (o : Option CommandWord) → IfSome (option_and_then (read_by rest) o) IsInRange
@@ -174,4 +174,4 @@ full-fits (first ∷ rest) = by_command (command_word first) where
   by_command None = tt
 
 pub in_range : (words : List (List ℕ)) (c : CommandValue) → command_of words ≡ Some c → IsInRange c
-in_range words c e = let P : Option CommandValue → Type 0 = λ o. IfSome o IsInRange in subst P e (full-fits (in_full words))
+in_range words c e = let P : Option CommandValue → Type 0 = λ o. IfSome o IsInRange in subst P e (full-fits (in_long_form words))

@@ -7,7 +7,7 @@ use Rattle.std.specs.Global.{Global}
 use Rattle.std.proofs.lemmas.List.{drop_all}
 use Rattle.cli_words.specs.Names.{texts}
 use Rattle.cli_words.specs.Reading.{Reading, with_word, with_words, command_of}
-use Rattle.cli_words.specs.First.{read}
+use Rattle.cli_words.specs.FirstWord.{read}
 
 with_words-drop : (words : List (String Global)) (i : ℕ) (word : String Global) (told : Reading) → i < length words
     → word ≡ get_or words i word

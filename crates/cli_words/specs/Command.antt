@@ -9,8 +9,8 @@ use Rattle.cli_words.specs.declared.table.OptionWord.{OptionWord}
 use Rattle.cli_words.specs.declared.table.OptionWord.TheVariants.{Workers, Seed, Cycle}
 use Rattle.cli_words.specs.declared.table.OptionWord.TheVariants.{Reports, Dissent, Strict}
 use Rattle.cli_words.specs.declared.options.Options.{Options}
-use Rattle.record_text.specs.declared.part.ShowPart.{ShowPart}
-use Rattle.record_text.specs.declared.part.ShowPart.TheVariants as parts
+use Rattle.record_text.specs.declared.show_part.ShowPart.{ShowPart}
+use Rattle.record_text.specs.declared.show_part.ShowPart.TheVariants as parts
 use Rattle.cli_words.specs.declared.command.Command as code
 use Rattle.cli_words.specs.Number.{number_of}
 use Rattle.cli_words.specs.Names.{texts_of}
@@ -21,8 +21,8 @@ pub record CommandValue : Type 0 where
   pub names : List (List ℕ)
   pub options : Options
 
-abbrev pub command_seen : code.Command → CommandValue
-command_seen c = record { word = c.word; names = texts_of c.names; options = c.options }
+abbrev pub command_value : code.Command → CommandValue
+command_value c = record { word = c.word; names = texts_of c.names; options = c.options }
 
 -- the name at a place, or the empty text
 abbrev pub name_at : ℕ → CommandValue → List ℕ
@@ -41,22 +41,22 @@ abbrev pub files_of : CommandValue → List (List ℕ)
 files_of c = files_by (row c.word).names c.names
 
 -- whether an option is given
-abbrev pub is_told : OptionWord → Options → Bool
-is_told Workers options = is_some options.workers
-is_told Seed options = is_some options.seed
-is_told Cycle options = is_some options.cycle
-is_told Reports options = options.reports
-is_told Dissent options = options.dissent
-is_told Strict options = options.strict
+abbrev pub is_given : OptionWord → Options → Bool
+is_given Workers options = is_some options.workers
+is_given Seed options = is_some options.seed
+is_given Cycle options = is_some options.cycle
+is_given Reports options = options.reports
+is_given Dissent options = options.dissent
+is_given Strict options = options.strict
 
 -- sets an option, to its value if it takes one
-abbrev pub with_told : OptionWord → ℕ → Options → Options
-with_told Workers n options = record options { workers = Some n }
-with_told Seed n options = record options { seed = Some n }
-with_told Cycle n options = record options { cycle = Some n }
-with_told Reports n options = record options { reports = true }
-with_told Dissent n options = record options { dissent = true }
-with_told Strict n options = record options { strict = true }
+abbrev pub with_given : OptionWord → ℕ → Options → Options
+with_given Workers n options = record options { workers = Some n }
+with_given Seed n options = record options { seed = Some n }
+with_given Cycle n options = record options { cycle = Some n }
+with_given Reports n options = record options { reports = true }
+with_given Dissent n options = record options { dissent = true }
+with_given Strict n options = record options { strict = true }
 
 -- the part of a record that is printed
 abbrev pub part_of : Options → ShowPart

@@ -9,7 +9,7 @@ use Rattle.cli_words.specs.Names.{is_name}
 use Rattle.cli_words.specs.Table.{row, option_row}
 use Rattle.cli_words.specs.Command.{CommandValue}
 use Rattle.cli_words.specs.Ranges.{value_of, IsWithin}
-use Rattle.cli_words.specs.Reading.{in_full}
+use Rattle.cli_words.specs.Reading.{in_long_form}
 
 -- a name, or an option with its value; one that takes no value has 0
 pub data Item : Type 0 where
@@ -53,18 +53,18 @@ pub record Gives (items : List Item) (c : CommandValue) : Type 0 where
 -- order
 abbrev pub IsSpelling : List (List ℕ) → CommandValue → Type 0
 IsSpelling words c =
-    (items : List Item) × (in_full words ≡ (row c.word).word ∷ words_in items) × Gives items c
+    (items : List Item) × (in_long_form words ≡ (row c.word).word ∷ words_in items) × Gives items c
 
 -- a name, or an option with a value in its range
 abbrev pub IsItem : Item → Type 0
 IsItem (name word) = is_name word ≡ true
 IsItem (option o n) = IsWithin (option_row o).range n
 
-abbrev pub told_items : Options → OptionWord → List Item
-told_items options o = map (λ n. option o n) (option_to_list (value_of o options))
+abbrev pub given_items : Options → OptionWord → List Item
+given_items options o = map (λ n. option o n) (option_to_list (value_of o options))
 
 -- the canonical arguments of a command: its word, its names, and its options in the table's order
 abbrev pub words_of : CommandValue → List (List ℕ)
 words_of c =
     (row c.word).word
-    ∷ words_in (map (λ n. name n) c.names ++ flat_map (told_items c.options) OPTIONS)
+    ∷ words_in (map (λ n. name n) c.names ++ flat_map (given_items c.options) OPTIONS)

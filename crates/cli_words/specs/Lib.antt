@@ -4,6 +4,6 @@ pub mod Names
 pub mod Command
 pub mod Ranges
 pub mod Reading
-pub mod First
+pub mod FirstWord
 pub mod Items
-pub mod Alone
+pub mod PlainWords

@@ -10,21 +10,21 @@ use Rattle.cli_words.specs.declared.table.OptionWord.{OptionWord}
 use Rattle.cli_words.specs.declared.table.OptionWord.TheVariants.{Workers, Seed, Cycle}
 use Rattle.cli_words.specs.declared.table.OptionWord.TheVariants.{Reports, Dissent, Strict}
 use Rattle.cli_words.specs.declared.table.OptionSet.{OptionSet}
-use Rattle.cli_words.specs.declared.table.Row as code
+use Rattle.cli_words.specs.declared.table.CommandRow as code
 use Rattle.cli_words.specs.declared.table.OptionRow as option
-use Rattle.cli_words.specs.declared.table.TheConstants.{NONE, COMMANDS, OPTIONS}
+use Rattle.cli_words.specs.declared.table.TheConstants.{NO_OPTIONS, COMMANDS, OPTIONS}
 
 -- a row of the table: the command's word, the kind of its names, how few and how many it takes, and
 -- its options
-pub record Row : Type 0 where
+pub record CommandRow : Type 0 where
   pub word : List ℕ
   pub names : NameKind
   pub least : ℕ
   pub most : ℕ
   pub options : OptionSet
 
-abbrev pub row_seen : code.Row → Row
-row_seen r = record {
+abbrev pub row_value : code.CommandRow → CommandRow
+row_value r = record {
   word = r.word.now;
   names = r.names;
   least = r.least;
@@ -32,7 +32,7 @@ row_seen r = record {
   options = r.options;
 }
 
-abbrev pub row_of : List ℕ → NameKind → ℕ → ℕ → OptionSet → Row
+abbrev pub row_of : List ℕ → NameKind → ℕ → ℕ → OptionSet → CommandRow
 row_of word names least most options = record {
   word = word;
   names = names;
@@ -41,23 +41,23 @@ row_of word names least most options = record {
   options = options;
 }
 
-abbrev pub row : CommandWord → Row
-row command.Demo = row_of (codes "demo") File 1 1 NONE
+abbrev pub row : CommandWord → CommandRow
+row command.Demo = row_of (codes "demo") File 1 1 NO_OPTIONS
 row command.Record = row_of (codes "record") File 2 2
-    (record NONE { workers = true; seed = true; strict = true })
-row command.Replay = row_of (codes "replay") File 1 1 (record NONE { workers = true })
-row command.Check = row_of (codes "check") File 1 1 (record NONE { workers = true })
-row command.Compare = row_of (codes "compare") File 2 8 NONE
-row command.Show = row_of (codes "show") File 1 1 (record NONE { cycle = true; reports = true })
-row command.Needs = row_of (codes "needs") File 1 1 (record NONE { strict = true })
-row command.Sim = row_of (codes "sim") Number 1 1 (record NONE { workers = true })
-row command.Salvage = row_of (codes "salvage") File 1 1 (record NONE { reports = true })
-row command.Upgrade = row_of (codes "upgrade") File 1 1 (record NONE { workers = true })
-row command.Vote = row_of (codes "vote") File 3 7 (record NONE { dissent = true })
+    (record NO_OPTIONS { workers = true; seed = true; strict = true })
+row command.Replay = row_of (codes "replay") File 1 1 (record NO_OPTIONS { workers = true })
+row command.Check = row_of (codes "check") File 1 1 (record NO_OPTIONS { workers = true })
+row command.Compare = row_of (codes "compare") File 2 8 NO_OPTIONS
+row command.Show = row_of (codes "show") File 1 1 (record NO_OPTIONS { cycle = true; reports = true })
+row command.Needs = row_of (codes "needs") File 1 1 (record NO_OPTIONS { strict = true })
+row command.Sim = row_of (codes "sim") Number 1 1 (record NO_OPTIONS { workers = true })
+row command.Salvage = row_of (codes "salvage") File 1 1 (record NO_OPTIONS { reports = true })
+row command.Upgrade = row_of (codes "upgrade") File 1 1 (record NO_OPTIONS { workers = true })
+row command.Vote = row_of (codes "vote") File 3 7 (record NO_OPTIONS { dissent = true })
 row command.Chain = row_of (codes "chain") File 3 3
-    (record NONE { workers = true; seed = true; strict = true })
-row command.Help = row_of (codes "--help") Command 0 1 NONE
-row command.Version = row_of (codes "--version") File 0 0 NONE
+    (record NO_OPTIONS { workers = true; seed = true; strict = true })
+row command.Help = row_of (codes "--help") Command 0 1 NO_OPTIONS
+row command.Version = row_of (codes "--version") File 0 0 NO_OPTIONS
 
 -- the command that an argument names
 abbrev pub command_word : List ℕ → Option CommandWord
@@ -69,8 +69,8 @@ pub record OptionRow : Type 0 where
   pub word : List ℕ
   pub range : Option (ℕ × ℕ)
 
-abbrev pub option_row_seen : option.OptionRow → OptionRow
-option_row_seen r = record { word = r.word.now; range = r.range }
+abbrev pub option_row_value : option.OptionRow → OptionRow
+option_row_value r = record { word = r.word.now; range = r.range }
 
 abbrev pub option_row : OptionWord → OptionRow
 option_row Workers = record { word = codes "--workers"; range = Some (1, 64) }

@@ -1,6 +1,6 @@
 //! `Command`, what the arguments ask for.
 ghost use Rattle.std.specs.Prelude.{◌≡◌};
-ghost use Rattle.cli_words.specs.Command.{command_seen, name_at, number_in};
+ghost use Rattle.cli_words.specs.Command.{command_value, name_at, number_in};
 
 use crate::names::Names;
 use crate::number::number_of;
@@ -19,14 +19,14 @@ pub struct Command<'a> {
 impl<'a> Command<'a> {
     /// The name at a place, counted from 0, or the empty text if there is none.
     pub fn name(&self, place: usize) -> &'a str
-        ensures { result.now ≡ name_at place (command_seen self.now) }
+        ensures { result.now ≡ name_at place (command_value self.now) }
     {
         self.names.at(place)
     }
 
     /// The number that the first name spells, or 0 if it spells none.
     pub fn number(&self) -> u64
-        ensures { result ≡ number_in (command_seen self.now) }
+        ensures { result ≡ number_in (command_value self.now) }
     {
         number_of(self.name(0)).unwrap_or(0)
     }

@@ -1,6 +1,6 @@
 //! The number of copies that `det_lane` and `det_twin` run side by side.
 ghost use Rattle.std.specs.Prelude.{◌≡◌, ◌≤◌, IfSome};
-ghost use Rattle.cli_words.specs.Alone.{copies_in, copies_of};
+ghost use Rattle.cli_words.specs.PlainWords.{copies_in, parse_copies};
 
 use crate::number::number_of;
 
@@ -17,8 +17,8 @@ fn copies_in(number: u64) -> Option<u32>
 }
 
 /// Reads a number of copies: 2 to 8 in decimal.
-pub fn copies_of(word: &str) -> Option<u32>
-    ensures is { result ≡ copies_of word.now }
+pub fn parse_copies(word: &str) -> Option<u32>
+    ensures is { result ≡ parse_copies word.now }
     ensures some { IfSome result (λ copies. 2 ≤ copies) }
     ensures few { IfSome result (λ copies. copies ≤ 8) }
 {

@@ -16,13 +16,14 @@ mod table;
 mod text_word;
 
 pub use command::Command;
-pub use copies::copies_of;
+pub use copies::parse_copies;
 pub use name_kind::is_name;
 pub use names::Names;
 pub use number::number_of;
-pub use options::{Options, UNTOLD};
-pub use reading::{meant, read_words};
+pub use options::{NOTHING_GIVEN, Options};
+pub use reading::{long_form, read_words};
 pub use table::{
-    COMMANDS, CommandWord, NONE, NameKind, OPTIONS, OptionRow, OptionSet, OptionWord, Row,
+    COMMANDS, CommandRow, CommandWord, NO_OPTIONS, NameKind, OPTIONS, OptionRow, OptionSet,
+    OptionWord,
 };
 pub use text_word::TextWord;

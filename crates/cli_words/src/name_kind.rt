@@ -26,7 +26,7 @@ impl NameKind {
         match self {
             NameKind::File => true,
             NameKind::Number => number_of(word).is_some(),
-            NameKind::Command => CommandWord::of(word).is_some(),
+            NameKind::Command => CommandWord::from_word(word).is_some(),
         }
     }
 }

@@ -1,7 +1,7 @@
 //! `Options`, the options of a command with their values.
 ghost use Rattle.std.specs.Prelude.{◌≡◌, true, is_none};
 ghost use Rattle.cli_words.specs.Table.{option_row};
-ghost use Rattle.cli_words.specs.Command.{is_told, with_told, part_of};
+ghost use Rattle.cli_words.specs.Command.{is_given, with_given, part_of};
 ghost use Rattle.cli_words.specs.Reading.{is_in_range};
 
 use crate::table::OptionWord;
@@ -21,7 +21,7 @@ pub struct Options {
 }
 
 /// No option is given.
-pub const UNTOLD: Options = Options {
+pub const NOTHING_GIVEN: Options = Options {
     workers: None,
     seed: None,
     cycle: None,
@@ -33,7 +33,7 @@ pub const UNTOLD: Options = Options {
 impl Options {
     /// Whether an option is given.
     pub(crate) fn has(&self, option: OptionWord) -> bool
-        ensures { result ≡ is_told option self.now }
+        ensures { result ≡ is_given option self.now }
     {
         match option {
             OptionWord::Workers => self.workers.is_some(),
@@ -48,7 +48,7 @@ impl Options {
     /// Sets an option that takes a value. The value is in the option's range, so it fits.
     pub(crate) fn with_value(mut self, option: OptionWord, value: u64) -> Options
         requires { is_in_range (option_row option).range value ≡ true }
-        ensures { result ≡ with_told option value self }
+        ensures { result ≡ with_given option value self }
     {
         match option {
             OptionWord::Workers => self.workers = Some(value as u32),
@@ -64,7 +64,7 @@ impl Options {
     /// Sets an option that takes no value.
     pub(crate) fn with_flag(mut self, option: OptionWord) -> Options
         requires { is_none (option_row option).range ≡ true }
-        ensures { result ≡ with_told option 0 self }
+        ensures { result ≡ with_given option 0 self }
     {
         match option {
             OptionWord::Reports => self.reports = true,

@@ -1,18 +1,18 @@
 //! Reads the arguments one by one, by the tables of commands and options.
 ghost use Rattle.std.specs.Prelude.{◌≡◌, ◌∷◌, [], option_map};
 ghost use Rattle.cli_words.specs.Names.{texts};
-ghost use Rattle.cli_words.specs.Command.{command_seen};
-ghost use Rattle.cli_words.specs.Reading.{reading_seen, settled, begun};
+ghost use Rattle.cli_words.specs.Command.{command_value};
+ghost use Rattle.cli_words.specs.Reading.{reading_value, into_reading, bare_command};
 ghost use Rattle.cli_words.specs.Reading.{with_name, with_value, with_option};
-ghost use Rattle.cli_words.specs.Reading.{with_word, with_words, is_whole, finished};
-ghost use Rattle.cli_words.specs.First.{read};
-ghost use Rattle.cli_words.specs.Reading.{is_in_range, meant, meant_pair, read_in_full};
+ghost use Rattle.cli_words.specs.Reading.{with_word, with_words, is_whole, into_command};
+ghost use Rattle.cli_words.specs.FirstWord.{read};
+ghost use Rattle.cli_words.specs.Reading.{is_in_range, long_form, long_form_pair, read_long_form};
 ghost use Rattle.cli_words.specs.Reading.{command_of};
 
 use crate::command::Command;
 use crate::names::Names;
 use crate::number::number_of;
-use crate::options::UNTOLD;
+use crate::options::NOTHING_GIVEN;
 use crate::table::{CommandWord, OptionRow, OptionWord};
 
 /// What the arguments gave so far, and the option that awaits its value.
@@ -35,8 +35,8 @@ impl OptionRow {
 
 impl<'a> Command<'a> {
     /// The command, with no option awaiting a value.
-    fn settled(self) -> Reading<'a>
-        ensures { reading_seen result ≡ settled (command_seen self.entry) }
+    fn into_reading(self) -> Reading<'a>
+        ensures { reading_value result ≡ into_reading (command_value self.entry) }
     {
         Reading {
             command: self,
@@ -46,7 +46,7 @@ impl<'a> Command<'a> {
 
     /// Adds a name. None if the row takes no such name, or no further one.
     fn with_name(self, word: &'a str) -> Option<Reading<'a>>
-        ensures { option_map reading_seen result ≡ with_name word.now (command_seen self.entry) }
+        ensures { option_map reading_value result ≡ with_name word.now (command_value self.entry) }
     {
         let row = self.word.row();
         if !row.names.takes(word) {
@@ -57,25 +57,25 @@ impl<'a> Command<'a> {
         }
         let mut names = self.names;
         names.push(word);
-        Some(Command { names, ..self }.settled())
+        Some(Command { names, ..self }.into_reading())
     }
 
     /// Adds the value of an option. None if it isn't a number in the option's range.
     fn with_value(self, option: OptionWord, word: &str) -> Option<Reading<'a>>
-        ensures { option_map reading_seen result
-            ≡ with_value option word.now (command_seen self.entry) }
+        ensures { option_map reading_value result
+            ≡ with_value option word.now (command_value self.entry) }
     {
         let number = number_of(word)?;
         if !option.row().is_in_range(number) {
             return None;
         }
         let options = self.options.with_value(option, number);
-        Some(Command { options, ..self }.settled())
+        Some(Command { options, ..self }.into_reading())
     }
 
     /// Adds an option. None if it was given before.
     fn with_option(self, option: OptionWord) -> Option<Reading<'a>>
-        ensures { option_map reading_seen result ≡ with_option option (command_seen self.entry) }
+        ensures { option_map reading_value result ≡ with_option option (command_value self.entry) }
     {
         if self.options.has(option) {
             return None;
@@ -87,26 +87,26 @@ impl<'a> Command<'a> {
             });
         }
         let options = self.options.with_flag(option);
-        Some(Command { options, ..self }.settled())
+        Some(Command { options, ..self }.into_reading())
     }
 }
 
 impl<'a> Reading<'a> {
     /// The command with no names and options yet.
-    fn begun(word: CommandWord) -> Reading<'a>
-        ensures { reading_seen result ≡ begun word }
+    fn bare_command(word: CommandWord) -> Reading<'a>
+        ensures { reading_value result ≡ bare_command word }
     {
         Command {
             word,
             names: Names::new(),
-            options: UNTOLD,
+            options: NOTHING_GIVEN,
         }
-        .settled()
+        .into_reading()
     }
 
     /// Reads one argument more. None if it can't follow.
     fn with_word(self, word: &'a str) -> Option<Reading<'a>>
-        ensures { option_map reading_seen result ≡ with_word word.now (reading_seen self.entry) }
+        ensures { option_map reading_value result ≡ with_word word.now (reading_value self.entry) }
     {
         match self.awaited {
             Some(option) => self.command.with_value(option, word),
@@ -119,8 +119,8 @@ impl<'a> Reading<'a> {
 
     /// Reads all these arguments.
     fn with_words(self, words: &'a [String]) -> Option<Reading<'a>>
-        ensures { option_map reading_seen result
-            ≡ with_words (texts words.now) (reading_seen self.entry) }
+        ensures { option_map reading_value result
+            ≡ with_words (texts words.now) (reading_value self.entry) }
     {
         let mut reading = self;
         for word in words {
@@ -130,7 +130,7 @@ impl<'a> Reading<'a> {
     }
 
     fn is_whole(&self) -> bool
-        ensures { result ≡ is_whole (reading_seen self.now) }
+        ensures { result ≡ is_whole (reading_value self.now) }
     {
         let command = &self.command;
         let least = command.word.row().least;
@@ -138,8 +138,8 @@ impl<'a> Reading<'a> {
         self.awaited.is_none() && least <= command.names.count() && apart
     }
 
-    fn finished(self) -> Option<Command<'a>>
-        ensures { option_map command_seen result ≡ finished (reading_seen self.entry) }
+    fn into_command(self) -> Option<Command<'a>>
+        ensures { option_map command_value result ≡ into_command (reading_value self.entry) }
     {
         if self.is_whole() {
             Some(self.command)
@@ -151,26 +151,28 @@ impl<'a> Reading<'a> {
 
 /// The command that the first argument names, with what the rest gives.
 fn read<'a>(first: &str, rest: &'a [String]) -> Option<Command<'a>>
-    ensures { option_map command_seen result ≡ read first.now (texts rest.now) }
+    ensures { option_map command_value result ≡ read first.now (texts rest.now) }
 {
-    let word = CommandWord::of(first)?;
-    Reading::begun(word).with_words(rest)?.finished()
+    let word = CommandWord::from_word(first)?;
+    Reading::bare_command(word).with_words(rest)?.into_command()
 }
 
 /// The same with one argument after the command, so that the aliases need no new array of
 /// arguments.
 #[tactic(auto, unfolding(crate::specs::Reading::with_words))]
 fn read_pair<'a>(first: &str, second: &'a str) -> Option<Command<'a>>
-    ensures { option_map command_seen result ≡ read first.now (second.now ∷ []) }
+    ensures { option_map command_value result ≡ read first.now (second.now ∷ []) }
 {
-    let word = CommandWord::of(first)?;
-    Reading::begun(word).with_word(second)?.finished()
+    let word = CommandWord::from_word(first)?;
+    Reading::bare_command(word)
+        .with_word(second)?
+        .into_command()
 }
 
 /// The long form of an only argument: `-h` and `help` are `--help`, `-V` and `version` are
 /// `--version`. Any other argument is its own long form.
-pub fn meant(word: &str) -> &str
-    ensures { result.now ≡ meant word.now }
+pub fn long_form(word: &str) -> &str
+    ensures { result.now ≡ long_form word.now }
 {
     match word {
         "-h" | "help" => "--help",
@@ -180,7 +182,7 @@ pub fn meant(word: &str) -> &str
 }
 
 fn read_two<'a>(first: &'a str, second: &'a str) -> Option<Command<'a>>
-    ensures { option_map command_seen result ≡ read_in_full (meant_pair first.now second.now) }
+    ensures { option_map command_value result ≡ read_long_form (long_form_pair first.now second.now) }
 {
     if first == "help" {
         return read_pair("--help", second);
@@ -193,11 +195,11 @@ fn read_two<'a>(first: &'a str, second: &'a str) -> Option<Command<'a>>
 
 /// Reads the arguments after the program's name. None if they are no command.
 pub fn read_words(words: &[String]) -> Option<Command<'_>>
-    ensures { option_map command_seen result ≡ command_of (texts words.now) }
+    ensures { option_map command_value result ≡ command_of (texts words.now) }
 {
     match words {
         [] => None,
-        [word] => read(meant(word.as_str()), &[]),
+        [word] => read(long_form(word.as_str()), &[]),
         [first, second] => read_two(first.as_str(), second.as_str()),
         [first, _, _, ..] => read(first.as_str(), &words[1..]),
     }

@@ -2,8 +2,8 @@
 //! here. A command is a row and not a variant with fields of its own, so reading, hints and laws
 //! have no case for each command.
 ghost use Rattle.std.specs.Prelude.{◌≡◌, ◌≤◌};
-ghost use Rattle.cli_words.specs.Table.{row_of, row_seen, row, command_word};
-ghost use Rattle.cli_words.specs.Table.{option_row_seen, option_row, is_among, option_word};
+ghost use Rattle.cli_words.specs.Table.{row_of, row_value, row, command_word};
+ghost use Rattle.cli_words.specs.Table.{option_row_value, option_row, is_among, option_word};
 ghost use Rattle.cli_words.specs.Table.{option_in};
 
 /// A command, named by its first argument.
@@ -87,7 +87,7 @@ pub struct OptionSet {
 }
 
 /// No option.
-pub const NONE: OptionSet = OptionSet {
+pub const NO_OPTIONS: OptionSet = OptionSet {
     workers: false,
     seed: false,
     cycle: false,
@@ -115,7 +115,7 @@ impl OptionSet {
     pub(crate) fn option(&self, word: &str) -> Option<OptionWord>
         ensures { result ≡ option_in self.now word.now }
     {
-        let option = OptionWord::of(word)?;
+        let option = OptionWord::from_word(word)?;
         if self.has(option) { Some(option) } else { None }
     }
 }
@@ -123,7 +123,7 @@ impl OptionSet {
 /// A row of the table: the command's word, the kind of its names, how few and how many it takes,
 /// and its options.
 #[derive(Clone, Copy)]
-pub struct Row {
+pub struct CommandRow {
     pub word: &'static str,
     pub names: NameKind,
     pub least: usize,
@@ -131,11 +131,11 @@ pub struct Row {
     pub options: OptionSet,
 }
 
-impl Row {
-    fn files(word: &'static str, least: usize, most: usize, options: OptionSet) -> Row
-        ensures { row_seen result ≡ row_of word.now NameKind.File least most options }
+impl CommandRow {
+    fn files(word: &'static str, least: usize, most: usize, options: OptionSet) -> CommandRow
+        ensures { row_value result ≡ row_of word.now NameKind.File least most options }
     {
-        Row {
+        CommandRow {
             word,
             names: NameKind::File,
             least,
@@ -147,7 +147,7 @@ impl Row {
 
 const WORKERS: OptionSet = OptionSet {
     workers: true,
-    ..NONE
+    ..NO_OPTIONS
 };
 
 const RECORDING: OptionSet = OptionSet {
@@ -158,12 +158,12 @@ const RECORDING: OptionSet = OptionSet {
 
 const STRICT: OptionSet = OptionSet {
     strict: true,
-    ..NONE
+    ..NO_OPTIONS
 };
 
 const REPORTS: OptionSet = OptionSet {
     reports: true,
-    ..NONE
+    ..NO_OPTIONS
 };
 
 const PARTS: OptionSet = OptionSet {
@@ -173,41 +173,41 @@ const PARTS: OptionSet = OptionSet {
 
 const DISSENT: OptionSet = OptionSet {
     dissent: true,
-    ..NONE
+    ..NO_OPTIONS
 };
 
 impl CommandWord {
     /// The command's row of the table.
-    pub fn row(self) -> Row
-        ensures is { row_seen result ≡ row self }
+    pub fn row(self) -> CommandRow
+        ensures is { row_value result ≡ row self }
         ensures few { result.most ≤ 8 }
     {
         match self {
-            CommandWord::Demo => Row::files("demo", 1, 1, NONE),
-            CommandWord::Record => Row::files("record", 2, 2, RECORDING),
-            CommandWord::Replay => Row::files("replay", 1, 1, WORKERS),
-            CommandWord::Check => Row::files("check", 1, 1, WORKERS),
-            CommandWord::Compare => Row::files("compare", 2, 8, NONE),
-            CommandWord::Show => Row::files("show", 1, 1, PARTS),
-            CommandWord::Needs => Row::files("needs", 1, 1, STRICT),
-            CommandWord::Sim => Row {
+            CommandWord::Demo => CommandRow::files("demo", 1, 1, NO_OPTIONS),
+            CommandWord::Record => CommandRow::files("record", 2, 2, RECORDING),
+            CommandWord::Replay => CommandRow::files("replay", 1, 1, WORKERS),
+            CommandWord::Check => CommandRow::files("check", 1, 1, WORKERS),
+            CommandWord::Compare => CommandRow::files("compare", 2, 8, NO_OPTIONS),
+            CommandWord::Show => CommandRow::files("show", 1, 1, PARTS),
+            CommandWord::Needs => CommandRow::files("needs", 1, 1, STRICT),
+            CommandWord::Sim => CommandRow {
                 names: NameKind::Number,
-                ..Row::files("sim", 1, 1, WORKERS)
+                ..CommandRow::files("sim", 1, 1, WORKERS)
             },
-            CommandWord::Salvage => Row::files("salvage", 1, 1, REPORTS),
-            CommandWord::Upgrade => Row::files("upgrade", 1, 1, WORKERS),
-            CommandWord::Vote => Row::files("vote", 3, 7, DISSENT),
-            CommandWord::Chain => Row::files("chain", 3, 3, RECORDING),
-            CommandWord::Help => Row {
+            CommandWord::Salvage => CommandRow::files("salvage", 1, 1, REPORTS),
+            CommandWord::Upgrade => CommandRow::files("upgrade", 1, 1, WORKERS),
+            CommandWord::Vote => CommandRow::files("vote", 3, 7, DISSENT),
+            CommandWord::Chain => CommandRow::files("chain", 3, 3, RECORDING),
+            CommandWord::Help => CommandRow {
                 names: NameKind::Command,
-                ..Row::files("--help", 0, 1, NONE)
+                ..CommandRow::files("--help", 0, 1, NO_OPTIONS)
             },
-            CommandWord::Version => Row::files("--version", 0, 0, NONE),
+            CommandWord::Version => CommandRow::files("--version", 0, 0, NO_OPTIONS),
         }
     }
 
     /// The command that an argument names.
-    pub fn of(word: &str) -> Option<CommandWord>
+    pub fn from_word(word: &str) -> Option<CommandWord>
         ensures { result ≡ command_word word.now }
     {
         for command in &COMMANDS {
@@ -230,7 +230,7 @@ pub struct OptionRow {
 impl OptionWord {
     /// The option's row of the table.
     pub fn row(self) -> OptionRow
-        ensures { option_row_seen result ≡ option_row self }
+        ensures { option_row_value result ≡ option_row self }
     {
         let (word, range) = match self {
             OptionWord::Workers => ("--workers", Some((1, 64))),
@@ -244,7 +244,7 @@ impl OptionWord {
     }
 
     /// The option that an argument names.
-    pub fn of(word: &str) -> Option<OptionWord>
+    pub fn from_word(word: &str) -> Option<OptionWord>
         ensures { result ≡ option_word word.now }
     {
         for option in &OPTIONS {

@@ -1,8 +1,8 @@
 //! `TextWord`, the only argument that asks `det_lane` or `det_twin` for a text.
 ghost use Rattle.std.specs.Prelude.{◌≡◌};
-ghost use Rattle.cli_words.specs.Alone.{text_word};
+ghost use Rattle.cli_words.specs.PlainWords.{text_word};
 
-use crate::reading::meant;
+use crate::reading::long_form;
 
 /// The text that is asked for.
 #[derive(Clone, Copy)]
@@ -13,10 +13,10 @@ pub enum TextWord {
 
 impl TextWord {
     /// Reads `--help`, `--version` or another form of them.
-    pub fn of(word: &str) -> Option<TextWord>
+    pub fn from_word(word: &str) -> Option<TextWord>
         ensures { result ≡ text_word word.now }
     {
-        match meant(word) {
+        match long_form(word) {
             "--help" => Some(TextWord::Help),
             "--version" => Some(TextWord::Version),
             _ => None,

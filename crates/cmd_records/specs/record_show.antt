@@ -1,3 +1,3 @@
 pub mod Text
-pub mod Showing
-pub mod Ended
+pub mod PrintedItems
+pub mod ShowEnds

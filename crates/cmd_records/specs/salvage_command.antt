@@ -1,3 +1,3 @@
 pub mod Salvage
-pub mod Watching
-pub mod Ended
+pub mod WatchedItems
+pub mod ReportEnds

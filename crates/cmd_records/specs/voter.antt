@@ -1,4 +1,4 @@
 pub mod Majority
 pub mod Rows
-pub mod Standing
-pub mod Voted
+pub mod VotersState
+pub mod VoteResult

@@ -1,6 +1,6 @@
 //! The command `compare`: whether copies of a record are equal, or the first place where they
 //! differ.
 
-mod comparing;
+mod compare_records;
 
-pub use comparing::compare;
+pub use compare_records::compare;

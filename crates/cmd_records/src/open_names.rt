@@ -1,5 +1,5 @@
 //! Opens several names, for the commands that read copies.
 
-mod opening;
+mod open_slots;
 
-pub use opening::open_all;
+pub use open_slots::open_all;

@@ -1,7 +1,7 @@
 //! The command `salvage`: a truncated record made whole, or reports of its runs.
 
-mod reporting;
-mod salvaging;
+mod report_run;
+mod salvage_record;
 mod watch;
 
-pub use salvaging::{salvage, salvage_reports};
+pub use salvage_record::{salvage, salvage_reports};

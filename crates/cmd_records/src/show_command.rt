@@ -1,5 +1,5 @@
 //! The command `show`: a record as text, and reports of its runs.
 
-mod showing;
+mod show_record;
 
-pub use showing::show;
+pub use show_record::show;

@@ -2,6 +2,6 @@
 //! it.
 
 mod text;
-mod voting;
+mod vote_records;
 
-pub use voting::{vote, vote_dissent};
+pub use vote_records::{vote, vote_dissent};

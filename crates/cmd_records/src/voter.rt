@@ -2,9 +2,9 @@
 
 mod majority;
 mod outcome;
-mod reading;
+mod vote_copies;
+mod voter_rows;
 mod voters;
-mod voting;
 
 pub use outcome::{Dissent, Dissenter, NoMajority, Vote};
-pub use voting::vote;
+pub use vote_copies::vote;

@@ -1,2 +1,2 @@
 pub mod Replay
-pub mod Visited
+pub mod ReplayVisit

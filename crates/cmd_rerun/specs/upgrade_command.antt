@@ -1,2 +1,2 @@
 pub mod Upgrade
-pub mod Visited
+pub mod UpgradeVisit

@@ -1,8 +1,8 @@
 //! The command `check`: runs the inputs of a record again and reports the first place in which the
 //! record departs from them.
 
-mod checking;
-mod printing;
-mod visiting;
+mod check_lines;
+mod check_record;
+mod check_visit;
 
-pub use checking::check;
+pub use check_record::check;

@@ -1,6 +1,6 @@
 //! The command `replay`: runs the inputs of a record again and writes the record that they give.
 
-mod replaying;
-mod visiting;
+mod replay_record;
+mod replay_visit;
 
-pub use replaying::replay;
+pub use replay_record::replay;

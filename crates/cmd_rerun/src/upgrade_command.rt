@@ -1,6 +1,6 @@
 //! The command `upgrade`: writes the record of the same run in format 2.
 
-mod upgrading;
-mod visiting;
+mod upgrade_record;
+mod upgrade_visit;
 
-pub use upgrading::upgrade;
+pub use upgrade_record::upgrade;

@@ -1,5 +1,5 @@
-pub mod Derived
-pub mod Chained
-pub mod Ends
-pub mod Linked
-pub mod Begun
+pub mod OutputSamples
+pub mod SecondClient
+pub mod ChainEnds
+pub mod ChainCycle
+pub mod ChainStart

@@ -1,3 +1,3 @@
 pub mod Chain
 pub mod Clients
-pub mod Visited
+pub mod ChainVisit

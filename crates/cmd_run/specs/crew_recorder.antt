@@ -1,1 +1,1 @@
-pub mod Visited
+pub mod StimulusVisit

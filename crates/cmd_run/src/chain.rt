@@ -1,11 +1,11 @@
 //! Runs two clients in a chain: the second takes its samples from the outputs of the first. The
 //! module `chain_command` reads their manifests.
 
-mod chaining;
-mod counts;
-mod derived;
-mod steps;
+mod both_clients;
+mod chain_counts;
+mod output_samples;
+mod run_chain;
 
-pub use chaining::chain_run;
-pub use counts::ChainCounts;
-pub use derived::derived_input;
+pub use chain_counts::ChainCounts;
+pub use output_samples::derived_input;
+pub use run_chain::chain_run;

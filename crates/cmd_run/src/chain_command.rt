@@ -1,8 +1,8 @@
 //! The command `chain`: runs a client over a stimulus, and a second one over the outputs of the
 //! first.
 
-mod chaining;
+mod chain_task;
+mod chain_visit;
 mod over_stimulus;
-mod visiting;
 
-pub use chaining::{ChainTask, chain};
+pub use chain_task::{ChainTask, chain};

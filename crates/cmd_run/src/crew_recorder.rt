@@ -1,5 +1,5 @@
 //! Records a stimulus on several threads, which are kept from the first cycle to the last.
 
-mod recording;
+mod stimulus_visit;
 
-pub use recording::record_by_crew;
+pub use stimulus_visit::record_by_crew;

@@ -1,6 +1,6 @@
 //! The command `needs`: prints the lines of a manifest whose parameters its job takes.
 
-mod command;
 mod lines;
+mod manifest_needs;
 
-pub use command::needs;
+pub use manifest_needs::needs;

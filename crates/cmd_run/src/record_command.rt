@@ -4,8 +4,8 @@
 mod built_in;
 mod by_manifest;
 mod over_stimulus;
-mod staffing;
+mod run_plan;
 
 pub use built_in::demo;
-pub use by_manifest::{RecordTask, record_stimulus};
-pub use staffing::staffed;
+pub use by_manifest::{RecordTask, record_by_manifest};
+pub use run_plan::plan_run;

@@ -1,7 +1,7 @@
 //! The command `sim`: prints a summary of a run over a generated stimulus, and the probes' reports.
 
 mod profile;
-mod run;
-mod simulating;
+mod sim_lines;
+mod summary_run;
 
-pub use simulating::sim;
+pub use sim_lines::sim;

@@ -4,8 +4,8 @@ use Rattle.record_grammar.specs.declared.item.Item.{Item}
 use Rattle.record_grammar.specs.declared.item.Item.TheVariants as items
 use Rattle.record_view.specs.declared.view.ItemView.{ItemView}
 use Rattle.record_reader.specs.declared.item_reader.reader.ItemReader.{ItemReader}
-use Rattle.record_reader.specs.declared.item_reader.like.Like.{Like}
-use Rattle.record_reader.specs.declared.item_reader.like.Like.TheVariants as likes
+use Rattle.record_reader.specs.declared.item_reader.comparison.Comparison.{Comparison}
+use Rattle.record_reader.specs.declared.item_reader.comparison.Comparison.TheVariants as likes
 use Rattle.copies.specs.declared.difference.Difference.{Difference}
 use Rattle.copies.specs.declared.difference.Difference.TheVariants as differences
 use Rattle.copies.specs.declared.row.Row.TheVariants as rows
@@ -14,7 +14,7 @@ use Rattle.copies.specs.ItemRows.{IsHeldAs, IsSpelledBy}
 use Rattle.copies.specs.Copies.{row_of, LikeHeld, OtherIsHeld, DifferenceIs, end_difference}
 use Rattle.copies.proofs.Judging.{item-apart}
 
-pub other-is-held : (like : Like) (ours : Item) (reader : ItemReader) (item : Option Item) → LikeHeld like ours reader item
+pub other-is-held : (like : Comparison) (ours : Item) (reader : ItemReader) (item : Option Item) → LikeHeld like ours reader item
     → OtherIsHeld like reader
 other-is-held likes.Same ours reader item h = tt
 other-is-held (likes.Other None) ours reader item h = tt
@@ -25,7 +25,7 @@ no-item : (n : ℕ) (ours : Item) → row_difference n (rows.Item ours) rows.Who
 no-item n (items.Header p) = refl
 no-item n (items.Frame f) = refl
 
-held-at : (n : ℕ) (like : Like) (ours : Item) (reader : ItemReader) (item : Option Item) (found : Option Difference)
+held-at : (n : ℕ) (like : Comparison) (ours : Item) (reader : ItemReader) (item : Option Item) (found : Option Difference)
     → LikeHeld like ours reader item → DifferenceIs found n ours like reader → found ≡ row_difference n (rows.Item ours) (row_of item)
 held-at n likes.Same ours reader item found h is =
     is ∙ sym (ap (λ o. row_difference n (rows.Item ours) (row_of o)) h ∙ (item-apart n ours (rows.Item ours)).1 refl)
@@ -34,7 +34,7 @@ held-at n (likes.Other (Some view)) ours reader (Some item) found h is = is item
 held-at n (likes.Other None) ours reader (Some item) found h is = absurd h
 held-at n (likes.Other (Some view)) ours reader None found h is = absurd h
 
-pub like-held : (n : ℕ) (like : Like) (ours : Item) (reader : ItemReader) (item : Option Item) (found : Option Difference)
+pub like-held : (n : ℕ) (like : Comparison) (ours : Item) (reader : ItemReader) (item : Option Item) (found : Option Difference)
     (given : List Item) → LikeHeld like ours reader item → DifferenceIs found n ours like reader → n ≡ length given
     → found ≡ row_difference (length given) (rows.Item ours) (row_of item)
 like-held n like ours reader item found given h is row =

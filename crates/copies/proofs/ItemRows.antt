@@ -10,7 +10,7 @@ use Rattle.det_io.specs.declared.failure.Stopped.TheVariants.{Refused, Failed}
 use Rattle.det_io.specs.Prefix.{IsPrefix}
 use Rattle.det_io.specs.Shelf.{ShelfState, Reads, Gave, IsAtEnd}
 use Rattle.det_io.proofs.SlotReads.{gave-reads, gave-told}
-use Rattle.record_grammar.specs.declared.fault.RecordFault.{RecordFault}
+use Rattle.record_grammar.specs.declared.record_fault.RecordFault.{RecordFault}
 use Rattle.record_grammar.specs.declared.item.Item.{Item}
 use Rattle.record_grammar.specs.declared.place.Place.{Place}
 use Rattle.record_grammar.specs.declared.place.Place.TheVariants as places
@@ -19,16 +19,16 @@ use Rattle.record_grammar.proofs.Leads.{leads_grow, all_leads}
 use Rattle.record_view.specs.declared.view.ItemView.{ItemView}
 use Rattle.record_view.specs.Shows.{IsSpelling}
 use Rattle.record_reader.specs.declared.item_reader.reader.ItemReader.{ItemReader}
-use Rattle.record_reader.specs.declared.item_reader.like.Like.{Like}
-use Rattle.record_reader.specs.declared.item_reader.like.Like.TheVariants as likes
+use Rattle.record_reader.specs.declared.item_reader.comparison.Comparison.{Comparison}
+use Rattle.record_reader.specs.declared.item_reader.comparison.Comparison.TheVariants as likes
 use Rattle.record_reader.specs.item_reader.StandsFor.{StandsFor, HasRead, ReadsIfNeeded, ItemIs, FoundFault, IsFaulty, slot_of, unread}
-use Rattle.record_reader.specs.item_reader.Like.{LikeIs}
+use Rattle.record_reader.specs.item_reader.Comparison.{ComparisonIs}
 use Rattle.copies.specs.declared.row.Row.{Row}
 use Rattle.copies.specs.declared.row.Row.TheVariants as rows
 use Rattle.copies.specs.Rows.{ShowsRow}
 use Rattle.record_reader.proofs.lemmas.item_reader.Needed.{while-weaker, while-then}
 use Rattle.copies.specs.Needed.{IsNeeded}
-use Rattle.copies.specs.ItemRows.{ReaderBehind, ReaderShows, ReaderAtRow, IsHeldAs}
+use Rattle.copies.specs.ItemRows.{IsReaderAfter, ReaderShows, ReaderAtRow, IsHeldAs}
 use Rattle.copies.specs.Copies.{row_of, copy_answer, CopyStopped, CopyNext, CopyLike}
 use Rattle.copies.proofs.Rows.{shows-row, shows-end, at-none}
 
@@ -72,8 +72,9 @@ pub gave-on : {first mid now : ShelfState} {slot : ℕ} {bytes : List ℕ} → G
     → Gave first now slot bytes
 gave-on {bytes = bytes} p same = record { left = p.left ∙ ap (option_map (λ rest. bytes ++ rest)) (sym same) }
 
-pub behind-on : {first mid now : ShelfState} {given : List Item} {slot : ℕ} {reader : ItemReader} → ReaderBehind first mid given slot reader
-    → now.left slot ≡ mid.left slot → ReaderBehind first now given slot reader
+pub behind-on : {first mid now : ShelfState} {given : List Item} {slot : ℕ} {reader : ItemReader}
+    → IsReaderAfter first mid given slot reader
+    → now.left slot ≡ mid.left slot → IsReaderAfter first now given slot reader
 behind-on h same = record { read = h.read; at = h.at; gave = gave-on h.gave same; stands = h.stands; needed = h.needed }
 
 pub row-on : {first mid now : ShelfState} {given : List Item} {slot : ℕ} {reader : ItemReader} {row : Row}
@@ -89,7 +90,7 @@ row-on {given = given} {reader = reader} {row = row} h same = record {
 -- ---- what is known of the copies
 
 pub behind-begins : {first now : ShelfState} {given : List Item} {slot : ℕ} {reader : ItemReader} (copy : List ℕ)
-    → ReaderBehind first now given slot reader → first.left slot ≡ Some copy → IsPrefix given (items copy)
+    → IsReaderAfter first now given slot reader → first.left slot ≡ Some copy → IsPrefix given (items copy)
 behind-begins {given = given} {reader = reader} copy h told =
     let all = gave-told copy h.gave told in
     let more = more-given reader h.read given h.stands all.0 in (more.0, sym more.1 ∙ ap items all.2)
@@ -105,14 +106,14 @@ row-shows {now = now} {given = given} {slot = slot} {row = row} copy h told =
 
 -- what is read is needed by the row after the items given
 pub read-needed : {first now : ShelfState} {given : List Item} {slot : ℕ} {reader : ItemReader}
-    (h : ReaderBehind first now given slot reader) (more : List ℕ) → ReadsIfNeeded h.read given more
+    (h : IsReaderAfter first now given slot reader) (more : List ℕ) → ReadsIfNeeded h.read given more
     → IsNeeded (length given) (h.read ++ more)
 read-needed {given = given} h more need =
     while-then _ h.read more h.needed
     (while-weaker _ _ more (λ first all. (let same = ap length all.0 in omega (arith, same), all.1)) need)
 
 module _ {first mid now : ShelfState} {given : List Item} {slot : ℕ} {reader : ItemReader} (next : ItemReader) (copy : ℕ)
-    (at : slot_of next ≡ slot_of reader) (h : ReaderBehind first mid given slot reader) where
+    (at : slot_of next ≡ slot_of reader) (h : IsReaderAfter first mid given slot reader) where
   at-row : (row : Row) (more : List ℕ) → Reads mid now (slot_of reader) more → ReadsIfNeeded h.read given more
       → ReaderShows row next (IsAtEnd now (slot_of reader)) (h.read ++ more) given → ReaderAtRow first now given slot next row
   at-row row more reads need shown = record {
@@ -146,9 +147,9 @@ module _ {first mid now : ShelfState} {given : List Item} {slot : ℕ} {reader :
   copy-next (Err (Failed Write)) p = absurd (p.2 h.read given h.stands).1
   copy-next (Err (Failed OutOfMemory)) p = λ e. cc
 
-  pub copy-like : (answer : Result Like (Stopped RecordFault)) (place : Place) (view : ItemView) (bytes : List ℕ) (ours : Item)
+  pub copy-like : (answer : Result Comparison (Stopped RecordFault)) (place : Place) (view : ItemView) (bytes : List ℕ) (ours : Item)
       → IsSpelling view ours bytes
-      → HasRead mid now reader (LikeIs answer view bytes place next (IsAtEnd now (slot_of reader)))
+      → HasRead mid now reader (ComparisonIs answer view bytes place next (IsAtEnd now (slot_of reader)))
       → CopyLike (copy_answer copy answer) copy ours first now given slot next
   copy-like (Ok likes.Same) place view bytes ours spelled p = (
     Some ours,
@@ -165,6 +166,6 @@ module _ {first mid now : ShelfState} {given : List Item} {slot : ℕ} {reader :
   copy-like (Err (Failed OutOfMemory)) place view bytes ours spelled p = λ e. cc
 
 -- two readers after the same items, which are one reader
-pub same-slot : {first now : ShelfState} {given : List Item} {a b : ℕ} {reader : ItemReader} → ReaderBehind first now given a reader
-    → ReaderBehind first now given b reader → a ≡ b
+pub same-slot : {first now : ShelfState} {given : List Item} {a b : ℕ} {reader : ItemReader} → IsReaderAfter first now given a reader
+    → IsReaderAfter first now given b reader → a ≡ b
 same-slot h k = sym h.at ∙ k.at

@@ -10,8 +10,8 @@ use Rattle.record_grammar.specs.declared.item.Item.{Item}
 use Rattle.record_grammar.specs.Record.{items}
 use Rattle.record_reader.specs.declared.item_reader.reader.ItemReader.{ItemReader}
 use Rattle.record_reader.specs.item_reader.StandsFor.{HasRead, slot_of}
-use Rattle.copies.specs.Compared.{AreDifferent, AreLeft, ReadsAmong}
-use Rattle.copies.specs.ItemRows.{ReaderBehind, ReadersBehind}
+use Rattle.copies.specs.CompareCopies.{AreDifferent, AreLeft, ReadsAmong}
+use Rattle.copies.specs.ItemRows.{IsReaderAfter, AreReadersAfter}
 use Rattle.copies.specs.Needed.{GaveNeeded, AllNeeded, shared_rows}
 use Rattle.copies.proofs.Judging.{shared_by-most}
 use Rattle.copies.proofs.ItemRows.{gave-on, read-needed}
@@ -27,7 +27,7 @@ needed-wider first now n m (s ∷ slots) less h =
 
 -- the items that all copies share are no fewer than those that were given
 pub shared-wider : (first now end : ShelfState) (given : List Item) (slots : List ℕ) (readers : List ItemReader) (copies : List (List ℕ))
-    → ReadersBehind first now given slots readers → AreLeft first slots copies → AllNeeded first end (length given) slots
+    → AreReadersAfter first now given slots readers → AreLeft first slots copies → AllNeeded first end (length given) slots
     → AllNeeded first end (shared_rows copies) slots
 shared-wider first now end given [] readers copies h l all = tt
 shared-wider first now end given (s ∷ slots) readers [] h l all = absurd l
@@ -39,7 +39,7 @@ shared-wider first now end given (s ∷ slots) readers (c ∷ copies) h l all =
 -- ---- one read
 
 pub slot-needed : {first mid now : ShelfState} {given : List Item} {slot : ℕ} {reader : ItemReader}
-    (Then : List ℕ → List Item → Type 0) → ReaderBehind first mid given slot reader → HasRead mid now reader Then
+    (Then : List ℕ → List Item → Type 0) → IsReaderAfter first mid given slot reader → HasRead mid now reader Then
     → GaveNeeded first now (length given) slot
 slot-needed {first} {mid} {now} {given} {slot} {reader} Then h p = (
   h.read ++ p.0,
@@ -64,8 +64,8 @@ needed-next first mid now n read (s ∷ slots) among one all =
 
 -- one reader of several
 pub reader-needed : (first mid now : ShelfState) (given : List Item) (slots : List ℕ) (reader : ItemReader)
-    → (slot : ℕ) × ReaderBehind first mid given slot reader → ReadsAmong mid now (slot_of reader ∷ [])
-    → ((slot : ℕ) → ReaderBehind first mid given slot reader → GaveNeeded first now (length given) slot)
+    → (slot : ℕ) × IsReaderAfter first mid given slot reader → ReadsAmong mid now (slot_of reader ∷ [])
+    → ((slot : ℕ) → IsReaderAfter first mid given slot reader → GaveNeeded first now (length given) slot)
     → AllNeeded first mid (length given) slots → AllNeeded first now (length given) slots
 reader-needed first mid now given slots reader b among one all =
     needed-next first mid now (length given) b.0 slots (subst (λ (k : ℕ). ReadsAmong mid now (k ∷ [])) b.1.at among) (one b.0 b.1) all
@@ -73,7 +73,7 @@ reader-needed first mid now given slots reader b among one all =
 -- ---- all copies
 
 pub behind-needed : (first now : ShelfState) (given : List Item) (slots : List ℕ) (readers : List ItemReader)
-    → ReadersBehind first now given slots readers → AllNeeded first now (length given) slots
+    → AreReadersAfter first now given slots readers → AllNeeded first now (length given) slots
 behind-needed first now given [] [] h = tt
 behind-needed first now given (s ∷ slots) (r ∷ readers) h =
     ((h.0.read, h.0.gave, h.0.needed), behind-needed first now given slots readers h.1)
@@ -86,8 +86,8 @@ none-needed state n (s ∷ slots) = (([], gave-none state s, inl refl), none-nee
 
 -- only copy 0 was read
 pub first-needed : (first old mid : ShelfState) (given : List Item) (slots : List ℕ) (reader : ItemReader) (readers : List ItemReader)
-    → ReadersBehind first old given slots (reader ∷ readers) → ReadsAmong old mid (slot_of reader ∷ [])
-    → ((slot : ℕ) → ReaderBehind first old given slot reader → GaveNeeded first mid (length given) slot)
+    → AreReadersAfter first old given slots (reader ∷ readers) → ReadsAmong old mid (slot_of reader ∷ [])
+    → ((slot : ℕ) → IsReaderAfter first old given slot reader → GaveNeeded first mid (length given) slot)
     → AllNeeded first mid (length given) slots
 first-needed first old mid given [] reader readers h among one = tt
 first-needed first old mid given (s ∷ slots) reader readers h among one =
@@ -96,9 +96,9 @@ first-needed first old mid given (s ∷ slots) reader readers h among one =
 
 -- copy 0 was read, and then others
 pub all-needed : (first old mid now : ShelfState) (given : List Item) (slots : List ℕ) (reader : ItemReader) (readers : List ItemReader)
-    → AreDifferent slots → ReadersBehind first old given slots (reader ∷ readers) → ReadsAmong old mid (slot_of reader ∷ [])
-    → ((slot : ℕ) → ReaderBehind first old given slot reader → GaveNeeded first mid (length given) slot)
-    → ((others : List ℕ) → AreDifferent others → ReadersBehind first mid given others readers
+    → AreDifferent slots → AreReadersAfter first old given slots (reader ∷ readers) → ReadsAmong old mid (slot_of reader ∷ [])
+    → ((slot : ℕ) → IsReaderAfter first old given slot reader → GaveNeeded first mid (length given) slot)
+    → ((others : List ℕ) → AreDifferent others → AreReadersAfter first mid given others readers
     → AllNeeded first now (length given) others)
     → ReadsAmong mid now (map slot_of readers) → AllNeeded first now (length given) slots
 all-needed first old mid now given [] reader readers ne h among one more reads = tt

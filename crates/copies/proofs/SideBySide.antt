@@ -19,8 +19,8 @@ use Rattle.copies.specs.declared.verdict.Verdict.{Verdict}
 use Rattle.copies.specs.declared.verdict.Verdict.TheVariants.{Differ}
 use Rattle.copies.specs.Rows.{row_at}
 use Rattle.copies.specs.Verdict.{row_difference, first_bad, first_other}
-use Rattle.copies.specs.Compared.{AreDifferent, AreLeft, ReadsAmong}
-use Rattle.copies.specs.ItemRows.{ReaderBehind, ReadersBehind, ReaderAtRow, ReadersAtRows}
+use Rattle.copies.specs.CompareCopies.{AreDifferent, AreLeft, ReadsAmong}
+use Rattle.copies.specs.ItemRows.{IsReaderAfter, AreReadersAfter, ReaderAtRow, ReadersAtRows}
 use Rattle.copies.specs.Copies.{row_of, CopyStopped, CopyHeld, FindsBad, OthersRead}
 use Rattle.copies.proofs.ItemRows.{behind-on, row-on, row-shows, same-slot}
 
@@ -48,8 +48,8 @@ among-again p q = record { kept = kept-then p.kept q.kept; others = λ k ne. q.o
 -- ---- what other reads leave
 
 pub all-later : (first : ShelfState) {mid now : ShelfState} (given : List Item) (slot : ℕ) (slots : List ℕ) (readers : List ItemReader)
-    → AllByRecursion (λ other. slot ≢ other) slots → ReadsAmong mid now (slot ∷ []) → ReadersBehind first mid given slots readers
-    → ReadersBehind first now given slots readers
+    → AllByRecursion (λ other. slot ≢ other) slots → ReadsAmong mid now (slot ∷ []) → AreReadersAfter first mid given slots readers
+    → AreReadersAfter first now given slots readers
 all-later first given slot [] [] ne p h = tt
 all-later first given slot [] (r ∷ readers) ne p h = absurd h
 all-later first given slot (other ∷ slots) [] ne p h = absurd h
@@ -111,7 +111,7 @@ other-next n row base copy (one ∷ more) last e =
 
 -- the first readers gave these rows, and the others are after the items given
 abbrev pub HaveFirst : ShelfState → ShelfState → List Item → List ℕ → List ItemReader → List Row → Type 0
-HaveFirst first now given slots readers [] = ReadersBehind first now given slots readers
+HaveFirst first now given slots readers [] = AreReadersAfter first now given slots readers
 HaveFirst first now given (slot ∷ slots) (reader ∷ readers) (row ∷ more) =
     ReaderAtRow first now given slot reader row × HaveFirst first now given slots readers more
 HaveFirst first now given slots readers (row ∷ more) = ⊥
@@ -132,7 +132,7 @@ slot-among P first now given (s ∷ slots) [] (row ∷ more) d h less all = absu
 pub first-next : (first mid now : ShelfState) (given : List Item) (slots : List ℕ) (readers : List ItemReader)
     (more : List Row) (d next : ItemReader) (item : Option Item) → HaveFirst first mid given slots readers more
     → length more < length readers → AreDifferent slots
-    → ((slot : ℕ) → ReaderBehind first mid given slot (get_or readers (length more) d)
+    → ((slot : ℕ) → IsReaderAfter first mid given slot (get_or readers (length more) d)
     → ReaderAtRow first now given slot next (row_of item))
     → ReadsAmong mid now (slot_of (get_or readers (length more) d) ∷ [])
     → HaveFirst first now given slots (set readers (length more) next) (more ++ row_of item ∷ [])
@@ -162,7 +162,7 @@ first-all first now given (s ∷ slots) [] (row ∷ more) h e = absurd h
 pub first-bad : (base copy : ℕ) (first mid now : ShelfState) (given : List Item) (slots : List ℕ) (readers : List ItemReader)
     (more : List Row) (d next : ItemReader) (bad : BadCopy) → HaveFirst first mid given slots readers more
     → length more < length readers → first_bad base more ≡ None → copy ≡ base + length more
-    → ((slot : ℕ) → ReaderBehind first mid given slot (get_or readers (length more) d)
+    → ((slot : ℕ) → IsReaderAfter first mid given slot (get_or readers (length more) d)
     → CopyStopped (Refused bad) copy first now given slot next)
     → FindsBad first now given base slots bad
 first-bad base copy first mid now given slots [] [] d next bad h less none at read = absurd (omega (arith, less))
@@ -197,11 +197,12 @@ first-bad base copy first mid now given (s ∷ slots) [] (row ∷ more) d next b
 
 -- a reader more, of the next slot
 pub readers-next : (state : ShelfState) (slots : List ℕ) (slot : ℕ) (left : List ℕ) (readers : List ItemReader) (reader : ItemReader)
-    → ((tail : List ItemReader) → ReadersBehind state state [] (slot ∷ left) tail → ReadersBehind state state [] slots (readers ++ tail))
-    → StandsFor reader [] [] → slot_of reader ≡ slot → (tail : List ItemReader) → ReadersBehind state state [] left tail
-    → ReadersBehind state state [] slots ((readers ++ reader ∷ []) ++ tail)
+    → ((tail : List ItemReader) → AreReadersAfter state state [] (slot ∷ left) tail → AreReadersAfter state state [] slots (readers
+    ++ tail))
+    → StandsFor reader [] [] → slot_of reader ≡ slot → (tail : List ItemReader) → AreReadersAfter state state [] left tail
+    → AreReadersAfter state state [] slots ((readers ++ reader ∷ []) ++ tail)
 readers-next state slots slot left readers reader before stands at tail h =
-    subst (λ rs. ReadersBehind state state [] slots rs) (sym (append_assoc readers (reader ∷ []) tail))
+    subst (λ rs. AreReadersAfter state state [] slots rs) (sym (append_assoc readers (reader ∷ []) tail))
     (before (reader ∷ tail) (record { read = []; at = at; gave = gave-none state slot; stands = stands; needed = inl refl }, h))
 
 -- ---- the loop over the others
@@ -240,7 +241,7 @@ among-more slots readers index d less same p q = record {
 -- the next reader is after the items given
 one-behind : (first now : ShelfState) (given : List Item) (slots : List ℕ) (readers : List ItemReader) (more : List Row)
     (d : ItemReader) → HaveFirst first now given slots readers more → length more < length readers
-    → (slot : ℕ) × ReaderBehind first now given slot (get_or readers (length more) d)
+    → (slot : ℕ) × IsReaderAfter first now given slot (get_or readers (length more) d)
 one-behind first now given slots [] [] d h less = absurd (omega (arith, less))
 one-behind first now given [] (r ∷ readers) [] d h less = absurd h
 one-behind first now given (s ∷ slots) (r ∷ readers) [] d h less = (s, h.0)
@@ -256,22 +257,22 @@ module _ (copy index : ℕ) (found : Option Verdict) (row : Row) (first mid now 
   less-more = subst (λ (n : ℕ). n < length readers) (sym h.count) less
 
   -- the next reader is after the items given
-  pub next-behind : (slot : ℕ) × ReaderBehind first mid given slot (get_or readers index d)
+  pub next-behind : (slot : ℕ) × IsReaderAfter first mid given slot (get_or readers index d)
   next-behind =
       let one = one-behind first mid given slots readers h.more d h.have less-more in
-      (one.0, subst (λ n. ReaderBehind first mid given one.0 (get_or readers n d)) h.count one.1)
+      (one.0, subst (λ n. IsReaderAfter first mid given one.0 (get_or readers n d)) h.count one.1)
 
   pub others-stop : (stop : Stopped BadCopy) (after : List ItemReader)
-      → ((slot : ℕ) → ReaderBehind first mid given slot (get_or readers index d) → CopyStopped stop copy first now given slot next)
+      → ((slot : ℕ) → IsReaderAfter first mid given slot (get_or readers index d) → CopyStopped stop copy first now given slot next)
       → OthersRead (Err stop) row first now given slots after
   others-stop (Refused bad) after read =
       first-bad 1 copy first mid now given slots readers h.more d next bad h.have less-more h.sound (at ∙ ap (λ n. 1 + n) (sym h.count))
-      (subst (λ n. (slot : ℕ) → ReaderBehind first mid given slot (get_or readers n d)
+      (subst (λ n. (slot : ℕ) → IsReaderAfter first mid given slot (get_or readers n d)
       → CopyStopped (Refused bad) copy first now given slot next) (sym h.count) read)
   others-stop (Failed failure) after read = read next-behind.0 next-behind.1
 
   pub others-next : (difference : Option Difference) (after : Option Verdict)
-      → ((slot : ℕ) → ReaderBehind first mid given slot (get_or readers index d)
+      → ((slot : ℕ) → IsReaderAfter first mid given slot (get_or readers index d)
       → CopyHeld (Ok difference) copy row first now given slot next)
       → ReadsAmong mid now (slot_of (get_or readers index d) ∷ []) → AreDifferent slots
       → after ≡ option_or found (option_map (Differ copy) difference)
@@ -281,7 +282,7 @@ module _ (copy index : ℕ) (found : Option Verdict) (row : Row) (first mid now 
     count = let all = length-append h.more (row_of item ∷ []) in let count = h.count in omega (arith, all, count);
     have = subst (λ n. HaveFirst first now given slots (set readers n next) (h.more ++ row_of item ∷ [])) h.count
         (first-next first mid now given slots readers h.more d next item h.have less-more ne
-        (subst (λ n. (slot : ℕ) → ReaderBehind first mid given slot (get_or readers n d)
+        (subst (λ n. (slot : ℕ) → IsReaderAfter first mid given slot (get_or readers n d)
         → ReaderAtRow first now given slot next (row_of item)) (sym h.count)
         (λ slot b. subst (λ (k : ℕ). ReaderAtRow first now given k next (row_of item)) (same-slot next-behind.1 b) held.1))
         (subst (λ n. ReadsAmong mid now (slot_of (get_or readers n d) ∷ [])) (sym h.count) among));
@@ -305,5 +306,5 @@ others-done index found row first now given slots readers h e =
     (h.more, first-all first now given slots readers h.more h.have (h.count ∙ e), h.sound, h.is)
 
 pub others-new : (row : Row) (first now : ShelfState) (given : List Item) (slots : List ℕ) (readers : List ItemReader)
-    → ReadersBehind first now given slots readers → HaveOthers 0 None row first now given slots readers
+    → AreReadersAfter first now given slots readers → HaveOthers 0 None row first now given slots readers
 others-new row first now given slots readers h = record { more = []; count = refl; have = h; sound = refl; is = refl }

@@ -38,21 +38,21 @@ use Rattle.copies.specs.declared.verdict.Verdict.TheVariants.{Agree, Differ}
 use Rattle.copies.specs.declared.copies.Copies.{Copies}
 use Rattle.copies.specs.Rows.{row_at}
 use Rattle.copies.specs.Verdict.{row_difference, first_bad, first_other, judged, row_verdict, verdict}
-use Rattle.copies.specs.Compared.{AreDifferent, AreGiven, AreLeft, ReadsAmong, AllEnd}
+use Rattle.copies.specs.CompareCopies.{AreDifferent, AreGiven, AreLeft, ReadsAmong, AllEnd}
 use Rattle.copies.specs.Copies.{slots_of}
 use Rattle.record_reader.proofs.lemmas.item_reader.Needed.{while-weaker}
 use Rattle.copies.specs.Needed.{IsNeeded}
-use Rattle.copies.specs.ItemRows.{ReaderBehind, ReadersBehind, ReaderAtRow, ReadersAtRows, IsHeldAs}
+use Rattle.copies.specs.ItemRows.{IsReaderAfter, AreReadersAfter, ReaderAtRow, ReadersAtRows, IsHeldAs}
 use Rattle.copies.specs.Copies.{row_of, runs_of, RoomFellIf, CopyNext, CopyStopped}
-use Rattle.copies.specs.Compared.{EndsIfAgreed, Compared}
-use Rattle.copies.specs.Copies.{FindsBad, OthersRead, IsCounted, Stand, RowRead}
+use Rattle.copies.specs.CompareCopies.{EndsIfAgreed, Compared}
+use Rattle.copies.specs.Copies.{FindsBad, OthersRead, IsCounted, AreCopiesAfter, RowRead}
 use Rattle.copies.proofs.ItemRows.{behind-begins, row-shows, row-on, same-slot}
 use Rattle.copies.proofs.SideBySide.{rows-told, first-bad, all-later, no-fault, among-again}
 use Rattle.copies.proofs.Judging.{item-apart, whole-apart, none-other, IsDecided, verdict-is}
 
 -- the items given come first in each copy
 pub prefixes : (first now : ShelfState) (given : List Item) (slots : List ℕ) (readers : List ItemReader) (copies : List (List ℕ))
-    → ReadersBehind first now given slots readers → AreLeft first slots copies → AllByRecursion (λ c. IsPrefix given (items_in c)) copies
+    → AreReadersAfter first now given slots readers → AreLeft first slots copies → AllByRecursion (λ c. IsPrefix given (items_in c)) copies
 prefixes first now given [] [] [] h l = tt
 prefixes first now given (s ∷ slots) (r ∷ readers) (c ∷ copies) h l =
     (behind-begins c h.0 l.0, prefixes first now given slots readers copies h.1 l.1)
@@ -63,7 +63,7 @@ prefixes first now given (s ∷ slots) [] copies h l = absurd h
 
 -- the readers have these slots
 pub slots-are : (first now : ShelfState) (given : List Item) (slots : List ℕ) (readers : List ItemReader)
-    → ReadersBehind first now given slots readers → map slot_of readers ≡ slots
+    → AreReadersAfter first now given slots readers → map slot_of readers ≡ slots
 slots-are first now given [] [] h = refl
 slots-are first now given (s ∷ slots) (r ∷ readers) h =
     ap (λ x. x ∷ map slot_of readers) h.0.at ∙ ap (λ xs. s ∷ xs) (slots-are first now given slots readers h.1)
@@ -73,7 +73,7 @@ slots-are first now given (s ∷ slots) [] h = absurd h
 -- ---- a fault
 
 bad-verdict : (first old now : ShelfState) (given : List Item) (slots : List ℕ) (reader : ItemReader) (readers : List ItemReader)
-    (bad : BadCopy) → ReadersBehind first old given slots (reader ∷ readers) → FindsBad first now given 0 slots bad
+    (bad : BadCopy) → AreReadersAfter first old given slots (reader ∷ readers) → FindsBad first now given 0 slots bad
     → Compared (Err (Refused bad)) first now slots
 bad-verdict first old now given [] reader readers bad h found = absurd h
 bad-verdict first old now given (s ∷ slots) reader readers bad h found = record { is = is; ends = found.truncated }
@@ -96,8 +96,8 @@ bad-verdict first old now given (s ∷ slots) reader readers bad h found = recor
 
 -- copy 0 stops
 pub stop-first : (first old now : ShelfState) (given : List Item) (slots : List ℕ) (reader next : ItemReader)
-    (readers : List ItemReader) (stop : Stopped BadCopy) → ReadersBehind first old given slots (reader ∷ readers)
-    → ((slot : ℕ) → ReaderBehind first old given slot reader → CopyStopped stop 0 first now given slot next)
+    (readers : List ItemReader) (stop : Stopped BadCopy) → AreReadersAfter first old given slots (reader ∷ readers)
+    → ((slot : ℕ) → IsReaderAfter first old given slot reader → CopyStopped stop 0 first now given slot next)
     → Compared (Err stop) first now slots × (stop ≢ Failed Write)
 stop-first first old now given slots reader next readers (Refused bad) h read = (
   bad-verdict first old now given slots reader readers bad h
@@ -113,16 +113,16 @@ stop-first first old now given (s ∷ slots) reader next readers (Failed failure
 -- ---- copy 0
 
 pub first-behind : (first now : ShelfState) (given : List Item) (slots : List ℕ) (reader : ItemReader) (readers : List ItemReader)
-    → ReadersBehind first now given slots (reader ∷ readers) → (slot : ℕ) × ReaderBehind first now given slot reader
+    → AreReadersAfter first now given slots (reader ∷ readers) → (slot : ℕ) × IsReaderAfter first now given slot reader
 first-behind first now given [] reader readers h = absurd h
 first-behind first now given (s ∷ slots) reader readers h = (s, h.0)
 
 -- the row of copy 0, whatever its slot is called
 pub first-row : (first old now : ShelfState) (given : List Item) (slots : List ℕ) (reader next : ItemReader) (readers : List ItemReader)
-    (view : Option ItemView) → ReadersBehind first old given slots (reader ∷ readers)
-    → ((slot : ℕ) → ReaderBehind first old given slot reader → CopyNext (Ok view) 0 first now given slot next)
+    (view : Option ItemView) → AreReadersAfter first old given slots (reader ∷ readers)
+    → ((slot : ℕ) → IsReaderAfter first old given slot reader → CopyNext (Ok view) 0 first now given slot next)
     → (item : Option Item) × IsHeldAs view next item
-    × ((slot : ℕ) → ReaderBehind first old given slot reader → ReaderAtRow first now given slot next (row_of item))
+    × ((slot : ℕ) → IsReaderAfter first old given slot reader → ReaderAtRow first now given slot next (row_of item))
 first-row first old now given slots reader next readers view h read =
     let b = first-behind first old given slots reader readers h in
     let r = read b.0 b.1 in
@@ -132,15 +132,16 @@ first-row first old now given slots reader next readers view h read =
 
 module _ (first old mid now : ShelfState) (given : List Item) (reader next : ItemReader) (readers after : List ItemReader)
     (item : Option Item)
-    (read : (slot : ℕ) → ReaderBehind first old given slot reader → ReaderAtRow first mid given slot next (row_of item))
+    (read : (slot : ℕ) → IsReaderAfter first old given slot reader → ReaderAtRow first mid given slot next (row_of item))
     (among : ReadsAmong old mid (slot_of reader ∷ [])) where
-  left-behind : (s : ℕ) (slots : List ℕ) → AreDifferent (s ∷ slots) → ReadersBehind first old given (s ∷ slots) (reader ∷ readers)
-      → ReadersBehind first mid given slots readers
+  left-behind : (s : ℕ) (slots : List ℕ) → AreDifferent (s ∷ slots) → AreReadersAfter first old given (s ∷ slots) (reader ∷ readers)
+      → AreReadersAfter first mid given slots readers
   left-behind s slots ne h = all-later first given s slots readers ne.0 (subst (λ (k : ℕ). ReadsAmong old mid (k ∷ [])) h.0.at among) h.1
 
   -- another copy stops
-  pub stop-others : (slots : List ℕ) (stop : Stopped BadCopy) → AreDifferent slots → ReadersBehind first old given slots (reader ∷ readers)
-      → ((others : List ℕ) → AreDifferent others → ReadersBehind first mid given others readers
+  pub stop-others : (slots : List ℕ) (stop : Stopped BadCopy) → AreDifferent slots
+      → AreReadersAfter first old given slots (reader ∷ readers)
+      → ((others : List ℕ) → AreDifferent others → AreReadersAfter first mid given others readers
       → OthersRead (Err stop) (row_of item) first now given others after)
       → Compared (Err stop) first now slots × (stop ≢ Failed Write)
   stop-others [] stop ne h others = absurd h
@@ -159,8 +160,8 @@ module _ (first old mid now : ShelfState) (given : List Item) (reader next : Ite
       (record { is = λ copies l. tt; ends = tt }, λ e. others slots ne.1 (left-behind s slots ne h) (cc))
 
   -- all copies gave their rows
-  pub all-rows : (slots : List ℕ) (found : Option Verdict) → AreDifferent slots → ReadersBehind first old given slots (reader ∷ readers)
-      → ((others : List ℕ) → AreDifferent others → ReadersBehind first mid given others readers
+  pub all-rows : (slots : List ℕ) (found : Option Verdict) → AreDifferent slots → AreReadersAfter first old given slots (reader ∷ readers)
+      → ((others : List ℕ) → AreDifferent others → AreReadersAfter first mid given others readers
       → OthersRead (Ok found) (row_of item) first now given others after)
       → ReadsAmong mid now (map slot_of readers)
       → (more : List Row) × ReadersAtRows first now given slots (next ∷ after) (row_of item ∷ more) × (first_bad 1 more ≡ None)
@@ -174,8 +175,8 @@ module _ (first old mid now : ShelfState) (given : List Item) (reader next : Ite
 
 -- the others are still after the same items
 pub others-behind : (first old mid : ShelfState) (given : List Item) (slots : List ℕ) (reader : ItemReader) (readers : List ItemReader)
-    → AreDifferent slots → ReadersBehind first old given slots (reader ∷ readers) → ReadsAmong old mid (slot_of reader ∷ [])
-    → (others : List ℕ) × AreDifferent others × ReadersBehind first mid given others readers
+    → AreDifferent slots → AreReadersAfter first old given slots (reader ∷ readers) → ReadsAmong old mid (slot_of reader ∷ [])
+    → (others : List ℕ) × AreDifferent others × AreReadersAfter first mid given others readers
 others-behind first old mid given [] reader readers ne h among = absurd h
 others-behind first old mid given (s ∷ slots) reader readers ne h among = (
   slots,
@@ -192,7 +193,7 @@ AreDecided n (row ∷ more) = IsDecided n row more
 
 -- the verdict by the rows
 told-verdict : (first old now : ShelfState) (given : List Item) (slots : List ℕ) (before after : List ItemReader) (row : Row)
-    (more : List Row) → ReadersBehind first old given slots before → ReadersAtRows first now given slots after (row ∷ more)
+    (more : List Row) → AreReadersAfter first old given slots before → ReadersAtRows first now given slots after (row ∷ more)
     → IsDecided (length given) row more → (copies : List (List ℕ)) → AreLeft first slots copies
     → verdict copies ≡ row_verdict given (row ∷ more)
 told-verdict first old now given slots before after row more h have decided [] l =
@@ -225,7 +226,7 @@ wider n m read less h = while-weaker _ _ read (λ first p. (let few = p.0 in ome
 -- after an item that all hold
 on-item : (n : ℕ) (x : Item) (first now : ShelfState) (given : List Item) (slots : List ℕ) (readers : List ItemReader) (more : List Row)
     → ReadersAtRows first now given slots readers more → AllByRecursion (λ r. row_difference n (rows.Item x) r ≡ None) more
-    → ReadersBehind first now (given ++ x ∷ []) slots readers
+    → AreReadersAfter first now (given ++ x ∷ []) slots readers
 on-item n x first now given [] [] [] h all = tt
 on-item n x first now given (s ∷ slots) (r ∷ readers) (row ∷ more) h all =
     let same = subst (λ y. ReaderAtRow first now given s r y) (sym ((item-apart n x row).0 all.0)) h.0 in (
@@ -302,7 +303,7 @@ fewer-come (Some view) reader None old new held fell = absurd held
 
 row-read-as : (first old now : ShelfState) (given : List Item) (slots : List ℕ) (before after : List ItemReader) (next : ItemReader)
     (item : Option Item) (found result : Option Verdict) (more : List Row) (copies new : Copies) (old_room : ℕ)
-    → ReadersBehind first old given slots before → ReadersAtRows first now given slots (next ∷ after) (row_of item ∷ more)
+    → AreReadersAfter first old given slots before → ReadersAtRows first now given slots (next ∷ after) (row_of item ∷ more)
     → first_bad 1 more ≡ None → found ≡ first_other (length given) (row_of item) 1 more → IsCountedAs item found result copies new
     → copies.first ≡ next → copies.others.items ≡ after → copies.rows ≡ length given → copies.cycles ≡ cycles_of given
     → FewerCome item old_room (room next) → RowRead (Ok result) first now given slots old_room new
@@ -328,7 +329,7 @@ row-read-as first old now given slots before after next (Some x) None result mor
     (subst (λ (s : Copies). RowRead (Ok None) first now given slots old_room s) (sym goes.1) (
       x,
       record {
-        readers = subst (λ rs. ReadersBehind first now (given ++ x ∷ []) slots rs)
+        readers = subst (λ rs. AreReadersAfter first now (given ++ x ∷ []) slots rs)
             (ap (λ r. r ∷ after) (sym f) ∙ ap (λ rs. copies.first ∷ rs) (sym o))
             (on-item (length given) x first now given slots (next ∷ after) (rows.Item x ∷ more) have
             ((item-apart (length given) x (rows.Item x)).1 refl, none-other (length given) (rows.Item x) 1 more (sym is)));
@@ -340,7 +341,7 @@ row-read-as first old now given slots before after next (Some x) None result mor
 
 pub row-read : (first old now : ShelfState) (given : List Item) (slots : List ℕ) (before after : List ItemReader) (next : ItemReader)
     (view : Option ItemView) (item : Option Item) (found result : Option Verdict) (more : List Row) (copies new : Copies) (old_room : ℕ)
-    → IsHeldAs view next item → ReadersBehind first old given slots before
+    → IsHeldAs view next item → AreReadersAfter first old given slots before
     → ReadersAtRows first now given slots (next ∷ after) (row_of item ∷ more)
     → first_bad 1 more ≡ None → found ≡ first_other (length given) (row_of item) 1 more → IsCounted view found result copies new
     → copies.first ≡ next → copies.others.items ≡ after → copies.rows ≡ length given → copies.cycles ≡ cycles_of given
@@ -352,7 +353,7 @@ row-read first old now given slots before after next view item found result more
 
 -- copy 0 has fewer items to come
 pub fell-first : (first now : ShelfState) (given : List Item) (slots : List ℕ) (reader : ItemReader) (readers : List ItemReader)
-    → ReadersBehind first now given slots (reader ∷ readers) → (answer : Result (Option ItemView) (Stopped BadCopy)) (new : ℕ)
+    → AreReadersAfter first now given slots (reader ∷ readers) → (answer : Result (Option ItemView) (Stopped BadCopy)) (new : ℕ)
     → ((read : List ℕ) (given : List Item) → StandsFor reader read given → RoomFellIf answer (room reader) new)
     → RoomFellIf answer (room reader) new
 fell-first first now given [] reader readers h answer new fell = absurd h
@@ -380,28 +381,32 @@ written-back len new old e same =
 
 -- ---- all copies are after the same items
 
-pub stand-slots : {first now : ShelfState} {given : List Item} {slots : List ℕ} {copies : Copies} → Stand first now given slots copies
+pub stand-slots : {first now : ShelfState} {given : List Item} {slots : List ℕ} {copies : Copies}
+    → AreCopiesAfter first now given slots copies
     → slots_of copies ≡ slots
 stand-slots {first} {now} {given} {slots} {copies} h =
     slots-are first now given slots (copies.first ∷ copies.others.items) h.readers
 
-pub stand-given : {first now : ShelfState} {given : List Item} {slots : List ℕ} {copies : Copies} → Stand first now given slots copies
+pub stand-given : {first now : ShelfState} {given : List Item} {slots : List ℕ} {copies : Copies}
+    → AreCopiesAfter first now given slots copies
     → AreGiven first slots → ReadsAmong first now slots → AreGiven now (slots_of copies)
 stand-given {first} {now} {slots = slots} h all reads =
     subst (λ ks. AreGiven now ks) (sym (stand-slots h))
     (subst (λ (n : ℕ). AllByRecursion (λ slot. slot < n) slots) (sym reads.kept.slots) all)
 
-pub stand-few : {first now : ShelfState} {given : List Item} {slots : List ℕ} {copies : Copies} → Stand first now given slots copies
+pub stand-few : {first now : ShelfState} {given : List Item} {slots : List ℕ} {copies : Copies}
+    → AreCopiesAfter first now given slots copies
     → length slots ≤ 8 → length copies.others.items ≤ 7
 stand-few {copies = copies} h few =
     let all = ap length (stand-slots h) in let n = length-map copies.others.items slot_of in omega (arith, all, n, few)
 
-pub stand-reads : {first mid now : ShelfState} {given : List Item} {slots : List ℕ} {copies : Copies} → Stand first mid given slots copies
+pub stand-reads : {first mid now : ShelfState} {given : List Item} {slots : List ℕ} {copies : Copies}
+    → AreCopiesAfter first mid given slots copies
     → ReadsAmong first mid slots → ReadsAmong mid now (slots_of copies) → ReadsAmong first now slots
 stand-reads {mid = mid} {now = now} h p q = among-again p (subst (λ ks. ReadsAmong mid now ks) (stand-slots h) q)
 
 given-few : (first now : ShelfState) (given : List Item) (slots : List ℕ) (reader : ItemReader) (readers : List ItemReader)
-    → ReadersBehind first now given slots (reader ∷ readers) → length given ≤ 1000005
+    → AreReadersAfter first now given slots (reader ∷ readers) → length given ≤ 1000005
 given-few first now given [] reader readers h = absurd h
 given-few first now given (s ∷ slots) reader readers h = few_first given (record {
   bytes = h.0.read;
@@ -410,12 +415,14 @@ given-few first now given (s ∷ slots) reader readers h = few_first given (reco
   leads = h.0.stands.leads;
 })
 
-pub stand-rows : {first now : ShelfState} {given : List Item} {slots : List ℕ} {copies : Copies} → Stand first now given slots copies
+pub stand-rows : {first now : ShelfState} {given : List Item} {slots : List ℕ} {copies : Copies}
+    → AreCopiesAfter first now given slots copies
     → copies.rows < 4294967295
 stand-rows {first} {now} {given} {slots} {copies} h =
     let few = given-few first now given slots copies.first copies.others.items h.readers in let n = h.rows in omega (arith, few, n)
 
-pub stand-cycles : {first now : ShelfState} {given : List Item} {slots : List ℕ} {copies : Copies} → Stand first now given slots copies
+pub stand-cycles : {first now : ShelfState} {given : List Item} {slots : List ℕ} {copies : Copies}
+    → AreCopiesAfter first now given slots copies
     → copies.cycles ≤ copies.rows
 stand-cycles {given = given} h = let few = cycles-few given in let n = h.rows in let m = h.cycles in omega (arith, few, n, m)
 

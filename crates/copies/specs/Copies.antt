@@ -5,8 +5,8 @@ use Rattle.det_io.specs.Shelf.{ShelfState}
 use Rattle.det_io.specs.declared.failure.Failure.TheVariants.{Write}
 use Rattle.det_io.specs.declared.failure.Stopped.{Stopped}
 use Rattle.det_io.specs.declared.failure.Stopped.TheVariants.{Refused, Failed}
-use Rattle.record_grammar.specs.declared.fault.Reason.TheVariants.{Truncated}
-use Rattle.record_grammar.specs.declared.fault.RecordFault.{RecordFault}
+use Rattle.record_grammar.specs.declared.record_fault.Reason.TheVariants.{Truncated}
+use Rattle.record_grammar.specs.declared.record_fault.RecordFault.{RecordFault}
 use Rattle.record_grammar.specs.declared.item.Item.{Item}
 use Rattle.record_reader.specs.Salvaged.{cycles_of}
 use Rattle.record_view.specs.declared.view.ItemView.{ItemView}
@@ -14,8 +14,8 @@ use Rattle.record_view.specs.declared.view.FrameKind.TheVariants as frame_kinds
 use Rattle.record_view.specs.declared.view.ItemKind.{ItemKind}
 use Rattle.record_view.specs.declared.view.ItemKind.TheVariants as kinds
 use Rattle.record_reader.specs.declared.item_reader.reader.ItemReader.{ItemReader}
-use Rattle.record_reader.specs.declared.item_reader.like.Like.{Like}
-use Rattle.record_reader.specs.declared.item_reader.like.Like.TheVariants as likes
+use Rattle.record_reader.specs.declared.item_reader.comparison.Comparison.{Comparison}
+use Rattle.record_reader.specs.declared.item_reader.comparison.Comparison.TheVariants as likes
 use Rattle.record_reader.specs.item_reader.StandsFor.{Holds, slot_of, room}
 use Rattle.copies.specs.declared.difference.Difference.{Difference}
 use Rattle.copies.specs.declared.difference.Difference.TheVariants as differences
@@ -26,9 +26,9 @@ use Rattle.copies.specs.declared.verdict.Verdict.{Verdict}
 use Rattle.copies.specs.declared.verdict.Verdict.TheVariants.{Agree}
 use Rattle.copies.specs.declared.copies.Copies.{Copies}
 use Rattle.copies.specs.Rows.{row_at}
-use Rattle.copies.specs.ItemRows.{ReadersBehind, ReaderAtRow, ReadersAtRows, IsHeldAs}
+use Rattle.copies.specs.ItemRows.{AreReadersAfter, ReaderAtRow, ReadersAtRows, IsHeldAs}
 use Rattle.copies.specs.Verdict.{row_difference, first_bad, first_other}
-use Rattle.copies.specs.Compared.{AreLeft, CopyEnds, Compared}
+use Rattle.copies.specs.CompareCopies.{AreLeft, CopyEnds, Compared}
 
 -- ---- one row
 
@@ -67,11 +67,11 @@ CopyNext (Err stop) copy first now given slot reader =
 -- ---- a row of a copy, compared with the row of copy 0
 
 -- the same item, or another row
-abbrev pub LikeHeld : Like → Item → ItemReader → Option Item → Type 0
+abbrev pub LikeHeld : Comparison → Item → ItemReader → Option Item → Type 0
 LikeHeld likes.Same ours reader item = item ≡ Some ours
 LikeHeld (likes.Other view) ours reader item = IsHeldAs view reader item
 
-abbrev pub CopyLike : Result Like (Stopped BadCopy) → ℕ → Item → ShelfState → ShelfState
+abbrev pub CopyLike : Result Comparison (Stopped BadCopy) → ℕ → Item → ShelfState → ShelfState
     → List Item → ℕ → ItemReader → Type 0
 CopyLike (Ok like) copy ours first now given slot reader = (item : Option Item)
     × LikeHeld like ours reader item × ReaderAtRow first now given slot reader (row_of item)
@@ -79,12 +79,12 @@ CopyLike (Err stop) copy ours first now given slot reader =
     CopyStopped stop copy first now given slot reader
 
 -- an item that isn't the same is held in memory
-abbrev pub OtherIsHeld : Like → ItemReader → Type 0
+abbrev pub OtherIsHeld : Comparison → ItemReader → Type 0
 OtherIsHeld (likes.Other (Some view)) reader = (item : Item) × Holds reader view item
 OtherIsHeld like reader = Unit {0}
 
 -- the first difference between an item of copy 0 and the row that was compared with it
-abbrev pub DifferenceIs : Option Difference → ℕ → Item → Like → ItemReader → Type 0
+abbrev pub DifferenceIs : Option Difference → ℕ → Item → Comparison → ItemReader → Type 0
 DifferenceIs result row ours likes.Same reader = result ≡ None
 DifferenceIs result row ours (likes.Other None) reader = result ≡ Some (differences.Kind (row - 1))
 DifferenceIs result row ours (likes.Other (Some view)) reader = (item : Item)
@@ -140,9 +140,9 @@ IsCounted (Some view) None result old new = (result ≡ None)
     × (new ≡ record old { rows = old.rows + 1; cycles = old.cycles + runs_of view.span.kind })
 
 -- all copies gave these items, and they are counted
-pub record Stand (first now : ShelfState) (given : List Item) (slots : List ℕ) (copies : Copies)
+pub record AreCopiesAfter (first now : ShelfState) (given : List Item) (slots : List ℕ) (copies : Copies)
     : Type 0 where
-  pub readers : ReadersBehind first now given slots (copies.first ∷ copies.others.items)
+  pub readers : AreReadersAfter first now given slots (copies.first ∷ copies.others.items)
   pub rows : copies.rows ≡ length given
   pub cycles : copies.cycles ≡ cycles_of given
 
@@ -150,7 +150,7 @@ pub record Stand (first now : ShelfState) (given : List Item) (slots : List ℕ)
 abbrev pub RowRead : Result (Option Verdict) (Stopped BadCopy) → ShelfState → ShelfState
     → List Item → List ℕ → ℕ → Copies → Type 0
 RowRead (Ok None) first now given slots old_room copies = (item : Item)
-    × Stand first now (given ++ item ∷ []) slots copies × (room copies.first < old_room)
+    × AreCopiesAfter first now (given ++ item ∷ []) slots copies × (room copies.first < old_room)
 RowRead (Ok (Some found)) first now given slots old_room copies =
     Compared (Ok found) first now slots
 RowRead (Err stop) first now given slots old_room copies =

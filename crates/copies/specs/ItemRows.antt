@@ -1,7 +1,7 @@
 -- Rows that are read by a reader of views, and what the reader gave before.
 use Rattle.std.specs.Prelude.{◌≡◌, ℕ, List, [], ◌∷◌, ◌++◌, length, Option, Some, None}
 use Rattle.det_io.specs.Shelf.{ShelfState, Gave, IsAtEnd}
-use Rattle.record_grammar.specs.declared.fault.Reason.TheVariants.{Truncated}
+use Rattle.record_grammar.specs.declared.record_fault.Reason.TheVariants.{Truncated}
 use Rattle.record_grammar.specs.declared.item.Item.{Item}
 use Rattle.record_view.specs.declared.view.ItemView.{ItemView}
 use Rattle.record_view.specs.Shows.{IsSpelling}
@@ -13,7 +13,7 @@ use Rattle.copies.specs.Rows.{ShowsRow}
 use Rattle.copies.specs.Needed.{IsNeeded}
 
 -- a reader gave these items of what its slot had at first
-pub record ReaderBehind (first now : ShelfState) (given : List Item) (slot : ℕ)
+pub record IsReaderAfter (first now : ShelfState) (given : List Item) (slot : ℕ)
     (reader : ItemReader) : Type 0 where
   pub read : List ℕ
   pub at : slot_of reader ≡ slot
@@ -22,11 +22,11 @@ pub record ReaderBehind (first now : ShelfState) (given : List Item) (slot : ℕ
   pub needed : IsNeeded (length given) read
 
 -- the same of readers, one a slot
-abbrev pub ReadersBehind : ShelfState → ShelfState → List Item → List ℕ → List ItemReader → Type 0
-ReadersBehind first now given [] [] = Unit {0}
-ReadersBehind first now given (slot ∷ slots) (reader ∷ readers) =
-    ReaderBehind first now given slot reader × ReadersBehind first now given slots readers
-ReadersBehind first now given slots readers = ⊥
+abbrev pub AreReadersAfter : ShelfState → ShelfState → List Item → List ℕ → List ItemReader → Type 0
+AreReadersAfter first now given [] [] = Unit {0}
+AreReadersAfter first now given (slot ∷ slots) (reader ∷ readers) =
+    IsReaderAfter first now given slot reader × AreReadersAfter first now given slots readers
+AreReadersAfter first now given slots readers = ⊥
 
 -- where a reader is after a row
 abbrev pub ReaderGoesOn : Row → ItemReader → Type 0 → List ℕ → List Item → Type 0

@@ -4,7 +4,7 @@ pub mod Verdict
 pub mod Needed
 pub mod Views
 pub mod ItemRows
-pub mod Compared
+pub mod CompareCopies
 pub mod Copies
 pub mod Laws
 pub mod verdict_text

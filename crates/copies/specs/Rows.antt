@@ -1,7 +1,7 @@
 -- The rows of a record: its items, and after them how it ends.
 use Rattle.std.specs.Prelude.{◌≡◌, ℕ, List, [], ◌∷◌, length, drop, Option, Some, None}
 use Rattle.det_io.specs.Prefix.{IsPrefix}
-use Rattle.record_grammar.specs.declared.fault.RecordFault.{RecordFault}
+use Rattle.record_grammar.specs.declared.record_fault.RecordFault.{RecordFault}
 use Rattle.record_grammar.specs.declared.item.Item.{Item}
 use Rattle.record_grammar.specs.Record.{items, fault}
 use Rattle.copies.specs.declared.row.Row.{Row}

@@ -4,12 +4,12 @@ ghost use Rattle.det_io.specs.Shelf.{ShelfState};
 ghost use Rattle.det_io.specs.Traffic.{ShelfTraffic, shelf_run, failure_in};
 ghost use Rattle.record_grammar.specs.declared.item.Item.{Item};
 ghost use Rattle.record_reader.specs.item_reader.StandsFor.{room};
-ghost use Rattle.copies.specs.Compared.{AreDifferent, AreGiven, ReadsAmong};
+ghost use Rattle.copies.specs.CompareCopies.{AreDifferent, AreGiven, ReadsAmong};
 ghost use Rattle.copies.specs.Needed.{AllNeeded};
-ghost use Rattle.copies.specs.Copies.{slots_of, Stand};
+ghost use Rattle.copies.specs.Copies.{slots_of, AreCopiesAfter};
 ghost use Rattle.copies.specs.Copies.{RowRead, IsCounted, runs_of};
 
-use crate::reading::{item_bytes, next_of_copy, read_others, readers_at};
+use crate::copy_readers::{compare_others, item_bytes, next_of_copy, readers_at};
 use crate::{BadCopy, Verdict};
 use det_io::{Slots, Stopped};
 use det_values::OutOfMemory;
@@ -31,10 +31,10 @@ pub struct Copies {
 
 impl Copies {
     /// Readers for these slots, in this order. Nothing was read yet.
-    pub fn at(alloc: Global, slots: &[u32]) -> Result<Copies, OutOfMemory>
+    pub fn new(alloc: Global, slots: &[u32]) -> Result<Copies, OutOfMemory>
         requires { 1 ≤ length slots.now }
         ensures { IfOk result (λ copies. (state : ShelfState)
-            → Stand state state [] slots.now copies) }
+            → AreCopiesAfter state state [] slots.now copies) }
     {
         Ok(Copies {
             first: ItemReader::new(alloc, slots[0]),
@@ -52,12 +52,12 @@ impl Copies {
         requires rows { self.old.rows < 4294967295 }
         requires cycles { self.old.cycles ≤ self.old.rows }
         requires stand { (first : ShelfState) × (given : List Item) × (slots : List ℕ)
-            × AreDifferent slots × Stand first (S.sees shelf.old) given slots self.old }
+            × AreDifferent slots × AreCopiesAfter first (S.sees shelf.old) given slots self.old }
         ensures row { (first : ShelfState) (given : List Item) (slots : List ℕ)
-            → AreDifferent slots → Stand first (S.sees shelf.old) given slots self.old
+            → AreDifferent slots → AreCopiesAfter first (S.sees shelf.old) given slots self.old
             → RowRead result first (S.sees shelf.new) given slots (room self.old.first) self.new }
         ensures needed { (first : ShelfState) (given : List Item) (slots : List ℕ)
-            → AreDifferent slots → Stand first (S.sees shelf.old) given slots self.old
+            → AreDifferent slots → AreCopiesAfter first (S.sees shelf.old) given slots self.old
             → AllNeeded first (S.sees shelf.new) (length given) slots }
         ensures reads { ReadsAmong (S.sees shelf.old) (S.sees shelf.new) (slots_of self.old) }
         ensures traffic { ShelfTraffic (shelf_run S.sees S.stays shelf.old shelf.new)
@@ -65,13 +65,13 @@ impl Copies {
     {
         let item = next_of_copy(&mut self.first, shelf, 0)?;
         let bytes = item_bytes(&self.first, item);
-        let found = read_others(&mut self.others, shelf, self.rows, item, bytes)?;
-        Ok(self.go_on(item, found))
+        let found = compare_others(&mut self.others, shelf, self.rows, item, bytes)?;
+        Ok(self.finish_row(item, found))
     }
 
     /// Counts the row if all copies hold an item that is equal. Otherwise returns the verdict: what
     /// differs, or that the copies agree up to their end.
-    fn go_on(&mut self, item: Option<ItemView>, found: Option<Verdict>) -> Option<Verdict>
+    fn finish_row(&mut self, item: Option<ItemView>, found: Option<Verdict>) -> Option<Verdict>
         requires rows { self.old.rows < 4294967295 }
         requires cycles { self.old.cycles ≤ self.old.rows }
         ensures { IsCounted item found result self.old self.new }

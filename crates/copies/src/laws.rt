@@ -12,6 +12,6 @@ pub fn equality()
 
 /// The verdict is that copies agree exactly where all of them are one whole record, byte for byte.
 /// It has the number of its Run frames.
-pub fn agreeing()
+pub fn agreement()
     ensures { Agreeing }
 {}

@@ -1,21 +1,21 @@
 //! Compares copies of a record side by side, up to the first place where they differ.
 #![tactic(auto)]
 
-mod comparing;
 mod copies;
+mod copy_readers;
 mod difference;
-mod differing;
-mod frames;
+mod difference_verdict;
+mod frame_differences;
+mod item_differences;
 pub mod laws;
-mod reading;
 mod row;
+mod side_by_side;
 mod verdict;
 pub mod verdict_text;
-mod views;
 
-pub use comparing::compare;
 pub use copies::runs_of;
 pub use difference::Difference;
-pub use frames::first_difference;
+pub use frame_differences::first_frame_difference;
 pub use row::Row;
+pub use side_by_side::compare;
 pub use verdict::{BadCopy, Verdict};

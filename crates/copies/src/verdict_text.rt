@@ -1,5 +1,5 @@
 //! The line of a verdict, and the text of a place.
 
-mod put;
+mod verdict_lines;
 
-pub use put::{put_place, verdict_line};
+pub use verdict_lines::{put_place, verdict_line};

@@ -4,14 +4,14 @@ use Rattle.std.specs.Prelude.{None, Some, Option, [], if◌then◌else◌}
 use Rattle.std.specs.List.{All}
 use Rattle.det_values.specs.Values.{ProfileValue, EventSpecValue}
 use Rattle.job.specs.event_cache.Rings.{Rings}
-use Rattle.job.specs.Meaning.{Meaning, Begun}
-use Rattle.cycle_engine.specs.Frames.{job_of, begun_state, state_of, state_behind}
-use Rattle.det_client.specs.element_random.Words.{StandsFor, key}
+use Rattle.job.specs.Meaning.{Meaning, JobStartValue}
+use Rattle.cycle_engine.specs.Frames.{job_of, start_state, state_of, state_after_inputs}
+use Rattle.det_client.specs.element_random.RandomStreams.{StandsFor, key}
 use Rattle.det_client.specs.declared.activation.Activation.{Activation}
 use Rattle.det_client.specs.declared.activation.Activation.TheVariants.{RegisterServices, ServiceDiscovery, Init}
 use Rattle.det_client.specs.declared.activation.Next.TheVariants.{Go}
 use Rattle.det_client.specs.State.{State, OwnAt, SameButSeed}
-use Rattle.det_client.specs.Life.{Life, following, next_activation, is_run, begins}
+use Rattle.det_client.specs.Life.{Life, successor, next_activation, is_run, begins}
 use Rattle.det_client.specs.Step.{Stepped}
 
 -- a client in Init, at the beginning of its own stream, before any cycle
@@ -23,7 +23,7 @@ pub record IsInit (c : State) (its_seed its_time : ℕ) : Type 0 where
   pub own : StandsFor c.own (key c.seed 0 255 0) 0
 
 answered : (before after : State) (r : Activation) (last : Option Activation) → Stepped before (Go None) r after
-    → before.last ≡ last → r ≡ following last
+    → before.last ≡ last → r ≡ successor last
 answered before after r last s e = s.result_is ∙ ap (λ l. next_activation l (Go None)) e
 
 counted : (before after : State) (r a : Activation) → Stepped before (Go None) r after → r ≡ a
@@ -62,13 +62,13 @@ module _ {S G E L P : Type 0} (m : Meaning S G E L P) (profile : ProfileValue) w
       n ∙ sym (ap m.events made ∙ law profile.params (length profile.events) (omega arith))
 
   -- the globals and elements of a job's start are the state before the first cycle
-  pub begins-run : (job : S) (seed : ℕ) (begun : Begun G E) (elements : List E) → job ≡ job_of m profile → seed ≡ profile.seed
+  pub begins-run : (job : S) (seed : ℕ) (begun : JobStartValue G E) (elements : List E) → job ≡ job_of m profile → seed ≡ profile.seed
       → m.started job seed ≡ begun → elements ≡ begun.elements
-      → begun_state (record { globals = begun.globals; elements = elements; seed = begun.seed }) ≡ state_of m profile []
-  unfolding state_behind
+      → start_state (record { globals = begun.globals; elements = elements; seed = begun.seed }) ≡ state_of m profile []
+  unfolding state_after_inputs
   begins-run job seed begun elements made same gives held =
-      (λ i. begun_state (record { globals = begun.globals; elements = held i; seed = begun.seed }))
-      ∙ ap begun_state (sym gives ∙ ap (λ j. m.started j seed) made ∙ ap (m.started (job_of m profile)) same)
+      (λ i. start_state (record { globals = begun.globals; elements = held i; seed = begun.seed }))
+      ∙ ap start_state (sym gives ∙ ap (λ j. m.started j seed) made ∙ ap (m.started (job_of m profile)) same)
 
 -- the same for equal values
 pub all_own : {S E : Type 0} (Own : S → E → Type 0) (j k : S) (es fs : List E) → k ≡ j → fs ≡ es → All (Own j) es → All (Own k) fs

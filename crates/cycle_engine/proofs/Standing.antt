@@ -15,8 +15,9 @@ use Rattle.det_client.specs.State.{next_time}
 use Rattle.job.specs.event_cache.Windows.{HasSeen, rings_from}
 use Rattle.job.proofs.lemmas.event_cache.Rounds.{seen_windows}
 use Rattle.job.specs.Meaning.{Meaning}
-use Rattle.job.specs.Cycle.{State, Done, cycled, outcome_of, state_after}
-use Rattle.cycle_engine.specs.Frames.{first_state, cycle_of, frame_of, state_behind, runs_behind, state_of, runs, samples_of, init_of}
+use Rattle.job.specs.Cycle.{State, Done, cycle_result, outcome_of, state_after}
+use Rattle.cycle_engine.specs.Frames.{first_state, cycle_of, frame_of, state_after_inputs, runs_after_inputs, state_of, runs, samples_of}
+use Rattle.cycle_engine.specs.Frames.{init_of}
 use Rattle.cycle_engine.specs.Frames.{frames}
 use Rattle.cycle_engine.specs.Engine.{EngineState, StandsFor, IsAfter, next_cycle, next_frame}
 
@@ -33,8 +34,8 @@ length-rings event (spec ∷ events) rounds arrived = ap suc (length-rings (suc 
 -- the arguments of a cycle, replaced by equal ones
 same_cycle : {S G E L P : Type 0} (m : Meaning S G E L P) {j k : S} {s t : State G E} {v w : List (List ℤ)} {a b : ℕ} (time : Option ℕ)
     {x y : Option ℕ}
-    → j ≡ k → s ≡ t → v ≡ w → a ≡ b → x ≡ y → cycled m j s v a time x ≡ cycled m k t w b time y
-same_cycle m time job state seen cycle next = λ i. cycled m (job i) (state i) (seen i) (cycle i) time (next i)
+    → j ≡ k → s ≡ t → v ≡ w → a ≡ b → x ≡ y → cycle_result m j s v a time x ≡ cycle_result m k t w b time y
+same_cycle m time job state seen cycle next = λ i. cycle_result m (job i) (state i) (seen i) (cycle i) time (next i)
 
 abbrev as_frame : CycleInput → Outcome → RunFrame
 as_frame input outcome = record { input = input; outcome = outcome }
@@ -51,29 +52,31 @@ as_run run = Run run
 
 module _ {S G E L P : Type 0} (m : Meaning S G E L P) (profile : ProfileValue) where
   -- the state after two lists of inputs is that after the second, from the state after the first
-  pub state_behind-append : (before inputs more : List CycleInput) (state : State G E)
-      → state_behind m profile before state (inputs ++ more) ≡ state_behind m profile (before ++ inputs)
-      (state_behind m profile before state inputs) more
-  unfolding state_behind
-  state_behind-append before [] more state = ap (λ b. state_behind m profile b state more) (sym (append-nil before))
-  state_behind-append before (input ∷ inputs) more state =
-      state_behind-append (before ++ input ∷ []) inputs more (state_after state (cycle_of m profile before state input))
-      ∙ ap (λ b. state_behind m profile b (state_behind m profile (before ++ input ∷ [])
+  pub state_after_inputs-append : (before inputs more : List CycleInput) (state : State G E)
+      → state_after_inputs m profile before state (inputs ++ more) ≡ state_after_inputs m profile (before ++ inputs)
+      (state_after_inputs m profile before state inputs) more
+  unfolding state_after_inputs
+  state_after_inputs-append before [] more state = ap (λ b. state_after_inputs m profile b state more) (sym (append-nil before))
+  state_after_inputs-append before (input ∷ inputs) more state =
+      state_after_inputs-append (before ++ input ∷ []) inputs more (state_after state (cycle_of m profile before state input))
+      ∙ ap (λ b. state_after_inputs m profile b (state_after_inputs m profile (before ++ input ∷ [])
       (state_after state (cycle_of m profile before state input)) inputs) more)
       (append_assoc before (input ∷ []) inputs)
 
   -- and so are the frames
-  pub runs_behind-append : (before inputs more : List CycleInput) (state : State G E)
-      → runs_behind m profile before state (inputs ++ more)
-      ≡ runs_behind m profile before state inputs ++ runs_behind m profile (before ++ inputs) (state_behind m profile before state inputs)
+  pub runs_after_inputs-append : (before inputs more : List CycleInput) (state : State G E)
+      → runs_after_inputs m profile before state (inputs ++ more)
+      ≡ runs_after_inputs m profile before state inputs ++ runs_after_inputs m profile (before
+      ++ inputs) (state_after_inputs m profile before state inputs)
       more
-  unfolding state_behind runs_behind
-  runs_behind-append before [] more state = ap (λ b. runs_behind m profile b state more) (sym (append-nil before))
-  runs_behind-append before (input ∷ inputs) more state =
+  unfolding state_after_inputs runs_after_inputs
+  runs_after_inputs-append before [] more state = ap (λ b. runs_after_inputs m profile b state more) (sym (append-nil before))
+  runs_after_inputs-append before (input ∷ inputs) more state =
       ap (λ l. frame_of m profile before state input ∷ l)
-      (runs_behind-append (before ++ input ∷ []) inputs more (state_after state (cycle_of m profile before state input))
-      ∙ ap (λ b. runs_behind m profile (before ++ input ∷ []) (state_after state (cycle_of m profile before state input)) inputs
-      ++ runs_behind m profile b (state_behind m profile (before ++ input ∷ []) (state_after state (cycle_of m profile before state input))
+      (runs_after_inputs-append (before ++ input ∷ []) inputs more (state_after state (cycle_of m profile before state input))
+      ∙ ap (λ b. runs_after_inputs m profile (before ++ input ∷ []) (state_after state (cycle_of m profile before state input)) inputs
+      ++ runs_after_inputs m profile b (state_after_inputs m profile (before ++ input
+      ∷ []) (state_after state (cycle_of m profile before state input))
       inputs) more)
       (append_assoc before (input ∷ []) inputs))
 
@@ -81,19 +84,19 @@ module _ {S G E L P : Type 0} (m : Meaning S G E L P) (profile : ProfileValue) w
   pub state_of-append : (inputs : List CycleInput) (input : CycleInput)
       → state_of m profile (inputs ++ input ∷ []) ≡ state_after (state_of m profile inputs)
       (cycle_of m profile inputs (state_of m profile inputs) input)
-  unfolding state_behind
-  state_of-append inputs input = state_behind-append [] inputs (input ∷ []) (first_state m profile)
+  unfolding state_after_inputs
+  state_of-append inputs input = state_after_inputs-append [] inputs (input ∷ []) (first_state m profile)
 
   -- one more input gives one more frame
   pub runs-append : (inputs : List CycleInput) (input : CycleInput)
       → runs m profile (inputs ++ input ∷ []) ≡ runs m profile inputs ++ frame_of m profile inputs (state_of m profile inputs) input ∷ []
-  unfolding runs_behind
-  runs-append inputs input = runs_behind-append [] inputs (input ∷ []) (first_state m profile)
+  unfolding runs_after_inputs
+  runs-append inputs input = runs_after_inputs-append [] inputs (input ∷ []) (first_state m profile)
 
   -- there are as many frames of cycles as inputs
   pub length-runs : (before inputs : List CycleInput) (state : State G E)
-      → length (runs_behind m profile before state inputs) ≡ length inputs
-  unfolding runs_behind
+      → length (runs_after_inputs m profile before state inputs) ≡ length inputs
+  unfolding runs_after_inputs
   length-runs before [] state = refl
   length-runs before (input ∷ inputs) state = ap suc (length-runs (before ++ input ∷ []) inputs
       (state_after state (cycle_of m profile before state input)))
@@ -120,7 +123,7 @@ module _ {S G E L P : Type 0} (m : Meaning S G E L P) (profile : ProfileValue) w
   -- at its start an engine shows the elements of Init
   pub init_is : (engine : EngineState S G E) → StandsFor m profile engine []
       → map (m.shown engine.job) engine.state.elements ≡ init_of m profile
-  unfolding state_behind
+  unfolding state_after_inputs
   init_is engine stands = λ i. map (m.shown (stands.job i)) (stands.state i).elements
 
   -- an engine in the run has as many events as the profile

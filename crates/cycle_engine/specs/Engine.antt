@@ -12,12 +12,12 @@ use Rattle.det_client.specs.declared.activation.Activation.{Activation}
 use Rattle.det_client.specs.declared.activation.Activation.TheVariants.{RegisterServices}
 use Rattle.det_client.specs.declared.activation.Activation.TheVariants.{ServiceDiscovery, Init}
 use Rattle.det_client.specs.declared.activation.Activation.TheVariants.{Run, Terminate}
-use Rattle.det_client.specs.Life.{following}
+use Rattle.det_client.specs.Life.{successor}
 use Rattle.det_client.specs.State.{State as ClientState, next_time}
 use Rattle.job.specs.event_cache.Rings.{Rings, windows}
 use Rattle.job.specs.event_cache.Windows.{HasSeen, next_windows}
 use Rattle.job.specs.Meaning.{Meaning}
-use Rattle.job.specs.Cycle.{State, Done, cycled, outcome_of, state_after}
+use Rattle.job.specs.Cycle.{State, Done, cycle_result, outcome_of, state_after}
 use Rattle.cycle_engine.specs.Frames.{job_of, state_of, samples_of}
 
 pub record EngineState (S G E : Type 0) : Type 0 where
@@ -44,7 +44,7 @@ pub record Fits {S G E L P : Type 0} (m : Meaning S G E L P) (Own : S → E → 
   pub own : All (Own job) elements
   pub few : length elements ≤ 65536
   pub events : length rings ≡ m.events job
-  pub ready : is_terminate client.last ≡ false → following client.last ≡ Run
+  pub ready : is_terminate client.last ≡ false → successor client.last ≡ Run
   pub timed : client.cycle_time ≡ time
   pub in_limits : IsCycleTime time
 
@@ -62,7 +62,7 @@ module _ {S G E L P : Type 0} (m : Meaning S G E L P) where
   -- the next cycle of an engine, at this time
   abbrev pub next_cycle : EngineState S G E → Option ℕ → Result (Done G E) RefusedAtValue
   next_cycle e time =
-      cycled m e.job e.state (windows e.rings) (e.cycles + 1) time (next_time e.cycle_time time)
+      cycle_result m e.job e.state (windows e.rings) (e.cycles + 1) time (next_time e.cycle_time time)
 
   -- its frame, reduced to what the engine's format keeps
   abbrev pub next_frame : EngineState S G E → CycleInput → RunFrame

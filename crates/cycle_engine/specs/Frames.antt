@@ -10,15 +10,15 @@ use Rattle.det_values.specs.declared.frames.Frame.TheVariants.{Register, Discove
 use Rattle.det_values.specs.declared.frames.Frame.TheVariants.{Run, Terminate}
 use Rattle.det_client.specs.State.{next_time}
 use Rattle.job.specs.event_cache.Windows.{windows_after}
-use Rattle.job.specs.Meaning.{Meaning, Begun}
-use Rattle.job.specs.Cycle.{State, Done, cycled, outcome_of, state_after}
+use Rattle.job.specs.Meaning.{Meaning, JobStartValue}
+use Rattle.job.specs.Cycle.{State, Done, cycle_result, outcome_of, state_after}
 
 -- the samples of each input
 abbrev pub samples_of : List CycleInput → List (List SampleValue)
 samples_of inputs = map (λ (input : CycleInput). input.samples) inputs
 
-abbrev pub begun_state : {G E : Type 0} → Begun G E → State G E
-begun_state b = record { globals = b.globals; elements = b.elements; seed = b.seed }
+abbrev pub start_state : {G E : Type 0} → JobStartValue G E → State G E
+start_state b = record { globals = b.globals; elements = b.elements; seed = b.seed }
 
 module _ {S G E L P : Type 0} (m : Meaning S G E L P) (profile : ProfileValue) where
   -- the job of the profile
@@ -27,13 +27,13 @@ module _ {S G E L P : Type 0} (m : Meaning S G E L P) (profile : ProfileValue) w
 
   -- the state before the first cycle
   abbrev pub first_state : State G E
-  first_state = begun_state (m.started job_of profile.seed)
+  first_state = start_state (m.started job_of profile.seed)
 
   -- The cycle of a state and an input, after the inputs of all earlier cycles. Its windows hold
   -- only samples of those.
   abbrev pub cycle_of : List CycleInput → State G E → CycleInput → Result (Done G E) RefusedAtValue
   cycle_of before state input =
-      cycled m job_of state (windows_after profile.events (samples_of before)) (length before + 1)
+      cycle_result m job_of state (windows_after profile.events (samples_of before)) (length before + 1)
       input.time (next_time profile.cycle_time input.time)
 
   -- its frame, reduced to what the profile's format keeps
@@ -44,24 +44,24 @@ module _ {S G E L P : Type 0} (m : Meaning S G E L P) (profile : ProfileValue) w
   }
 
   -- the state after these inputs, which come after others
-  unfoldable pub state_behind : List CycleInput → State G E → List CycleInput → State G E
-  state_behind before state [] = state
-  state_behind before state (input ∷ inputs) =
-      state_behind (before ++ input ∷ []) (state_after state (cycle_of before state input)) inputs
+  unfoldable pub state_after_inputs : List CycleInput → State G E → List CycleInput → State G E
+  state_after_inputs before state [] = state
+  state_after_inputs before state (input ∷ inputs) =
+      state_after_inputs (before ++ input ∷ []) (state_after state (cycle_of before state input)) inputs
 
   -- the frames of these inputs, which come after others
-  unfoldable pub runs_behind : List CycleInput → State G E → List CycleInput → List RunFrame
-  runs_behind before state [] = []
-  runs_behind before state (input ∷ inputs) =
+  unfoldable pub runs_after_inputs : List CycleInput → State G E → List CycleInput → List RunFrame
+  runs_after_inputs before state [] = []
+  runs_after_inputs before state (input ∷ inputs) =
       frame_of before state input
-      ∷ runs_behind (before ++ input ∷ []) (state_after state (cycle_of before state input)) inputs
+      ∷ runs_after_inputs (before ++ input ∷ []) (state_after state (cycle_of before state input)) inputs
 
   -- the state after the cycles of these inputs, and the frames of those cycles
   abbrev pub state_of : List CycleInput → State G E
-  state_of inputs = state_behind [] first_state inputs
+  state_of inputs = state_after_inputs [] first_state inputs
 
   abbrev pub runs : List CycleInput → List RunFrame
-  runs inputs = runs_behind [] first_state inputs
+  runs inputs = runs_after_inputs [] first_state inputs
 
   -- the bytes of the elements that the run starts with
   abbrev pub init_of : List (List ℕ)

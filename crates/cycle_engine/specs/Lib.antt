@@ -1,4 +1,4 @@
 pub mod Elements
 pub mod Frames
 pub mod Engine
-pub mod Answers
+pub mod PhaseResults

@@ -2,7 +2,7 @@
 ghost use Rattle.std.specs.Prelude.{◌≡◌, IfOk};
 ghost use Rattle.std.specs.Arc.{arc_value};
 
-use crate::owners::Place;
+use crate::shared_place::SharedPlace;
 use det_values::{Bytes, Container, CycleInput, OutOfMemory, Outcome, RunFrame, Spares};
 use job::{Job, PassRoom};
 use std::alloc::Global;
@@ -16,17 +16,17 @@ use std::sync::Arc;
 #[derive(Drop)]
 pub struct Desk<J: Job> {
     pub(crate) room: PassRoom<J::Element, J::Part>,
-    pub(crate) plans: Place<J::Plan>,
-    carries: Place<J::Part>,
-    elements: Place<Container<J::Element>>,
-    draws: Place<Container<u32>>,
+    pub(crate) plans: SharedPlace<J::Plan>,
+    carries: SharedPlace<J::Part>,
+    elements: SharedPlace<Container<J::Element>>,
+    draws: SharedPlace<Container<u32>>,
     /// A spare output.
     pub(crate) output: Option<Bytes>,
 }
 
 /// Keeps a container that has elements. An empty one has no memory, and would be taken in place of
 /// one that has.
-fn keep_filled<E: Drop>(spares: &mut Spares<E>, container: Container<E>) {
+fn keep_nonempty<E: Drop>(spares: &mut Spares<E>, container: Container<E>) {
     if !container.is_empty() {
         spares.keep(container);
     }
@@ -43,10 +43,10 @@ impl<J: Job> Desk<J> {
     pub fn new(alloc: Global) -> Desk<J> {
         Desk {
             room: PassRoom::new(alloc),
-            plans: Place::new(),
-            carries: Place::new(),
-            elements: Place::new(),
-            draws: Place::new(),
+            plans: SharedPlace::new(),
+            carries: SharedPlace::new(),
+            elements: SharedPlace::new(),
+            draws: SharedPlace::new(),
             output: None,
         }
     }
@@ -86,7 +86,7 @@ impl<J: Job> Desk<J> {
         let alloc = self.alloc();
         let owner = self.elements.share(alloc, elements)?;
         if let Some(spare) = self.elements.spare.take() {
-            keep_filled(&mut self.room.elements, spare);
+            keep_nonempty(&mut self.room.elements, spare);
         }
         Ok(owner)
     }
@@ -101,7 +101,7 @@ impl<J: Job> Desk<J> {
         let alloc = self.alloc();
         let owner = self.draws.share(alloc, draws)?;
         if let Some(spare) = self.draws.spare.take() {
-            keep_filled(&mut self.room.draws, spare);
+            keep_nonempty(&mut self.room.draws, spare);
         }
         Ok(owner)
     }

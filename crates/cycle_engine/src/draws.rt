@@ -8,7 +8,7 @@ ghost use Rattle.job.specs.Passes.{drawn_so_far};
 use crate::desk::Desk;
 use det_values::{Container, OutOfMemory};
 use job::Job;
-use pass_in_blocks::sums;
+use pass_in_blocks::draw_sums;
 use std::alloc::Global;
 use std::marker::Model;
 use std::sync::Arc;
@@ -39,7 +39,7 @@ impl Model for Draws {
 }
 
 impl Draws {
-    pub(crate) fn of(earlier: Arc<Container<u32>, Global>, own: Container<u32>) -> Draws
+    pub(crate) fn new(earlier: Arc<Container<u32>, Global>, own: Container<u32>) -> Draws
         requires level { (arc_value earlier ≡ []) ⊎ (length (arc_value earlier) ≡ length own) }
         requires few_earlier { All (λ n. n ≤ 458745) (arc_value earlier) }
         requires few { All (λ n. n ≤ 65535) own }
@@ -52,7 +52,7 @@ impl Draws {
     }
 
     /// The sums, for the next pass.
-    pub(crate) fn summed<J: Job>(
+    pub(crate) fn into_sums<J: Job>(
         self,
         desk: &mut Desk<J>,
     ) -> Result<Arc<Container<u32>, Global>, OutOfMemory>
@@ -63,14 +63,14 @@ impl Draws {
             desk.keep_draws(earlier);
             return desk.share_draws(own);
         }
-        let all = sums(&*earlier, &own, &mut desk.room.draws)?;
+        let all = draw_sums(&*earlier, &own, &mut desk.room.draws)?;
         desk.room.draws.keep(own);
         desk.keep_draws(earlier);
         desk.share_draws(all)
     }
 
     /// Returns the memory to the desk.
-    pub(crate) fn leave_to<J: Job>(self, desk: &mut Desk<J>) {
+    pub(crate) fn release<J: Job>(self, desk: &mut Desk<J>) {
         let Draws { earlier, own } = self;
         desk.room.draws.keep(own);
         desk.keep_draws(earlier);

@@ -10,22 +10,22 @@ ghost use Rattle.det_values.specs.Frames.{outcome_in_format};
 ghost use Rattle.job.specs.event_cache.Rings.{windows};
 ghost use Rattle.job.specs.event_cache.Windows.{HasSeen, next_windows};
 ghost use Rattle.job.specs.Cycle.{outcome_of, state_after};
-ghost use Rattle.cycle_engine.specs.Answers.{IsCycle};
+ghost use Rattle.cycle_engine.specs.PhaseResults.{IsCycle};
 ghost use Rattle.cycle_engine.specs.Elements.{with_length};
 ghost use Rattle.cycle_engine.specs.Frames.{frame_of, state_of};
 ghost use Rattle.cycle_engine.specs.Engine.{StandsFor, EngineState, IsAfter};
 ghost use Rattle.cycle_engine.specs.Engine.{next_cycle, next_frame};
 
+use crate::cycle_fault::{CycleFault, in_prepare};
 use crate::desk::Desk;
 use crate::element_bytes::put_element;
-use crate::fault::{CycleFault, in_prepare};
-use crate::owners::shared;
 use crate::passes::Passes;
 use crate::phases::CycleDone;
+use crate::shared_place::new_shared;
 use det_client::{Client, Next};
 use det_values::{
     Bytes64, Container, CycleInput, Elements, Format, Frame, OutOfMemory, Outcome, Profile,
-    RunFrame, Sample, as_format,
+    RunFrame, Sample, reduce_to_format,
 };
 use job::event_cache::EventCache;
 use job::{Job, Pool};
@@ -68,7 +68,7 @@ impl<J: Job> Model for Engine<J> {
 }
 
 /// Adds these samples to the cache, and shows them to the next cycle.
-fn feed(cache: &mut EventCache, samples: &[Sample])
+fn feed_samples(cache: &mut EventCache, samples: &[Sample])
     requires { All (λ s. s.event < length cache.old) samples.now }
     ensures count { length cache.new ≡ length cache.old }
     ensures seen { (events : List EventSpecValue) (rounds : List (List SampleValue))
@@ -85,7 +85,7 @@ fn feed(cache: &mut EventCache, samples: &[Sample])
 }
 
 /// The run in a `Frame::Run`.
-fn run_in(frame: Frame) -> RunFrame
+fn run_of_frame(frame: Frame) -> RunFrame
     requires { (run : Run) × (frame ≡ Frame.Run run) }
     ensures { frame ≡ Frame.Run result }
 {
@@ -96,12 +96,12 @@ fn run_in(frame: Frame) -> RunFrame
 }
 
 /// The frame of a cycle, reduced to what a format keeps.
-fn framed(format: Format, input: CycleInput, outcome: Outcome) -> RunFrame
+fn frame_in_format(format: Format, input: CycleInput, outcome: Outcome) -> RunFrame
     ensures { result ≡ record { input = input; outcome = outcome_in_format format outcome } }
 {
     let mut frame = Frame::Run(RunFrame { input, outcome });
-    as_format(format, &mut frame);
-    run_in(frame)
+    reduce_to_format(format, &mut frame);
+    run_of_frame(frame)
 }
 
 impl<J: Job> Engine<J> {
@@ -121,8 +121,8 @@ impl<J: Job> Engine<J> {
         let _ = client.wait_for_activation(Next::Go(None));
         let _ = client.wait_for_activation(Next::Go(None));
         let begun = job.start(alloc, &mut client)?;
-        let job = shared(alloc, job)?;
-        let elements = shared(alloc, begun.elements)?;
+        let job = new_shared(alloc, job)?;
+        let elements = new_shared(alloc, begun.elements)?;
         Ok(Engine {
             job,
             format: profile.format,
@@ -144,7 +144,7 @@ impl<J: Job> Engine<J> {
         for i in 0..self.elements.len() {
             bytes.clear();
             self.job.put_element(self.elements.item(i), &mut bytes)?;
-            shown.push(Bytes64::of(bytes.as_slice()))?;
+            shown.push(Bytes64::from_slice(bytes.as_slice()))?;
         }
         Ok(shown)
     }
@@ -238,7 +238,7 @@ impl<J: Job> Engine<J> {
                     Ok(outcome)
                 }
                 Err(no_memory) => {
-                    self.client = Client::resumed(self.cycle_time, seed, cycles);
+                    self.client = Client::resume_at(self.cycle_time, seed, cycles);
                     Err(no_memory)
                 }
             },
@@ -271,8 +271,8 @@ impl<J: Job> Engine<J> {
         ensures kept { OnErr result (self.new ≡ self.old) }
     {
         let outcome = self.advance(desk, pool, input.time)?;
-        feed(&mut self.cache, input.samples.as_slice());
-        Ok(framed(self.format, input, outcome))
+        feed_samples(&mut self.cache, input.samples.as_slice());
+        Ok(frame_in_format(self.format, input, outcome))
     }
 
     /// Ends the run: requests the activation `Terminate`. It allocates nothing.

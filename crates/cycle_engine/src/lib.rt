@@ -3,14 +3,14 @@
 //! frames.
 #![tactic(auto)]
 
+mod cycle_fault;
 mod desk;
 mod draws;
 mod element_bytes;
 mod engine;
-mod fault;
-mod owners;
 mod passes;
 mod phases;
+mod shared_place;
 
 pub use desk::Desk;
 pub use engine::Engine;

@@ -6,13 +6,13 @@ ghost use Rattle.job.specs.Cycle.{first_pass, next_pass, all_passes, shown_with}
 ghost use Rattle.job.specs.Laws.{CoversSome};
 ghost use Rattle.job.specs.Pass.{passed};
 ghost use Rattle.job.specs.Passes.{IsPass, RefusedBelow, drawn_so_far};
-ghost use Rattle.cycle_engine.specs.Answers.{ArePasses, left_by};
+ghost use Rattle.cycle_engine.specs.PhaseResults.{ArePasses, left_by};
 
+use crate::cycle_fault::{CycleFault, in_pool};
 use crate::desk::Desk;
 use crate::draws::Draws;
-use crate::fault::{CycleFault, in_pool};
 use det_values::{Container, DrawnElements};
-use job::{Job, PassDone, PassOf, PassRoom, Pool, PoolFault};
+use job::{Job, PassDone, PassRef, PassRoom, Pool, PoolFault};
 use std::alloc::Global;
 use std::marker::Model;
 use std::sync::Arc;
@@ -29,7 +29,7 @@ pub(crate) struct Passes<'c, J: Job> {
 impl<'c, J: Job> Model for Passes<'c, J> {
     ghost use Rattle.std.specs.Prelude.{◌≤◌};
     ghost use Rattle.std.specs.Arc.{arc_value};
-    ghost use Rattle.cycle_engine.specs.Answers.{SharedValue};
+    ghost use Rattle.cycle_engine.specs.PhaseResults.{SharedValue};
 
     ghost Value = { SharedValue J J.Plan };
 
@@ -40,13 +40,14 @@ impl<'c, J: Job> Model for Passes<'c, J> {
       cycle = p.cycle;
     } };
 
-    ghost invariant = { λ p. J.Fit (arc_value p.job.now) (arc_value p.plan.now) × (p.cycle ≤ 1000000) };
+    ghost invariant = { λ p. J.Fit (arc_value p.job.now) (arc_value p.plan.now) × (p.cycle
+        ≤ 1000000) };
 }
 
 /// The result of the passes up to one: the new elements, their draws and the part. After the last
 /// pass, `shown` has the bytes of the elements.
 #[derive(Drop)]
-pub struct SoFar<E, P> {
+pub struct PassesDone<E, P> {
     pub(crate) elements: Container<E>,
     pub(crate) draws: Draws,
     pub(crate) part: P,
@@ -66,7 +67,7 @@ struct Stage<'s, E, P> {
 
 impl<'s, E, P> Model for Stage<'s, E, P> {
     ghost use Rattle.std.specs.Arc.{arc_value};
-    ghost use Rattle.cycle_engine.specs.Answers.{StageValue};
+    ghost use Rattle.cycle_engine.specs.PhaseResults.{StageValue};
 
     ghost Value = { StageValue E P };
 
@@ -90,7 +91,8 @@ impl<'c, J: Job> Passes<'c, J> {
         requires carry { CoversSome (J.Covers self.now.job) stage.now.carry }
         requires few { length stage.now.elements ≤ 65536 }
         requires own { All (J.Own self.now.job) stage.now.elements }
-        requires level { (stage.now.earlier ≡ []) ⊎ (length stage.now.earlier ≡ length stage.now.elements) }
+        requires level { (stage.now.earlier ≡ []) ⊎ (length stage.now.earlier
+            ≡ length stage.now.elements) }
         requires few_earlier { All (λ draws. draws ≤ 458745) stage.now.earlier }
         ensures pass { IsPass result (passed J.meaning self.now.job self.now.plan stage.now.carry
             self.now.seed self.now.cycle stage.now.number stage.now.elements) }
@@ -107,7 +109,7 @@ impl<'c, J: Job> Passes<'c, J> {
             (drawn_so_far stage.now.earlier done.draws)) }
     {
         let passes = self.job.passes(&**self.plan);
-        let pass = PassOf {
+        let pass = PassRef {
             job: self.job,
             plan: self.plan,
             carry: stage.carry,
@@ -127,13 +129,14 @@ impl<'c, J: Job> Passes<'c, J> {
         pool: &mut P,
         elements: &Arc<Container<J::Element>, Global>,
         desk: &mut Desk<J>,
-    ) -> Result<SoFar<J::Element, J::Part>, CycleFault>
+    ) -> Result<PassesDone<J::Element, J::Part>, CycleFault>
         requires few { length (arc_value elements.now) ≤ 65536 }
         requires own { All (J.Own self.now.job) (arc_value elements.now) }
         ensures pass { ArePasses result (first_pass J.meaning self.now.job self.now.plan
             self.now.seed self.now.cycle (arc_value elements.now)) }
         ensures own { IfOk result (λ done. All (J.Own self.now.job) done.elements) }
-        ensures many { IfOk result (λ done. length done.elements ≡ length (arc_value elements.now)) }
+        ensures many { IfOk result (λ done. length done.elements
+            ≡ length (arc_value elements.now)) }
         ensures drew { IfOk result (λ done. length done.draws ≡ length done.elements) }
         ensures few_drawn { IfOk result (λ done. All (λ draws. draws ≤ 65535) done.draws) }
         ensures covers { IfOk result (λ done.
@@ -153,9 +156,9 @@ impl<'c, J: Job> Passes<'c, J> {
         let done = self.one(pool, &stage, &mut desk.room);
         desk.keep_part(carry);
         match done {
-            Ok(done) => Ok(SoFar {
+            Ok(done) => Ok(PassesDone {
                 elements: done.elements,
-                draws: Draws::of(none, done.draws),
+                draws: Draws::new(none, done.draws),
                 part: done.part,
                 shown: done.shown,
             }),
@@ -172,9 +175,9 @@ impl<'c, J: Job> Passes<'c, J> {
         &self,
         pool: &mut P,
         number: u8,
-        done: SoFar<J::Element, J::Part>,
+        done: PassesDone<J::Element, J::Part>,
         desk: &mut Desk<J>,
-    ) -> Result<SoFar<J::Element, J::Part>, CycleFault>
+    ) -> Result<PassesDone<J::Element, J::Part>, CycleFault>
         requires number { number < J.meaning.passes_of self.now.job self.now.plan }
         requires few_passes { number < 8 }
         requires own { All (J.Own self.now.job) done.elements }
@@ -194,7 +197,7 @@ impl<'c, J: Job> Passes<'c, J> {
             number + 1 ≡ J.meaning.passes_of self.now.job self.now.plan
             → next.shown ≡ shown_with J.meaning self.now.job next.elements next.draws) }
     {
-        let earlier = done.draws.summed(desk)?;
+        let earlier = done.draws.into_sums(desk)?;
         let carry = desk.share_part(done.part)?;
         let elements = desk.share_elements(done.elements)?;
         let stage = Stage {
@@ -207,9 +210,9 @@ impl<'c, J: Job> Passes<'c, J> {
         desk.keep_part(carry);
         desk.keep_elements(elements);
         match next {
-            Ok(next) => Ok(SoFar {
+            Ok(next) => Ok(PassesDone {
                 elements: next.elements,
-                draws: Draws::of(earlier, next.draws),
+                draws: Draws::new(earlier, next.draws),
                 part: next.part,
                 shown: next.shown,
             }),
@@ -226,13 +229,14 @@ impl<'c, J: Job> Passes<'c, J> {
         pool: &mut P,
         elements: &Arc<Container<J::Element>, Global>,
         desk: &mut Desk<J>,
-    ) -> Result<SoFar<J::Element, J::Part>, CycleFault>
+    ) -> Result<PassesDone<J::Element, J::Part>, CycleFault>
         requires few { length (arc_value elements.now) ≤ 65536 }
         requires own { All (J.Own self.now.job) (arc_value elements.now) }
         ensures passes { ArePasses result (all_passes J.meaning self.now.job self.now.plan
             self.now.seed self.now.cycle (arc_value elements.now)) }
         ensures own { IfOk result (λ done. All (J.Own self.now.job) done.elements) }
-        ensures many { IfOk result (λ done. length done.elements ≡ length (arc_value elements.now)) }
+        ensures many { IfOk result (λ done. length done.elements
+            ≡ length (arc_value elements.now)) }
         ensures drew { IfOk result (λ done. length done.draws ≡ length done.elements) }
         ensures covers { IfOk result (λ done.
             J.Covers self.now.job done.part (length done.elements)) }

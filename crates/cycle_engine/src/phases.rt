@@ -3,11 +3,11 @@ ghost use Rattle.std.specs.Prelude.{◌≡◌, ◌≤◌, length, Ok, Err, IfOk}
 ghost use Rattle.std.specs.List.{All};
 ghost use Rattle.std.specs.Arc.{arc_value};
 ghost use Rattle.job.specs.Cycle.{all_passes, concluded, shown_with};
-ghost use Rattle.cycle_engine.specs.Answers.{IsCycle, left_by};
+ghost use Rattle.cycle_engine.specs.PhaseResults.{IsCycle, left_by};
 
+use crate::cycle_fault::{CycleFault, in_conclude};
 use crate::desk::Desk;
-use crate::fault::{CycleFault, in_conclude};
-use crate::passes::{Passes, SoFar};
+use crate::passes::{Passes, PassesDone};
 use det_values::{Bytes, Container, DrawnElements};
 use job::{Job, Pool};
 use std::alloc::Global;
@@ -23,10 +23,10 @@ pub struct CycleDone<G, E> {
 }
 
 /// The sequential end, after the last pass.
-pub(crate) fn finish<J: Job>(
+pub(crate) fn conclude_cycle<J: Job>(
     passes: &Passes<'_, J>,
     globals: &J::Globals,
-    last: SoFar<J::Element, J::Part>,
+    last: PassesDone<J::Element, J::Part>,
     desk: &mut Desk<J>,
 ) -> Result<CycleDone<J::Globals, J::Element>, CycleFault>
     requires few { length last.elements ≤ 65536 }
@@ -45,7 +45,7 @@ pub(crate) fn finish<J: Job>(
         &mut desk.output,
     );
     desk.room.keep_part(last.part);
-    last.draws.leave_to(desk);
+    last.draws.release(desk);
     match concluded {
         Ok(concluded) => Ok(CycleDone {
             globals: concluded.globals,
@@ -81,6 +81,6 @@ impl<'c, J: Job> Passes<'c, J> {
         ensures few { IfOk result (λ done. length (arc_value done.elements) ≤ 65536) }
     {
         let last = self.run(pool, elements, desk)?;
-        finish(self, globals, last, desk)
+        conclude_cycle(self, globals, last, desk)
     }
 }

@@ -2,12 +2,12 @@
 //! shipped probes. Before it, a record for a terminal is refused; after it, hints are written.
 #![tactic(auto)]
 
-mod hinting;
+mod det_hints;
 mod terminal;
 
 use det_cli::{Answer, Host, Status, top};
+use det_hints::{refuse_terminal, write_hints};
 use det_io::{DirShelf, Shelf, Sink, StdSink, write_all};
-use hinting::{give_hints, refuse_terminal};
 use probes::{Audience, CountProbe, FirstRefusalProbe, GapProbe, Probe};
 use std::alloc::AllocError;
 use std::env;
@@ -20,7 +20,7 @@ use worker_pool::{Gate, NapGate};
 
 /// The arguments after the program's name. They are empty, which is no command, if one of them
 /// isn't UTF-8.
-fn words_given(rt: &HostRuntime) -> Result<Vec<String>, AllocError> {
+fn program_words(rt: &HostRuntime) -> Result<Vec<String>, AllocError> {
     let alloc = rt.alloc();
     match env::args(rt) {
         Ok(args) => args.skip(1).collect::<Vec<String>>(alloc),
@@ -30,7 +30,7 @@ fn words_given(rt: &HostRuntime) -> Result<Vec<String>, AllocError> {
 }
 
 /// A gate at which a run's idle threads sleep by the clock.
-fn gate_of(rt: &HostRuntime) -> Result<Arc<NapGate<HostRuntime>>, AllocError> {
+fn nap_gate(rt: &HostRuntime) -> Result<Arc<NapGate<HostRuntime>>, AllocError> {
     let clock = rt.clone()?;
     Ok(Arc::new(rt.alloc(), NapGate { clock })?)
 }
@@ -55,12 +55,12 @@ where
     probes.push(Box::new(alloc, CountProbe::new())?)?;
     probes.push(Box::new(alloc, GapProbe::new())?)?;
     probes.push(Box::new(alloc, FirstRefusalProbe::new())?)?;
-    let mut audience = Audience::of(alloc, probes);
+    let mut audience = Audience::new(alloc, probes);
     Ok(top(host, words, shelf, out, err, &mut audience))
 }
 
 /// Reports that memory ran out before the program began, as `top` does.
-fn no_memory<E: Sink>(err: &mut E) -> ExitCode {
+fn report_out_of_memory<E: Sink>(err: &mut E) -> ExitCode {
     let line = Answer::OutOfMemory.line();
     let _ = write_all(err, line.as_slice());
     ExitCode::from(Status::OutOfMemory.number())
@@ -69,8 +69,8 @@ fn no_memory<E: Sink>(err: &mut E) -> ExitCode {
 fn main(rt: HostRuntime) -> ExitCode {
     let alloc = rt.alloc();
     let mut err = StdSink::new(rt.stderr());
-    let (Ok(mut words), Ok(gate)) = (words_given(&rt), gate_of(&rt)) else {
-        return no_memory(&mut err);
+    let (Ok(mut words), Ok(gate)) = (program_words(&rt), nap_gate(&rt)) else {
+        return report_out_of_memory(&mut err);
     };
     if is_forced(&words) {
         words.pop();
@@ -86,10 +86,10 @@ fn main(rt: HostRuntime) -> ExitCode {
     let mut shelf = DirShelf::new(&rt, alloc);
     let mut out = StdSink::new(rt.stdout());
     let Ok(status) = run(&host, &words, &mut shelf, &mut out, &mut err) else {
-        return no_memory(&mut err);
+        return report_out_of_memory(&mut err);
     };
     if err.failed().is_none() {
-        give_hints(&rt, &words, status, shelf.failed(), out.failed(), &mut err);
+        write_hints(&rt, &words, status, shelf.failed(), out.failed(), &mut err);
     }
     ExitCode::from(status.number())
 }

@@ -10,7 +10,7 @@ use Rattle.cli_answers.specs.declared.answer.Answer.{Answer}
 use Rattle.cli_answers.specs.declared.answer.Answer.TheVariants.{BadWords, ReadFault, WriteFault, OutOfMemory}
 use Rattle.cli_answers.specs.Answers.{status_of}
 use Rattle.cli_answers.specs.Ends.{Work, can_end}
-use Rattle.cli_answers.specs.Outcome.{Outcome, told}
+use Rattle.cli_answers.specs.Outcome.{Outcome, known_bytes}
 use Rattle.cli_words.specs.Command.{CommandValue}
 use Rattle.cli_words.specs.Reading.{command_of}
 use Rattle.det_cli.specs.Outcome.{work_of, outcome_by}
@@ -77,19 +77,19 @@ module _ (first last : ShelfState) (out_failed : Type 0) (before after : List �
   of-command : (c : CommandValue) → Runs c first last out_failed before after seeing stayed answer
       → OfCommand c first last out_failed before after seeing status
   of-command c runs =
-      let wanted = outcome_by c.word c (told first) seeing in
+      let wanted = outcome_by c.word c (known_bytes first) seeing in
       let meets = runs.meets in
       record {
-        unfailed = λ tells calm taken. gives wanted before after answer status is
+        unfailed = λ is_known calm taken. gives wanted before after answer status is
             (λ e. calm (meets.read_fault (at-read-fault answer (sym is ∙ e))))
-            (λ e. taken (meets.write_fault (at-write-fault answer (sym is ∙ e)))) (meets.whole tells);
-        done = λ tells e. gives-all wanted before after answer status is (λ f. cc) (λ f. cc) (λ f. cc) (meets.whole tells);
-        differs = λ tells e. gives-all wanted before after answer status is (λ f. cc) (λ f. cc) (λ f. cc) (meets.whole tells);
-        refused = λ tells e. gives-all wanted before after answer status is
+            (λ e. taken (meets.write_fault (at-write-fault answer (sym is ∙ e)))) (meets.whole is_known);
+        done = λ is_known e. gives-all wanted before after answer status is (λ f. cc) (λ f. cc) (λ f. cc) (meets.whole is_known);
+        differs = λ is_known e. gives-all wanted before after answer status is (λ f. cc) (λ f. cc) (λ f. cc) (meets.whole is_known);
+        refused = λ is_known e. gives-all wanted before after answer status is
             (no-refusal status statuses.ReadFault e (λ f. cc) (λ f. cc) (λ f. cc))
             (no-refusal status statuses.WriteFault e (λ f. cc) (λ f. cc) (λ f. cc))
-            (no-refusal status statuses.OutOfMemory e (λ f. cc) (λ f. cc) (λ f. cc)) (meets.whole tells);
-        no_majority = λ tells e. gives-all wanted before after answer status is (λ f. cc) (λ f. cc) (λ f. cc) (meets.whole tells);
+            (no-refusal status statuses.OutOfMemory e (λ f. cc) (λ f. cc) (λ f. cc)) (meets.whole is_known);
+        no_majority = λ is_known e. gives-all wanted before after answer status is (λ f. cc) (λ f. cc) (λ f. cc) (meets.whole is_known);
       }
 
   module _ (words : List (List ℕ)) where

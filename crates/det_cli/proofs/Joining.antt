@@ -15,12 +15,12 @@ use Rattle.cli_words.specs.declared.table.OptionWord.TheVariants.{Workers}
 use Rattle.cli_words.specs.Table.{row}
 use Rattle.cli_words.specs.Command.{CommandValue, name_at}
 use Rattle.cli_words.specs.Ranges.{IsInRange}
-use Rattle.record_text.specs.declared.part.ShowPart.{ShowPart}
-use Rattle.record_text.specs.declared.part.ShowPart.TheVariants as parts
-use Rattle.cmd_records.specs.record_show.Showing.{Kept}
-use Rattle.cmd_records.specs.record_show.Ended as showing
-use Rattle.cmd_records.specs.record_show.Ended.{IsGone}
-use Rattle.cmd_records.specs.salvage_command.Ended as salvaging
+use Rattle.record_text.specs.declared.show_part.ShowPart.{ShowPart}
+use Rattle.record_text.specs.declared.show_part.ShowPart.TheVariants as parts
+use Rattle.cmd_records.specs.record_show.PrintedItems.{Kept}
+use Rattle.cmd_records.specs.record_show.ShowEnds as showing
+use Rattle.cmd_records.specs.record_show.ShowEnds.{IsGone}
+use Rattle.cmd_records.specs.salvage_command.ReportEnds as salvaging
 use Rattle.det_cli.specs.Texts.{help_text}
 use Rattle.cmd_records.specs.record_show.Text.{has_reports}
 use Rattle.det_cli.specs.Promise.{Runs, Refuses}

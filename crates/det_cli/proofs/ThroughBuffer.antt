@@ -17,10 +17,10 @@ use Rattle.cli_words.specs.Command.{CommandValue}
 use Rattle.cli_answers.specs.declared.answer.Answer.{Answer}
 use Rattle.cli_answers.specs.declared.answer.Answer.TheVariants.{OutOfMemory, WriteFault}
 use Rattle.cli_answers.proofs.Keeping.{keeps-same}
-use Rattle.cli_answers.proofs.Meeting.{meets-no-memory, meets-write-fault}
-use Rattle.cli_answers.specs.Outcome.{told}
+use Rattle.cli_answers.proofs.AnswerMeets.{meets-no-memory, meets-write-fault}
+use Rattle.cli_answers.specs.Outcome.{known_bytes}
 use Rattle.det_cli.specs.Outcome.{outcome_by}
-use Rattle.det_cli.specs.Promise.{Runs, SeenBy, BrokenBy, TellsAll}
+use Rattle.det_cli.specs.Promise.{Runs, SeenBy, BrokenBy, KnowsAllBytes}
 use Rattle.det_cli.specs.Records.{writes_record}
 
 -- a command that is none of the five writes no record
@@ -89,7 +89,8 @@ module _ (c : CommandValue) (first last : ShelfState) (before after : List ℕ �
 pub runs-no-memory : (c : CommandValue) (shelf : ShelfState) (failed : Type 0) (before : List ℕ → Type 0) (audience : AudienceState)
     → Runs c shelf shelf failed before before audience audience OutOfMemory
 runs-no-memory c shelf failed before audience = record {
-  meets = meets-no-memory (outcome_by c.word c (told shelf) audience) (TellsAll c shelf) (Rose shelf.faults shelf.faults) failed before;
+  meets = meets-no-memory (outcome_by c.word c (known_bytes shelf) audience) (KnowsAllBytes c shelf) (Rose shelf.faults shelf.faults) failed
+      before;
   broken = λ t e. absurd cc;
   ends = refl;
   asked = asks-prefix-none shelf shelf _ refl;
@@ -137,13 +138,14 @@ module _ (c : CommandValue) (first last : ShelfState) (start now after : List �
     earlier = runs.earlier;
     left = runs.left;
     gone = runs.gone;
-    saw = λ t ne. seen-none c first last start after c.word word (told first) audience;
+    saw = λ t ne. seen-none c first last start after c.word word (known_bytes first) audience;
   }
 
   -- a part of it is written
   pub runs-cut : f0 ≤ f1 → Rose f1 f2 → GrewShort now after held → Runs c first last (Rose f0 f2) start after audience audience WriteFault
   runs-cut counted rose short = record {
-    meets = meets-write-fault (outcome_by c.word c (told first) audience) (TellsAll c first) (Rose first.faults last.faults) (Rose f0 f2)
+    meets = meets-write-fault (outcome_by c.word c (known_bytes first) audience) (KnowsAllBytes c first) (Rose first.faults last.faults)
+        (Rose f0 f2)
         start after (λ t. let p = runs.meets.part t in let s = front-short start now after held p.0 (from-start p.0 p.2) short in
         (s.0, prefix-then s.0 p.0 _ (proper-prefix s.0 p.0 s.1) p.1, s.2)) (rose-before f0 f1 f2 counted rose);
     broken = λ t e. absurd cc;
@@ -156,7 +158,7 @@ module _ (c : CommandValue) (first last : ShelfState) (start now after : List �
       | inl is ↦ absurd cc
       | inr is ↦ absurd cc
     ];
-    saw = λ t ne. seen-none c first last start after c.word word (told first) audience;
+    saw = λ t ne. seen-none c first last start after c.word word (known_bytes first) audience;
   }
 
 -- what is promised over a sink as it was written is promised over the sink as it is then

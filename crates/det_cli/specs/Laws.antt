@@ -13,11 +13,11 @@ use Rattle.cli_answers.specs.declared.status.Status.TheVariants.{BadManifest, Ba
 use Rattle.cli_answers.specs.declared.status.Status.TheVariants.{BadRecord, NoMajority}
 use Rattle.cli_answers.specs.declared.status.Status.TheVariants.{ReadFault, WriteFault, OutOfMemory}
 use Rattle.cli_answers.specs.Answers.{status_of}
-use Rattle.cli_answers.specs.Outcome.{Outcome, told}
+use Rattle.cli_answers.specs.Outcome.{Outcome, known_bytes}
 use Rattle.cli_words.specs.Command.{CommandValue}
 use Rattle.cli_words.specs.Reading.{command_of}
 use Rattle.det_cli.specs.Outcome.{opened_by, outcome_by}
-use Rattle.det_cli.specs.Promise.{TellsAll}
+use Rattle.det_cli.specs.Promise.{KnowsAllBytes}
 
 -- the status is that of the outcome, and `out` took all its bytes
 pub record Gives (wanted : Outcome) (before after : List ℕ → Type 0) (status : Status)
@@ -33,20 +33,20 @@ IsRefusal status = (status ≡ BadManifest) ⊎ ((status ≡ BadStimulus) ⊎ (s
 pub record OfCommand (c : CommandValue) (first last : ShelfState) (out_failed : Type 0)
     (before after : List ℕ → Type 0) (seeing : AudienceState) (status : Status) : Type 0 where
   -- If neither the shelf nor `out` failed, the outcome is met, or memory ran out.
-  pub unfailed : TellsAll c first → ¬ Rose first.faults last.faults → ¬ out_failed
+  pub unfailed : KnowsAllBytes c first → ¬ Rose first.faults last.faults → ¬ out_failed
       → (status ≡ OutOfMemory)
-      ⊎ Gives (outcome_by c.word c (told first) seeing) before after status
+      ⊎ Gives (outcome_by c.word c (known_bytes first) seeing) before after status
   -- done, differs, or a refusal: only if the outcome is that
-  pub done : TellsAll c first → status ≡ Done
-      → Gives (outcome_by c.word c (told first) seeing) before after status
-  pub differs : TellsAll c first → status ≡ Differs
-      → Gives (outcome_by c.word c (told first) seeing) before after status
-  pub refused : TellsAll c first → IsRefusal status
-      → Gives (outcome_by c.word c (told first) seeing) before after status
+  pub done : KnowsAllBytes c first → status ≡ Done
+      → Gives (outcome_by c.word c (known_bytes first) seeing) before after status
+  pub differs : KnowsAllBytes c first → status ≡ Differs
+      → Gives (outcome_by c.word c (known_bytes first) seeing) before after status
+  pub refused : KnowsAllBytes c first → IsRefusal status
+      → Gives (outcome_by c.word c (known_bytes first) seeing) before after status
   -- no majority: only if the copies have none, after the rows that more than half of them have in
   -- common
-  pub no_majority : TellsAll c first → status ≡ NoMajority
-      → Gives (outcome_by c.word c (told first) seeing) before after status
+  pub no_majority : KnowsAllBytes c first → status ≡ NoMajority
+      → Gives (outcome_by c.word c (known_bytes first) seeing) before after status
 
 pub record Concludes (words : List (List ℕ)) (first last : ShelfState) (out_failed : Type 0)
     (before after : List ℕ → Type 0) (seeing : AudienceState) (status : Status) : Type 0 where

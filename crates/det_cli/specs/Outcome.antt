@@ -2,7 +2,7 @@
 use Rattle.std.specs.Prelude.{ℕ, Bool, true, false, List, [], map}
 use Rattle.std.specs.Prelude.{unwrap_or, if◌then◌else◌}
 use Rattle.cli_answers.specs.Outcome.{Outcome, text_outcome}
-use Rattle.cli_answers.specs.Ends.{Work, writes_alone, reads_records, compares_records}
+use Rattle.cli_answers.specs.Ends.{Work, reads_nothing, reads_records, compares_records}
 use Rattle.cli_answers.specs.Ends.{reruns_records, compares_runs}
 use Rattle.cli_words.specs.declared.table.CommandWord.{CommandWord}
 use Rattle.cli_words.specs.declared.table.CommandWord.TheVariants.{Demo, Record, Show, Needs, Sim}
@@ -25,7 +25,7 @@ use Rattle.cmd_records.specs.compare_command.Compare.{compare_outcome}
 use Rattle.cmd_records.specs.vote_command.Vote.{vote_outcome, dissent_outcome, vote_work}
 use Rattle.cmd_run.specs.chain_command.Chain.{chain_outcome, chain_names}
 use Rattle.cmd_records.specs.salvage_command.Salvage.{salvage_outcome, salvage_reports_outcome}
-use Rattle.det_cli.specs.declared.texts.TheConstants.{VERSION}
+use Rattle.det_cli.specs.declared.det_usage.TheConstants.{VERSION}
 use Rattle.det_cli.specs.Texts.{help_text}
 
 -- The names that a command opens, if these are the bytes under each name. It opens none after a
@@ -51,7 +51,7 @@ work_of Compare = compares_records
 work_of Vote = vote_work
 work_of Salvage = reads_records
 work_of Chain = record_work
-work_of other = writes_alone
+work_of other = reads_nothing
 
 -- the commands that show runs to the audience and print its reports
 abbrev pub is_showing : CommandWord → CommandValue → Bool

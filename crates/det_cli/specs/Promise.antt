@@ -12,8 +12,8 @@ use Rattle.cli_words.specs.Reading.{command_of}
 use Rattle.record_grammar.specs.Record.{items as items_in}
 use Rattle.record_reader.specs.Salvaged.{saved_of}
 use Rattle.cmd_records.specs.record_show.Text.{lines_of}
-use Rattle.record_text.specs.declared.part.ShowPart.TheVariants.{Reports}
-use Rattle.cmd_records.specs.record_show.Ended.{SawFirst}
+use Rattle.record_text.specs.declared.show_part.ShowPart.TheVariants.{Reports}
+use Rattle.cmd_records.specs.record_show.ShowEnds.{SawFirst}
 use Rattle.probes.specs.Shows.{SawRuns}
 use Rattle.cmd_records.specs.vote_command.Vote.{VoteBreaksOff}
 use Rattle.cmd_rerun.specs.check_command.Check as checking
@@ -25,13 +25,13 @@ use Rattle.cli_answers.specs.declared.status.Status.{Status}
 use Rattle.cli_answers.specs.Answers.{status_of, err_line}
 use Rattle.cli_answers.specs.Ends.{can_end}
 use Rattle.cli_answers.specs.BreaksOff.{BreaksOff}
-use Rattle.cli_answers.specs.Outcome.{Meets, Tells, told}
+use Rattle.cli_answers.specs.Outcome.{Meets, KnowsBytes, known_bytes}
 use Rattle.cli_answers.specs.Slots.{KeepsSlots}
 use Rattle.det_cli.specs.Outcome.{opened_by, is_showing, work_of, outcome_by}
 
 -- the bytes under the names that a command opens are known
-abbrev pub TellsAll : CommandValue → ShelfState → Type 0
-TellsAll c shelf = Tells shelf (opened_by c.word c (told shelf))
+abbrev pub KnowsAllBytes : CommandValue → ShelfState → Type 0
+KnowsAllBytes c shelf = KnowsBytes shelf (opened_by c.word c (known_bytes shelf))
 
 -- What an audience has seen. With `show` these are first runs of the record, whose lines are
 -- written; with `check`, first runs of those that it checks; with `salvage --reports`, first runs
@@ -69,16 +69,16 @@ pub record Runs (c : CommandValue) (first last : ShelfState) (out_failed : Type 
     (before after : List ℕ → Type 0) (seeing stayed : AudienceState) (answer : Answer)
     : Type 0 where
   -- it meets the outcome for the bytes under the names that it opens, if they are known
-  pub meets : Meets (outcome_by c.word c (told first) seeing) (TellsAll c first)
+  pub meets : Meets (outcome_by c.word c (known_bytes first) seeing) (KnowsAllBytes c first)
       (Rose first.faults last.faults) out_failed before after answer
   -- if a read failed, and the names are known, what was read is written
-  pub broken : TellsAll c first → answer ≡ ReadFault → BrokenBy c.word c first last before after
+  pub broken : KnowsAllBytes c first → answer ≡ ReadFault → BrokenBy c.word c first last before after
   -- each answer is one of the command's, whether the names are known or not
   pub ends : can_end (work_of c.word) answer ≡ true
   -- It opens no other name, and none before its turn. If the names are known, it opens only those
   -- that it needs.
   pub asked : AsksPrefix first last (files_of c)
-  pub needed : TellsAll c first → AsksPrefix first last (opened_by c.word c (told first))
+  pub needed : KnowsAllBytes c first → AsksPrefix first last (opened_by c.word c (known_bytes first))
   -- slots given before the call keep what they have left
   pub earlier : KeepsSlots first last
   -- A command that shows no runs leaves the audience as it was. If one that shows runs is done,
@@ -87,8 +87,8 @@ pub record Runs (c : CommandValue) (first last : ShelfState) (out_failed : Type 
   pub gone : is_showing c.word c ≡ true → (answer ≡ Done) ⊎ (answer ≡ Differs) → stayed.seeing ≡ []
   -- If the names are known, the audience has seen first runs. Nothing is said after "out of
   -- memory": some probes may have seen one run more, or have left.
-  pub saw : TellsAll c first → (answer ≡ OutOfMemory → ⊥)
-      → SeenBy c.word c (told first) seeing stayed before after
+  pub saw : KnowsAllBytes c first → (answer ≡ OutOfMemory → ⊥)
+      → SeenBy c.word c (known_bytes first) seeing stayed before after
 
 -- arguments that are no command: nothing is opened, written or shown
 pub record Refuses (first last : ShelfState) (before after : List ℕ → Type 0)

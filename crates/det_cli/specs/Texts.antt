@@ -5,7 +5,7 @@ use Rattle.cli_words.specs.declared.table.CommandWord.TheVariants.{Demo, Record,
 use Rattle.cli_words.specs.declared.table.CommandWord.TheVariants.{Replay, Check, Upgrade}
 use Rattle.cli_words.specs.declared.table.CommandWord.TheVariants.{Compare, Vote, Salvage, Chain}
 use Rattle.cli_words.specs.Table.{command_word}
-use Rattle.det_cli.specs.declared.texts.TheConstants.{USAGE}
+use Rattle.det_cli.specs.declared.det_usage.TheConstants.{USAGE}
 use Rattle.det_cli.specs.declared.pages.TheConstants.{DEMO, RECORD, SHOW, NEEDS, SIM}
 use Rattle.det_cli.specs.declared.pages.TheConstants.{REPLAY, CHECK, UPGRADE, COMPARE, VOTE}
 use Rattle.det_cli.specs.declared.pages.TheConstants.{SALVAGE, CHAIN}

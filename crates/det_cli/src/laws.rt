@@ -14,7 +14,7 @@ ghost use Rattle.det_cli.specs.Promise.{IsPromised};
 use det_io::Sink;
 
 /// What a user may conclude from the exit status of a run that keeps the promise of `top`.
-pub fn answers<K: Sink, E: Sink>()
+pub fn status_law<K: Sink, E: Sink>()
     ensures { (words : List (List ℕ)) (first last : ShelfState) (out out_after : K)
         (err err_after : E) (seeing stayed : AudienceState) (status : Status)
         → IsPromised words first last
@@ -30,7 +30,7 @@ pub fn answers<K: Sink, E: Sink>()
 /// Two commands that differ only in `--workers` open the same names and have the same outcome.
 /// `record` has the same outcome for two manifests that differ only in their number of workers, and
 /// so has `chain` for two pairs of them.
-pub fn workers()
+pub fn worker_law()
     ensures command { (number : Option ℕ) (c : CommandValue) (holds : List ℕ → List ℕ)
         (audience : AudienceState) → IsSameOn number c holds audience }
     ensures manifest { (strict : Bool) (one other stimulus : List ℕ) (seed : Option ℕ)

@@ -7,12 +7,12 @@
 //! outcome.
 #![tactic(auto)]
 
+mod det_program;
+mod det_usage;
 pub mod laws;
 mod pages;
-mod program;
-mod records;
-mod texts;
+mod record_commands;
 
 pub use cli_answers::{Answer, Status};
-pub use program::top;
+pub use det_program::top;
 pub use shipped_crews::Host;

@@ -1,7 +1,7 @@
 -- The effect of a further call on the list of calls that led to a client.
 use Rattle.std.proofs.Common.{◌≡◌, ℕ, zero, suc, ◌+◌, List, [], ◌∷◌, ◌++◌, None, Bool, true, false, cond, refl, sym, ap, ◌∙◌, append_assoc}
 use Rattle.std.proofs.Common.{arith, replicate, append-nil}
-use Rattle.det_client.specs.element_random.Words.{StandsFor, key}
+use Rattle.det_client.specs.element_random.RandomStreams.{StandsFor, key}
 use Rattle.det_client.specs.declared.activation.Activation.{Activation}
 use Rattle.det_client.specs.declared.activation.Activation.TheVariants.{RegisterServices, ServiceDiscovery, Init, Run, Terminate}
 use Rattle.det_client.specs.declared.activation.Next.{Next}
@@ -9,7 +9,7 @@ use Rattle.det_client.specs.declared.activation.Next.TheVariants.{Go}
 use Rattle.det_client.specs.State.{State, OwnAt, own_key, SameButSeed}
 use Rattle.det_client.specs.Life.{Life, answer, cycle_of, is_run, begins}
 use Rattle.det_client.specs.Step.{Stepped}
-use Rattle.det_client.specs.Calls.{Call, requests, seed_after, seed_of, drawn_after, drawn_of, ComesFrom, resuming}
+use Rattle.det_client.specs.Calls.{Call, requests, seed_after, seed_of, drawn_after, drawn_of, ComesFrom, calls_to_resume}
 use Rattle.det_client.specs.Calls.Call.{waits, reseeds, draws}
 use Rattle.det_client.proofs.RequestLists.{answered_step, life_step}
 use Rattle.det_client.proofs.OwnStreams.{equal_places}
@@ -100,7 +100,7 @@ module _ {before after : State} {t : ℕ} (calls : List Call) (comes : ComesFrom
 
 -- a client after this number of cycles, with a seed set then
 pub comes_resumed : (seed cycle : ℕ) (s : State) → s.seed ≡ seed → OwnAt s 0 → Life s (replicate (3 + cycle) (Go None)) →
-    ComesFrom s s.cycle_time (resuming seed cycle)
+    ComesFrom s s.cycle_time (calls_to_resume seed cycle)
 comes_resumed seed cycle s is own life =
     let before : List Call = replicate (3 + cycle) (waits (Go None)) in
     let e : requests (before ++ reseeds seed ∷ []) ≡ replicate (3 + cycle) (Go None) =

@@ -9,22 +9,22 @@ use Rattle.det_client.specs.declared.activation.Next.{Next}
 use Rattle.det_client.specs.declared.activation.Next.TheVariants.{Go, Stop}
 use Rattle.det_client.specs.State.{State}
 use Rattle.det_client.specs.Step.{Stepped}
-use Rattle.det_client.specs.Life.{Life, is_stop, stopped, activation, answer, is_run, runs_after, cycle_of, last_of, go_time, last_time}
-use Rattle.det_client.specs.Life.{following, next_activation}
+use Rattle.det_client.specs.Life.{Life, is_stop, has_stop, activation, answer, is_run, runs_after, cycle_of, last_of, go_time, last_time}
+use Rattle.det_client.specs.Life.{successor, next_activation}
 
-stopped-snoc_go : (xs : List Next) (t : Option ℕ) → stopped (xs ++ Go t ∷ []) ≡ stopped xs
-stopped-snoc_go [] t = refl
-stopped-snoc_go (x ∷ xs) t = ap (λ b. is_stop x || b) (stopped-snoc_go xs t)
+has_stop-snoc_go : (xs : List Next) (t : Option ℕ) → has_stop (xs ++ Go t ∷ []) ≡ has_stop xs
+has_stop-snoc_go [] t = refl
+has_stop-snoc_go (x ∷ xs) t = ap (λ b. is_stop x || b) (has_stop-snoc_go xs t)
 
 or_true : (b : Bool) → (b || true) ≡ true
 or_true true = refl
 or_true false = refl
 
-stopped-snoc_stop : (xs : List Next) → stopped (xs ++ Stop ∷ []) ≡ true
-stopped-snoc_stop [] = refl
-stopped-snoc_stop (x ∷ xs) = ap (λ b. is_stop x || b) (stopped-snoc_stop xs) ∙ or_true (is_stop x)
+has_stop-snoc_stop : (xs : List Next) → has_stop (xs ++ Stop ∷ []) ≡ true
+has_stop-snoc_stop [] = refl
+has_stop-snoc_stop (x ∷ xs) = ap (λ b. is_stop x || b) (has_stop-snoc_stop xs) ∙ or_true (is_stop x)
 
-activation_after : (n : ℕ) → activation (suc (suc n)) ≡ following (Some (activation (suc n)))
+activation_after : (n : ℕ) → activation (suc (suc n)) ≡ successor (Some (activation (suc n)))
 activation_after zero = refl
 activation_after (suc zero) = refl
 activation_after (suc (suc zero)) = refl
@@ -33,17 +33,17 @@ activation_after (suc (suc (suc n))) = refl
 length-snoc : (xs : List Next) (x : Next) → length (xs ++ x ∷ []) ≡ suc (length xs)
 length-snoc xs x = length-append xs (x ∷ []) ∙ omega arith
 
-answered : (b : Bool) (n : ℕ) → cond b Terminate (activation (suc (suc n))) ≡ following (Some (cond b Terminate (activation (suc n))))
+answered : (b : Bool) (n : ℕ) → cond b Terminate (activation (suc (suc n))) ≡ successor (Some (cond b Terminate (activation (suc n))))
 answered true n = refl
 answered false n = activation_after n
 
 pub answer-snoc : (given : List Next) (x : Next) → answer (given ++ x ∷ []) ≡ next_activation (last_of given) x
-answer-snoc given Stop = ap (λ b. cond b Terminate (activation (length (given ++ Stop ∷ [])))) (stopped-snoc_stop given)
+answer-snoc given Stop = ap (λ b. cond b Terminate (activation (length (given ++ Stop ∷ [])))) (has_stop-snoc_stop given)
 answer-snoc [] (Go t) = refl
 answer-snoc (x ∷ xs) (Go t) =
-    ap (λ b. cond b Terminate (activation (length ((x ∷ xs) ++ Go t ∷ [])))) (stopped-snoc_go (x ∷ xs) t)
-    ∙ ap (λ n. cond (stopped (x ∷ xs)) Terminate (activation n)) (length-snoc (x ∷ xs) (Go t))
-    ∙ answered (stopped (x ∷ xs)) (length xs)
+    ap (λ b. cond b Terminate (activation (length ((x ∷ xs) ++ Go t ∷ [])))) (has_stop-snoc_go (x ∷ xs) t)
+    ∙ ap (λ n. cond (has_stop (x ∷ xs)) Terminate (activation n)) (length-snoc (x ∷ xs) (Go t))
+    ∙ answered (has_stop (x ∷ xs)) (length xs)
 
 last_of-snoc : (given : List Next) (x : Next) → last_of (given ++ x ∷ []) ≡ Some (answer (given ++ x ∷ []))
 last_of-snoc [] x = refl
@@ -64,9 +64,9 @@ runs_after-snoc before (y ∷ xs) x =
     ∙ sym (add_assoc (cond (is_run (answer (before ++ y ∷ []))) 1 0) (runs_after (before ++ y ∷ []) xs)
     (cond (is_run (answer ((before ++ y ∷ xs) ++ x ∷ []))) 1 0))
 
-stopped-replicate : (n : ℕ) → stopped (replicate n (Go None)) ≡ false
-stopped-replicate zero = refl
-stopped-replicate (suc n) = stopped-replicate n
+has_stop-replicate : (n : ℕ) → has_stop (replicate n (Go None)) ≡ false
+has_stop-replicate zero = refl
+has_stop-replicate (suc n) = has_stop-replicate n
 
 last_time-replicate : (n : ℕ) → last_time (replicate n (Go None)) ≡ None
 last_time-replicate zero = refl
@@ -78,7 +78,7 @@ replicate-snoc zero x = refl
 replicate-snoc (suc n) x = ap (λ xs. x ∷ xs) (replicate-snoc n x)
 
 answer-replicate : (n : ℕ) → answer (replicate n (Go None)) ≡ activation n
-answer-replicate n = rw (stopped-replicate n) (ap activation (length-replicate n (Go None)))
+answer-replicate n = rw (has_stop-replicate n) (ap activation (length-replicate n (Go None)))
 
 cycle_of-replicate : (c : ℕ) → cycle_of (replicate (suc (suc (suc c))) (Go None)) ≡ c
 cycle_of-replicate zero = refl

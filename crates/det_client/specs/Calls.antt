@@ -1,7 +1,7 @@
 -- The effect of a list of calls on a client: its requests, its seed, and the position of its own
 -- stream.
 use Rattle.std.specs.Prelude.{◌≡◌, ℕ, ◌+◌, List, [], ◌∷◌, ◌++◌, None, if◌then◌else◌, replicate}
-use Rattle.det_client.specs.element_random.Words.{key, word}
+use Rattle.det_client.specs.element_random.RandomStreams.{key, word}
 use Rattle.det_client.specs.declared.activation.Next.{Next}
 use Rattle.det_client.specs.declared.activation.Next.TheVariants.{Go}
 use Rattle.det_client.specs.State.{State, OwnAt}
@@ -57,5 +57,5 @@ pub record ComesFrom (c : State) (t : ℕ) (calls : List Call) : Type 0 where
   pub own : OwnAt c (drawn_of calls)
 
 -- the calls that bring a new client into this cycle, and then set its seed
-abbrev pub resuming : ℕ → ℕ → List Call
-resuming seed cycle = replicate (3 + cycle) (waits (Go None)) ++ reseeds seed ∷ []
+abbrev pub calls_to_resume : ℕ → ℕ → List Call
+calls_to_resume seed cycle = replicate (3 + cycle) (waits (Go None)) ++ reseeds seed ∷ []

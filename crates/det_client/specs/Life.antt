@@ -16,9 +16,9 @@ is_stop Stop = true
 is_stop (Go t) = false
 
 -- whether a list contains a stop
-abbrev pub stopped : List Next → Bool
-stopped [] = false
-stopped (x ∷ xs) = is_stop x || stopped xs
+abbrev pub has_stop : List Next → Bool
+has_stop [] = false
+has_stop (x ∷ xs) = is_stop x || has_stop xs
 
 -- activation number n, counted from 1, if nothing stops the process
 abbrev pub activation : ℕ → Activation
@@ -30,7 +30,7 @@ activation (suc (suc (suc (suc n)))) = Run
 
 -- the answer to the last request of a list
 abbrev pub answer : List Next → Activation
-answer given = if stopped given then Terminate else activation (length given)
+answer given = if has_stop given then Terminate else activation (length given)
 
 abbrev pub is_run : Activation → Bool
 is_run Run = true
@@ -76,18 +76,18 @@ pub record Life (c : State) (given : List Next) : Type 0 where
   pub time : c.time ≡ time_of given
 
 -- the activation after the last one, if nothing stops the process
-abbrev pub following : Option Activation → Activation
-following None = RegisterServices
-following (Some RegisterServices) = ServiceDiscovery
-following (Some ServiceDiscovery) = Init
-following (Some Init) = Run
-following (Some Run) = Run
-following (Some Terminate) = Terminate
+abbrev pub successor : Option Activation → Activation
+successor None = RegisterServices
+successor (Some RegisterServices) = ServiceDiscovery
+successor (Some ServiceDiscovery) = Init
+successor (Some Init) = Run
+successor (Some Run) = Run
+successor (Some Terminate) = Terminate
 
 -- the activation that answers a request after the last one
 abbrev pub next_activation : Option Activation → Next → Activation
 next_activation last Stop = Terminate
-next_activation last (Go t) = following last
+next_activation last (Go t) = successor last
 
 -- Init and Run restart the own stream
 abbrev pub begins : Activation → Bool

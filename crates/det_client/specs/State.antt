@@ -1,6 +1,6 @@
 -- The state of a client.
 use Rattle.std.specs.Prelude.{◌≡◌, ℕ, ◌+◌, ◌-◌, ◌^◌, Option, None, Some, if◌then◌else◌, nat_le}
-use Rattle.det_client.specs.element_random.Words.{Place, StandsFor, key, state_at}
+use Rattle.det_client.specs.element_random.RandomStreams.{StreamState, StandsFor, key, state_at}
 use Rattle.det_client.specs.declared.activation.Activation.{Activation}
 
 -- the last activation, the time of the cycle that it began, the number of that cycle, and the own
@@ -11,7 +11,7 @@ pub record State : Type 0 where
   pub time : Option ℕ
   pub seed : ℕ
   pub cycle : ℕ
-  pub own : Place
+  pub own : StreamState
 
 -- a time plus the cycle time, if the time is known and the sum fits in a u64
 abbrev pub next_time : ℕ → Option ℕ → Option ℕ
@@ -20,11 +20,11 @@ next_time cycle_time (Some t) =
     if nat_le (t + cycle_time) (2 ^ 64 - 1) then Some (t + cycle_time) else None
 
 -- the stream of a key at its beginning
-abbrev pub beginning : ℕ → Place
+abbrev pub beginning : ℕ → StreamState
 beginning k = record { state = state_at k 0; draws = 0 }
 
 -- the own stream in a cycle under a seed, which is at its beginning before a number is drawn
-abbrev pub own_place : Option Place → ℕ → ℕ → Place
+abbrev pub own_place : Option StreamState → ℕ → ℕ → StreamState
 own_place None seed cycle = beginning (key seed cycle 255 0)
 own_place (Some place) seed cycle = place
 

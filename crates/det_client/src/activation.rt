@@ -2,7 +2,7 @@
 //! AUTOSAR Adaptive Platform.
 
 ghost use Rattle.std.specs.Prelude.{◌≡◌};
-ghost use Rattle.det_client.specs.Life.{following, next_activation, go_time};
+ghost use Rattle.det_client.specs.Life.{successor, next_activation, go_time};
 
 /// What the process is to do next.
 #[derive(Clone, Copy, Debug, PartialEq, Eq)]
@@ -30,8 +30,8 @@ pub enum Next {
 
 impl Activation {
     /// The activation after the last one, if nothing stops the process.
-    fn following(last: Option<Activation>) -> Activation
-        ensures { result ≡ following last }
+    fn successor(last: Option<Activation>) -> Activation
+        ensures { result ≡ successor last }
     {
         match last {
             None => Activation::RegisterServices,
@@ -49,7 +49,7 @@ impl Next {
         ensures { result ≡ next_activation last self }
     {
         match self {
-            Next::Go(_) => Activation::following(last),
+            Next::Go(_) => Activation::successor(last),
             Next::Stop => Activation::Terminate,
         }
     }

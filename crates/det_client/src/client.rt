@@ -4,11 +4,11 @@
 ghost use Rattle.std.specs.Prelude.{◌≡◌, ℕ, ◌+◌, ◌^◌, ◌<◌, ◌≤◌, List, [], ◌∷◌, ◌++◌, None, Some};
 ghost use Rattle.std.specs.Prelude.{IfOk, OnErr, MatchResult, false, ◌==◌, if◌then◌else◌};
 ghost use Rattle.std.specs.Prelude.{replicate};
-ghost use Rattle.det_client.specs.element_random.Words.{key, word, StandsFor};
+ghost use Rattle.det_client.specs.element_random.RandomStreams.{key, word, StandsFor};
 ghost use Rattle.det_client.specs.State.{next_time, OwnAt, SameButSeed, own_place};
 ghost use Rattle.det_client.specs.Life.{Life, answer, cycle_of, time_of, is_stop};
 ghost use Rattle.det_client.specs.Step.{Stepped};
-ghost use Rattle.det_client.specs.Calls.{Call, ComesFrom, seed_of, own_word, resuming};
+ghost use Rattle.det_client.specs.Calls.{Call, ComesFrom, seed_of, own_word, calls_to_resume};
 ghost use Rattle.det_client.specs.Calls.Call.{waits, reseeds, draws};
 
 use crate::activation::{Activation, Next};
@@ -53,11 +53,11 @@ impl Model for Client {
 fn own_stream(seed: u64, cycle: u32) -> ElementRandom
     ensures { StandsFor result (key seed cycle 255 0) 0 }
 {
-    ElementRandom::at(key(seed, cycle, 255, 0))
+    ElementRandom::from_key(key(seed, cycle, 255, 0))
 }
 
 /// The own stream in a cycle: the given one, or a new one if no number was drawn yet.
-fn begun_stream(own: Option<ElementRandom>, seed: u64, cycle: u32) -> ElementRandom
+fn continue_stream(own: Option<ElementRandom>, seed: u64, cycle: u32) -> ElementRandom
     ensures { (k n : ℕ) → StandsFor (own_place own seed cycle) k n → StandsFor result k n }
 {
     match own {
@@ -89,11 +89,11 @@ impl Client {
 
     /// A client between two activations, for a run that goes on. It equals a new client after `3 +
     /// cycle` requests without a time, with this seed set at last.
-    pub fn resumed(cycle_time: u64, seed: u64, cycle: u32) -> Client
+    pub fn resume_at(cycle_time: u64, seed: u64, cycle: u32) -> Client
         requires some_time { 1 ≤ cycle_time }
         requires short { cycle_time < 2 ^ 63 }
         requires few_cycles { cycle ≤ MOST_CYCLES }
-        ensures calls { ComesFrom result cycle_time (resuming seed cycle) }
+        ensures calls { ComesFrom result cycle_time (calls_to_resume seed cycle) }
         ensures life { Life result (replicate (3 + cycle) (Next.Go None)) }
         ensures last { result.last ≡ Some (if cycle == 0 then Activation.Init else Activation.Run) }
         ensures time { result.time ≡ None }
@@ -119,7 +119,7 @@ impl Client {
 
     /// The client with these parts, as its accessors of the same names returned them. The C
     /// interface stores a client so.
-    pub fn of_parts(
+    pub fn from_parts(
         cycle_time: u64,
         last: Option<Activation>,
         time: Option<u64>,
@@ -170,7 +170,7 @@ impl Client {
         ensures { (k n : ℕ) → StandsFor self.now.own k n → result ≡ self.now.own }
     {
         match &self.own {
-            Some(own) => ElementRandom::of_parts(own.state(), own.draws()),
+            Some(own) => ElementRandom::from_parts(own.state(), own.draws()),
             None => own_stream(self.seed, self.cycle),
         }
     }
@@ -257,7 +257,7 @@ impl Client {
         ensures seed { self.new.seed ≡ self.old.seed }
         ensures same { SameButSeed self.old self.new }
     {
-        let mut own = begun_stream(self.own.take(), self.seed, self.cycle);
+        let mut own = continue_stream(self.own.take(), self.seed, self.cycle);
         let word = own.get_random();
         self.own = Some(own);
         word

@@ -6,9 +6,10 @@
 
 ghost use Rattle.std.specs.Prelude.{◌≡◌, ℕ, ◌+◌, ◌-◌, ◌^◌, min, [], ◌∷◌};
 ghost use Rattle.rand_xoshiro.specs.Xoshiro256.{state_bytes};
-ghost use Rattle.det_client.specs.element_random.Words.{mixed, key, state_at, word, AreKeysOf};
-ghost use Rattle.det_client.specs.element_random.Words.{StandsFor};
-ghost use Rattle.det_client.specs.element_random.Words.{state_of_words};
+ghost use Rattle.det_client.specs.element_random.RandomStreams.{splitmix_output, key, state_at};
+ghost use Rattle.det_client.specs.element_random.RandomStreams.{word, AreKeysOf};
+ghost use Rattle.det_client.specs.element_random.RandomStreams.{StandsFor};
+ghost use Rattle.det_client.specs.element_random.RandomStreams.{state_of_words};
 
 use rand_core::SeedableRng;
 use rand_core::utils::{NextWord, read_u64};
@@ -17,7 +18,7 @@ use std::marker::Model;
 
 /// The first output of SplitMix64 with this seed.
 fn mix(start: u64) -> u64
-    ensures { result ≡ mixed start }
+    ensures { result ≡ splitmix_output start }
 {
     SplitMix64::seed_from_u64(start).next_word()
 }
@@ -31,7 +32,7 @@ pub struct PassKeys {
 
 impl PassKeys {
     /// The keys of a pass in a cycle under a seed.
-    pub fn of(seed: u64, cycle: u32, pass: u8) -> PassKeys
+    pub fn new(seed: u64, cycle: u32, pass: u8) -> PassKeys
         ensures { AreKeysOf result seed cycle pass }
     {
         PassKeys {
@@ -41,7 +42,7 @@ impl PassKeys {
     }
 
     /// The keys with these parts, as `shared` and `pass` returned them.
-    pub fn of_parts(shared: u64, pass: u8) -> PassKeys
+    pub fn from_parts(shared: u64, pass: u8) -> PassKeys
         ensures shared { result.shared ≡ shared }
         ensures of_pass { result.pass ≡ pass }
     {
@@ -80,7 +81,7 @@ impl PassKeys {
 pub fn key(seed: u64, cycle: u32, pass: u8, element: u32) -> u64
     ensures { result ≡ key seed cycle pass element }
 {
-    PassKeys::of(seed, cycle, pass).key(element)
+    PassKeys::new(seed, cycle, pass).key(element)
 }
 
 /// The bytes of these four numbers, the low byte first, as the generator reads its state.
@@ -96,7 +97,7 @@ fn state_bytes(state: &[u64; 4]) -> [u8; 32]
 }
 
 /// The generator with these four numbers as its state.
-fn standing(first: u64, second: u64, third: u64, last: u64) -> Xoshiro256PlusPlus
+fn generator_in_state(first: u64, second: u64, third: u64, last: u64) -> Xoshiro256PlusPlus
     ensures { result ≡ state_of_words (first ∷ second ∷ third ∷ last ∷ []) }
 {
     Xoshiro256PlusPlus::from_seed(state_bytes(&[first, second, third, last]))
@@ -110,16 +111,16 @@ pub struct ElementRandom {
 }
 
 impl Model for ElementRandom {
-    ghost use Rattle.det_client.specs.element_random.Words.{Place};
+    ghost use Rattle.det_client.specs.element_random.RandomStreams.{StreamState};
 
-    ghost Value = { Place };
+    ghost Value = { StreamState };
 
     ghost view = { λ r. record { state = r.rng; draws = r.draws } };
 }
 
 impl ElementRandom {
     /// The stream of a key, at its beginning.
-    pub fn at(key: u64) -> ElementRandom
+    pub fn from_key(key: u64) -> ElementRandom
         ensures { StandsFor result key 0 }
     {
         ElementRandom {
@@ -156,13 +157,13 @@ impl ElementRandom {
     /// The stream with these parts, as `state` and `draws` returned them.
     ///
     /// No stream has four zeros as its state. They become the first state of the key 0.
-    pub fn of_parts(state: [u64; 4], draws: u64) -> ElementRandom
+    pub fn from_parts(state: [u64; 4], draws: u64) -> ElementRandom
         ensures state { result.state ≡ state_of_words state }
         ensures draws { result.draws ≡ draws }
         ensures again { (k n : ℕ) → state ≡ state_at k n → result.state ≡ state }
     {
         ElementRandom {
-            rng: standing(state[0], state[1], state[2], state[3]),
+            rng: generator_in_state(state[0], state[1], state[2], state[3]),
             draws,
         }
     }
@@ -182,7 +183,7 @@ mod tests {
 
     #[test]
     fn words_of_key_zero(rt: HostRuntime) {
-        let mut random = ElementRandom::at(0);
+        let mut random = ElementRandom::from_key(0);
         assert_eq!(rt; random.draws(), 0);
         assert_eq!(rt; random.get_random(), 5987356902031041503);
         assert_eq!(rt; random.get_random(), 0x61da6f3dc380d507);
@@ -192,26 +193,26 @@ mod tests {
 
     #[test]
     fn parts_go_on(rt: HostRuntime) {
-        let begun = ElementRandom::at(0);
+        let begun = ElementRandom::from_key(0);
         assert_eq!(rt; begun.state()[0], 0xe220_a839_7b1d_cdaf);
         assert_eq!(rt; begun.state()[3], 0xf88b_b8a8_724c_81ec);
-        let mut random = ElementRandom::of_parts(begun.state(), begun.draws());
+        let mut random = ElementRandom::from_parts(begun.state(), begun.draws());
         assert_eq!(rt; random.get_random(), 5987356902031041503);
-        let mut again = ElementRandom::of_parts(random.state(), random.draws());
+        let mut again = ElementRandom::from_parts(random.state(), random.draws());
         assert_eq!(rt; again.draws(), 1);
         assert_eq!(rt; again.get_random(), 0x61da6f3dc380d507);
     }
 
     #[test]
     fn four_zeros_are_the_key_zero(rt: HostRuntime) {
-        let mut random = ElementRandom::of_parts([0; 4], 0);
+        let mut random = ElementRandom::from_parts([0; 4], 0);
         assert_eq!(rt; random.get_random(), 5987356902031041503);
     }
 
     #[test]
     fn keys_from_their_parts_are_the_same(rt: HostRuntime) {
-        let keys = PassKeys::of(7, 1, 2);
-        let again = PassKeys::of_parts(keys.shared(), keys.pass());
+        let keys = PassKeys::new(7, 1, 2);
+        let again = PassKeys::from_parts(keys.shared(), keys.pass());
         assert_eq!(rt; again.key(3), key(7, 1, 2, 3));
     }
 

@@ -1,3 +1,3 @@
-pub mod Kept
+pub mod CState
 pub mod Blocks
 pub mod Windows

@@ -7,9 +7,9 @@ ghost use Rattle.det_client.specs.Life.{answer, time_of, cycle_of};
 ghost use Rattle.det_client.specs.State.{next_time};
 ghost use Rattle.det_client.specs.Calls.{Call, ComesFrom, requests, seed_of, own_word};
 ghost use Rattle.det_client.specs.Calls.Call.{waits, reseeds, draws};
-ghost use Rattle.det_client_c.specs.Kept.{number_of, state_of, next_of};
+ghost use Rattle.det_client_c.specs.CState.{number_of, state_of, next_of};
 
-use crate::kept::{DetClient, next, number};
+use crate::c_state::{DetClient, next, number};
 use det_client::{Client, MOST_CYCLES};
 
 /// Makes a new client with the seed 0. The cycle time is in nanoseconds, from 1 to 2^63 - 1. False
@@ -23,7 +23,7 @@ pub extern "C" fn det_client_new(client: &mut DetClient, cycle_time: u64) -> boo
     if cycle_time == 0 || cycle_time >= 9_223_372_036_854_775_808 {
         return false;
     }
-    *client = DetClient::of(&Client::new(cycle_time));
+    *client = DetClient::from_client(&Client::new(cycle_time));
     true
 }
 
@@ -52,7 +52,7 @@ pub extern "C" fn det_client_wait(
     }
     let mut kept = client.client();
     *activation = number(kept.wait_for_activation(next(stop, has_time, time)));
-    *client = DetClient::of(&kept);
+    *client = DetClient::from_client(&kept);
     true
 }
 
@@ -102,7 +102,7 @@ pub extern "C" fn det_client_set_seed(client: &mut DetClient, seed: u64)
 {
     let mut kept = client.client();
     kept.set_random_seed(seed);
-    *client = DetClient::of(&kept);
+    *client = DetClient::from_client(&kept);
 }
 
 /// Draws the next random number of the client's own stream.
@@ -115,7 +115,7 @@ pub extern "C" fn det_client_random(client: &mut DetClient) -> u64
 {
     let mut kept = client.client();
     let word = kept.get_random();
-    *client = DetClient::of(&kept);
+    *client = DetClient::from_client(&kept);
     word
 }
 

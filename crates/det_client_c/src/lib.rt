@@ -5,13 +5,13 @@
 //! distinct objects may run at the same time. A refused call returns false, and changes nothing.
 #![tactic(auto)]
 
-mod blocks;
+mod c_state;
 mod client;
-mod kept;
+mod det_blocks;
 mod random;
 mod window;
 
-pub use blocks::{blocks_of_a_pass, each_element_once};
+pub use det_blocks::{blocks_of_a_pass, each_element_once};
 
 #[cfg(test)]
 mod tests;

@@ -2,10 +2,11 @@
 
 ghost use Rattle.std.specs.Prelude.{◌≡◌, ℕ, ◌+◌};
 ghost use Rattle.rand_xoshiro.specs.Xoshiro256.{next_state, plus_plus};
-ghost use Rattle.det_client.specs.element_random.Words.{key, word, state_at, AreKeysOf, StandsFor};
-ghost use Rattle.det_client_c.specs.Kept.{place_of, keys_of};
+ghost use Rattle.det_client.specs.element_random.RandomStreams.{key, word, state_at, AreKeysOf};
+ghost use Rattle.det_client.specs.element_random.RandomStreams.{StandsFor};
+ghost use Rattle.det_client_c.specs.CState.{place_of, keys_of};
 
-use crate::kept::{DetPassKeys, DetRandom};
+use crate::c_state::{DetPassKeys, DetRandom};
 use det_client::element_random::{PassKeys, key};
 use rand_core::SeedableRng;
 use rand_core::utils::NextWord;
@@ -24,7 +25,7 @@ pub extern "C" fn det_random_key(seed: u64, cycle: u32, pass: u8, element: u32) 
 pub extern "C" fn det_random_of_key(random: &mut DetRandom, key: u64)
     ensures { StandsFor (place_of random.new) key 0 }
 {
-    *random = begun(key);
+    *random = new_stream(key);
 }
 
 /// What the keys of all elements in a pass of a cycle have in common, under a seed.
@@ -32,7 +33,7 @@ pub extern "C" fn det_random_of_key(random: &mut DetRandom, key: u64)
 pub extern "C" fn det_pass_keys(keys: &mut DetPassKeys, seed: u64, cycle: u32, pass: u8)
     ensures { AreKeysOf (keys_of keys.new) seed cycle pass }
 {
-    let of_pass = PassKeys::of(seed, cycle, pass);
+    let of_pass = PassKeys::new(seed, cycle, pass);
     keys.shared = of_pass.shared();
     keys.pass = of_pass.pass();
 }
@@ -43,7 +44,7 @@ pub extern "C" fn det_random_in_pass(random: &mut DetRandom, keys: &DetPassKeys,
     ensures { (seed cycle pass : ℕ) → AreKeysOf (keys_of keys.now) seed cycle pass
         → StandsFor (place_of random.new) (key seed cycle pass element) 0 }
 {
-    *random = begun(PassKeys::of_parts(keys.shared, keys.pass).key(element));
+    *random = new_stream(PassKeys::from_parts(keys.shared, keys.pass).key(element));
 }
 
 /// Draws the next random number.
@@ -59,7 +60,7 @@ pub extern "C" fn det_random_next(random: &mut DetRandom) -> u64
 }
 
 /// The stream of a key, from its start.
-fn begun(key: u64) -> DetRandom
+fn new_stream(key: u64) -> DetRandom
     ensures { StandsFor (place_of result) key 0 }
 {
     DetRandom {

@@ -1,12 +1,12 @@
 //! The random numbers of key 0 are published with SplitMix64 and xoshiro256++. The others come from
 //! the plain Rust of `bench/common/random_words.rs`.
 
-use crate::blocks::{det_block, det_block_count};
+use crate::c_state::{DetClient, DetPassKeys, DetRandom};
 use crate::client::{
     det_client_cycle, det_client_new, det_client_next_time, det_client_random, det_client_seed,
     det_client_set_seed, det_client_time, det_client_wait,
 };
-use crate::kept::{DetClient, DetPassKeys, DetRandom};
+use crate::det_blocks::{det_block, det_block_count};
 use crate::random::{
     det_pass_keys, det_random_in_pass, det_random_key, det_random_next, det_random_of_key,
 };

@@ -13,7 +13,7 @@ use Rattle.det_io.specs.Shelf.{Reads, Opens, Asks}
 use Rattle.det_io.specs.MemShelf.{state_of, rest_of, names_of, texts_of, index_of}
 use Rattle.det_io.specs.TextShelf.{one_slot}
 use Rattle.det_io.specs.declared.mem_shelf.MemFile.{MemFile}
-use Rattle.det_io.specs.declared.mem_shelf.place.Place.{Place}
+use Rattle.det_io.specs.declared.mem_shelf.place.FilePlace.{FilePlace}
 
 slice_get-set-same : {X : Type 0} (xs : List X) (i : ℕ) (v w : X) → slice_get xs i ≡ Some w → slice_get (set xs i v) i ≡ Some v
 slice_get-set-same [] i v w h = cc
@@ -62,18 +62,18 @@ one_slot-reads bytes front at n zero h e = record {
 one_slot-reads bytes front at n (suc slot) h e = absurd (omega arith)
 
 -- a slot at a place has the rest of that place
-pub places-rest : (files : List MemFile) (places : List Place) (slot : ℕ) (p : Place)
+pub places-rest : (files : List MemFile) (places : List FilePlace) (slot : ℕ) (p : FilePlace)
     → slot < length places → p ≡ get_or places slot p → rest_of files p ≡ unwrap_or (slice_get (map (rest_of files) places) slot) []
 places-rest files places slot p h e = rw (slice_get-map-at (rest_of files) places slot p h e) refl
 
 -- a slot whose place goes on by n bytes gives them
-pub places-read : (files : List MemFile) (places : List Place) (told : Bool) (asked : List ℕ) (faults after slot n : ℕ) (p : Place)
+pub places-read : (files : List MemFile) (places : List FilePlace) (told : Bool) (asked : List ℕ) (faults after slot n : ℕ) (p : FilePlace)
     (front : List ℕ)
     → slot < length places → p ≡ get_or places slot p → front ≡ take n (rest_of files p)
     → Reads (state_of files places told asked faults)
     (state_of files (set places slot (record { file = p.file; at = p.at + n })) told asked after) slot front
 places-read files places told asked faults after slot n p front h e f =
-    let q : Place = record { file = p.file; at = p.at + n } in
+    let q : FilePlace = record { file = p.file; at = p.at + n } in
     let found : slice_get (map (rest_of files) places) slot ≡ Some (front ++ drop n (rest_of files p)) =
     slice_get-map-at (rest_of files) places slot p h e ∙ ap Some (rw f (sym (take-append-drop n (rest_of files p)))) in
     let next : rest_of files q ≡ drop n (rest_of files p) = sym (drop-drop n p.at _) in
@@ -88,12 +88,12 @@ places-read files places told asked faults after slot n p front h e f =
     }
 
 -- a read that moves nothing into a nonempty buffer is at the end
-pub places-end : (files : List MemFile) (places : List Place) (slot n most room : ℕ) (p : Place)
+pub places-end : (files : List MemFile) (places : List FilePlace) (slot n most room : ℕ) (p : FilePlace)
     → slot < length places → p ≡ get_or places slot p → n ≡ min (min room most) (length (rest_of files p)) → 0 < most
     → n ≡ 0 → 0 < room → IfSome (slice_get (map (rest_of files) (set places slot (record { file = p.file; at = p.at + n }))) slot)
     (λ rest. rest ≡ [])
 places-end files places slot n most room p h e c m z r =
-    let q : Place = record { file = p.file; at = p.at + n } in
+    let q : FilePlace = record { file = p.file; at = p.at + n } in
     let none : length (rest_of files p) ≡ 0 = omega arith in
     let next : rest_of files q ≡ drop n (rest_of files p) = sym (drop-drop n p.at _) in
     let moved : slice_get (map (rest_of files) (set places slot q)) slot ≡ Some (rest_of files q) =
@@ -109,7 +109,7 @@ named (f ∷ fs) name file e =
     let found = position-Some (λ (f : MemFile). bytes_eq (string_bytes f.name) name) (f ∷ fs) file f e in
     (found.0, get_or-map (λ (f : MemFile). string_bytes f.name) (f ∷ fs) file f [] found.0 ∙ (bytes_eq-Decides _ name).0 found.1)
 
-asked-found : (files : List MemFile) (places more : List Place) (told : Bool) (asked : List ℕ) (faults after file : ℕ) (name : List ℕ)
+asked-found : (files : List MemFile) (places more : List FilePlace) (told : Bool) (asked : List ℕ) (faults after file : ℕ) (name : List ℕ)
     → index_of files name ≡ Some file
     → Asks (state_of files places told asked faults) (state_of files more told (asked ++ file ∷ []) after) (name ∷ [])
 asked-found files places more true asked faults after file name e = record {
@@ -125,14 +125,14 @@ asked-found files places more true asked faults after file name e = record {
 asked-found files places more false asked faults after file name e = record { told = λ all h. cc }
 
 -- a name whose file was found is asked for
-pub places-asked : (files names : List MemFile) (places more : List Place) (told : Bool) (asked later : List ℕ) (faults after file : ℕ)
+pub places-asked : (files names : List MemFile) (places more : List FilePlace) (told : Bool) (asked later : List ℕ) (faults after file : ℕ)
     (name : List ℕ)
     → names ≡ files → Some file ≡ index_of names name → later ≡ asked ++ file ∷ []
     → Asks (state_of files places told asked faults) (state_of files more told later after) (name ∷ [])
 places-asked files names places more told asked later faults after file name n e l =
     rw l (asked-found files places more told asked faults after file name (let h = rw n at e in sym h))
 
-opened-found : (files : List MemFile) (places : List Place) (told : Bool) (asked later : List ℕ) (faults after slot : ℕ) (p : Place)
+opened-found : (files : List MemFile) (places : List FilePlace) (told : Bool) (asked later : List ℕ) (faults after slot : ℕ) (p : FilePlace)
     (name : List ℕ)
     → index_of files name ≡ Some p.file → slot ≡ length places → p.at ≡ 0
     → Opens (state_of files places told asked faults) (state_of files (places ++ p ∷ []) told later after) name slot
@@ -149,8 +149,8 @@ opened-found files places told asked later faults after slot p name e s z =
     }
 
 -- a new place at the beginning of the file found opens it
-pub places-opened : (files names : List MemFile) (places more : List Place) (told : Bool) (asked later : List ℕ) (faults after slot : ℕ)
-    (p : Place) (name : List ℕ)
+pub places-opened : (files names : List MemFile) (places more : List FilePlace) (told : Bool) (asked later : List ℕ) (faults after slot : ℕ)
+    (p : FilePlace) (name : List ℕ)
     → names ≡ files → Some p.file ≡ index_of names name → slot ≡ length places → p.at ≡ 0 → more ≡ places ++ p ∷ []
     → Opens (state_of files places told asked faults) (state_of files more told later after) name slot
 places-opened files names places more told asked later faults after slot p name n e s z m =

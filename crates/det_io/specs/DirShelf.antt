@@ -4,8 +4,8 @@ use Rattle.det_io.specs.Shelf.{ShelfState}
 use Rattle.det_io.specs.declared.dir_shelf.DirShelf.{DirShelf}
 
 -- a shelf of which neither bytes nor names are known
-abbrev pub untold : ℕ → ℕ → ShelfState
-untold slots faults = record {
+abbrev pub unknown_contents : ℕ → ℕ → ShelfState
+unknown_contents slots faults = record {
   slots = slots;
   faults = faults;
   holds = λ name. None;
@@ -14,4 +14,4 @@ untold slots faults = record {
 }
 
 abbrev pub dir_shelf_state : {R A B : Type 0} → DirShelf R A B → ShelfState
-dir_shelf_state s = untold (vec_len s.files) s.faults
+dir_shelf_state s = unknown_contents (vec_len s.files) s.faults

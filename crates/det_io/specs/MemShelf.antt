@@ -7,7 +7,7 @@ use Rattle.std.specs.Str.{bytes_eq}
 use Rattle.det_io.specs.Shelf.{ShelfState}
 use Rattle.det_io.specs.PlannedCalls.{is_listed}
 use Rattle.det_io.specs.declared.mem_shelf.MemFile.{MemFile}
-use Rattle.det_io.specs.declared.mem_shelf.place.Place.{Place}
+use Rattle.det_io.specs.declared.mem_shelf.place.FilePlace.{FilePlace}
 use Rattle.det_io.specs.declared.mem_shelf.MemShelf.{MemShelf}
 
 -- the index of the first file with a name
@@ -26,14 +26,14 @@ bytes_under files name = option_map (λ i. slice_index_or (texts_of files) i [])
     (index_of files name)
 
 -- the bytes from a place to the end of its file
-abbrev pub rest_of : List MemFile → Place → List ℕ
+abbrev pub rest_of : List MemFile → FilePlace → List ℕ
 rest_of files p = drop p.at (slice_index_or (texts_of files) p.file [])
 
 abbrev pub asked_in : Bool → List MemFile → List ℕ → Option (List (List ℕ))
 asked_in told files asked = cond told (Some (map (λ i. slice_index_or (names_of files) i []) asked))
     None
 
-abbrev pub state_of : List MemFile → List Place → Bool → List ℕ → ℕ → ShelfState
+abbrev pub state_of : List MemFile → List FilePlace → Bool → List ℕ → ℕ → ShelfState
 state_of files places told asked faults = record {
   slots = length places;
   faults = faults;
@@ -42,9 +42,9 @@ state_of files places told asked faults = record {
   left = slice_get (map (rest_of files) places);
 }
 
--- its state: all bytes are known, and the names asked for as long as `is_told` holds
+-- its state: all bytes are known, and the names asked for as long as `names_known` holds
 abbrev pub mem_shelf_state : MemShelf → ShelfState
-mem_shelf_state s = state_of s.files s.slots.items s.is_told s.asked.items s.faults
+mem_shelf_state s = state_of s.files s.slots.items s.names_known s.asked.items s.faults
 
 -- the arguments that a shelf was made of, which no call changes
 pub record MemShelfSetup : Type 0 where

@@ -1,6 +1,6 @@
 //! The shelf of the programs: files of the file system, by path.
-use crate::trying::read_trying;
-use crate::within::push_within;
+use crate::reserved_push::push_within;
+use crate::retries::read_with_retries;
 use crate::{Failure, Shelf, ShelfFailed, Slots};
 use std::alloc::Global;
 use std::fs;
@@ -20,11 +20,11 @@ pub struct DirShelf<R: Files> {
 
 impl<R: Files + Copy> DirShelf<R> {
     ghost use Rattle.std.specs.Prelude.{◌≡◌};
-    ghost use Rattle.det_io.specs.DirShelf.{dir_shelf_state, untold};
+    ghost use Rattle.det_io.specs.DirShelf.{dir_shelf_state, unknown_contents};
 
     /// A shelf over the file system. Relative paths begin at the current folder.
     pub fn new(rt: &R, alloc: Global) -> DirShelf<R>
-        ensures { dir_shelf_state result ≡ untold 0 0 }
+        ensures { dir_shelf_state result ≡ unknown_contents 0 0 }
     {
         DirShelf {
             rt: *rt,
@@ -55,7 +55,7 @@ impl<R: Files + Copy> Slots for DirShelf<R> {
     ghost stays_on = { λ _ _ _ _ _. tt };
 
     fn read(&mut self, slot: u32, buf: &mut [u8]) -> Result<usize, ShelfFailed> {
-        match read_trying(&mut self.files[slot as usize], buf) {
+        match read_with_retries(&mut self.files[slot as usize], buf) {
             Ok(n) => Ok(n),
             Err(error) => {
                 self.faults = self.faults.saturating_add(1);

@@ -2,7 +2,8 @@
 //! any shelf and any sink, so a test can run them on memory and let chosen calls fail.
 #![tactic(auto)]
 
-mod copying;
+mod bounded_read;
+mod copy_front;
 mod dir_shelf;
 mod discard;
 mod failure;
@@ -10,17 +11,17 @@ mod faults;
 mod mem_shelf;
 mod mem_sink;
 mod planned_calls;
-mod reading;
+mod reserved_push;
+mod retries;
 mod shelf;
 mod sink;
 pub mod sink_buffer;
 mod slots;
 mod std_sink;
 mod text_shelf;
-mod trying;
-mod within;
-mod writing;
+mod whole_write;
 
+pub use bounded_read::{PIECE, TooLong, read_limited};
 pub use dir_shelf::DirShelf;
 pub use discard::Discard;
 pub use failure::{Failure, Stopped};
@@ -28,12 +29,11 @@ pub use faults::{ShelfFailed, SinkFailed};
 pub use mem_shelf::{MemFile, MemFiles, MemShelf};
 pub use mem_sink::MemSink;
 pub use planned_calls::{FailList, PlannedCalls};
-pub use reading::{PIECE, TooLong, read_limited};
+pub use reserved_push::push_within;
+pub use retries::read_with_retries;
 pub use shelf::Shelf;
 pub use sink::Sink;
 pub use slots::Slots;
 pub use std_sink::StdSink;
 pub use text_shelf::TextShelf;
-pub use trying::read_trying;
-pub use within::push_within;
-pub use writing::write_all;
+pub use whole_write::write_all;

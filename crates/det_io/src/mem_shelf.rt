@@ -1,14 +1,14 @@
 //! A shelf in memory for tests, which fails at chosen calls.
 ghost use Rattle.std.specs.Prelude.{◌≡◌, ◌<◌, ◌≤◌, vec_len, vec_capacity};
 
-mod finding;
+mod lookup;
 mod place;
 
 use crate::planned_calls::PlannedCalls;
-use crate::within::push_within;
+use crate::reserved_push::push_within;
 use crate::{FailList, Failure, Shelf, ShelfFailed, Slots};
 use det_values::{Limited, OutOfMemory};
-use place::Place;
+use place::FilePlace;
 use std::alloc::Global;
 
 /// A file in memory: a name and bytes.
@@ -42,10 +42,10 @@ pub struct MemShelf {
     faults: u64,
     // The number of calls of `open_input` that took room.
     opened: u32,
-    is_told: bool,
+    names_known: bool,
     // The names that it was asked for, each as the index of its file.
     asked: Vec<usize>,
-    slots: Vec<Place>,
+    slots: Vec<FilePlace>,
     ghost moves: { 0 < most },
     ghost opens_within: { opens ≤ 1024 },
     ghost opened_within: { opened ≤ opens },
@@ -96,7 +96,7 @@ impl MemShelf {
             most,
             faults: 0,
             opened: 0,
-            is_told: true,
+            names_known: true,
             asked,
             slots,
         })
@@ -147,8 +147,8 @@ impl Slots for MemShelf {
             return Err(ShelfFailed);
         }
         let place = self.slots[slot as usize];
-        let n = finding::copy_from(self.files.as_slice(), place, buf, self.most);
-        self.slots[slot as usize] = Place {
+        let n = lookup::copy_from(self.files.as_slice(), place, buf, self.most);
+        self.slots[slot as usize] = FilePlace {
             file: place.file,
             at: place.at + n,
         };
@@ -190,13 +190,13 @@ impl Shelf for MemShelf {
     {
         let is_listed = self.calls.next_fails();
         if self.opened == self.opens {
-            self.is_told = false;
+            self.names_known = false;
             self.faults = self.faults.saturating_add(1);
             return Err(Failure::Read);
         }
         self.opened += 1;
-        let Some(file) = finding::index_of(self.files.as_slice(), name) else {
-            self.is_told = false;
+        let Some(file) = lookup::index_of(self.files.as_slice(), name) else {
+            self.names_known = false;
             self.faults = self.faults.saturating_add(1);
             return Err(Failure::Read);
         };
@@ -206,7 +206,7 @@ impl Shelf for MemShelf {
             return Err(Failure::Read);
         }
         let slot = self.slots.len() as u32;
-        push_within(&mut self.slots, Place { file, at: 0 });
+        push_within(&mut self.slots, FilePlace { file, at: 0 });
         Ok(slot)
     }
 }

@@ -4,11 +4,11 @@
 mod buffer;
 mod front;
 mod gather;
-mod passing;
+mod held_bytes;
 mod start;
 
 pub use buffer::SinkBuffer;
 pub use front::Front;
 pub use gather::Gather;
-pub use passing::{BUFFER_ROOM, buffer_room};
+pub use held_bytes::{BUFFER_ROOM, buffer_room};
 pub use start::Start;

@@ -1,5 +1,5 @@
 //! The sink of the programs: a writer of std, as standard output or a file.
-use crate::trying::write_trying;
+use crate::retries::write_with_retries;
 use crate::{Sink, SinkFailed};
 use std::io::{Error, Write};
 
@@ -37,14 +37,14 @@ impl<W: Write + Drop> StdSink<W> {
 }
 
 impl<W: Write + Drop> Sink for StdSink<W> {
-    ghost use Rattle.det_io.specs.StdSink.{NothingTold, std_sink_faults};
+    ghost use Rattle.det_io.specs.StdSink.{NoBytesKnown, std_sink_faults};
 
-    ghost took = { λ _ m. NothingTold m };
+    ghost took = { λ _ m. NoBytesKnown m };
 
     ghost faults = { λ s. std_sink_faults s };
 
     fn write(&mut self, piece: &[u8]) -> Result<usize, SinkFailed> {
-        match write_trying(&mut self.writer, piece) {
+        match write_with_retries(&mut self.writer, piece) {
             Ok(n) => Ok(n),
             Err(error) => {
                 self.faults = self.faults.saturating_add(1);

@@ -1,7 +1,7 @@
 //! One text in memory as slot 0, for readers that take slots.
 ghost use Rattle.std.specs.Prelude.{◌≤◌, length};
 
-use crate::copying::copy_front;
+use crate::copy_front::copy_front;
 use crate::{ShelfFailed, Slots};
 use det_values::Bytes;
 

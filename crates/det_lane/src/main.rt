@@ -2,12 +2,12 @@
 //! error. After it, hints are written.
 #![tactic(auto)]
 
-mod hinting;
+mod lane_hints;
 
 use det_io::{Sink, StdSink, write_all};
-use hinting::give_hints;
 use lane::child_processes::{ChildShelf, ProcessSpawner};
 use lane::{LaneAnswer, LaneStatus, lane_top};
+use lane_hints::write_hints;
 use std::alloc::AllocError;
 use std::env;
 use std::io::ErrorKind;
@@ -15,7 +15,7 @@ use std::process::ExitCode;
 
 /// The arguments after the program's name. They are empty, which is no command, if one of them
 /// isn't UTF-8.
-fn words_given(rt: &HostRuntime) -> Result<Vec<String>, AllocError> {
+fn program_words(rt: &HostRuntime) -> Result<Vec<String>, AllocError> {
     let alloc = rt.alloc();
     match env::args(rt) {
         Ok(args) => args.skip(1).collect::<Vec<String>>(alloc),
@@ -25,7 +25,7 @@ fn words_given(rt: &HostRuntime) -> Result<Vec<String>, AllocError> {
 }
 
 /// Reports that memory ran out before the program began, as `lane_top` does.
-fn no_memory<E: Sink>(err: &mut E) -> ExitCode {
+fn report_out_of_memory<E: Sink>(err: &mut E) -> ExitCode {
     let line = LaneAnswer::OutOfMemory.line();
     let _ = write_all(err, line.as_slice());
     ExitCode::from(LaneStatus::OutOfMemory.number())
@@ -34,8 +34,8 @@ fn no_memory<E: Sink>(err: &mut E) -> ExitCode {
 fn main(rt: HostRuntime) -> ExitCode {
     let alloc = rt.alloc();
     let mut err = StdSink::new(rt.stderr());
-    let Ok(words) = words_given(&rt) else {
-        return no_memory(&mut err);
+    let Ok(words) = program_words(&rt) else {
+        return report_out_of_memory(&mut err);
     };
     let mut children = ChildShelf {
         spawner: ProcessSpawner::new(&rt, alloc),
@@ -43,7 +43,7 @@ fn main(rt: HostRuntime) -> ExitCode {
     let mut out = StdSink::new(rt.stdout());
     let status = lane_top(alloc, &words, &mut children, &mut out, &mut err);
     if err.failed().is_none() {
-        give_hints(&rt, &words, status, out.failed(), &mut err);
+        write_hints(&rt, &words, status, out.failed(), &mut err);
     }
     ExitCode::from(status.number())
 }

@@ -5,10 +5,10 @@ use Rattle.det_values.specs.declared.frames.Outcome.{Outcome}
 use Rattle.det_values.specs.declared.format.Format.TheVariants.{Two}
 use Rattle.det_values.specs.declared.frames.Outcome.TheVariants.{Finished, Refused}
 use Rattle.record_grammar.specs.Spelling.{MayDrawAll}
-use Rattle.det_record_c.specs.declared.given.DetSample.{DetSample}
-use Rattle.det_record_c.specs.declared.given.DetTime.{DetTime}
-use Rattle.det_record_c.specs.Given.{sample_of, cycle_of}
-use Rattle.det_record_c.specs.Sound.{AreSoundSamples}
+use Rattle.det_record_c.specs.declared.c_types.DetSample.{DetSample}
+use Rattle.det_record_c.specs.declared.c_types.DetTime.{DetTime}
+use Rattle.det_record_c.specs.CValues.{sample_of, cycle_of}
+use Rattle.det_record_c.specs.Ranges.{AreSoundSamples}
 use Rattle.det_record_c.specs.Parts.{CanBeSpelled}
 
 draws_all : (outcome : Outcome) → MayDrawAll Two outcome

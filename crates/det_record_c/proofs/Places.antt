@@ -7,9 +7,9 @@ use Rattle.record_grammar.specs.declared.item.Item.{Item}
 use Rattle.record_grammar.specs.declared.item.Item.TheVariants as items
 use Rattle.record_grammar.specs.Places.{CanFollow}
 use Rattle.record_grammar.specs.Laws.{MayStand, item_spelling}
-use Rattle.det_record_c.specs.declared.state.DetRecord.{DetRecord}
+use Rattle.det_record_c.specs.declared.det_record.DetRecord.{DetRecord}
 use Rattle.det_record_c.specs.Stage.{layout_in, place_of}
-use Rattle.det_record_c.specs.Spelled.{spelling_of, HasFields}
+use Rattle.det_record_c.specs.Spelling.{spelling_of, HasFields}
 
 -- what holds of each place holds of the place of a record
 by_stage : (P : Place → Type 0) (a b : Place) (t : Bool) → P a → P b → P (cond t a b)

@@ -7,10 +7,10 @@ use Rattle.record_grammar.specs.declared.place.Place.TheVariants as places
 use Rattle.record_grammar.specs.declared.item.Item.{Item}
 use Rattle.record_grammar.specs.Places.{after, CanFollow}
 use Rattle.record_grammar.specs.Laws.{MayStand, AreItems, item_spelling, items_spelling}
-use Rattle.det_record_c.specs.declared.state.DetRecord.{DetRecord}
+use Rattle.det_record_c.specs.declared.det_record.DetRecord.{DetRecord}
 use Rattle.det_record_c.specs.Stage.{place_of}
-use Rattle.det_record_c.specs.Spelled.{spelling_of, HasFields}
-use Rattle.det_record_c.specs.Parts.{Written, Lent, added, IsAdded, Fits}
+use Rattle.det_record_c.specs.Spelling.{spelling_of, HasFields}
+use Rattle.det_record_c.specs.Parts.{Written, CallState, written_bytes, IsAdded, Fits}
 use Rattle.det_record_c.proofs.Places.{spelling_is, may_stand}
 
 stand_behind : (xs : List Item) (x : Item) (place to : Place) → AreItems place xs to → MayStand to x
@@ -37,22 +37,22 @@ written_behind old new item bytes s p e items before w = record {
 }
 
 -- the bytes of an item are at the front of the room, and their number is reported
-pub is_added : (item : Item) (old new : Lent) (bytes : List ℕ) → CanFollow (place_of old.state) item → HasFields old.state.events item
+pub is_added : (item : Item) (old new : CallState) (bytes : List ℕ) → CanFollow (place_of old.state) item → HasFields old.state.events item
     → place_of new.state ≡ after (place_of old.state) item → bytes ≡ spelling_of item → length bytes ≤ length old.out
     → new.out ≡ bytes ++ drop (length bytes) old.out → new.written ≡ length bytes → IsAdded item old new × Fits old.state item old.out
 is_added item old new bytes can fields place is fits out written =
-    let spelled : bytes ≡ item_spelling (place_of old.state) item = is ∙ sym (spelling_is old.state item can) in
-    let front : added new ≡ bytes = ap (λ (n : ℕ). take n new.out) written ∙ ap (take (length bytes)) out
+    let encode_item : bytes ≡ item_spelling (place_of old.state) item = is ∙ sym (spelling_is old.state item can) in
+    let front : written_bytes new ≡ bytes = ap (λ (n : ℕ). take n new.out) written ∙ ap (take (length bytes)) out
     ∙ take-append_seam bytes (drop (length bytes) old.out) in (
       record {
         written =
-            written_behind old.state new.state item (added new) (may_stand old.state item can fields) place (front ∙ spelled);
+            written_behind old.state new.state item (written_bytes new) (may_stand old.state item can fields) place (front ∙ encode_item);
         place = place;
-        spelling = front ∙ spelled;
+        spelling = front ∙ encode_item;
         room = omega arith;
         behind =
             ap (λ (n : ℕ). drop n new.out) written ∙ ap (drop (length bytes)) out ∙ drop-append_seam bytes (drop (length bytes) old.out)
             ∙ sym (ap (λ (n : ℕ). drop n old.out) written);
       },
-      subst (λ (xs : List ℕ). length xs ≤ length old.out) spelled fits,
+      subst (λ (xs : List ℕ). length xs ≤ length old.out) encode_item fits,
     )

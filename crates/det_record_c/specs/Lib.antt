@@ -1,6 +1,6 @@
-pub mod Given
-pub mod Sound
+pub mod CValues
+pub mod Ranges
 pub mod Stage
-pub mod Spelled
+pub mod Spelling
 pub mod Parts
 pub mod Statements

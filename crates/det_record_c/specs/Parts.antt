@@ -10,7 +10,7 @@ use Rattle.record_grammar.specs.Spelling.{CanSpell}
 use Rattle.det_values.specs.declared.format.Format.TheVariants.{Two}
 use Rattle.det_record_c.specs.declared.cause.Cause.{Cause}
 use Rattle.det_record_c.specs.declared.cause.Cause.TheVariants as causes
-use Rattle.det_record_c.specs.declared.state.DetRecord.{DetRecord}
+use Rattle.det_record_c.specs.declared.det_record.DetRecord.{DetRecord}
 use Rattle.det_record_c.specs.Stage.{place_of}
 
 -- ---- what is written
@@ -22,24 +22,24 @@ pub record Written (r : DetRecord) (items : List Item) (bytes : List ℕ) : Type
 
 -- what C lends to a call: the state of its record, the room for bytes, and the number of bytes
 -- written
-pub record Lent : Type 0 where
+pub record CallState : Type 0 where
   pub state : DetRecord
   pub out : List ℕ
   pub written : ℕ
 
-abbrev pub lent : DetRecord → List ℕ → ℕ → Lent
-lent r out written = record { state = r; out = out; written = written }
+abbrev pub call_state : DetRecord → List ℕ → ℕ → CallState
+call_state r out written = record { state = r; out = out; written = written }
 
 -- the bytes that a call wrote
-abbrev pub added : Lent → List ℕ
-added l = take l.written l.out
+abbrev pub written_bytes : CallState → List ℕ
+written_bytes l = take l.written l.out
 
 -- an item was written after those before it, and nothing else changed
-pub record IsAdded (item : Item) (old new : Lent) : Type 0 where
+pub record IsAdded (item : Item) (old new : CallState) : Type 0 where
   pub written : (items : List Item) (bytes : List ℕ) → Written old.state items bytes
-      → Written new.state (items ++ item ∷ []) (bytes ++ added new)
+      → Written new.state (items ++ item ∷ []) (bytes ++ written_bytes new)
   pub place : place_of new.state ≡ after (place_of old.state) item
-  pub spelling : added new ≡ item_spelling (place_of old.state) item
+  pub spelling : written_bytes new ≡ item_spelling (place_of old.state) item
   pub room : new.written ≤ length old.out
   pub behind : drop new.written new.out ≡ drop new.written old.out
 
@@ -50,7 +50,7 @@ Fits r item out = length (item_spelling (place_of r) item) ≤ length out
 
 -- The number of the first of three conditions that isn't met, or that of too little memory. The
 -- third condition and memory matter only where the first two are met.
-pub record TellsFirst (answer : ℕ) (follows sound fits : Type 0) : Type 0 where
+pub record ReportsFirst (answer : ℕ) (follows sound fits : Type 0) : Type 0 where
   pub most : answer ≤ 4
   pub done : answer ≡ 0 → follows × sound × fits
   pub misplaced : (answer ≡ 1) ↔ (follows → ⊥)
@@ -59,9 +59,9 @@ pub record TellsFirst (answer : ℕ) (follows sound fits : Type 0) : Type 0 wher
   pub no_memory : answer ≡ 4 → follows × sound
 
 -- the number for an item that may come, whose values are in their ranges and whose bytes fit
-abbrev pub Tells : ℕ → DetRecord → Item → Type 0 → List ℕ → Type 0
-Tells answer r item sound out =
-    TellsFirst answer (CanFollow (place_of r) item) sound (Fits r item out)
+abbrev pub ReportsCause : ℕ → DetRecord → Item → Type 0 → List ℕ → Type 0
+ReportsCause answer r item sound out =
+    ReportsFirst answer (CanFollow (place_of r) item) sound (Fits r item out)
 
 -- ---- the same, inside
 
@@ -93,13 +93,13 @@ abbrev pub MayBeWritten : DetRecord → Item → Type 0
 MayBeWritten r item = CanFollow (place_of r) item × CanBeSpelled r.events item
 
 -- the result of writing an item
-abbrev pub IsPut : Item → Result (Unit {0}) Cause → Lent → Lent → Type 0
+abbrev pub IsPut : Item → Result (Unit {0}) Cause → CallState → CallState → Type 0
 IsPut item (Ok u) old new = IsAdded item old new × Fits old.state item old.out
 IsPut item (Err causes.NoRoom) old new = (new ≡ old) × (Fits old.state item old.out → ⊥)
 IsPut item (Err causes.NoMemory) old new = new ≡ old
 IsPut item (Err cause) old new = ⊥
 
 -- the result of a part, from that of making its item
-abbrev pub Ended : Result Item Cause → Result (Unit {0}) Cause → Lent → Lent → Type 0
+abbrev pub Ended : Result Item Cause → Result (Unit {0}) Cause → CallState → CallState → Type 0
 Ended (Ok item) done old new = IsPut item done old new
 Ended (Err cause) done old new = (done ≡ Err cause) × (new ≡ old)

@@ -7,9 +7,9 @@ use Rattle.record_grammar.specs.declared.place.Place.{Place}
 use Rattle.record_grammar.specs.declared.place.Place.TheVariants as places
 use Rattle.record_grammar.specs.declared.item.Item.{Item}
 use Rattle.record_grammar.specs.declared.item.Item.TheVariants as items
-use Rattle.det_record_c.specs.declared.state.DetRecord.{DetRecord}
-use Rattle.det_record_c.specs.declared.state.Part.{Part}
-use Rattle.det_record_c.specs.declared.state.Part.TheVariants as parts
+use Rattle.det_record_c.specs.declared.det_record.DetRecord.{DetRecord}
+use Rattle.det_record_c.specs.declared.det_record.Part.{Part}
+use Rattle.det_record_c.specs.declared.det_record.Part.TheVariants as parts
 
 abbrev pub layout_in : DetRecord → Layout
 layout_in r = record { format = Two; events = r.events }

@@ -6,7 +6,7 @@ use Rattle.record_grammar.specs.declared.place.Place.TheVariants as places
 use Rattle.record_grammar.specs.declared.item.Item.{Item}
 use Rattle.record_grammar.specs.Laws.{items_of}
 use Rattle.record_grammar.specs.Spelling.{SpellsWhole}
-use Rattle.det_record_c.specs.declared.state.DetRecord.{DetRecord}
+use Rattle.det_record_c.specs.declared.det_record.DetRecord.{DetRecord}
 use Rattle.det_record_c.specs.Stage.{place_of}
 use Rattle.det_record_c.specs.Parts.{Written}
 

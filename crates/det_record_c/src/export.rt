@@ -8,16 +8,16 @@
 ghost use Rattle.std.specs.Prelude.{◌≡◌, ◌≢◌, []};
 ghost use Rattle.record_grammar.specs.declared.item.Item.TheVariants as items;
 ghost use Rattle.det_values.specs.declared.frames.Frame.TheVariants as frames;
-ghost use Rattle.det_record_c.specs.Given.{header_of, init_of, finished_of, refused_of};
-ghost use Rattle.det_record_c.specs.Sound.{IsSoundHeader, AreSoundElements, IsSoundFinish};
-ghost use Rattle.det_record_c.specs.Sound.{IsSoundRefusal};
-ghost use Rattle.det_record_c.specs.Parts.{Written, lent, IsAdded, Tells};
+ghost use Rattle.det_record_c.specs.CValues.{header_of, init_of, finished_of, refused_of};
+ghost use Rattle.det_record_c.specs.Ranges.{IsSoundHeader, AreSoundElements, IsSoundFinish};
+ghost use Rattle.det_record_c.specs.Ranges.{IsSoundRefusal};
+ghost use Rattle.det_record_c.specs.Parts.{Written, call_state, IsAdded, ReportsCause};
 
+use crate::c_types::{DetElement, DetEvent, DetProfile, DetRefusal, DetSample, DetTime};
 use crate::cause::answer;
-use crate::given::{DetElement, DetEvent, DetProfile, DetRefusal, DetSample, DetTime};
-use crate::made;
-use crate::put::put_made;
-use crate::state::DetRecord;
+use crate::checked_item;
+use crate::det_record::DetRecord;
+use crate::write_item::write_checked_item;
 use std::alloc::Global;
 
 /// Begins a record.
@@ -43,15 +43,15 @@ pub extern "C" fn det_record_header(
     out: &mut [u8],
     written: &mut usize,
 ) -> u8
-    ensures cause { Tells result state.old (header_of profile.now params.now events.now)
+    ensures cause { ReportsCause result state.old (header_of profile.now params.now events.now)
         (IsSoundHeader profile.now params.now events.now) out.old }
     ensures done { result ≡ 0 → IsAdded (header_of profile.now params.now events.now)
-        (lent state.old out.old written.old) (lent state.new out.new written.new) }
+        (call_state state.old out.old written.old) (call_state state.new out.new written.new) }
     ensures kept { result ≢ 0 →
-        lent state.new out.new written.new ≡ lent state.old out.old written.old }
+        call_state state.new out.new written.new ≡ call_state state.old out.old written.old }
 {
-    let made = made::header(alloc, state, profile, params, events);
-    answer(put_made(alloc, state, made, out, written))
+    let made = checked_item::header(alloc, state, profile, params, events);
+    answer(write_checked_item(alloc, state, made, out, written))
 }
 
 /// Writes the Register frame.
@@ -62,14 +62,14 @@ pub extern "C" fn det_record_register(
     out: &mut [u8],
     written: &mut usize,
 ) -> u8
-    ensures cause { Tells result state.old (items.Frame frames.Register) (Unit {0}) out.old }
+    ensures cause { ReportsCause result state.old (items.Frame frames.Register) (Unit {0}) out.old }
     ensures done { result ≡ 0 → IsAdded (items.Frame frames.Register)
-        (lent state.old out.old written.old) (lent state.new out.new written.new) }
+        (call_state state.old out.old written.old) (call_state state.new out.new written.new) }
     ensures kept { result ≢ 0 →
-        lent state.new out.new written.new ≡ lent state.old out.old written.old }
+        call_state state.new out.new written.new ≡ call_state state.old out.old written.old }
 {
-    let made = made::register(state);
-    answer(put_made(alloc, state, made, out, written))
+    let made = checked_item::register(state);
+    answer(write_checked_item(alloc, state, made, out, written))
 }
 
 /// Writes the Discover frame, that of ServiceDiscovery.
@@ -80,14 +80,14 @@ pub extern "C" fn det_record_discover(
     out: &mut [u8],
     written: &mut usize,
 ) -> u8
-    ensures cause { Tells result state.old (items.Frame frames.Discover) (Unit {0}) out.old }
+    ensures cause { ReportsCause result state.old (items.Frame frames.Discover) (Unit {0}) out.old }
     ensures done { result ≡ 0 → IsAdded (items.Frame frames.Discover)
-        (lent state.old out.old written.old) (lent state.new out.new written.new) }
+        (call_state state.old out.old written.old) (call_state state.new out.new written.new) }
     ensures kept { result ≢ 0 →
-        lent state.new out.new written.new ≡ lent state.old out.old written.old }
+        call_state state.new out.new written.new ≡ call_state state.old out.old written.old }
 {
-    let made = made::discover(state);
-    answer(put_made(alloc, state, made, out, written))
+    let made = checked_item::discover(state);
+    answer(write_checked_item(alloc, state, made, out, written))
 }
 
 /// Writes the Init frame with the initial elements. Their draws are ignored.
@@ -99,15 +99,15 @@ pub extern "C" fn det_record_init(
     out: &mut [u8],
     written: &mut usize,
 ) -> u8
-    ensures cause { Tells result state.old (init_of elements.now)
+    ensures cause { ReportsCause result state.old (init_of elements.now)
         (AreSoundElements elements.now) out.old }
     ensures done { result ≡ 0 → IsAdded (init_of elements.now)
-        (lent state.old out.old written.old) (lent state.new out.new written.new) }
+        (call_state state.old out.old written.old) (call_state state.new out.new written.new) }
     ensures kept { result ≢ 0 →
-        lent state.new out.new written.new ≡ lent state.old out.old written.old }
+        call_state state.new out.new written.new ≡ call_state state.old out.old written.old }
 {
-    let made = made::init(alloc, state, elements);
-    answer(put_made(alloc, state, made, out, written))
+    let made = checked_item::init(alloc, state, elements);
+    answer(write_checked_item(alloc, state, made, out, written))
 }
 
 /// Writes the Run frame of a cycle that finished.
@@ -122,16 +122,16 @@ pub extern "C" fn det_record_finished(
     out: &mut [u8],
     written: &mut usize,
 ) -> u8
-    ensures cause { Tells result state.old
+    ensures cause { ReportsCause result state.old
         (finished_of time.now samples.now elements.now output.now)
         (IsSoundFinish state.old.events samples.now elements.now output.now) out.old }
     ensures done { result ≡ 0 → IsAdded (finished_of time.now samples.now elements.now output.now)
-        (lent state.old out.old written.old) (lent state.new out.new written.new) }
+        (call_state state.old out.old written.old) (call_state state.new out.new written.new) }
     ensures kept { result ≢ 0 →
-        lent state.new out.new written.new ≡ lent state.old out.old written.old }
+        call_state state.new out.new written.new ≡ call_state state.old out.old written.old }
 {
-    let made = made::finished(alloc, state, time, samples, elements, output);
-    answer(put_made(alloc, state, made, out, written))
+    let made = checked_item::finished(alloc, state, time, samples, elements, output);
+    answer(write_checked_item(alloc, state, made, out, written))
 }
 
 /// Writes the Run frame of a cycle that was refused.
@@ -145,15 +145,15 @@ pub extern "C" fn det_record_refused(
     out: &mut [u8],
     written: &mut usize,
 ) -> u8
-    ensures cause { Tells result state.old (refused_of time.now samples.now refusal.now)
+    ensures cause { ReportsCause result state.old (refused_of time.now samples.now refusal.now)
         (IsSoundRefusal state.old.events samples.now refusal.now) out.old }
     ensures done { result ≡ 0 → IsAdded (refused_of time.now samples.now refusal.now)
-        (lent state.old out.old written.old) (lent state.new out.new written.new) }
+        (call_state state.old out.old written.old) (call_state state.new out.new written.new) }
     ensures kept { result ≢ 0 →
-        lent state.new out.new written.new ≡ lent state.old out.old written.old }
+        call_state state.new out.new written.new ≡ call_state state.old out.old written.old }
 {
-    let made = made::refused(alloc, state, time, samples, refusal);
-    answer(put_made(alloc, state, made, out, written))
+    let made = checked_item::refused(alloc, state, time, samples, refusal);
+    answer(write_checked_item(alloc, state, made, out, written))
 }
 
 /// Writes the Terminate frame, the last one.
@@ -164,12 +164,12 @@ pub extern "C" fn det_record_terminate(
     out: &mut [u8],
     written: &mut usize,
 ) -> u8
-    ensures cause { Tells result state.old (items.Frame frames.Terminate) (Unit {0}) out.old }
+    ensures cause { ReportsCause result state.old (items.Frame frames.Terminate) (Unit {0}) out.old }
     ensures done { result ≡ 0 → IsAdded (items.Frame frames.Terminate)
-        (lent state.old out.old written.old) (lent state.new out.new written.new) }
+        (call_state state.old out.old written.old) (call_state state.new out.new written.new) }
     ensures kept { result ≢ 0 →
-        lent state.new out.new written.new ≡ lent state.old out.old written.old }
+        call_state state.new out.new written.new ≡ call_state state.old out.old written.old }
 {
-    let made = made::terminate(state);
-    answer(put_made(alloc, state, made, out, written))
+    let made = checked_item::terminate(state);
+    answer(write_checked_item(alloc, state, made, out, written))
 }

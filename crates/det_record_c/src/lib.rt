@@ -3,14 +3,14 @@
 #![tactic(auto)]
 
 mod build;
+mod c_types;
 mod cause;
+mod checked_item;
+mod det_record;
 mod export;
-mod given;
-pub mod laws;
 mod list;
-mod made;
-mod put;
-mod sound;
-mod state;
+mod ranges;
+pub mod record_c_laws;
 #[cfg(test)]
 mod tests;
+mod write_item;

@@ -1,10 +1,10 @@
 //! Lists that C passes, as the lists of a record.
 ghost use Rattle.std.specs.Prelude.{◌≡◌, ◌≤◌, map, length, IfOk};
 ghost use Rattle.std.specs.List.{All};
-ghost use Rattle.det_record_c.specs.Given.{sample_of, bytes_of, drawn_of, event_of};
-ghost use Rattle.det_record_c.specs.Sound.{AreSoundSamples, AreSoundElements, IsSoundEvent};
+ghost use Rattle.det_record_c.specs.CValues.{sample_of, bytes_of, drawn_of, event_of};
+ghost use Rattle.det_record_c.specs.Ranges.{AreSoundSamples, AreSoundElements, IsSoundEvent};
 
-use crate::given::{DetElement, DetEvent, DetSample};
+use crate::c_types::{DetElement, DetEvent, DetSample};
 use det_values::{Bytes64, DrawnElements, Elements, Events, OutOfMemory, Samples};
 use std::alloc::Global;
 
@@ -29,7 +29,7 @@ pub(crate) fn elements(alloc: Global, given: &[DetElement]) -> Result<Elements, 
 {
     let mut list = Elements::new(alloc);
     for element in given {
-        list.push(Bytes64::of(element.used()))?;
+        list.push(Bytes64::from_slice(element.used_bytes()))?;
     }
     Ok(list)
 }
@@ -40,7 +40,7 @@ pub(crate) fn drawn(alloc: Global, given: &[DetElement]) -> Result<DrawnElements
 {
     let mut list = DrawnElements::new(alloc);
     for element in given {
-        list.push(element.used(), element.draws)?;
+        list.push(element.used_bytes(), element.draws)?;
     }
     Ok(list)
 }

@@ -1,6 +1,6 @@
+use crate::c_types::*;
+use crate::det_record::DetRecord;
 use crate::export::*;
-use crate::given::*;
-use crate::state::DetRecord;
 use std::alloc::Global;
 use std::test::*;
 

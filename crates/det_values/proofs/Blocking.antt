@@ -7,7 +7,7 @@ use Rattle.std.specs.Vec.{vec_len}
 use Rattle.std.proofs.Math.Seq.{take-append_seam, drop-append-add}
 use Rattle.std.proofs.lemmas.List.{append-nil, take_all, get_or-take, get_or-drop, get_or-map, length-take, length-map, take_min, take-take}
 use Rattle.std.proofs.lemmas.List.{drop-take, drop-drop}
-use Rattle.det_values.specs.Blocks.{joined, AreBlocks, held_by}
+use Rattle.det_values.specs.Blocks.{joined, AreBlocks, block_items}
 
 module _ {E : Type 0} where
   pub length-joined : (bs : List (List E)) → AreBlocks bs → length (joined bs) ≤ 256 * length bs
@@ -59,33 +59,36 @@ module _ {E : Type 0} where
 
   -- a block, as code reads it
   pub held_at : {Z : Type 0} (vs : List (Vec E Z)) (i : ℕ) (v : Vec E Z) → i < length vs → v ≡ get_or vs i v
-      → v.items ≡ get_or (held_by vs) i []
+      → v.items ≡ get_or (block_items vs) i []
   held_at {Z} vs i v lt e = ap (λ (w : Vec E Z). w.items) e ∙ sym (get_or-map (λ (w : Vec E Z). w.items) vs i v [] lt)
 
-  pub count_is : {Z : Type 0} (v : Vec (Vec E Z) Z) (n : ℕ) → n ≡ vec_len v → n ≡ length (held_by v.items)
+  pub count_is : {Z : Type 0} (v : Vec (Vec E Z) Z) (n : ℕ) → n ≡ vec_len v → n ≡ length (block_items v.items)
   count_is {Z} v n e = e ∙ v.ok.0 ∙ sym (length-map v.items (λ (w : Vec E Z). w.items))
 
-  pub held_block : {Z : Type 0} (vs : List (Vec E Z)) (q : ℕ) (v : Vec E Z) → AreBlocks (held_by vs) → 256 * q < length (joined (held_by vs))
-      → v ≡ get_or vs q v → v.items ≡ take 256 (drop (256 * q) (joined (held_by vs)))
+  pub held_block : {Z : Type 0} (vs : List (Vec E Z)) (q : ℕ) (v : Vec E Z) → AreBlocks (block_items vs)
+      → 256 * q < length (joined (block_items vs))
+      → v ≡ get_or vs q v → v.items ≡ take 256 (drop (256 * q) (joined (block_items vs)))
   held_block {Z} vs q v h lt e =
-      let k : q < length (held_by vs) = in_blocks (held_by vs) q h lt in
-      held_at vs q v (omega (arith, k, length-map vs (λ (w : Vec E Z). w.items))) e ∙ block_is (held_by vs) q h k
+      let k : q < length (block_items vs) = in_blocks (block_items vs) q h lt in
+      held_at vs q v (omega (arith, k, length-map vs (λ (w : Vec E Z). w.items))) e ∙ block_is (block_items vs) q h k
 
-  pub held_room : {Z : Type 0} (vs : List (Vec E Z)) (i : ℕ) (v : Vec E Z) → AreBlocks (held_by vs) → i < length (joined (held_by vs))
+  pub held_room : {Z : Type 0} (vs : List (Vec E Z)) (i : ℕ) (v : Vec E Z) → AreBlocks (block_items vs)
+      → i < length (joined (block_items vs))
       → v ≡ get_or vs (i / 256) v → i % 256 < vec_len v
   held_room {Z} vs i v h lt e =
-      let k : i / 256 < length (held_by vs) = in_blocks (held_by vs) (i / 256) h (omega arith) in
-      let w : v.items ≡ get_or (held_by vs) (i / 256) [] =
+      let k : i / 256 < length (block_items vs) = in_blocks (block_items vs) (i / 256) h (omega arith) in
+      let w : v.items ≡ get_or (block_items vs) (i / 256) [] =
       held_at vs (i / 256) v (omega (arith, k, length-map vs (λ (u : Vec E Z). u.items))) e in
-      omega (arith, v.ok.0, ap length w, in_block (held_by vs) i h lt)
+      omega (arith, v.ok.0, ap length w, in_block (block_items vs) i h lt)
 
-  pub held_element : {Z : Type 0} (vs : List (Vec E Z)) (i : ℕ) (v : Vec E Z) (x : E) → AreBlocks (held_by vs)
-      → i < length (joined (held_by vs)) → v ≡ get_or vs (i / 256) v → x ≡ get_or v.items (i % 256) x → x ≡ get_or (joined (held_by vs)) i x
+  pub held_element : {Z : Type 0} (vs : List (Vec E Z)) (i : ℕ) (v : Vec E Z) (x : E) → AreBlocks (block_items vs)
+      → i < length (joined (block_items vs)) → v ≡ get_or vs (i / 256) v → x ≡ get_or v.items (i % 256) x
+      → x ≡ get_or (joined (block_items vs)) i x
   held_element {Z} vs i v x h lt e f =
-      let k : i / 256 < length (held_by vs) = in_blocks (held_by vs) (i / 256) h (omega arith) in
-      let w : v.items ≡ get_or (held_by vs) (i / 256) [] =
+      let k : i / 256 < length (block_items vs) = in_blocks (block_items vs) (i / 256) h (omega arith) in
+      let w : v.items ≡ get_or (block_items vs) (i / 256) [] =
       held_at vs (i / 256) v (omega (arith, k, length-map vs (λ (u : Vec E Z). u.items))) e in
-      f ∙ ap (λ (ys : List E). get_or ys (i % 256) x) w ∙ element_is (held_by vs) i x h lt
+      f ∙ ap (λ (ys : List E). get_or ys (i % 256) x) w ∙ element_is (block_items vs) i x h lt
 
   -- the items of a block from an index on
   pub part_is : (bs : List (List E)) (first most : ℕ) (block : List E) → AreBlocks bs → first < length (joined bs)
@@ -130,17 +133,17 @@ module _ {E : Type 0} where
     length-by_last (c ∷ bs) k h.1 (omega arith),
   )
 
-  pub held_length : {Z : Type 0} (vs : List (Vec E Z)) (n : ℕ) (v : Vec E Z) → n ≡ length vs → 0 < n → AreBlocks (held_by vs)
-      → v ≡ get_or vs (n - 1) v → length (joined (held_by vs)) ≡ 256 * (n - 1) + length v.items
+  pub held_length : {Z : Type 0} (vs : List (Vec E Z)) (n : ℕ) (v : Vec E Z) → n ≡ length vs → 0 < n → AreBlocks (block_items vs)
+      → v ≡ get_or vs (n - 1) v → length (joined (block_items vs)) ≡ 256 * (n - 1) + length v.items
   held_length {Z} vs n v l lt h at =
-      let m : length (held_by vs) ≡ n = length-map vs (λ (u : Vec E Z). u.items) ∙ sym l in
-      let b : v.items ≡ get_or (held_by vs) (n - 1) [] = held_at vs (n - 1) v (omega (arith, l)) at in
-      omega (arith, length-by_last (held_by vs) (n - 1) h (omega (arith, m)), ap length b)
+      let m : length (block_items vs) ≡ n = length-map vs (λ (u : Vec E Z). u.items) ∙ sym l in
+      let b : v.items ≡ get_or (block_items vs) (n - 1) [] = held_at vs (n - 1) v (omega (arith, l)) at in
+      omega (arith, length-by_last (block_items vs) (n - 1) h (omega (arith, m)), ap length b)
 
-  pub held_before : {Z : Type 0} (vs : List (Vec E Z)) (n : ℕ) → n ≡ length vs → 0 < n → AreBlocks (held_by vs)
-      → 256 * (n - 1) < length (joined (held_by vs))
-  held_before {Z} vs n l lt h = before-last (held_by vs) (n - 1) h (omega (arith, l, length-map vs (λ (u : Vec E Z). u.items)))
+  pub held_before : {Z : Type 0} (vs : List (Vec E Z)) (n : ℕ) → n ≡ length vs → 0 < n → AreBlocks (block_items vs)
+      → 256 * (n - 1) < length (joined (block_items vs))
+  held_before {Z} vs n l lt h = before-last (block_items vs) (n - 1) h (omega (arith, l, length-map vs (λ (u : Vec E Z). u.items)))
 
-  pub none_held : {Z : Type 0} (vs : List (Vec E Z)) → length vs ≡ 0 → length (joined (held_by vs)) ≡ 0
+  pub none_held : {Z : Type 0} (vs : List (Vec E Z)) → length vs ≡ 0 → length (joined (block_items vs)) ≡ 0
   none_held [] e = refl
   none_held (v ∷ vs) e = absurd (omega (arith, e))

@@ -10,7 +10,7 @@ use Rattle.std.proofs.lemmas.List.Elements.{All-nil, All-cons, All-head, All-tai
 use Rattle.std.proofs.lemmas.Nat.{from_be_bytes-to_be_bytes_2, from_be_bytes-to_be_bytes_4}
 use Rattle.det_values.specs.declared.frames.DrawnElement.{DrawnElement}
 use Rattle.det_values.specs.Spelling.{spelled_u16, spelled_u32, an_element, spelled_drawn, IsDrawn, spelled_all, first_length, first_of}
-use Rattle.det_values.specs.Spelling.{behind_first, elements_in, IsFlat}
+use Rattle.det_values.specs.Spelling.{after_first, elements_in, IsFlat}
 
 pub take_two : (n : ℕ) (rest : List ℕ) → take 2 (spelled_u16 n ++ rest) ≡ to_be_bytes w16 n
 unfolding spelled_u16
@@ -59,7 +59,7 @@ first_is e rest h =
     (take 4 (drop (first_length (spelled_drawn e ++ rest)) (drop 2 (spelled_drawn e ++ rest)))))) b
     ∙ ap (λ (n : ℕ). an_element e.bytes n) d
 
-pub behind_is : (e : DrawnElement) (rest : List ℕ) → IsDrawn e → behind_first (spelled_drawn e ++ rest) ≡ rest
+pub behind_is : (e : DrawnElement) (rest : List ℕ) → IsDrawn e → after_first (spelled_drawn e ++ rest) ≡ rest
 behind_is e rest h = ap (drop 4) (behind_bytes e rest h) ∙ drop_four e.draws rest
 
 -- an element that was written is read again, whatever follows it
@@ -71,16 +71,16 @@ read_again (e ∷ es) rest h =
     append_assoc (spelled_drawn e) (spelled_all es) rest in
     let i : IsDrawn e = All-head IsDrawn e es h in
     let f : first_of (spelled_all (e ∷ es) ++ rest) ≡ e = ap first_of a ∙ first_is e (spelled_all es ++ rest) i in
-    let b : behind_first (spelled_all (e ∷ es) ++ rest) ≡ spelled_all es ++ rest = ap behind_first a
+    let b : after_first (spelled_all (e ∷ es) ++ rest) ≡ spelled_all es ++ rest = ap after_first a
     ∙ behind_is e (spelled_all es ++ rest) i in
-    ap (λ (x : DrawnElement). x ∷ elements_in (length es) (behind_first (spelled_all (e ∷ es) ++ rest))) f
+    ap (λ (x : DrawnElement). x ∷ elements_in (length es) (after_first (spelled_all (e ∷ es) ++ rest))) f
     ∙ ap (λ (xs : List ℕ). e ∷ elements_in (length es) xs) b
     ∙ ap (λ (xs : List DrawnElement). e ∷ xs) (read_again es rest (All-tail IsDrawn e es h))
 
 pub length-elements_in : (n : ℕ) (bytes : List ℕ) → length (elements_in n bytes) ≡ n
 unfolding elements_in
 length-elements_in zero bytes = refl
-length-elements_in (suc n) bytes = ap suc (length-elements_in n (behind_first bytes))
+length-elements_in (suc n) bytes = ap suc (length-elements_in n (after_first bytes))
 
 -- ---- what the spelling of a list makes a flat list with that view
 
@@ -122,8 +122,8 @@ appended es m a bytes others n v h i counted few eq =
     (omega (arith, p.1, counted, length-append es others)) (All-append IsDrawn es others p.2 i) (omega (arith, p.1))
 
 -- one element added
-pub pushed : (es : List DrawnElement) (m : ℕ) (a bytes : List ℕ) (e : DrawnElement) → elements_in m a ≡ es → IsFlat m a → IsDrawn e
+pub try_push : (es : List DrawnElement) (m : ℕ) (a bytes : List ℕ) (e : DrawnElement) → elements_in m a ≡ es → IsFlat m a → IsDrawn e
     → length es < 65536 → bytes ≡ a ++ spelled_drawn e → Holds (es ++ e ∷ []) (m + 1) bytes
-pushed es m a bytes e v h i few eq =
+try_push es m a bytes e v h i few eq =
     appended es m a bytes (e ∷ []) 1 v h (All-cons IsDrawn e [] i (All-nil IsDrawn)) refl (omega arith)
     (eq ∙ ap (λ (xs : List ℕ). a ++ xs) (sym (append-nil (spelled_drawn e))))

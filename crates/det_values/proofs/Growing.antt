@@ -5,7 +5,7 @@ use Rattle.std.proofs.Common.{arith, length-append, append_assoc}
 use Rattle.std.specs.declared.vec.Vec.{Vec}
 use Rattle.std.proofs.lemmas.List.{append-nil, length-map, map-set, map-append}
 use Rattle.std.proofs.Math.Seq.{map-set_same}
-use Rattle.det_values.specs.Blocks.{joined, IsBlock, AreBlocks, HasRoom, AreFull, held_by}
+use Rattle.det_values.specs.Blocks.{joined, IsBlock, AreBlocks, HasRoom, AreFull, block_items}
 use Rattle.det_values.proofs.Blocking.{held_at, length-by_last}
 
 module _ {E : Type 0} where
@@ -61,47 +61,47 @@ module _ {E : Type 0} where
 
   -- the same, as code does it
 
-  pub last_extended : {Z : Type 0} (vs : List (Vec E Z)) (n : ℕ) (v w : Vec E Z) (es : List E) → n ≡ length vs → AreBlocks (held_by vs)
-      → HasRoom (held_by vs) → length (joined (held_by vs)) % 256 + length es ≤ 256
-      → v ≡ get_or vs (n - 1) v → w.items ≡ v.items ++ es → Behind (held_by vs) (held_by (set vs (n - 1) w)) es
+  pub last_extended : {Z : Type 0} (vs : List (Vec E Z)) (n : ℕ) (v w : Vec E Z) (es : List E) → n ≡ length vs → AreBlocks (block_items vs)
+      → HasRoom (block_items vs) → length (joined (block_items vs)) % 256 + length es ≤ 256
+      → v ≡ get_or vs (n - 1) v → w.items ≡ v.items ++ es → Behind (block_items vs) (block_items (set vs (n - 1) w)) es
   last_extended {Z} vs n v w es l h room fits at is =
       let items : Vec E Z → List E = λ (u : Vec E Z). u.items in
-      let m : length (held_by vs) ≡ n = length-map vs items ∙ sym l in
-      let b : v.items ≡ get_or (held_by vs) (n - 1) [] = held_at vs (n - 1) v (omega (arith, l, m, room.0)) at in
-      let k : length (held_by vs) - 1 ≡ n - 1 = omega (arith, m) in
-      let s : held_by (set vs (n - 1) w) ≡ set (held_by vs) (n - 1) (get_or (held_by vs) (n - 1) [] ++ es) = map-set items vs (n - 1) w
-      ∙ ap (λ (xs : List E). set (held_by vs) (n - 1) xs) (is ∙ ap (λ (xs : List E). xs ++ es) b) in
-      let r : length (get_or (held_by vs) (n - 1) []) < 256 =
-      subst (λ (j : ℕ). length (get_or (held_by vs) j []) < 256) k room.1 in
-      let whole : length (joined (held_by vs)) ≡ 256 * (n - 1) + length (get_or (held_by vs) (n - 1) []) =
-      length-by_last (held_by vs) (n - 1) h (omega (arith, m, room.0)) in
-      subst (λ (xs : List (List E)). Behind (held_by vs) xs es) (sym s)
-      (last_grown (held_by vs) (n - 1) es (omega (arith, m, room.0)) h (omega (arith, fits, r, whole)))
+      let m : length (block_items vs) ≡ n = length-map vs items ∙ sym l in
+      let b : v.items ≡ get_or (block_items vs) (n - 1) [] = held_at vs (n - 1) v (omega (arith, l, m, room.0)) at in
+      let k : length (block_items vs) - 1 ≡ n - 1 = omega (arith, m) in
+      let s : block_items (set vs (n - 1) w) ≡ set (block_items vs) (n - 1) (get_or (block_items vs) (n - 1) [] ++ es) = map-set items vs (n - 1) w
+      ∙ ap (λ (xs : List E). set (block_items vs) (n - 1) xs) (is ∙ ap (λ (xs : List E). xs ++ es) b) in
+      let r : length (get_or (block_items vs) (n - 1) []) < 256 =
+      subst (λ (j : ℕ). length (get_or (block_items vs) j []) < 256) k room.1 in
+      let whole : length (joined (block_items vs)) ≡ 256 * (n - 1) + length (get_or (block_items vs) (n - 1) []) =
+      length-by_last (block_items vs) (n - 1) h (omega (arith, m, room.0)) in
+      subst (λ (xs : List (List E)). Behind (block_items vs) xs es) (sym s)
+      (last_grown (block_items vs) (n - 1) es (omega (arith, m, room.0)) h (omega (arith, fits, r, whole)))
 
-  pub last_pushed : {Z : Type 0} (vs : List (Vec E Z)) (n : ℕ) (v w : Vec E Z) (e : E) → n ≡ length vs → AreBlocks (held_by vs)
-      → HasRoom (held_by vs) → v ≡ get_or vs (n - 1) v → w.items ≡ v.items ++ e ∷ []
-      → Behind (held_by vs) (held_by (set vs (n - 1) w)) (e ∷ [])
+  pub last_pushed : {Z : Type 0} (vs : List (Vec E Z)) (n : ℕ) (v w : Vec E Z) (e : E) → n ≡ length vs → AreBlocks (block_items vs)
+      → HasRoom (block_items vs) → v ≡ get_or vs (n - 1) v → w.items ≡ v.items ++ e ∷ []
+      → Behind (block_items vs) (block_items (set vs (n - 1) w)) (e ∷ [])
   last_pushed {Z} vs n v w e l h room at is = last_extended vs n v w (e ∷ []) l h room (omega arith) at is
 
   pub last_kept : {Z : Type 0} (vs : List (Vec E Z)) (k : ℕ) (v w : Vec E Z) → v ≡ get_or vs k v → w.items ≡ v.items
-      → held_by (set vs k w) ≡ held_by vs
+      → block_items (set vs k w) ≡ block_items vs
   last_kept {Z} vs k v w at is = map-set_same (λ (u : Vec E Z). u.items) vs k w v (is ∙ ap (λ (u : Vec E Z). u.items) at)
 
-  pub block_behind : {Z : Type 0} (vs new : List (Vec E Z)) (b : Vec E Z) → AreFull (held_by vs) → 0 < length b.items
-      → length b.items ≤ 256 → new ≡ vs ++ b ∷ [] → Behind (held_by vs) (held_by new) b.items
+  pub block_behind : {Z : Type 0} (vs new : List (Vec E Z)) (b : Vec E Z) → AreFull (block_items vs) → 0 < length b.items
+      → length b.items ≤ 256 → new ≡ vs ++ b ∷ [] → Behind (block_items vs) (block_items new) b.items
   block_behind {Z} vs new b full some few is =
-      let s : held_by new ≡ held_by vs ++ b.items ∷ [] = ap held_by is ∙ map-append (λ (u : Vec E Z). u.items) vs (b ∷ []) in
-      subst (λ (xs : List (List E)). Behind (held_by vs) xs b.items) (sym s) (behind_full (held_by vs) b.items full some few)
+      let s : block_items new ≡ block_items vs ++ b.items ∷ [] = ap block_items is ∙ map-append (λ (u : Vec E Z). u.items) vs (b ∷ []) in
+      subst (λ (xs : List (List E)). Behind (block_items vs) xs b.items) (sym s) (behind_full (block_items vs) b.items full some few)
 
-  pub block_pushed : {Z : Type 0} (vs new : List (Vec E Z)) (b : Vec E Z) (e : E) → AreFull (held_by vs) → new ≡ vs ++ b ∷ []
-      → b.items ≡ e ∷ [] → Behind (held_by vs) (held_by new) (e ∷ [])
+  pub block_pushed : {Z : Type 0} (vs new : List (Vec E Z)) (b : Vec E Z) (e : E) → AreFull (block_items vs) → new ≡ vs ++ b ∷ []
+      → b.items ≡ e ∷ [] → Behind (block_items vs) (block_items new) (e ∷ [])
   block_pushed {Z} vs new b e full is one =
-      subst (λ (xs : List E). Behind (held_by vs) (held_by new) xs) one
+      subst (λ (xs : List E). Behind (block_items vs) (block_items new) xs) one
       (block_behind vs new b full (omega (arith, ap length one)) (omega (arith, ap length one)) is)
 
-  pub full_then : {Z : Type 0} (vs : List (Vec E Z)) (n : ℕ) (v : Vec E Z) → n ≡ length vs → 0 < n → AreBlocks (held_by vs)
-      → v ≡ get_or vs (n - 1) v → 256 ≤ length v.items → AreFull (held_by vs)
+  pub full_then : {Z : Type 0} (vs : List (Vec E Z)) (n : ℕ) (v : Vec E Z) → n ≡ length vs → 0 < n → AreBlocks (block_items vs)
+      → v ≡ get_or vs (n - 1) v → 256 ≤ length v.items → AreFull (block_items vs)
   full_then {Z} vs n v l lt h at le =
-      let m : length (held_by vs) ≡ n = length-map vs (λ (u : Vec E Z). u.items) ∙ sym l in
-      let b : v.items ≡ get_or (held_by vs) (n - 1) [] = held_at vs (n - 1) v (omega (arith, l)) at in
-      all_full (held_by vs) (n - 1) (omega (arith, m)) h (omega (arith, ap length b, le))
+      let m : length (block_items vs) ≡ n = length-map vs (λ (u : Vec E Z). u.items) ∙ sym l in
+      let b : v.items ≡ get_or (block_items vs) (n - 1) [] = held_at vs (n - 1) v (omega (arith, l)) at in
+      all_full (block_items vs) (n - 1) (omega (arith, m)) h (omega (arith, ap length b, le))

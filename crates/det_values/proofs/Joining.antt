@@ -9,7 +9,7 @@ use Rattle.std.specs.List.{All}
 use Rattle.det_values.specs.Blocks.{joined}
 use Rattle.det_values.specs.declared.frames.DrawnElement.{DrawnElement}
 use Rattle.det_values.specs.Spelling.{spelled_all, IsDrawn}
-use Rattle.det_values.specs.Frames.{undrawn, all_undrawn}
+use Rattle.det_values.specs.Frames.{without_draws, all_without_draws}
 
 module _ {E : Type 0} where
   pub joined_behind : (bs : List (List E)) (b : List E) → joined (bs ++ b ∷ []) ≡ joined bs ++ b
@@ -54,9 +54,9 @@ module _ {E : Type 0} where
     pub counted : n - m ≡ length (joined new)
     pub few : n - m ≤ 65536
 
-  pub parted : (bs new : List (List E)) (b : List E) (n m : ℕ) → bs ≡ new ++ b ∷ [] → (n ≡ length (joined bs)) × (n ≤ 65536)
+  pub split_bytes : (bs new : List (List E)) (b : List E) (n m : ℕ) → bs ≡ new ++ b ∷ [] → (n ≡ length (joined bs)) × (n ≤ 65536)
       → m ≡ length b → Parted bs new b n m
-  parted bs new b n m is h d =
+  split_bytes bs new b n m is h d =
       let e : joined bs ≡ joined new ++ b = ap joined is ∙ joined_behind new b in
       let l : n ≡ length (joined new) + m = omega (arith, h.0, d, ap length e, length-append (joined new) b) in
       record { elements = e; fewer = omega (arith, l); counted = omega (arith, l); few = omega (arith, h.1) }
@@ -78,13 +78,13 @@ last_extended_by r bs n m b new bytes count some l k e =
     on_ok_weaker r (λ h es s c f.
     ap (λ (xs : List DrawnElement). joined (set bs (n - 1) xs)) (h es s c f) ∙ last_longer bs (n - 1) b es (omega (arith, some, l, k)) e)
 
-pub undrawn_joined : (bs : List (List DrawnElement)) → joined (map all_undrawn bs) ≡ all_undrawn (joined bs)
+pub undrawn_joined : (bs : List (List DrawnElement)) → joined (map all_without_draws bs) ≡ all_without_draws (joined bs)
 undrawn_joined [] = refl
-undrawn_joined (b ∷ bs) = ap (λ (xs : List DrawnElement). all_undrawn b ++ xs) (undrawn_joined bs)
-    ∙ sym (map-append undrawn b (joined bs))
+undrawn_joined (b ∷ bs) = ap (λ (xs : List DrawnElement). all_without_draws b ++ xs) (undrawn_joined bs)
+    ∙ sym (map-append without_draws b (joined bs))
 
 pub all_blocks_undrawn : (bs new : List (List DrawnElement)) (i : ℕ) → length bs ≤ i
-    → new ≡ map all_undrawn (take i bs) ++ drop i bs → joined new ≡ all_undrawn (joined bs)
+    → new ≡ map all_without_draws (take i bs) ++ drop i bs → joined new ≡ all_without_draws (joined bs)
 all_blocks_undrawn bs new i le is =
-    ap joined (is ∙ ap (λ (xs : List (List DrawnElement)). map all_undrawn (take i bs) ++ xs) (drop_all i bs le)
-    ∙ append-nil (map all_undrawn (take i bs)) ∙ ap (map all_undrawn) (take_all i bs le)) ∙ undrawn_joined bs
+    ap joined (is ∙ ap (λ (xs : List (List DrawnElement)). map all_without_draws (take i bs) ++ xs) (drop_all i bs le)
+    ∙ append-nil (map all_without_draws (take i bs)) ∙ ap (map all_without_draws) (take_all i bs le)) ∙ undrawn_joined bs

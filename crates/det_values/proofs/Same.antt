@@ -6,7 +6,7 @@ use Rattle.std.specs.Cmp.Lexicographic.{pointwise, pointwise_decides}
 use Rattle.std.proofs.lemmas.Bool.Decides.{Decides-eqb, Decides-and, Decides-like, same_from_decides}
 use Rattle.std.proofs.lemmas.List.Elements.{All-head, All-tail}
 use Rattle.det_values.specs.declared.frames.DrawnElement.{DrawnElement}
-use Rattle.det_values.specs.Spelling.{spelled_all, an_element, IsDrawn, IsFlat, elements_in, first_of, behind_first}
+use Rattle.det_values.specs.Spelling.{spelled_all, an_element, IsDrawn, IsFlat, elements_in, first_of, after_first}
 use Rattle.det_values.specs.Equal.{drawn_eq}
 use Rattle.det_values.specs.Blocks.{joined}
 use Rattle.det_values.proofs.FlatReading.{first_is, behind_is, held}
@@ -21,7 +21,7 @@ one_list (e ∷ es) (f ∷ fs) h k q =
     let j : IsDrawn f = All-head IsDrawn f fs k in
     let same : e ≡ f = sym (first_is e (spelled_all es) i) ∙ ap first_of q ∙ first_is f (spelled_all fs) j in
     let rest : spelled_all es ≡ spelled_all fs =
-    sym (behind_is e (spelled_all es) i) ∙ ap behind_first q ∙ behind_is f (spelled_all fs) j in
+    sym (behind_is e (spelled_all es) i) ∙ ap after_first q ∙ behind_is f (spelled_all fs) j in
     ap (λ (x : DrawnElement). x ∷ es) same
     ∙ ap (λ (xs : List DrawnElement). f ∷ xs) (one_list es fs (All-tail IsDrawn e es h) (All-tail IsDrawn f fs k) rest)
 

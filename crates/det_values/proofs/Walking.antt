@@ -4,7 +4,7 @@ use Rattle.std.specs.List.{All}
 use Rattle.std.proofs.lemmas.List.{nil_from_length}
 use Rattle.std.proofs.lemmas.List.Elements.{All-head, All-tail}
 use Rattle.det_values.specs.declared.frames.DrawnElement.{DrawnElement}
-use Rattle.det_values.specs.Spelling.{spelled_drawn, spelled_all, IsDrawn, IsFlat, elements_in, first_of, behind_first, BeginsWith}
+use Rattle.det_values.specs.Spelling.{spelled_drawn, spelled_all, IsDrawn, IsFlat, elements_in, first_of, after_first, BeginsWith}
 use Rattle.det_values.specs.Spelling.{BeginsWithNone}
 use Rattle.det_values.proofs.FlatReading.{first_is, behind_is, length-elements_in}
 
@@ -15,7 +15,7 @@ pub record Taken (es : List DrawnElement) (n : ℕ) (e : DrawnElement) (rest : L
   pub parts : es ≡ e ∷ elements_in n rest
   pub flat : IsFlat n rest
 
-one_more : (n : ℕ) (bytes : List ℕ) → elements_in (suc n) bytes ≡ first_of bytes ∷ elements_in n (behind_first bytes)
+one_more : (n : ℕ) (bytes : List ℕ) → elements_in (suc n) bytes ≡ first_of bytes ∷ elements_in n (after_first bytes)
 unfolding elements_in
 one_more n bytes = refl
 
@@ -23,15 +23,15 @@ taken : (n : ℕ) (bytes rest : List ℕ) (e : DrawnElement) → IsFlat (suc n) 
     → Taken (elements_in (suc n) bytes) n e rest
 taken n bytes rest e h b =
     let f : first_of bytes ≡ e = ap first_of b.spelling ∙ first_is e rest b.fields in
-    let r : behind_first bytes ≡ rest = ap behind_first b.spelling ∙ behind_is e rest b.fields in
+    let r : after_first bytes ≡ rest = ap after_first b.spelling ∙ behind_is e rest b.fields in
     let parts : elements_in (suc n) bytes ≡ e ∷ elements_in n rest = one_more n bytes
-    ∙ ap (λ (x : DrawnElement). x ∷ elements_in n (behind_first bytes)) f ∙ ap (λ (xs : List ℕ). e ∷ elements_in n xs) r in
+    ∙ ap (λ (x : DrawnElement). x ∷ elements_in n (after_first bytes)) f ∙ ap (λ (xs : List ℕ). e ∷ elements_in n xs) r in
     let s : bytes ≡ spelled_drawn e ++ spelled_all (elements_in n rest) = h.spelling ∙ ap spelled_all parts in
     let few : suc n ≤ 65536 = h.few in
     record {
       parts = parts;
       flat = record {
-        spelling = sym r ∙ ap behind_first s ∙ behind_is e (spelled_all (elements_in n rest)) b.fields;
+        spelling = sym r ∙ ap after_first s ∙ behind_is e (spelled_all (elements_in n rest)) b.fields;
         fields = All-tail IsDrawn e (elements_in n rest) (subst (All IsDrawn) parts h.fields);
         few = omega arith;
       };

@@ -10,15 +10,15 @@ use Rattle.det_values.specs.declared.frames.Frame.TheVariants.{Register, Discove
 use Rattle.det_values.specs.declared.frames.Frame.TheVariants.{Terminate}
 
 -- an element with its draws set to 0
-abbrev pub undrawn : DrawnElement → DrawnElement
-undrawn e = record { bytes = e.bytes; draws = 0 }
+abbrev pub without_draws : DrawnElement → DrawnElement
+without_draws e = record { bytes = e.bytes; draws = 0 }
 
-abbrev pub all_undrawn : List DrawnElement → List DrawnElement
-all_undrawn es = map undrawn es
+abbrev pub all_without_draws : List DrawnElement → List DrawnElement
+all_without_draws es = map without_draws es
 
 -- format One has no draws, so all of them are 0; format Two keeps them
 abbrev pub outcome_in_format : Format → Outcome → Outcome
-outcome_in_format One (Finished elements output) = Finished (all_undrawn elements) output
+outcome_in_format One (Finished elements output) = Finished (all_without_draws elements) output
 outcome_in_format One (Refused at) = Refused at
 outcome_in_format Two outcome = outcome
 

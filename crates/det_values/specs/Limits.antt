@@ -22,13 +22,13 @@ abbrev pub IsCycleTime : ℕ → Type 0
 IsCycleTime t = (1 ≤ t) × (t < 2 ^ 63)
 
 -- `a` to `z`, `0` to `9`, `_`
-abbrev pub may_stand_in_name : ℕ → Bool
-may_stand_in_name b = ((nat_le 97 b && nat_le b 122) || (nat_le 48 b && nat_le b 57)) || b == 95
+abbrev pub allowed_in_name : ℕ → Bool
+allowed_in_name b = ((nat_le 97 b && nat_le b 122) || (nat_le 48 b && nat_le b 57)) || b == 95
 
 -- 1 to 32 bytes that a name may have
 abbrev pub is_event_name : List ℕ → Bool
 is_event_name bytes = (nat_le 1 (length bytes) && nat_le (length bytes) 32)
-    && list_all may_stand_in_name bytes
+    && list_all allowed_in_name bytes
 
 -- in the pool a pass below 8 and an element below 65,536; elsewhere both are 0
 abbrev pub IsPlace : Phase → ℕ → ℕ → Type 0

@@ -44,13 +44,13 @@ first_of bytes = an_element (take (first_length bytes) (drop 2 bytes))
     (from_be_bytes w32 (take 4 (drop (first_length bytes) (drop 2 bytes))))
 
 -- the bytes after the first element
-abbrev pub behind_first : List ℕ → List ℕ
-behind_first bytes = drop 4 (drop (first_length bytes) (drop 2 bytes))
+abbrev pub after_first : List ℕ → List ℕ
+after_first bytes = drop 4 (drop (first_length bytes) (drop 2 bytes))
 
 -- the first n elements that the bytes spell, read in order
 unfoldable pub elements_in : ℕ → List ℕ → List DrawnElement
 elements_in zero bytes = []
-elements_in (suc n) bytes = first_of bytes ∷ elements_in n (behind_first bytes)
+elements_in (suc n) bytes = first_of bytes ∷ elements_in n (after_first bytes)
 
 -- the bytes spell exactly `count` elements
 pub record IsFlat (count : ℕ) (bytes : List ℕ) : Type 0 where

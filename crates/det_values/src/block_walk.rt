@@ -2,7 +2,7 @@
 ghost use Rattle.std.specs.Prelude.{◌≡◌, ◌≤◌, ◌∷◌, [], length, IfSome, IfNone};
 ghost use Rattle.det_values.specs.Spelling.{an_element};
 
-use crate::first::first_in;
+use crate::first_element::split_first_element;
 use std::marker::Model;
 
 /// The elements of a `DrawnBlock` that remain.
@@ -35,7 +35,7 @@ impl<'a> BlockWalk<'a> {
         if self.left == 0 {
             return None;
         }
-        match first_in(self.rest) {
+        match split_first_element(self.rest) {
             Some((bytes, draws, rest)) => {
                 self.rest = rest;
                 self.left -= 1;

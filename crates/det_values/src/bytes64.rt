@@ -24,7 +24,7 @@ impl Model for Bytes64 {
 
 impl Bytes64 {
     /// A value with a copy of these bytes.
-    pub fn of(bytes: &[u8]) -> Bytes64
+    pub fn from_slice(bytes: &[u8]) -> Bytes64
         requires { length bytes.now ≤ 64 }
         ensures { result ≡ bytes.now }
     {

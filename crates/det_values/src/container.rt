@@ -2,9 +2,9 @@
 ghost use Rattle.std.specs.Prelude.{◌≡◌, ℕ, ◌≤◌, ◌<◌, ◌+◌, ◌*◌, ◌%◌, ◌++◌, ◌∷◌, [], length, take};
 ghost use Rattle.std.specs.Prelude.{drop};
 ghost use Rattle.std.specs.Prelude.{slice_index_or, OnOk, OnErr, IfOk, IsTrue, ◌↔◌};
-ghost use Rattle.det_values.specs.Blocks.{joined, AreBlocks, held_by};
+ghost use Rattle.det_values.specs.Blocks.{joined, AreBlocks, block_items};
 
-use crate::blocks::{add_block, add_to_last, append_to_last, has_room, pushed};
+use crate::container_blocks::{add_block, add_to_last, append_to_last, has_room, try_push};
 use crate::{OutOfMemory, Spares};
 use std::alloc::Global;
 use std::marker::Model;
@@ -19,14 +19,14 @@ pub struct Container<E> {
 
 impl<E> Model for Container<E> {
     ghost use Rattle.std.specs.Prelude.{List, ◌≤◌, length};
-    ghost use Rattle.det_values.specs.Blocks.{joined, AreBlocks, held_by};
+    ghost use Rattle.det_values.specs.Blocks.{joined, AreBlocks, block_items};
 
     ghost Value = { List E };
 
-    ghost view = { λ c. joined (held_by c.blocks.items) };
+    ghost view = { λ c. joined (block_items c.blocks.items) };
 
-    ghost invariant = { λ c. AreBlocks (held_by c.blocks.items)
-        × (length (joined (held_by c.blocks.items)) ≤ 65536) };
+    ghost invariant = { λ c. AreBlocks (block_items c.blocks.items)
+        × (length (joined (block_items c.blocks.items)) ≤ 65536) };
 }
 
 impl<E> Container<E> {
@@ -51,7 +51,7 @@ impl<E> Container<E> {
     }
 
     /// An empty container that reuses the memory of an empty list of blocks.
-    pub(crate) fn of_no_blocks(blocks: Vec<Vec<E>>) -> Container<E>
+    pub(crate) fn from_no_blocks(blocks: Vec<Vec<E>>) -> Container<E>
         requires { blocks.items ≡ [] }
         ensures { result ≡ [] }
     {
@@ -150,7 +150,7 @@ impl<E> Container<E> {
         if has_room(&self.blocks) {
             return append_to_last(&mut self.blocks, block, spares);
         }
-        if pushed(&mut self.blocks, block) {
+        if try_push(&mut self.blocks, block) {
             return Ok(());
         }
         Err(OutOfMemory)

@@ -7,8 +7,8 @@ ghost use Rattle.det_values.specs.declared.frames.DrawnElement.{DrawnElement};
 
 use crate::OutOfMemory;
 use crate::block_walk::BlockWalk;
+use crate::clear_draws::clear_all_draws;
 use crate::put::put_drawn;
-use crate::undraw::undraw_all;
 use std::alloc::Global;
 use std::marker::Model;
 
@@ -35,7 +35,7 @@ impl Model for DrawnBlock {
 }
 
 impl DrawnBlock {
-    ghost use Rattle.det_values.specs.Frames.{all_undrawn};
+    ghost use Rattle.det_values.specs.Frames.{all_without_draws};
 
     /// An empty block. It allocates nothing.
     pub fn new(alloc: Global) -> DrawnBlock
@@ -48,7 +48,7 @@ impl DrawnBlock {
     }
 
     /// An empty block that reuses the memory of `bytes`.
-    pub fn in_memory(mut bytes: Vec<u8>) -> DrawnBlock
+    pub fn reuse_memory(mut bytes: Vec<u8>) -> DrawnBlock
         ensures { result ≡ [] }
     {
         bytes.clear();
@@ -139,10 +139,10 @@ impl DrawnBlock {
     }
 
     /// Sets all draws to 0.
-    pub fn undraw(&mut self)
-        ensures { self.new ≡ all_undrawn self.old }
+    pub fn clear_draws(&mut self)
+        ensures { self.new ≡ all_without_draws self.old }
     {
-        undraw_all(self.bytes.as_mut_slice(), self.count);
+        clear_all_draws(self.bytes.as_mut_slice(), self.count);
     }
 
     /// A walk over the elements in order.

@@ -5,7 +5,7 @@ ghost use Rattle.std.specs.Cmp.Lexicographic.{pointwise};
 ghost use Rattle.det_values.specs.Blocks.{joined};
 ghost use Rattle.det_values.specs.Spelling.{an_element, spelled_all, IsDrawn};
 ghost use Rattle.det_values.specs.Equal.{drawn_eq};
-ghost use Rattle.det_values.specs.Frames.{all_undrawn};
+ghost use Rattle.det_values.specs.Frames.{all_without_draws};
 ghost use Rattle.det_values.specs.declared.frames.DrawnElement.{DrawnElement};
 
 use crate::OutOfMemory;
@@ -26,7 +26,7 @@ pub(crate) fn add_block(blocks: &mut Vec<DrawnBlock>, block: DrawnBlock) -> Resu
 }
 
 /// Adds an empty block if there is no block.
-pub(crate) fn begin(blocks: &mut Vec<DrawnBlock>, alloc: Global) -> Result<(), OutOfMemory>
+pub(crate) fn ensure_block(blocks: &mut Vec<DrawnBlock>, alloc: Global) -> Result<(), OutOfMemory>
     ensures same { joined blocks.new.items ≡ joined blocks.old.items }
     ensures some { OnOk result (0 < length blocks.new.items) }
 {
@@ -84,11 +84,11 @@ pub(crate) fn clear_blocks(blocks: &mut Vec<DrawnBlock>)
 }
 
 /// Sets all draws to 0.
-pub(crate) fn undraw_blocks(blocks: &mut [DrawnBlock])
-    ensures { joined blocks.new ≡ all_undrawn (joined blocks.old) }
+pub(crate) fn clear_block_draws(blocks: &mut [DrawnBlock])
+    ensures { joined blocks.new ≡ all_without_draws (joined blocks.old) }
 {
     'each: for index in 0..blocks.len() {
-        blocks[index].undraw();
+        blocks[index].clear_draws();
     }
 }
 

@@ -8,7 +8,8 @@ ghost use Rattle.det_values.specs.declared.frames.DrawnElement.{DrawnElement};
 use crate::OutOfMemory;
 use crate::drawn_block::DrawnBlock;
 use crate::drawn_blocks::{
-    add_block, are_equal, begin, clear_blocks, extend_last, push_last, undraw_blocks, walk_over,
+    add_block, are_equal, clear_block_draws, clear_blocks, ensure_block, extend_last, push_last,
+    walk_over,
 };
 use crate::walk::Walk;
 use std::alloc::Global;
@@ -36,7 +37,7 @@ impl Model for DrawnElements {
 }
 
 impl DrawnElements {
-    ghost use Rattle.det_values.specs.Frames.{all_undrawn};
+    ghost use Rattle.det_values.specs.Frames.{all_without_draws};
 
     /// An empty list. It allocates nothing.
     pub fn new(alloc: Global) -> DrawnElements
@@ -50,7 +51,7 @@ impl DrawnElements {
     }
 
     /// An empty list that reuses the memory of a list of blocks.
-    pub fn in_memory(alloc: Global, mut blocks: Vec<DrawnBlock>) -> DrawnElements
+    pub fn reuse_memory(alloc: Global, mut blocks: Vec<DrawnBlock>) -> DrawnElements
         ensures { result ≡ [] }
     {
         blocks.clear();
@@ -84,7 +85,7 @@ impl DrawnElements {
         ensures ok { OnOk result (self.new ≡ self.old ++ an_element bytes.now draws ∷ []) }
         ensures err { OnErr result (self.new ≡ self.old) }
     {
-        begin(&mut self.blocks, self.alloc)?;
+        ensure_block(&mut self.blocks, self.alloc)?;
         push_last(&mut self.blocks, bytes, draws)?;
         self.count += 1;
         Ok(())
@@ -126,17 +127,17 @@ impl DrawnElements {
             → length es ≡ count → All IsDrawn es → self.new ≡ self.old ++ es) }
         ensures err { OnErr result (self.new ≡ self.old) }
     {
-        begin(&mut self.blocks, self.alloc)?;
+        ensure_block(&mut self.blocks, self.alloc)?;
         extend_last(&mut self.blocks, spelled, count)?;
         self.count += count;
         Ok(())
     }
 
     /// Sets all draws to 0.
-    pub fn undraw(&mut self)
-        ensures { self.new ≡ all_undrawn self.old }
+    pub fn clear_draws(&mut self)
+        ensures { self.new ≡ all_without_draws self.old }
     {
-        undraw_blocks(self.blocks.as_mut_slice());
+        clear_block_draws(self.blocks.as_mut_slice());
     }
 
     /// A walk over the elements in order.

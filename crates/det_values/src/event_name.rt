@@ -2,7 +2,7 @@
 ghost use Rattle.std.specs.Prelude.{◌≡◌, ◌<◌, ◌≤◌, length, IfSome, IfNone, true, false};
 ghost use Rattle.std.specs.Prelude.{slice_index_or};
 ghost use Rattle.std.specs.List.{list_all};
-ghost use Rattle.det_values.specs.Limits.{is_event_name, may_stand_in_name};
+ghost use Rattle.det_values.specs.Limits.{is_event_name, allowed_in_name};
 
 use crate::Bytes64;
 use std::alloc::AllocError;
@@ -25,28 +25,28 @@ impl Model for EventName {
     ghost invariant = { λ n. is_event_name n.bytes ≡ true };
 }
 
-fn stands_in_name(byte: &u8) -> bool
-    ensures { result ≡ may_stand_in_name byte.now }
+fn is_name_byte(byte: &u8) -> bool
+    ensures { result ≡ allowed_in_name byte.now }
 {
     matches!(*byte, b'a'..=b'z' | b'0'..=b'9' | b'_')
 }
 
-fn all_stand_in_name(bytes: &[u8]) -> bool
-    ensures { result ≡ list_all may_stand_in_name bytes.now }
+fn are_name_bytes(bytes: &[u8]) -> bool
+    ensures { result ≡ list_all allowed_in_name bytes.now }
 {
-    bytes.iter().all(stands_in_name)
+    bytes.iter().all(is_name_byte)
 }
 
 fn is_name(bytes: &[u8]) -> bool
     ensures value { result ≡ is_event_name bytes.now }
     ensures few { result ≡ true → length bytes.now ≤ 64 }
 {
-    !bytes.is_empty() && bytes.len() <= 32 && all_stand_in_name(bytes)
+    !bytes.is_empty() && bytes.len() <= 32 && are_name_bytes(bytes)
 }
 
 impl EventName {
     /// The name with these bytes, or None if they are not a name.
-    pub fn of(bytes: &[u8]) -> Option<EventName>
+    pub fn from_bytes(bytes: &[u8]) -> Option<EventName>
         ensures some { IfSome result (λ name. (is_event_name bytes.now ≡ true)
             × (name ≡ bytes.now)) }
         ensures none { IfNone result (is_event_name bytes.now ≡ false) }
@@ -55,7 +55,7 @@ impl EventName {
             return None;
         }
         Some(EventName {
-            bytes: Bytes64::of(bytes),
+            bytes: Bytes64::from_slice(bytes),
         })
     }
 

@@ -13,10 +13,10 @@ pub struct CycleInput {
 
 impl CycleInput {
     /// A copy of the input.
-    pub fn copied(&self, alloc: Global) -> Result<CycleInput, OutOfMemory>
+    pub fn try_clone(&self, alloc: Global) -> Result<CycleInput, OutOfMemory>
         ensures { IfOk result (λ copy. copy ≡ self.now) }
     {
-        match self.samples.copied(alloc) {
+        match self.samples.try_clone(alloc) {
             Ok(samples) => Ok(CycleInput {
                 time: self.time,
                 samples,

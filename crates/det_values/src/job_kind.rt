@@ -23,7 +23,7 @@ impl JobKind {
     }
 
     /// The job with this number, or None if no shipped job has it.
-    pub fn of_number(number: u16) -> Option<JobKind>
+    pub fn from_number(number: u16) -> Option<JobKind>
         ensures { result ≡ kind_of_number number }
     {
         match number {
@@ -35,7 +35,7 @@ impl JobKind {
     }
 
     /// The job with this name in a manifest, or None if no shipped job has it.
-    pub fn of_name(name: &str) -> Option<JobKind>
+    pub fn from_name(name: &str) -> Option<JobKind>
         ensures { result ≡ kind_of_name name.now }
     {
         match name {

@@ -4,15 +4,16 @@
 #![tactic(auto)]
 
 mod block_walk;
-mod blocks;
 mod bytes64;
+mod clear_draws;
 mod container;
+mod container_blocks;
 mod drawn_block;
 mod drawn_blocks;
 mod drawn_elements;
 mod event;
 mod event_name;
-mod first;
+mod first_element;
 mod format;
 mod frames;
 mod job_kind;
@@ -25,7 +26,6 @@ pub mod put;
 mod refused_at;
 mod sample;
 mod spares;
-mod undraw;
 mod walk;
 
 pub use block_walk::BlockWalk;
@@ -35,7 +35,7 @@ pub use drawn_block::DrawnBlock;
 pub use drawn_elements::DrawnElements;
 pub use event::{EventSpec, Policy};
 pub use event_name::EventName;
-pub use format::{Format, as_format};
+pub use format::{Format, reduce_to_format};
 pub use frames::{CycleInput, DrawnElement, Frame, Outcome, RunFrame};
 pub use job_kind::JobKind;
 pub use limited::Limited;

@@ -144,7 +144,7 @@ impl<T: Copy + Drop, const MOST: usize> Limited<T, MOST> {
     ghost use Rattle.std.specs.Prelude.{◌≡◌, IfOk};
 
     /// A copy of the list.
-    pub fn copied(&self, alloc: Global) -> Result<Limited<T, MOST>, OutOfMemory>
+    pub fn try_clone(&self, alloc: Global) -> Result<Limited<T, MOST>, OutOfMemory>
         ensures { IfOk result (λ copy. copy ≡ self.now) }
     {
         let mut copy = Limited::new(alloc);

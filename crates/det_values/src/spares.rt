@@ -42,7 +42,7 @@ impl<E: Drop> Spares<E> {
     {
         if let Some(mut blocks) = self.containers.pop() {
             blocks.clear();
-            return Ok(Container::of_no_blocks(blocks));
+            return Ok(Container::from_no_blocks(blocks));
         }
         Container::with_room(self.alloc, elements)
     }

@@ -9,7 +9,7 @@ use Rattle.crossbeam_queue.specs.Fifo.{Pushes, Pops, Forks, Merges, Learns, Held
 use Rattle.crossbeam_queue.proofs.Lists.{at_set, at_snoc}
 use Rattle.frame_queue.specs.declared.row.Row.{Row}
 use Rattle.frame_queue.specs.declared.rule.QueueView.{QueueView}
-use Rattle.frame_queue.specs.Order.{queue_view, beginning, nobody, as_sender, as_receiver, with_receiver}
+use Rattle.frame_queue.specs.Order.{queue_view, beginning, no_rights, as_sender, as_receiver, with_receiver}
 use Rattle.frame_queue.specs.Order.{Sent, Taken, Drained, IsTotal, Fits, IsInOrder, left_of}
 
 -- of each view in a list, by its number
@@ -30,7 +30,7 @@ all_set P views number w mine others j u e = ⊎_elim
     (λ (x : (j ≢ number) × (get_elem? views j ≡ some u)). others j u x.0 x.1)
     (at_set views number j w u e)
 
-fits_nobody : (sender receiver : ℕ) (sent taken : List Row) (number : ℕ) → Fits sender receiver sent taken number nobody
+fits_nobody : (sender receiver : ℕ) (sent taken : List Row) (number : ℕ) → Fits sender receiver sent taken number no_rights
 fits_nobody _ _ _ _ _ = ((λ may. absurd (true≢false (sym may))), λ may. absurd (true≢false (sym may)))
 
 pub begins : IsInOrder [] (beginning ∷ [])
@@ -92,7 +92,7 @@ forks number v is held views rule at =
     (rule.0, length vs, rule.2, rule.3, rule.4, fits)
 
 pub merges : (number : ℕ) (v : QueueView) (other : ℕ) (u : QueueView) → v ≡ as_sender v → u ≡ as_receiver u
-    → Merges IsInOrder number v other u (with_receiver v u) nobody
+    → Merges IsInOrder number v other u (with_receiver v u) no_rights
 merges number v other u sender receiver held views rule at two at' =
     let a : v.sends ≡ true = ap (λ (y : QueueView). y.sends) sender in
     let b : u.takes ≡ true = ap (λ (y : QueueView). y.takes) receiver in
@@ -107,7 +107,7 @@ merges number v other u sender receiver held views rule at two at' =
     (λ _. ((λ _. mine.0 a), λ _. (refl, theirs.1)))
     (λ j y _ e apart. let old = rule.5 j y e in
     (old.0, λ p. absurd (apart ((old.1 p).0 ∙ sym theirs.0)))) in
-    let fits : AllViews Fit (set vs other nobody) = all_set Fit vs other nobody
+    let fits : AllViews Fit (set vs other no_rights) = all_set Fit vs other no_rights
     (fits_nobody rule.0 number rule.2 rule.3 other)
     (λ j y apart e. now j y e apart) in
     (rule.0, number, rule.2, rule.3, rule.4, fits)

@@ -18,8 +18,8 @@ abbrev pub beginning : QueueView
 beginning = queue_view true true [] []
 
 -- an end with no right
-abbrev pub nobody : QueueView
-nobody = queue_view false false [] []
+abbrev pub no_rights : QueueView
+no_rights = queue_view false false [] []
 
 -- an end that keeps only the right to send
 abbrev pub as_sender : QueueView → QueueView

@@ -164,7 +164,7 @@ impl Pace {
 
     /// Waits for a row, and returns whether there is one. It waits while the sender is at work. For
     /// a sender that hasn't come it waits a limited number of looks.
-    pub fn has_row<R: Wait>(&self, rt: &R) -> bool {
+    pub fn wait_for_row<R: Wait>(&self, rt: &R) -> bool {
         let mut looks = 0u32;
         for _ in rt.forever() {
             if self.holds_row() {
@@ -181,7 +181,7 @@ impl Pace {
 
     /// Waits for a place, and returns whether there is one for a row that is wanted. It waits only
     /// while the receiver is at work.
-    pub fn has_place<R: Wait>(&self, rt: &R) -> bool {
+    pub fn wait_for_place<R: Wait>(&self, rt: &R) -> bool {
         let mut looks = 0u32;
         for _ in rt.forever() {
             if self.is_refused.load(Ordering::SeqCst) {

@@ -39,11 +39,11 @@ impl Split<QueueView> for Roles {
 }
 
 impl Join<QueueView> for Roles {
-    ghost use Rattle.frame_queue.specs.Order.{with_receiver, nobody};
+    ghost use Rattle.frame_queue.specs.Order.{with_receiver, no_rights};
 
     ghost both = { with_receiver };
 
-    ghost spent = { nobody };
+    ghost spent = { no_rights };
 }
 
 /// Sends a row.

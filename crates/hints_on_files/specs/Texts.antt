@@ -9,13 +9,13 @@ use Rattle.manifest.specs.declared.key.NeedKey.{NeedKey}
 use Rattle.manifest.specs.declared.key.NeedKey.TheVariants as needs
 use Rattle.manifest.specs.KeyTexts.{key_text}
 use Rattle.hints_on_files.specs.declared.toml_line.TomlLine.{TomlLine}
-use Rattle.hints_on_files.specs.declared.keys.KeyHint.{KeyHint}
-use Rattle.hints_on_files.specs.declared.parameter.ParameterHint.{ParameterHint}
-use Rattle.hints_on_files.specs.declared.parameter.ParameterHint.TheVariants.{OutOfRange, TooMany}
+use Rattle.hints_on_files.specs.declared.key_hint.KeyHint.{KeyHint}
+use Rattle.hints_on_files.specs.declared.parameter_hint.ParameterHint.{ParameterHint}
+use Rattle.hints_on_files.specs.declared.parameter_hint.ParameterHint.TheVariants.{OutOfRange, TooMany}
 use Rattle.hints_on_files.specs.declared.wanted.Wanted.{Wanted}
 use Rattle.hints_on_files.specs.declared.wanted.Wanted.TheVariants as wanted
-use Rattle.hints_on_files.specs.declared.frame.FramePlace.{FramePlace}
-use Rattle.hints_on_files.specs.declared.frame.FramePlace.TheVariants as place
+use Rattle.hints_on_files.specs.declared.frame_place.FramePlace.{FramePlace}
+use Rattle.hints_on_files.specs.declared.frame_place.FramePlace.TheVariants as place
 use Rattle.hints_on_files.specs.declared.hint.Hint.{Hint}
 use Rattle.hints_on_files.specs.declared.hint.Hint.TheVariants.{LongManifest, Toml, Key as OfKey}
 use Rattle.hints_on_files.specs.declared.hint.Hint.TheVariants.{Parameter, NoJob, LongStimulus, Stimulus}
@@ -94,7 +94,7 @@ frame_text (place.Begin frame) =
 frame_text place.Init = codes "in frame 2, Init"
 frame_text (place.Run cycle) =
     codes "in frame " ++ (decimal (cycle + 2) ++ (codes ", the run of cycle " ++ decimal cycle))
-frame_text (place.Behind frame) = codes "behind frame " ++ (decimal frame ++ codes ", Terminate")
+frame_text (place.AfterEnd frame) = codes "behind frame " ++ (decimal frame ++ codes ", Terminate")
 
 abbrev pub hint_text : Hint → List ℕ
 hint_text LongManifest = codes "a manifest has at most 65536 bytes"

@@ -2,9 +2,9 @@
 ghost use Rattle.std.specs.Prelude.{Some};
 ghost use Rattle.hints_on_files.specs.Texts.{hint_text};
 
-use crate::frame::FramePlace;
-use crate::keys::KeyHint;
-use crate::parameter::ParameterHint;
+use crate::frame_place::FramePlace;
+use crate::key_hint::KeyHint;
+use crate::parameter_hint::ParameterHint;
 use crate::toml_line::TomlLine;
 use crate::wanted::Wanted;
 use std::fmt;

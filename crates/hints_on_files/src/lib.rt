@@ -4,27 +4,27 @@
 //! program's answer. A file that can't be read again has no hint.
 #![tactic(auto)]
 
-mod command;
-mod files;
-mod frame;
+mod command_files;
+mod frame_place;
 mod hint;
-mod keys;
+mod key_hint;
 mod manifests;
-mod parameter;
+mod parameter_hint;
 mod records;
+mod reread_files;
 mod stimuli;
 mod stimulus_line;
 mod stimulus_place;
 mod toml_line;
 mod wanted;
 
-pub use command::hint_of;
-pub use frame::FramePlace;
+pub use command_files::command_hint;
+pub use frame_place::FramePlace;
 pub use hint::Hint;
-pub use keys::KeyHint;
+pub use key_hint::KeyHint;
 pub use manifests::manifest_hint;
-pub use parameter::ParameterHint;
+pub use parameter_hint::ParameterHint;
 pub use records::{copies_hint, run_hint};
-pub use stimuli::{events_of, short_stimulus_hint, stimulus_hint};
+pub use stimuli::{manifest_events, short_stimulus_hint, stimulus_hint};
 pub use toml_line::TomlLine;
 pub use wanted::Wanted;

@@ -2,10 +2,10 @@
 ghost use Rattle.std.specs.Prelude.{◌≡◌, true, IfSome, IfErr};
 ghost use Rattle.hints_on_files.specs.Kinds.{is_of_manifest};
 
-use crate::files::whole_under;
 use crate::hint::Hint;
-use crate::keys::KeyHint;
-use crate::parameter::ParameterHint;
+use crate::key_hint::KeyHint;
+use crate::parameter_hint::ParameterHint;
+use crate::reread_files::read_whole_under;
 use crate::toml_line::TomlLine;
 use det_io::{Shelf, Stopped};
 use jobs::bad_param;
@@ -19,7 +19,7 @@ fn fault_hint(alloc: Global, text: &[u8], fault: ManifestFault) -> Option<Hint>
 {
     match fault {
         ManifestFault::TooLong => Some(Hint::LongManifest),
-        ManifestFault::NotToml => Some(Hint::Toml(TomlLine::of(alloc, text)?)),
+        ManifestFault::NotToml => Some(Hint::Toml(TomlLine::find(alloc, text)?)),
         ManifestFault::Missing(key)
         | ManifestFault::WrongKind(key)
         | ManifestFault::OutOfRange(key) => Some(Hint::Key(KeyHint { key })),
@@ -35,12 +35,12 @@ fn refused_parameter(manifest: &Manifest) -> Option<Hint>
     let job = manifest.kind();
     let events = manifest.events().len() as u16;
     let index = bad_param(job, manifest.params(), events)?;
-    let parameter = ParameterHint::of(job, manifest.params(), index);
+    let parameter = ParameterHint::new(job, manifest.params(), index);
     Some(Hint::Parameter(parameter))
 }
 
 /// Checks the text of a manifest. The error is the hint on why it is refused, if there is one.
-fn judge(alloc: Global, text: &[u8], strict: bool) -> Result<(), Option<Hint>>
+fn check_manifest(alloc: Global, text: &[u8], strict: bool) -> Result<(), Option<Hint>>
     ensures { IfErr result (λ h. IfSome h (λ hint. is_of_manifest hint ≡ true)) }
 {
     let read = if strict {
@@ -58,7 +58,7 @@ fn judge(alloc: Global, text: &[u8], strict: bool) -> Result<(), Option<Hint>>
     }
 }
 
-fn judge_all<S: Shelf>(
+fn check_manifests<S: Shelf>(
     alloc: Global,
     names: &[&str],
     strict: bool,
@@ -67,8 +67,8 @@ fn judge_all<S: Shelf>(
     ensures { IfErr result (λ h. IfSome h (λ hint. is_of_manifest hint ≡ true)) }
 {
     for name in names {
-        match whole_under(alloc, *name, MOST_BYTES, shelf) {
-            Ok(text) => judge(alloc, &text, strict)?,
+        match read_whole_under(alloc, *name, MOST_BYTES, shelf) {
+            Ok(text) => check_manifest(alloc, &text, strict)?,
             Err(Stopped::Refused(_)) => return Err(Some(Hint::LongManifest)),
             Err(Stopped::Failed(_)) => return Err(None),
         }
@@ -85,7 +85,7 @@ pub fn manifest_hint<S: Shelf>(
 ) -> Option<Hint>
     ensures { IfSome result (λ hint. is_of_manifest hint ≡ true) }
 {
-    match judge_all(alloc, names, strict, shelf) {
+    match check_manifests(alloc, names, strict, shelf) {
         Ok(()) => None,
         Err(hint) => hint,
     }

@@ -2,15 +2,15 @@
 ghost use Rattle.std.specs.Prelude.{◌≡◌, true, IfSome};
 ghost use Rattle.hints_on_files.specs.Kinds.{is_of_record};
 
-use crate::frame::FramePlace;
+use crate::frame_place::FramePlace;
 use crate::hint::Hint;
-use crate::parameter::ParameterHint;
+use crate::parameter_hint::ParameterHint;
 use det_io::{Shelf, Stopped};
 use det_values::{JobKind, Profile};
 use jobs::bad_param;
 use record_grammar::RecordFault;
 use record_reader::item_reader::ItemReader;
-use record_reader::open;
+use record_reader::open_record;
 use record_view::{FrameKind, ItemKind, ItemView};
 use std::alloc::Global;
 
@@ -49,7 +49,7 @@ impl Front {
         }
         let frame = self.items - 1;
         if self.has_ended {
-            return FramePlace::Behind {
+            return FramePlace::AfterEnd {
                 frame: frame.saturating_sub(1),
             };
         }
@@ -117,12 +117,12 @@ pub fn copies_hint<S: Shelf>(alloc: Global, names: &[&str], shelf: &mut S) -> Op
 fn profile_hint(profile: &Profile) -> Option<Hint>
     ensures { IfSome result (λ hint. is_of_record hint ≡ true) }
 {
-    let Some(job) = JobKind::of_number(profile.job) else {
+    let Some(job) = JobKind::from_number(profile.job) else {
         return Some(Hint::NoJob(profile.job));
     };
     let events = profile.events.len() as u16;
     let index = bad_param(job, &profile.params, events)?;
-    let parameter = ParameterHint::of(job, &profile.params, index);
+    let parameter = ParameterHint::new(job, &profile.params, index);
     Some(Hint::Parameter(parameter))
 }
 
@@ -131,7 +131,7 @@ fn job_hint<S: Shelf>(alloc: Global, name: &str, shelf: &mut S) -> Option<Hint>
     ensures { IfSome result (λ hint. is_of_record hint ≡ true) }
 {
     let slot = shelf.open_input(name).ok()?;
-    match open(alloc, slot, shelf) {
+    match open_record(alloc, slot, shelf) {
         Ok(opened) => profile_hint(&opened.profile),
         Err(_) => None,
     }

@@ -3,21 +3,21 @@ ghost use Rattle.std.specs.Prelude.{◌≡◌, ◌≤◌, true, IfSome};
 ghost use Rattle.stimulus.specs.Reading.{BadLine, ending};
 ghost use Rattle.hints_on_files.specs.Kinds.{is_of_stimulus};
 
-use crate::files::{front_under, whole_under};
 use crate::hint::Hint;
+use crate::reread_files::{read_front_under, read_whole_under};
 use crate::stimulus_line::wanted_at;
-use crate::stimulus_place::{cut, place_of};
+use crate::stimulus_place::{place_of, split_line};
 use crate::wanted::Wanted;
 use det_io::Shelf;
 use manifest::{MOST_BYTES, read_manifest};
 use std::alloc::Global;
-use stimulus::{StimError, StimReader};
+use stimulus::{StimulusError, StimulusParser};
 
 /// The number of events in the manifest under a name. None if it is refused or can't be read.
-pub fn events_of<S: Shelf>(alloc: Global, name: &str, shelf: &mut S) -> Option<u16>
+pub fn manifest_events<S: Shelf>(alloc: Global, name: &str, shelf: &mut S) -> Option<u16>
     ensures { IfSome result (λ events. events ≤ 256) }
 {
-    let text = whole_under(alloc, name, MOST_BYTES, shelf).ok()?;
+    let text = read_whole_under(alloc, name, MOST_BYTES, shelf).ok()?;
     let manifest = read_manifest(alloc, &text).ok()?;
     Some(manifest.events().len() as u16)
 }
@@ -26,7 +26,7 @@ pub fn events_of<S: Shelf>(alloc: Global, name: &str, shelf: &mut S) -> Option<u
 fn bad_line(alloc: Global, text: &[u8], events: u16) -> Option<u64>
     ensures { IfSome result (λ line. ending events text.now ≡ BadLine line) }
 {
-    let mut reader = StimReader::new(alloc, events);
+    let mut reader = StimulusParser::new(alloc, events);
     if reader.feed(text).is_err() {
         return None;
     }
@@ -39,8 +39,8 @@ fn bad_line(alloc: Global, text: &[u8], events: u16) -> Option<u64>
                     Err(fault) => Some(fault.line),
                 };
             }
-            Err(StimError::Bad(fault)) => return Some(fault.line),
-            Err(StimError::OutOfMemory) => return None,
+            Err(StimulusError::Bad(fault)) => return Some(fault.line),
+            Err(StimulusError::OutOfMemory) => return None,
         }
     }
     None
@@ -52,7 +52,7 @@ fn wanted_in(alloc: Global, mut text: Vec<u8>, events: u16) -> Option<Wanted> {
     let line = bad_line(alloc, &text, events)?;
     let (place, rest) = place_of(&text, line);
     let wanted = wanted_at(place, events, rest);
-    if rest.is_empty() || cut(rest).1.is_some() {
+    if rest.is_empty() || split_line(rest).1.is_some() {
         return Some(wanted);
     }
     text.push(b'\n').ok()?;
@@ -91,7 +91,7 @@ pub fn stimulus_hint<S: Shelf>(
 ) -> Option<Hint>
     ensures { IfSome result (λ hint. is_of_stimulus hint ≡ true) }
 {
-    let front = front_under(alloc, name, shelf)?;
+    let front = read_front_under(alloc, name, shelf)?;
     let wanted = if front.is_whole {
         wanted_in(alloc, front.bytes, events)?
     } else {
@@ -109,7 +109,7 @@ pub fn short_stimulus_hint<S: Shelf>(
 ) -> Option<Hint>
     ensures { IfSome result (λ hint. is_of_stimulus hint ≡ true) }
 {
-    let front = front_under(alloc, name, shelf)?;
+    let front = read_front_under(alloc, name, shelf)?;
     if !front.is_whole {
         return Some(Hint::LongStimulus);
     }

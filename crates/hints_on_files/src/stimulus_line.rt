@@ -1,5 +1,5 @@
 //! What is expected in place of a bad line of a stimulus.
-use crate::stimulus_place::{StimulusPlace, cut};
+use crate::stimulus_place::{StimulusPlace, split_line};
 use crate::wanted::Wanted;
 use cli_words::number_of;
 
@@ -61,7 +61,7 @@ fn first_block_wanted(line: &[u8]) -> Wanted {
 /// What is expected in place of the bad line with which the text begins, at this place of a
 /// stimulus.
 pub(crate) fn wanted_at(place: StimulusPlace, events: u16, text: &[u8]) -> Wanted {
-    let (line, _) = cut(text);
+    let (line, _) = split_line(text);
     if place == StimulusPlace::Ended {
         return Wanted::NoMore;
     }

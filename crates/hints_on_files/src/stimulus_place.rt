@@ -14,7 +14,7 @@ pub(crate) enum StimulusPlace {
 }
 
 /// The bytes before the first line feed, and those after it, if there is one.
-pub(crate) fn cut(text: &[u8]) -> (&[u8], Option<&[u8]>) {
+pub(crate) fn split_line(text: &[u8]) -> (&[u8], Option<&[u8]>) {
     match text.iter().position(|byte| *byte == b'\n') {
         Some(end) => (&text[..end], Some(&text[end + 1..])),
         None => (text, None),
@@ -23,7 +23,7 @@ pub(crate) fn cut(text: &[u8]) -> (&[u8], Option<&[u8]>) {
 
 impl StimulusPlace {
     /// The place after a line that is good here.
-    fn behind(self, line: &[u8]) -> StimulusPlace {
+    fn after(self, line: &[u8]) -> StimulusPlace {
         match line.first() {
             Some(b'c') => StimulusPlace::Inside,
             Some(b't') => StimulusPlace::Ended,
@@ -40,11 +40,11 @@ pub(crate) fn place_of(text: &[u8], line: u64) -> (StimulusPlace, &[u8]) {
     let mut place = StimulusPlace::First;
     let mut rest = text;
     for _ in 1..line {
-        let (before, Some(behind)) = cut(rest) else {
+        let (before, Some(after)) = split_line(rest) else {
             return (place, rest);
         };
-        place = place.behind(before);
-        rest = behind;
+        place = place.after(before);
+        rest = after;
     }
     (place, rest)
 }

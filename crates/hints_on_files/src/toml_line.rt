@@ -22,7 +22,7 @@ impl Display for TomlLine {
 }
 
 /// The number of the line, counted from 1, that comes after these bytes.
-fn line_behind(before: &[u8]) -> usize
+fn line_after(before: &[u8]) -> usize
     ensures first { 1 ≤ result }
     ensures last { result ≤ 1 + length before.now }
 {
@@ -37,7 +37,7 @@ fn line_behind(before: &[u8]) -> usize
 
 impl TomlLine {
     /// None if the bytes are TOML, or memory runs out.
-    pub fn of(alloc: Global, bytes: &[u8]) -> Option<TomlLine>
+    pub fn find(alloc: Global, bytes: &[u8]) -> Option<TomlLine>
         ensures first { IfSome result (λ at. 1 ≤ at.line) }
         ensures last { IfSome result (λ at. at.line ≤ 1 + length bytes.now) }
     {
@@ -48,7 +48,7 @@ impl TomlLine {
                 Err(error) => error.span()?.start,
             },
         };
-        let line = line_behind(bytes.get(..place)?);
+        let line = line_after(bytes.get(..place)?);
         Some(TomlLine { line })
     }
 }

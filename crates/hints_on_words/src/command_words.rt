@@ -4,15 +4,17 @@ ghost use Rattle.cli_words.specs.Names.{texts};
 ghost use Rattle.cli_words.specs.Reading.{command_of};
 ghost use Rattle.hints_on_words.specs.Pages.{page_of, page_word};
 
-use crate::fault::WordsFault;
+use crate::excerpt::Excerpt;
 use crate::help::Help;
-use crate::shown::Shown;
-use cli_words::{CommandWord, NameKind, OptionWord, Row, is_name, meant, number_of, read_words};
+use crate::word_faults::WordsFault;
+use cli_words::{
+    CommandRow, CommandWord, NameKind, OptionWord, is_name, long_form, number_of, read_words,
+};
 
 /// What the arguments after the command gave so far.
 #[derive(Clone, Copy)]
-struct Told {
-    row: Row,
+struct WordsSoFar {
+    row: CommandRow,
     names: usize,
     /// The option whose value is the next argument.
     awaited: Option<OptionWord>,
@@ -23,7 +25,7 @@ fn is_name_of(kind: NameKind, word: &str) -> bool {
         && match kind {
             NameKind::File => true,
             NameKind::Number => number_of(word).is_some(),
-            NameKind::Command => CommandWord::of(word).is_some(),
+            NameKind::Command => CommandWord::from_word(word).is_some(),
         }
 }
 
@@ -40,10 +42,10 @@ fn is_among(words: &[String], word: &str) -> bool {
     words.iter().any(|other| other.as_str() == word)
 }
 
-impl Told {
+impl WordsSoFar {
     /// The option of the command that an argument names.
     fn option(&self, word: &str) -> Option<OptionWord> {
-        match OptionWord::of(word) {
+        match OptionWord::from_word(word) {
             Some(option) if self.row.options.has(option) => Some(option),
             _ => None,
         }
@@ -51,11 +53,11 @@ impl Told {
 
     /// Reads one argument more. None if it can't follow the earlier ones. An option was given
     /// before exactly if it is among them, since no name or value looks like an option.
-    fn with_word(self, earlier: &[String], word: &str) -> Option<Told> {
+    fn with_word(self, earlier: &[String], word: &str) -> Option<WordsSoFar> {
         if let Some(option) = self.awaited {
             let awaited = None;
             return if is_value_of(option, word) {
-                Some(Told { awaited, ..self })
+                Some(WordsSoFar { awaited, ..self })
             } else {
                 None
             };
@@ -68,11 +70,11 @@ impl Told {
                 } else {
                     None
                 };
-                Some(Told { awaited, ..self })
+                Some(WordsSoFar { awaited, ..self })
             }
             None if is_name_of(self.row.names, word) && self.names < self.row.most => {
                 let names = self.names + 1;
-                Some(Told { names, ..self })
+                Some(WordsSoFar { names, ..self })
             }
             None => None,
         }
@@ -80,7 +82,7 @@ impl Told {
 
     /// Why an argument can't be at this place, counted from 1.
     fn refusal<'a>(&self, number: usize, word: &'a str) -> WordsFault<'a> {
-        let word = Shown::of(word);
+        let word = Excerpt::from_text(word);
         let Some(option) = self.awaited else {
             return WordsFault::At { number, word };
         };
@@ -99,15 +101,15 @@ impl Told {
 
     /// What is missing after the last argument. All of them were read, and they still are no
     /// command.
-    fn lack(&self) -> WordsFault<'static> {
+    fn missing_part(&self) -> WordsFault<'static> {
         if let Some(option) = self.awaited {
-            return WordsFault::MissingBehind {
+            return WordsFault::MissingAfter {
                 what: "a value",
                 taker: option.row().word,
             };
         }
         if self.names < self.row.least {
-            return WordsFault::MissingBehind {
+            return WordsFault::MissingAfter {
                 what: "a name",
                 taker: self.row.word,
             };
@@ -120,31 +122,31 @@ impl Told {
 }
 
 /// Why the arguments from the second one on don't complete the command of the first one.
-fn fault_behind(row: Row, words: &[String]) -> WordsFault<'_> {
-    let mut told = Told {
+fn fault_after(row: CommandRow, words: &[String]) -> WordsFault<'_> {
+    let mut so_far = WordsSoFar {
         row,
         names: 0,
         awaited: None,
     };
     for place in 1..words.len() {
         let word = words[place].as_str();
-        match told.with_word(&words[1..place], word) {
-            Some(next) => told = next,
-            None => return told.refusal(place + 1, word),
+        match so_far.with_word(&words[1..place], word) {
+            Some(next) => so_far = next,
+            None => return so_far.refusal(place + 1, word),
         }
     }
-    told.lack()
+    so_far.missing_part()
 }
 
 fn fault_at(number: usize, word: &str) -> WordsFault<'_> {
-    let word = Shown::of(word);
+    let word = Excerpt::from_text(word);
     WordsFault::At { number, word }
 }
 
 /// The first argument if it names no command, or else the fault after it.
 fn fault_from<'a>(first: &'a str, words: &'a [String]) -> WordsFault<'a> {
-    match CommandWord::of(first) {
-        Some(command) => fault_behind(command.row(), words),
+    match CommandWord::from_word(first) {
+        Some(command) => fault_after(command.row(), words),
         None => fault_at(1, first),
     }
 }
@@ -155,7 +157,7 @@ fn fault_of_two<'a>(first: &'a str, second: &'a str, words: &'a [String]) -> Wor
         return fault_at(2, second);
     }
     if second == "--help" {
-        return match CommandWord::of(meant(first)) {
+        return match CommandWord::from_word(long_form(first)) {
             Some(_) => fault_at(2, second),
             None => fault_at(1, first),
         };
@@ -172,7 +174,7 @@ pub fn words_fault(words: &[String]) -> Option<WordsFault<'_>>
     }
     Some(match words {
         [] => WordsFault::Missing { what: "a command" },
-        [word] => fault_from(meant(word.as_str()), words),
+        [word] => fault_from(long_form(word.as_str()), words),
         [first, second] => fault_of_two(first.as_str(), second.as_str(), words),
         [first, _, _, ..] => fault_from(first.as_str(), words),
     })
@@ -194,7 +196,7 @@ fn page_word(words: &[String]) -> Option<&'static str>
 {
     match words {
         [] => None,
-        [first, ..] => page_of(CommandWord::of(first.as_str())?),
+        [first, ..] => page_of(CommandWord::from_word(first.as_str())?),
     }
 }
 

@@ -6,22 +6,22 @@
 #![tactic(auto)]
 
 mod command_words;
-mod fault;
+mod excerpt;
 mod help;
-mod odd_word;
+mod hint_line;
+mod non_utf8_word;
 mod places;
 mod reason;
-mod shown;
 mod system;
-mod telling;
-mod words_told;
+mod word_faults;
+mod words_hint;
 
 pub use command_words::{help_for, words_fault};
-pub use fault::WordsFault;
+pub use excerpt::Excerpt;
 pub use help::Help;
-pub use places::{WordKind, misplaced};
-pub use reason::Reason;
-pub use shown::Shown;
-pub use system::{Unread, can_reread, unwritten};
-pub use telling::tell;
-pub use words_told::tell_words;
+pub use hint_line::write_hint;
+pub use places::{WordKind, misplaced_word};
+pub use reason::SystemReason;
+pub use system::{UnreadFile, can_reread, write_failure};
+pub use word_faults::WordsFault;
+pub use words_hint::write_words_hint;

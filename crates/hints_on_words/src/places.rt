@@ -1,8 +1,8 @@
 //! Arguments at fixed places, as `det_lane` and `det_twin` take them.
 ghost use Rattle.std.specs.Prelude.{◌≤◌, length, IsNone};
 
-use crate::fault::WordsFault;
-use crate::shown::Shown;
+use crate::excerpt::Excerpt;
+use crate::word_faults::WordsFault;
 use cli_words::{is_name, number_of};
 
 /// What an argument at a place is, with the name that the usage has for it.
@@ -26,7 +26,7 @@ impl WordKind {
         }
     }
 
-    fn called(self) -> &'static str {
+    fn help_name(self) -> &'static str {
         match self {
             WordKind::Name(what) | WordKind::Copies(what) => what,
         }
@@ -34,7 +34,7 @@ impl WordKind {
 
     /// Why an argument can't be at this place, counted from 1.
     fn refusal(self, number: usize, word: &str) -> WordsFault<'_> {
-        let word = Shown::of(word);
+        let word = Excerpt::from_text(word);
         match self {
             WordKind::Name(_) => WordsFault::At { number, word },
             WordKind::Copies(taker) => WordsFault::OutOfRange {
@@ -50,14 +50,14 @@ impl WordKind {
 
 /// The first of these places whose argument is missing or of another kind. None if the arguments
 /// begin with all these kinds.
-pub fn misplaced<'a>(kinds: &[WordKind], words: &'a [String]) -> Option<WordsFault<'a>>
+pub fn misplaced_word<'a>(kinds: &[WordKind], words: &'a [String]) -> Option<WordsFault<'a>>
     ensures { IsNone result → length kinds.now ≤ length words.now }
 {
     for place in 0..kinds.len() {
         let kind = kinds[place];
         let Some(word) = words.get(place) else {
             return Some(WordsFault::Missing {
-                what: kind.called(),
+                what: kind.help_name(),
             });
         };
         if !kind.takes(word.as_str()) {

@@ -1,5 +1,5 @@
-//! `Reason`, the system's text for an error.
-use crate::shown::Shown;
+//! `SystemReason`, the system's text for an error.
+use crate::excerpt::Excerpt;
 use std::alloc::Global;
 use std::fmt;
 use std::fmt::{Display, Formatter, Write};
@@ -7,15 +7,15 @@ use std::io::Error;
 
 /// The system's text for an error, without its number.
 #[derive(Drop)]
-pub struct Reason {
+pub struct SystemReason {
     text: String,
 }
 
-impl Reason {
+impl SystemReason {
     /// None if memory runs out.
-    pub fn of(alloc: Global, error: Error) -> Option<Reason> {
+    pub fn from_error(alloc: Global, error: Error) -> Option<SystemReason> {
         match format!(in alloc; "{error}") {
-            Ok(text) => Some(Reason { text }),
+            Ok(text) => Some(SystemReason { text }),
             Err(_) => None,
         }
     }
@@ -29,9 +29,9 @@ impl Reason {
     }
 }
 
-impl Display for Reason {
+impl Display for SystemReason {
     fn fmt<W: Write>(&self, f: &mut Formatter<W>) -> fmt::Result {
-        let words = Shown::of(self.words());
+        let words = Excerpt::from_text(self.words());
         write!(f, "{words}")
     }
 }

@@ -3,8 +3,8 @@ ghost use Rattle.std.specs.Prelude.{◌≡◌, IsNone, IfSome};
 ghost use Rattle.std.specs.IoError.{error_kind};
 ghost use Rattle.std.specs.declared.io.ErrorKind.TheVariants.{BrokenPipe};
 
-use crate::reason::Reason;
-use crate::shown::Shown;
+use crate::excerpt::Excerpt;
+use crate::reason::SystemReason;
 use std::alloc::Global;
 use std::fmt::{Display, Formatter, Write};
 use std::io::{Error, ErrorKind};
@@ -13,27 +13,31 @@ use std::{fmt, fs};
 
 /// A file that couldn't be opened or read, with the system's reason.
 #[derive(Drop)]
-pub struct Unread<'a> {
-    name: Shown<'a>,
-    reason: Reason,
+pub struct UnreadFile<'a> {
+    name: Excerpt<'a>,
+    reason: SystemReason,
 }
 
-impl<'a> Unread<'a> {
+impl<'a> UnreadFile<'a> {
     /// The name whose slot failed last. `names` are in the order in which the shelf opened them.
     /// None if no name has that slot, or memory runs out.
-    pub fn of(alloc: Global, names: &[&'a str], failed: Option<(u32, Error)>) -> Option<Unread<'a>>
+    pub fn find(
+        alloc: Global,
+        names: &[&'a str],
+        failed: Option<(u32, Error)>,
+    ) -> Option<UnreadFile<'a>>
         ensures { IsNone failed → IsNone result }
     {
         let (slot, error) = failed?;
         let name = names.get(slot as usize)?;
-        Some(Unread {
-            name: Shown::of(*name),
-            reason: Reason::of(alloc, error)?,
+        Some(UnreadFile {
+            name: Excerpt::from_text(*name),
+            reason: SystemReason::from_error(alloc, error)?,
         })
     }
 }
 
-impl Display for Unread<'_> {
+impl Display for UnreadFile<'_> {
     fn fmt<W: Write>(&self, f: &mut Formatter<W>) -> fmt::Result {
         write!(f, "{}: {}", self.name, self.reason)
     }
@@ -41,14 +45,14 @@ impl Display for Unread<'_> {
 
 /// Why a write failed. None if memory runs out, or for a broken pipe: the reader closed it, which
 /// is no fault of the output.
-pub fn unwritten(alloc: Global, failed: Option<Error>) -> Option<Reason>
+pub fn write_failure(alloc: Global, failed: Option<Error>) -> Option<SystemReason>
     ensures none { IsNone failed → IsNone result }
     ensures pipe { IfSome failed (λ error. error_kind error ≡ BrokenPipe → IsNone result) }
 {
     let error = failed?;
     match error.kind() {
         ErrorKind::BrokenPipe => None,
-        _ => Reason::of(alloc, error),
+        _ => SystemReason::from_error(alloc, error),
     }
 }
 

@@ -7,7 +7,7 @@ use Rattle.det_values.specs.declared.frames.Outcome.TheVariants.{Finished, Refus
 use Rattle.det_values.specs.declared.refused_at.Phase.TheVariants.{Prepare, Pool, Conclude}
 use Rattle.det_values.specs.Values.{RefusedAtValue}
 use Rattle.job.specs.Meaning.{Meaning}
-use Rattle.job.specs.Pass.{Passed, Refusal, passed}
+use Rattle.job.specs.Pass.{PassResult, Refusal, passed}
 
 -- the state between cycles
 pub record State (G E : Type 0) : Type 0 where
@@ -38,8 +38,8 @@ abbrev pub refused_in_conclude : ℕ → RefusedAtValue
 refused_in_conclude code = record { phase = Conclude; pass = 0; element = 0; code = code }
 
 -- the result of pass p, with a change to it if it succeeded
-abbrev pub in_pool : {E P : Type 0} → ℕ → (Passed E P → Passed E P)
-    → Result (Passed E P) Refusal → Result (Passed E P) RefusedAtValue
+abbrev pub in_pool : {E P : Type 0} → ℕ → (PassResult E P → PassResult E P)
+    → Result (PassResult E P) Refusal → Result (PassResult E P) RefusedAtValue
 in_pool p change (Ok next) = Ok (change next)
 in_pool p change (Err r) = Err (refused_in_pool p r)
 
@@ -52,7 +52,7 @@ module _ {S G E L P : Type 0} (m : Meaning S G E L P) (j : S) where
 
   -- pass p over the elements of the pass before, carrying its part; its draws are added to those so
   -- far
-  abbrev pub next_pass : L → ℕ → ℕ → ℕ → Passed E P → Result (Passed E P) RefusedAtValue
+  abbrev pub next_pass : L → ℕ → ℕ → ℕ → PassResult E P → Result (PassResult E P) RefusedAtValue
   next_pass plan seed cycle p done =
       in_pool p (λ next. record {
         elements = next.elements;
@@ -62,25 +62,25 @@ module _ {S G E L P : Type 0} (m : Meaning S G E L P) (j : S) where
       (passed m j plan done.part seed cycle p done.elements)
 
   -- pass 0, which carries the unit
-  abbrev pub first_pass : L → ℕ → ℕ → List E → Result (Passed E P) RefusedAtValue
+  abbrev pub first_pass : L → ℕ → ℕ → List E → Result (PassResult E P) RefusedAtValue
   first_pass plan seed cycle es = in_pool 0 (λ first. first)
       (passed m j plan (m.unit_part j) seed cycle 0 es)
 
   -- n more passes from pass p on; a refusal ends them
-  abbrev pub passes_on : L → ℕ → ℕ → ℕ → ℕ → Result (Passed E P) RefusedAtValue
-      → Result (Passed E P) RefusedAtValue
+  abbrev pub passes_on : L → ℕ → ℕ → ℕ → ℕ → Result (PassResult E P) RefusedAtValue
+      → Result (PassResult E P) RefusedAtValue
   passes_on plan seed cycle n p (Err at) = Err at
   passes_on plan seed cycle zero p (Ok done) = Ok done
   passes_on plan seed cycle (suc n) p (Ok done) = passes_on plan seed cycle n (p + 1)
       (next_pass plan seed cycle p done)
 
   -- all passes of a plan
-  abbrev pub all_passes : L → ℕ → ℕ → List E → Result (Passed E P) RefusedAtValue
+  abbrev pub all_passes : L → ℕ → ℕ → List E → Result (PassResult E P) RefusedAtValue
   all_passes plan seed cycle es = passes_on plan seed cycle (m.passes_of j plan - 1) 1
       (first_pass plan seed cycle es)
 
   -- the sequential end, after the last pass
-  abbrev pub concluded : G → L → ℕ → Passed E P → Result (Done G E) RefusedAtValue
+  abbrev pub concluded : G → L → ℕ → PassResult E P → Result (Done G E) RefusedAtValue
   concluded globals plan seed last =
       elim (m.concluded j globals plan last.part) [
         | Ok d ↦ Ok (record {
@@ -92,9 +92,9 @@ module _ {S G E L P : Type 0} (m : Meaning S G E L P) (j : S) where
       ]
 
   -- one cycle from a state, given the windows, the cycle's number, its time and the next time
-  abbrev pub cycled : State G E → List (List ℤ) → ℕ → Option ℕ → Option ℕ
+  abbrev pub cycle_result : State G E → List (List ℤ) → ℕ → Option ℕ → Option ℕ
       → Result (Done G E) RefusedAtValue
-  cycled s windows cycle time next =
+  cycle_result s windows cycle time next =
       elim (m.prepared j s.globals s.elements windows s.seed cycle time next) [
         | Ok p ↦ elim (all_passes p.plan p.seed cycle s.elements) [
           | Ok last ↦ concluded s.globals p.plan p.seed last

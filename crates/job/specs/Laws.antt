@@ -3,8 +3,8 @@
 use Rattle.std.specs.Prelude.{◌≡◌, ℕ, ℤ, ◌+◌, ◌^◌, ◌≤◌, ◌<◌, List, length, Option, Ok}
 use Rattle.std.specs.List.{All}
 use Rattle.job.specs.event_cache.Windows.{AreWindows}
-use Rattle.job.specs.declared.answers.Concluded.{Concluded}
-use Rattle.job.specs.Meaning.{Meaning, Prepared, Worked}
+use Rattle.job.specs.declared.job_results.Conclusion.{Conclusion}
+use Rattle.job.specs.Meaning.{Meaning, Preparation, ElementResult}
 
 -- a part may come from some number of elements
 abbrev pub CoversSome : {P : Type 0} → (P → ℕ → Type 0) → P → Type 0
@@ -34,26 +34,26 @@ pub record JobLaws {S G E L P : Type 0} (m : Meaning S G E L P)
   -- both
   pub covers_few : (j : S) (part : P) (n : ℕ) → Covers j part n → n ≤ 65536
   pub covers_unit : (j : S) → Covers j (m.unit_part j) 0
-  pub covers_run : (j : S) (plan : L) (carry : P) (pass : ℕ) (e : E) (key : ℕ) (w : Worked E P) →
+  pub covers_run : (j : S) (plan : L) (carry : P) (pass : ℕ) (e : E) (key : ℕ) (w : ElementResult E P) →
       Fit j plan → Own j e → pass < m.passes_of j plan → CoversSome (Covers j) carry
       → m.worked j plan carry pass e key ≡ Ok w → Covers j w.part 1
   pub covers_joined : (j : S) (left right : P) (a b : ℕ) → Covers j left a → Covers j right b
       → a + b ≤ 65536
       → Covers j (m.joined j left right) (a + b)
   -- the elements of a run and of the start are the job's own; a prepared plan is fit
-  pub own_run : (j : S) (plan : L) (carry : P) (pass : ℕ) (e : E) (key : ℕ) (w : Worked E P) →
+  pub own_run : (j : S) (plan : L) (carry : P) (pass : ℕ) (e : E) (key : ℕ) (w : ElementResult E P) →
       Fit j plan → Own j e → pass < m.passes_of j plan → CoversSome (Covers j) carry
       → m.worked j plan carry pass e key ≡ Ok w → Own j w.element
   pub own_started : (j : S) (seed : ℕ) → All (Own j) (m.started j seed).elements
   pub fit_prepared : (j : S) (globals : G) (es : List E) (windows : List (List ℤ)) (seed cycle : ℕ)
-      (time next : Option ℕ) (p : Prepared L) →
+      (time next : Option ℕ) (p : Preparation L) →
       All (Own j) es → length es ≤ 65536 → AreWindows (m.events j) windows
       → m.prepared j globals es windows seed cycle time next ≡ Ok p → Fit j p.plan
   -- the bytes of an element are few, and different own elements have different bytes
   pub shown_few : (j : S) (e : E) → Own j e → length (m.shown j e) ≤ 64
   pub shown_apart : (j : S) (a b : E) → Own j a → Own j b → m.shown j a ≡ m.shown j b → a ≡ b
   -- limits of outputs, elements, passes and draws
-  pub output_few : (j : S) (globals : G) (plan : L) (part : P) (d : Concluded G)
+  pub output_few : (j : S) (globals : G) (plan : L) (part : P) (d : Conclusion G)
       → m.concluded j globals plan part ≡ Ok d → length d.output ≤ 1048576
   pub few_started : (j : S) (seed : ℕ) → length (m.started j seed).elements ≤ 65536
   pub fit_passes : (j : S) (plan : L) → Fit j plan

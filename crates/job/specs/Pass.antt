@@ -2,11 +2,11 @@
 -- Adaptive Platform must have, whatever its workers do. It doesn't mention workers.
 use Rattle.std.specs.Prelude.{ℕ, ◌+◌, ◌*◌, List, [], ◌∷◌, ◌++◌, length, take, drop, Result, Ok, Err}
 use Rattle.std.specs.Prelude.{nat_le, if◌then◌else◌}
-use Rattle.det_client.specs.element_random.Words.{key}
-use Rattle.job.specs.Meaning.{Meaning, Worked}
+use Rattle.det_client.specs.element_random.RandomStreams.{key}
+use Rattle.job.specs.Meaning.{Meaning, ElementResult}
 
 -- the new elements, the draws of each, and the joined part
-pub record Passed (E P : Type 0) : Type 0 where
+pub record PassResult (E P : Type 0) : Type 0 where
   pub elements : List E
   pub draws : List ℕ
   pub part : P
@@ -29,11 +29,11 @@ pub record Refusal : Type 0 where
 module _ {S G E L P : Type 0} (m : Meaning S G E L P) (j : S) (plan : L) (carry : P)
     (seed cycle pass : ℕ) where
   -- the result of no element
-  abbrev pub nothing : Passed E P
+  abbrev pub nothing : PassResult E P
   nothing = record { elements = []; draws = []; part = m.unit_part j }
 
   -- a result with one more element
-  abbrev pub more : Passed E P → Worked E P → ℕ → Passed E P
+  abbrev pub more : PassResult E P → ElementResult E P → ℕ → PassResult E P
   more done w drawn = record {
     elements = done.elements ++ w.element ∷ [];
     draws = done.draws ++ drawn ∷ [];
@@ -41,7 +41,7 @@ module _ {S G E L P : Type 0} (m : Meaning S G E L P) (j : S) (plan : L) (carry 
   }
 
   -- the elements from index i on, in order, added to a result; the first refusal ends it
-  abbrev pub taken : ℕ → List E → Passed E P → Result (Passed E P) Refusal
+  abbrev pub taken : ℕ → List E → PassResult E P → Result (PassResult E P) Refusal
   taken i [] done = Ok done
   taken i (e ∷ es) done =
       elim (m.worked j plan carry pass e (key seed cycle pass i)) [
@@ -51,9 +51,9 @@ module _ {S G E L P : Type 0} (m : Meaning S G E L P) (j : S) (plan : L) (carry 
       ]
 
   -- all elements
-  abbrev pub passed : List E → Result (Passed E P) Refusal
+  abbrev pub passed : List E → Result (PassResult E P) Refusal
   passed es = taken 0 es nothing
 
   -- the elements of block b
-  abbrev pub block : ℕ → List E → Result (Passed E P) Refusal
+  abbrev pub block : ℕ → List E → Result (PassResult E P) Refusal
   block b es = taken (block_size (length es) * b) (in_block (length es) b es) nothing

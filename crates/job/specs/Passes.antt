@@ -4,7 +4,7 @@ use Rattle.std.specs.Prelude.{Result, Ok, Err, IfOk, IfErr, Bool}
 use Rattle.std.specs.List.{All}
 use Rattle.job.specs.Meaning.{Meaning}
 use Rattle.job.specs.Laws.{CoversSome}
-use Rattle.job.specs.Pass.{Passed, Refusal, block_size, passed, block}
+use Rattle.job.specs.Pass.{PassResult, Refusal, block_size, passed, block}
 use Rattle.job.specs.Cycle.{added, shown_with}
 use Rattle.job.specs.declared.pass.PassDone.{PassDone}
 use Rattle.job.specs.declared.pass.PoolFault.{PoolFault}
@@ -32,13 +32,13 @@ blocks_of n = (n + (block_size n - 1)) / block_size n
 abbrev pub blocks_in : {S E L P : Type 0} → PassValue S E L P → ℕ
 blocks_in t = blocks_of (length t.elements)
 
-abbrev pub passed_of : {E P : Type 0} → PassDone E P → Passed E P
-passed_of done = record { elements = done.elements; draws = done.draws; part = done.part }
+abbrev pub pass_result_of : {E P : Type 0} → PassDone E P → PassResult E P
+pass_result_of done = record { elements = done.elements; draws = done.draws; part = done.part }
 
 -- the result is that of the pass; only "out of memory" may be returned without a cause here
-abbrev pub IsPass : {E P : Type 0} → Result (PassDone E P) PoolFault → Result (Passed E P) Refusal
+abbrev pub IsPass : {E P : Type 0} → Result (PassDone E P) PoolFault → Result (PassResult E P) Refusal
     → Type 0
-IsPass (Ok done) pass = pass ≡ Ok (passed_of done)
+IsPass (Ok done) pass = pass ≡ Ok (pass_result_of done)
 IsPass (Err (Refused element code)) pass = pass ≡ Err (record { element = element; code = code })
 IsPass (Err OutOfMemory) pass = Unit {0}
 
@@ -54,12 +54,12 @@ drawn_so_far (n ∷ earlier) draws = added (n ∷ earlier) draws
 
 module _ {S G E L P : Type 0} where
   -- the result of the whole pass
-  abbrev pub pass_of : Meaning S G E L P → PassValue S E L P → Result (Passed E P) Refusal
+  abbrev pub pass_of : Meaning S G E L P → PassValue S E L P → Result (PassResult E P) Refusal
   pass_of m t =
       passed m t.job t.plan t.carry t.seed t.cycle t.number t.elements
 
   -- the result of its block b
-  abbrev pub block_in : Meaning S G E L P → PassValue S E L P → ℕ → Result (Passed E P) Refusal
+  abbrev pub block_in : Meaning S G E L P → PassValue S E L P → ℕ → Result (PassResult E P) Refusal
   block_in m t b = block m t.job t.plan t.carry t.seed t.cycle t.number b t.elements
 
   -- the conditions of a pass

@@ -4,12 +4,12 @@ ghost use Rattle.std.specs.Prelude.{◌≡◌, ℕ, ◌<◌, ◌≤◌, ◌++◌
 ghost use Rattle.std.specs.Prelude.{◌+◌, IfOk, OnOk, OnErr};
 ghost use Rattle.std.specs.Vec.{vec_capacity, vec_len};
 ghost use Rattle.std.specs.List.{All};
-ghost use Rattle.det_client.specs.element_random.Words.{StandsFor, key};
+ghost use Rattle.det_client.specs.element_random.RandomStreams.{StandsFor, key};
 ghost use Rattle.det_client.specs.State.{next_time, OwnAt, SameButSeed};
 ghost use Rattle.job.specs.event_cache.Rings.{windows};
 
 use crate::event_cache::EventCache;
-use crate::{BadParam, Concluded, JobFault, Started};
+use crate::{BadParam, Conclusion, JobFault, JobStart};
 use det_client::element_random::ElementRandom;
 use det_client::{Activation, Client};
 use det_values::put::fill_u16;
@@ -30,7 +30,7 @@ use std::alloc::Global;
 /// needs the laws `covers_run` and `covers_joined`.
 pub trait Job: Sized + Drop {
     ghost use Rattle.job.specs.Meaning.{Meaning, Agrees, AgreesWithSeed, AgreesWithPart};
-    ghost use Rattle.job.specs.Meaning.{joined_to, IfTold};
+    ghost use Rattle.job.specs.Meaning.{joined_to, UnlessNoMemory};
     ghost use Rattle.job.specs.Laws.{JobLaws, CoversSome, CoverTogether, CoversBoth};
     ghost use Rattle.det_values.specs.Spelling.{Grows, an_element, spelled_drawn};
 
@@ -68,7 +68,7 @@ pub trait Job: Sized + Drop {
         &self,
         alloc: Global,
         client: &mut Client,
-    ) -> Result<Started<Self::Globals, Self::Element>, OutOfMemory>
+    ) -> Result<JobStart<Self::Globals, Self::Element>, OutOfMemory>
         requires init { client.old.last ≡ Some Activation.Init }
         requires beginning { StandsFor client.old.own (key client.old.seed 0 255 0) 0 }
         ensures gives { IfOk result (λ begun. meaning.started self.now client.old.seed
@@ -141,7 +141,7 @@ pub trait Job: Sized + Drop {
         ensures gives { (key : ℕ) → StandsFor random.old key 0
             → AgreesWithPart result part.new (joined_to (meaning.joined self.now) part.old
             (meaning.worked self.now plan.now carry.now pass element.now key)) }
-        ensures draws { (key : ℕ) → StandsFor random.old key 0 → IfTold result
+        ensures draws { (key : ℕ) → StandsFor random.old key 0 → UnlessNoMemory result
             (random.new.draws ≡ meaning.drawn self.now plan.now carry.now pass element.now key) }
         ensures own { IfOk result (λ element. Own self.now element) };
 
@@ -198,7 +198,7 @@ pub trait Job: Sized + Drop {
         plan: &Self::Plan,
         part: &Self::Part,
         spare: &mut Option<Bytes>,
-    ) -> Result<Concluded<Self::Globals>, JobFault>
+    ) -> Result<Conclusion<Self::Globals>, JobFault>
         requires fit { Fit self.now plan.now }
         requires part { CoversSome (Covers self.now) part.now }
         ensures { Agrees result (meaning.concluded self.now globals.now plan.now part.now) };

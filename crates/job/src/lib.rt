@@ -8,17 +8,17 @@
 //! order.
 #![tactic(auto)]
 
-mod answers;
-mod blocks;
+mod block_sizes;
 pub mod event_cache;
 mod job;
+mod job_results;
 mod pass;
+mod pass_room;
 mod pool;
-mod room;
 
-pub use answers::{BadParam, Concluded, JobFault, Started};
-pub use blocks::{block_count, block_size};
+pub use block_sizes::{block_count, block_size};
 pub use job::Job;
-pub use pass::{PassDone, PassOf, PoolFault};
+pub use job_results::{BadParam, Conclusion, JobFault, JobStart};
+pub use pass::{PassDone, PassRef, PoolFault};
+pub use pass_room::PassRoom;
 pub use pool::Pool;
-pub use room::PassRoom;

@@ -4,7 +4,7 @@ ghost use Rattle.job.specs.Pass.{block_size, in_block};
 ghost use Rattle.job.specs.Passes.{blocks_in};
 
 use crate::Job;
-use crate::blocks::{block_count, block_size};
+use crate::block_sizes::{block_count, block_size};
 use det_values::{Container, DrawnElements, OutOfMemory};
 use std::alloc::Global;
 use std::marker::Model;
@@ -12,7 +12,7 @@ use std::sync::Arc;
 
 /// A pass to be run. Its data are behind `Arc`s, so a thread that may outlive the call clones them.
 #[derive(Drop)]
-pub struct PassOf<'p, J: Job> {
+pub struct PassRef<'p, J: Job> {
     pub job: &'p Arc<J, Global>,
     pub plan: &'p Arc<J::Plan, Global>,
     /// The part of the pass before, or the unit in the first pass.
@@ -30,7 +30,7 @@ pub struct PassOf<'p, J: Job> {
     pub shows: bool,
 }
 
-impl<'p, J: Job> Model for PassOf<'p, J> {
+impl<'p, J: Job> Model for PassRef<'p, J> {
     ghost use Rattle.std.specs.Arc.{arc_value};
     ghost use Rattle.job.specs.Passes.{PassValue};
 
@@ -49,7 +49,7 @@ impl<'p, J: Job> Model for PassOf<'p, J> {
     } };
 }
 
-impl<'p, J: Job> PassOf<'p, J> {
+impl<'p, J: Job> PassRef<'p, J> {
     /// The job of the pass.
     #[inline(always)]
     pub fn job(&self) -> &J
@@ -102,7 +102,8 @@ impl<'p, J: Job> PassOf<'p, J> {
     /// The draws of a block's elements in the passes before. None in the first pass.
     pub fn earlier_block(&self, number: u32) -> Option<&[u32]>
         requires inside { number < blocks_in self.now }
-        requires level { (self.now.earlier ≡ []) ⊎ (length self.now.earlier ≡ length self.now.elements) }
+        requires level { (self.now.earlier ≡ []) ⊎ (length self.now.earlier
+            ≡ length self.now.elements) }
         ensures none { result ≡ None → self.now.earlier ≡ [] }
         ensures some { IfSome result (λ draws. (draws.now
             ≡ in_block (length self.now.elements) number self.now.earlier)

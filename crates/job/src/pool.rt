@@ -1,6 +1,6 @@
 //! The trait of pools. It is apart from their crates, so that an engine runs on any of them.
 
-use crate::{Job, PassDone, PassOf, PassRoom, PoolFault};
+use crate::{Job, PassDone, PassRef, PassRoom, PoolFault};
 
 /// Runs the passes of a job, on one thread or several.
 pub trait Pool<J: Job> {
@@ -11,7 +11,7 @@ pub trait Pool<J: Job> {
     /// while there is some, and returns to it the memory that it no longer needs.
     fn run_pass(
         &mut self,
-        pass: &PassOf<'_, J>,
+        pass: &PassRef<'_, J>,
         room: &mut PassRoom<J::Element, J::Part>,
     ) -> Result<PassDone<J::Element, J::Part>, PoolFault>
         requires { IsReady J.meaning J.Covers J.Own J.Fit pass.now }

@@ -2,7 +2,7 @@
 use Rattle.std.proofs.Common.{◌≡◌, ℕ, ◌+◌, refl, add-one}
 use lib.Bits.{bit_xor}
 use Rattle.std.specs.Int.{w64, rotate_left}
-use Rattle.det_client.specs.element_random.Words.{word}
+use Rattle.det_client.specs.element_random.RandomStreams.{word}
 use Rattle.job_heavy.specs.Meaning.{folded}
 
 pub folded_none : (first key : ℕ) → first ≡ folded first key 0

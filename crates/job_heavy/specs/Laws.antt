@@ -6,16 +6,16 @@ use Rattle.std.specs.List.{All}
 use Rattle.std.specs.Int.{w64, rotate_left, from_be_bytes}
 use Rattle.std.proofs.lemmas.Nat.{from_be_bytes-to_be_bytes_8}
 use Rattle.std.proofs.lemmas.List.FromFn.{length-map-range_with_len}
-use Rattle.det_client.specs.element_random.Words.{word}
-use Rattle.job.specs.declared.answers.Concluded.{Concluded}
-use Rattle.job.specs.Meaning.{Worked}
+use Rattle.det_client.specs.element_random.RandomStreams.{word}
+use Rattle.job.specs.declared.job_results.Conclusion.{Conclusion}
+use Rattle.job.specs.Meaning.{ElementResult}
 use Rattle.job.specs.Laws.{JobLaws, CoversBoth}
 use Rattle.job_shared.specs.Bytes.{u64_bytes}
 use Rattle.job_shared.proofs.Answered.{ok_same}
 use Rattle.job_shared.proofs.Made.{made_all}
 use Rattle.job_heavy.specs.declared.heavy.Heavy.{Heavy}
 use Rattle.job_heavy.specs.declared.state.State.{State}
-use Rattle.job_heavy.specs.declared.cycle.NoGlobals.{NoGlobals}
+use Rattle.job_heavy.specs.declared.heavy_job.NoGlobals.{NoGlobals}
 use Rattle.job_heavy.specs.Meaning.{meaning, first_state, first_states, folded}
 use Rattle.job_heavy.specs.Ranges.{Own, Fit, IsCountOf, Covers}
 
@@ -68,18 +68,18 @@ heavy_laws = record {
   covers_few = λ j part n h. h.few;
   covers_unit = λ j. record { is = refl; few = omega arith };
   covers_run = λ j plan carry pass e key w fit own below carried h. subst
-      (λ (x : Worked State ℕ). Covers j x.part 1) (ok_same _ _ h)
+      (λ (x : ElementResult State ℕ). Covers j x.part 1) (ok_same _ _ h)
       (record { is = refl; few = omega arith });
   covers_joined = λ j left right a b h k few. counts_joined left right a b h k few;
   own_run = λ j plan carry pass e key w fit own below carried h. subst
-      (λ (x : Worked State ℕ). Own j x.element) (ok_same _ _ h)
+      (λ (x : ElementResult State ℕ). Own j x.element) (ok_same _ _ h)
       (folded_fits e.folded key 64 own);
   own_started = λ j seed. own_all_first j;
   fit_prepared = λ j globals es windows seed cycle time next p own few ws h. tt;
   shown_few = λ j e own. omega arith;
   shown_apart = λ j a b p q e. apart a b p q e;
   output_few = λ j globals plan part d h. subst
-      (λ (x : Concluded NoGlobals). length x.output ≤ 1048576) (ok_same _ _ h) (omega arith);
+      (λ (x : Conclusion NoGlobals). length x.output ≤ 1048576) (ok_same _ _ h) (omega arith);
   few_started = λ j seed. few_first j;
   fit_passes = λ j plan fit. (omega arith, omega arith);
   drawn_few = λ j plan carry pass e key. omega arith;

@@ -4,15 +4,15 @@ use Rattle.std.specs.Prelude.{not, if◌then◌else◌, nat_lt, bit_xor}
 use Rattle.std.proofs.Common.{lit≤}
 use Rattle.std.specs.List.{range_with_len}
 use Rattle.std.specs.Int.{w64, rotate_left}
-use Rattle.det_client.specs.element_random.Words.{word}
-use Rattle.job.specs.Meaning.{Meaning, Worked}
+use Rattle.det_client.specs.element_random.RandomStreams.{word}
+use Rattle.job.specs.Meaning.{Meaning, ElementResult}
 use Rattle.job_shared.specs.Params.{is_param, natural_param, few_events}
 use Rattle.job_shared.proofs.Clamps.{natural_most, events_few}
 use Rattle.job_shared.specs.Bytes.{u64_bytes}
 use Rattle.job_heavy.specs.declared.heavy.Heavy.{Heavy}
 use Rattle.job_heavy.specs.declared.state.State.{State}
-use Rattle.job_heavy.specs.declared.cycle.NoGlobals.{NoGlobals}
-use Rattle.job_heavy.specs.declared.cycle.NoPlan.{NoPlan}
+use Rattle.job_heavy.specs.declared.heavy_job.NoGlobals.{NoGlobals}
+use Rattle.job_heavy.specs.declared.heavy_job.NoPlan.{NoPlan}
 
 -- parameters: 0 elements, 1 to 65,536
 abbrev pub bad_param : List ℤ → ℕ → Option ℕ
@@ -41,7 +41,7 @@ unfoldable pub folded : ℕ → ℕ → ℕ → ℕ
 folded state key zero = state
 folded state key (suc n) = bit_xor (rotate_left w64 (folded state key n) 5) (word key n)
 
-abbrev pub worked : State → ℕ → Worked State ℕ
+abbrev pub worked : State → ℕ → ElementResult State ℕ
 worked e key = record { element = record { folded = folded e.folded key 64 }; part = 1 }
 
 abbrev pub output : ℕ → List ℕ

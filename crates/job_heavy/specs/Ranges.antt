@@ -2,7 +2,7 @@
 use Rattle.std.specs.Prelude.{◌≡◌, ℕ, ◌^◌, ◌<◌, ◌≤◌}
 use Rattle.job_heavy.specs.declared.heavy.Heavy.{Heavy}
 use Rattle.job_heavy.specs.declared.state.State.{State}
-use Rattle.job_heavy.specs.declared.cycle.NoPlan.{NoPlan}
+use Rattle.job_heavy.specs.declared.heavy_job.NoPlan.{NoPlan}
 
 abbrev pub Own : Heavy → State → Type 0
 Own j e = e.folded < 2 ^ 64

@@ -9,7 +9,7 @@ use det_values::{Bytes, OutOfMemory};
 use job_shared::empty_output;
 
 /// The sum of two counts.
-pub(crate) fn both(left: u64, right: u64) -> u64
+pub(crate) fn add_counts(left: u64, right: u64) -> u64
     requires { CoverTogether IsCountOf left right }
     ensures sum { result ≡ left + right }
     ensures covers { CoversBoth IsCountOf left right result }

@@ -5,10 +5,10 @@
 #![tactic(auto)]
 
 mod count;
-mod cycle;
 mod heavy;
+mod heavy_job;
 mod state;
 
-pub use cycle::{NoGlobals, NoPlan};
 pub use heavy::Heavy;
+pub use heavy_job::{NoGlobals, NoPlan};
 pub use state::State;

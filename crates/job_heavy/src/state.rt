@@ -4,7 +4,7 @@ ghost use Rattle.std.specs.Prelude.{◌≡◌, ◌+◌, ◌<◌, ℕ, ◌≤◌,
 ghost use Rattle.std.specs.Vec.{vec_capacity, vec_len};
 ghost use Rattle.std.specs.List.{All};
 ghost use Rattle.det_values.specs.Spelling.{Grows};
-ghost use Rattle.det_client.specs.element_random.Words.{StandsFor};
+ghost use Rattle.det_client.specs.element_random.RandomStreams.{StandsFor};
 ghost use Rattle.job_heavy.specs.Meaning.{folded, first_states, shown};
 ghost use Rattle.job_heavy.specs.Ranges.{Own};
 

@@ -6,7 +6,7 @@ use Rattle.std.proofs.Math.Nat.{div-le_self}
 use Rattle.std.proofs.lemmas.Int.{ints, to_z-of_z}
 use mir.Val.{to_z, of_z, SFits}
 use Rattle.det_values.specs.Limits.{IsSampleValue}
-use Rattle.job_shared.specs.Filter.{towards}
+use Rattle.job_shared.specs.Filter.{step_towards}
 use Rattle.job_shared.proofs.Ranges.{sample_fits, wide_fits}
 
 shr_between : (d : ℤ) (k : ℕ) → ((pos 0 ≤ℤ int_shr d k) × (int_shr d k ≤ℤ d)) ⊎ ((d ≤ℤ int_shr d k) × (int_shr d k ≤ℤ negsuc 0))
@@ -19,7 +19,7 @@ between t l d s ht hl e (inl h) = let a = ht.0 in let b = ht.1 in let x = hl.0 i
 between t l d s ht hl e (inr h) = let a = ht.0 in let b = ht.1 in let x = hl.0 in let y = hl.1 in (omega (arith, ints), omega (arith, ints))
 
 pub towards_in_range : (value target : ℤ) (shift : ℕ) → IsSampleValue value → IsSampleValue target →
-    IsSampleValue (towards value target shift)
+    IsSampleValue (step_towards value target shift)
 towards_in_range l t k hl ht = between t l (t -ℤ l) (int_shr (t -ℤ l) k) ht hl refl (shr_between (t -ℤ l) k)
 
 difference_fits : (t l : ℤ) → IsSampleValue t → IsSampleValue l → SFits w64 (t -ℤ l)
@@ -33,7 +33,7 @@ shr_fits (negsuc n) k f = let h : n / 2 ^ k ≤ n = div-le_self n (2 ^ k) in let
 -- the machine computes the step
 pub towards_computed : (l t : ℤ) (k : ℕ) → IsSampleValue l → IsSampleValue t →
     to_z w64 (of_z w64 (to_z w64 (of_z w64 l) +ℤ to_z w64
-    (of_z w64 (int_shr (to_z w64 (of_z w64 (to_z w64 (of_z w64 t) -ℤ to_z w64 (of_z w64 l)))) k)))) ≡ towards l t k
+    (of_z w64 (int_shr (to_z w64 (of_z w64 (to_z w64 (of_z w64 t) -ℤ to_z w64 (of_z w64 l)))) k)))) ≡ step_towards l t k
 towards_computed l t k hl ht =
     let ft : SFits w64 t = sample_fits t ht in
     let fl : SFits w64 l = sample_fits l hl in

@@ -7,7 +7,7 @@ use Rattle.std.proofs.lemmas.List.{length-map, map_more, take_all}
 use Rattle.std.proofs.lemmas.List.Elements.{All-nil, All-cons, All-head, All-tail, All-same}
 use Rattle.det_values.specs.Limits.{IsSampleValue}
 use Rattle.job.specs.event_cache.Windows.{AreWindows}
-use Rattle.job_shared.specs.Samples.{newest_in, newest, all_newest, sample_of, IsSample, AreSamples}
+use Rattle.job_shared.specs.Samples.{newest_in, newest_sample, all_newest, sample_of, IsSample, AreSamples}
 
 get_ok : (w : List ℤ) (i : ℕ) → All IsSampleValue w → IsSample (slice_get w i)
 get_ok [] i h = tt
@@ -19,7 +19,7 @@ window_ok [] event h = All-nil IsSampleValue
 window_ok (w ∷ ws) zero h = All-head (All IsSampleValue) w ws h
 window_ok (w ∷ ws) (suc event) h = window_ok ws event (All-tail (All IsSampleValue) w ws h)
 
-pub newest_ok : (ws : List (List ℤ)) (event : ℕ) → All (All IsSampleValue) ws → IsSample (newest ws event)
+pub newest_ok : (ws : List (List ℤ)) (event : ℕ) → All (All IsSampleValue) ws → IsSample (newest_sample ws event)
 newest_ok ws event h = get_ok (slice_index_or ws event []) _ (window_ok ws event h)
 
 all_ok : (ws : List (List ℤ)) → All (All IsSampleValue) ws → All IsSample (all_newest ws)
@@ -39,7 +39,7 @@ pub sample_ok : (n : ℕ) (samples : List (Option ℤ)) (event : ℕ) → AreSam
 sample_ok n samples event h = found_ok samples event h.values
 
 pub all_newest_more : (ws : List (List ℤ)) (event : ℕ) → event < length ws →
-    all_newest (take (event + 1) ws) ≡ all_newest (take event ws) ++ newest ws event ∷ []
+    all_newest (take (event + 1) ws) ≡ all_newest (take event ws) ++ newest_sample ws event ∷ []
 all_newest_more ws event h = map_more newest_in ws event [] h
 
 pub samples_whole : (n event events : ℕ) (ws : List (List ℤ)) (samples : List (Option ℤ)) → AreWindows n ws → n ≤ event →

@@ -9,8 +9,8 @@ abbrev pub newest_in : List ℤ → Option ℤ
 newest_in window = slice_get window (length window - 1)
 
 -- the newest sample of an event; none if its window is empty or there is no such event
-abbrev pub newest : List (List ℤ) → ℕ → Option ℤ
-newest windows event = newest_in (slice_index_or windows event [])
+abbrev pub newest_sample : List (List ℤ) → ℕ → Option ℤ
+newest_sample windows event = newest_in (slice_index_or windows event [])
 
 -- the newest sample of each event
 abbrev pub all_newest : List (List ℤ) → List (Option ℤ)

@@ -48,7 +48,7 @@ pub fn natural_param(params: &[i64], index: u8, low: u32, high: u32) -> Result<u
 }
 
 /// Refuses any parameter at this index: there are too many.
-pub fn no_more(params: &[i64], index: u8) -> Result<(), BadParam>
+pub fn no_more_params(params: &[i64], index: u8) -> Result<(), BadParam>
     ensures ok { OnOk result (length params.now ≤ index) }
     ensures err { IfErr result (λ bad. (index < length params.now) × (bad.index ≡ index)) }
 {

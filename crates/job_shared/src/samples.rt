@@ -2,7 +2,8 @@
 
 ghost use Rattle.std.specs.Prelude.{◌≡◌, ℕ, ◌≤◌, [], length, IfOk};
 ghost use Rattle.job.specs.event_cache.Rings.{windows};
-ghost use Rattle.job_shared.specs.Samples.{newest, all_newest, sample_of, AreSamples, IsSample};
+ghost use Rattle.job_shared.specs.Samples.{newest_sample, all_newest, sample_of, AreSamples};
+ghost use Rattle.job_shared.specs.Samples.{IsSample};
 
 use det_values::{Limited, OutOfMemory};
 use job::event_cache::EventCache;
@@ -12,12 +13,12 @@ use std::alloc::Global;
 pub type NewestSamples = Limited<Option<i64>, 256>;
 
 /// The newest sample of an event, or None if there is no such event or its window is empty.
-pub fn newest(cache: &EventCache, event: u16) -> Option<i64>
-    ensures sample { result ≡ newest (windows cache.now) event }
+pub fn newest_sample(cache: &EventCache, event: u16) -> Option<i64>
+    ensures sample { result ≡ newest_sample (windows cache.now) event }
     ensures limits { IsSample result }
 {
     if event < cache.events() {
-        cache.newest(event)
+        cache.newest_sample(event)
     } else {
         None
     }
@@ -52,7 +53,7 @@ pub fn newest_samples(
 {
     let mut samples = empty_samples(alloc, cache.events(), spare)?;
     for event in 0..cache.events() {
-        samples.push(cache.newest(event))?;
+        samples.push(cache.newest_sample(event))?;
     }
     Ok(samples)
 }

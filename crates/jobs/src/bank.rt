@@ -5,11 +5,11 @@
 //! output is the sum, the least and the greatest of all levels.
 
 mod bank;
+mod bank_job;
 mod channel;
-mod cycle;
 mod summary;
 
 pub use bank::Bank;
+pub use bank_job::NoGlobals;
 pub use channel::Channel;
-pub use cycle::NoGlobals;
 pub use summary::Summary;

@@ -7,11 +7,11 @@
 
 mod best;
 mod cloud;
-mod cycle;
+mod cloud_job;
 mod particle;
 mod steps;
 
 pub use best::Best;
 pub use cloud::Cloud;
-pub use cycle::Finished;
+pub use cloud_job::Finished;
 pub use particle::{Particle, Target};

@@ -6,11 +6,11 @@
 
 mod bounds;
 mod channel;
-mod cycle;
 mod guard;
+mod guard_job;
 mod report;
 
 pub use bounds::Bounds;
 pub use channel::Channel;
-pub use cycle::{Corrections, Plan, Total};
 pub use guard::Guard;
+pub use guard_job::{Corrections, Plan, Total};

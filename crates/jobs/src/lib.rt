@@ -5,9 +5,9 @@
 pub mod bank;
 pub mod cloud;
 pub mod guard;
-mod judging;
+mod param_check;
 
 pub use crate::bank::Bank;
 pub use crate::cloud::Cloud;
 pub use crate::guard::Guard;
-pub use judging::bad_param;
+pub use param_check::bad_param;

@@ -7,7 +7,7 @@ use Rattle.det_io.specs.Prefix.{IsPrefix}
 use Rattle.det_io.proofs.Prefixes.{prefix-behind, prefix-then}
 use Rattle.lane.specs.child_processes.Spawners.{SpawnerState, Words, Asks}
 use Rattle.lane.specs.Children.{AsksPrefix}
-use Rattle.lane.specs.Outcome.{Tells}
+use Rattle.lane.specs.Outcome.{KnowsChildren}
 use Rattle.lane.specs.Words.{LaneValue, child_words, words_from}
 
 -- ---- calls one after another
@@ -99,9 +99,9 @@ words-at lane k (suc n) (suc j) d h =
     words-at lane (k + 1) n j d (omega arith) ∙ ap (child_words lane) same
 
 -- if all is known of the children's arguments, it is known of those of each child
-pub tells-at : (first : SpawnerState) (lane : LaneValue) (n k : ℕ) → k < n → Tells first (words_from lane 0 n)
+pub is_known-at : (first : SpawnerState) (lane : LaneValue) (n k : ℕ) → k < n → KnowsChildren first (words_from lane 0 n)
     → IsSome (first.gives (child_words lane k)) × IsSome (first.ends (child_words lane k))
-tells-at first lane n k h t =
+is_known-at first lane n k h t =
     let same : 0 + k ≡ k = omega arith in
     let within : k < length (words_from lane 0 n) = (let long = words-long lane 0 n in omega arith) in
     subst (λ w. IsSome (first.gives w) × IsSome (first.ends w)) (words-at lane 0 n k [] h ∙ ap (child_words lane) same)

@@ -1,6 +1,6 @@
 pub mod Asking
 pub mod Slots
 pub mod Statuses
-pub mod Telling
-pub mod Meeting
+pub mod ChildrenVerdict
+pub mod LaneMeets
 pub mod lemmas

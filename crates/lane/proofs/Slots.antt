@@ -2,7 +2,7 @@
 use Rattle.std.proofs.Common.{◌≡◌, ◌≢◌, ◌<◌, ◌≤◌, inl, inr, ℕ, zero, suc, ◌+◌, List, [], ◌∷◌, take, refl, sym, ap, ◌∙◌, subst, arith}
 use Rattle.std.specs.List.{AllByRecursion}
 use Rattle.det_io.specs.Shelf.{ShelfState, IsAtEnd}
-use Rattle.copies.specs.Compared.{AreDifferent, AllEnd, CopyEnds}
+use Rattle.copies.specs.CompareCopies.{AreDifferent, AllEnd, CopyEnds}
 
 -- n slots from slot k on
 unfoldable pub slots_from : (k n : ℕ) → List ℕ

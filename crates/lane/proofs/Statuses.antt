@@ -5,9 +5,9 @@ use Rattle.std.specs.Prelude.{Option, Some, None, IfSome}
 use Rattle.std.specs.Option.{option_map, option_or, is_some}
 use Rattle.std.proofs.Math.Seq.{drop-cons}
 use Rattle.copies.specs.declared.verdict.Verdict.TheVariants.{Agree}
-use Rattle.lane.specs.declared.answer.LaneAnswer.{LaneAnswer}
-use Rattle.lane.specs.declared.answer.LaneAnswer.TheVariants.{ChildFailed, SpawnFault}
-use Rattle.lane.specs.Judging.{failure_of, known, unless}
+use Rattle.lane.specs.declared.lane_answer.LaneAnswer.{LaneAnswer}
+use Rattle.lane.specs.declared.lane_answer.LaneAnswer.TheVariants.{ChildFailed, SpawnFault}
+use Rattle.lane.specs.VerdictOrAnswer.{failure_of, known_statuses, unless}
 use Rattle.lane.specs.Outcome.{first_failed, agreed}
 use Rattle.lane.specs.Watched.{found_by}
 
@@ -37,41 +37,44 @@ joined-next first child status (Some more) = or-failed first child status more
 
 -- one status more that is known
 joined-step : (first : Option LaneAnswer) (child : ℕ) (status : Option ℕ) (more : List (Option ℕ)) → is_some status ≡ true
-    → joined first child (known (status ∷ more)) ≡ joined (option_or first (failure_of child status)) (child + 1) (known more)
+    → joined first child (known_statuses (status ∷ more)) ≡ joined (option_or first (failure_of child status)) (child + 1) (known_statuses
+    more)
 joined-step first child None more e = absurd cc
-joined-step first child (Some s) more e = joined-next first child s (known more)
+joined-step first child (Some s) more e = joined-next first child s (known_statuses more)
 
 pub joined-walk : (statuses : List (Option ℕ)) (first next found : Option LaneAnswer) (child : ℕ) → child < length statuses
     → is_some (get_or statuses child None) ≡ true → found ≡ failure_of child (get_or statuses child None) → next ≡ option_or first found
-    → joined first child (known (drop child statuses)) ≡ joined None 0 (known statuses)
-    → joined next (child + 1) (known (drop (child + 1) statuses)) ≡ joined None 0 (known statuses)
+    → joined first child (known_statuses (drop child statuses)) ≡ joined None 0 (known_statuses statuses)
+    → joined next (child + 1) (known_statuses (drop (child + 1) statuses)) ≡ joined None 0 (known_statuses statuses)
 joined-walk statuses first next found child h some is by walked =
     let status : Option ℕ = get_or statuses child None in
     let one : suc child ≡ child + 1 = omega arith in
     let rest : drop child statuses ≡ status ∷ drop (child + 1) statuses =
     drop-cons statuses child None h ∙ ap (λ m. status ∷ drop m statuses) one in
-    ap (λ (o : Option LaneAnswer). joined o (child + 1) (known (drop (child + 1) statuses))) (by ∙ ap (option_or first) is)
+    ap (λ (o : Option LaneAnswer). joined o (child + 1) (known_statuses (drop (child + 1) statuses))) (by ∙ ap (option_or first) is)
     ∙ sym (joined-step first child status (drop (child + 1) statuses) some)
-    ∙ ap (λ (l : List (Option ℕ)). joined first child (known l)) (sym rest) ∙ walked
+    ∙ ap (λ (l : List (Option ℕ)). joined first child (known_statuses l)) (sym rest) ∙ walked
 
 -- ---- what is known
 
 -- where all are known, they are what each of them is
-pub known-are : (f : ℕ → ℕ) (k n : ℕ) (ends : List (Option ℕ)) (all : List ℕ) (listed : (k n : ℕ) → List ℕ)
+pub known_statuses-are : (f : ℕ → ℕ) (k n : ℕ) (ends : List (Option ℕ)) (all : List ℕ) (listed : (k n : ℕ) → List ℕ)
     → ((k : ℕ) → listed k zero ≡ []) → ((k n : ℕ) → listed k (suc n) ≡ f k ∷ listed (k + 1) n)
     → n ≤ length ends → ((j : ℕ) → j < n → IfSome (get_or ends j None) (λ s. s ≡ f (k + j)))
-    → known (take n ends) ≡ Some all → all ≡ listed k n
-known-are f k zero ends all listed none more h each e = cc (none k)
-known-are f k (suc n) [] all listed none more h each e = absurd (omega arith)
-known-are f k (suc n) (None ∷ ends) all listed none more h each e = absurd cc
-known-are f k (suc n) (Some s ∷ ends) all listed none more h each e =
+    → known_statuses (take n ends) ≡ Some all → all ≡ listed k n
+known_statuses-are f k zero ends all listed none more h each e = cc (none k)
+known_statuses-are f k (suc n) [] all listed none more h each e = absurd (omega arith)
+known_statuses-are f k (suc n) (None ∷ ends) all listed none more h each e = absurd cc
+known_statuses-are f k (suc n) (Some s ∷ ends) all listed none more h each e =
     let moved : (j : ℕ) → j < n → IfSome (get_or ends j None) (λ s. s ≡ f (k + 1 + j)) =
     (λ j below. let same : k + suc j ≡ k + 1 + j = omega arith in
     subst (λ m. IfSome (get_or ends j None) (λ s. s ≡ f m)) same (each (suc j) (omega arith))) in
-    split (known (take n ends)) e (λ rest is. known-are f (k + 1) n ends rest listed none more (omega arith) moved is) refl
+    split (known_statuses (take n ends)) e (λ rest is. known_statuses-are f (k + 1) n ends rest listed none more (omega arith) moved is)
+    refl
   where
     split : (o : Option (List ℕ)) → option_map (λ rest. s ∷ rest) o ≡ Some all
-        → ((rest : List ℕ) → known (take n ends) ≡ Some rest → rest ≡ listed (k + 1) n) → known (take n ends) ≡ o → all ≡ listed k (suc n)
+        → ((rest : List ℕ) → known_statuses (take n ends) ≡ Some rest → rest ≡ listed (k + 1) n) → known_statuses (take n ends) ≡ o
+        → all ≡ listed k (suc n)
     split None e tail is = absurd cc
     split (Some rest) e tail is =
         let same : k + zero ≡ k = omega arith in
@@ -80,15 +83,15 @@ known-are f k (suc n) (Some s ∷ ends) all listed none more h each e =
         sym all-is ∙ ap (λ x. x ∷ rest) head ∙ ap (λ l. f k ∷ l) (tail rest is) ∙ sym (more k n)
 
 -- where not all are known, one of them isn't
-pub unknown-one : (n : ℕ) (ends : List (Option ℕ)) → n ≤ length ends → known (take n ends) ≡ None
+pub unknown-one : (n : ℕ) (ends : List (Option ℕ)) → n ≤ length ends → known_statuses (take n ends) ≡ None
     → (j : ℕ) × (j < n) × (get_or ends j None ≡ None)
 unknown-one zero ends h e = absurd cc
 unknown-one (suc n) [] h e = absurd (omega arith)
 unknown-one (suc n) (None ∷ ends) h e = (zero, omega arith, refl)
-unknown-one (suc n) (Some s ∷ ends) h e = split (known (take n ends)) e (λ is. unknown-one n ends (omega arith) is) refl
+unknown-one (suc n) (Some s ∷ ends) h e = split (known_statuses (take n ends)) e (λ is. unknown-one n ends (omega arith) is) refl
   where
     split : (o : Option (List ℕ)) → option_map (λ rest. s ∷ rest) o ≡ None
-        → (known (take n ends) ≡ None → (j : ℕ) × (j < n) × (get_or ends j None ≡ None)) → known (take n ends) ≡ o
+        → (known_statuses (take n ends) ≡ None → (j : ℕ) × (j < n) × (get_or ends j None ≡ None)) → known_statuses (take n ends) ≡ o
         → (j : ℕ) × (j < suc n) × (get_or (Some s ∷ ends) j None ≡ None)
     split None e later is = let one = later is in (suc one.0, let b = one.1 in omega arith, one.2)
     split (Some rest) e later is = absurd cc

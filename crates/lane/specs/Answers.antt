@@ -4,13 +4,13 @@ use Rattle.det_io.specs.declared.failure.Failure.{Failure}
 use Rattle.det_io.specs.declared.failure.Failure.TheVariants as failures
 use Rattle.cli_answers.specs.Answers.{ended, err_line}
 use Rattle.cli_answers.specs.declared.answer.Answer.TheVariants as answers
-use Rattle.lane.specs.declared.answer.LaneAnswer.{LaneAnswer}
-use Rattle.lane.specs.declared.answer.LaneAnswer.TheVariants.{Done, Differs, BadWords}
-use Rattle.lane.specs.declared.answer.LaneAnswer.TheVariants.{BadRecord, WriteFault}
-use Rattle.lane.specs.declared.answer.LaneAnswer.TheVariants.{OutOfMemory, ChildFailed}
-use Rattle.lane.specs.declared.answer.LaneAnswer.TheVariants.{SpawnFault}
-use Rattle.lane.specs.declared.status.LaneStatus.{LaneStatus}
-use Rattle.lane.specs.declared.status.LaneStatus.TheVariants as statuses
+use Rattle.lane.specs.declared.lane_answer.LaneAnswer.{LaneAnswer}
+use Rattle.lane.specs.declared.lane_answer.LaneAnswer.TheVariants.{Done, Differs, BadWords}
+use Rattle.lane.specs.declared.lane_answer.LaneAnswer.TheVariants.{BadRecord, WriteFault}
+use Rattle.lane.specs.declared.lane_answer.LaneAnswer.TheVariants.{OutOfMemory, ChildFailed}
+use Rattle.lane.specs.declared.lane_answer.LaneAnswer.TheVariants.{SpawnFault}
+use Rattle.lane.specs.declared.lane_status.LaneStatus.{LaneStatus}
+use Rattle.lane.specs.declared.lane_status.LaneStatus.TheVariants as statuses
 
 -- the answer of a failure; what a lane reads are its children
 abbrev pub failed : Failure → LaneAnswer

@@ -1,6 +1,6 @@
 pub mod Answers
 pub mod Children
-pub mod Judging
+pub mod VerdictOrAnswer
 pub mod Outcome
 pub mod Promise
 pub mod Watched

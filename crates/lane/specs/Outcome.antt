@@ -2,8 +2,8 @@
 use Rattle.std.specs.Prelude.{ℕ, ◌+◌, List, [], ◌∷◌, get_or, nat_eq, map, Option, Some, None}
 use Rattle.std.specs.Prelude.{unwrap_or, if◌then◌else◌, IsSome, Result, Ok, Err, All}
 use Rattle.lane.specs.child_processes.Spawners.{SpawnerState, Words}
-use Rattle.record_grammar.specs.declared.fault.Reason.{Reason}
-use Rattle.record_grammar.specs.declared.fault.Reason.TheVariants.{Truncated}
+use Rattle.record_grammar.specs.declared.record_fault.Reason.{Reason}
+use Rattle.record_grammar.specs.declared.record_fault.Reason.TheVariants.{Truncated}
 use Rattle.copies.specs.declared.verdict.BadCopy.{BadCopy}
 use Rattle.copies.specs.declared.verdict.Verdict.{Verdict}
 use Rattle.copies.specs.declared.verdict.Verdict.TheVariants.{Agree, Differ}
@@ -12,15 +12,15 @@ use Rattle.copies.specs.verdict_text.Verdicts.{verdict_line}
 use Rattle.cli_answers.specs.Outcome.{OutcomeIn}
 use Rattle.cli_words.specs.declared.text_word.TextWord.{TextWord}
 use Rattle.cli_words.specs.declared.text_word.TextWord.TheVariants.{Help, Version}
-use Rattle.lane.specs.declared.answer.LaneAnswer.{LaneAnswer}
-use Rattle.lane.specs.declared.answer.LaneAnswer.TheVariants.{Done, Differs, BadWords}
-use Rattle.lane.specs.declared.answer.LaneAnswer.TheVariants.{BadRecord, ChildFailed}
-use Rattle.lane.specs.declared.texts.TheConstants.{USAGE, VERSION}
+use Rattle.lane.specs.declared.lane_answer.LaneAnswer.{LaneAnswer}
+use Rattle.lane.specs.declared.lane_answer.LaneAnswer.TheVariants.{Done, Differs, BadWords}
+use Rattle.lane.specs.declared.lane_answer.LaneAnswer.TheVariants.{BadRecord, ChildFailed}
+use Rattle.lane.specs.declared.lane_usage.TheConstants.{USAGE, VERSION}
 use Rattle.lane.specs.Words.{LaneValue, CommandValue, printing, run, words_of_all}
 
 -- an answer with a text
-abbrev pub telling : LaneAnswer → List ℕ → OutcomeIn LaneAnswer
-telling answer bytes = record { answer = answer; bytes = bytes }
+abbrev pub outcome_with : LaneAnswer → List ℕ → OutcomeIn LaneAnswer
+outcome_with answer bytes = record { answer = answer; bytes = bytes }
 
 -- the first child, counted on from `child`, that ended with an exit status other than 0
 abbrev pub first_failed : ℕ → List ℕ → Option LaneAnswer
@@ -30,8 +30,8 @@ first_failed child (status ∷ statuses) =
 
 -- children that agree are done if none failed
 abbrev pub agreed : Option LaneAnswer → ℕ → OutcomeIn LaneAnswer
-agreed (Some failed) cycles = telling failed []
-agreed None cycles = telling Done (verdict_line (Agree cycles))
+agreed (Some failed) cycles = outcome_with failed []
+agreed None cycles = outcome_with Done (verdict_line (Agree cycles))
 
 -- a truncated record is its child's failure, if the child failed
 abbrev pub broken_off : BadCopy → (status : ℕ) → LaneAnswer
@@ -45,8 +45,8 @@ bad_by reason bad statuses = BadRecord bad.copy bad.fault
 -- the verdict on the outputs, by the exit statuses of the children
 abbrev pub lane_by : Result Verdict BadCopy → (statuses : List ℕ) → OutcomeIn LaneAnswer
 lane_by (Ok (Agree cycles)) statuses = agreed (first_failed 0 statuses) cycles
-lane_by (Ok (Differ copy at)) statuses = telling Differs (verdict_line (Differ copy at))
-lane_by (Err bad) statuses = telling (bad_by bad.fault.reason bad statuses) []
+lane_by (Ok (Differ copy at)) statuses = outcome_with Differs (verdict_line (Differ copy at))
+lane_by (Err bad) statuses = outcome_with (bad_by bad.fault.reason bad statuses) []
 
 -- what the children write, and how they end, if the spawner knows it
 abbrev pub outputs : SpawnerState → List Words → List (List ℕ)
@@ -66,8 +66,8 @@ text_of Version = VERSION.now
 
 -- the outcome of a command
 abbrev pub outcome_of : SpawnerState → Option CommandValue → OutcomeIn LaneAnswer
-outcome_of spawner None = telling BadWords []
-outcome_of spawner (Some (printing word)) = telling Done (text_of word)
+outcome_of spawner None = outcome_with BadWords []
+outcome_of spawner (Some (printing word)) = outcome_with Done (text_of word)
 outcome_of spawner (Some (run lane)) = lane_outcome spawner lane
 
 -- the lists of arguments with which a command starts children
@@ -76,5 +76,5 @@ children_of (Some (run lane)) = words_of_all lane
 children_of command = []
 
 -- the spawner knows what children with these arguments write, and how they end
-abbrev pub Tells : SpawnerState → List Words → Type 0
-Tells spawner words = All (λ w. IsSome (spawner.gives w) × IsSome (spawner.ends w)) words
+abbrev pub KnowsChildren : SpawnerState → List Words → Type 0
+KnowsChildren spawner words = All (λ w. IsSome (spawner.gives w) × IsSome (spawner.ends w)) words

@@ -4,12 +4,12 @@ use Rattle.det_io.specs.Count.{Rose}
 use Rattle.det_io.specs.Sink.{Grew, GrewByPrefix}
 use Rattle.lane.specs.child_processes.Spawners.{SpawnerState}
 use Rattle.cli_answers.specs.Outcome.{MeetsBy}
-use Rattle.lane.specs.declared.answer.LaneAnswer.{LaneAnswer}
-use Rattle.lane.specs.declared.answer.LaneAnswer.TheVariants.{BadWords}
-use Rattle.lane.specs.declared.status.LaneStatus.{LaneStatus}
+use Rattle.lane.specs.declared.lane_answer.LaneAnswer.{LaneAnswer}
+use Rattle.lane.specs.declared.lane_answer.LaneAnswer.TheVariants.{BadWords}
+use Rattle.lane.specs.declared.lane_status.LaneStatus.{LaneStatus}
 use Rattle.lane.specs.Answers.{failed, status_of, line_of}
 use Rattle.lane.specs.Children.{AsksPrefix, AllFinished}
-use Rattle.lane.specs.Outcome.{outcome_of, children_of, Tells}
+use Rattle.lane.specs.Outcome.{outcome_of, children_of, KnowsChildren}
 use Rattle.lane.specs.Words.{CommandValue, command_of}
 use Rattle.std.specs.Prelude.{None}
 
@@ -17,7 +17,7 @@ use Rattle.std.specs.Prelude.{None}
 pub record Runs (command : Option CommandValue) (first last : SpawnerState) (out_failed : Type 0)
     (before after : List ℕ → Type 0) (answer : LaneAnswer) : Type 0 where
   -- it meets the outcome for what its children write and how they end, if that is known
-  pub meets : MeetsBy failed (outcome_of first command) (Tells first (children_of command))
+  pub meets : MeetsBy failed (outcome_of first command) (KnowsChildren first (children_of command))
       (Rose first.faults last.faults) out_failed before after answer
   -- it ends as bad words exactly if the arguments are no command
   pub bad_words : (answer ≡ BadWords → command ≡ None) × (command ≡ None → answer ≡ BadWords)

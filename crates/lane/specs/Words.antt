@@ -3,11 +3,11 @@ use Rattle.std.specs.Prelude.{ℕ, ◌+◌, zero, suc, List, [], ◌∷◌, Bool
 use Rattle.std.specs.Prelude.{option_map, if◌then◌else◌, codes, decimal}
 use Rattle.lane.specs.child_processes.Spawners.{Words}
 use Rattle.cli_words.specs.declared.text_word.TextWord.{TextWord}
-use Rattle.cli_words.specs.Alone.{copies_of, text_word}
+use Rattle.cli_words.specs.PlainWords.{parse_copies, text_word}
 use Rattle.cli_words.specs.Names.{is_name}
 use Rattle.lane.specs.declared.lane.Lane as code
-use Rattle.lane.specs.declared.words.LaneCommand as commands
-use Rattle.lane.specs.declared.words.LaneCommand.TheVariants.{Text, Run}
+use Rattle.lane.specs.declared.lane_command.LaneCommand as commands
+use Rattle.lane.specs.declared.lane_command.LaneCommand.TheVariants.{Text, Run}
 
 -- a program that is run in this many copies, each with this manifest and this stimulus
 pub record LaneValue : Type 0 where
@@ -16,8 +16,8 @@ pub record LaneValue : Type 0 where
   pub manifest : List ℕ
   pub stimulus : List ℕ
 
-abbrev pub lane_seen : code.Lane → LaneValue
-lane_seen lane = record {
+abbrev pub lane_value : code.Lane → LaneValue
+lane_value lane = record {
   program = lane.program.now;
   copies = lane.copies;
   manifest = lane.manifest.now;
@@ -28,9 +28,9 @@ pub data CommandValue : Type 0 where
   printing : (word : TextWord) → CommandValue
   run : (lane : LaneValue) → CommandValue
 
-abbrev pub command_seen : commands.LaneCommand → CommandValue
-command_seen (Text word) = printing word
-command_seen (Run lane) = run (lane_seen lane)
+abbrev pub command_value : commands.LaneCommand → CommandValue
+command_value (Text word) = printing word
+command_value (Run lane) = run (lane_value lane)
 
 abbrev pub are_names : List ℕ → List ℕ → List ℕ → Bool
 are_names program manifest stimulus = is_name program && (is_name manifest && is_name stimulus)
@@ -44,7 +44,7 @@ lane_of program copies manifest stimulus =
       copies = n;
       manifest = manifest;
       stimulus = stimulus;
-    })) (copies_of copies)
+    })) (parse_copies copies)
     else None
 
 -- the command that the arguments after the program's name are

@@ -30,7 +30,7 @@ fn strings(alloc: Global, texts: &[&str]) -> Result<Vec<String>, AllocError>
 impl<'a> Lane<'a> {
     ghost use Rattle.std.specs.Prelude.{◌≡◌, ◌<◌, IfOk};
     ghost use Rattle.lane.specs.child_processes.Spawners.{words_of};
-    ghost use Rattle.lane.specs.Words.{child_words, lane_seen};
+    ghost use Rattle.lane.specs.Words.{child_words, lane_value};
 
     /// The arguments with which a child is started: its program, and then those of `det record`.
     /// Children are counted from 0, and child k has k + 1 workers. So the copies differ in what
@@ -38,7 +38,7 @@ impl<'a> Lane<'a> {
     pub fn child_words(&self, alloc: Global, child: u32) -> Result<Vec<String>, AllocError>
         requires { child < 8 }
         ensures { IfOk result (λ words. words_of words.items
-            ≡ child_words (lane_seen self.now) child) }
+            ≡ child_words (lane_value self.now) child) }
     {
         let mut buffer = Buffer::new();
         let workers = buffer.format(child + 1);

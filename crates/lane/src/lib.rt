@@ -6,19 +6,19 @@
 //! `lane_top`.
 #![tactic(auto)]
 
-mod answer;
 pub mod child_processes;
-mod judging;
 mod lane;
-mod program;
-mod running;
-mod status;
-mod texts;
-mod words;
+mod lane_answer;
+mod lane_command;
+mod lane_program;
+mod lane_status;
+mod lane_usage;
+mod started_children;
+mod verdict_or_answer;
 
-pub use answer::LaneAnswer;
 pub use lane::Lane;
-pub use program::lane_top;
-pub use status::LaneStatus;
-pub use texts::{USAGE, VERSION};
-pub use words::LaneCommand;
+pub use lane_answer::LaneAnswer;
+pub use lane_command::LaneCommand;
+pub use lane_program::lane_top;
+pub use lane_status::LaneStatus;
+pub use lane_usage::{USAGE, VERSION};

@@ -9,10 +9,10 @@ use Rattle.manifest.specs.Keys.{found}
 use Rattle.manifest.specs.Tree.{text_of}
 use Rattle.manifest.specs.Faults.{first_fault, first_duplicate}
 use Rattle.manifest.specs.Groups.{first_keys, params_keys, events_keys, last_keys, work_in, hardware_in}
-use Rattle.manifest.specs.Meaning.{unknown_fault, by_names, manifest_in, said, params_of, events_of}
+use Rattle.manifest.specs.Meaning.{unknown_fault, by_names, manifest_in, tree_manifest, params_of, events_of}
 use Rattle.manifest.specs.Values.{ManifestValue}
-use Rattle.manifest.specs.declared.fault.ManifestFault.{ManifestFault}
-use Rattle.manifest.specs.declared.fault.ManifestFault.TheVariants.{DuplicateEvent, UnknownJob}
+use Rattle.manifest.specs.declared.manifest_fault.ManifestFault.{ManifestFault}
+use Rattle.manifest.specs.declared.manifest_fault.ManifestFault.TheVariants.{DuplicateEvent, UnknownJob}
 use Rattle.manifest.specs.declared.hardware.Hardware.{Hardware}
 use Rattle.manifest.specs.declared.key.Key.TheVariants.{Job}
 use Rattle.manifest.specs.declared.work.Work.{Work}
@@ -20,7 +20,7 @@ use Rattle.manifest.proofs.Order.{or_fault, past_keys}
 
 -- what a tree without a fault says, for the job of its name
 abbrev pub with_job : Data → Option JobKind → Result ManifestValue ManifestFault
-with_job tree kind = ok_or (option_map (said tree) kind) UnknownJob
+with_job tree kind = ok_or (option_map (tree_manifest tree) kind) UnknownJob
 
 -- where each key is known too
 pub past_unknown : (tree : Data) (strict : Bool) → first_fault tree first_keys ≡ None → first_fault tree (params_keys tree) ≡ None
@@ -45,7 +45,7 @@ with_kind tree kind none job =
 -- what a tree says by its parts
 pub said_by : (tree : Data) (kind : JobKind) (work : Work) (params : List ℤ) (events : List EventSpecValue) (hardware : Hardware)
     → work ≡ work_in tree → params ≡ params_of tree → events ≡ events_of tree → hardware ≡ hardware_in tree
-    → ◌≡◌ {A = ManifestValue} (said tree kind) (record {
+    → ◌≡◌ {A = ManifestValue} (tree_manifest tree kind) (record {
       kind = kind;
       cycle_time = work.cycle_time;
       workers = work.workers;

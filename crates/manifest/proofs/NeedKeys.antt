@@ -4,7 +4,7 @@ use Rattle.toml.specs.Data.{Data}
 use Rattle.manifest.specs.Tree.{step, to_member}
 use Rattle.manifest.specs.Keys.{Kind, section, whole, found, has, need_kind, need_word}
 use Rattle.manifest.specs.Faults.{fault_at, fault_by}
-use Rattle.manifest.specs.Judged.{section_key, need_key, need_least, need_most}
+use Rattle.manifest.specs.KeyReaders.{section_key, need_key, need_least, need_most}
 use Rattle.manifest.specs.declared.key.NeedKey.{NeedKey}
 use Rattle.manifest.specs.declared.key.NeedKey.TheVariants.{Instructions, SequentialBegin, SequentialEnd, Speedup}
 use Rattle.manifest.specs.declared.stage.Stage.{Stage}

@@ -6,11 +6,11 @@ use Rattle.toml.specs.Data.{Data}
 use Rattle.manifest.specs.Keys.{keys, needs_keys}
 use Rattle.manifest.specs.Groups.{first_keys, params_keys, events_keys, last_keys}
 use Rattle.manifest.specs.Faults.{first_fault, fault_at}
-use Rattle.manifest.specs.Judged.{IsRead, Agrees}
+use Rattle.manifest.specs.KeyReaders.{IsRead, Agrees}
 use Rattle.manifest.specs.Values.{ManifestValue}
-use Rattle.manifest.specs.declared.fault.ManifestError.{ManifestError}
-use Rattle.manifest.specs.declared.fault.ManifestError.TheVariants.{Fault, OutOfMemory}
-use Rattle.manifest.specs.declared.fault.ManifestFault.{ManifestFault}
+use Rattle.manifest.specs.declared.manifest_fault.ManifestError.{ManifestError}
+use Rattle.manifest.specs.declared.manifest_fault.ManifestError.TheVariants.{Fault, OutOfMemory}
+use Rattle.manifest.specs.declared.manifest_fault.ManifestFault.{ManifestFault}
 use Rattle.manifest.specs.declared.key.Key.TheVariants.{Platform, InitNeeds, InitNeed, RunNeeds, RunNeed}
 use Rattle.manifest.proofs.Steps.{first_append}
 

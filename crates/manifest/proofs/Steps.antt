@@ -11,7 +11,7 @@ use Rattle.manifest.specs.Keys.{event_keys, found}
 use Rattle.manifest.specs.Faults.{first_fault, fault_at, duplicate_after}
 use Rattle.manifest.specs.Meaning.{event_at}
 use Rattle.manifest.specs.Tree.{whole_of}
-use Rattle.manifest.specs.declared.fault.ManifestFault.{ManifestFault}
+use Rattle.manifest.specs.declared.manifest_fault.ManifestFault.{ManifestFault}
 use Rattle.manifest.specs.declared.key.Key.{Key}
 use Rattle.manifest.specs.declared.key.Key.TheVariants.{Param}
 

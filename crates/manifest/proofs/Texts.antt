@@ -3,13 +3,13 @@ use Rattle.std.proofs.Common.{◌∙◌, nat_le, None, Result, Ok, Err, IfOk, If
 use Rattle.std.proofs.Common.{List, ℕ, String, BTreeMap, Global, IsUtf8, refl}
 use Rattle.std.specs.Str.{is_utf8}
 use Rattle.std.proofs.lemmas.Str.{IsUtf8-from_is_utf8, is_utf8-from_IsUtf8}
-use Rattle.manifest.specs.Judged.{Agrees, IsParsed, IsDocument}
+use Rattle.manifest.specs.KeyReaders.{Agrees, IsParsed, IsDocument}
 use Rattle.manifest.specs.Meaning.{manifest_of, document_of, IfFault}
 use Rattle.manifest.specs.Values.{ManifestValue}
-use Rattle.manifest.specs.declared.fault.ManifestError.{ManifestError}
-use Rattle.manifest.specs.declared.fault.ManifestError.TheVariants.{Fault, OutOfMemory}
-use Rattle.manifest.specs.declared.fault.ManifestFault.{ManifestFault}
-use Rattle.manifest.specs.declared.fault.ManifestFault.TheVariants.{TooLong, NotToml}
+use Rattle.manifest.specs.declared.manifest_fault.ManifestError.{ManifestError}
+use Rattle.manifest.specs.declared.manifest_fault.ManifestError.TheVariants.{Fault, OutOfMemory}
+use Rattle.manifest.specs.declared.manifest_fault.ManifestFault.{ManifestFault}
+use Rattle.manifest.specs.declared.manifest_fault.ManifestFault.TheVariants.{TooLong, NotToml}
 use Rattle.toml.specs.Data.{table}
 use Rattle.toml.specs.View.{view, table_view}
 use Rattle.toml.specs.declared.value.Value.{Value, Table as TableValue}
@@ -29,16 +29,16 @@ pub no_text : (bytes : List ℕ) → (IsUtf8 bytes → ⊥) → is_utf8 bytes �
 no_text bytes none = no_text_by (is_utf8 bytes) bytes refl none
 
 -- the two sides of a result that agrees
-pub agreed_manifest : (r : Result ManifestValue ManifestError) (said meant : Result ManifestValue ManifestFault)
-    → said ≡ meant → Agrees r meant → IfOk r (λ m. said ≡ Ok m)
-agreed_manifest (Ok m) said meant same agreed = same ∙ agreed
-agreed_manifest (Err e) said meant same agreed = tt
+pub agreed_manifest : (r : Result ManifestValue ManifestError) (tree_manifest meant : Result ManifestValue ManifestFault)
+    → tree_manifest ≡ meant → Agrees r meant → IfOk r (λ m. tree_manifest ≡ Ok m)
+agreed_manifest (Ok m) tree_manifest meant same agreed = same ∙ agreed
+agreed_manifest (Err e) tree_manifest meant same agreed = tt
 
-pub agreed_fault : (r : Result ManifestValue ManifestError) (said meant : Result ManifestValue ManifestFault)
-    → said ≡ meant → Agrees r meant → IfErr r (λ e. IfFault e (λ f. said ≡ Err f))
-agreed_fault (Ok m) said meant same agreed = tt
-agreed_fault (Err (Fault f)) said meant same agreed = same ∙ agreed
-agreed_fault (Err OutOfMemory) said meant same agreed = tt
+pub agreed_fault : (r : Result ManifestValue ManifestError) (tree_manifest meant : Result ManifestValue ManifestFault)
+    → tree_manifest ≡ meant → Agrees r meant → IfErr r (λ e. IfFault e (λ f. tree_manifest ≡ Err f))
+agreed_fault (Ok m) tree_manifest meant same agreed = tt
+agreed_fault (Err (Fault f)) tree_manifest meant same agreed = same ∙ agreed
+agreed_fault (Err OutOfMemory) tree_manifest meant same agreed = tt
 
 -- what a text says is what its tree says, or that it has none
 pub told : (r : Result Value ManifestError) (bytes text : List ℕ)

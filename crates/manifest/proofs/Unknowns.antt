@@ -5,9 +5,9 @@ use Rattle.std.specs.Option.{option_or}
 use Rattle.toml.specs.Data.{Data}
 use Rattle.manifest.specs.Keys.{found}
 use Rattle.manifest.specs.Unknown.{unknown_at, unknown_events, is_known}
-use Rattle.manifest.specs.Judged.{is_top_word, is_event_word, is_need_word, with_zeros}
+use Rattle.manifest.specs.KeyReaders.{is_top_word, is_event_word, is_need_word, with_zeros}
 use Rattle.manifest.specs.declared.key.Key.TheVariants.{EventItem}
-use Rattle.manifest.specs.declared.unknown.KeyTable.TheVariants.{Top, Event, InitNeeds, RunNeeds}
+use Rattle.manifest.specs.declared.unknown_key.KeyTable.TheVariants.{Top, Event, InitNeeds, RunNeeds}
 
 one_more : (i n : ℕ) → i < n → n - i ≡ suc (n - (i + 1))
 one_more i n h = omega arith

@@ -1,6 +1,6 @@
 pub mod Faults
 pub mod Groups
-pub mod Judged
+pub mod KeyReaders
 pub mod Keys
 pub mod KeyTexts
 pub mod Limits

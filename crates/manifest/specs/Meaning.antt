@@ -23,11 +23,11 @@ use Rattle.manifest.specs.declared.key.Key.TheVariants.{Job, CycleTime, Workers,
 use Rattle.manifest.specs.declared.key.Key.TheVariants.{Event, EventName, EventCapacity}
 use Rattle.manifest.specs.declared.key.Key.TheVariants.{EventPolicy, Platform, InitNeeds, InitNeed}
 use Rattle.manifest.specs.declared.key.Key.TheVariants.{RunNeeds, RunNeed}
-use Rattle.manifest.specs.declared.fault.ManifestFault.{ManifestFault}
-use Rattle.manifest.specs.declared.fault.ManifestFault.TheVariants.{TooLong, NotToml, UnknownKey}
-use Rattle.manifest.specs.declared.fault.ManifestFault.TheVariants.{DuplicateEvent, UnknownJob}
-use Rattle.manifest.specs.declared.fault.ManifestError.{ManifestError}
-use Rattle.manifest.specs.declared.fault.ManifestError.TheVariants.{Fault, OutOfMemory}
+use Rattle.manifest.specs.declared.manifest_fault.ManifestFault.{ManifestFault}
+use Rattle.manifest.specs.declared.manifest_fault.ManifestFault.TheVariants.{TooLong, NotToml, UnknownKey}
+use Rattle.manifest.specs.declared.manifest_fault.ManifestFault.TheVariants.{DuplicateEvent, UnknownJob}
+use Rattle.manifest.specs.declared.manifest_fault.ManifestError.{ManifestError}
+use Rattle.manifest.specs.declared.manifest_fault.ManifestError.TheVariants.{Fault, OutOfMemory}
 use Rattle.manifest.specs.declared.needs.Needs.{Needs}
 
 -- none if the key is absent
@@ -58,8 +58,8 @@ needs_of tree needs need = option_map (λ _. record {
 }) (found tree needs)
 
 -- the content of a tree without a fault, for a job; no platform exactly if its key is absent
-abbrev pub said : Data → JobKind → ManifestValue
-said tree kind = record {
+abbrev pub tree_manifest : Data → JobKind → ManifestValue
+tree_manifest tree kind = record {
   kind = kind;
   cycle_time = number_of (found tree CycleTime);
   workers = number_of (found tree Workers);
@@ -74,7 +74,7 @@ said tree kind = record {
 abbrev pub by_names : Data → Result ManifestValue ManifestFault
 by_names tree =
     option_map_or Err (option_map DuplicateEvent (first_duplicate (events_of tree)))
-    (ok_or (option_map (said tree) (kind_of_name (text_of (found tree Job)))) UnknownJob)
+    (ok_or (option_map (tree_manifest tree) (kind_of_name (text_of (found tree Job)))) UnknownJob)
 
 -- the first unknown key, if such keys are a fault
 abbrev pub unknown_fault : Bool → Data → Option ManifestFault

@@ -7,21 +7,21 @@ use Rattle.std.specs.Option.{option_or}
 use Rattle.toml.specs.Data.{Data, as_table, Members, no_members, member}
 use Rattle.manifest.specs.Keys.{found, need_word, all_needs}
 use Rattle.manifest.specs.declared.key.Key.TheVariants as keys
-use Rattle.manifest.specs.declared.unknown.UnknownKey.{UnknownKey}
-use Rattle.manifest.specs.declared.unknown.KeyTable.{KeyTable}
-use Rattle.manifest.specs.declared.unknown.KeyTable.TheVariants.{Top, Event, InitNeeds, RunNeeds}
+use Rattle.manifest.specs.declared.unknown_key.UnknownKey.{UnknownKey}
+use Rattle.manifest.specs.declared.unknown_key.KeyTable.{KeyTable}
+use Rattle.manifest.specs.declared.unknown_key.KeyTable.TheVariants.{Top, Event, InitNeeds, RunNeeds}
 
 -- the names of the keys that a table knows, level by level
-abbrev pub known : KeyTable → List (List ℕ)
-known Top =
+abbrev pub known_words : KeyTable → List (List ℕ)
+known_words Top =
     codes "job" ∷ codes "cycle_time_ns" ∷ codes "workers" ∷ codes "params" ∷ codes "event"
     ∷ codes "platform" ∷ codes "init_needs" ∷ codes "run_needs" ∷ []
-known (Event i) = codes "name" ∷ codes "capacity" ∷ codes "policy" ∷ []
-known InitNeeds = map need_word all_needs
-known RunNeeds = map need_word all_needs
+known_words (Event i) = codes "name" ∷ codes "capacity" ∷ codes "policy" ∷ []
+known_words InitNeeds = map need_word all_needs
+known_words RunNeeds = map need_word all_needs
 
 unfoldable pub is_known : KeyTable → List ℕ → Bool
-is_known table key = list_any (bytes_eq key) (known table)
+is_known table key = list_any (bytes_eq key) (known_words table)
 
 -- a key as a fault reports it: at most its first 64 bytes, and then zeros
 abbrev pub unknown_key : KeyTable → List ℕ → UnknownKey

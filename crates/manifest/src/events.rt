@@ -7,10 +7,10 @@ ghost use Rattle.manifest.specs.Groups.{events_keys};
 ghost use Rattle.manifest.specs.Keys.{event_keys, found};
 ghost use Rattle.manifest.specs.Faults.{first_fault, first_duplicate};
 ghost use Rattle.manifest.specs.Tree.{count_of};
-ghost use Rattle.manifest.specs.Judged.{IsJudged, IsRead};
+ghost use Rattle.manifest.specs.KeyReaders.{IsJudged, IsRead};
 ghost use Rattle.manifest.specs.Meaning.{events_of, event_at};
 
-use crate::judge::{count, event_name, item, member, needed_section, number, policy};
+use crate::typed_value::{count, event_name, item, member, needed_section, number, policy};
 use crate::{Key, ManifestError, ManifestFault};
 use det_values::{EventSpec, Events};
 use std::alloc::Global;

@@ -5,11 +5,11 @@ ghost use Rattle.toml.specs.View.{view};
 ghost use Rattle.manifest.specs.Limits.{IsNeeds};
 ghost use Rattle.manifest.specs.Keys.{has};
 ghost use Rattle.manifest.specs.Faults.{first_fault};
-ghost use Rattle.manifest.specs.Judged.{IsJudged};
+ghost use Rattle.manifest.specs.KeyReaders.{IsJudged};
 ghost use Rattle.manifest.specs.Groups.{last_keys, hardware_in};
 
-use crate::judge::platform_name;
 use crate::stage::Stage;
+use crate::typed_value::platform_name;
 use crate::{Key, ManifestFault, Needs, PlatformName};
 use toml::Value;
 

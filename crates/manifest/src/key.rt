@@ -1,7 +1,7 @@
 //! The keys of a manifest.
 ghost use Rattle.std.specs.Prelude.{◌≡◌, ◌≤◌, length};
 ghost use Rattle.manifest.specs.Keys.{need_word};
-ghost use Rattle.manifest.specs.Judged.{need_least, need_most};
+ghost use Rattle.manifest.specs.KeyReaders.{need_least, need_most};
 ghost use Rattle.manifest.specs.KeyTexts.{key_text};
 
 use crate::KeyText;
@@ -78,21 +78,21 @@ impl Key {
         ensures { result ≡ key_text self.now }
     {
         match *self {
-            Key::Job => KeyText::of("job"),
-            Key::CycleTime => KeyText::of("cycle_time_ns"),
-            Key::Workers => KeyText::of("workers"),
-            Key::Params => KeyText::of("params"),
-            Key::Param(n) => KeyText::of("params").item(n),
-            Key::Event => KeyText::of("event"),
-            Key::EventItem(n) => KeyText::of("event").item(n),
-            Key::EventName(n) => KeyText::of("event").item(n).member("name"),
-            Key::EventCapacity(n) => KeyText::of("event").item(n).member("capacity"),
-            Key::EventPolicy(n) => KeyText::of("event").item(n).member("policy"),
-            Key::Platform => KeyText::of("platform"),
-            Key::InitNeeds => KeyText::of("init_needs"),
-            Key::InitNeed(need) => KeyText::of("init_needs").member(need.word()),
-            Key::RunNeeds => KeyText::of("run_needs"),
-            Key::RunNeed(need) => KeyText::of("run_needs").member(need.word()),
+            Key::Job => KeyText::new("job"),
+            Key::CycleTime => KeyText::new("cycle_time_ns"),
+            Key::Workers => KeyText::new("workers"),
+            Key::Params => KeyText::new("params"),
+            Key::Param(n) => KeyText::new("params").item(n),
+            Key::Event => KeyText::new("event"),
+            Key::EventItem(n) => KeyText::new("event").item(n),
+            Key::EventName(n) => KeyText::new("event").item(n).member("name"),
+            Key::EventCapacity(n) => KeyText::new("event").item(n).member("capacity"),
+            Key::EventPolicy(n) => KeyText::new("event").item(n).member("policy"),
+            Key::Platform => KeyText::new("platform"),
+            Key::InitNeeds => KeyText::new("init_needs"),
+            Key::InitNeed(need) => KeyText::new("init_needs").member(need.word()),
+            Key::RunNeeds => KeyText::new("run_needs"),
+            Key::RunNeed(need) => KeyText::new("run_needs").member(need.word()),
         }
     }
 }

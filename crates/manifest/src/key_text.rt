@@ -20,7 +20,7 @@ impl Model for KeyText {
 }
 
 impl KeyText {
-    pub(crate) fn of(word: &str) -> KeyText
+    pub(crate) fn new(word: &str) -> KeyText
         requires { length word.now ≤ 48 }
         ensures { result ≡ word.now }
     {

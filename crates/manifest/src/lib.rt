@@ -3,25 +3,25 @@
 #![tactic(auto)]
 
 mod events;
-mod fault;
 mod hardware;
-mod judge;
 mod key;
 mod key_text;
 mod manifest;
+mod manifest_fault;
 mod needs;
 mod params;
 mod platform_name;
 mod read;
 mod stage;
-mod unknown;
+mod typed_value;
+mod unknown_key;
 mod work;
 
-pub use fault::{ManifestError, ManifestFault};
 pub use key::{Key, NeedKey};
 pub use key_text::KeyText;
 pub use manifest::Manifest;
+pub use manifest_fault::{ManifestError, ManifestFault};
 pub use needs::Needs;
 pub use platform_name::PlatformName;
 pub use read::{MOST_BYTES, read_manifest, read_strict_manifest};
-pub use unknown::{KeyTable, UnknownKey};
+pub use unknown_key::{KeyTable, UnknownKey};

@@ -60,7 +60,7 @@ impl Manifest {
         ensures events { All IsEvent self.now.events }
         ensures distinct { first_duplicate self.now.events ≡ None }
     {
-        let params = self.params.copied(alloc)?;
+        let params = self.params.try_clone(alloc)?;
         let mut events = Events::new(alloc);
         for event in self.events.as_slice() {
             events.push(event.clone()?)?;

@@ -3,10 +3,10 @@ ghost use Rattle.std.specs.Prelude.{◌≡◌};
 ghost use Rattle.toml.specs.View.{view};
 ghost use Rattle.manifest.specs.Groups.{params_keys};
 ghost use Rattle.manifest.specs.Faults.{first_fault};
-ghost use Rattle.manifest.specs.Judged.{IsRead};
+ghost use Rattle.manifest.specs.KeyReaders.{IsRead};
 ghost use Rattle.manifest.specs.Meaning.{params_of};
 
-use crate::judge::{count, item, whole};
+use crate::typed_value::{count, item, whole};
 use crate::{Key, ManifestError};
 use det_values::Params;
 use std::alloc::Global;

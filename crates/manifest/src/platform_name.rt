@@ -44,7 +44,7 @@ fn is_name(bytes: &[u8]) -> bool
 
 impl PlatformName {
     /// These bytes as a name. None if they aren't one.
-    pub fn of(bytes: &[u8]) -> Option<PlatformName>
+    pub fn from_bytes(bytes: &[u8]) -> Option<PlatformName>
         ensures some { IfSome result (λ name. (is_platform_name bytes.now ≡ true)
             × (name ≡ bytes.now)) }
         ensures none { IfNone result (is_platform_name bytes.now ≡ false) }
@@ -53,7 +53,7 @@ impl PlatformName {
             return None;
         }
         Some(PlatformName {
-            bytes: Bytes64::of(bytes),
+            bytes: Bytes64::from_slice(bytes),
         })
     }
 

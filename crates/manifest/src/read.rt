@@ -3,7 +3,7 @@ ghost use Rattle.std.specs.Prelude.{◌≡◌, true, false, Ok, Err, Some, None,
 ghost use Rattle.toml.specs.View.{view};
 ghost use Rattle.manifest.specs.declared.key.Key.{Key};
 ghost use Rattle.manifest.specs.Keys.{found};
-ghost use Rattle.manifest.specs.Judged.{IsParsed, IsDocument, Agrees};
+ghost use Rattle.manifest.specs.KeyReaders.{IsParsed, IsDocument, Agrees};
 ghost use Rattle.manifest.specs.Tree.{count_of};
 ghost use Rattle.manifest.specs.Meaning.{manifest_of, manifest_in, document_of, IfFault};
 ghost use Rattle.manifest.specs.Meaning.{unknown_fault};
@@ -11,7 +11,7 @@ ghost use Rattle.manifest.specs.Meaning.{unknown_fault};
 use crate::events::{duplicate_event, read_events};
 use crate::hardware::Hardware;
 use crate::params::read_params;
-use crate::unknown::first_unknown;
+use crate::unknown_key::first_unknown;
 use crate::work::Work;
 use crate::{Manifest, ManifestError, ManifestFault};
 use std::alloc::Global;

@@ -6,11 +6,11 @@ ghost use Rattle.manifest.specs.Limits.{IsNeeds};
 ghost use Rattle.manifest.specs.Tree.{number_of};
 ghost use Rattle.manifest.specs.Keys.{needs_keys, found, has};
 ghost use Rattle.manifest.specs.Faults.{first_fault, fault_at};
-ghost use Rattle.manifest.specs.Judged.{seen, section_key, need_key, need_least};
-ghost use Rattle.manifest.specs.Judged.{need_most, IsJudged};
+ghost use Rattle.manifest.specs.KeyReaders.{seen, section_key, need_key, need_least};
+ghost use Rattle.manifest.specs.KeyReaders.{need_most, IsJudged};
 ghost use Rattle.manifest.specs.Meaning.{needs_of};
 
-use crate::judge::{member, number, section};
+use crate::typed_value::{member, number, section};
 use crate::{Key, ManifestFault, NeedKey, Needs};
 use toml::Value;
 

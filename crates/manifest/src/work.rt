@@ -4,10 +4,10 @@ ghost use Rattle.det_values.specs.Limits.{IsCycleTime};
 ghost use Rattle.toml.specs.View.{view};
 ghost use Rattle.manifest.specs.Limits.{IsWorkers};
 ghost use Rattle.manifest.specs.Faults.{first_fault};
-ghost use Rattle.manifest.specs.Judged.{IsJudged};
+ghost use Rattle.manifest.specs.KeyReaders.{IsJudged};
 ghost use Rattle.manifest.specs.Groups.{first_keys, work_in};
 
-use crate::judge::{needed_text, number};
+use crate::typed_value::{needed_text, number};
 use crate::{Key, ManifestFault};
 use det_values::JobKind;
 use toml::Value;
@@ -33,7 +33,7 @@ impl Work {
         let cycle_time = number(time, Key::CycleTime, 1, i64::MAX as u64)?;
         let workers = number(tree.get("workers"), Key::Workers, 1, 64)?;
         Ok(Work {
-            kind: JobKind::of_name(job),
+            kind: JobKind::from_name(job),
             cycle_time,
             workers: workers as u32,
         })

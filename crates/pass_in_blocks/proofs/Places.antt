@@ -4,12 +4,12 @@ use mathlib.Core.Logic.{dite}
 use native.Mathlib.Decide.{ℕ_discrete}
 use Rattle.std.proofs.lemmas.List.{get_or-set_same, get_or-set_other}
 use Rattle.det_values.specs.declared.frames.DrawnElement.{DrawnElement}
-use Rattle.job.specs.Pass.{Passed, Refusal}
-use Rattle.pass_in_blocks.specs.declared.answers.BlockAnswer.{BlockAnswer}
+use Rattle.job.specs.Pass.{PassResult, Refusal}
+use Rattle.pass_in_blocks.specs.declared.block_answer.BlockAnswer.{BlockAnswer}
 use Rattle.pass_in_blocks.specs.Steps.{IsPlace, ArePlaces}
 
 -- one place has another content
-module _ {E P : Type 0} (block : ℕ → Result (Passed E P) Refusal) (shown : ℕ → List DrawnElement)
+module _ {E P : Type 0} (block : ℕ → Result (PassResult E P) Refusal) (shown : ℕ → List DrawnElement)
     (places : List (Option (BlockAnswer E P))) (b : ℕ) where
   pub placed : ArePlaces block shown places → b < length places → (x : Option (BlockAnswer E P)) → IsPlace block shown b x
       → ArePlaces block shown (slice_set places b x)

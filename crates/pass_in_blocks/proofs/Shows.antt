@@ -10,11 +10,11 @@ use Rattle.std.proofs.lemmas.List.Elements.{All-take, All-drop}
 use Rattle.det_values.specs.declared.frames.DrawnElement.{DrawnElement}
 use Rattle.job.specs.Meaning.{Meaning}
 use Rattle.job.specs.Laws.{JobLaws}
-use Rattle.job.specs.Pass.{Passed, block_size, in_block}
+use Rattle.job.specs.Pass.{PassResult, block_size, in_block}
 use Rattle.job.specs.Cycle.{added, shown_with}
 use Rattle.job.specs.Passes.{PassValue, IsReady, block_in, drawn_so_far}
 use Rattle.job.proofs.Sizes.{next_begins, some, few}
-use Rattle.pass_in_blocks.specs.Showing.{AreSpelled, shown_before, shown_by, shown_in, frame_before}
+use Rattle.pass_in_blocks.specs.ShownElements.{AreSpelled, shown_before, shown_by, shown_in, frame_before}
 use Rattle.pass_in_blocks.specs.Steps.{none_in, first_in}
 use Rattle.pass_in_blocks.proofs.Adding.{added-append, length-added, same_takes}
 use Rattle.pass_in_blocks.proofs.Sound.{block_holds, block_length, first_hold, Sums}
@@ -101,7 +101,7 @@ module _ {S G E L P : Type 0} {m : Meaning S G E L P} {Covers : S → P → ℕ 
   w = block_size (length t.elements)
 
   -- the elements that the blocks before b show, and block b
-  module _ (b : ℕ) (inside : block_size (length t.elements) * b < length t.elements) (e : Passed E P) (came : block_in m t b ≡ Ok e) where
+  module _ (b : ℕ) (inside : block_size (length t.elements) * b < length t.elements) (e : PassResult E P) (came : block_in m t b ≡ Ok e) where
     holds : Sums Covers Own t.job (length (in_block (length t.elements) b t.elements)) e
     holds = block_holds laws t ready b e came
 
@@ -135,10 +135,10 @@ module _ {S G E L P : Type 0} {m : Meaning S G E L P} {Covers : S → P → ℕ 
       earlier_few = let Few : ℕ → Type 0 = λ n. n ≤ 458745 in
           All-take Few w (drop (w * b) xs) (All-drop Few (w * b) xs ready.few_earlier)
 
-      pub shows_sums : (sums old new : List ℕ) → sums ≡ added (in_block (length t.elements) b t.earlier) e.draws
-          → AreSpelled (shown_with m t.job e.elements sums) old new → AreSpelled (shown_by m t b (block_in m t b)) old new
-      shows_sums sums old new is spelled =
-          let so_far : sums ≡ drawn_so_far (take w (drop (w * b) xs)) e.draws = is ∙ sym (as_added _ e.draws earlier_level) in
+      pub shows_sums : (draw_sums old new : List ℕ) → draw_sums ≡ added (in_block (length t.elements) b t.earlier) e.draws
+          → AreSpelled (shown_with m t.job e.elements draw_sums) old new → AreSpelled (shown_by m t b (block_in m t b)) old new
+      shows_sums draw_sums old new is spelled =
+          let so_far : draw_sums ≡ drawn_so_far (take w (drop (w * b) xs)) e.draws = is ∙ sym (as_added _ e.draws earlier_level) in
           subst (λ r. AreSpelled (shown_by m t b r) old new) (sym came)
           (subst (λ (ds : List ℕ). AreSpelled (shown_with m job e.elements ds) old new) so_far spelled)
 
@@ -151,7 +151,7 @@ module _ {S G E L P : Type 0} {m : Meaning S G E L P} {Covers : S → P → ℕ 
         spelled)
 
     -- after the elements before it
-    module _ (d : Passed E P) (is : first_in m t (block_size (length t.elements) * b) ≡ Ok d) where
+    module _ (d : PassResult E P) (is : first_in m t (block_size (length t.elements) * b) ≡ Ok d) where
       before_holds : Sums Covers Own t.job (w * b) d
       before_holds = first_hold laws t ready 0 (w * b) es d ready.own (omega arith) ready.few is
 
@@ -193,7 +193,7 @@ module _ {S G E L P : Type 0} {m : Meaning S G E L P} {Covers : S → P → ℕ 
           ]
 
   -- before all elements
-  pub frame_none : (d : Passed E P) → d ≡ none_in m t
+  pub frame_none : (d : PassResult E P) → d ≡ none_in m t
       → frame_before m t (block_size (length t.elements) * 0) d.elements d.draws ≡ []
   frame_none d is = (λ i. frame_before m t (none_before i) (is i).elements (is i).draws)
       ∙ (elim t.shows as (λ s. (if s then shown_before m t 0 [] [] else []) ≡ []) [ true ↦ refl | false ↦ refl ])
@@ -202,7 +202,7 @@ module _ {S G E L P : Type 0} {m : Meaning S G E L P} {Covers : S → P → ℕ 
       none_before = omega arith
 
   -- all elements, which are before number n
-  module _ (d : Passed E P) (n : ℕ) (enough : length t.elements ≤ n) where
+  module _ (d : PassResult E P) (n : ℕ) (enough : length t.elements ≤ n) where
     all_earlier : take n t.earlier ≡ t.earlier
     all_earlier = elim ready.level as (λ l. take n t.earlier ≡ t.earlier) [
       | inl none ↦ take_all n t.earlier (omega (arith, ap length none))

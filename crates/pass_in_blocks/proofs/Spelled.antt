@@ -9,7 +9,7 @@ use Rattle.det_values.specs.Spelling.{an_element, spelled_drawn, spelled_all, Is
 use Rattle.det_values.specs.declared.frames.DrawnElement.{DrawnElement}
 use Rattle.job.specs.Meaning.{Meaning}
 use Rattle.job.specs.Cycle.{shown_with}
-use Rattle.pass_in_blocks.specs.Showing.{AreSpelled}
+use Rattle.pass_in_blocks.specs.ShownElements.{AreSpelled}
 
 module _ {S G E L P : Type 0} (m : Meaning S G E L P) (j : S) where
   -- the bytes of the elements with their draws were added

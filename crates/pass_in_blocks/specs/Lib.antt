@@ -1,3 +1,3 @@
-pub mod Answers
-pub mod Showing
+pub mod BlockAnswers
+pub mod ShownElements
 pub mod Steps

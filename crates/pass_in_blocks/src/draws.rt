@@ -14,17 +14,17 @@ pub(crate) fn block_sums(
     requires equal { length left.now ≡ length right.now }
     requires left { All (λ n. n ≤ 458745) left.now }
     requires right { All (λ n. n ≤ 65535) right.now }
-    ensures { IfOk result (λ sums. sums.items ≡ added left.now right.now) }
+    ensures { IfOk result (λ draw_sums. draw_sums.items ≡ added left.now right.now) }
 {
-    let mut sums = spares.block()?;
+    let mut draw_sums = spares.block()?;
     for i in 0..left.len() {
-        sums.push(left[i] + right[i]).map_err(|_| OutOfMemory)?;
+        draw_sums.push(left[i] + right[i]).map_err(|_| OutOfMemory)?;
     }
-    Ok(sums)
+    Ok(draw_sums)
 }
 
 /// The sums of two lists, number by number, in spare memory.
-pub fn sums(
+pub fn draw_sums(
     left: &Container<u32>,
     right: &Container<u32>,
     spares: &mut Spares<u32>,
@@ -32,12 +32,12 @@ pub fn sums(
     requires equal { length left.now ≡ length right.now }
     requires left { All (λ n. n ≤ 458745) left.now }
     requires right { All (λ n. n ≤ 65535) right.now }
-    ensures { IfOk result (λ sums. sums ≡ added left.now right.now) }
+    ensures { IfOk result (λ draw_sums. draw_sums ≡ added left.now right.now) }
 {
-    let mut sums = spares.container(left.len())?;
+    let mut draw_sums = spares.container(left.len())?;
     for b in 0..left.blocks() {
         let block = block_sums(left.block(b), right.block(b), spares)?;
-        sums.push_block(block, spares)?;
+        draw_sums.push_block(block, spares)?;
     }
-    Ok(sums)
+    Ok(draw_sums)
 }

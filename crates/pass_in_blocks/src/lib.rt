@@ -6,15 +6,15 @@
 //! the others itself. Neither depends on threads.
 #![tactic(auto)]
 
-mod answers;
-mod block;
+mod block_answer;
+mod block_run;
 mod draws;
-mod finish;
-mod in_order;
-mod showing;
+mod pass_end;
+mod serial_pool;
+mod show_block;
 
-pub use answers::{BlockAnswer, BlockDone, BlockResult, BlockResults};
-pub use block::run_block;
-pub use draws::sums;
-pub use finish::finish_pass;
-pub use in_order::InOrder;
+pub use block_answer::{BlockAnswer, BlockDone, BlockResult, BlockResults};
+pub use block_run::run_block;
+pub use draws::draw_sums;
+pub use pass_end::finish_pass;
+pub use serial_pool::SerialPool;

@@ -10,8 +10,8 @@ use Rattle.std.specs.List.{remove, flat_map}
 use Rattle.std.specs.Prelude.{Option, Some, None, Bool, true, false, if◌then◌else◌}
 use Rattle.std.specs.Option.{option_map}
 use Rattle.det_values.specs.declared.frames.RunFrame.{RunFrame}
-use Rattle.probes.specs.declared.probe.Wish.TheVariants.{Stay, Leave}
-use Rattle.probes.specs.Reports.{ProbeLife, leaves, Sees, Report, told_after, bytes_at, bytes_last, in_turn, joined}
+use Rattle.probes.specs.declared.probe.ProbeStep.TheVariants.{Stay, Leave}
+use Rattle.probes.specs.Reports.{ProbeLife, leaves, Sees, Report, report_of, bytes_at, bytes_last, in_turn, joined}
 use Rattle.probes.specs.Reports.{reports}
 use Rattle.probes.proofs.Partly.{later, partly}
 
@@ -23,18 +23,18 @@ map-append f (x ∷ xs) ys = ap (λ rest. f x ∷ rest) (map-append f xs ys)
 abbrev leaving : ℕ → List Report → List ℕ
 leaving k rs = flat_map (bytes_at k) rs
 
-abbrev staying : List Report → List ℕ
-staying rs = flat_map bytes_last rs
+abbrev remaining : List Report → List ℕ
+remaining rs = flat_map bytes_last rs
 
 leaving-append : (k : ℕ) (xs ys : List Report) → leaving k (xs ++ ys) ≡ leaving k xs ++ leaving k ys
 leaving-append k [] ys = refl
 leaving-append k (x ∷ xs) ys = ap (λ rest. bytes_at k x ++ rest) (leaving-append k xs ys)
     ∙ sym (append_assoc (bytes_at k x) (leaving k xs) (leaving k ys))
 
-staying-append : (xs ys : List Report) → staying (xs ++ ys) ≡ staying xs ++ staying ys
-staying-append [] ys = refl
-staying-append (x ∷ xs) ys = ap (λ rest. bytes_last x ++ rest) (staying-append xs ys)
-    ∙ sym (append_assoc (bytes_last x) (staying xs) (staying ys))
+remaining-append : (xs ys : List Report) → remaining (xs ++ ys) ≡ remaining xs ++ remaining ys
+remaining-append [] ys = refl
+remaining-append (x ∷ xs) ys = ap (λ rest. bytes_last x ++ rest) (remaining-append xs ys)
+    ∙ sym (append_assoc (bytes_last x) (remaining xs) (remaining ys))
 
 -- one that leaves at the first run, among others
 gone : List ℕ → Report
@@ -72,9 +72,9 @@ later_leaving k [] = refl
 later_leaving k (r ∷ rs) = ap (λ xs. xs ++ leaving (k + 1) (map later rs)) (later-at k r.bytes r.before)
     ∙ ap (λ xs. bytes_at k r ++ xs) (later_leaving k rs)
 
-later_staying : (rs : List Report) → staying (map later rs) ≡ staying rs
+later_staying : (rs : List Report) → remaining (map later rs) ≡ remaining rs
 later_staying [] = refl
-later_staying (r ∷ rs) = ap (λ xs. xs ++ staying (map later rs)) (later-last r.bytes r.before)
+later_staying (r ∷ rs) = ap (λ xs. xs ++ remaining (map later rs)) (later-last r.bytes r.before)
     ∙ ap (λ xs. bytes_last r ++ xs) (later_staying rs)
 
 later_in_turn : (k : ℕ) (runs : List RunFrame) (rs : List Report) → in_turn (k + 1) runs (map later rs) ≡ in_turn k runs rs
@@ -105,8 +105,8 @@ gone_joined run runs xs ys bytes =
     ∙ ap (λ rest. bytes ++ rest) (ap (λ rest. rest ++ leaving 0 ys) (sym (later_never xs)) ∙ sym (leaving-append 0 (map later xs) ys)) in
     let others : in_turn (0 + 1) runs (map later xs ++ gone bytes ∷ ys) ≡ in_turn (0 + 1) runs (map later xs ++ ys) =
     gone_in_turn 0 runs (map later xs) ys bytes in
-    let last : staying (map later xs ++ gone bytes ∷ ys) ≡ staying (map later xs ++ ys) =
-    staying-append (map later xs) (gone bytes ∷ ys) ∙ sym (staying-append (map later xs) ys) in
+    let last : remaining (map later xs ++ gone bytes ∷ ys) ≡ remaining (map later xs ++ ys) =
+    remaining-append (map later xs) (gone bytes ∷ ys) ∙ sym (remaining-append (map later xs) ys) in
     rw (first, others, last) (simp append_assoc)
 
 all_later : (run : RunFrame) (runs : List RunFrame) (xs : List Report) → joined (run ∷ runs) (map later xs ++ []) ≡ joined runs xs
@@ -147,17 +147,17 @@ partly_stay run runs at ps d p lt sees =
     let back : drop (at + 1) (set ps at p) ≡ drop (at + 1) ps = drop-set-lt (at + 1) ps at p (omega arith) in
     let old : drop at ps ≡ get_or ps at d ∷ drop (at + 1) ps = drop-cons ps at d lt
     ∙ ap (λ n. get_or ps at d ∷ drop n ps) (let e : suc at ≡ at + 1 = omega arith in e) in
-    let one : later (told_after runs p) ≡ told_after (run ∷ runs) (get_or ps at d) =
+    let one : later (report_of runs p) ≡ report_of (run ∷ runs) (get_or ps at d) =
     report-is _ _ (sym (sees runs).0) (sym (same_before _ _ (sees runs).1)) in
-    ap (λ xs. map later (map (told_after runs) xs) ++ map (told_after (run ∷ runs)) (drop (at + 1) (set ps at p))) front
-    ∙ ap (λ xs. map later (map (told_after runs) (take at ps ++ p ∷ [])) ++ map (told_after (run ∷ runs)) xs) back
-    ∙ ap (λ xs. map later xs ++ map (told_after (run ∷ runs)) (drop (at + 1) ps)) (map-append (told_after runs) (take at ps) (p ∷ []))
-    ∙ ap (λ xs. xs ++ map (told_after (run ∷ runs)) (drop (at + 1) ps))
-    (map-append later (map (told_after runs) (take at ps)) (told_after runs p ∷ []))
-    ∙ append_assoc (map later (map (told_after runs) (take at ps))) (later (told_after runs p) ∷ [])
-    (map (told_after (run ∷ runs)) (drop (at + 1) ps))
-    ∙ ap (λ x. map later (map (told_after runs) (take at ps)) ++ x ∷ map (told_after (run ∷ runs)) (drop (at + 1) ps)) one
-    ∙ ap (λ xs. map later (map (told_after runs) (take at ps)) ++ map (told_after (run ∷ runs)) xs) (sym old)
+    ap (λ xs. map later (map (report_of runs) xs) ++ map (report_of (run ∷ runs)) (drop (at + 1) (set ps at p))) front
+    ∙ ap (λ xs. map later (map (report_of runs) (take at ps ++ p ∷ [])) ++ map (report_of (run ∷ runs)) xs) back
+    ∙ ap (λ xs. map later xs ++ map (report_of (run ∷ runs)) (drop (at + 1) ps)) (map-append (report_of runs) (take at ps) (p ∷ []))
+    ∙ ap (λ xs. xs ++ map (report_of (run ∷ runs)) (drop (at + 1) ps))
+    (map-append later (map (report_of runs) (take at ps)) (report_of runs p ∷ []))
+    ∙ append_assoc (map later (map (report_of runs) (take at ps))) (later (report_of runs p) ∷ [])
+    (map (report_of (run ∷ runs)) (drop (at + 1) ps))
+    ∙ ap (λ x. map later (map (report_of runs) (take at ps)) ++ x ∷ map (report_of (run ∷ runs)) (drop (at + 1) ps)) one
+    ∙ ap (λ xs. map later (map (report_of runs) (take at ps)) ++ map (report_of (run ∷ runs)) xs) (sym old)
 
 pub remove-set : (at : ℕ) (ps : List ProbeLife) (p : ProbeLife) → remove (set ps at p) at ≡ take at ps ++ drop (at + 1) ps
 remove-set at ps p =
@@ -175,29 +175,29 @@ unfolding partly gone
 partly_leave run runs at ps d p lt sees =
     let old : drop at ps ≡ get_or ps at d ∷ drop (at + 1) ps = drop-cons ps at d lt
     ∙ ap (λ n. get_or ps at d ∷ drop n ps) (let e : suc at ≡ at + 1 = omega arith in e) in
-    let one : told_after (run ∷ runs) (get_or ps at d) ≡ gone (p.report_after []) =
+    let one : report_of (run ∷ runs) (get_or ps at d) ≡ gone (p.report_after []) =
     report-is _ _ (sees runs).0 (none_before _ (sees runs).1) in
     let front : take at (remove (set ps at p) at) ≡ take at ps = ap (take at) (remove-set at ps p)
     ∙ take_at (take at ps) (drop (at + 1) ps) at (length-front at ps lt) in
     let back : drop at (remove (set ps at p) at) ≡ drop (at + 1) ps = ap (drop at) (remove-set at ps p)
     ∙ drop_at (take at ps) (drop (at + 1) ps) at (length-front at ps lt) in
-    ap (λ xs. joined (run ∷ runs) (map later (map (told_after runs) (take at ps)) ++ map (told_after (run ∷ runs)) xs)) old
-    ∙ ap (λ x. joined (run ∷ runs) (map later (map (told_after runs) (take at ps)) ++ x ∷ map (told_after (run ∷ runs)) (drop (at + 1) ps)))
+    ap (λ xs. joined (run ∷ runs) (map later (map (report_of runs) (take at ps)) ++ map (report_of (run ∷ runs)) xs)) old
+    ∙ ap (λ x. joined (run ∷ runs) (map later (map (report_of runs) (take at ps)) ++ x ∷ map (report_of (run ∷ runs)) (drop (at + 1) ps)))
     one
-    ∙ gone_joined run runs (map (told_after runs) (take at ps)) (map (told_after (run ∷ runs)) (drop (at + 1) ps)) (p.report_after [])
+    ∙ gone_joined run runs (map (report_of runs) (take at ps)) (map (report_of (run ∷ runs)) (drop (at + 1) ps)) (p.report_after [])
     ∙ ap (λ xs. p.report_after []
-    ++ joined (run ∷ runs) (map later (map (told_after runs) xs) ++ map (told_after (run ∷ runs)) (drop (at + 1) ps))) (sym front)
+    ++ joined (run ∷ runs) (map later (map (report_of runs) xs) ++ map (report_of (run ∷ runs)) (drop (at + 1) ps))) (sym front)
     ∙ ap (λ xs. p.report_after []
-    ++ joined (run ∷ runs) (map later (map (told_after runs) (take at (remove (set ps at p) at))) ++ map (told_after (run ∷ runs)) xs))
+    ++ joined (run ∷ runs) (map later (map (report_of runs) (take at (remove (set ps at p) at))) ++ map (report_of (run ∷ runs)) xs))
     (sym back)
 
 pub partly_all : (run : RunFrame) (runs : List RunFrame) (at : ℕ) (ps : List ProbeLife) → length ps ≤ at
     → joined (run ∷ runs) (partly run runs at ps) ≡ reports ps runs
 unfolding partly reports
 partly_all run runs at ps h =
-    ap (λ xs. joined (run ∷ runs) (map later (map (told_after runs) (take at ps)) ++ map (told_after (run ∷ runs)) xs)) (drop_all at ps h)
-    ∙ all_later run runs (map (told_after runs) (take at ps))
-    ∙ ap (λ xs. joined runs (map (told_after runs) xs)) (take_all at ps h)
+    ap (λ xs. joined (run ∷ runs) (map later (map (report_of runs) (take at ps)) ++ map (report_of (run ∷ runs)) xs)) (drop_all at ps h)
+    ∙ all_later run runs (map (report_of runs) (take at ps))
+    ∙ ap (λ xs. joined runs (map (report_of runs) xs)) (take_all at ps h)
 
 pub map-remove : {X : Type 0} (f : X → ProbeLife) (xs : List X) (i : ℕ) → map f (remove xs i) ≡ remove (map f xs) i
 map-remove f xs i = map-append f (take i xs) (drop (suc i) xs) ∙ ap (λ ys. ys ++ map f (drop (suc i) xs)) (sym (take-map f i xs))
@@ -226,27 +226,27 @@ last-by : (bytes : List ℕ) (before : Option ℕ) → before ≡ None → bytes
 last-by bytes (Some n) h = cc
 last-by bytes None h = refl
 
-last-stays : (p : ProbeLife) → leaves p [] ≡ None → bytes_last (told_after [] p) ≡ p.report_after []
+last-stays : (p : ProbeLife) → leaves p [] ≡ None → bytes_last (report_of [] p) ≡ p.report_after []
 last-stays p h = last-by (p.report_after []) (p.runs_before []) (never_before (p.runs_before []) h)
 
-pub one-more-staying : {X : Type 0} (f : X → ProbeLife) (items : List X) (i : ℕ) (d : X) → i < length items
+pub one-more-remaining : {X : Type 0} (f : X → ProbeLife) (items : List X) (i : ℕ) (d : X) → i < length items
     → leaves (f (get_or items i d)) [] ≡ None
     → reports (map f (take (i + 1) items)) [] ≡ reports (map f (take i items)) [] ++ (f (get_or items i d)).report_after []
 unfolding reports in_turn
-one-more-staying f items i d lt here =
-    ap (λ xs. staying (map (told_after []) xs)) (ap (map f) (take_more items i d lt) ∙ map-append f (take i items) (get_or items i d ∷ []))
-    ∙ ap staying (map-append (told_after []) (map f (take i items)) (f (get_or items i d) ∷ []))
-    ∙ staying-append (map (told_after []) (map f (take i items))) (told_after [] (f (get_or items i d)) ∷ [])
-    ∙ ap (λ xs. staying (map (told_after []) (map f (take i items))) ++ xs)
-    (append-nil (bytes_last (told_after [] (f (get_or items i d)))) ∙ last-stays (f (get_or items i d)) here)
+one-more-remaining f items i d lt here =
+    ap (λ xs. remaining (map (report_of []) xs)) (ap (map f) (take_more items i d lt) ∙ map-append f (take i items) (get_or items i d ∷ []))
+    ∙ ap remaining (map-append (report_of []) (map f (take i items)) (f (get_or items i d) ∷ []))
+    ∙ remaining-append (map (report_of []) (map f (take i items))) (report_of [] (f (get_or items i d)) ∷ [])
+    ∙ ap (λ xs. remaining (map (report_of []) (map f (take i items))) ++ xs)
+    (append-nil (bytes_last (report_of [] (f (get_or items i d)))) ∙ last-stays (f (get_or items i d)) here)
 
 pub join-left : (before now report rest : List ℕ) → now ≡ before ++ report → before ++ (report ++ rest) ≡ now ++ rest
 join-left before now report rest e = sym (append_assoc before report rest) ∙ ap (λ xs. xs ++ rest) (sym e)
 
-pub staying-step : {X : Type 0} (f : X → ProbeLife) (items : List X) (i : ℕ) (b : X) (before mid now report : List ℕ) → i < length items
+pub remaining-step : {X : Type 0} (f : X → ProbeLife) (items : List X) (i : ℕ) (b : X) (before mid now report : List ℕ) → i < length items
     → b ≡ get_or items i b → leaves (f b) [] ≡ None → report ≡ (f b).report_after []
     → mid ≡ before ++ reports (map f (take i items)) [] → now ≡ mid ++ report → now ≡ before ++ reports (map f (take (i + 1) items)) []
-staying-step f items i b before mid now report lt read here is done grew =
+remaining-step f items i b before mid now report lt read here is done grew =
     grew ∙ ap (λ xs. xs ++ report) done ∙ append_assoc before (reports (map f (take i items)) []) report
     ∙ ap (λ xs. before ++ (reports (map f (take i items)) [] ++ xs)) (is ∙ ap (λ b. (f b).report_after []) read)
-    ∙ ap (λ xs. before ++ xs) (sym (one-more-staying f items i b lt (subst (λ b. leaves (f b) [] ≡ None) read here)))
+    ∙ ap (λ xs. before ++ xs) (sym (one-more-remaining f items i b lt (subst (λ b. leaves (f b) [] ≡ None) read here)))

@@ -4,7 +4,7 @@ use Rattle.std.specs.Option.{option_map}
 use Rattle.det_values.specs.Values.{RefusedAtValue}
 use Rattle.det_values.specs.declared.frames.RunFrame.{RunFrame}
 use Rattle.det_values.specs.declared.frames.Outcome.TheVariants.{Refused}
-use Rattle.probes.specs.declared.probe.Wish.TheVariants.{Stay, Leave}
+use Rattle.probes.specs.declared.probe.ProbeStep.TheVariants.{Stay, Leave}
 use Rattle.probes.specs.Reports.{leaves, Sees}
 use Rattle.probes.specs.Texts.{refusal_text}
 use Rattle.probes.specs.Shipped.{counted, refusal_of, is_refused, outcome_refused, gap_between, greater, greatest_gap, first_refused}

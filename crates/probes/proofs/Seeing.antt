@@ -8,30 +8,30 @@ use Rattle.std.proofs.Math.ListN.{get_or-map, length-map}
 use Rattle.std.specs.List.{remove}
 use Rattle.std.specs.Prelude.{Result, Ok, Err, OnErr}
 use Rattle.det_values.specs.declared.frames.RunFrame.{RunFrame}
-use Rattle.probes.specs.declared.probe.Wish.TheVariants.{Stay, Leave}
+use Rattle.probes.specs.declared.probe.ProbeStep.TheVariants.{Stay, Leave}
 use Rattle.probes.specs.Reports.{ProbeLife, Sees}
 use Rattle.probes.specs.Shows.{Saw, ShowsPartly}
 use Rattle.probes.proofs.Joining.{remove-set, length-front, map-remove}
 
 -- one more saw it and stayed
-saw-stay : (run : RunFrame) (probes stayed : List ProbeLife) (told : List ℕ) (p q : ProbeLife) → Saw run probes stayed told
+saw-stay : (run : RunFrame) (probes stayed : List ProbeLife) (new_reports : List ℕ) (p q : ProbeLife) → Saw run probes stayed new_reports
     → Sees Stay p q run
-    → Saw run (probes ++ p ∷ []) (stayed ++ q ∷ []) told
-saw-stay run [] stayed told p q (none, nothing) sees = inl (q, [], sees, ap (λ xs. xs ++ q ∷ []) none, (refl, nothing))
-saw-stay run (r ∷ probes) stayed told p q (inl (s, others, first, is, rest)) sees =
-    inl (s, others ++ q ∷ [], first, ap (λ xs. xs ++ q ∷ []) is, saw-stay run probes others told p q rest sees)
-saw-stay run (r ∷ probes) stayed told p q (inr (s, others, first, is, rest)) sees =
+    → Saw run (probes ++ p ∷ []) (stayed ++ q ∷ []) new_reports
+saw-stay run [] stayed new_reports p q (none, nothing) sees = inl (q, [], sees, ap (λ xs. xs ++ q ∷ []) none, (refl, nothing))
+saw-stay run (r ∷ probes) stayed new_reports p q (inl (s, others, first, is, rest)) sees =
+    inl (s, others ++ q ∷ [], first, ap (λ xs. xs ++ q ∷ []) is, saw-stay run probes others new_reports p q rest sees)
+saw-stay run (r ∷ probes) stayed new_reports p q (inr (s, others, first, is, rest)) sees =
     inr (s, others, first, is, saw-stay run probes stayed others p q rest sees)
 
 -- one more saw it and left
-saw-leave : (run : RunFrame) (probes stayed : List ProbeLife) (told : List ℕ) (p q : ProbeLife) → Saw run probes stayed told
+saw-leave : (run : RunFrame) (probes stayed : List ProbeLife) (new_reports : List ℕ) (p q : ProbeLife) → Saw run probes stayed new_reports
     → Sees Leave p q run
-    → Saw run (probes ++ p ∷ []) stayed (told ++ q.report_after [])
-saw-leave run [] stayed told p q (none, nothing) sees =
+    → Saw run (probes ++ p ∷ []) stayed (new_reports ++ q.report_after [])
+saw-leave run [] stayed new_reports p q (none, nothing) sees =
     inr (q, [], sees, ap (λ xs. xs ++ q.report_after []) nothing ∙ sym (append-nil (q.report_after [])), (none, refl))
-saw-leave run (r ∷ probes) stayed told p q (inl (s, others, first, is, rest)) sees =
-    inl (s, others, first, is, saw-leave run probes others told p q rest sees)
-saw-leave run (r ∷ probes) stayed told p q (inr (s, others, first, is, rest)) sees =
+saw-leave run (r ∷ probes) stayed new_reports p q (inl (s, others, first, is, rest)) sees =
+    inl (s, others, first, is, saw-leave run probes others new_reports p q rest sees)
+saw-leave run (r ∷ probes) stayed new_reports p q (inr (s, others, first, is, rest)) sees =
     inr (
       s,
       others ++ q.report_after [],
@@ -44,13 +44,13 @@ saw-leave run (r ∷ probes) stayed told p q (inr (s, others, first, is, rest)) 
 -- The run was shown to the first probes, some of which stayed. The others are as before.
 pub record Seeing (run : RunFrame) (at : ℕ) (first now : List ProbeLife) (before left : List ℕ) : Type 0 where
   pub front : List ProbeLife
-  pub told : List ℕ
-  pub saw : Saw run front (take at now) told
+  pub new_reports : List ℕ
+  pub saw : Saw run front (take at now) new_reports
   pub rest : first ≡ front ++ drop at now
-  pub grew : left ≡ before ++ told
+  pub grew : left ≡ before ++ new_reports
 
 pub seeing-none : (run : RunFrame) (first : List ProbeLife) (left : List ℕ) → Seeing run 0 first first left left
-seeing-none run first left = record { front = []; told = []; saw = (refl, refl); rest = refl; grew = sym (append-nil left) }
+seeing-none run first left = record { front = []; new_reports = []; saw = (refl, refl); rest = refl; grew = sym (append-nil left) }
 
 module _ {X : Type 0} (f : X → ProbeLife) (run : RunFrame) (at : ℕ) (items : List X) (b x : X) (lt : at < length items)
     (read : b ≡ get_or items at b) where
@@ -76,9 +76,9 @@ module _ {X : Type 0} (f : X → ProbeLife) (run : RunFrame) (at : ℕ) (items :
         ∙ drop-set-lt (at + 1) (map f items) at (f x) (omega arith) in
         record {
           front = seeing.front ++ f b ∷ [];
-          told = seeing.told;
-          saw = subst (λ stayed. Saw run (seeing.front ++ f b ∷ []) stayed seeing.told) (sym front)
-              (saw-stay run seeing.front _ seeing.told (f b) (f x) seeing.saw sees);
+          new_reports = seeing.new_reports;
+          saw = subst (λ stayed. Saw run (seeing.front ++ f b ∷ []) stayed seeing.new_reports) (sym front)
+              (saw-stay run seeing.front _ seeing.new_reports (f b) (f x) seeing.saw sees);
           rest = seeing.rest ∙ ap (λ ps. seeing.front ++ ps) (next ∙ ap (λ ps. f b ∷ ps) (sym back))
               ∙ sym (append_assoc seeing.front (f b ∷ []) (drop (at + 1) (map f items')));
           grew = seeing.grew;
@@ -95,12 +95,13 @@ module _ {X : Type 0} (f : X → ProbeLife) (run : RunFrame) (at : ℕ) (items :
         ∙ drop_at (take at (map f items)) (drop (at + 1) (map f items)) at (length-front at (map f items) within) in
         record {
           front = seeing.front ++ f b ∷ [];
-          told = seeing.told ++ (f x).report_after [];
-          saw = subst (λ stayed. Saw run (seeing.front ++ f b ∷ []) stayed (seeing.told ++ (f x).report_after [])) (sym front)
-              (saw-leave run seeing.front _ seeing.told (f b) (f x) seeing.saw sees);
+          new_reports = seeing.new_reports ++ (f x).report_after [];
+          saw = subst (λ stayed. Saw run (seeing.front ++ f b ∷ []) stayed (seeing.new_reports ++ (f x).report_after [])) (sym front)
+              (saw-leave run seeing.front _ seeing.new_reports (f b) (f x) seeing.saw sees);
           rest = seeing.rest ∙ ap (λ ps. seeing.front ++ ps) (next ∙ ap (λ ps. f b ∷ ps) (sym back))
               ∙ sym (append_assoc seeing.front (f b ∷ []) (drop at (map f items')));
-          grew = reported ∙ ap (λ xs. xs ++ (f x).report_after []) seeing.grew ∙ append_assoc before seeing.told ((f x).report_after []);
+          grew = reported ∙ ap (λ xs. xs ++ (f x).report_after []) seeing.grew ∙ append_assoc before seeing.new_reports ((f x).report_after
+              []);
         }
 
     lost : (items' : List X) (now : List ℕ) → items' ≡ remove (set items at x) at → Sees Leave (f b) (f x) run → now ≡ left
@@ -111,7 +112,7 @@ module _ {X : Type 0} (f : X → ProbeLife) (run : RunFrame) (at : ℕ) (items :
       gone = f x;
       behind = drop (at + 1) (map f items);
       stayed = take at (map f items);
-      told = seeing.told;
+      new_reports = seeing.new_reports;
       all = seeing.rest ∙ ap (λ ps. seeing.front ++ ps) next;
       saw = seeing.saw;
       leaves = sees;

@@ -3,8 +3,8 @@ use Rattle.std.specs.Prelude.{◌≡◌, ℕ, ◌+◌, List, [], ◌∷◌, ◌+
 use Rattle.std.specs.Prelude.{if◌then◌else◌, flat_map}
 use Rattle.std.specs.Option.{option_map}
 use Rattle.det_values.specs.declared.frames.RunFrame.{RunFrame}
-use Rattle.probes.specs.declared.probe.Wish.{Wish}
-use Rattle.probes.specs.declared.probe.Wish.TheVariants.{Stay, Leave}
+use Rattle.probes.specs.declared.probe.ProbeStep.{ProbeStep}
+use Rattle.probes.specs.declared.probe.ProbeStep.TheVariants.{Stay, Leave}
 
 -- What a probe reports once it has seen these runs, up to the one at which it leaves. Then, how
 -- many of them come before that one, or none if it stays.
@@ -17,7 +17,7 @@ abbrev pub leaves : ProbeLife → List RunFrame → Option ℕ
 leaves p runs = option_map (λ n. n + 1) (p.runs_before runs)
 
 -- a probe saw a run: what it does at later ones, it would have done at this one and them before
-abbrev pub Sees : Wish → ProbeLife → ProbeLife → RunFrame → Type 0
+abbrev pub Sees : ProbeStep → ProbeLife → ProbeLife → RunFrame → Type 0
 Sees Stay old new run =
     (runs : List RunFrame) → (old.report_after (run ∷ runs) ≡ new.report_after runs)
     × (leaves old (run ∷ runs) ≡ option_map (λ n. n + 1) (leaves new runs))
@@ -30,8 +30,8 @@ pub record Report : Type 0 where
   pub bytes : List ℕ
   pub before : Option ℕ
 
-abbrev pub told_after : List RunFrame → ProbeLife → Report
-told_after runs p = record { bytes = p.report_after runs; before = p.runs_before runs }
+abbrev pub report_of : List RunFrame → ProbeLife → Report
+report_of runs p = record { bytes = p.report_after runs; before = p.runs_before runs }
 
 -- the report, if it comes after k runs and the next one
 abbrev pub bytes_at : ℕ → Report → List ℕ
@@ -53,7 +53,7 @@ joined runs rs = in_turn 0 runs rs ++ flat_map bytes_last rs
 
 -- all that probes report on these runs
 unfoldable pub reports : List ProbeLife → List RunFrame → List ℕ
-reports probes runs = joined runs (map (told_after runs) probes)
+reports probes runs = joined runs (map (report_of runs) probes)
 
 -- probes, and the reports of those that have left
 pub record AudienceState : Type 0 where

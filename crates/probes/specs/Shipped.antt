@@ -69,18 +69,18 @@ gap_life last gap =
 
 -- how many runs a probe sees before the one at which it leaves, if it leaves at run number `most`
 -- and saw `seen`
-abbrev pub still : ℕ → ℕ → ℕ
-still most seen = most - (seen + 1)
+abbrev pub runs_left : ℕ → ℕ → ℕ
+runs_left most seen = most - (seen + 1)
 
 -- leaves at run number `most`, and reports how many runs it saw and how many of them were refused,
 -- after these numbers of both
 abbrev pub limit_life : ℕ → ℕ → ℕ → ProbeLife
 limit_life most seen refused = record {
   report_after = λ runs.
-      limit_text (counted (seen + length (take (still most seen + 1) runs)))
-      (counted (refused + count_by is_refused (take (still most seen + 1) runs)));
+      limit_text (counted (seen + length (take (runs_left most seen + 1) runs)))
+      (counted (refused + count_by is_refused (take (runs_left most seen + 1) runs)));
   runs_before =
-      λ runs. if nat_lt (still most seen) (length runs) then Some (still most seen) else None;
+      λ runs. if nat_lt (runs_left most seen) (length runs) then Some (runs_left most seen) else None;
 }
 
 -- how many runs come before the first refused one

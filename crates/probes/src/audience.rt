@@ -3,7 +3,7 @@ ghost use Rattle.std.specs.Prelude.{◌≤◌, ◌+◌, ◌*◌, length};
 ghost use Rattle.std.specs.Vec.{vec_len};
 
 use crate::probe::Probe;
-use crate::showing::{finish_all, show_all};
+use crate::probe_list::{finish_all, show_all};
 use det_values::{Bytes, OutOfMemory, RunFrame};
 use std::alloc::Global;
 
@@ -13,9 +13,9 @@ use std::alloc::Global;
 /// a function, which the value of a model may not hold.
 #[derive(Drop)]
 pub struct Audience {
-    staying: Vec<Box<dyn Probe>>,
+    remaining: Vec<Box<dyn Probe>>,
     left: Bytes,
-    ghost room: { length left + 256 * vec_len staying ≤ 1048576 },
+    ghost room: { length left + 256 * vec_len remaining ≤ 1048576 },
 }
 
 impl Audience {
@@ -25,13 +25,13 @@ impl Audience {
     ghost use Rattle.probes.specs.Shows.{Shows, ShowsPartly, seen};
 
     /// An audience of these probes, in this order.
-    pub fn of(alloc: Global, probes: Vec<Box<dyn Probe>>) -> Audience
+    pub fn new(alloc: Global, probes: Vec<Box<dyn Probe>>) -> Audience
         requires { vec_len probes ≤ 1024 }
         ensures { seen (λ b. life b) result
             ≡ record { seeing = map (λ b. life b) probes.items; left = [] } }
     {
         Audience {
-            staying: probes,
+            remaining: probes,
             left: Bytes::new(alloc),
         }
     }
@@ -45,7 +45,7 @@ impl Audience {
         ensures partly { OnErr result
             (ShowsPartly (seen (λ b. life b) self.old) (seen (λ b. life b) self.new) run.now) }
     {
-        show_all(alloc, &mut self.staying, &mut self.left, run)
+        show_all(alloc, &mut self.remaining, &mut self.left, run)
     }
 
     /// Appends the reports of all probes that are left, in order, and drops the probes. After an
@@ -55,14 +55,14 @@ impl Audience {
             ≡ reported (seen (λ b. life b) self.old) []) }
         ensures none { (seen (λ b. life b) self.new).seeing ≡ [] }
     {
-        finish_all(alloc, &mut self.staying, &mut self.left)
+        finish_all(alloc, &mut self.remaining, &mut self.left)
     }
 
     /// The number of probes that haven't left.
-    pub fn staying(&self) -> usize
+    pub fn remaining(&self) -> usize
         ensures { result ≡ length (seen (λ b. life b) self.now).seeing }
     {
-        self.staying.len()
+        self.remaining.len()
     }
 
     /// The reports so far, one after another.

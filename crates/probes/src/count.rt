@@ -2,8 +2,8 @@
 ghost use Rattle.std.specs.Prelude.{◌≡◌};
 ghost use Rattle.probes.specs.Shipped.{count_life};
 
-use crate::probe::{Probe, Wish};
-use crate::texts::count_line;
+use crate::probe::{Probe, ProbeStep};
+use crate::report_lines::count_line;
 use det_values::{Bytes, OutOfMemory, Outcome, RunFrame};
 use std::alloc::Global;
 
@@ -29,12 +29,12 @@ impl CountProbe {
 impl Probe for CountProbe {
     ghost life = { λ p. count_life p.finished p.refused };
 
-    fn see(&mut self, run: &RunFrame) -> Wish {
+    fn see(&mut self, run: &RunFrame) -> ProbeStep {
         match &run.outcome {
             Outcome::Finished { .. } => self.finished = self.finished.saturating_add(1),
             Outcome::Refused(_) => self.refused = self.refused.saturating_add(1),
         }
-        Wish::Stay
+        ProbeStep::Stay
     }
 
     fn report(&self, alloc: Global) -> Result<Bytes, OutOfMemory> {

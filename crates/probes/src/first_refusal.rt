@@ -2,8 +2,8 @@
 ghost use Rattle.std.specs.Prelude.{◌≡◌, None};
 ghost use Rattle.probes.specs.Shipped.{refusal_life};
 
-use crate::probe::{Probe, Wish};
-use crate::texts::refusal_line;
+use crate::probe::{Probe, ProbeStep};
+use crate::report_lines::refusal_line;
 use det_values::{Bytes, OutOfMemory, Outcome, RefusedAt, RunFrame};
 use std::alloc::Global;
 
@@ -26,14 +26,14 @@ impl FirstRefusalProbe {
 impl Probe for FirstRefusalProbe {
     ghost life = { λ p. refusal_life p.seen p.at };
 
-    fn see(&mut self, run: &RunFrame) -> Wish {
+    fn see(&mut self, run: &RunFrame) -> ProbeStep {
         self.seen = self.seen.saturating_add(1);
         match &run.outcome {
             Outcome::Refused(at) => {
                 self.at = Some(*at);
-                Wish::Leave
+                ProbeStep::Leave
             }
-            Outcome::Finished { .. } => Wish::Stay,
+            Outcome::Finished { .. } => ProbeStep::Stay,
         }
     }
 

@@ -2,8 +2,8 @@
 ghost use Rattle.std.specs.Prelude.{◌≡◌, None};
 ghost use Rattle.probes.specs.Shipped.{gap_life, gap_between, greater};
 
-use crate::probe::{Probe, Wish};
-use crate::texts::gap_line;
+use crate::probe::{Probe, ProbeStep};
+use crate::report_lines::gap_line;
 use det_values::{Bytes, OutOfMemory, RunFrame};
 use std::alloc::Global;
 
@@ -16,7 +16,7 @@ pub struct GapProbe {
     gap: Option<u64>,
 }
 
-fn between(before: Option<u64>, time: Option<u64>) -> Option<u64>
+fn time_between(before: Option<u64>, time: Option<u64>) -> Option<u64>
     ensures { result ≡ gap_between before time }
 {
     time?.checked_sub(before?)
@@ -47,11 +47,11 @@ impl GapProbe {
 impl Probe for GapProbe {
     ghost life = { λ p. gap_life p.last p.gap };
 
-    fn see(&mut self, run: &RunFrame) -> Wish {
+    fn see(&mut self, run: &RunFrame) -> ProbeStep {
         let time = run.input.time;
-        self.gap = greater_of(self.gap, between(self.last, time));
+        self.gap = greater_of(self.gap, time_between(self.last, time));
         self.last = time;
-        Wish::Stay
+        ProbeStep::Stay
     }
 
     fn report(&self, alloc: Global) -> Result<Bytes, OutOfMemory> {

@@ -8,12 +8,12 @@ mod first_refusal;
 mod gap;
 mod limit;
 mod probe;
-mod showing;
-mod texts;
+mod probe_list;
+mod report_lines;
 
 pub use audience::Audience;
 pub use count::CountProbe;
 pub use first_refusal::FirstRefusalProbe;
 pub use gap::GapProbe;
 pub use limit::LimitProbe;
-pub use probe::{Probe, Wish};
+pub use probe::{Probe, ProbeStep};

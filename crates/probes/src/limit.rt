@@ -2,8 +2,8 @@
 ghost use Rattle.std.specs.Prelude.{◌≡◌, ◌≤◌};
 ghost use Rattle.probes.specs.Shipped.{limit_life};
 
-use crate::probe::{Probe, Wish};
-use crate::texts::limit_line;
+use crate::probe::{Probe, ProbeStep};
+use crate::report_lines::limit_line;
 use det_values::{Bytes, OutOfMemory, Outcome, RunFrame};
 use std::alloc::Global;
 
@@ -33,15 +33,15 @@ impl LimitProbe {
 impl Probe for LimitProbe {
     ghost life = { λ p. limit_life p.most p.seen p.refused };
 
-    fn see(&mut self, run: &RunFrame) -> Wish {
+    fn see(&mut self, run: &RunFrame) -> ProbeStep {
         self.seen = self.seen.saturating_add(1);
         if let Outcome::Refused(_) = &run.outcome {
             self.refused = self.refused.saturating_add(1);
         }
         if self.seen >= self.most {
-            return Wish::Leave;
+            return ProbeStep::Leave;
         }
-        Wish::Stay
+        ProbeStep::Stay
     }
 
     fn report(&self, alloc: Global) -> Result<Bytes, OutOfMemory> {

@@ -7,7 +7,7 @@ use std::alloc::Global;
 
 /// Whether a probe stays for the next run.
 #[derive(Clone, Copy, Debug, PartialEq, Eq, Drop)]
-pub enum Wish {
+pub enum ProbeStep {
     Stay,
     Leave,
 }
@@ -20,9 +20,10 @@ pub trait Probe: Drop {
     ghost life: { Self → ProbeLife };
 
     /// Sees a run.
-    fn see(&mut self, run: &RunFrame) -> Wish
+    fn see(&mut self, run: &RunFrame) -> ProbeStep
         ensures sees { Sees result (life self.old) (life self.new) run.now }
-        ensures leaves { (result ≡ Wish.Leave) ↔ (leaves (life self.old) (run.now ∷ []) ≡ Some 1) };
+        ensures leaves { (result ≡ ProbeStep.Leave) ↔ (leaves (life self.old) (run.now ∷ [])
+            ≡ Some 1) };
 
     /// The report on the runs that it saw, in at most 256 bytes.
     fn report(&self, alloc: Global) -> Result<Bytes, OutOfMemory>

@@ -3,8 +3,8 @@ use Rattle.std.specs.Prelude.{None}
 use Rattle.det_io.specs.Shelf.{ShelfState}
 
 -- one slot was given, and nothing else is known
-abbrev pub untold_slot : ShelfState
-untold_slot = record {
+abbrev pub unknown_slot : ShelfState
+unknown_slot = record {
   slots = 1;
   faults = 0;
   holds = λ name. None;

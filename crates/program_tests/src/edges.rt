@@ -1,7 +1,7 @@
 //! Runs in which each read, each write and each write of the line for the user fails in turn, or
 //! all pieces are small.
 use crate::files::file;
-use crate::running::{CALM, Edges, Ran, row_of, run};
+use crate::program_run::{Edges, NO_FAILURES, RunResult, row_of, run};
 use crate::tables::broken_rows;
 use std::alloc::{AllocError, Global};
 use std::test::*;
@@ -31,7 +31,7 @@ const SMALL: Edges = Edges {
     most_read: 7,
     most_written: 10,
     room: 7000,
-    ..CALM
+    ..NO_FAILURES
 };
 
 /// What fails or is small in the runs of a command.
@@ -42,16 +42,16 @@ enum Trial {
     Pieces,
 }
 
-impl Ran {
+impl RunResult {
     /// Whether it ended as the whole run did.
-    fn is_as(&self, whole: &Ran) -> bool {
+    fn is_as(&self, whole: &RunResult) -> bool {
         self.status == whole.status
             && self.out.bytes() == whole.out.bytes()
             && self.err.bytes() == whole.err.bytes()
     }
 
     /// Whether it ended with this status and line, and wrote the first bytes of the whole run.
-    fn broke_off(&self, whole: &Ran, status: u8, line: &str) -> bool {
+    fn broke_off_with(&self, whole: &RunResult, status: u8, line: &str) -> bool {
         self.status == status
             && self.err.bytes() == line.as_bytes()
             && whole.out.bytes().starts_with(self.out.bytes())
@@ -81,7 +81,7 @@ fn breaks_at_read<R: Threads + Sync>(
     rt: &R,
     alloc: Global,
     line: &str,
-    whole: &Ran,
+    whole: &RunResult,
     failing_read: u64,
     is_to_break: bool,
 ) -> Result<bool, AllocError> {
@@ -90,7 +90,7 @@ fn breaks_at_read<R: Threads + Sync>(
         ..SMALL
     };
     let ran = run(rt, alloc, line, edges)?;
-    let breaks = ran.broke_off(whole, 6, "read fault\n");
+    let breaks = ran.broke_off_with(whole, 6, "read fault\n");
     Ok(breaks == is_to_break && breaks != ran.is_as(whole))
 }
 
@@ -99,7 +99,7 @@ fn breaks_at_each_read<R: Threads + Sync>(
     rt: &R,
     alloc: Global,
     line: &str,
-    whole: &Ran,
+    whole: &RunResult,
     reads: u64,
 ) -> Result<bool, AllocError> {
     let mut is_right = whole.status == 0;
@@ -130,11 +130,11 @@ fn fits_writes(bytes: &[u8], writes: u64) -> bool {
 
 /// Whether a run breaks off at the write after this number of writes, and whether it is the whole
 /// run of this number of writes.
-fn shown_after<R: Threads + Sync>(
+fn breaks_after<R: Threads + Sync>(
     rt: &R,
     alloc: Global,
     line: &str,
-    whole: &Ran,
+    whole: &RunResult,
     writes: u64,
 ) -> Result<(bool, bool), AllocError> {
     let edges = Edges {
@@ -142,7 +142,7 @@ fn shown_after<R: Threads + Sync>(
         ..SMALL
     };
     let ran = run(rt, alloc, line, edges)?;
-    let breaks = ran.broke_off(whole, 7, "write fault\n");
+    let breaks = ran.broke_off_with(whole, 7, "write fault\n");
     let fits = fits_writes(ran.out.bytes(), writes);
     Ok((breaks && fits, ran.is_as(whole) && fits))
 }
@@ -152,10 +152,10 @@ fn breaks_at_each_write<R: Threads + Sync>(
     rt: &R,
     alloc: Global,
     line: &str,
-    whole: &Ran,
+    whole: &RunResult,
 ) -> Result<bool, AllocError> {
     for writes in 0..9999u64 {
-        let (breaks, is_whole) = shown_after(rt, alloc, line, whole, writes)?;
+        let (breaks, is_whole) = breaks_after(rt, alloc, line, whole, writes)?;
         if !breaks {
             return Ok(is_whole);
         }
@@ -180,7 +180,7 @@ fn is_same_at<R: Threads + Sync>(
     rt: &R,
     alloc: Global,
     line: &str,
-    whole: &Ran,
+    whole: &RunResult,
     most_read: usize,
 ) -> Result<bool, AllocError> {
     let edges = Edges {
@@ -197,7 +197,7 @@ fn is_same_at_each<R: Threads + Sync>(
     rt: &R,
     alloc: Global,
     line: &str,
-    whole: &Ran,
+    whole: &RunResult,
 ) -> Result<bool, AllocError> {
     let mut is_right = whole.status == 0;
     for most_read in [1, 2, 7] {
@@ -264,24 +264,27 @@ fn pieces_of_any_length_give_the_same(rt: HostRuntime) -> Result<(), Fail> {
 
 #[test]
 fn an_output_without_room_is_a_write_fault(rt: HostRuntime) -> Result<(), Fail> {
-    let edges = Edges { room: 50, ..CALM };
+    let edges = Edges {
+        room: 50,
+        ..NO_FAILURES
+    };
     let ran = run(&rt, rt.alloc(), "demo s.none", edges)?;
-    let whole = run(&rt, rt.alloc(), "demo s.none", CALM)?;
-    assert!(rt; ran.broke_off(&whole, 7, "write fault\n") && ran.out.bytes().len() == 50);
+    let whole = run(&rt, rt.alloc(), "demo s.none", NO_FAILURES)?;
+    assert!(rt; ran.broke_off_with(&whole, 7, "write fault\n") && ran.out.bytes().len() == 50);
     Ok(())
 }
 
 /// The line for the user fails at its first write.
-const UNTOLD: Edges = Edges {
+const LINE_FAILS: Edges = Edges {
     failing_line: 1,
-    ..CALM
+    ..NO_FAILURES
 };
 
 /// The line for the user fails at its second write, after three bytes.
-const HALF_TOLD: Edges = Edges {
+const LINE_FAILS_LATER: Edges = Edges {
     failing_line: 2,
     most_written: 3,
-    ..CALM
+    ..NO_FAILURES
 };
 
 /// Whether a run of a row keeps its status over these edges, and writes the first `len` bytes of
@@ -295,16 +298,16 @@ fn keeps_status_over<R: Threads + Sync>(
 ) -> Result<bool, AllocError> {
     let (words, wanted) = row_of(row);
     let ran = run(rt, alloc, words, edges)?;
-    let told = ran.err.bytes();
-    let is_front = told.len() == len && wanted.err.as_bytes().starts_with(told);
+    let printed = ran.err.bytes();
+    let is_front = printed.len() == len && wanted.err.as_bytes().starts_with(printed);
     Ok(is_front && ran.status == wanted.status)
 }
 
 /// Whether a run of a row keeps its status if the line for the user fails.
 fn keeps_status<R: Threads + Sync>(rt: &R, alloc: Global, row: &str) -> Result<bool, AllocError> {
-    let untold = keeps_status_over(rt, alloc, row, UNTOLD, 0)?;
-    let half_told = keeps_status_over(rt, alloc, row, HALF_TOLD, 3)?;
-    Ok(untold && half_told)
+    let at_start = keeps_status_over(rt, alloc, row, LINE_FAILS, 0)?;
+    let half_way = keeps_status_over(rt, alloc, row, LINE_FAILS_LATER, 3)?;
+    Ok(at_start && half_way)
 }
 
 /// The rows of the broken runs that end otherwise if the line for the user fails.

@@ -2,7 +2,7 @@
 //!
 //! `A` is a listed file, `A:97` its first 97 bytes, `A@7=09` the file with byte 7 replaced, and
 //! `A+05*3` the file with three bytes appended. These may follow each other in this order.
-use crate::listed::listed;
+use crate::listed_files::listed_text;
 use std::alloc::{AllocError, Global};
 
 const DIGITS: [u8; 16] = *b"0123456789abcdef";
@@ -94,7 +94,7 @@ fn from_hex(alloc: Global, digits: &[u8]) -> Result<Vec<u8>, AllocError> {
 
 /// A listed file. Its kind is `hex` for hexadecimal digits or else a text.
 fn listed_file(alloc: Global, name: &str) -> Result<Option<Vec<u8>>, AllocError> {
-    let Some(text) = listed(name) else {
+    let Some(text) = listed_text(name) else {
         return Ok(None);
     };
     let (kind, text) = halves(text, ' ');

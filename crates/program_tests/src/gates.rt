@@ -1,6 +1,6 @@
 //! Whole runs whose workers pass a gate. One gate holds two workers until each has seen the other
 //! come, one counts three workers.
-use crate::running::{CALM, Ran, are, run_with};
+use crate::program_run::{NO_FAILURES, RunResult, are_as_wanted, run_with};
 use probes::Audience;
 use std::alloc::{AllocError, Global};
 use std::sync::Arc;
@@ -55,16 +55,16 @@ fn run_through<R: Threads + Sync, G: Gate + Send + Sync + 'static>(
     alloc: Global,
     line: &str,
     gate: &Arc<G, Global>,
-) -> Result<Ran, AllocError> {
-    let mut audience = Audience::of(alloc, Vec::new(alloc));
-    run_with(rt, alloc, line, CALM, &mut audience, gate)
+) -> Result<RunResult, AllocError> {
+    let mut audience = Audience::new(alloc, Vec::new(alloc));
+    run_with(rt, alloc, line, NO_FAILURES, &mut audience, gate)
 }
 
 #[test]
 fn two_workers_of_a_record_meet(rt: HostRuntime) -> Result<(), Fail> {
     let gate = Arc::new(rt.alloc(), MeetGate::new())?;
     let ran = run_through(&rt, rt.alloc(), "record guard s.guard --workers 2", &gate)?;
-    let is_record = are(rt.alloc(), ran.out.bytes(), "=G2")?;
+    let is_record = are_as_wanted(rt.alloc(), ran.out.bytes(), "=G2")?;
     assert!(rt; gate.met() && is_record);
     Ok(())
 }
@@ -86,7 +86,7 @@ fn three_come<R: Threads + Sync>(
 ) -> Result<bool, AllocError> {
     let gate = Arc::new(alloc, ThreeGate::new())?;
     let ran = run_through(rt, alloc, line, &gate)?;
-    Ok(gate.three_came() && are(alloc, ran.out.bytes(), wanted)?)
+    Ok(gate.three_came() && are_as_wanted(alloc, ran.out.bytes(), wanted)?)
 }
 
 #[test]

@@ -3,7 +3,7 @@ ghost use Rattle.std.specs.Prelude.{◌≡◌, IfOk};
 ghost use Rattle.lane.specs.child_processes.MemSpawner.{mem_spawner_state};
 
 use crate::files::{file, halves, number};
-use crate::running::{Wanted, are, fail_list, row_of, words_of};
+use crate::program_run::{Wanted, are_as_wanted, fail_list, row_of, words_of};
 use crate::tables::lane_rows;
 use det_io::{FailList, MemSink};
 use lane::child_processes::{ChildShelf, MemSpawner, ProcessSpawner, Script, Scripts};
@@ -13,16 +13,16 @@ use std::test::*;
 
 /// What a run of a lane wrote, and its status.
 #[derive(Drop)]
-struct Ran {
+struct RunResult {
     status: u8,
     out: MemSink,
     err: MemSink,
 }
 
-impl Ran {
+impl RunResult {
     fn ended_as(&self, alloc: Global, wanted: &Wanted<'_>) -> Result<bool, AllocError> {
-        let is_out = are(alloc, self.out.bytes(), wanted.out)?;
-        let is_err = are(alloc, self.err.bytes(), wanted.err)?;
+        let is_out = are_as_wanted(alloc, self.out.bytes(), wanted.out)?;
+        let is_err = are_as_wanted(alloc, self.err.bytes(), wanted.err)?;
         Ok(self.status == wanted.status && is_out && is_err)
     }
 }
@@ -85,13 +85,13 @@ fn run(
     children: &str,
     failing: u64,
     room: usize,
-) -> Result<Ran, AllocError> {
+) -> Result<RunResult, AllocError> {
     let words = words_of(alloc, line)?;
     let mut shelf = shelf_of(alloc, children, failing)?;
     let mut out = sink_of(alloc, room)?;
     let mut err = sink_of(alloc, 100)?;
     let status = lane_top(alloc, &words, &mut shelf, &mut out, &mut err).number();
-    Ok(Ran { status, out, err })
+    Ok(RunResult { status, out, err })
 }
 
 /// Whether a row ends as wanted: `WORDS|CHILDREN|FAILING CALL|ROOM|STATUS|OUTPUT|LINE`.
@@ -116,7 +116,7 @@ fn wrong_rows(alloc: Global) -> Result<String, AllocError> {
 }
 
 #[test]
-fn lanes_tell_what_their_rows_want(rt: HostRuntime) -> Result<(), Fail> {
+fn lanes_end_as_their_rows_want(rt: HostRuntime) -> Result<(), Fail> {
     let wrong = wrong_rows(rt.alloc())?;
     assert!(rt; wrong.is_empty(), "{wrong}");
     Ok(())
@@ -124,7 +124,7 @@ fn lanes_tell_what_their_rows_want(rt: HostRuntime) -> Result<(), Fail> {
 
 /// `echo` writes its arguments in place of a record.
 #[test]
-fn a_process_that_gives_no_record_is_told(rt: HostRuntime) -> Result<(), Fail> {
+fn a_process_that_writes_no_record_is_reported(rt: HostRuntime) -> Result<(), Fail> {
     let alloc = rt.alloc();
     let words = words_of(alloc, "/bin/echo 2 m s")?;
     let mut shelf = ChildShelf {

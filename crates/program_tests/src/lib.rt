@@ -17,13 +17,13 @@ mod gates;
 #[cfg(test)]
 mod lanes;
 #[cfg(test)]
-mod listed;
+mod listed_files;
 #[cfg(test)]
 mod no_memory;
 #[cfg(test)]
-mod rows;
+mod program_run;
 #[cfg(test)]
-mod running;
+mod rows;
 #[cfg(test)]
 mod tables;
 #[cfg(test)]

@@ -1,5 +1,5 @@
 //! Running out of memory, which a shelf reports in place of a slot.
-use crate::running::{fail_list, words_of};
+use crate::program_run::{fail_list, words_of};
 use det_cli::{Host, top};
 use det_io::{Failure, MemSink, Shelf, ShelfFailed, Slots};
 use probes::Audience;
@@ -17,9 +17,9 @@ impl Slots for NoRoom {
     ghost use Rattle.std.specs.Prelude.{◌≡◌, ◌<◌, ◌≤◌, length, IfOk, OnErr};
     ghost use Rattle.det_io.specs.Count.{Rose};
     ghost use Rattle.det_io.specs.Shelf.{Reads, moved, IsAtEnd};
-    ghost use Rattle.program_tests.specs.NoRoom.{untold_slot};
+    ghost use Rattle.program_tests.specs.NoRoom.{unknown_slot};
 
-    ghost sees = { λ _. untold_slot };
+    ghost sees = { λ _. unknown_slot };
 
     ghost stays = { λ _ _. Unit {0} };
 
@@ -58,31 +58,31 @@ fn show<R: Threads + Sync>(
         alloc,
         gate: &gate,
     };
-    let mut audience = Audience::of(alloc, Vec::new(alloc));
+    let mut audience = Audience::new(alloc, Vec::new(alloc));
     let status = top(&host, &words, &mut NoRoom, out, err, &mut audience);
     Ok(status.number())
 }
 
-/// Whether `show` ends with "out of memory" and writes `told` to the user, if this write of its
+/// Whether `show` ends with "out of memory" and writes `printed` to the user, if this write of its
 /// line fails.
-fn is_told<R: Threads + Sync>(
+fn is_printed<R: Threads + Sync>(
     rt: &R,
     alloc: Global,
     failing_line: u64,
-    told: &[u8],
+    printed: &[u8],
 ) -> Result<bool, AllocError> {
     let mut out = sink_of(alloc, 0)?;
     let mut err = sink_of(alloc, failing_line)?;
     let status = show(rt, alloc, &mut out, &mut err)?;
-    Ok(status == 8 && err.bytes() == told)
+    Ok(status == 8 && err.bytes() == printed)
 }
 
 #[test]
-fn want_of_memory_is_told_where_its_line_can_be(rt: HostRuntime) -> Result<(), Fail> {
+fn out_of_memory_is_reported_where_its_line_can_be_written(rt: HostRuntime) -> Result<(), Fail> {
     let alloc = rt.alloc();
-    let whole = is_told(&rt, alloc, 0, b"out of memory\n")?;
-    let none = is_told(&rt, alloc, 1, b"")?;
-    let front = is_told(&rt, alloc, 2, b"out")?;
+    let whole = is_printed(&rt, alloc, 0, b"out of memory\n")?;
+    let none = is_printed(&rt, alloc, 1, b"")?;
+    let front = is_printed(&rt, alloc, 2, b"out")?;
     assert!(rt; whole && none && front);
     Ok(())
 }

@@ -1,5 +1,5 @@
 //! Runs of `det` that write and end as the rows of the tables say.
-use crate::running::{CALM, row_of, run};
+use crate::program_run::{NO_FAILURES, row_of, run};
 use crate::tables::{broken_rows, large_rows, whole_rows};
 use std::alloc::{AllocError, Global};
 use std::test::*;
@@ -8,7 +8,7 @@ use std::thread::Threads;
 /// Whether a row ends as wanted.
 fn is_right<R: Threads + Sync>(rt: &R, alloc: Global, row: &str) -> Result<bool, AllocError> {
     let (words, wanted) = row_of(row);
-    let ran = run(rt, alloc, words, CALM)?;
+    let ran = run(rt, alloc, words, NO_FAILURES)?;
     ran.ended_as(alloc, &wanted)
 }
 
@@ -45,13 +45,13 @@ fn broken_runs_end_with_their_lines(rt: HostRuntime) -> Result<(), Fail> {
 }
 
 /// Whether a run of these arguments ends with this line and the status of a bad record.
-fn is_told<R: Threads + Sync>(
+fn is_printed<R: Threads + Sync>(
     rt: &R,
     alloc: Global,
     words: &str,
     line: &str,
 ) -> Result<bool, AllocError> {
-    let ran = run(rt, alloc, words, CALM)?;
+    let ran = run(rt, alloc, words, NO_FAILURES)?;
     Ok(ran.status == 5 && ran.err.bytes() == line.as_bytes())
 }
 
@@ -59,11 +59,11 @@ fn is_told<R: Threads + Sync>(
 fn is_truncated<R: Threads + Sync>(rt: &R, alloc: Global, len: u32) -> Result<bool, AllocError> {
     let words = format!(in alloc; "show B:{len}")?;
     let line = format!(in alloc; "bad record: copy 0 offset {len} truncated\n")?;
-    is_told(rt, alloc, words.as_str(), line.as_str())
+    is_printed(rt, alloc, words.as_str(), line.as_str())
 }
 
 /// A length to which a record was cut and `show` reported otherwise, if there is one.
-fn cut_otherwise<R: Threads + Sync>(rt: &R, alloc: Global) -> Result<Option<u32>, AllocError> {
+fn wrong_cut<R: Threads + Sync>(rt: &R, alloc: Global) -> Result<Option<u32>, AllocError> {
     let mut other = None;
     for len in 0..282u32 {
         if !is_truncated(rt, alloc, len)? {
@@ -75,6 +75,6 @@ fn cut_otherwise<R: Threads + Sync>(rt: &R, alloc: Global) -> Result<Option<u32>
 
 #[test]
 fn a_record_cut_anywhere_is_truncated(rt: HostRuntime) -> Result<(), Fail> {
-    assert_eq!(rt; cut_otherwise(&rt, rt.alloc())?, None);
+    assert_eq!(rt; wrong_cut(&rt, rt.alloc())?, None);
     Ok(())
 }

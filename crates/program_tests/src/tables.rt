@@ -1,7 +1,7 @@
 //! The tables of rows: the arguments of a run, its status, its output and its line for the user.
 //!
-//! Outputs and lines are written as `running::are` says. Digests, and outputs that are no listed
-//! record, come from the plain program in `tests/plain`.
+//! Outputs and lines are written as `running::are_as_wanted` says. Digests, and outputs that are no
+//! listed record, come from the plain program in `tests/plain`.
 
 /// Runs that end with Done or Differs.
 pub fn whole_rows() -> &'static str {

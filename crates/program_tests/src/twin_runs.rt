@@ -1,5 +1,5 @@
 //! Whole runs of `det_twin` over a shelf and sinks in memory, on real threads.
-use crate::running::{CALM, Edges, Ran, prepare, row_of};
+use crate::program_run::{Edges, NO_FAILURES, RunResult, prepare, row_of};
 use crate::tables::twin_rows;
 use std::alloc::{AllocError, Global};
 use std::sync::Wait;
@@ -12,7 +12,7 @@ fn run_twins<R: Threads + Wait + Sync>(
     alloc: Global,
     line: &str,
     edges: Edges,
-) -> Result<Ran, AllocError> {
+) -> Result<RunResult, AllocError> {
     let mut ran = prepare(alloc, line, edges)?;
     let status = twin_top(
         rt,
@@ -33,7 +33,7 @@ fn is_right<R: Threads + Wait + Sync>(
     row: &str,
 ) -> Result<bool, AllocError> {
     let (words, wanted) = row_of(row);
-    let ran = run_twins(rt, alloc, words, CALM)?;
+    let ran = run_twins(rt, alloc, words, NO_FAILURES)?;
     ran.ended_as(alloc, &wanted)
 }
 
@@ -49,7 +49,7 @@ fn wrong_rows<R: Threads + Wait + Sync>(rt: &R, alloc: Global) -> Result<String,
 }
 
 #[test]
-fn twins_tell_what_their_rows_want(rt: HostRuntime) -> Result<(), Fail> {
+fn twins_end_as_their_rows_want(rt: HostRuntime) -> Result<(), Fail> {
     let wrong = wrong_rows(&rt, rt.alloc())?;
     assert!(rt; wrong.is_empty(), "{wrong}");
     Ok(())
@@ -63,7 +63,7 @@ fn is_read_fault<R: Threads + Wait + Sync>(
 ) -> Result<bool, AllocError> {
     let edges = Edges {
         failing_read,
-        ..CALM
+        ..NO_FAILURES
     };
     let ran = run_twins(rt, alloc, "2 bank s.two", edges)?;
     Ok(ran.status == 6 && ran.err.bytes() == b"read fault\n".as_slice())
@@ -89,7 +89,10 @@ fn each_failing_call_of_the_shelf_is_a_read_fault(rt: HostRuntime) -> Result<(),
 
 #[test]
 fn an_output_without_room_is_a_write_fault(rt: HostRuntime) -> Result<(), Fail> {
-    let edges = Edges { room: 3, ..CALM };
+    let edges = Edges {
+        room: 3,
+        ..NO_FAILURES
+    };
     let ran = run_twins(&rt, rt.alloc(), "2 bank s.two", edges)?;
     assert!(rt; ran.status == 7 && ran.out.bytes() == b"agr".as_slice());
     assert_eq!(rt; ran.err.bytes(), b"write fault\n".as_slice());

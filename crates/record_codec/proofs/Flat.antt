@@ -38,7 +38,8 @@ pub put_begin : (es : List DrawnElement) (old : List ℕ) → PutSoFar es 0 es o
 put_begin es old = record { before = []; parts = refl; counted = refl; written = sym (append-nil old); fields = All-nil flat.IsDrawn }
 
 pub put_more : (es : List DrawnElement) (i : ℕ) (left more : List DrawnElement) (old mid next new bytes : List ℕ) (draws : ℕ)
-    → PutSoFar es i left old mid → left ≡ flat.an_element bytes draws ∷ more → flat.IsDrawn (flat.an_element bytes draws) → next ≡ mid ++ spelled_u16 (length bytes) → new ≡ next
+    → PutSoFar es i left old mid → left ≡ flat.an_element bytes draws ∷ more → flat.IsDrawn (flat.an_element bytes draws)
+    → next ≡ mid ++ spelled_u16 (length bytes) → new ≡ next
     ++ bytes → PutSoFar es (i + 1) more old new
 put_more es i left more old mid next new bytes draws h l f n w =
     let e : DrawnElement = flat.an_element bytes draws in

@@ -10,8 +10,8 @@ use Rattle.det_values.specs.declared.format.Format.{Format}
 use Rattle.det_values.specs.declared.format.Format.TheVariants.{One, Two}
 use Rattle.det_values.specs.declared.event.Policy.TheVariants.{Last}
 use Rattle.det_values.specs.Values.{EventSpecValue}
-use Rattle.det_values.specs.Limits.{may_stand_in_name, is_event_name, KnowsPolicies}
-use Rattle.record_grammar.specs.declared.fault.Reason.TheVariants.{Range}
+use Rattle.det_values.specs.Limits.{allowed_in_name, is_event_name, KnowsPolicies}
+use Rattle.record_grammar.specs.declared.record_fault.Reason.TheVariants.{Range}
 use Rattle.record_grammar.specs.Read.{Read, Got, Bad, many}
 use Rattle.record_grammar.specs.Grammar.{name_byte_at}
 use Rattle.record_grammar.proofs.Steady.{got_is}
@@ -44,19 +44,19 @@ chosen false b c bytes then left e = absurd cc
 
 -- a byte of a name that was read
 one_byte : (bytes then : List ℕ) (c : ℕ) → name_byte_at bytes ≡ Got (c, then) → (0 < length bytes) × (get_or bytes 0 0 ≡ c)
-    × (may_stand_in_name c ≡ true) × (drop 1 bytes ≡ then)
+    × (allowed_in_name c ≡ true) × (drop 1 bytes ≡ then)
 unfolding name_byte_at
 one_byte [] then c e = absurd cc
 one_byte (b ∷ bytes) then c e =
-    let g = chosen (may_stand_in_name b) b c bytes then (suc (length bytes)) e in
-    (omega arith, g.1, ap may_stand_in_name (sym g.1) ∙ g.0, g.2)
+    let g = chosen (allowed_in_name b) b c bytes then (suc (length bytes)) e in
+    (omega arith, g.1, ap allowed_in_name (sym g.1) ∙ g.0, g.2)
 
 -- what the loop over a name's bytes keeps
 pub record HasName (len counter : ℕ) (rest bytes : List ℕ) : Type 0 where
   pub within : counter ≤ length bytes
   pub rest_is : rest ≡ drop counter bytes
   pub so_far : HasMany name_byte_at len counter (take counter bytes) rest bytes
-  pub good : list_all may_stand_in_name (take counter bytes) ≡ true
+  pub good : list_all allowed_in_name (take counter bytes) ≡ true
 
 pub HasName-begin : (len : ℕ) (bytes : List ℕ) → HasName len 0 bytes bytes
 HasName-begin len bytes = record { within = omega arith; rest_is = refl; so_far = HasMany-begin name_byte_at len bytes; good = refl }
@@ -77,11 +77,11 @@ HasName-next len counter rest bytes b then lt e h =
       rest_is = sym (o.3) ∙ ap (drop 1) r;
       so_far = rw t (HasMany-next name_byte_at len counter (take counter bytes) rest bytes b then lt e h.so_far);
       good =
-          list_all_more may_stand_in_name bytes counter 0 inside
-          ∙ ap (λ (x : ℕ). list_all may_stand_in_name (take counter bytes) && may_stand_in_name x) first ∙ cc (h.good, o.2);
+          list_all_more allowed_in_name bytes counter 0 inside
+          ∙ ap (λ (x : ℕ). list_all allowed_in_name (take counter bytes) && allowed_in_name x) first ∙ cc (h.good, o.2);
     }
 
-is_name : (len : ℕ) (bytes : List ℕ) → 1 ≤ len → len ≤ 32 → len ≤ length bytes → list_all may_stand_in_name (take len bytes) ≡ true
+is_name : (len : ℕ) (bytes : List ℕ) → 1 ≤ len → len ≤ 32 → len ≤ length bytes → list_all allowed_in_name (take len bytes) ≡ true
     → is_event_name (take len bytes) ≡ true
 is_name len bytes low high inside good =
     let l : length (take len bytes) ≡ len = omega (arith, length-take len bytes) in

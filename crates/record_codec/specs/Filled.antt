@@ -5,7 +5,7 @@ use Rattle.det_values.specs.declared.frames.Frame.{Frame}
 use Rattle.det_values.specs.declared.frames.Frame.TheVariants.{Run}
 use Rattle.det_values.specs.declared.frames.RunFrame.{RunFrame}
 use Rattle.det_values.specs.declared.out_of_memory.OutOfMemory.{OutOfMemory}
-use Rattle.record_codec.specs.declared.room.RunRoom.{RunRoom}
+use Rattle.record_codec.specs.declared.run_room.RunRoom.{RunRoom}
 
 -- the input of a Run frame is there, or the frame is of another kind
 abbrev pub InputFilled : Result Bool OutOfMemory → Frame → CycleInput → Type 0

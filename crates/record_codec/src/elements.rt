@@ -11,7 +11,7 @@ use record_view::{ElementWalk, elements_in};
 use std::alloc::Global;
 
 /// The bytes of the elements that a walk gives.
-pub fn elements_of(alloc: Global, walk: ElementWalk<'_>) -> Result<Elements, OutOfMemory>
+pub fn decode_elements(alloc: Global, walk: ElementWalk<'_>) -> Result<Elements, OutOfMemory>
     requires { length walk ≤ 65536 }
     ensures { IfOk result (λ made. made ≡ map bytes_of walk.entry) }
 {
@@ -19,7 +19,7 @@ pub fn elements_of(alloc: Global, walk: ElementWalk<'_>) -> Result<Elements, Out
     let mut elements = Limited::new(alloc);
     'elements: loop {
         match walk.next() {
-            Some((bytes, _)) => elements.push(Bytes64::of(bytes))?,
+            Some((bytes, _)) => elements.push(Bytes64::from_slice(bytes))?,
             None => return Ok(elements),
         }
     }

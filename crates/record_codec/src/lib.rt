@@ -2,18 +2,18 @@
 //! which takes no memory.
 #![tactic(auto)]
 
+mod decode;
 mod elements;
 mod encode;
-mod header;
+mod fill_run;
 mod header_stop;
-mod item;
-mod put;
+mod put_field;
 mod put_frame;
 mod put_header;
-mod room;
-mod run;
+mod read_header;
+mod run_room;
 
+pub use decode::{decode_profile, frame_of};
 pub use encode::{encode_frame, encode_header, encode_init_head, encode_run_ends};
-pub use item::{frame_of, profile_of};
 pub use record_grammar::{Item, Layout, Limits, Place, Reason, RecordFault};
-pub use room::{RunRoom, fill_input};
+pub use run_room::{RunRoom, fill_input};

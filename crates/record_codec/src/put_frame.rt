@@ -12,7 +12,7 @@ ghost use Rattle.det_values.specs.Spelling.{Grows, spelled_u32, spelled_all};
 ghost use Rattle.det_values.specs.Spelling.{IsDrawn as IsFlatDrawn};
 ghost use Rattle.det_values.specs.declared.format.Format.TheVariants.{One};
 
-use crate::put::{put_element, put_i64, put_u8, put_u64};
+use crate::put_field::{put_element, put_i64, put_u8, put_u64};
 use det_values::put::{put_slice, put_u16, put_u32};
 use det_values::{
     Bytes64, CycleInput, DrawnBlock, DrawnElements, Format, Frame, Outcome, Phase, RefusedAt,

@@ -9,7 +9,7 @@ ghost use Rattle.record_grammar.specs.Spelling.{IsEvent, spelled_events, magic, 
 ghost use Rattle.record_grammar.specs.Spelling.{spelled_header, IsHeader};
 ghost use Rattle.det_values.specs.Spelling.{Grows};
 
-use crate::put::{put_i64, put_u8, put_u64};
+use crate::put_field::{put_i64, put_u8, put_u64};
 use det_values::put::{put_slice, put_u16};
 use det_values::{EventSpec, Events, Format, Params, Policy, Profile};
 use std::alloc::AllocError;

@@ -7,8 +7,8 @@ use Rattle.det_values.specs.declared.frames.CycleInput.{CycleInput}
 use Rattle.det_values.specs.declared.frames.Frame.{Frame}
 use Rattle.det_values.specs.declared.frames.Frame.TheVariants as frames
 use Rattle.det_values.specs.Values.{ProfileValue}
-use Rattle.record_grammar.specs.declared.fault.Reason.{Reason}
-use Rattle.record_grammar.specs.declared.fault.Reason.TheVariants.{Magic, TooMany}
+use Rattle.record_grammar.specs.declared.record_fault.Reason.{Reason}
+use Rattle.record_grammar.specs.declared.record_fault.Reason.TheVariants.{Magic, TooMany}
 use Rattle.record_grammar.specs.declared.place.Layout.{Layout}
 use Rattle.record_grammar.specs.declared.place.Place.{Place}
 use Rattle.record_grammar.specs.declared.place.Place.TheVariants as places
@@ -57,12 +57,12 @@ exactly_takes [] x e = absurd cc
 exactly_takes (b ∷ bytes) x e = taken (eqb b 68) 68 bytes (suc (length bytes)) x e
 
 -- what comes after the first byte
-abbrev behind_first : ℕ → List ℕ → Read ℕ
-behind_first d bytes =
+abbrev after_first : ℕ → List ℕ → Read ℕ
+after_first d bytes =
     exactly_at Magic 69 bytes >>= λ e. exactly_at Magic 84 e.1 >>= λ t. exactly_at Magic 82 t.1 >>= λ r. exactly_at Magic 69 r.1 >>= λ f.
     exactly_at Magic 67 f.1
 
-behind_first_steady : (d : ℕ) → IsSteady 0 (behind_first d)
+behind_first_steady : (d : ℕ) → IsSteady 0 (after_first d)
 behind_first_steady d =
     steady_then 0 (exactly_at Magic 69) (λ e bytes. exactly_at Magic 84 bytes >>= λ t. exactly_at Magic 82 t.1 >>= λ r.
     exactly_at Magic 69 r.1 >>= λ f. exactly_at Magic 67 f.1) (exactly_steady Magic 69) (λ e.
@@ -74,7 +74,7 @@ behind_first_steady d =
 
 magic_takes : (bytes : List ℕ) (x : ℕ × List ℕ) → magic_at bytes ≡ Got x → length x.1 < length bytes
 unfolding magic_at
-magic_takes bytes x e = then_takes (exactly_at Magic 68) behind_first bytes x (exactly_takes bytes) behind_first_steady e
+magic_takes bytes x e = then_takes (exactly_at Magic 68) after_first bytes x (exactly_takes bytes) behind_first_steady e
 
 profile_takes : (bytes : List ℕ) (x : ProfileValue × List ℕ) → profile_at bytes ≡ Got x → length x.1 < length bytes
 profile_takes bytes x e = then_takes magic_at behind_magic bytes x (magic_takes bytes) behind_magic_steady (sym (profile_is bytes) ∙ e)

@@ -10,9 +10,9 @@ use Rattle.det_values.specs.declared.frames.Outcome.TheVariants.{Finished, Refus
 use Rattle.det_values.specs.declared.frames.Frame.{Frame}
 use Rattle.det_values.specs.declared.frames.Frame.TheVariants as frames
 use Rattle.det_values.specs.Values.{ProfileValue}
-use Rattle.det_values.specs.Limits.{may_stand_in_name}
-use Rattle.record_grammar.specs.declared.fault.Reason.{Reason}
-use Rattle.record_grammar.specs.declared.fault.Reason.TheVariants.{Magic, Version, Range, TooMany, Trailing}
+use Rattle.det_values.specs.Limits.{allowed_in_name}
+use Rattle.record_grammar.specs.declared.record_fault.Reason.{Reason}
+use Rattle.record_grammar.specs.declared.record_fault.Reason.TheVariants.{Magic, Version, Range, TooMany, Trailing}
 use Rattle.record_grammar.specs.declared.limits.Limits.TheVariants.{Between, Around}
 use Rattle.record_grammar.specs.declared.place.Layout.{Layout}
 use Rattle.record_grammar.specs.declared.place.Place.{Place}
@@ -103,7 +103,7 @@ version_steady =
     format_steady)
 
 abbrev name_byte_by : ℕ → List ℕ → Read ℕ
-name_byte_by b bytes = cond (may_stand_in_name b) (Got (b, bytes)) (Bad Range (suc (length bytes)))
+name_byte_by b bytes = cond (allowed_in_name b) (Got (b, bytes)) (Bad Range (suc (length bytes)))
 
 name_byte_same : (bytes : List ℕ) → name_byte_at bytes ≡ by_first name_byte_by bytes
 unfolding name_byte_at
@@ -113,7 +113,7 @@ name_byte_same (b ∷ bytes) = refl
 pub name_byte_steady : IsSteady 0 name_byte_at
 name_byte_steady =
     steady_same 0 name_byte_at (by_first name_byte_by) name_byte_same (steady_first name_byte_by (λ b.
-    steady_if 1 (may_stand_in_name b) (λ bytes. Got (b, bytes)) (λ bytes. Bad Range (suc (length bytes))) (steady_give 1 b)
+    steady_if 1 (allowed_in_name b) (λ bytes. Got (b, bytes)) (λ bytes. Bad Range (suc (length bytes))) (steady_give 1 b)
     (steady_refuse Range)))
 
 pub name_steady : IsSteady 0 name_at

@@ -14,10 +14,10 @@ use Rattle.det_values.specs.declared.frames.Outcome.TheVariants.{Finished, Refus
 use Rattle.det_values.specs.declared.frames.Frame.{Frame}
 use Rattle.det_values.specs.declared.frames.Frame.TheVariants as frames
 use Rattle.det_values.specs.Values.{SampleValue, EventSpecValue, RefusedAtValue, ProfileValue}
-use Rattle.det_values.specs.Limits.{may_stand_in_name}
-use Rattle.record_grammar.specs.declared.fault.Reason.{Reason}
-use Rattle.record_grammar.specs.declared.fault.Reason.TheVariants.{Magic, Version, Range, Order}
-use Rattle.record_grammar.specs.declared.fault.Reason.TheVariants.{TooMany, Trailing}
+use Rattle.det_values.specs.Limits.{allowed_in_name}
+use Rattle.record_grammar.specs.declared.record_fault.Reason.{Reason}
+use Rattle.record_grammar.specs.declared.record_fault.Reason.TheVariants.{Magic, Version, Range, Order}
+use Rattle.record_grammar.specs.declared.record_fault.Reason.TheVariants.{TooMany, Trailing}
 use Rattle.record_grammar.specs.declared.limits.Limits.TheVariants.{Around}
 use Rattle.record_grammar.specs.declared.place.Layout.{Layout}
 use Rattle.record_grammar.specs.declared.place.Place.{Place}
@@ -78,7 +78,7 @@ version_at bytes = do
 unfoldable pub name_byte_at : List ℕ → Read ℕ
 name_byte_at [] = More
 name_byte_at (b ∷ bytes) =
-    if may_stand_in_name b then Got (b, bytes) else Bad Range (length (b ∷ bytes))
+    if allowed_in_name b then Got (b, bytes) else Bad Range (length (b ∷ bytes))
 
 unfoldable pub name_at : List ℕ → Read (List ℕ)
 name_at bytes = do

@@ -6,10 +6,10 @@ use Rattle.det_values.specs.declared.frames.Frame.{Frame}
 use Rattle.det_values.specs.declared.frames.Frame.TheVariants.{Register, Discover, Init, Run}
 use Rattle.det_values.specs.declared.frames.Frame.TheVariants.{Terminate}
 use Rattle.det_values.specs.Values.{ProfileValue}
-use Rattle.record_grammar.specs.declared.fault.Reason.{Reason}
-use Rattle.record_grammar.specs.declared.fault.Reason.TheVariants.{Magic, Version, Range, TooMany}
-use Rattle.record_grammar.specs.declared.fault.Reason.TheVariants.{Trailing}
-use Rattle.record_grammar.specs.declared.fault.RecordFault.{RecordFault}
+use Rattle.record_grammar.specs.declared.record_fault.Reason.{Reason}
+use Rattle.record_grammar.specs.declared.record_fault.Reason.TheVariants.{Magic, Version, Range, TooMany}
+use Rattle.record_grammar.specs.declared.record_fault.Reason.TheVariants.{Trailing}
+use Rattle.record_grammar.specs.declared.record_fault.RecordFault.{RecordFault}
 use Rattle.record_grammar.specs.declared.place.Place.{Place}
 use Rattle.record_grammar.specs.declared.place.Place.TheVariants as places
 use Rattle.record_grammar.specs.declared.item.Item.{Item}

@@ -4,7 +4,7 @@ use Rattle.std.specs.Prelude.{ℕ, zero, suc, ◌+◌, ◌*◌, ◌^◌, ◌≤�
 use Rattle.std.specs.Prelude.{nat_le, ◌&&◌, ◌||◌, if◌then◌else◌}
 use Rattle.record_grammar.specs.declared.limits.Limits.{Limits}
 use Rattle.record_grammar.specs.declared.limits.Limits.TheVariants.{Between, Around}
-use Rattle.record_grammar.specs.declared.fault.Reason.TheVariants.{Range}
+use Rattle.record_grammar.specs.declared.record_fault.Reason.TheVariants.{Range}
 use Rattle.record_grammar.specs.Read.{Read, Got, More, Bad}
 
 -- the values of a field, as numbers without a sign

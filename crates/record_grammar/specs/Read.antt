@@ -1,7 +1,7 @@
 -- The result of reading a value from the front of some bytes.
 use Rattle.std.specs.Prelude.{ℕ, zero, suc, List, [], ◌∷◌, ◌++◌, length, take, drop, nat_lt}
 use Rattle.std.specs.Prelude.{if◌then◌else◌}
-use Rattle.record_grammar.specs.declared.fault.Reason.{Reason}
+use Rattle.record_grammar.specs.declared.record_fault.Reason.{Reason}
 
 pub data Read (A : Type 0) : Type 0 where
   -- a value, and the bytes after it

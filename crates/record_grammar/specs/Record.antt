@@ -1,8 +1,8 @@
 -- The items of a record, and its fault.
 use Rattle.std.specs.Prelude.{ℕ, zero, suc, ◌-◌, List, [], ◌∷◌, length, Option, Some, None}
-use Rattle.record_grammar.specs.declared.fault.Reason.{Reason}
-use Rattle.record_grammar.specs.declared.fault.Reason.TheVariants.{Truncated}
-use Rattle.record_grammar.specs.declared.fault.RecordFault.{RecordFault}
+use Rattle.record_grammar.specs.declared.record_fault.Reason.{Reason}
+use Rattle.record_grammar.specs.declared.record_fault.Reason.TheVariants.{Truncated}
+use Rattle.record_grammar.specs.declared.record_fault.RecordFault.{RecordFault}
 use Rattle.record_grammar.specs.declared.place.Place.{Place}
 use Rattle.record_grammar.specs.declared.place.Place.TheVariants as places
 use Rattle.record_grammar.specs.declared.item.Item.{Item}

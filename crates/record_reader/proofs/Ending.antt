@@ -19,7 +19,7 @@ use Rattle.det_io.specs.Sink.{Grew}
 use Rattle.det_io.specs.Traffic.{ShelfRun, SinkRun}
 use Rattle.det_io.proofs.Growth.{grew-none, grew-then}
 use Rattle.det_io.proofs.Prefixes.{prefix-none, prefix-same, prefix-then, proper-prefix, proper-length, proper-then, proper-behind}
-use Rattle.record_grammar.specs.declared.fault.RecordFault.{RecordFault}
+use Rattle.record_grammar.specs.declared.record_fault.RecordFault.{RecordFault}
 use Rattle.record_grammar.specs.declared.item.Item.{Item}
 use Rattle.record_grammar.specs.declared.item.Item.TheVariants as items
 use Rattle.record_grammar.specs.Record.{items as items_in}
@@ -28,15 +28,15 @@ use Rattle.record_reader.specs.declared.salvage.Salvage.{Salvage}
 use Rattle.record_reader.specs.declared.salvage.Salvaged.{Salvaged}
 use Rattle.record_reader.specs.item_reader.StandsFor.{FoundFault, IsFaulty}
 use Rattle.record_reader.proofs.lemmas.item_reader.Needed.{while-weaker}
-use Rattle.record_reader.specs.Taking.{AreAll, Took, RecordRead, ItemsRead}
+use Rattle.record_reader.specs.ItemTaker.{AreAll, Took, RecordRead, ItemsRead}
 use Rattle.record_reader.specs.Salvaged.{kept, is_init, salvaged_from, salvaged, cycles_of, refused_of}
 use Rattle.record_reader.specs.Salvaged.{written_items}
 use Rattle.record_reader.specs.InItems.{spelled_by}
-use Rattle.record_reader.specs.Keeping.{Keeps, salvaging, FinishIs}
+use Rattle.record_reader.specs.SalvageState.{Keeps, salvaging, FinishIs}
 use Rattle.record_reader.specs.Salvages.{IsFront, IsCut, Salvages, HasNothing, Begins, Answers, ReadsTo, SavesRead, Ended, settled_by}
 use Rattle.record_reader.proofs.Items.{whole_has_init}
 use Rattle.record_reader.proofs.Pieces.{kept_append}
-use Rattle.record_reader.proofs.Taking.{behind, over, told, of-slot}
+use Rattle.record_reader.proofs.ItemTaker.{behind, over, told, of-slot}
 
 -- ---- the salvaged record of items
 
@@ -366,14 +366,15 @@ pub ended-stopped : (read : Result (Unit {0}) (Stopped RecordFault)) (stop : Sto
 ended-stopped read stop one s h is = ended read (Err stop) one.after one.faults_after s h (is-stopped read stop s one is)
 
 -- what failed is what failed in the reading
-pub settled-failure : (begun : Bool) (read : Result (Unit {0}) (Stopped RecordFault)) (stop : Stopped RecordFault) → settled_by begun read
+pub settle_fault-failure : (begun : Bool) (read : Result (Unit {0}) (Stopped RecordFault)) (stop : Stopped RecordFault)
+    → settled_by begun read
     ≡ Err stop → read ≡ Err stop
-settled-failure true (Ok u) stop is = is
-settled-failure true (Err (Refused f)) stop is = absurd cc
-settled-failure true (Err (Failed failure)) stop is = is
-settled-failure false (Ok u) stop is = is
-settled-failure false (Err (Refused f)) stop is = is
-settled-failure false (Err (Failed failure)) stop is = is
+settle_fault-failure true (Ok u) stop is = is
+settle_fault-failure true (Err (Refused f)) stop is = absurd cc
+settle_fault-failure true (Err (Failed failure)) stop is = is
+settle_fault-failure false (Ok u) stop is = is
+settle_fault-failure false (Err (Refused f)) stop is = is
+settle_fault-failure false (Err (Failed failure)) stop is = is
 
 -- ---- what each answer says
 

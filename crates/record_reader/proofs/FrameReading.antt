@@ -8,7 +8,7 @@ use Rattle.det_io.specs.Traffic.{failure_in}
 use Rattle.det_io.specs.declared.failure.Failure.TheVariants.{Read, Write, OutOfMemory}
 use Rattle.det_io.specs.declared.failure.Stopped.{Stopped}
 use Rattle.det_io.specs.declared.failure.Stopped.TheVariants.{Refused, Failed}
-use Rattle.record_grammar.specs.declared.fault.RecordFault.{RecordFault}
+use Rattle.record_grammar.specs.declared.record_fault.RecordFault.{RecordFault}
 use Rattle.record_grammar.specs.declared.place.Place.{Place}
 use Rattle.record_grammar.specs.declared.place.Place.TheVariants as places
 use Rattle.record_grammar.specs.declared.item.Item.{Item}
@@ -23,11 +23,11 @@ use Rattle.record_view.proofs.Headers.{IsOfFrame, frame_there}
 use Rattle.record_reader.specs.declared.item_reader.reader.ItemReader.{ItemReader}
 use Rattle.record_reader.specs.item_reader.StandsFor as inner
 use Rattle.record_reader.specs.item_reader.Held.{held}
-use Rattle.record_reader.specs.declared.frames.FrameReader.{FrameReader}
-use Rattle.record_reader.specs.declared.frames.OpenRecord.{OpenRecord}
+use Rattle.record_reader.specs.declared.frame_reader.FrameReader.{FrameReader}
+use Rattle.record_reader.specs.declared.frame_reader.OpenRecord.{OpenRecord}
 use Rattle.record_reader.specs.Frames.{StandsFor, HasRead, GaveFrame, IsHeader, HeaderIs, HasOpened}
 use Rattle.record_reader.specs.Salvaged.{is_init}
-use Rattle.record_reader.specs.Taking.{AreFirst}
+use Rattle.record_reader.specs.ItemTaker.{AreFirst}
 use Rattle.record_reader.proofs.Items.{HasLayout, header_first as header_first_of, next_is, whole_has_init}
 use Rattle.record_reader.proofs.Items.{are_first as first_of, more_items as more_of}
 

@@ -21,8 +21,8 @@ use Rattle.record_grammar.proofs.Leads.{can_follow, leads_grow, all_leads, room_
 use Rattle.record_grammar.proofs.lemmas.record_laws.Whole.{nil_more}
 use Rattle.record_reader.specs.declared.item_reader.reader.ItemReader.{ItemReader}
 use Rattle.record_reader.specs.item_reader.StandsFor.{StandsFor, place_of, unread}
-use Rattle.record_reader.specs.Taking.{AreFirst}
-use Rattle.record_reader.specs.Keeping.{format_after}
+use Rattle.record_reader.specs.ItemTaker.{AreFirst}
+use Rattle.record_reader.specs.SalvageState.{format_after}
 use Rattle.record_reader.specs.Salvaged.{is_init}
 use Rattle.record_reader.proofs.Spellable.{spells_in_runs}
 

@@ -13,7 +13,7 @@ use Rattle.det_io.specs.declared.failure.Stopped.TheVariants.{Refused, Failed}
 use Rattle.det_io.specs.Sink.{Grew, GrewShort}
 use Rattle.det_io.specs.Traffic.{SinkRun}
 use Rattle.det_io.proofs.Prefixes.{prefix-none}
-use Rattle.record_grammar.specs.declared.fault.RecordFault.{RecordFault}
+use Rattle.record_grammar.specs.declared.record_fault.RecordFault.{RecordFault}
 use Rattle.record_grammar.specs.declared.item.Item.{Item}
 use Rattle.record_grammar.specs.declared.item.Item.TheVariants as items
 use Rattle.record_grammar.specs.declared.place.Place.{Place}
@@ -36,8 +36,8 @@ use Rattle.record_reader.specs.Kinds.{begins_runs, runs_of, refusals_at, refusal
 use Rattle.record_reader.specs.Salvaged.{is_init, refusals_in}
 use Rattle.record_reader.specs.InItems.{run_in}
 use Rattle.record_reader.specs.Salvaged.{refusals_of as refusals_of_outcome}
-use Rattle.record_reader.specs.Keeping.{spelled_unless_last, piece_of, format_after, Keeps, salvaging, Counted, Puts}
-use Rattle.record_reader.specs.Taking.{IsNext, Takes}
+use Rattle.record_reader.specs.SalvageState.{spelled_unless_last, piece_of, format_after, Keeps, salvaging, Counted, Puts}
+use Rattle.record_reader.specs.ItemTaker.{IsNext, Takes}
 use Rattle.record_reader.proofs.Items.{NextIs, same_format}
 use Rattle.record_reader.proofs.Pieces.{headed-next, more_of, begun-next, written-next, all-next, sum-next, cycles-next}
 
@@ -85,7 +85,8 @@ kept-item : (given : List Item) (place : Place) (kind : ItemKind) (len : ℕ) (b
     → kept_bytes kind (item_spelling place x) ≡ piece_of (format_after given) x
 kept-item given place (kinds.Header layout) len bytes record_bytes rest (items.Header p) h leads may = refl
 kept-item given place (kinds.Frame kind) len bytes record_bytes rest (items.Frame f) h leads may =
-    kept-frame place kind len bytes f h ∙ ap (λ (format : Format). spelled_unless_last format f) (same_format given place record_bytes rest f leads may)
+    kept-frame place kind len bytes f h ∙ ap (λ (format : Format). spelled_unless_last format f) (same_format given place record_bytes rest
+    f leads may)
 kept-item given place kind len bytes record_bytes rest x h leads may = elim h [ ]
 
 -- the bytes that are kept of an item are its piece

@@ -1,7 +1,7 @@
 pub mod Spellable
 pub mod Items
 pub mod FrameReading
-pub mod Taking
+pub mod ItemTaker
 pub mod Views
 pub mod Pieces
 pub mod Kept

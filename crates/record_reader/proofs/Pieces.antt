@@ -19,8 +19,8 @@ use Rattle.record_grammar.specs.Spelling.{spelled, spelled_header, spelled_frame
 use Rattle.record_reader.specs.Salvaged.{kept, is_init, refusals_of, refusals_in, cycles_of, refused_of}
 use Rattle.record_reader.specs.Salvaged.{written_items}
 use Rattle.record_reader.specs.InItems.{run_in, runs_in, spelled_by}
-use Rattle.record_reader.specs.Keeping.{spelled_unless_last, piece_of, format_after, IsHeaded}
-use Rattle.record_reader.specs.Taking.{AreFirst}
+use Rattle.record_reader.specs.SalvageState.{spelled_unless_last, piece_of, format_after, IsHeaded}
+use Rattle.record_reader.specs.ItemTaker.{AreFirst}
 use Rattle.record_reader.proofs.Items.{NextIs, few_first}
 
 kept_is : (format : Format) (f : Frame) → flat_map (spelled_frame format) (kept (items.Frame f) ++ []) ≡ spelled_unless_last format f
@@ -120,7 +120,8 @@ sum-next f xs x = sum_by-append f xs (x ∷ []) ∙ ap (λ (n : ℕ). sum_by f x
 
 -- one cycle more for a run
 pub cycles-next : (xs : List Item) (x : Item) → cycles_of (xs ++ x ∷ []) ≡ cycles_of xs + length (run_in x)
-cycles-next xs x = ap length (flat_map-append run_in xs (x ∷ []) ∙ ap (λ (more : List RunFrame). runs_in xs ++ more) (append-nil (run_in x)))
+cycles-next xs x = ap length (flat_map-append run_in xs (x ∷ []) ∙ ap (λ (more : List RunFrame). runs_in xs
+    ++ more) (append-nil (run_in x)))
     ∙ length-append (runs_in xs) (run_in x)
 
 runs_few : (x : Item) → length (run_in x) ≤ 1

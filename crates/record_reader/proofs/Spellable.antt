@@ -12,7 +12,7 @@ use Rattle.det_values.specs.declared.frames.Outcome.TheVariants.{Finished, Refus
 use Rattle.det_values.specs.declared.frames.Frame.{Frame}
 use Rattle.det_values.specs.declared.frames.Frame.TheVariants.{Run, Terminate}
 use Rattle.det_values.specs.Values.{SampleValue}
-use Rattle.record_grammar.specs.declared.fault.Reason.TheVariants.{Range, TooMany}
+use Rattle.record_grammar.specs.declared.record_fault.Reason.TheVariants.{Range, TooMany}
 use Rattle.record_grammar.specs.declared.limits.Limits.TheVariants.{Between}
 use Rattle.record_grammar.specs.declared.place.Layout.{Layout}
 use Rattle.record_grammar.specs.declared.place.Place.TheVariants as places

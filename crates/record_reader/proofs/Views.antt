@@ -13,7 +13,7 @@ use Rattle.det_io.proofs.Counts.{rose-before}
 use Rattle.det_io.proofs.Growth.{grew-none, grew-then, part-whole}
 use Rattle.det_io.proofs.Prefixes.{prefix-append, prefix-behind, prefix-same, prefix-then}
 use Rattle.det_io.proofs.SlotReads.{reads-none, reads-then}
-use Rattle.record_grammar.specs.declared.fault.RecordFault.{RecordFault}
+use Rattle.record_grammar.specs.declared.record_fault.RecordFault.{RecordFault}
 use Rattle.record_grammar.specs.declared.item.Item.{Item}
 use Rattle.record_grammar.specs.declared.place.Place.TheVariants as places
 use Rattle.record_grammar.specs.Record.{items as items_in, fault_so_far}
@@ -22,14 +22,14 @@ use Rattle.record_view.specs.Shows.{IsSpelling}
 use Rattle.record_reader.specs.declared.item_reader.reader.ItemReader.{ItemReader}
 use Rattle.record_reader.specs.item_reader.StandsFor.{StandsFor, HasRead, ReadsIfNeeded, ItemIs, Holds, slot_of}
 use Rattle.record_reader.proofs.lemmas.item_reader.Needed.{while-weaker, while-then}
-use Rattle.record_reader.specs.Taking.{AreFirst, IsNext, Taking, Takes, Took, RefusedBy, Finds, RecordRead, IsNeeded, ItemsRead}
+use Rattle.record_reader.specs.ItemTaker.{AreFirst, IsNext, ItemTaker, Takes, Took, RefusedBy, Finds, RecordRead, IsNeeded, ItemsRead}
 use Rattle.record_reader.proofs.Items.{are_first, more_items}
-use Rattle.record_reader.proofs.Taking.{at_none, all-before, step, Lifts, quiet-sink}
+use Rattle.record_reader.proofs.ItemTaker.{at_none, all-before, step, Lifts, quiet-sink}
 
 -- ---- the loop
 
 -- items of a record were passed to a taker, and a sink took what is written of them
-pub record Running {E : Type 0} (taking : Taking E) (first now : ShelfState) (slot : ℕ) (reader : ItemReader)
+pub record Running {E : Type 0} (taking : ItemTaker E) (first now : ShelfState) (slot : ℕ) (reader : ItemReader)
     (before after : List ℕ → Type 0) : Type 0 where
   pub read : List ℕ
   pub given : List Item
@@ -40,7 +40,7 @@ pub record Running {E : Type 0} (taking : Taking E) (first now : ShelfState) (sl
   pub stands : taking.stands given
   pub grew : Grew before after (taking.written given)
 
-pub running-new : {E : Type 0} (taking : Taking E) (state : ShelfState) (reader : ItemReader) (took : List ℕ → Type 0)
+pub running-new : {E : Type 0} (taking : ItemTaker E) (state : ShelfState) (reader : ItemReader) (took : List ℕ → Type 0)
     → StandsFor reader [] [] → taking.stands [] → taking.written [] ≡ [] → Running taking state state (slot_of reader) reader took took
 running-new taking state reader took gave stands none = record {
   read = [];
@@ -71,14 +71,15 @@ needed-longer given item read h =
     )) h
 
 -- the result of a reader, by all bytes that were read
-abbrev pub Answered : {E : Type 0} {taking : Taking E} {first mid : ShelfState} {slot : ℕ} {reader : ItemReader}
+abbrev pub Answered : {E : Type 0} {taking : ItemTaker E} {first mid : ShelfState} {slot : ℕ} {reader : ItemReader}
     {before after : List ℕ → Type 0} → Running taking first mid slot reader before after → ShelfState → ItemReader
     → Result (Option ItemView) (Stopped RecordFault) → Type 0
 Answered {first = first} {slot = slot} h now next result = (more : List ℕ)
     × (Reads first now slot (h.read ++ more) × IsNeeded h.given (h.read ++ more))
     × ItemIs result next (IsAtEnd now slot) (h.read ++ more) h.given
 
-pub answered : {E : Type 0} {taking : Taking E} {first mid : ShelfState} {slot : ℕ} {reader : ItemReader} {before after : List ℕ → Type 0}
+pub answered : {E : Type 0} {taking : ItemTaker E} {first mid : ShelfState} {slot : ℕ} {reader : ItemReader} {before after : List ℕ
+    → Type 0}
     (h : Running taking first mid slot reader before after) {now : ShelfState} (next : ItemReader)
     (result : Result (Option ItemView) (Stopped RecordFault))
     → HasRead mid now reader (ItemIs result next (IsAtEnd now (slot_of reader))) → Answered h now next result
@@ -92,22 +93,22 @@ answered {mid = mid} h {now = now} next result p = (
 )
 
 -- the returned items come first among those of all bytes that begin with the ones read
-come-first : {E : Type 0} {taking : Taking E} {first mid : ShelfState} {slot : ℕ} {reader : ItemReader} {before after : List ℕ → Type 0}
+come-first : {E : Type 0} {taking : ItemTaker E} {first mid : ShelfState} {slot : ℕ} {reader : ItemReader} {before after : List ℕ → Type 0}
     (h : Running taking first mid slot reader before after) (more rest : List ℕ)
     → IsPrefix h.given (items_in ((h.read ++ more) ++ rest))
 come-first {reader = reader} h more rest =
     let all = more_items reader h.read h.given h.gave (more ++ rest) in
     (all.0, sym all.1 ∙ ap items_in (sym (append_assoc h.read more rest)))
 
-module _ {E : Type 0} {taking : Taking E} {first mid : ShelfState} {slot : ℕ} {reader : ItemReader} {before after : List ℕ → Type 0}
+module _ {E : Type 0} {taking : ItemTaker E} {first mid : ShelfState} {slot : ℕ} {reader : ItemReader} {before after : List ℕ → Type 0}
     (h : Running taking first mid slot reader before after) where
-  grew-as : (taken : Taking E) → taken.written ≡ taking.written → Grew before after (taken.written h.given)
+  grew-as : (taken : ItemTaker E) → taken.written ≡ taking.written → Grew before after (taken.written h.given)
   grew-as taken same = subst (λ (w : List Item → List ℕ). Grew before after (w h.given)) (sym same) h.grew
 
   took : {a b : ℕ} → Took taking h.given (step before after a b)
   took = record { stands = h.stands; grew = h.grew }
 
-module _ {E : Type 0} {taking : Taking E} {first mid : ShelfState} {slot : ℕ} {reader : ItemReader} {before after : List ℕ → Type 0}
+module _ {E : Type 0} {taking : ItemTaker E} {first mid : ShelfState} {slot : ℕ} {reader : ItemReader} {before after : List ℕ → Type 0}
     (h : Running taking first mid slot reader before after) {now : ShelfState} (next : ItemReader) where
   -- the returned items and the next one come first in a record
   pub next-first : (view : ItemView) (answer : Answered h now next (Ok (Some view))) → AreFirst (h.given ++ answer.2.item ∷ [])
@@ -128,7 +129,8 @@ module _ {E : Type 0} {taking : Taking E} {first mid : ShelfState} {slot : ℕ} 
       let all = more_items next (h.read ++ answer.0) (h.given ++ answer.2.item ∷ []) answer.2.stands rest in (all.0, sym all.1)
 
   -- an item was taken
-  pub running-next : (view : ItemView) {u : Unit {0}} {last : List ℕ → Type 0} {a b : ℕ} (taken : Taking E) → taken.written ≡ taking.written
+  pub running-next : (view : ItemView) {u : Unit {0}} {last : List ℕ → Type 0} {a b : ℕ} (taken : ItemTaker E)
+      → taken.written ≡ taking.written
       → (answer : Answered h now next (Ok (Some view))) → slot_of next ≡ slot_of reader
       → Takes (Ok u) taken h.given answer.2.item [] (step after last a b) → Running taken first now slot next before last
   running-next view {last = last} taken same answer at take = record {
@@ -202,10 +204,11 @@ module _ {E : Type 0} {taking : Taking E} {first mid : ShelfState} {slot : ℕ} 
       })
 
 -- the taker stopped at an item
-pub taker-stopped : {E : Type 0} {taking : Taking E} {first mid now : ShelfState} {slot : ℕ} {reader : ItemReader}
+pub taker-stopped : {E : Type 0} {taking : ItemTaker E} {first mid now : ShelfState} {slot : ℕ} {reader : ItemReader}
     {before after last : List ℕ → Type 0} {a b c d : ℕ} {stays : Type 0} (next : ItemReader) (view : ItemView) (stop : Stopped E)
-    (taken : Taking E)
-    → taken.written ≡ taking.written → (h : Running taking first mid slot reader before after) (answer : Answered h now next (Ok (Some view)))
+    (taken : ItemTaker E)
+    → taken.written ≡ taking.written
+    → (h : Running taking first mid slot reader before after) (answer : Answered h now next (Ok (Some view)))
     → Takes (Err stop) taken h.given answer.2.item [] (step after last a b)
     → ItemsRead (Err stop) taken (record { first = first; last = now; stays = stays }) slot (step before last c d)
 taker-stopped {E} {first = first} {now = now} {slot = slot} {before = before} {after = after} {last = last} {a = a} {b = b} {c = c} {d = d}
@@ -299,7 +302,7 @@ same-failure A B (Refused why) = refl
 same-failure A B (Failed failure) = refl
 
 -- a reader writes nothing
-pub no-write : {E : Type 0} {taking : Taking E} {first mid now : ShelfState} {slot : ℕ} {reader : ItemReader}
+pub no-write : {E : Type 0} {taking : ItemTaker E} {first mid now : ShelfState} {slot : ℕ} {reader : ItemReader}
     {before after : List ℕ → Type 0} {out : SinkRun} (h : Running taking first mid slot reader before after) (next : ItemReader)
     (stop : Stopped RecordFault) → Answered h now next (Err stop) → SinkTraffic out None
     → SinkTraffic out (failure_in {A = Unit {0}} (Err stop))

@@ -8,7 +8,7 @@ use Rattle.det_io.specs.Shelf.{ShelfState, Reads, IsAtEnd}
 use Rattle.det_io.specs.declared.failure.Failure.TheVariants.{Read, Write, OutOfMemory}
 use Rattle.det_io.specs.declared.failure.Stopped.{Stopped}
 use Rattle.det_io.specs.declared.failure.Stopped.TheVariants.{Refused, Failed}
-use Rattle.record_grammar.specs.declared.fault.RecordFault.{RecordFault}
+use Rattle.record_grammar.specs.declared.record_fault.RecordFault.{RecordFault}
 use Rattle.record_grammar.specs.declared.item.Item.{Item}
 use Rattle.record_grammar.specs.declared.item.Item.TheVariants as items
 use Rattle.record_grammar.specs.declared.place.Place.TheVariants as places
@@ -19,8 +19,8 @@ use Rattle.record_view.specs.declared.view.ItemView.{ItemView}
 use Rattle.record_view.specs.Shows.{item_view}
 use Rattle.record_reader.specs.item_reader.StandsFor as inner
 use Rattle.record_reader.specs.item_reader.StandsFor.{FoundFault, ReadsIfNeeded}
-use Rattle.record_reader.specs.declared.frames.FrameReader.{FrameReader}
-use Rattle.record_reader.specs.declared.frames.OpenRecord.{OpenRecord}
+use Rattle.record_reader.specs.declared.frame_reader.FrameReader.{FrameReader}
+use Rattle.record_reader.specs.declared.frame_reader.OpenRecord.{OpenRecord}
 
 -- these bytes were read, these items returned, and no fault
 abbrev pub StandsFor : FrameReader → List ℕ → List Item → Type 0

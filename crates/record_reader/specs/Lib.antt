@@ -1,9 +1,9 @@
 pub mod Digested
 pub mod Frames
 pub mod InItems
-pub mod Taking
+pub mod ItemTaker
 pub mod Salvaged
 pub mod Kinds
-pub mod Keeping
+pub mod SalvageState
 pub mod Salvages
 pub mod item_reader

@@ -8,13 +8,13 @@ use Rattle.det_io.specs.Prefix.{IsPrefix, IsProperPrefix}
 use Rattle.det_io.specs.Shelf.{IsAtEnd}
 use Rattle.det_io.specs.Sink.{Grew}
 use Rattle.det_io.specs.Traffic.{ShelfRun, SinkRun}
-use Rattle.record_grammar.specs.declared.fault.RecordFault.{RecordFault}
+use Rattle.record_grammar.specs.declared.record_fault.RecordFault.{RecordFault}
 use Rattle.record_grammar.specs.Record.{items as items_in, fault as fault_in, fault_so_far}
 use Rattle.record_reader.specs.declared.salvage.Salvaged.{Salvaged}
 use Rattle.record_reader.specs.item_reader.Needed.{ReadsWhile}
 use Rattle.record_reader.specs.item_reader.StandsFor.{IsFaulty}
 use Rattle.record_reader.specs.Salvaged.{salvaged, saved_of, cycles_of, refused_of}
-use Rattle.record_reader.specs.Taking.{OfSlot}
+use Rattle.record_reader.specs.ItemTaker.{OfSlot}
 
 -- a prefix of the salvaged record; nothing where there is none
 abbrev pub IsFront : List ℕ → Option (List ℕ) → Type 0

@@ -3,4 +3,4 @@ pub mod Needed
 pub mod StandsFor
 pub mod Steps
 pub mod Fronts
-pub mod Like
+pub mod Comparison

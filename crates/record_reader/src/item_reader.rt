@@ -1,9 +1,9 @@
 //! Reads the items of a record from a slot, as views of the bytes that it holds. Nothing of an item
 //! is copied. Reading takes no memory once the longest item has come.
 
-mod like;
+mod comparison;
 mod reader;
 mod window;
 
-pub use like::Like;
+pub use comparison::Comparison;
 pub use reader::ItemReader;

@@ -1,15 +1,15 @@
 //! Records in slots: opened and read frame by frame, salvaged, and digested.
 #![tactic(auto)]
 
-mod counting;
 mod digest_sink;
-mod frames;
+mod frame_reader;
 pub mod item_reader;
+mod kind_counts;
 mod salvage;
-mod salvaging;
+mod salvage_items;
 
-pub use counting::{begins_runs, runs_of};
 pub use digest_sink::DigestSink;
-pub use frames::{FrameReader, OpenRecord, open};
+pub use frame_reader::{FrameReader, OpenRecord, open_record};
+pub use kind_counts::{begins_runs, runs_of};
 pub use salvage::Salvaged;
-pub use salvaging::salvage_run;
+pub use salvage_items::salvage_record;

@@ -3,7 +3,7 @@ ghost use Rattle.std.specs.Prelude.{◌≡◌, ◌<◌, ◌≤◌, ◌++◌};
 ghost use Rattle.record_grammar.specs.Spelling.{AreBytes};
 ghost use Rattle.record_reader.specs.Kinds.{kept_bytes};
 
-use crate::counting::{begins_runs, refusals_of, runs_of};
+use crate::kind_counts::{begins_runs, refusals_of, runs_of};
 use det_io::{Sink, Stopped, write_all};
 use det_values::{Format, Frame};
 use record_codec::encode_frame;
@@ -33,8 +33,8 @@ impl Salvage {
     ghost use Rattle.std.specs.Prelude.{List, [], ◌∷◌};
     ghost use Rattle.det_io.specs.Traffic.{SinkTraffic, sink_run, failure_in};
     ghost use Rattle.record_grammar.specs.declared.item.Item.{Item};
-    ghost use Rattle.record_reader.specs.Taking.{IsNext, Takes};
-    ghost use Rattle.record_reader.specs.Keeping.{Keeps, salvaging, Counted, Puts, FinishIs};
+    ghost use Rattle.record_reader.specs.ItemTaker.{IsNext, Takes};
+    ghost use Rattle.record_reader.specs.SalvageState.{Keeps, salvaging, Counted, Puts, FinishIs};
 
     /// A salvage that has taken no item. It takes no memory.
     pub fn new(alloc: Global) -> Salvage

@@ -21,7 +21,7 @@ use Rattle.record_view.specs.declared.view.FrameKind.TheVariants as kinds
 use Rattle.record_view.specs.declared.view.FrameView.{FrameView}
 use Rattle.record_view.specs.Parts.{undrawn, ElementsOf, OutputOf}
 use Rattle.record_view.specs.Shows.{ShowsFrame, IsFrameSpelling}
-use Rattle.record_text.specs.Words.{number_line, numbered}
+use Rattle.record_text.specs.Words.{number_line, numbered_texts}
 use Rattle.record_text.specs.Records.{element_line, drawn_line, run_line, sample_line, output_line, outcome_lines, run_lines}
 
 pub then-ok : {A E P Q : Type 0} (r : Result A E) → (P → Q) → OnOk r P → OnOk r Q
@@ -35,20 +35,20 @@ three old x y z a b new ea eb en =
 -- ---- Init
 
 -- elements of Init have the lines of elements of format 1
-undrawn_lines : (i : ℕ) (es : List (List ℕ)) → numbered (drawn_line One) i (map undrawn es) ≡ numbered element_line i es
-unfolding numbered
+undrawn_lines : (i : ℕ) (es : List (List ℕ)) → numbered_texts (drawn_line One) i (map undrawn es) ≡ numbered_texts element_line i es
+unfolding numbered_texts
 undrawn_lines i [] = refl
 undrawn_lines i (e ∷ es) = ap (λ (more : List ℕ). element_line i e ++ more) (undrawn_lines (i + 1) es)
 
 pub init_put : (es : List DrawnElement) (elements : List (List ℕ)) (count : ℕ) (old mid new : List ℕ) → es ≡ map undrawn elements
-    → length es ≡ count → mid ≡ old ++ number_line (codes "init") count → new ≡ mid ++ numbered (drawn_line One) 0 es
-    → new ≡ old ++ (number_line (codes "init") (length elements) ++ numbered element_line 0 elements)
+    → length es ≡ count → mid ≡ old ++ number_line (codes "init") count → new ≡ mid ++ numbered_texts (drawn_line One) 0 es
+    → new ≡ old ++ (number_line (codes "init") (length elements) ++ numbered_texts element_line 0 elements)
 init_put es elements count old mid new is counted first then =
     let all : count ≡ length elements = sym counted ∙ ap length is ∙ length-map elements undrawn in
-    then ∙ ap (λ (l : List ℕ). l ++ numbered (drawn_line One) 0 es) (first ∙ ap (λ (n : ℕ). old ++ number_line (codes "init") n) all)
-    ∙ append_assoc old (number_line (codes "init") (length elements)) (numbered (drawn_line One) 0 es)
+    then ∙ ap (λ (l : List ℕ). l ++ numbered_texts (drawn_line One) 0 es) (first ∙ ap (λ (n : ℕ). old ++ number_line (codes "init") n) all)
+    ∙ append_assoc old (number_line (codes "init") (length elements)) (numbered_texts (drawn_line One) 0 es)
     ∙ ap (λ (l : List ℕ). old ++ (number_line (codes "init") (length elements) ++ l))
-    (ap (numbered (drawn_line One) 0) is ∙ undrawn_lines 0 elements)
+    (ap (numbered_texts (drawn_line One) 0) is ∙ undrawn_lines 0 elements)
 
 pub record IsInit (count len : ℕ) (bytes : List ℕ) (frame : Frame) : Type 0 where
   pub elements : List (List ℕ)
@@ -74,15 +74,15 @@ is_init view count frame bytes is h =
 
 pub finished_put : (format : Format) (outcome : Outcome) (count : ℕ) (es : List DrawnElement) (bytes old a b new : List ℕ)
     → ElementsOf es outcome → OutputOf bytes outcome → length es ≡ count → a ≡ old ++ number_line (codes "finished") count
-    → b ≡ a ++ numbered (drawn_line format) 0 es → new ≡ b ++ output_line bytes → new ≡ old ++ outcome_lines format outcome
+    → b ≡ a ++ numbered_texts (drawn_line format) 0 es → new ≡ b ++ output_line bytes → new ≡ old ++ outcome_lines format outcome
 finished_put format (Finished elements output) count es bytes old a b new is out counted ea eb en =
-    three old (number_line (codes "finished") count) (numbered (drawn_line format) 0 es) (output_line bytes) a b new ea eb en
-    ∙ ap (λ (n : ℕ). old ++ (number_line (codes "finished") n ++ (numbered (drawn_line format) 0 es ++ output_line bytes)))
+    three old (number_line (codes "finished") count) (numbered_texts (drawn_line format) 0 es) (output_line bytes) a b new ea eb en
+    ∙ ap (λ (n : ℕ). old ++ (number_line (codes "finished") n ++ (numbered_texts (drawn_line format) 0 es ++ output_line bytes)))
     (sym counted ∙ ap length is)
     ∙ ap (λ (xs : List DrawnElement). old ++ (number_line (codes "finished") (length elements)
-    ++ (numbered (drawn_line format) 0 xs ++ output_line bytes))) is
+    ++ (numbered_texts (drawn_line format) 0 xs ++ output_line bytes))) is
     ∙ ap (λ (xs : List ℕ). old ++ (number_line (codes "finished") (length elements)
-    ++ (numbered (drawn_line format) 0 elements ++ output_line xs))) out
+    ++ (numbered_texts (drawn_line format) 0 elements ++ output_line xs))) out
 finished_put format (Refused at) count es bytes old a b new is out counted ea eb en = absurd is
 
 pub run_put : (format : Format) (cycle : ℕ) (run : RunFrame) (time : Option ℕ) (samples : List SampleValue) (old a b new : List ℕ)

@@ -18,7 +18,7 @@ use Rattle.det_values.specs.Values.{SampleValue, EventSpecValue, RefusedAtValue,
 use Rattle.det_values.specs.Values.{phase_word}
 use Rattle.record_grammar.specs.declared.item.Item.{Item}
 use Rattle.record_grammar.specs.declared.item.Item.TheVariants as items
-use Rattle.record_text.specs.Words.{hex_text, number_line, numbered}
+use Rattle.record_text.specs.Words.{hex_text, number_line, numbered_texts}
 
 -- ---- the header
 
@@ -57,7 +57,7 @@ front_lines profile =
 abbrev pub header_lines : ProfileValue → List ℕ
 header_lines profile =
     front_lines profile
-    ++ (params_line profile.params ++ numbered (event_line profile.format) 0 profile.events)
+    ++ (params_line profile.params ++ numbered_texts (event_line profile.format) 0 profile.events)
 
 -- ---- the frames
 
@@ -101,7 +101,7 @@ output_line output = codes "output " ++ (hex_text output ++ codes "\n")
 abbrev pub outcome_lines : Format → Outcome → List ℕ
 outcome_lines format (Finished elements output) =
     number_line (codes "finished") (length elements)
-    ++ (numbered (drawn_line format) 0 elements ++ output_line output)
+    ++ (numbered_texts (drawn_line format) 0 elements ++ output_line output)
 outcome_lines format (Refused at) = refused_line at
 
 abbrev pub run_lines : Format → ℕ → RunFrame → List ℕ
@@ -114,7 +114,7 @@ abbrev pub frame_lines : Format → ℕ → Frame → List ℕ
 frame_lines format cycle Register = codes "register\n"
 frame_lines format cycle Discover = codes "discover\n"
 frame_lines format cycle (Init elements) =
-    number_line (codes "init") (length elements) ++ numbered element_line 0 elements
+    number_line (codes "init") (length elements) ++ numbered_texts element_line 0 elements
 frame_lines format cycle (Run run) = run_lines format cycle run
 frame_lines format cycle Terminate = codes "terminate\n"
 

@@ -12,6 +12,6 @@ abbrev pub number_line : List ℕ → ℕ → List ℕ
 number_line word n = word ++ (codes " " ++ (decimal n ++ codes "\n"))
 
 -- the texts of these things with their numbers, counted from `i`
-unfoldable pub numbered : {A : Type 0} → (ℕ → A → List ℕ) → ℕ → List A → List ℕ
-numbered text i [] = []
-numbered text i (x ∷ xs) = text i x ++ numbered text (i + 1) xs
+unfoldable pub numbered_texts : {A : Type 0} → (ℕ → A → List ℕ) → ℕ → List A → List ℕ
+numbered_texts text i [] = []
+numbered_texts text i (x ∷ xs) = text i x ++ numbered_texts text (i + 1) xs

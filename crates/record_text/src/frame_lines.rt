@@ -10,13 +10,13 @@ ghost use Rattle.record_grammar.specs.Grammar.{element_at};
 ghost use Rattle.record_grammar.specs.Places.{format_of};
 ghost use Rattle.record_view.specs.Shows.{ShowsInput, ShowsOutcome, ShowsFinished, events_of};
 ghost use Rattle.record_view.specs.Shows.{IsFrameSpelling};
-ghost use Rattle.record_text.specs.Words.{number_line, numbered};
+ghost use Rattle.record_text.specs.Words.{number_line, numbered_texts};
 ghost use Rattle.record_text.specs.Records.{draws_text, drawn_line, time_text, run_line};
 ghost use Rattle.record_text.specs.Records.{sample_line, refused_line, output_line};
 ghost use Rattle.record_text.specs.Records.{element_line, outcome_lines, run_lines, frame_lines};
 
-use crate::line::Line;
-use crate::put::{put_hex, put_number, put_number_line, put_signed, put_words};
+use crate::line_buffer::LineBuffer;
+use crate::put_text::{put_hex, put_number, put_number_line, put_signed, put_str};
 use det_values::{Format, OutOfMemory, RefusedAt, Sample};
 use record_grammar::Place;
 use record_view::{
@@ -25,7 +25,7 @@ use record_view::{
 };
 use std::alloc::AllocError;
 
-fn prepend_draws(line: &mut Line, format: Format, draws: u32)
+fn prepend_draws(line: &mut LineBuffer, format: Format, draws: u32)
     requires { 11 + length line.old ≤ 160 }
     ensures text { line.new ≡ draws_text format draws ++ line.old }
     ensures short { length line.new ≤ 11 + length line.old }
@@ -34,7 +34,7 @@ fn prepend_draws(line: &mut Line, format: Format, draws: u32)
         Format::One => {}
         Format::Two => {
             line.prepend_number(draws);
-            line.prepend_words(" ");
+            line.prepend_str(" ");
         }
     }
 }
@@ -50,13 +50,13 @@ fn put_drawn_line(
     ensures { OnOk result
         (out.new.items ≡ out.old.items ++ drawn_line format number (an_element bytes.now draws)) }
 {
-    let mut line = Line::new();
-    line.prepend_words("\n");
+    let mut line = LineBuffer::new();
+    line.prepend_str("\n");
     prepend_draws(&mut line, format, draws);
     line.prepend_hex(bytes);
-    line.prepend_words(" ");
+    line.prepend_str(" ");
     line.prepend_number(number);
-    line.prepend_words("element ");
+    line.prepend_str("element ");
     out.extend_from_slice(line.as_slice())
 }
 
@@ -68,7 +68,7 @@ fn put_drawn_lines(
 ) -> Result<(), AllocError>
     requires { length elements ≤ count }
     ensures { OnOk result
-        (out.new.items ≡ out.old.items ++ numbered (drawn_line format) 0 elements.entry) }
+        (out.new.items ≡ out.old.items ++ numbered_texts (drawn_line format) 0 elements.entry) }
 {
     let mut elements = elements;
     'elements: for number in 0..count {
@@ -84,7 +84,7 @@ fn put_time(out: &mut Vec<u8>, time: Option<u64>) -> Result<(), AllocError>
     ensures { OnOk result (out.new.items ≡ out.old.items ++ time_text time) }
 {
     match time {
-        None => put_words(out, "-"),
+        None => put_str(out, "-"),
         Some(time) => put_number(out, time),
     }
 }
@@ -92,11 +92,11 @@ fn put_time(out: &mut Vec<u8>, time: Option<u64>) -> Result<(), AllocError>
 fn put_run_line(out: &mut Vec<u8>, cycle: u32, time: Option<u64>) -> Result<(), AllocError>
     ensures { OnOk result (out.new.items ≡ out.old.items ++ run_line cycle time) }
 {
-    put_words(out, "run ")?;
+    put_str(out, "run ")?;
     put_number(out, cycle as u64)?;
-    put_words(out, " time ")?;
+    put_str(out, " time ")?;
     put_time(out, time)?;
-    put_words(out, "\n")?;
+    put_str(out, "\n")?;
     Ok(())
 }
 
@@ -104,11 +104,11 @@ fn put_sample_line(out: &mut Vec<u8>, sample: &Sample) -> Result<(), AllocError>
     ensures { OnOk result (out.new.items ≡ out.old.items ++ sample_line sample.now) }
 {
     let Sample { event, value } = *sample;
-    put_words(out, "sample ")?;
+    put_str(out, "sample ")?;
     put_number(out, event as u64)?;
-    put_words(out, " ")?;
+    put_str(out, " ")?;
     put_signed(out, value)?;
-    put_words(out, "\n")?;
+    put_str(out, "\n")?;
     Ok(())
 }
 
@@ -133,24 +133,24 @@ fn put_refused_line(out: &mut Vec<u8>, refused: &RefusedAt) -> Result<(), AllocE
         element,
         code,
     } = *refused;
-    put_words(out, "refused ")?;
-    put_words(out, phase.word())?;
-    put_words(out, " ")?;
+    put_str(out, "refused ")?;
+    put_str(out, phase.word())?;
+    put_str(out, " ")?;
     put_number(out, pass as u64)?;
-    put_words(out, " ")?;
+    put_str(out, " ")?;
     put_number(out, element as u64)?;
-    put_words(out, " ")?;
+    put_str(out, " ")?;
     put_number(out, code as u64)?;
-    put_words(out, "\n")?;
+    put_str(out, "\n")?;
     Ok(())
 }
 
 fn put_output_line(out: &mut Vec<u8>, output: &[u8]) -> Result<(), AllocError>
     ensures { OnOk result (out.new.items ≡ out.old.items ++ output_line output.now) }
 {
-    put_words(out, "output ")?;
+    put_str(out, "output ")?;
     put_hex(out, output)?;
-    put_words(out, "\n")?;
+    put_str(out, "\n")?;
     Ok(())
 }
 
@@ -222,7 +222,7 @@ fn put_init_lines(out: &mut Vec<u8>, count: u32, bytes: &[u8]) -> Result<(), All
     ensures { OnOk result ((elements : List (List ℕ)) (rest : List ℕ)
         → many element_at count (drop 5 bytes.now) ≡ Got (elements, rest)
         → out.new.items ≡ out.old.items ++ (number_line (codes "init") (length elements)
-        ++ numbered element_line 0 elements)) }
+        ++ numbered_texts element_line 0 elements)) }
 {
     put_number_line(out, "init", count as u64)?;
     put_drawn_lines(out, Format::One, count, init_elements_in(count, bytes))
@@ -234,13 +234,13 @@ fn put_frame(out: &mut Vec<u8>, cycle: u32, view: FrameView, bytes: &[u8]) -> Re
         → out.new.items ≡ out.old.items ++ frame_lines (format_of view.place) cycle frame) }
 {
     match view.kind {
-        FrameKind::Register => put_words(out, "register\n"),
-        FrameKind::Discover => put_words(out, "discover\n"),
+        FrameKind::Register => put_str(out, "register\n"),
+        FrameKind::Discover => put_str(out, "discover\n"),
         FrameKind::Init { elements } => put_init_lines(out, elements, bytes),
         FrameKind::Run { input, outcome } => {
             put_run_lines(out, cycle, view.place, input, outcome, bytes)
         }
-        FrameKind::Terminate => put_words(out, "terminate\n"),
+        FrameKind::Terminate => put_str(out, "terminate\n"),
     }
 }
 

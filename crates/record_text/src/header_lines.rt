@@ -2,12 +2,12 @@
 ghost use Rattle.std.specs.Prelude.{◌≡◌, ◌++◌, OnOk, codes};
 ghost use Rattle.std.specs.Fmt.{signed_decimal};
 ghost use Rattle.std.specs.List.{flat_map};
-ghost use Rattle.record_text.specs.Words.{numbered};
+ghost use Rattle.record_text.specs.Words.{numbered_texts};
 ghost use Rattle.record_text.specs.Records.{params_text, params_line};
 ghost use Rattle.record_text.specs.Records.{policy_text, format_line, event_line, front_lines};
 ghost use Rattle.record_text.specs.Records.{header_lines};
 
-use crate::put::{put_number, put_number_line, put_signed, put_words};
+use crate::put_text::{put_number, put_number_line, put_signed, put_str};
 use det_values::{EventSpec, Events, Format, OutOfMemory, Params, Policy, Profile};
 use std::alloc::AllocError;
 
@@ -16,7 +16,7 @@ fn put_spaced_params(out: &mut Vec<u8>, params: &[i64]) -> Result<(), AllocError
         ≡ out.old.items ++ flat_map (λ n. codes " " ++ signed_decimal n) params.now) }
 {
     for param in params {
-        put_words(out, " ")?;
+        put_str(out, " ")?;
         put_signed(out, *param)?;
     }
     Ok(())
@@ -26,7 +26,7 @@ fn put_params(out: &mut Vec<u8>, params: &[i64]) -> Result<(), AllocError>
     ensures { OnOk result (out.new.items ≡ out.old.items ++ params_text params.now) }
 {
     match params {
-        [] => put_words(out, " -"),
+        [] => put_str(out, " -"),
         _ => put_spaced_params(out, params),
     }
 }
@@ -34,9 +34,9 @@ fn put_params(out: &mut Vec<u8>, params: &[i64]) -> Result<(), AllocError>
 fn put_params_line(out: &mut Vec<u8>, params: &Params) -> Result<(), AllocError>
     ensures { OnOk result (out.new.items ≡ out.old.items ++ params_line params.now) }
 {
-    put_words(out, "params")?;
+    put_str(out, "params")?;
     put_params(out, params.as_slice())?;
-    put_words(out, "\n")?;
+    put_str(out, "\n")?;
     Ok(())
 }
 
@@ -45,8 +45,8 @@ fn put_policy(out: &mut Vec<u8>, format: Format, policy: Policy) -> Result<(), A
 {
     match (format, policy) {
         (Format::One, _) => Ok(()),
-        (Format::Two, Policy::Last) => put_words(out, " last"),
-        (Format::Two, Policy::Fresh) => put_words(out, " fresh"),
+        (Format::Two, Policy::Last) => put_str(out, " last"),
+        (Format::Two, Policy::Fresh) => put_str(out, " fresh"),
     }
 }
 
@@ -58,20 +58,20 @@ fn put_event_line(
 ) -> Result<(), AllocError>
     ensures { OnOk result (out.new.items ≡ out.old.items ++ event_line format number event.now) }
 {
-    put_words(out, "event ")?;
+    put_str(out, "event ")?;
     put_number(out, number as u64)?;
-    put_words(out, " ")?;
+    put_str(out, " ")?;
     out.extend_from_slice(event.name.as_slice())?;
-    put_words(out, " ")?;
+    put_str(out, " ")?;
     put_number(out, event.capacity as u64)?;
     put_policy(out, format, event.policy)?;
-    put_words(out, "\n")?;
+    put_str(out, "\n")?;
     Ok(())
 }
 
 fn put_each_event(out: &mut Vec<u8>, format: Format, events: &[EventSpec]) -> Result<(), AllocError>
     ensures { OnOk result
-        (out.new.items ≡ out.old.items ++ numbered (event_line format) 0 events.now) }
+        (out.new.items ≡ out.old.items ++ numbered_texts (event_line format) 0 events.now) }
 {
     for i in 0..events.len() {
         put_event_line(out, format, i, &events[i])?;
@@ -81,7 +81,7 @@ fn put_each_event(out: &mut Vec<u8>, format: Format, events: &[EventSpec]) -> Re
 
 fn put_event_lines(out: &mut Vec<u8>, format: Format, events: &Events) -> Result<(), AllocError>
     ensures { OnOk result
-        (out.new.items ≡ out.old.items ++ numbered (event_line format) 0 events.now) }
+        (out.new.items ≡ out.old.items ++ numbered_texts (event_line format) 0 events.now) }
 {
     put_each_event(out, format, events.as_slice())
 }
@@ -91,7 +91,7 @@ fn put_format_line(out: &mut Vec<u8>, format: Format) -> Result<(), AllocError>
 {
     match format {
         Format::One => Ok(()),
-        Format::Two => put_words(out, "format 2\n"),
+        Format::Two => put_str(out, "format 2\n"),
     }
 }
 

@@ -7,13 +7,13 @@
 mod frame_lines;
 mod header_lines;
 mod hex_digits;
-mod line;
-mod part;
-mod put;
+mod line_buffer;
+mod put_text;
+mod show_part;
 mod summary_lines;
 
 pub use frame_lines::put_frame_lines;
 pub use header_lines::put_header_lines;
-pub use part::ShowPart;
-pub use put::{put_number, put_number_line, put_words};
+pub use put_text::{put_number, put_number_line, put_str};
+pub use show_part::ShowPart;
 pub use summary_lines::{Summary, put_salvaged_line, put_summary_lines};

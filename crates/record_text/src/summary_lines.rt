@@ -3,7 +3,7 @@ ghost use Rattle.std.specs.Prelude.{◌≡◌, ◌++◌, OnOk, codes};
 ghost use Rattle.record_text.specs.Words.{number_line};
 ghost use Rattle.record_text.specs.Summaries.{digest_line, summary_lines};
 
-use crate::put::{put_hex, put_number_line, put_words};
+use crate::put_text::{put_hex, put_number_line, put_str};
 use det_values::OutOfMemory;
 use std::alloc::AllocError;
 
@@ -21,9 +21,9 @@ pub struct Summary {
 fn put_digest_line(out: &mut Vec<u8>, digest: &[u8]) -> Result<(), AllocError>
     ensures { OnOk result (out.new.items ≡ out.old.items ++ digest_line digest.now) }
 {
-    put_words(out, "sha256 ")?;
+    put_str(out, "sha256 ")?;
     put_hex(out, digest)?;
-    put_words(out, "\n")?;
+    put_str(out, "\n")?;
     Ok(())
 }
 

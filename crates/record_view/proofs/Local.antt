@@ -6,7 +6,7 @@ use Rattle.std.proofs.lemmas.List.{take-append-le, drop-append-le}
 use Rattle.std.specs.Int.{w64, cast_signed}
 use Rattle.det_values.specs.declared.format.Format.{Format}
 use Rattle.det_values.specs.declared.format.Format.TheVariants.{One, Two}
-use Rattle.record_grammar.specs.declared.fault.Reason.TheVariants.{Range}
+use Rattle.record_grammar.specs.declared.record_fault.Reason.TheVariants.{Range}
 use Rattle.record_grammar.specs.declared.limits.Limits.{Limits}
 use Rattle.record_grammar.specs.declared.limits.Limits.TheVariants.{Between, Around}
 use Rattle.record_grammar.specs.Read.{Read, Got, Bad, ◌>>=◌, raw_at, many}

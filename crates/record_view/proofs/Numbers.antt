@@ -3,7 +3,7 @@ use Rattle.std.proofs.Common.{◌≡◌, ℕ, zero, suc, ◌+◌, ◌*◌, ◌-�
 use Rattle.std.proofs.Common.{if◌then◌else◌, refl, sym, ap, subst, ◌∙◌, arith, lit<, add-one, drop-cons, length-drop}
 use Rattle.std.proofs.lemmas.List.{nil_from_length}
 use Rattle.record_grammar.specs.declared.limits.Limits.{Limits}
-use Rattle.record_grammar.specs.declared.fault.Reason.TheVariants.{Range}
+use Rattle.record_grammar.specs.declared.record_fault.Reason.TheVariants.{Range}
 use Rattle.record_grammar.specs.Read.{Read, Got, More, Bad}
 use Rattle.record_grammar.specs.Numbers.{lowest, highest, can_be, number_from, IsWithin}
 use Rattle.record_grammar.specs.declared.limits.Limits.TheVariants.{Between, Around}

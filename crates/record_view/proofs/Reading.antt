@@ -145,7 +145,8 @@ pub refused_begins : (layout : Layout) (before : ℕ) (bytes r s u : List ℕ) (
     (at : RefusedAtValue) → input_at layout.events (drop 1 bytes) ≡ Got (input, r) → ShowsInput layout.events p bytes input → r
     ≡ drop p.outcome_at bytes → number 1 0 1 r ≡ Got (flag, s) → eqb flag 0 ≡ false → refusal_at s ≡ Got (at, u)
     → (value : OpeningValue) × (run_opening layout (drop 1 bytes) ≡ Got (value, u))
-    × ShowsOpening (places.Runs layout before) (opening.Ready (item_kinds.Frame (kinds.Run p (ends.Refused (length bytes - length s))))) bytes value u
+    × ShowsOpening (places.Runs layout before) (opening.Ready (item_kinds.Frame (kinds.Run p (ends.Refused (length bytes - length s)))))
+    bytes value u
 unfolding run_opening refused_at
 refused_begins layout before bytes r s u p input flag at i shows e f other k =
     let a = flag_behind layout.events bytes r s p input flag shows e f in

@@ -4,7 +4,7 @@ use Rattle.record_grammar.specs.Read.{Read, Got, More, Bad, ◌>>=◌, many}
 use Rattle.record_view.specs.declared.stop.Stop.{Stop}
 use Rattle.record_view.specs.declared.stop.Stop.TheVariants as stops
 use Rattle.record_view.specs.Gives.{Stops}
-use Rattle.record_view.specs.Walked.{is_got, list_got, stand_at, values_at}
+use Rattle.record_view.specs.Walks.{is_got, list_got, stand_at, values_at}
 use Rattle.record_view.proofs.Many.{many_one, many_none, many_stops}
 
 none_got : {A : Type 0} (stop : Stop) (r : Read A) → Stops stop r → is_got r ≡ true → ⊥

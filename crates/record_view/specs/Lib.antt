@@ -3,6 +3,6 @@ pub mod Opening
 pub mod Skips
 pub mod Shows
 pub mod Scans
-pub mod Walked
+pub mod Walks
 pub mod Parts
 pub mod Laws

@@ -9,7 +9,7 @@ use crate::view::ItemView;
 
 /// Whether two items in the same place of their records are equal. They are exactly where their
 /// bytes are, since an item has one spelling.
-pub fn are_equal(one: ItemView, one_bytes: &[u8], other: ItemView, other_bytes: &[u8]) -> bool
+pub fn are_equal_items(one: ItemView, one_bytes: &[u8], other: ItemView, other_bytes: &[u8]) -> bool
     requires place { one.place ≡ other.place }
     requires items { (a b : Item) × IsSpelling one a one_bytes.now
         × IsSpelling other b other_bytes.now }

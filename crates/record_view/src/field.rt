@@ -46,7 +46,7 @@ pub fn element(bytes: &[u8]) -> Result<(&[u8], &[u8]), Stop>
 /// The bytes and the draws of the first element of a finished cycle, and the rest. In format 1 the
 /// draws are 0.
 #[tactic(auto, unfolding(record_grammar::specs::Grammar::drawn_at))]
-pub fn drawn(format: Format, bytes: &[u8]) -> Result<(&[u8], u32, &[u8]), Stop>
+pub fn drawn_element(format: Format, bytes: &[u8]) -> Result<(&[u8], u32, &[u8]), Stop>
     ensures gives { Gives (λ x. (an_element x.0.now x.1, x.2.now)) result
         (drawn_at format bytes.now) }
     ensures short { IfOk result (λ x. length x.0.now ≤ 64) }

@@ -9,7 +9,7 @@ ghost use Rattle.record_grammar.specs.Places.{layout_of};
 ghost use Rattle.record_view.specs.Gives.{Gives};
 ghost use Rattle.record_view.specs.Skips.{SkipsTo, SkipsMany, SkipsAs};
 
-use crate::number::{signed, u8_at, u16_at, u64_at};
+use crate::number::{i64_at, u8_at, u16_at, u64_at};
 use crate::stop::Stop;
 use det_values::Format;
 use record_grammar::{Layout, Reason};
@@ -82,7 +82,7 @@ fn skip_all_params(count: u16, bytes: &[u8]) -> Result<&[u8], Stop>
 {
     let mut rest = bytes;
     for _ in 0..count {
-        match signed(rest) {
+        match i64_at(rest) {
             Err(stop) => return Err(stop),
             Ok((_, others)) => rest = others,
         }

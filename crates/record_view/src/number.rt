@@ -11,7 +11,7 @@ use crate::stop::Stop;
 use record_grammar::{Limits, Reason};
 
 /// The greatest magnitude of a sample's value.
-const MOST_VALUE: u64 = 1_000_000_000_000;
+const MAX_VALUE: u64 = 1_000_000_000_000;
 
 /// The least and the greatest number that begin with the bytes of `value` and have `left` more
 /// bytes.
@@ -148,7 +148,7 @@ pub fn u64_at(least: u64, most: u64, bytes: &[u8]) -> Result<(u64, &[u8]), Stop>
 
 /// Any i64, and the rest.
 #[tactic(auto, unfolding(record_grammar::specs::Grammar::signed_at))]
-pub fn signed(bytes: &[u8]) -> Result<(i64, &[u8]), Stop>
+pub fn i64_at(bytes: &[u8]) -> Result<(i64, &[u8]), Stop>
     ensures { Gives (λ x. (x.0, x.1.now)) result (signed_at bytes.now) }
 {
     let (n, rest) = u64_at(0, u64::MAX, bytes)?;
@@ -161,6 +161,6 @@ pub fn sample_value(bytes: &[u8]) -> Result<(i64, &[u8]), Stop>
     ensures gives { Gives (λ x. (x.0, x.1.now)) result (sample_value_at bytes.now) }
     ensures within { IfOk result (λ x. IsSampleValue x.0) }
 {
-    let (n, rest) = wide_at(Limits::Around { most: MOST_VALUE }, bytes)?;
+    let (n, rest) = wide_at(Limits::Around { most: MAX_VALUE }, bytes)?;
     Ok((n.cast_signed(), rest))
 }

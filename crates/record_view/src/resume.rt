@@ -15,7 +15,7 @@ use det_values::Format;
 use record_grammar::Place;
 
 /// A step that ends with a whole item.
-fn whole(kind: ItemKind, len: usize) -> Step
+fn whole_step(kind: ItemKind, len: usize) -> Step
     ensures { result.answer ≡ Ok (record { kind = kind; len = len }) }
 {
     Step {
@@ -28,7 +28,7 @@ fn whole(kind: ItemKind, len: usize) -> Step
 }
 
 /// A step that ends before the item does, or with a fault.
-fn stopped(partial: Partial, read: usize, stop: Stop) -> Step
+fn stopped_step(partial: Partial, read: usize, stop: Stop) -> Step
     ensures { result ≡ record {
       scan = record { partial = partial; read = read };
       answer = Err stop;
@@ -41,7 +41,7 @@ fn stopped(partial: Partial, read: usize, stop: Stop) -> Step
 }
 
 /// Checks the remaining elements of an Init frame.
-fn go_on_init(place: Place, elements: u32, left: u32, read: usize, bytes: &[u8]) -> Step
+fn resume_init(place: Place, elements: u32, left: u32, read: usize, bytes: &[u8]) -> Step
     requires { read ≤ length bytes.now }
     ensures viewed { InitScan place elements left read bytes.now
         → IsStep place result bytes.now }
@@ -50,16 +50,16 @@ fn go_on_init(place: Place, elements: u32, left: u32, read: usize, bytes: &[u8])
     let skip = skip_elements(left, rest_of(bytes, read));
     let read = read + skip.read;
     match skip.stop {
-        None => whole(ItemKind::Frame(FrameKind::Init { elements }), read),
+        None => whole_step(ItemKind::Frame(FrameKind::Init { elements }), read),
         Some(stop) => {
             let left = skip.left;
-            stopped(Partial::Init { elements, left }, read, stop)
+            stopped_step(Partial::Init { elements, left }, read, stop)
         }
     }
 }
 
 /// Checks the remaining elements of a finished cycle, and the output.
-fn go_on_run(place: Place, format: Format, run: PartialRun, read: usize, bytes: &[u8]) -> Step
+fn resume_run(place: Place, format: Format, run: PartialRun, read: usize, bytes: &[u8]) -> Step
     requires format { format ≡ format_of place }
     requires read { read ≤ length bytes.now }
     ensures viewed { RunScan place run read bytes.now → IsStep place result bytes.now }
@@ -74,7 +74,7 @@ fn go_on_run(place: Place, format: Format, run: PartialRun, read: usize, bytes: 
     match ended {
         Err(stop) => {
             let left = skip.left;
-            stopped(Partial::Run(PartialRun { left, ..run }), read, stop)
+            stopped_step(Partial::Run(PartialRun { left, ..run }), read, stop)
         }
         Ok((_, rest)) => {
             let outcome = OutcomeView::Finished {
@@ -84,7 +84,7 @@ fn go_on_run(place: Place, format: Format, run: PartialRun, read: usize, bytes: 
             };
             let input = run.input;
             let kind = FrameKind::Run { input, outcome };
-            whole(ItemKind::Frame(kind), bytes.len() - rest.len())
+            whole_step(ItemKind::Frame(kind), bytes.len() - rest.len())
         }
     }
 }
@@ -95,12 +95,12 @@ fn start(place: Place, bytes: &[u8]) -> Step
     ensures fits { Fits result (length bytes.now) }
 {
     match read_opening(place, bytes) {
-        Err(stop) => stopped(Partial::Nothing, 0, stop),
+        Err(stop) => stopped_step(Partial::Nothing, 0, stop),
         Ok((opening, rest)) => {
             let read = bytes.len() - rest.len();
             match opening {
-                Opening::Ready(kind) => whole(kind, read),
-                Opening::Init(elements) => go_on_init(place, elements, elements, read, bytes),
+                Opening::Ready(kind) => whole_step(kind, read),
+                Opening::Init(elements) => resume_init(place, elements, elements, read, bytes),
                 Opening::Run {
                     input,
                     elements,
@@ -112,7 +112,7 @@ fn start(place: Place, bytes: &[u8]) -> Step
                         elements_at,
                         left: elements,
                     };
-                    go_on_run(place, format_at(place), run, read, bytes)
+                    resume_run(place, format_at(place), run, read, bytes)
                 }
             }
         }
@@ -129,7 +129,7 @@ pub fn view_item(place: Place, scan: Scan, bytes: &[u8]) -> Step
 {
     match scan.partial {
         Partial::Nothing => start(place, bytes),
-        Partial::Init { elements, left } => go_on_init(place, elements, left, scan.read, bytes),
-        Partial::Run(run) => go_on_run(place, format_at(place), run, scan.read, bytes),
+        Partial::Init { elements, left } => resume_init(place, elements, left, scan.read, bytes),
+        Partial::Run(run) => resume_run(place, format_at(place), run, scan.read, bytes),
     }
 }

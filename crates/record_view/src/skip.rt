@@ -3,7 +3,7 @@ ghost use Rattle.std.specs.Prelude.{◌≡◌};
 ghost use Rattle.record_grammar.specs.Grammar.{element_at, drawn_at};
 ghost use Rattle.record_view.specs.Skips.{IsSkip};
 
-use crate::field::{drawn, element};
+use crate::field::{drawn_element, element};
 use crate::stop::Stop;
 use det_values::Format;
 
@@ -55,7 +55,7 @@ pub fn skip_drawn(format: Format, most: u32, bytes: &[u8]) -> Skip
     let mut left = most;
     let mut rest = bytes;
     while left > 0 {
-        match drawn(format, rest) {
+        match drawn_element(format, rest) {
             Ok((_, _, others)) => {
                 rest = others;
                 left -= 1;

@@ -3,7 +3,7 @@
 ghost use Rattle.std.specs.Prelude.{◌≡◌, ◌≤◌, ◌∷◌, [], length, IfSome, IfNone};
 ghost use Rattle.det_values.specs.Spelling.{an_element};
 
-use crate::field::drawn;
+use crate::field::drawn_element;
 use crate::input::sample;
 use det_values::{Format, Sample};
 use std::marker::Model;
@@ -20,7 +20,7 @@ impl<'a> Model for SampleWalk<'a> {
     ghost use Rattle.std.specs.Prelude.{◌≡◌, List, true};
     ghost use Rattle.det_values.specs.Values.{SampleValue};
     ghost use Rattle.record_grammar.specs.Grammar.{sample_at};
-    ghost use Rattle.record_view.specs.Walked.{values_at, stand_at};
+    ghost use Rattle.record_view.specs.Walks.{values_at, stand_at};
 
     ghost Value = { List SampleValue };
 
@@ -61,7 +61,7 @@ impl<'a> Model for ElementWalk<'a> {
     ghost use Rattle.std.specs.Prelude.{◌≡◌, List, true};
     ghost use Rattle.det_values.specs.declared.frames.DrawnElement.{DrawnElement};
     ghost use Rattle.record_grammar.specs.Grammar.{drawn_at};
-    ghost use Rattle.record_view.specs.Walked.{values_at, stand_at};
+    ghost use Rattle.record_view.specs.Walks.{values_at, stand_at};
 
     ghost Value = { List DrawnElement };
 
@@ -80,7 +80,7 @@ impl<'a> ElementWalk<'a> {
         if self.left == 0 {
             return None;
         }
-        match drawn(self.format, self.rest) {
+        match drawn_element(self.format, self.rest) {
             Ok((bytes, draws, rest)) => {
                 self.rest = rest;
                 self.left -= 1;

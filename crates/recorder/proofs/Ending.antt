@@ -19,7 +19,7 @@ use Rattle.det_io.proofs.SlotReads.{reads-none}
 use Rattle.job.specs.Meaning.{Meaning}
 use Rattle.cycle_engine.specs.Frames.{runs}
 use Rattle.record_grammar.specs.Spelling.{spelled_frame}
-use Rattle.stimulus.specs.declared.item.StimFault.{StimFault}
+use Rattle.stimulus.specs.declared.stimulus_item.StimulusFault.{StimulusFault}
 use Rattle.stimulus.specs.Reading.{Reading, Ending, Terminated, BadLine, reading, inputs_of, ending_of, blocks, ending, has_bad}
 use Rattle.stimulus.proofs.Growing.{blocks_grow, bad_stays}
 use Rattle.probes.specs.Reports.{AudienceState}
@@ -30,11 +30,11 @@ use Rattle.recorder.specs.declared.run_writer.recording.Recording.{Recording}
 use Rattle.recorder.specs.run_writer.Record.{Counted, record_with, opening}
 use Rattle.recorder.specs.run_writer.Recording.{Cuts, Ran}
 use Rattle.recorder.proofs.lemmas.run_writer.Growing.{runs-none, record-opened, record-next, record-ended, record-front}
-use Rattle.stimulus.specs.declared.slot_reader.reader.StimulusReader.{StimulusReader}
+use Rattle.stimulus.specs.declared.slot_reader.stimulus_reader.StimulusReader.{StimulusReader}
 use Rattle.stimulus.specs.slot_reader.StandsFor.{InputIs, IsNext, HasAll, IsWhole, IsBad, events_of}
 use Rattle.recorder.specs.Record.{is_terminated, record_of}
-use Rattle.recorder.specs.Ends.{Finishes, Stops, Ended}
-use Rattle.recorder.specs.Recorded.{TookAll, IsShown, HasRun}
+use Rattle.recorder.specs.RunEnds.{Finishes, Stops, Ended}
+use Rattle.recorder.specs.RecordRun.{TookAll, IsShown, HasRun}
 use Rattle.recorder.proofs.Running.{Running, next_run, frames-next, runs-next}
 
 -- a fact about what was read is one about the whole text where nothing follows
@@ -152,7 +152,7 @@ module _ {S G E L P : Type 0} (m : Meaning S G E L P) (profile : ProfileValue) w
     -- a bad line, or a failure of the reader
     pub reading-stopped : {mid : ShelfState} {last : AudienceState} {reader : StimulusReader} {recording : Recording S G E L P}
         {read : List ℕ} {given : List CycleInput}
-        (next : StimulusReader) (why : Stopped StimFault)
+        (next : StimulusReader) (why : Stopped StimulusFault)
         → Running m profile shelf.first mid slot sink.before sink.after audience last reader recording read given
         → (all : List ℕ) × Reads shelf.first shelf.last slot all × InputIs (Err why) next (IsAtEnd shelf.last slot) all given
         → events_of next ≡ length profile.events → HasRun m profile slot shelf sink audience last (Err why)

@@ -1,4 +1,4 @@
 pub mod Running
 pub mod Ending
-pub mod Told
+pub mod KnownText
 pub mod lemmas

@@ -18,25 +18,26 @@ use Rattle.job.specs.Meaning.{Meaning}
 use Rattle.cycle_engine.specs.Frames.{runs, frame_of, state_of}
 use Rattle.cycle_engine.proofs.Standing.{runs-append}
 use Rattle.record_grammar.specs.Spelling.{spelled_frame}
-use Rattle.stimulus.specs.declared.item.StimFault.{StimFault}
+use Rattle.stimulus.specs.declared.stimulus_item.StimulusFault.{StimulusFault}
 use Rattle.probes.specs.Reports.{AudienceState}
 use Rattle.probes.specs.Shows.{Shows}
 use Rattle.probes.proofs.Shown.{shows-none, shows-then}
 use Rattle.recorder.specs.declared.run_writer.counts.Counts.{Counts}
 use Rattle.recorder.specs.declared.run_writer.recording.Recording.{Recording}
 use Rattle.recorder.specs.run_writer.Record.{record_with, opening}
-use Rattle.recorder.specs.run_writer.Recording.{Cuts, Stands, Ran}
+use Rattle.recorder.specs.run_writer.Recording.{Cuts, IsRecordingAfter, Ran}
 use Rattle.recorder.proofs.lemmas.run_writer.Growing.{runs-none, record-opened, record-next}
-use Rattle.stimulus.specs.declared.slot_reader.reader.StimulusReader.{StimulusReader}
+use Rattle.stimulus.specs.declared.slot_reader.stimulus_reader.StimulusReader.{StimulusReader}
 use Rattle.stimulus.specs.slot_reader.StandsFor.{StandsFor, InputIs, ReadsIfNeeded, slot_of, events_of}
 
 -- what the reader returns, for all bytes that it can have read
-abbrev pub Answered : Result (Option CycleInput) (Stopped StimFault) → ShelfState → ShelfState → StimulusReader → StimulusReader → Type 0
+abbrev pub Answered : Result (Option CycleInput) (Stopped StimulusFault) → ShelfState → ShelfState → StimulusReader → StimulusReader
+    → Type 0
 Answered answer mid now old new = (more : List ℕ) × Reads mid now (slot_of old) more
     × ((read : List ℕ) (given : List CycleInput) → StandsFor old read given
     → ReadsIfNeeded (events_of old) read given more × InputIs answer new (IsAtEnd now (slot_of old)) (read ++ more) given)
 
-pub answered-as : (answer other : Result (Option CycleInput) (Stopped StimFault)) (mid now : ShelfState) (old new : StimulusReader)
+pub answered-as : (answer other : Result (Option CycleInput) (Stopped StimulusFault)) (mid now : ShelfState) (old new : StimulusReader)
     → answer ≡ other
     → Answered answer mid now old new → Answered other mid now old new
 answered-as answer other mid now old new is h = subst (λ a. Answered a mid now old new) is h
@@ -47,7 +48,7 @@ module _ {S G E L P : Type 0} (m : Meaning S G E L P) (profile : ProfileValue) w
       (reader : StimulusReader) (recording : Recording S G E L P) (read : List ℕ) (given : List CycleInput) : Type 0 where
     pub reads : Reads first now slot read
     pub fed : StandsFor reader read given
-    pub stands : Stands m recording given
+    pub stands : IsRecordingAfter m recording given
     pub grew : Grew before took (record_with m profile given false)
     pub shown : Shows audience seeing (runs m profile given)
 
@@ -57,7 +58,7 @@ module _ {S G E L P : Type 0} (m : Meaning S G E L P) (profile : ProfileValue) w
 
   pub running-opened : (shelf : ShelfState) (slot : ℕ) (before took : List ℕ → Type 0) (audience : AudienceState) (reader : StimulusReader)
       (recording : Recording S G E L P)
-      → StandsFor reader [] [] → Stands m recording [] → Grew before took (opening m profile)
+      → StandsFor reader [] [] → IsRecordingAfter m recording [] → Grew before took (opening m profile)
       → Running shelf shelf slot before took audience audience reader recording [] []
   running-opened shelf slot before took audience reader recording stands opened grew = record {
     reads = reads-none shelf slot;
@@ -70,7 +71,7 @@ module _ {S G E L P : Type 0} (m : Meaning S G E L P) (profile : ProfileValue) w
   -- the reader's result, for all that was read
   pub next-read : {first mid now : ShelfState} {slot : ℕ} {before took : List ℕ → Type 0} {audience seeing : AudienceState}
       {reader : StimulusReader} {recording : Recording S G E L P} {read : List ℕ} {given : List CycleInput}
-      (next : StimulusReader) (answer : Result (Option CycleInput) (Stopped StimFault))
+      (next : StimulusReader) (answer : Result (Option CycleInput) (Stopped StimulusFault))
       → Running first mid slot before took audience seeing reader recording read given
       → Answered answer mid now reader next → slot_of reader ≡ slot
       → (all : List ℕ) × Reads first now slot all × InputIs answer next (IsAtEnd now slot) all given
@@ -125,7 +126,7 @@ module _ {S G E L P : Type 0} (m : Meaning S G E L P) (profile : ProfileValue) w
       let cycles = running.stands.engine.cycles in let one = length-append given (input ∷ []) in omega arith
 
 -- no write failed where the reader stopped
-pub no-write : (why : Stopped StimFault) (next : StimulusReader) (at_end : Type 0) (read : List ℕ) (given : List CycleInput)
+pub no-write : (why : Stopped StimulusFault) (next : StimulusReader) (at_end : Type 0) (read : List ℕ) (given : List CycleInput)
     (sink : SinkRun)
     → InputIs (Err why) next at_end read given → SinkTraffic sink None → SinkTraffic sink (failure_in {A = Counts} (Err why))
 no-write (Refused fault) next at_end read given sink h t = t

@@ -1,5 +1,5 @@
 pub mod Record
-pub mod Ends
-pub mod Recorded
-pub mod Begun
+pub mod RunEnds
+pub mod RecordRun
+pub mod RunStart
 pub mod run_writer

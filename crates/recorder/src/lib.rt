@@ -1,7 +1,7 @@
 //! Records the run of a job over a stimulus.
 #![tactic(auto)]
 
-mod recording;
 pub mod run_writer;
+mod stimulus_run;
 
-pub use recording::record_run;
+pub use stimulus_run::record_run;

@@ -2,9 +2,9 @@
 //! record, or another client in a chain.
 
 mod counts;
-mod frames;
-mod parts;
+mod frame_parts;
 mod recording;
+mod run_frames;
 mod runner;
 
 pub use counts::Counts;

@@ -1,6 +1,6 @@
 pub mod Departure
 pub mod Needed
-pub mod Given
-pub mod Compared
-pub mod Verdict
-pub mod Checked
+pub mod RerunFrames
+pub mod FramePair
+pub mod CheckVerdict
+pub mod CheckRun

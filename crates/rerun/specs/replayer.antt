@@ -1,5 +1,5 @@
-pub mod Again
-pub mod Giving
-pub mod Begun
-pub mod Ends
-pub mod Replayed
+pub mod ReplayRecord
+pub mod NextInput
+pub mod ReplayStart
+pub mod ReplayEnds
+pub mod ReplayRun

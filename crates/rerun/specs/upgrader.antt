@@ -1,4 +1,4 @@
-pub mod Upgraded
-pub mod Begun
-pub mod Ends
+pub mod UpgradedRecord
+pub mod UpgradeStart
+pub mod UpgradeEnds
 pub mod Frames

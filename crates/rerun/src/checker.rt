@@ -1,13 +1,13 @@
 //! Finds the first place where a record isn't what its inputs give. It writes nothing.
 
-mod checking;
-mod compared;
-mod comparing;
-mod given;
-mod room;
-mod verdict;
+mod check;
+mod check_verdict;
+mod frame_checker;
+mod frame_pair;
+mod frame_room;
+mod rerun_frames;
 
-pub use checking::check_run;
-pub use compared::Compared;
-pub use room::FrameRoom;
-pub use verdict::CheckVerdict;
+pub use check::check_run;
+pub use check_verdict::CheckVerdict;
+pub use frame_pair::FramePair;
+pub use frame_room::FrameRoom;

@@ -1,7 +1,7 @@
 //! Writes the record that the inputs of a record give now. It compares nothing.
 
-mod inputs;
-mod replaying;
+mod record_inputs;
+mod replay;
 
-pub use inputs::next_input;
-pub use replaying::{empty_input, replay_run};
+pub use record_inputs::next_input;
+pub use replay::{empty_input, replay_run};

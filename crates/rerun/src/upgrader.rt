@@ -2,7 +2,7 @@
 //! give.
 
 mod original;
-mod upgrading;
+mod upgrade;
 
 pub use original::Original;
-pub use upgrading::upgrade_run;
+pub use upgrade::upgrade_run;

@@ -25,7 +25,7 @@ use Rattle.recorder.specs.run_writer.Record.{record_with}
 use Rattle.stimulus.specs.Reading.{blocks, ending}
 use Rattle.stimulus.proofs.Counting.{few_blocks}
 use Rattle.recorder.specs.Record.{is_terminated}
-use Rattle.cmd_run.specs.chain.Derived.{derived, derived_input}
+use Rattle.cmd_run.specs.chain.OutputSamples.{derived, derived_input}
 use Rattle.manifest.specs.Meaning.{manifest_of}
 use Rattle.cmd_run.specs.chain_command.Chain.{chained}
 use Rattle.cmd_run.specs.chain_command.Clients.{Client, client_of, chained_by_kinds, chained_from}
@@ -118,10 +118,10 @@ chain_is_read_by first second stimulus header of =
     }
 
 pub chain_is_read : ChainIsRead
-chain_is_read strict first second stimulus seed m n small judged other =
+chain_is_read strict first second stimulus seed m n small channel_after other =
     let number : ℕ = unwrap_or seed 0 in
     let taken = is_taken (manifest_of strict second) n other in
     subst (λ (o : Outcome). IsChainRead (client_of number m) (client_of number n) stimulus o.bytes)
-    (sym (λ i. chained_from number stimulus (judged i) (other i)))
+    (sym (λ i. chained_from number stimulus (channel_after i) (other i)))
     (chain_is_read_by (client_of number m) (client_of number n) stimulus (is_header strict second n number small other)
     (record { number = refl; good = taken.good }))

@@ -19,11 +19,11 @@ use Rattle.cmd_run.specs.record_command.Outcomes.{demo_profile, demo_outcome, re
 use Rattle.probes.specs.Reports.{AudienceState, reported}
 use Rattle.record_text.specs.Words.{number_line}
 use Rattle.rerun.specs.checker.Departure.{run_of}
-use Rattle.rerun.specs.checker.Verdict.{verdict_by}
+use Rattle.rerun.specs.checker.CheckVerdict.{verdict_by}
 use Rattle.cli_answers.specs.declared.answer.Answer.TheVariants.{Done}
 use Rattle.cli_answers.specs.Outcome.{Outcome}
 use Rattle.cmd_rerun.specs.check_command.Check.{outcome_by, checked_with, check_outcome}
-use Rattle.cmd_rerun.specs.check_command.Visited.{checked}
+use Rattle.cmd_rerun.specs.check_command.CheckVisit.{checked}
 use Rattle.run_laws.proofs.NamedRuns.{checked_by}
 use Rattle.run_laws.specs.Statements.{IsRunRead, frames_by_kind, fault_if}
 use Rattle.run_laws.specs.Checks.{checked_of, RecordIsChecked, DemoIsChecked}

@@ -25,7 +25,7 @@ use Rattle.record_grammar.specs.Spelling.{IsHeader, IsEvent}
 use Rattle.manifest.specs.Values.{ManifestValue}
 use Rattle.manifest.specs.Profiles.{profile_of}
 use Rattle.manifest.specs.Meaning.{manifest_of}
-use Rattle.manifest.specs.declared.fault.ManifestFault.{ManifestFault}
+use Rattle.manifest.specs.declared.manifest_fault.ManifestFault.{ManifestFault}
 use Rattle.cli_answers.specs.declared.answer.BadManifest.{BadManifest}
 use Rattle.cli_answers.specs.declared.answer.BadManifest.TheVariants.{Parameter}
 use Rattle.jobs.specs.Kinds.{bad_param}
@@ -55,14 +55,14 @@ params_fit Guard params events good = guard_fits params events good
 
 -- a manifest that is taken: what the text says, and no parameter is refused
 pub record IsTaken (read : Result ManifestValue ManifestFault) (m : ManifestValue) : Type 0 where
-  pub said : read ≡ Ok m
+  pub tree_manifest : read ≡ Ok m
   pub good : bad_param m.kind m.params (length m.events) ≡ None
 
 unless_taken : (bad : Option ℕ) (n m : ManifestValue) → bad_param n.kind n.params (length n.events) ≡ bad
     → ◌≡◌ {A = Result ManifestValue BadManifest} (option_map_or (λ i. Err (Parameter i)) bad (Ok n)) (Ok m) → IsTaken (Ok n) m
 unless_taken (Some index) n m is e = absurd cc
 unless_taken None n m is e = let same : n ≡ m = cc in
-    record { said = ap Ok same; good = subst (λ (x : ManifestValue). bad_param x.kind x.params (length x.events) ≡ None) same is }
+    record { tree_manifest = ap Ok same; good = subst (λ (x : ManifestValue). bad_param x.kind x.params (length x.events) ≡ None) same is }
 
 pub is_taken : (read : Result ManifestValue ManifestFault) (m : ManifestValue) → setup_from read ≡ Ok m → IsTaken read m
 is_taken (Err fault) m e = absurd cc
@@ -73,7 +73,7 @@ pub is_header : (strict : Bool) (manifest : List ℕ) (m : ManifestValue) (seed 
     → IsHeader (profile_of m seed)
 is_header strict manifest m seed small set =
     let taken = is_taken (manifest_of strict manifest) m set in
-    header_is strict manifest m seed small taken.said (params_fit m.kind m.params (length m.events) taken.good)
+    header_is strict manifest m seed small taken.tree_manifest (params_fit m.kind m.params (length m.events) taken.good)
 
 pub record_read : RecordIsRead
 record_read strict manifest stimulus seed m small set =

@@ -6,12 +6,12 @@ use Rattle.std.proofs.lemmas.List.Elements.{All-nil, All-cons, All-head, All-tai
 use Rattle.det_values.specs.declared.format.Format.TheVariants.{Two}
 use Rattle.det_values.specs.Values.{RefusedAtValue}
 use Rattle.job.specs.event_cache.Windows.{AreWindows}
-use Rattle.job.specs.declared.answers.Concluded.{Concluded}
-use Rattle.job.specs.Meaning.{Meaning, Prepared}
+use Rattle.job.specs.declared.job_results.Conclusion.{Conclusion}
+use Rattle.job.specs.Meaning.{Meaning, Preparation}
 use Rattle.job.specs.Laws.{JobLaws, CoversSome}
-use Rattle.job.specs.Pass.{Passed, Refusal, passed}
+use Rattle.job.specs.Pass.{PassResult, Refusal, passed}
 use Rattle.job.specs.Cycle.{State, Done, added, refused_in_prepare, refused_in_conclude, in_pool, shown_with, next_pass, first_pass}
-use Rattle.job.specs.Cycle.{passes_on, all_passes, concluded, cycled, outcome_of, state_after}
+use Rattle.job.specs.Cycle.{passes_on, all_passes, concluded, cycle_result, outcome_of, state_after}
 use Rattle.record_grammar.specs.Spelling.{IsDrawn, IsRefusal, IsOutcome}
 use Rattle.run_laws.proofs.SpelledJob.{IsSpelledJob}
 use Rattle.run_laws.proofs.Passing.{IsKept, IsPassed, pass_kept}
@@ -31,7 +31,7 @@ few-added a b c (x ∷ xs) (y ∷ ys) e h k =
     (All-tail (λ n. n ≤ b) y ys k))
 
 -- after p passes over n elements: they are kept, or one of them refused
-abbrev ArePassed : {S E P : Type 0} → (S → P → ℕ → Type 0) → (S → E → Type 0) → S → ℕ → ℕ → Result (Passed E P) RefusedAtValue → Type 0
+abbrev ArePassed : {S E P : Type 0} → (S → P → ℕ → Type 0) → (S → E → Type 0) → S → ℕ → ℕ → Result (PassResult E P) RefusedAtValue → Type 0
 ArePassed Covers Own j n p (Ok done) = IsKept Covers Own j n (p * 65535) done
 ArePassed Covers Own j n p (Err at) = IsRefusal at
 
@@ -48,13 +48,13 @@ module _ {S G E L P : Type 0} (m : Meaning S G E L P) (Covers : S → P → ℕ 
 
   module _ (plan : L) (fit : Fit j plan) (seed cycle n : ℕ) (few : n ≤ 65536) where
     -- the answer of pass number p, added to what was drawn before it
-    pooled : (p : ℕ) (change : Passed E P → Passed E P) (r : Result (Passed E P) Refusal) → p < 8 → IsPassed Covers Own j n r
-        → ((next : Passed E P) → IsKept Covers Own j n 65535 next → IsKept Covers Own j n ((p + 1) * 65535) (change next))
+    pooled : (p : ℕ) (change : PassResult E P → PassResult E P) (r : Result (PassResult E P) Refusal) → p < 8 → IsPassed Covers Own j n r
+        → ((next : PassResult E P) → IsKept Covers Own j n 65535 next → IsKept Covers Own j n ((p + 1) * 65535) (change next))
         → ArePassed Covers Own j n (p + 1) (in_pool p change r)
     pooled p change (Ok next) below h more = more next h
     pooled p change (Err r) below h more = ((below, omega (arith, h.0)), h.1)
 
-    with_words : (p : ℕ) (done next : Passed E P) → IsKept Covers Own j n (p * 65535) done → IsKept Covers Own j n 65535 next
+    with_words : (p : ℕ) (done next : PassResult E P) → IsKept Covers Own j n (p * 65535) done → IsKept Covers Own j n 65535 next
         → IsKept Covers Own j n ((p + 1) * 65535) (record {
           elements = next.elements;
           draws = added done.draws next.draws;
@@ -74,7 +74,7 @@ module _ {S G E L P : Type 0} (m : Meaning S G E L P) (Covers : S → P → ℕ 
         subst (λ (k : ℕ). IsPassed Covers Own j k (passed m j plan carry seed cycle p es)) many
         (pass_kept m Covers Own Fit laws spells j plan fit carry seed cycle p below carried es (omega arith) own)
 
-    next_is : (p : ℕ) (done : Passed E P) → p < m.passes_of j plan → IsKept Covers Own j n (p * 65535) done
+    next_is : (p : ℕ) (done : PassResult E P) → p < m.passes_of j plan → IsKept Covers Own j n (p * 65535) done
         → ArePassed Covers Own j n (p + 1) (next_pass m j plan seed cycle p done)
     next_is p done below h =
         pooled p (λ next. record { elements = next.elements; draws = added done.draws next.draws; part = next.part })
@@ -90,7 +90,7 @@ module _ {S G E L P : Type 0} (m : Meaning S G E L P) (Covers : S → P → ℕ 
         (pass_is (m.unit_part j) 0 es many (omega (arith, some)) (0, omega arith, laws.covers_unit j) own)
         (λ next k. k)
 
-    others_are : (more p q : ℕ) (r : Result (Passed E P) RefusedAtValue) → q ≡ p + more → q ≤ m.passes_of j plan
+    others_are : (more p q : ℕ) (r : Result (PassResult E P) RefusedAtValue) → q ≡ p + more → q ≤ m.passes_of j plan
         → ArePassed Covers Own j n p r
         → ArePassed Covers Own j n q (passes_on m j plan seed cycle more p r)
     others_are zero p q (Err at) e below h = h
@@ -126,8 +126,8 @@ module _ {S G E L P : Type 0} (m : Meaning S G E L P) (Covers : S → P → ℕ 
     kept_as_it_was : (at : RefusedAtValue) → IsRefusal at → IsCycled Own j old (Err at)
     kept_as_it_was at h = record { outcome = h; own = own; many = refl }
 
-    ended : (globals : G) (plan : L) (seed : ℕ) (last : Passed E P) → IsKept Covers Own j (length old.elements) 524280 last
-        → (r : Result (Concluded G) ℕ) → m.concluded j globals plan last.part ≡ r
+    ended : (globals : G) (plan : L) (seed : ℕ) (last : PassResult E P) → IsKept Covers Own j (length old.elements) 524280 last
+        → (r : Result (Conclusion G) ℕ) → m.concluded j globals plan last.part ≡ r
         → IsCycled Own j old (elim r [
           | Ok d ↦ Ok (record {
             state = record { globals = d.globals; elements = last.elements; seed = seed };
@@ -152,7 +152,7 @@ module _ {S G E L P : Type 0} (m : Meaning S G E L P) (Covers : S → P → ℕ 
     ended globals plan seed last kept (Err code) came =
         kept_as_it_was (refused_in_conclude code) ((omega arith, omega arith), spells.conclude_code j globals plan last.part code came)
 
-    few_words : (n p : ℕ) (last : Passed E P) → p ≤ 8 → IsKept Covers Own j n (p * 65535) last → IsKept Covers Own j n 524280 last
+    few_words : (n p : ℕ) (last : PassResult E P) → p ≤ 8 → IsKept Covers Own j n (p * 65535) last → IsKept Covers Own j n 524280 last
     few_words n p last few_passes h = record {
       own = h.own;
       many = h.many;
@@ -161,7 +161,7 @@ module _ {S G E L P : Type 0} (m : Meaning S G E L P) (Covers : S → P → ℕ 
       covers = h.covers;
     }
 
-    after_passes : (plan : L) (seed p : ℕ) (r : Result (Passed E P) RefusedAtValue) → p ≤ 8
+    after_passes : (plan : L) (seed p : ℕ) (r : Result (PassResult E P) RefusedAtValue) → p ≤ 8
         → ArePassed Covers Own j (length old.elements) p r
         → IsCycled Own j old (elim r [ Ok last ↦ concluded m j old.globals plan seed last | Err at ↦ Err at ])
     after_passes plan seed p (Ok last) few_passes h =
@@ -170,7 +170,7 @@ module _ {S G E L P : Type 0} (m : Meaning S G E L P) (Covers : S → P → ℕ 
     after_passes plan seed p (Err at) few_passes h = kept_as_it_was at h
 
     module _ (windows : List (List ℤ)) (are : AreWindows (m.events j) windows) (cycle : ℕ) (time next : Option ℕ) where
-      begun : (r : Result (Prepared L) ℕ) → m.prepared j old.globals old.elements windows old.seed cycle time next ≡ r
+      begun : (r : Result (Preparation L) ℕ) → m.prepared j old.globals old.elements windows old.seed cycle time next ≡ r
           → IsCycled Own j old (elim r [
             | Ok p ↦ elim (all_passes m j p.plan p.seed cycle old.elements) [
               | Ok last ↦ concluded m j old.globals p.plan p.seed last
@@ -189,5 +189,5 @@ module _ {S G E L P : Type 0} (m : Meaning S G E L P) (Covers : S → P → ℕ 
             spells.prepare_code j old.globals old.elements windows old.seed cycle time next code came,
           )
 
-      pub cycle_is : IsCycled Own j old (cycled m j old windows cycle time next)
+      pub cycle_is : IsCycled Own j old (cycle_result m j old windows cycle time next)
       cycle_is = begun (m.prepared j old.globals old.elements windows old.seed cycle time next) refl

@@ -5,7 +5,7 @@ use Rattle.det_values.specs.declared.frames.Frame.{Frame}
 use Rattle.copies.specs.declared.difference.Difference.{Difference}
 use Rattle.copies.specs.FirstDifference.{frame_difference}
 use Rattle.copies.proofs.FirstDifference.{frame-apart}
-use Rattle.rerun.specs.checker.Departure.{agreeing, departure_from}
+use Rattle.rerun.specs.checker.Departure.{agreeing_count, departure_from}
 
 -- a frame and itself have no difference
 no_difference : (number : ℕ) (frame : Frame) → frame_difference number frame frame ≡ None
@@ -20,11 +20,11 @@ departs_nowhere number (f ∷ frames) more =
     ∙ departs_nowhere (suc number) frames more
 
 -- and all of them agree
-pub all_agree : (number : ℕ) (frames more : List Frame) → agreeing number frames (frames ++ more) ≡ length frames
-unfolding agreeing
+pub all_agree : (number : ℕ) (frames more : List Frame) → agreeing_count number frames (frames ++ more) ≡ length frames
+unfolding agreeing_count
 all_agree number [] more = refl
 all_agree number (f ∷ frames) more =
-    ap (λ (o : Option Difference). cond (is_none o) (suc (agreeing (suc number) frames (frames ++ more))) 0) (no_difference number f)
+    ap (λ (o : Option Difference). cond (is_none o) (suc (agreeing_count (suc number) frames (frames ++ more))) 0) (no_difference number f)
     ∙ ap suc (all_agree (suc number) frames more)
 
 both_none : (a b : Option Difference) → option_or a b ≡ None → (a ≡ None) × (b ≡ None)

@@ -11,9 +11,9 @@ use Rattle.record_text.specs.Words.{number_line}
 use Rattle.copies.specs.Verdict.{shared}
 use Rattle.cmd_records.specs.declared.voter.outcome.Dissenter.{Dissenter}
 use Rattle.cmd_records.specs.voter.Majority.{is_record, is_majority, majority, dissent, spelled_items}
-use Rattle.cmd_records.specs.voter.Standing.{IsRecord}
+use Rattle.cmd_records.specs.voter.VotersState.{IsRecord}
 use Rattle.cmd_records.proofs.lemmas.voter.Counting.{most-true, most-is, count-cons}
-use Rattle.cmd_records.proofs.lemmas.voter.Held.{record-tells, record-yes, majority-is, majority-passes}
+use Rattle.cmd_records.proofs.lemmas.voter.Held.{record-is_known, record-yes, majority-is, majority-passes}
 use Rattle.cli_answers.specs.declared.answer.Answer.TheVariants.{Done}
 use Rattle.cmd_records.specs.vote_command.Vote.{voted_by, dissent_text, dissent_by}
 use Rattle.run_laws.specs.Votes.{others_than, AreNamed, AnsweredAlike, OthersAreNamed, NoneIsNamed}
@@ -65,7 +65,7 @@ module _ (copies : List (List ℕ)) (bytes : AllByRecursion AreBytes copies) whe
   whole_is given e =
       let a = most-true (count_by (is_record given) copies) (length copies) e in
       let one = one-passes (is_record given) copies bytes (omega (arith, a)) in
-      subst (IsRecord given) (sym (spelling copies bytes given one.0 one.1 one.2)) (record-tells given one.0 one.2)
+      subst (IsRecord given) (sym (spelling copies bytes given one.0 one.1 one.2)) (record-is_known given one.0 one.2)
 
   named_by : (m : Option (List Item)) → majority copies ≡ m → (voted_by m copies).answer ≡ Done
       → AreNamed (voted_by m copies).bytes copies

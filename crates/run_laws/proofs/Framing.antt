@@ -5,7 +5,7 @@ use Rattle.std.proofs.lemmas.List.{length-map}
 use Rattle.std.proofs.lemmas.List.Elements.{All-nil, All-cons, All-head, All-tail, All-append, All-push, All-map, All-weaker}
 use Rattle.det_values.specs.Limits.{IsSampleValue}
 use Rattle.det_values.specs.Values.{ProfileValue, SampleValue, RefusedAtValue}
-use Rattle.det_values.specs.Frames.{undrawn, outcome_in_format}
+use Rattle.det_values.specs.Frames.{without_draws, outcome_in_format}
 use Rattle.det_values.specs.declared.format.Format.{Format}
 use Rattle.det_values.specs.declared.format.Format.TheVariants.{One, Two}
 use Rattle.det_values.specs.declared.frames.CycleInput.{CycleInput}
@@ -18,7 +18,8 @@ use Rattle.job.specs.event_cache.Windows.{AreWindows, windows_after}
 use Rattle.job.specs.Meaning.{Meaning}
 use Rattle.job.specs.Laws.{JobLaws}
 use Rattle.job.specs.Cycle.{State, Done, outcome_of, state_after}
-use Rattle.cycle_engine.specs.Frames.{samples_of, job_of, first_state, cycle_of, frame_of, runs_behind, runs, init_of, frames as frames_of}
+use Rattle.cycle_engine.specs.Frames.{samples_of, job_of, first_state, cycle_of, frame_of, runs_after_inputs, runs, init_of}
+use Rattle.cycle_engine.specs.Frames.{frames as frames_of}
 use Rattle.cycle_engine.proofs.Standing.{length-runs}
 use Rattle.record_grammar.specs.Spelling.{IsHeader, IsSample, IsInput, IsElement, IsDrawn, IsOutcome, IsFrame, AreRun, spelled, Spells}
 use Rattle.record_grammar.specs.Spelling.{SpellsWhole}
@@ -29,8 +30,12 @@ use Rattle.run_laws.proofs.Windowed.{are_windows}
 -- what a format keeps of an outcome can be spelled in it
 outcome_kept : (format : Format) (outcome : Outcome) → IsOutcome Two outcome → IsOutcome format (outcome_in_format format outcome)
 outcome_kept One (Finished elements output) h = (
-  omega (arith, length-map elements undrawn, h.0),
-  All-map (IsDrawn One) undrawn elements (All-weaker (IsDrawn Two) (λ e. IsDrawn One (undrawn e)) (λ e d. (d.0, omega arith, refl)) elements
+  omega (arith, length-map elements without_draws, h.0),
+  All-map (IsDrawn One) without_draws elements (All-weaker (IsDrawn Two) (λ e. IsDrawn One (without_draws e)) (λ e d. (
+    d.0,
+    omega arith,
+    refl,
+  )) elements
       h.1),
   h.2,
 )
@@ -90,8 +95,8 @@ module _ {S G E L P : Type 0} (m : Meaning S G E L P) (Covers : S → P → ℕ 
       (good, outcome_kept profile.format (outcome_of (cycle_of m profile before state input)) c.outcome)
 
   all_runs : (before inputs : List CycleInput) (state : State G E) → All CanHold before → All CanHold inputs → IsOwn state
-      → All Holds (map (λ run. frames.Run run) (runs_behind m profile before state inputs))
-  unfolding runs_behind
+      → All Holds (map (λ run. frames.Run run) (runs_after_inputs m profile before state inputs))
+  unfolding runs_after_inputs
   all_runs before [] state held good is = All-nil Holds
   all_runs before (input ∷ inputs) state held good is =
       let here : CanHold input = All-head CanHold input inputs good in

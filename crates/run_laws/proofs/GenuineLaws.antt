@@ -5,21 +5,21 @@ use Rattle.det_values.specs.Values.{ProfileValue}
 use Rattle.det_values.specs.declared.format.Format.TheVariants.{Two}
 use Rattle.det_values.specs.declared.job_kind.JobKind.{JobKind}
 use Rattle.det_values.specs.Jobs.{kind_of_number}
-use Rattle.record_grammar.specs.declared.fault.RecordFault.{RecordFault}
+use Rattle.record_grammar.specs.declared.record_fault.RecordFault.{RecordFault}
 use Rattle.record_grammar.specs.declared.item.Item.{Item}
 use Rattle.record_grammar.specs.declared.item.Item.TheVariants as items
 use Rattle.record_grammar.specs.Record.{items as items_in, fault as fault_in}
 use Rattle.record_grammar.specs.Spelling.{AreBytes}
 use Rattle.cmd_records.specs.record_show.Text.{format_in}
-use Rattle.rerun.specs.replayer.Again.{inputs}
+use Rattle.rerun.specs.replayer.ReplayRecord.{inputs}
 use Rattle.probes.specs.Reports.{AudienceState}
-use Rattle.rerun.specs.upgrader.Upgraded.{in_format_two}
+use Rattle.rerun.specs.upgrader.UpgradedRecord.{in_format_two}
 use Rattle.cli_answers.specs.declared.answer.Answer.TheVariants.{Done}
 use Rattle.cli_answers.specs.Outcome.{Outcome}
 use Rattle.run_setup.specs.declared.recorded_run.bad_run.BadRun.{BadRun}
 use Rattle.run_setup.specs.declared.recorded_run.bad_run.BadRun.TheVariants.{Fault, Profile}
 use Rattle.run_setup.specs.recorded_run.Run.{RunValue, taking, kind_of, run_by, run_of}
-use Rattle.cmd_rerun.specs.upgrade_command.Visited.{upgraded_by_kind}
+use Rattle.cmd_rerun.specs.upgrade_command.UpgradeVisit.{upgraded_by_kind}
 use Rattle.run_laws.proofs.NamedRuns.{run_with, replayed_by, checked_by, upgraded_by}
 use Rattle.run_laws.specs.Statements.{given_again}
 use Rattle.run_laws.specs.Checks.{IsGenuine, GenuineIsReplayed, GenuineIsUpgraded, FormatTwoStays}
@@ -101,13 +101,13 @@ upgraded_by_run audience record_bytes are (Ok run) e h =
     let n = names (items_in record_bytes) (fault_in record_bytes) run e in
     let is = (kind_go_together run.kind audience run.profile record_bytes are (n.rest, n.header)).upgraded h in
     let more : List ℕ = (upgraded_by_kind run.kind run.profile record_bytes).bytes in
-    let again : run_of more ≡ Ok (a_run run.kind (in_format_two run.profile)) =
+    let replay_record : run_of more ≡ Ok (a_run run.kind (in_format_two run.profile)) =
     ap (λ (xs : List Item). run_by xs (fault_in more)) is.items ∙ run_in_two run (map items.Frame is.run) (fault_in more) n.kind in
     record {
       done = is.done;
       inputs = is.inputs;
       format = ap format_in is.items;
-      genuine = ap (λ (r : Result RunValue BadRun). (checked_by audience more r).answer) again ∙ is.genuine;
+      genuine = ap (λ (r : Result RunValue BadRun). (checked_by audience more r).answer) replay_record ∙ is.genuine;
       stays = λ two. is.stays (ap format_in (sym n.header) ∙ two);
     }
 

@@ -18,7 +18,7 @@ use Rattle.jobs.specs.guard.Meaning as guard
 use Rattle.jobs.specs.guard.Ranges as guard_ranges
 use Rattle.jobs.specs.guard.Laws.{guard_laws}
 use Rattle.cycle_engine.specs.Frames.{frames}
-use Rattle.record_grammar.specs.declared.fault.RecordFault.{RecordFault}
+use Rattle.record_grammar.specs.declared.record_fault.RecordFault.{RecordFault}
 use Rattle.record_grammar.specs.declared.item.Item.{Item}
 use Rattle.record_grammar.specs.declared.item.Item.TheVariants as items
 use Rattle.record_grammar.specs.Record.{items as items_in, fault as fault_in}
@@ -27,19 +27,19 @@ use Rattle.record_grammar.specs.Laws.{items_of}
 use Rattle.record_grammar.proofs.lemmas.record_laws.Spelled.{spelled_is_read}
 use Rattle.copies.specs.declared.difference.Difference.{Difference}
 use Rattle.probes.specs.Reports.{AudienceState, reported}
-use Rattle.rerun.specs.replayer.Again.{inputs}
+use Rattle.rerun.specs.replayer.ReplayRecord.{inputs}
 use Rattle.rerun.specs.checker.Departure.{departure, checked_runs}
-use Rattle.rerun.specs.checker.Verdict.{verdict_by}
-use Rattle.rerun.specs.upgrader.Upgraded.{in_format_two, upgraded}
+use Rattle.rerun.specs.checker.CheckVerdict.{verdict_by}
+use Rattle.rerun.specs.upgrader.UpgradedRecord.{in_format_two, upgraded}
 use Rattle.cli_answers.specs.declared.answer.Answer.TheVariants.{Done, Differs}
 use Rattle.cli_answers.specs.Answers.{by_fault}
 use Rattle.cli_answers.specs.Outcome.{Outcome}
 use Rattle.cmd_rerun.specs.replay_command.Replay.{replayed_with}
-use Rattle.cmd_rerun.specs.replay_command.Visited.{replayed}
+use Rattle.cmd_rerun.specs.replay_command.ReplayVisit.{replayed}
 use Rattle.cmd_rerun.specs.check_command.Check.{outcome_by, checked_with}
-use Rattle.cmd_rerun.specs.check_command.Visited.{checked}
+use Rattle.cmd_rerun.specs.check_command.CheckVisit.{checked}
 use Rattle.cmd_rerun.specs.upgrade_command.Upgrade.{upgraded_with}
-use Rattle.cmd_rerun.specs.upgrade_command.Visited.{upgraded_by_kind}
+use Rattle.cmd_rerun.specs.upgrade_command.UpgradeVisit.{upgraded_by_kind}
 use Rattle.run_laws.specs.Statements.{IsRunRead, given_again}
 use Rattle.run_laws.proofs.SpelledJob.{IsSpelledJob}
 use Rattle.run_laws.proofs.Shipped.{bank_spelled, cloud_spelled, guard_spelled}

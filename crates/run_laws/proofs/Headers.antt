@@ -16,12 +16,12 @@ use Rattle.manifest.specs.Tree.{text_of}
 use Rattle.manifest.specs.Keys.{found, keys}
 use Rattle.manifest.specs.Faults.{first_fault}
 use Rattle.manifest.specs.Profiles.{profile_of}
-use Rattle.manifest.specs.Meaning.{said, unknown_fault, manifest_in, document_of, manifest_of}
+use Rattle.manifest.specs.Meaning.{tree_manifest, unknown_fault, manifest_in, document_of, manifest_of}
 use Rattle.manifest.proofs.Order.{or_fault}
 use Rattle.manifest.proofs.Naming.{with_job}
 use Rattle.manifest.specs.declared.key.Key.TheVariants.{Job}
-use Rattle.manifest.specs.declared.fault.ManifestFault.{ManifestFault}
-use Rattle.manifest.specs.declared.fault.ManifestFault.TheVariants.{TooLong, NotToml}
+use Rattle.manifest.specs.declared.manifest_fault.ManifestFault.{ManifestFault}
+use Rattle.manifest.specs.declared.manifest_fault.ManifestFault.TheVariants.{TooLong, NotToml}
 use Rattle.run_laws.proofs.Keys.{AreGood, are_good}
 
 -- a tree without a fault says this manifest
@@ -29,7 +29,7 @@ record IsSaid (m : ManifestValue) : Type 0 where
   tree : Data
   kind : JobKind
   good : first_fault tree (keys tree) ≡ None
-  is : m ≡ said tree kind
+  is : m ≡ tree_manifest tree kind
 
 past : (o : Option ManifestFault) (answer : Result ManifestValue ManifestFault) (m : ManifestValue) → or_fault o answer ≡ Ok m
     → (o ≡ None) × (answer ≡ Ok m)
@@ -62,8 +62,9 @@ number_small Bank = omega arith
 number_small Cloud = omega arith
 number_small Guard = omega arith
 
-said_header : (tree : Data) (kind : JobKind) (seed : ℕ) → seed < 2 ^ 64 → AreGood tree → All (FitsSigned w64) (said tree kind).params
-    → IsHeader (profile_of (said tree kind) seed)
+said_header : (tree : Data) (kind : JobKind) (seed : ℕ) → seed < 2 ^ 64 → AreGood tree
+    → All (FitsSigned w64) (tree_manifest tree kind).params
+    → IsHeader (profile_of (tree_manifest tree kind) seed)
 said_header tree kind seed small good fit = record {
   job = number_small kind;
   seed = small;

@@ -11,8 +11,8 @@ use Rattle.job.specs.Laws.{JobLaws}
 use Rattle.cycle_engine.specs.Frames.{frames}
 use Rattle.record_grammar.specs.Spelling.{IsHeader, SpellsWhole, spelled}
 use Rattle.recorder.specs.run_writer.Record.{record_with}
-use Rattle.rerun.specs.replayer.Again.{inputs}
-use Rattle.rerun.specs.upgrader.Upgraded.{in_format_two, upgraded_with, upgraded}
+use Rattle.rerun.specs.replayer.ReplayRecord.{inputs}
+use Rattle.rerun.specs.upgrader.UpgradedRecord.{in_format_two, upgraded_with, upgraded}
 use Rattle.run_laws.specs.Statements.{IsRunRead}
 use Rattle.run_laws.proofs.SpelledJob.{IsSpelledJob}
 use Rattle.run_laws.proofs.Reading.{run_is_read}

@@ -6,9 +6,9 @@ use Rattle.std.proofs.lemmas.List.Elements.{All-nil, All-cons, All-head, All-tai
 use Rattle.det_values.specs.Limits.{IsSampleValue}
 use Rattle.det_values.specs.Values.{SampleValue}
 use Rattle.det_values.specs.declared.frames.CycleInput.{CycleInput}
-use Rattle.stimulus.specs.declared.line.Line.{Line}
-use Rattle.stimulus.specs.declared.line.Line.TheVariants as lines
-use Rattle.stimulus.specs.Good.{blocks_in, without_last, ends}
+use Rattle.stimulus.specs.declared.parse_line.Line.{Line}
+use Rattle.stimulus.specs.declared.parse_line.Line.TheVariants as lines
+use Rattle.stimulus.specs.GoodLines.{blocks_in, without_last, ends}
 use Rattle.stimulus.specs.Limits.{IsLine}
 use Rattle.stimulus.specs.Lines.{line_of}
 use Rattle.stimulus.specs.Reading.{blocks, good_lines}

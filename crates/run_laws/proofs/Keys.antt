@@ -17,8 +17,8 @@ use Rattle.manifest.specs.Meaning.{params_of, event_at, events_of}
 use Rattle.manifest.specs.declared.key.Key.{Key}
 use Rattle.manifest.specs.declared.key.Key.TheVariants.{Job, CycleTime, Workers, Params, Event, EventItem, EventName, EventCapacity}
 use Rattle.manifest.specs.declared.key.Key.TheVariants.{EventPolicy}
-use Rattle.manifest.specs.declared.fault.ManifestFault.{ManifestFault}
-use Rattle.manifest.specs.declared.fault.ManifestFault.TheVariants.{OutOfRange}
+use Rattle.manifest.specs.declared.manifest_fault.ManifestFault.{ManifestFault}
+use Rattle.manifest.specs.declared.manifest_fault.ManifestFault.TheVariants.{OutOfRange}
 use Rattle.manifest.proofs.Steps.{first_append, keys_of_events, params_from, events_from}
 
 -- ---- one key

@@ -18,9 +18,10 @@ use Rattle.record_grammar.specs.Laws.{items_of}
 use Rattle.record_grammar.specs.Spelling.{IsInput, SpellsWhole, spelled}
 use Rattle.record_grammar.proofs.lemmas.record_laws.Spelled.{spelled_is_read}
 use Rattle.recorder.specs.run_writer.Record.{record_with}
-use Rattle.rerun.specs.replayer.Again.{input_in, inputs, again}
-use Rattle.rerun.specs.checker.Departure.{agreeing, departure_from, departure, run_of, frames_in, given_by, genuine_frames, checked_runs}
-use Rattle.rerun.specs.checker.Verdict.{check_verdict, verdict_by}
+use Rattle.rerun.specs.replayer.ReplayRecord.{input_in, inputs, replay_record}
+use Rattle.rerun.specs.checker.Departure.{agreeing_count, departure_from, departure, run_of, frames_in, given_by, genuine_frames}
+use Rattle.rerun.specs.checker.Departure.{checked_runs}
+use Rattle.rerun.specs.checker.CheckVerdict.{check_verdict, verdict_by}
 use Rattle.run_laws.specs.Statements.{IsRunRead, fault_if}
 use Rattle.run_laws.proofs.SpelledJob.{IsSpelledJob}
 use Rattle.run_laws.proofs.Departing.{departs_nowhere, all_agree, same_frames}
@@ -57,10 +58,10 @@ module _ {S G E L P : Type 0} (m : Meaning S G E L P) (profile : ProfileValue) w
       ap (departure_from 0 (frames m profile given ended)) whole.1 ∙ departs_nowhere 0 (frames m profile given ended) whole.0
 
   all_agreeing : (given : List CycleInput) (ended : Bool)
-      → agreeing 0 (frames m profile given ended) (frames m profile given true) ≡ length (frames m profile given ended)
+      → agreeing_count 0 (frames m profile given ended) (frames m profile given true) ≡ length (frames m profile given ended)
   all_agreeing given ended =
       let whole = whole_more given ended in
-      ap (agreeing 0 (frames m profile given ended)) whole.1 ∙ all_agree 0 (frames m profile given ended) whole.0
+      ap (agreeing_count 0 (frames m profile given ended)) whole.1 ∙ all_agree 0 (frames m profile given ended) whole.0
 
   runs_of_frames : (given : List CycleInput) (ended : Bool) → flat_map run_of (frames m profile given ended) ≡ runs m profile given
   runs_of_frames given true = runs_back (runs m profile given) (Terminate ∷ []) ∙ append-nil (runs m profile given)
@@ -88,7 +89,7 @@ module _ {S G E L P : Type 0} (m : Meaning S G E L P) (profile : ProfileValue) w
     given_are = ap (λ (xs : List CycleInput). frames m profile xs true) inputs_are
 
     pub all_genuine : genuine_frames m profile record_bytes ≡ length (frames m profile given ended)
-    all_genuine = (λ i. agreeing 0 (frames_are i) (given_are i)) ∙ all_agreeing given ended
+    all_genuine = (λ i. agreeing_count 0 (frames_are i) (given_are i)) ∙ all_agreeing given ended
 
     pub no_departure : departure m profile record_bytes ≡ None
     no_departure = (λ i. departure_from 0 (frames_are i) (given_are i)) ∙ none_departs given ended
@@ -132,7 +133,7 @@ module _ {S G E L P : Type 0} (m : Meaning S G E L P) (profile : ProfileValue) w
         }
 
     -- and where it is read so, it is given again
-    pub gives_again : IsOfInputs record_bytes → again m profile record_bytes ≡ record_bytes
+    pub gives_again : IsOfInputs record_bytes → replay_record m profile record_bytes ≡ record_bytes
     unfolding record_with
     gives_again read =
         let is : frames m profile (inputs record_bytes) true ≡ run =
@@ -152,7 +153,7 @@ module _ {S G E L P : Type 0} (m : Meaning S G E L P) (profile : ProfileValue) w
 
     -- where it is given again it is read as the frames that its inputs give
     pub was_given : (Covers : S → P → ℕ → Type 0) (Own : S → E → Type 0) (Fit : S → L → Type 0) → JobLaws m Covers Own Fit
-        → IsSpelledJob m → fault_in record_bytes ≡ None → again m profile record_bytes ≡ record_bytes → IsOfInputs record_bytes
+        → IsSpelledJob m → fault_in record_bytes ≡ None → replay_record m profile record_bytes ≡ record_bytes → IsOfInputs record_bytes
     was_given Covers Own Fit laws spells sound same =
         let given : List CycleInput = inputs record_bytes in
         let is : record_with m profile given true ≡ record_bytes =

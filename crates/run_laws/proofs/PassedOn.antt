@@ -13,9 +13,9 @@ use Rattle.det_values.specs.declared.frames.Outcome.TheVariants.{Finished, Refus
 use Rattle.det_values.specs.declared.frames.RunFrame.{RunFrame}
 use Rattle.job.specs.Meaning.{Meaning}
 use Rattle.job.specs.Cycle.{State, state_after}
-use Rattle.cycle_engine.specs.Frames.{cycle_of, frame_of, runs_behind, first_state}
+use Rattle.cycle_engine.specs.Frames.{cycle_of, frame_of, runs_after_inputs, first_state}
 use Rattle.record_grammar.specs.Spelling.{IsTime, IsInput}
-use Rattle.cmd_run.specs.chain.Derived.{sample_of, first_word, samples_from, samples_of, derived_input, derived}
+use Rattle.cmd_run.specs.chain.OutputSamples.{sample_of, first_word, samples_from, samples_of, derived_input, derived}
 use Rattle.cmd_run.proofs.lemmas.chain.Samples.{is_sample_value}
 use Rattle.cmd_run.proofs.lemmas.chain.Samples.{known-samples, few-samples}
 use Rattle.run_laws.proofs.Parameters.{below}
@@ -84,8 +84,8 @@ module _ {S G E L P : Type 0} (m : Meaning S G E L P) (first : ProfileValue) (ev
   CanPass = IsInput (length first.events)
 
   inputs_held : (before : List CycleInput) (state : State G E) (given : List CycleInput) → All CanPass given
-      → All (IsInput events) (map (derived_input events) (runs_behind m first before state given))
-  unfolding runs_behind
+      → All (IsInput events) (map (derived_input events) (runs_after_inputs m first before state given))
+  unfolding runs_after_inputs
   inputs_held before state [] h = All-nil (IsInput events)
   inputs_held before state (input ∷ given) h =
       All-cons (IsInput events) _ _ (input_held events (frame_of m first before state input) few (All-head CanPass input given h).0)

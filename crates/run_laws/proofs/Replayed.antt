@@ -16,17 +16,17 @@ use Rattle.jobs.specs.bank.Meaning as bank
 use Rattle.jobs.specs.cloud.Meaning as cloud
 use Rattle.jobs.specs.guard.Meaning as guard
 use Rattle.jobs.specs.Kinds.{bad_param}
-use Rattle.cycle_engine.specs.Frames.{cycle_of, runs_behind, first_state, frames}
+use Rattle.cycle_engine.specs.Frames.{cycle_of, runs_after_inputs, first_state, frames}
 use Rattle.record_grammar.specs.declared.item.Item.TheVariants as items
 use Rattle.record_grammar.specs.Record.{items as items_in, fault as fault_in}
 use Rattle.record_grammar.specs.Laws.{items_of}
 use Rattle.recorder.specs.run_writer.Record.{record_with}
 use Rattle.stimulus.specs.Reading.{blocks, ending}
 use Rattle.recorder.specs.Record.{is_terminated, record_of}
-use Rattle.rerun.specs.replayer.Again.{input_in, inputs, is_whole, again}
+use Rattle.rerun.specs.replayer.ReplayRecord.{input_in, inputs, is_whole, replay_record}
 use Rattle.run_setup.specs.recorded_run.Run.{taking, run_of, run_by}
 use Rattle.cmd_rerun.specs.replay_command.Replay.{replayed_with}
-use Rattle.cmd_rerun.specs.replay_command.Visited.{replayed}
+use Rattle.cmd_rerun.specs.replay_command.ReplayVisit.{replayed}
 use Rattle.cmd_run.specs.record_command.Outcomes.{recorded_by_kind}
 use Rattle.run_laws.proofs.NamedRuns.{run_with, replayed_by}
 use Rattle.run_laws.specs.Statements.{IsRunRead, IsRecordRead, IsRecordReplayed, given_again, frames_by_kind, fault_if}
@@ -44,9 +44,9 @@ whole_if false bytes = refl
 module _ {S G E L P : Type 0} (m : Meaning S G E L P) (profile : ProfileValue) where
   -- the inputs in the frames of these inputs' cycles, and in others after them
   inputs_behind : (before : List CycleInput) (state : State G E) (given : List CycleInput) (tail : List Frame)
-      → flat_map input_in (map items.Frame (map (λ run. Run run) (runs_behind m profile before state given) ++ tail))
+      → flat_map input_in (map items.Frame (map (λ run. Run run) (runs_after_inputs m profile before state given) ++ tail))
       ≡ given ++ flat_map input_in (map items.Frame tail)
-  unfolding runs_behind
+  unfolding runs_after_inputs
   inputs_behind before state [] tail = refl
   inputs_behind before state (input ∷ given) tail =
       ap (λ (rest : List CycleInput). input ∷ rest)
@@ -58,7 +58,7 @@ module _ {S G E L P : Type 0} (m : Meaning S G E L P) (profile : ProfileValue) w
 
   -- the record of a run that is read as its frames
   run_again : (given : List CycleInput) (ended : Bool) (bytes : List ℕ) → bytes ≡ record_with m profile given ended
-      → IsRunRead profile (frames m profile given ended) ended bytes → again m profile bytes ≡ bytes
+      → IsRunRead profile (frames m profile given ended) ended bytes → replay_record m profile bytes ≡ bytes
   run_again given ended bytes is h =
       let whole : is_whole bytes ≡ ended = ap is_none h.fault ∙ whole_if ended bytes in
       let same : inputs bytes ≡ given = ap (flat_map input_in) h.items ∙ inputs_of_run given ended in

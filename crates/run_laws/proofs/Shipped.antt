@@ -5,23 +5,23 @@ use Rattle.std.specs.Prelude.{nat_le, nat_lt, unwrap_or}
 use Rattle.std.specs.List.{flat_map}
 use Rattle.std.specs.Int.{w16, w32, w64, bytes_high_first, byte_at, byte_len, cast_unsigned}
 use Rattle.std.proofs.lemmas.List.Elements.{All-nil, All-cons, All-append}
-use Rattle.job.specs.declared.answers.Concluded.{Concluded}
-use Rattle.job.specs.Meaning.{Worked}
+use Rattle.job.specs.declared.job_results.Conclusion.{Conclusion}
+use Rattle.job.specs.Meaning.{ElementResult}
 use Rattle.record_grammar.specs.Spelling.{AreBytes}
-use Rattle.job_shared.specs.Samples.{newest}
+use Rattle.job_shared.specs.Samples.{newest_sample}
 use Rattle.job_shared.specs.Bytes.{u16_bytes, u32_bytes, u64_bytes, i64_bytes}
 use Rattle.jobs.specs.bank.Meaning as bank
 use Rattle.jobs.specs.declared.bank.channel.Channel.{Channel as BankChannel}
 use Rattle.jobs.specs.declared.bank.summary.Summary.{Summary}
-use Rattle.jobs.specs.declared.bank.cycle.NoGlobals.{NoGlobals}
+use Rattle.jobs.specs.declared.bank.bank_job.NoGlobals.{NoGlobals}
 use Rattle.jobs.specs.cloud.Meaning as cloud
 use Rattle.jobs.specs.declared.cloud.best.Best.{Best}
-use Rattle.jobs.specs.declared.cloud.cycle.Finished.{Finished}
+use Rattle.jobs.specs.declared.cloud.cloud_job.Finished.{Finished}
 use Rattle.jobs.specs.guard.Meaning as guard
 use Rattle.jobs.specs.guard.Bounds.{contains}
 use Rattle.jobs.specs.declared.guard.guard.Guard.{Guard}
 use Rattle.jobs.specs.declared.guard.channel.Channel.{Channel as GuardChannel}
-use Rattle.jobs.specs.declared.guard.cycle.Total.{Total}
+use Rattle.jobs.specs.declared.guard.guard_job.Total.{Total}
 use Rattle.run_laws.proofs.SpelledJob.{IsSpelledJob}
 
 -- ---- bytes
@@ -86,7 +86,7 @@ bank_output part = bank_summary (unwrap_or part (bank.summary_of (pos 0)))
 pub bank_spelled : IsSpelledJob bank.meaning
 bank_spelled = record {
   shown = λ j e. bank_shown (nat_le 2 j.events) e;
-  output = λ j g plan part d h. subst (λ (x : Concluded NoGlobals). AreBytes x.output) (given _ d h) (bank_output part);
+  output = λ j g plan part d h. subst (λ (x : Conclusion NoGlobals). AreBytes x.output) (given _ d h) (bank_output part);
   prepare_code = λ j g es windows seed cycle time next code h. never _ code h;
   work_code = λ j plan carry pass e key code h. never _ code h;
   conclude_code = λ j g plan part code h. never _ code h;
@@ -113,9 +113,9 @@ cloud_output part finished = both (cloud.best_bytes part) (u32_bytes finished) (
 pub cloud_spelled : IsSpelledJob cloud.meaning
 cloud_spelled = record {
   shown = λ j e. three e.number e.x e.y;
-  output = λ j g plan part d h. subst (λ (x : Concluded Finished). AreBytes x.output) (given_if (cloud.is_far j.far part) 2 _ d h)
+  output = λ j g plan part d h. subst (λ (x : Conclusion Finished). AreBytes x.output) (given_if (cloud.is_far j.far part) 2 _ d h)
       (cloud_output part (cloud.one_more g));
-  prepare_code = λ j g es windows seed cycle time next code h. code_if (cloud.is_held (newest windows 2)) 1 code _ (omega arith) h;
+  prepare_code = λ j g es windows seed cycle time next code h. code_if (cloud.is_held (newest_sample windows 2)) 1 code _ (omega arith) h;
   work_code = λ j plan carry pass e key code h. never _ code h;
   conclude_code = λ j g plan part code h. code_if (cloud.is_far j.far part) 2 code _ (omega arith) h;
 }
@@ -141,10 +141,10 @@ guard_output total part next =
     (both (u32_bytes (length part)) (flat_map u32_bytes part ++ guard.next_bytes next) (four_bytes (length part))
     (both (flat_map u32_bytes part) (guard.next_bytes next) (number_bytes part) (next_bytes next)))
 
-judged_code : (j : Guard) (e : GuardChannel) (reading : Option ℤ) (code : ℕ) → guard.judged j e reading ≡ Err code → code < 2 ^ 32
+judged_code : (j : Guard) (e : GuardChannel) (reading : Option ℤ) (code : ℕ) → guard.channel_after j e reading ≡ Err code → code < 2 ^ 32
 judged_code j e None code h = never _ code h
 judged_code j e (Some value) code h = in_bounds (contains j.bounds value) _ h where
-  in_bounds : (t : Bool) (x : Worked GuardChannel (List ℕ)) → ◌≡◌ {A = Result (Worked GuardChannel (List ℕ)) ℕ}
+  in_bounds : (t : Bool) (x : ElementResult GuardChannel (List ℕ)) → ◌≡◌ {A = Result (ElementResult GuardChannel (List ℕ)) ℕ}
       (cond t (Ok x) (cond (nat_le j.limit (e.streak + 1)) (Err 1) (Ok (guard.corrected e)))) (Err code) → code < 2 ^ 32
   in_bounds true x k = never x code k
   in_bounds false x k = code_if (nat_le j.limit (e.streak + 1)) 1 code (guard.corrected e) (omega arith) k
@@ -153,7 +153,7 @@ pub guard_spelled : IsSpelledJob guard.meaning
 guard_spelled = record {
   shown = λ j e. guard_shown e;
   output = λ j g plan part d h.
-      subst (λ (x : Concluded Total). AreBytes x.output) (given_if (nat_lt j.most (length part)) 2 _ d h)
+      subst (λ (x : Conclusion Total). AreBytes x.output) (given_if (nat_lt j.most (length part)) 2 _ d h)
       (guard_output (guard.total_after g part) part plan.next);
   prepare_code = λ j g es windows seed cycle time next code h. never _ code h;
   work_code = λ j plan carry pass e key code h. judged_code j e (guard.reading plan.samples e) code h;

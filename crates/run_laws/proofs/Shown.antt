@@ -4,7 +4,7 @@ use Rattle.std.specs.Option.{unwrap_or}
 use Rattle.det_values.specs.Values.{ProfileValue}
 use Rattle.det_values.specs.declared.frames.CycleInput.{CycleInput}
 use Rattle.det_values.specs.declared.frames.Frame.{Frame}
-use Rattle.record_text.specs.declared.part.ShowPart.TheVariants.{All}
+use Rattle.record_text.specs.declared.show_part.ShowPart.TheVariants.{All}
 use Rattle.cmd_records.specs.record_show.Text.{text_from}
 use Rattle.probes.specs.Reports.{AudienceState}
 use Rattle.cli_answers.specs.Answers.{by_fault}

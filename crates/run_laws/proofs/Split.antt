@@ -22,7 +22,7 @@ use Rattle.record_grammar.proofs.lemmas.record_laws.Whole.{nil_more, all_leads_o
 use Rattle.cmd_records.specs.voter.Majority.{majority, are_held, common, spelled_items}
 use Rattle.record_reader.specs.InItems.{frame_in}
 use Rattle.cmd_records.proofs.lemmas.voter.Counting.{most-true, most-is, count-cons}
-use Rattle.cmd_records.proofs.lemmas.voter.Prefixes.{begins_with, begins-tells}
+use Rattle.cmd_records.proofs.lemmas.voter.Prefixes.{begins_with, begins-is_known}
 use Rattle.cmd_records.proofs.lemmas.voter.Held.{common-from, common-is}
 use Rattle.cmd_records.proofs.lemmas.voter.Spelled.{spelled-prefix}
 use Rattle.cli_answers.specs.declared.answer.Answer.TheVariants.{NoMajority}
@@ -67,7 +67,7 @@ begins_so : (xs : List Item) (copy : List ℕ) → AreBytes copy → begins_with
     → starts_with nat_eq copy (spelled_items xs) ≡ true
 begins_so xs copy are e =
     let long = (decoded_is copy are).items in
-    let front = spelled-prefix xs (items_in copy) (begins-tells xs (items_in copy) e) in
+    let front = spelled-prefix xs (items_in copy) (begins-is_known xs (items_in copy) e) in
     let all : copy ≡ spelled_items (items_in copy) ++ long.rest =
     long.spelling ∙ ap (λ (bytes : List ℕ). bytes ++ long.rest) (sym (spelled_is (items_in copy) long.to long.items)) in
     let parts : copy ≡ spelled_items xs ++ (front.0 ++ long.rest) =
@@ -120,7 +120,7 @@ module _ (first : List ℕ) (others : List (List ℕ)) (bytes : AllByRecursion A
   common_read =
       let n = most-true (count_by (λ copy. begins_with (common copies) (items_in copy)) copies) (length copies) common_held in
       let one = one-passes (λ copy. begins_with (common copies) (items_in copy)) copies bytes (omega (arith, n)) in
-      let p = begins-tells (common copies) (items_in one.0) one.2 in
+      let p = begins-is_known (common copies) (items_in one.0) one.2 in
       let long = (decoded_is one.0 one.1).items in
       let at = first_items (common copies) p.0 places.Header long.to
       (subst (λ (xs : List Item). AreItems places.Header xs long.to) (sym p.1) long.items) in

@@ -26,7 +26,7 @@ use Rattle.record_text.specs.Summaries.{summary_lines}
 use Rattle.record_reader.specs.InItems.{runs_in}
 use Rattle.probes.specs.Reports.{AudienceState, reported}
 use Rattle.probes.specs.Shipped.{outcome_refused, is_refused}
-use Rattle.stimulus.specs.Made.{made}
+use Rattle.stimulus.specs.GeneratedText.{made}
 use Rattle.stimulus.specs.Reading.{blocks, ending}
 use Rattle.recorder.specs.run_writer.Record.{counted}
 use Rattle.recorder.specs.Record.{is_terminated, record_of}

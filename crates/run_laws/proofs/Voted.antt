@@ -8,9 +8,9 @@ use Rattle.record_grammar.specs.declared.item.Item.{Item}
 use Rattle.record_grammar.specs.Record.{items as items_in, fault as fault_in}
 use Rattle.record_grammar.specs.Spelling.{AreBytes}
 use Rattle.cmd_records.specs.voter.Majority.{is_record, is_majority, majority, spelled_items}
-use Rattle.cmd_records.specs.voter.Standing.{IsRecord}
+use Rattle.cmd_records.specs.voter.VotersState.{IsRecord}
 use Rattle.cmd_records.proofs.lemmas.voter.Counting.{most-true, most-is, count-cons}
-use Rattle.cmd_records.proofs.lemmas.voter.Held.{record-tells, record-yes, majority-is, majority-passes}
+use Rattle.cmd_records.proofs.lemmas.voter.Held.{record-is_known, record-yes, majority-is, majority-passes}
 use Rattle.cmd_records.proofs.lemmas.voter.Spelled.{whole-spelled}
 use Rattle.cli_answers.specs.declared.answer.Answer.TheVariants.{Done}
 use Rattle.cmd_records.specs.vote_command.Vote.{voted_by, vote_outcome}
@@ -50,7 +50,7 @@ module _ (copies : List (List ℕ)) (bytes : AllByRecursion AreBytes copies) whe
   -- a copy that is a whole record of these items is their spelling
   pub spelling : (given : List Item) (copy : List ℕ) → AreBytes copy → is_record given copy ≡ true → spelled_items given ≡ copy
   spelling given copy are e =
-      let r = record-tells given copy e in
+      let r = record-is_known given copy e in
       sym (whole-spelled copy are r.whole ∙ ap spelled_items r.items)
 
   module _ (whole : List ℕ) (h : IsMajority whole copies) where
@@ -77,7 +77,7 @@ module _ (copies : List (List ℕ)) (bytes : AllByRecursion AreBytes copies) whe
   elected given e =
       let a = most-true (count_by (is_record given) copies) (length copies) e in
       let one = one-passes (is_record given) copies bytes (omega (arith, a)) in
-      let r = record-tells given one.0 one.2 in
+      let r = record-is_known given one.0 one.2 in
       let more = fewer (is_record given) (bytes_eq (spelled_items given)) copies bytes
       (λ copy are f. equal-bytes (spelled_items given) copy (spelling given copy are f)) in
       record {

@@ -17,7 +17,7 @@ use Rattle.record_grammar.specs.Spelling.{AreBytes, IsInput, IsFrame, AreRun, Sp
 use Rattle.record_grammar.specs.Laws.{MayStand, AreItems, IsWhole, items_of, items_spelling}
 use Rattle.record_grammar.proofs.lemmas.record_laws.Order.{in_order}
 use Rattle.record_grammar.proofs.lemmas.record_laws.Whole.{decoded_is}
-use Rattle.rerun.specs.replayer.Again.{input_in}
+use Rattle.rerun.specs.replayer.ReplayRecord.{input_in}
 use Rattle.rerun.specs.checker.Departure.{frames_in}
 use Rattle.record_reader.specs.InItems.{frame_in}
 

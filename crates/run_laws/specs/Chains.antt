@@ -8,7 +8,7 @@ use Rattle.det_values.specs.declared.job_kind.JobKind.{JobKind}
 use Rattle.jobs.specs.Kinds.{by_kind}
 use Rattle.stimulus.specs.Reading.{blocks, ending}
 use Rattle.recorder.specs.Record.{is_terminated, record_of}
-use Rattle.cmd_run.specs.chain.Derived.{derived}
+use Rattle.cmd_run.specs.chain.OutputSamples.{derived}
 use Rattle.manifest.specs.Values.{ManifestValue}
 use Rattle.run_setup.specs.Setup.{setup_of}
 use Rattle.cmd_run.specs.record_command.Outcomes.{recorded_by_kind}

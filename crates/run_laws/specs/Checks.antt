@@ -10,7 +10,7 @@ use Rattle.det_values.specs.declared.frames.Frame.{Frame}
 use Rattle.det_values.specs.Values.{ProfileValue}
 use Rattle.jobs.specs.bank.Meaning as bank
 use Rattle.cycle_engine.specs.Frames.{frames}
-use Rattle.record_grammar.specs.declared.fault.RecordFault.{RecordFault}
+use Rattle.record_grammar.specs.declared.record_fault.RecordFault.{RecordFault}
 use Rattle.record_grammar.specs.Record.{items}
 use Rattle.record_grammar.specs.Spelling.{AreBytes}
 use Rattle.stimulus.specs.Reading.{blocks, ending}
@@ -22,7 +22,7 @@ use Rattle.cmd_run.specs.record_command.Outcomes.{demo_profile, demo_outcome, re
 use Rattle.probes.specs.Reports.{AudienceState, reported}
 use Rattle.record_text.specs.Words.{number_line}
 use Rattle.cmd_records.specs.record_show.Text.{format_in}
-use Rattle.rerun.specs.replayer.Again.{inputs}
+use Rattle.rerun.specs.replayer.ReplayRecord.{inputs}
 use Rattle.rerun.specs.checker.Departure.{run_of}
 use Rattle.cli_answers.specs.declared.answer.Answer.TheVariants.{Done, BadRecord}
 use Rattle.cli_answers.specs.Outcome.{Outcome, refusal}

@@ -9,8 +9,8 @@ use Rattle.det_values.specs.Values.{ProfileValue}
 use Rattle.jobs.specs.bank.Meaning as bank
 use Rattle.jobs.specs.Kinds.{by_kind}
 use Rattle.cycle_engine.specs.Frames.{frames}
-use Rattle.record_grammar.specs.declared.fault.Reason.TheVariants.{Truncated}
-use Rattle.record_grammar.specs.declared.fault.RecordFault.{RecordFault}
+use Rattle.record_grammar.specs.declared.record_fault.Reason.TheVariants.{Truncated}
+use Rattle.record_grammar.specs.declared.record_fault.RecordFault.{RecordFault}
 use Rattle.record_grammar.specs.Record.{items, fault}
 use Rattle.record_grammar.specs.Laws.{items_of}
 use Rattle.stimulus.specs.Reading.{blocks, ending}
@@ -20,7 +20,7 @@ use Rattle.manifest.specs.Profiles.{profile_of}
 use Rattle.run_setup.specs.Setup.{setup_of}
 use Rattle.cmd_run.specs.record_command.Outcomes.{demo_profile, demo_outcome, record_outcome}
 use Rattle.probes.specs.Reports.{AudienceState}
-use Rattle.record_text.specs.declared.part.ShowPart.TheVariants.{All}
+use Rattle.record_text.specs.declared.show_part.ShowPart.TheVariants.{All}
 use Rattle.cmd_records.specs.record_show.Text.{text_from}
 use Rattle.cli_answers.specs.Outcome.{Outcome}
 use Rattle.cli_answers.specs.Answers.{by_fault}

@@ -6,7 +6,7 @@ use Rattle.record_reader.specs.Salvaged.{cycles_of, refused_of}
 use Rattle.record_text.specs.Summaries.{summary_lines}
 use Rattle.record_reader.specs.InItems.{runs_in}
 use Rattle.probes.specs.Reports.{AudienceState, reported}
-use Rattle.stimulus.specs.Made.{made}
+use Rattle.stimulus.specs.GeneratedText.{made}
 use Rattle.recorder.specs.run_writer.Record.{counted}
 use Rattle.manifest.specs.Values.{ManifestValue}
 use Rattle.manifest.specs.Profiles.{profile_of}

@@ -22,7 +22,7 @@ ghost use Rattle.run_laws.specs.Sums.{SimIsRecorded};
 ///
 /// The manifest is one that is accepted, and the stimulus may be any bytes. If a bad line ends it,
 /// the record is truncated after the frames of the complete blocks.
-pub fn decoding()
+pub fn decode_law()
     ensures record { RecordIsRead }
     ensures demo { DemoIsRead }
 {}
@@ -30,27 +30,27 @@ pub fn decoding()
 /// Of that record `show` prints the lines of the profile and of those frames, and then what its
 /// audience reports of the cycles. If a bad line ended the stimulus, it prints the lines and no
 /// reports, and says that the record is truncated.
-pub fn showing()
+pub fn show_law()
     ensures record { RecordIsShown }
     ensures demo { DemoIsShown }
 {}
 
 /// `replay` writes that record again, byte for byte, and is done. If a bad line ended the stimulus,
 /// it writes the same bytes and says that the record is truncated.
-pub fn replaying()
+pub fn replay_law()
     ensures record { RecordIsReplayed }
     ensures demo { DemoIsReplayed }
 {}
 
 /// `compare` is done exactly if all copies are one whole record, byte for byte. Then it prints that
 /// they agree, and how many cycles they have.
-pub fn comparing()
+pub fn compare_law()
     ensures { CopiesAreCompared }
 {}
 
 /// `vote` is done exactly if more than half of the copies are one whole record. Then it has written
 /// that record.
-pub fn voting()
+pub fn vote_law()
     ensures written { MajorityIsWritten }
     ensures done { DoneIsMajority }
 {}
@@ -58,14 +58,14 @@ pub fn voting()
 /// If `vote` finds no majority, no whole record is that of more than half of the copies. More than
 /// half of them begin with the bytes that it has written. These are the most such rows, and it
 /// reports their number.
-pub fn splitting()
+pub fn split_law()
     ensures { SplitIsCommon }
 {}
 
 /// `vote --dissent` has the same answer as `vote`. If it is done, the copies that it names are
 /// exactly those that aren't the record that `vote` writes, byte for byte. If all copies are one
 /// whole record, it names none.
-pub fn dissenting()
+pub fn dissent_law()
     ensures answer { AnsweredAlike }
     ensures named { OthersAreNamed }
     ensures none { NoneIsNamed }
@@ -77,7 +77,7 @@ pub fn dissenting()
 /// What `chain` writes is read as the second manifest's profile and the frames of its run over the
 /// inputs that the first client passes on. `check` finds it genuine. If a bad line ended the
 /// stimulus, it is truncated.
-pub fn chaining()
+pub fn chain_law()
     ensures first { FirstIsRecorded }
     ensures second { ChainIsRead }
 {}
@@ -85,19 +85,19 @@ pub fn chaining()
 /// Of the record of a run `check` says that it is genuine, with the number of its cycles and what
 /// its audience reports of them. If a bad line ended the stimulus, it says that the record is
 /// truncated.
-pub fn checking()
+pub fn check_law()
     ensures record { RecordIsChecked }
     ensures demo { DemoIsChecked }
 {}
 
 /// For any bytes, `check` is done exactly if `replay` is done and writes the same bytes again.
-pub fn genuine()
+pub fn genuine_law()
     ensures { GenuineIsReplayed }
 {}
 
 /// `upgrade` makes a genuine record into a genuine one of the same inputs in format 2. A genuine
 /// record in format 2 stays as it is.
-pub fn upgrading()
+pub fn upgrade_law()
     ensures genuine { GenuineIsUpgraded }
     ensures format_two { FormatTwoStays }
 {}
@@ -107,7 +107,7 @@ pub fn upgrading()
 ///
 /// A whole record comes out unchanged, byte for byte, and so does the record of a run. If a bad
 /// line ended the stimulus, the output is the record of the complete blocks, ended.
-pub fn salvaging()
+pub fn salvage_law()
     ensures done { InitIsEnough }
     ensures whole { SalvagedIsWhole }
     ensures kept { WholeIsKept }
@@ -117,6 +117,6 @@ pub fn salvaging()
 
 /// What `sim` prints for a number sums up a record that `record` writes. Its manifest has the
 /// profile of `sim`, its stimulus is made of the number, and its seed is the number.
-pub fn summing()
+pub fn sum_law()
     ensures { SimIsRecorded }
 {}

@@ -7,28 +7,28 @@ use Rattle.det_io.specs.declared.failure.Stopped.{Stopped}
 use Rattle.det_io.specs.declared.failure.Stopped.TheVariants.{Refused, Failed}
 use Rattle.det_io.specs.Traffic.{IfRefused}
 use Rattle.manifest.specs.Values.{ManifestValue}
-use Rattle.manifest.specs.declared.fault.ManifestFault.TheVariants.{TooLong}
+use Rattle.manifest.specs.declared.manifest_fault.ManifestFault.TheVariants.{TooLong}
 use Rattle.cli_answers.specs.declared.answer.BadManifest.{BadManifest}
 use Rattle.cli_answers.specs.declared.answer.BadManifest.TheVariants.{Fault}
-use Rattle.cli_answers.specs.Outcome.{told}
-use Rattle.cli_answers.proofs.Telling.{read-part}
+use Rattle.cli_answers.specs.Outcome.{known_bytes}
+use Rattle.cli_answers.proofs.KnownBytes.{read-part}
 use Rattle.run_setup.specs.Setup.{setup_of, Takes}
 
-module _ (strict : Bool) (text all : List ℕ) (tells : Type 0) (same : tells → text ≡ all) where
+module _ (strict : Bool) (text all : List ℕ) (is_known : Type 0) (same : is_known → text ≡ all) where
   -- the manifest of a text is that of the bytes which are known
   pub told-ok : (read : Result ManifestValue (Stopped BadManifest))
-      → IfOk read (λ m. setup_of strict text ≡ Ok m) → IfOk read (λ m. tells → setup_of strict all ≡ Ok m)
+      → IfOk read (λ m. setup_of strict text ≡ Ok m) → IfOk read (λ m. is_known → setup_of strict all ≡ Ok m)
   told-ok (Ok m) is = λ t. ap (setup_of strict) (sym (same t)) ∙ is
   told-ok (Err end) is = is
 
   told-bad : (end : Stopped BadManifest) → IfRefused end (λ why. setup_of strict text ≡ Err why)
-      → IfRefused end (λ why. tells → setup_of strict all ≡ Err why)
+      → IfRefused end (λ why. is_known → setup_of strict all ≡ Err why)
   told-bad (Refused why) is = λ t. ap (setup_of strict) (sym (same t)) ∙ is
   told-bad (Failed failure) is = is
 
   -- and so is its refusal
   pub told-err : (read : Result ManifestValue (Stopped BadManifest)) → IfErr read (λ e. IfRefused e (λ why. setup_of strict text ≡ Err why))
-      → IfErr read (λ e. IfRefused e (λ why. tells → setup_of strict all ≡ Err why))
+      → IfErr read (λ e. IfRefused e (λ why. is_known → setup_of strict all ≡ Err why))
   told-err (Ok m) is = is
   told-err (Err end) is = told-bad end is
 
@@ -40,11 +40,11 @@ too-long false bytes long = let e : nat_le (length bytes) 65536 ≡ false = lt-l
 -- where more than the limit was read, the name held more
 pub told-too-long : (strict : Bool) (first mid last : ShelfState) (name : List ℕ) (slot : ℕ) (text : List ℕ)
     → Opens first mid name slot → Reads mid last slot text → 65536 < length text → IsSome (first.holds name)
-    → setup_of strict (told first name) ≡ Err (Fault TooLong)
-told-too-long strict first mid last name slot text opens reads long tells =
-    let t = read-part first mid last name slot text opens reads tells in
-    let n : length (text ++ t.0) ≡ length (told first name) = ap length t.1 in
-    too-long strict (told first name) (omega (arith, n, length-append text t.0, long))
+    → setup_of strict (known_bytes first name) ≡ Err (Fault TooLong)
+told-too-long strict first mid last name slot text opens reads long is_known =
+    let t = read-part first mid last name slot text opens reads is_known in
+    let n : length (text ++ t.0) ≡ length (known_bytes first name) = ap length t.1 in
+    too-long strict (known_bytes first name) (omega (arith, n, length-append text t.0, long))
 
 pub takes : {first opened last : ShelfState} {name : List ℕ} {slot most : ℕ} {bytes : List ℕ}
     → Opens first opened name slot → Reads opened last slot bytes → length bytes ≤ most → Takes first last name most

@@ -7,7 +7,7 @@ use Rattle.det_io.specs.declared.failure.Failure.TheVariants.{OutOfMemory}
 use Rattle.jobs.specs.Kinds.{bad_param}
 use Rattle.manifest.specs.Values.{ManifestValue}
 use Rattle.manifest.specs.Meaning.{manifest_of}
-use Rattle.manifest.specs.declared.fault.ManifestFault.{ManifestFault}
+use Rattle.manifest.specs.declared.manifest_fault.ManifestFault.{ManifestFault}
 use Rattle.cli_answers.specs.declared.answer.BadManifest.{BadManifest}
 use Rattle.cli_answers.specs.declared.answer.BadManifest.TheVariants.{Fault, Parameter}
 use Rattle.cli_answers.specs.declared.answer.Answer.TheVariants as answers
@@ -18,13 +18,13 @@ abbrev pub IsGood : ManifestValue → Type 0
 IsGood m = bad_param m.kind m.params (length m.events) ≡ None
 
 -- the manifest, if its job refuses no parameter
-abbrev pub judged : ManifestValue → Result ManifestValue BadManifest
-judged m =
+abbrev pub check_params : ManifestValue → Result ManifestValue BadManifest
+check_params m =
     option_map_or (λ i. Err (Parameter i)) (bad_param m.kind m.params (length m.events)) (Ok m)
 
 abbrev pub setup_from : Result ManifestValue ManifestFault → Result ManifestValue BadManifest
 setup_from (Err fault) = Err (Fault fault)
-setup_from (Ok m) = judged m
+setup_from (Ok m) = check_params m
 
 -- the manifest in a text, or why it is refused: its first fault, else the least bad parameter
 abbrev pub setup_of : (strict : Bool) → List ℕ → Result ManifestValue BadManifest

@@ -2,7 +2,7 @@
 //! header of a record.
 #![tactic(auto)]
 
-mod judging;
+mod manifest_check;
 pub mod recorded_run;
 mod setup;
 

@@ -2,7 +2,7 @@
 
 mod bad_run;
 mod job_kind;
-mod run;
+mod open_run;
 
-pub use bad_run::{BadRun, without_run};
-pub use run::{RecordedRun, read_run};
+pub use bad_run::{BadRun, bad_run_answer};
+pub use open_run::{RecordedRun, open_recorded_run};

@@ -2,11 +2,11 @@
 ghost use Rattle.std.specs.Prelude.{◌≡◌, ◌⊎◌, ◌∷◌, [], Some, Ok, Err, IfOk, IfErr, IsSome};
 ghost use Rattle.det_io.specs.Shelf.{Asks, SlotsStay};
 ghost use Rattle.det_io.specs.Traffic.{ShelfTraffic, shelf_run, failure_in, IfRefused};
-ghost use Rattle.cli_answers.specs.Outcome.{told};
+ghost use Rattle.cli_answers.specs.Outcome.{known_bytes};
 ghost use Rattle.cli_answers.specs.Slots.{KeepsSlots};
 ghost use Rattle.run_setup.specs.Setup.{setup_of, IsGood, Takes};
 
-use crate::judging::setup_of;
+use crate::manifest_check::setup_of;
 use cli_answers::BadManifest;
 use det_io::{Failure, Shelf, Stopped, TooLong, read_limited};
 use manifest::{MOST_BYTES, Manifest, ManifestFault};
@@ -26,11 +26,11 @@ pub fn read_setup<S: Shelf>(
     shelf: &mut S,
 ) -> Result<Manifest, Stopped<BadManifest>>
     ensures manifest { IfOk result (λ m. IsSome ((S.sees shelf.old).holds name.now)
-        → setup_of strict (told (S.sees shelf.old) name.now) ≡ Ok m) }
+        → setup_of strict (known_bytes (S.sees shelf.old) name.now) ≡ Ok m) }
     ensures good { IfOk result IsGood }
     ensures refused { IfErr result (λ e. IfRefused e (λ why.
         IsSome ((S.sees shelf.old).holds name.now)
-        → setup_of strict (told (S.sees shelf.old) name.now) ≡ Err why)) }
+        → setup_of strict (known_bytes (S.sees shelf.old) name.now) ≡ Err why)) }
     ensures piece { SlotsStay (S.sees shelf.old) (S.sees shelf.new)
         ⊎ Takes (S.sees shelf.old) (S.sees shelf.new) name.now 69632 }
     ensures traffic { ShelfTraffic (shelf_run S.sees S.stays shelf.old shelf.new)

@@ -4,15 +4,15 @@
 //! made. A visitor is a `Visit` or a `VisitTwo`, which are generic in the job and in its pool.
 #![tactic(auto)]
 
-mod begun;
-mod crews;
-mod pairs;
+mod fresh_run;
+mod one_crew;
+mod two_crews;
 mod visit;
 mod visit_two;
 mod workers;
 
-pub use crews::{ShippedRun, with_crew};
-pub use pairs::{StaffedRun, with_two_crews};
+pub use one_crew::{ShippedRun, with_crew};
+pub use two_crews::{PlannedRun, with_two_crews};
 pub use visit::Visit;
 pub use visit_two::VisitTwo;
 pub use workers::{Host, Workers};

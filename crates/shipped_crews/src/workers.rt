@@ -44,7 +44,10 @@ pub struct Workers<'r, R, G> {
 
 /// As many of the workers as there are blocks of elements, and never fewer than one. A worker
 /// beyond them isn't started and passes no gate.
-pub(crate) fn busy<'r, R, G>(workers: &Workers<'r, R, G>, elements: usize) -> Workers<'r, R, G>
+pub(crate) fn workers_needed<'r, R, G>(
+    workers: &Workers<'r, R, G>,
+    elements: usize,
+) -> Workers<'r, R, G>
     requires { elements ≤ 65536 }
     ensures { result.count ≡ max (min workers.now.count (blocks_of elements)) 1 }
 {

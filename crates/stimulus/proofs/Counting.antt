@@ -3,17 +3,17 @@ use Rattle.std.proofs.Common.{◌≡◌, ℕ, ◌+◌, ◌-◌, ◌≤◌, List,
 use Rattle.std.proofs.Common.{sym, ap, ◌∙◌, arith, length-append, append_assoc}
 use Rattle.std.specs.Prelude.{option_and_then}
 use Rattle.std.proofs.lemmas.Bool.Decides.{nat_tests}
-use Rattle.stimulus.specs.declared.line.Line.{Line}
-use Rattle.stimulus.specs.declared.line.Line.TheVariants as lines
-use Rattle.stimulus.specs.declared.item.StimItem.{StimItem}
-use Rattle.stimulus.specs.declared.item.StimItem.TheVariants as items
+use Rattle.stimulus.specs.declared.parse_line.Line.{Line}
+use Rattle.stimulus.specs.declared.parse_line.Line.TheVariants as lines
+use Rattle.stimulus.specs.declared.stimulus_item.StimulusItem.{StimulusItem}
+use Rattle.stimulus.specs.declared.stimulus_item.StimulusItem.TheVariants as items
 use Rattle.det_values.specs.declared.frames.CycleInput.{CycleInput}
 use Rattle.stimulus.specs.Lines.{line_of}
-use Rattle.stimulus.specs.Places.{Place, First, Between, Inside, Ended, Step, step, begun, with_sample, taken}
-use Rattle.stimulus.specs.Reading.{Reading, reading, reading_from, parts, at_end, taken_at, go_on, inputs_of}
+use Rattle.stimulus.specs.Places.{Place, First, Between, Inside, Ended, Step, step, empty_block, with_sample, taken}
+use Rattle.stimulus.specs.Reading.{Reading, reading, reading_from, parts, at_end, text_step, go_on, inputs_of}
 use Rattle.stimulus.proofs.Going.{open_items}
 
-pub inputs_append : (xs ys : List StimItem) → inputs_of (xs ++ ys) ≡ inputs_of xs ++ inputs_of ys
+pub inputs_append : (xs ys : List StimulusItem) → inputs_of (xs ++ ys) ≡ inputs_of xs ++ inputs_of ys
 inputs_append [] ys = refl
 inputs_append (items.Cycle input ∷ xs) ys = ap (λ l. input ∷ l) (inputs_append xs ys)
 inputs_append (items.Terminate ∷ xs) ys = inputs_append xs ys
@@ -40,7 +40,7 @@ cycle_few : (n : ℕ) (input : CycleInput) (time : Option ℕ) → n ≤ 1000000
     → IfFew (Inside n input) (taken (Inside n input) (lines.Cycle time))
 cycle_few n input time h = choice (nat_lt n 1000000) refl where
   choice : (t : Bool) → nat_lt n 1000000 ≡ t
-      → IfFew (Inside n input) (cond t (step (items.Cycle input ∷ []) (Inside (n + 1) (begun time))) None)
+      → IfFew (Inside n input) (cond t (step (items.Cycle input ∷ []) (Inside (n + 1) (empty_block time))) None)
   choice true e = let less : n + 1 ≤ 1000000 = grind (arith, nat_tests) in (less, omega arith)
   choice false e = tt
 
@@ -70,7 +70,7 @@ taken_if_few : (p : Place) (o : Option Line) → IsFew p → IfFew p (option_and
 taken_if_few p None h = tt
 taken_if_few p (Some l) h = taken_few p l h
 
-taken_at_few : (events : ℕ) (p : Place) (line : List ℕ) → IsFew p → IfFew p (taken_at events p line)
+taken_at_few : (events : ℕ) (p : Place) (line : List ℕ) → IsFew p → IfFew p (text_step events p line)
 taken_at_few events p line h =
     elim (nat_lt 128 (length line)) as (λ t. IfFew p (cond t None (option_and_then (taken p) (line_of events line)))) [
       | true ↦ tt
@@ -95,15 +95,16 @@ unfolding reading_from
 reading_few events p [] h = omega arith
 reading_few events p (line ∷ []) h =
     let e : length (inputs_of (at_end p line).items)
-    ≡ 0 = ap (λ (l : List StimItem). length (inputs_of l)) (open_items p line) in omega arith
+    ≡ 0 = ap (λ (l : List StimulusItem). length (inputs_of l)) (open_items p line) in omega arith
 reading_few events p (line ∷ next ∷ texts) h =
-    go_on_few p line (taken_at events p line) (λ q. reading_from events q (next ∷ texts)) (taken_at_few events p line h)
+    go_on_few p line (text_step events p line) (λ q. reading_from events q (next ∷ texts)) (taken_at_few events p line h)
     (λ q k. reading_few events q (next ∷ texts) k)
 
 pub few_blocks : (events : ℕ) (text : List ℕ) → length (inputs_of (reading events text).items) ≤ 1000000
 few_blocks events text = reading_few events First (parts text) tt
 
-pub next_few : (events : ℕ) (bytes : List ℕ) (given others : List StimItem) (item : StimItem) → (reading events bytes).items ≡ given ++ item
+pub next_few : (events : ℕ) (bytes : List ℕ) (given others : List StimulusItem) (item : StimulusItem)
+    → (reading events bytes).items ≡ given ++ item
     ∷ others → length (inputs_of (given ++ item ∷ [])) ≤ 1000000
 next_few events bytes given others item e =
     let few : length (inputs_of (reading events bytes).items) ≤ 1000000 = few_blocks events bytes in

@@ -4,17 +4,17 @@ use Rattle.std.proofs.Common.{◌∙◌, arith, append_assoc, append-nil}
 use Rattle.std.proofs.lemmas.Bool.Decides.{nat_tests}
 use Rattle.std.specs.Prelude.{option_and_then}
 use Rattle.std.specs.List.{onto_first}
-use Rattle.stimulus.specs.declared.line.Line.{Line}
-use Rattle.stimulus.specs.declared.line.Line.TheVariants as lines
-use Rattle.stimulus.specs.declared.item.StimItem.{StimItem}
+use Rattle.stimulus.specs.declared.parse_line.Line.{Line}
+use Rattle.stimulus.specs.declared.parse_line.Line.TheVariants as lines
+use Rattle.stimulus.specs.declared.stimulus_item.StimulusItem.{StimulusItem}
 use Rattle.stimulus.specs.Lines.{line_of}
 use Rattle.stimulus.specs.Places.{Place, First, Between, Inside, Ended, step, taken}
 use Rattle.stimulus.specs.FirstLine.{IsLong}
-use Rattle.stimulus.specs.Reading.{Reading, reading_from, parts, after, bad_at_once, at_end, taken_at, go_on}
-use Rattle.stimulus.specs.StandsFor.{found_bad}
+use Rattle.stimulus.specs.Reading.{Reading, reading_from, parts, after, bad_at_once, at_end, text_step, go_on}
+use Rattle.stimulus.specs.StandsFor.{bad_reading}
 use Rattle.stimulus.proofs.Parts.{is_lf, some_parts}
 
-pub after_after : (h k : List (List ℕ)) (given more : List StimItem) (r : Reading) → after h given (after k more r)
+pub after_after : (h k : List (List ℕ)) (given more : List StimulusItem) (r : Reading) → after h given (after k more r)
     ≡ after (h ++ k) (given ++ more) r
 after_after h k given more r = λ i. record {
   head = sym (append_assoc h k r.head) i;
@@ -25,27 +25,27 @@ after_after h k given more r = λ i. record {
 
 -- a whole line is taken
 pub read_whole : (events : ℕ) (place : Place) (line ys : List ℕ) → reading_from events place (line ∷ parts ys)
-    ≡ go_on line (taken_at events place line) (λ p. reading_from events p (parts ys))
+    ≡ go_on line (text_step events place line) (λ p. reading_from events p (parts ys))
 unfolding reading_from
 read_whole events place line ys =
     let some = some_parts ys in
     ap (λ t. reading_from events place (line ∷ t)) some.is
-    ∙ ap (λ t. go_on line (taken_at events place line) (λ p. reading_from events p t)) (sym some.is)
+    ∙ ap (λ t. go_on line (text_step events place line) (λ p. reading_from events p t)) (sym some.is)
 
 pub taken_there : (events : ℕ) (place : Place) (line : List ℕ) (l : Line) → length line ≤ 128 → line_of events line ≡ Some l
-    → taken_at events place line ≡ taken place l
+    → text_step events place line ≡ taken place l
 taken_there events place line l short e =
     let test : nat_lt 128 (length line) ≡ false = grind (arith, nat_tests) in
     ap (λ t. cond t None (option_and_then (taken place) (line_of events line))) test ∙ ap (option_and_then (taken place)) e
 
-pub none_there : (events : ℕ) (place : Place) (line : List ℕ) → line_of events line ≡ None → taken_at events place line ≡ None
+pub none_there : (events : ℕ) (place : Place) (line : List ℕ) → line_of events line ≡ None → text_step events place line ≡ None
 none_there events place line e =
     elim (nat_lt 128 (length line)) as (λ t. cond t None (option_and_then (taken place) (line_of events line)) ≡ None) [
       | true ↦ refl
       | false ↦ ap (option_and_then (taken place)) e
     ]
 
-long_there : (events : ℕ) (place : Place) (line : List ℕ) → 128 < length line → taken_at events place line ≡ None
+long_there : (events : ℕ) (place : Place) (line : List ℕ) → 128 < length line → text_step events place line ≡ None
 long_there events place line long =
     let test : nat_lt 128 (length line) ≡ true = grind (arith, nat_tests) in
     ap (λ t. cond t None (option_and_then (taken place) (line_of events line))) test
@@ -57,7 +57,7 @@ nothing_after (Some (lines.Cycle time)) = refl
 nothing_after (Some (lines.Sample sample)) = refl
 nothing_after (Some lines.Terminate) = refl
 
-pub ended_there : (events : ℕ) (line : List ℕ) → taken_at events Ended line ≡ None
+pub ended_there : (events : ℕ) (line : List ℕ) → text_step events Ended line ≡ None
 ended_there events line =
     elim (nat_lt 128 (length line)) as (λ t. cond t None (option_and_then (taken Ended) (line_of events line)) ≡ None) [
       | true ↦ refl
@@ -65,15 +65,15 @@ ended_there events line =
     ]
 
 -- a line that leads on
-pub goes_on : (events : ℕ) (place p : Place) (line xs ys : List ℕ) (given : List StimItem) → parts xs ≡ line ∷ parts ys
-    → taken_at events place line ≡ step given p
+pub goes_on : (events : ℕ) (place p : Place) (line xs ys : List ℕ) (given : List StimulusItem) → parts xs ≡ line ∷ parts ys
+    → text_step events place line ≡ step given p
     → reading_from events place (parts xs) ≡ after (line ∷ []) given (reading_from events p (parts ys))
 goes_on events place p line xs ys given cut taken =
     ap (reading_from events place) cut ∙ read_whole events place line ys
     ∙ ap (λ s. go_on line s (λ q. reading_from events q (parts ys))) taken
 
 -- a line that may not come there
-pub is_bad : (events : ℕ) (place : Place) (line xs ys : List ℕ) → parts xs ≡ line ∷ parts ys → taken_at events place line ≡ None
+pub is_bad : (events : ℕ) (place : Place) (line xs ys : List ℕ) → parts xs ≡ line ∷ parts ys → text_step events place line ≡ None
     → reading_from events place (parts xs) ≡ bad_at_once true
 is_bad events place line xs ys cut taken =
     ap (reading_from events place) cut ∙ read_whole events place line ys
@@ -151,5 +151,5 @@ ended_whole [] none = refl
 ended_whole (b ∷ bs) none = absurd (omega arith)
 
 -- after a line that may not come there, there is no other result
-pub after_bad : (head : List (List ℕ)) (given : List StimItem) → after head given (bad_at_once true) ≡ found_bad head given
+pub after_bad : (head : List (List ℕ)) (given : List StimulusItem) → after head given (bad_at_once true) ≡ bad_reading head given
 after_bad head given = λ i. record { head = append-nil head i; items = append-nil given i; is_whole = false; bad_is_fed = true }

@@ -6,15 +6,15 @@ use Rattle.std.specs.List.{onto_first, All}
 use Rattle.std.proofs.lemmas.List.Elements.{All-nil, All-cons, All-head, All-tail}
 use Rattle.det_io.specs.Prefix.{IsPrefix}
 use Rattle.det_values.specs.declared.frames.CycleInput.{CycleInput}
-use Rattle.stimulus.specs.declared.item.StimItem.{StimItem}
-use Rattle.stimulus.specs.declared.item.StimItem.TheVariants as items
-use Rattle.stimulus.specs.declared.item.StimFault.{StimFault}
-use Rattle.stimulus.specs.declared.reader.StimReader.{StimReader}
+use Rattle.stimulus.specs.declared.stimulus_item.StimulusItem.{StimulusItem}
+use Rattle.stimulus.specs.declared.stimulus_item.StimulusItem.TheVariants as items
+use Rattle.stimulus.specs.declared.stimulus_item.StimulusFault.{StimulusFault}
+use Rattle.stimulus.specs.declared.parser.StimulusParser.{StimulusParser}
 use Rattle.stimulus.specs.Limits.{IsInput, IsItem}
 use Rattle.stimulus.specs.Places.{Place, First, Between, Inside, Ended, Step}
-use Rattle.stimulus.specs.Reading.{Reading, reading, reading_from, parts, after, bad_at_once, at_end, taken_at, go_on, inputs_of, blocks}
+use Rattle.stimulus.specs.Reading.{Reading, reading, reading_from, parts, after, bad_at_once, at_end, text_step, go_on, inputs_of, blocks}
 use Rattle.stimulus.specs.Reading.{has_bad}
-use Rattle.stimulus.specs.States.{owed}
+use Rattle.stimulus.specs.States.{items_to_give}
 use Rattle.stimulus.specs.StandsFor.{StandsFor, Resumes, left}
 use Rattle.stimulus.proofs.Parts.{is_lf, IsSome_parts, some_parts}
 use Rattle.stimulus.proofs.Going.{first_long, first_ended}
@@ -52,12 +52,12 @@ parts_append (x ∷ xs) ys q qs is =
 
 read_join : (events : ℕ) (place : Place) (line o : List ℕ) (ps : List (List ℕ)) (q : List ℕ) (qs : List (List ℕ))
     → reading_from events place (line ∷ join (o ∷ ps) q qs)
-    ≡ go_on line (taken_at events place line) (λ p. reading_from events p (join (o ∷ ps) q qs))
+    ≡ go_on line (text_step events place line) (λ p. reading_from events p (join (o ∷ ps) q qs))
 unfolding reading_from join
 read_join events place line o [] q qs = refl
 read_join events place line o (p ∷ ps) q qs = refl
 
-begins_after : (given xs ys : List StimItem) → IsPrefix xs ys → IsPrefix (given ++ xs) (given ++ ys)
+begins_after : (given xs ys : List StimulusItem) → IsPrefix xs ys → IsPrefix (given ++ xs) (given ++ ys)
 begins_after given xs ys (rest, is) = (rest, append_assoc given xs rest ∙ ap (λ l. given ++ l) is)
 
 go_on_begins : (line : List ℕ) (o : Option Step) (f g : Place → Reading) → ((p : Place) → IsPrefix (f p).items (g p).items)
@@ -65,7 +65,7 @@ go_on_begins : (line : List ℕ) (o : Option Step) (f g : Place → Reading) →
 go_on_begins line None f g all = ([], refl)
 go_on_begins line (Some s) f g all = begins_after s.items (f s.place).items (g s.place).items (all s.place)
 
-at_end_begins : (place : Place) (line : List ℕ) (ys : List StimItem) → IsPrefix (at_end place line).items ys
+at_end_begins : (place : Place) (line : List ℕ) (ys : List StimulusItem) → IsPrefix (at_end place line).items ys
 at_end_begins Ended [] ys = (ys, refl)
 at_end_begins Ended (b ∷ bs) ys = (ys, refl)
 at_end_begins First line ys = (ys, refl)
@@ -78,9 +78,9 @@ unfolding reading_from join
 from_begins events place [] q qs = ((reading_from events place (q ∷ qs)).items, refl)
 from_begins events place (line ∷ []) q qs = at_end_begins place line (reading_from events place ((line ++ q) ∷ qs)).items
 from_begins events place (line ∷ o ∷ ps) q qs =
-    let P : List StimItem → Type 0 = λ l. IsPrefix (reading_from events place (line ∷ o ∷ ps)).items l in
+    let P : List StimulusItem → Type 0 = λ l. IsPrefix (reading_from events place (line ∷ o ∷ ps)).items l in
     subst P (ap (λ (r : Reading). r.items) (sym (read_join events place line o ps q qs)))
-    (go_on_begins line (taken_at events place line) (λ p. reading_from events p (o ∷ ps)) (λ p. reading_from events p (join (o ∷ ps) q qs))
+    (go_on_begins line (text_step events place line) (λ p. reading_from events p (o ∷ ps)) (λ p. reading_from events p (join (o ∷ ps) q qs))
     (λ p. from_begins events p (o ∷ ps) q qs))
 
 -- the items of a text are the first ones of every text that goes on
@@ -123,7 +123,7 @@ from_stays events place [] q qs bad = absurd (cc)
 from_stays events place (line ∷ []) q qs bad = stays_at_end events place line q qs bad
 from_stays events place (line ∷ o ∷ ps) q qs bad =
     read_join events place line o ps q qs
-    ∙ go_on_stays line (taken_at events place line) (λ p. reading_from events p (o ∷ ps)) (λ p. reading_from events p (join (o ∷ ps) q qs))
+    ∙ go_on_stays line (text_step events place line) (λ p. reading_from events p (o ∷ ps)) (λ p. reading_from events p (join (o ∷ ps) q qs))
     (λ p h. from_stays events p (o ∷ ps) q qs h) bad
 
 -- once a bad line was fed, more text changes nothing
@@ -134,32 +134,33 @@ bad_stays events text more bad =
     ∙ from_stays events First (parts text) some.line some.others bad
 
 -- the returned inputs, after one block more
-pub inputs_then : (given : List StimItem) (input : CycleInput) → inputs_of (given ++ items.Cycle input ∷ []) ≡ inputs_of given ++ input ∷ []
+pub inputs_then : (given : List StimulusItem) (input : CycleInput)
+    → inputs_of (given ++ items.Cycle input ∷ []) ≡ inputs_of given ++ input ∷ []
 inputs_then given input = inputs_append given (items.Cycle input ∷ [])
 
 -- the returned inputs, after the end
-pub inputs_end : (given : List StimItem) → inputs_of (given ++ items.Terminate ∷ []) ≡ inputs_of given
+pub inputs_end : (given : List StimulusItem) → inputs_of (given ++ items.Terminate ∷ []) ≡ inputs_of given
 inputs_end given = inputs_append given (items.Terminate ∷ []) ∙ append-nil (inputs_of given)
 
-given_first : (fault : Option StimFault) (r : StimReader) (head : List (List ℕ)) (bytes : List ℕ) (given : List StimItem)
+given_first : (fault : Option StimulusFault) (r : StimulusParser) (head : List (List ℕ)) (bytes : List ℕ) (given : List StimulusItem)
     → Resumes fault r head bytes given → IsPrefix given (reading r.events bytes).items
 given_first None r head bytes given on =
-    let rest : List StimItem = (from r (left r ++ [])).items in (
-      owed r.state ++ rest,
+    let rest : List StimulusItem = (from r (left r ++ [])).items in (
+      items_to_give r.state ++ rest,
       sym (ap (λ l. (reading r.events l).items) (sym (append-nil bytes)) ∙ ap (λ (x : Reading). x.items) (on.1 [])
-          ∙ append_assoc given (owed r.state) rest),
+          ∙ append_assoc given (items_to_give r.state) rest),
     )
 given_first (Some fault) r head bytes given on =
     ([], append-nil given ∙ sym (ap (λ l. (reading r.events l).items) (sym (append-nil bytes)) ∙ ap (λ (x : Reading). x.items) (on.1 [])))
 
 -- the returned items are the first ones of the text that was fed
-pub stands_within : (r : StimReader) (bytes : List ℕ) (given : List StimItem) → StandsFor r bytes given
+pub stands_within : (r : StimulusParser) (bytes : List ℕ) (given : List StimulusItem) → StandsFor r bytes given
     → IsPrefix (inputs_of given) (blocks r.events bytes)
 stands_within r bytes given h =
     let first = given_first r.fault r h.head bytes given h.resumes in
     (inputs_of first.0, sym (inputs_append given first.0) ∙ ap inputs_of first.1)
 
-inputs_within : (events : ℕ) (xs : List StimItem) → All (IsItem events) xs → All (IsInput events) (inputs_of xs)
+inputs_within : (events : ℕ) (xs : List StimulusItem) → All (IsItem events) xs → All (IsInput events) (inputs_of xs)
 inputs_within events [] all = All-nil (IsInput events)
 inputs_within events (items.Cycle input ∷ xs) all =
     All-cons (IsInput events) input (inputs_of xs) (All-head (IsItem events) (items.Cycle input) xs all)

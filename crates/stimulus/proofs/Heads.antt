@@ -6,15 +6,15 @@ use Rattle.std.specs.List.{All}
 use Rattle.std.proofs.lemmas.Bool.Decides.{nat_tests}
 use Rattle.std.proofs.lemmas.List.Elements.{All-nil, All-cons, All-same, All-head, All-tail}
 use Rattle.det_values.specs.declared.frames.CycleInput.{CycleInput}
-use Rattle.stimulus.specs.declared.line.Line.{Line}
-use Rattle.stimulus.specs.declared.line.Line.TheVariants as lines
-use Rattle.stimulus.specs.declared.item.StimItem.{StimItem}
-use Rattle.stimulus.specs.declared.item.StimItem.TheVariants as items
+use Rattle.stimulus.specs.declared.parse_line.Line.{Line}
+use Rattle.stimulus.specs.declared.parse_line.Line.TheVariants as lines
+use Rattle.stimulus.specs.declared.stimulus_item.StimulusItem.{StimulusItem}
+use Rattle.stimulus.specs.declared.stimulus_item.StimulusItem.TheVariants as items
 use Rattle.stimulus.specs.Lines.{line_of}
-use Rattle.stimulus.specs.Places.{Place, First, Between, Inside, Ended, Step, step, begun, with_sample, taken}
+use Rattle.stimulus.specs.Places.{Place, First, Between, Inside, Ended, Step, step, empty_block, with_sample, taken}
 use Rattle.stimulus.specs.Reading.{Reading, Terminated, BadLine, reading, reading_from, parts, after, bad_at_once, at_end}
-use Rattle.stimulus.specs.Reading.{taken_at, go_on, inputs_of, ending_of}
-use Rattle.stimulus.specs.Good.{ends, MayStand, InOrder, blocks_in, without_last, IsFed, IsHead}
+use Rattle.stimulus.specs.Reading.{text_step, go_on, inputs_of, ending_of}
+use Rattle.stimulus.specs.GoodLines.{ends, MayStand, InOrder, blocks_in, without_last, IsFed, IsHead}
 use Rattle.stimulus.proofs.Parts.{IsSome_parts, some_parts}
 use Rattle.stimulus.proofs.Going.{open_head, taken_there, ended_there}
 use Rattle.stimulus.proofs.Places.{At, Leads, leads, leads_on, none_counted}
@@ -107,7 +107,7 @@ ends_there events earlier Ended [] h = record {
 }
 
 -- a block's inputs, by the line that comes next
-abbrev BlocksIf : Place → Line → List Line → List StimItem → Option Step → Type 0
+abbrev BlocksIf : Place → Line → List Line → List StimulusItem → Option Step → Type 0
 BlocksIf place l later rest None = Unit {0}
 BlocksIf place l later rest (Some s) =
     (s.place ≡ Ended → later ≡ []) → inputs_of rest ≡ without_last (nat_lt 0 (ends later)) (onward s.place later)
@@ -121,11 +121,11 @@ one_complete false input next inputs = refl
 same_input : (input : CycleInput) → record { time = input.time; samples = input.samples ++ [] } ≡ input
 same_input input = λ i. record { time = input.time; samples = append-nil input.samples i }
 
-blocks_cycle : (n : ℕ) (input : CycleInput) (time : Option ℕ) (later : List Line) (rest : List StimItem)
+blocks_cycle : (n : ℕ) (input : CycleInput) (time : Option ℕ) (later : List Line) (rest : List StimulusItem)
     → BlocksIf (Inside n input) (lines.Cycle time) later rest (taken (Inside n input) (lines.Cycle time))
 blocks_cycle n input time later rest =
     elim (nat_lt n 1000000) as (λ t. BlocksIf (Inside n input) (lines.Cycle time) later rest
-    (cond t (step (items.Cycle input ∷ []) (Inside (n + 1) (begun time))) None)) [
+    (cond t (step (items.Cycle input ∷ []) (Inside (n + 1) (empty_block time))) None)) [
       | true ↦ λ ended same. ap (λ l. input ∷ l) same
           ∙ one_complete (nat_lt 0 (ends (lines.Cycle time ∷ later))) input (record { time = time; samples = (blocks_in later).samples })
           (blocks_in later).inputs
@@ -134,11 +134,11 @@ blocks_cycle n input time later rest =
       | false ↦ tt
     ]
 
-blocks_end : (rest : List StimItem) (later : List Line) → later ≡ [] → inputs_of rest ≡ without_last (nat_lt 0 (ends later)) []
+blocks_end : (rest : List StimulusItem) (later : List Line) → later ≡ [] → inputs_of rest ≡ without_last (nat_lt 0 (ends later)) []
     → inputs_of rest ≡ []
 blocks_end rest later none same = same ∙ ap (λ l. without_last (nat_lt 0 (ends l)) []) none
 
-blocks_step : (place : Place) (l : Line) (later : List Line) (rest : List StimItem) → BlocksIf place l later rest (taken place l)
+blocks_step : (place : Place) (l : Line) (later : List Line) (rest : List StimulusItem) → BlocksIf place l later rest (taken place l)
 blocks_step First lines.Stim later rest = λ ended same. same
 blocks_step First (lines.Cycle time) later rest = tt
 blocks_step First (lines.Sample s) later rest = tt
@@ -177,7 +177,7 @@ record Took (events : ℕ) (place : Place) (line : List ℕ) (s : Step) : Type 0
   pub spelled : line_of events line ≡ Some says
   pub taken : taken place says ≡ Some s
 
-took : (events : ℕ) (place : Place) (line : List ℕ) (s : Step) → taken_at events place line ≡ Some s → Took events place line s
+took : (events : ℕ) (place : Place) (line : List ℕ) (s : Step) → text_step events place line ≡ Some s → Took events place line s
 took events place line s e = long (nat_lt 128 (length line)) refl e where
   said : (o : Option Line) → line_of events line ≡ o → length line ≤ 128 → option_and_then (taken place) o ≡ Some s
       → Took events place line s
@@ -231,9 +231,9 @@ unfolding reading_from
 head_from events earlier place [] some h = let none = some.is in absurd (cc)
 head_from events earlier place (line ∷ []) some h = ends_there events earlier place line h
 head_from events earlier place (line ∷ next ∷ texts) some h =
-    choice (taken_at events place line) refl (λ earlier p k. head_from events earlier p (next ∷ texts)
+    choice (text_step events place line) refl (λ earlier p k. head_from events earlier p (next ∷ texts)
     (record { line = next; others = texts; is = refl }) k) where
-      choice : (o : Option Step) → taken_at events place line ≡ o
+      choice : (o : Option Step) → text_step events place line ≡ o
           → ((e : List Line) (p : Place) → At e p → HeadFrom events e p (next ∷ texts) (reading_from events p (next ∷ texts)))
           → HeadFrom events earlier place (line ∷ next ∷ texts) (go_on line o (λ p. reading_from events p (next ∷ texts)))
       choice None e further = stops events earlier place true line (next ∷ texts) (λ same end. absurd (cc)) ((λ e. tt), (λ fed. refl))
@@ -247,7 +247,7 @@ head_from events earlier place (line ∷ next ∷ texts) some h =
 
 read_front : (events : ℕ) (place : Place) (line : List ℕ) (texts : List (List ℕ)) (next : List ℕ) (later : List (List ℕ))
     → reading_from events place (line ∷ (texts ++ next ∷ later))
-    ≡ go_on line (taken_at events place line) (λ p. reading_from events p (texts ++ next ∷ later))
+    ≡ go_on line (text_step events place line) (λ p. reading_from events p (texts ++ next ∷ later))
 unfolding reading_from
 read_front events place line [] next later = refl
 read_front events place line (text ∷ texts) next later = refl
@@ -261,7 +261,7 @@ longest_from events earlier place (line ∷ texts) next later (l ∷ more) h goo
     let spelled : line_of events line ≡ Some l = let e = good.spelled in cc in
     let others : map (line_of events) texts ≡ map Some more = let e = good.spelled in cc in
     let led = leads_on earlier place l h good.order.0 in
-    let there : taken_at events place line
+    let there : text_step events place line
     ≡ Some led.to = taken_there events place line l (All-head (λ text. length text ≤ 128) line texts good.short) spelled ∙ led.is in
     let rest : length texts ≤ length (reading_from events led.to.place (texts ++ next ∷ later)).head =
     longest_from events (earlier ++ l ∷ []) led.to.place texts next later more led.there

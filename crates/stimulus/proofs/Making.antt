@@ -6,7 +6,7 @@ use Rattle.std.specs.Fmt.{decimal, signed_decimal}
 use Rattle.std.proofs.lemmas.Fmt.{length-decimal-le, length_signed_le}
 use Rattle.std.proofs.lemmas.Int.{ints}
 use Rattle.rand_xoshiro.specs.SplitMix64.{mix_u64}
-use Rattle.stimulus.specs.Made.{state_at, word, made_value, block_text, made_blocks}
+use Rattle.stimulus.specs.GeneratedText.{state_at, word, made_value, block_text, made_blocks}
 
 pub word_is : (k n x r y : ℕ) → x ≡ state_at k n → (r, y) ≡ mix_u64 x → r ≡ word k n
 unfolding word

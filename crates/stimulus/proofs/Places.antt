@@ -6,11 +6,11 @@ use Rattle.std.proofs.lemmas.Bool.Decides.{nat_tests}
 use Rattle.std.proofs.lemmas.List.Sums.{sum_by-append}
 use Rattle.det_values.specs.Values.{SampleValue}
 use Rattle.det_values.specs.declared.frames.CycleInput.{CycleInput}
-use Rattle.stimulus.specs.declared.line.Line.{Line}
-use Rattle.stimulus.specs.declared.line.Line.TheVariants as lines
-use Rattle.stimulus.specs.declared.item.StimItem.TheVariants as items
-use Rattle.stimulus.specs.Places.{Place, First, Between, Inside, Ended, Step, step, begun, with_sample, taken}
-use Rattle.stimulus.specs.Good.{is_cycle, is_end, cycles, ends, samples_from, IsOpen, MayStand}
+use Rattle.stimulus.specs.declared.parse_line.Line.{Line}
+use Rattle.stimulus.specs.declared.parse_line.Line.TheVariants as lines
+use Rattle.stimulus.specs.declared.stimulus_item.StimulusItem.TheVariants as items
+use Rattle.stimulus.specs.Places.{Place, First, Between, Inside, Ended, Step, step, empty_block, with_sample, taken}
+use Rattle.stimulus.specs.GoodLines.{is_cycle, is_end, cycles, ends, samples_from, IsOpen, MayStand}
 
 pub counted_more : (p : Line → Bool) (earlier : List Line) (l : Line) → count_by p (earlier ++ l ∷ [])
     ≡ count_by p earlier + count_by p (l ∷ [])
@@ -65,7 +65,7 @@ ended_more earlier h = (
 
 -- a block more
 begun_more : (earlier : List Line) (n : ℕ) (time : Option ℕ) → IsOpen earlier → cycles earlier ≡ n
-    → IsInside (earlier ++ lines.Cycle time ∷ []) (n + 1) (begun time)
+    → IsInside (earlier ++ lines.Cycle time ∷ []) (n + 1) (empty_block time)
 begun_more earlier n time h count = record {
   opened = open_more earlier (lines.Cycle time) h refl;
   cycles =
@@ -114,7 +114,7 @@ leads_cycle : (earlier : List Line) (n : ℕ) (input : CycleInput) (time : Optio
     → Leads earlier (lines.Cycle time) (taken (Inside n input) (lines.Cycle time))
 leads_cycle earlier n input time h = choice (nat_lt n 1000000) refl where
   choice : (t : Bool) → nat_lt n 1000000 ≡ t
-      → Leads earlier (lines.Cycle time) (cond t (step (items.Cycle input ∷ []) (Inside (n + 1) (begun time))) None)
+      → Leads earlier (lines.Cycle time) (cond t (step (items.Cycle input ∷ []) (Inside (n + 1) (empty_block time))) None)
   choice true test =
       let few : n < 1000000 = grind (arith, nat_tests) in let count = h.cycles in
       ((h.opened, omega arith), begun_more earlier n time h.opened h.cycles)

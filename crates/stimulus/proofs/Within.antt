@@ -12,15 +12,15 @@ use Rattle.std.proofs.lemmas.List.{drop_at}
 use Rattle.det_values.specs.Limits.{IsSampleValue}
 use Rattle.det_values.specs.Values.{SampleValue}
 use Rattle.det_values.specs.declared.frames.CycleInput.{CycleInput}
-use Rattle.stimulus.specs.declared.line.Line.{Line}
-use Rattle.stimulus.specs.declared.line.Line.TheVariants as lines
-use Rattle.stimulus.specs.declared.item.StimItem.{StimItem}
-use Rattle.stimulus.specs.declared.item.StimItem.TheVariants as items
+use Rattle.stimulus.specs.declared.parse_line.Line.{Line}
+use Rattle.stimulus.specs.declared.parse_line.Line.TheVariants as lines
+use Rattle.stimulus.specs.declared.stimulus_item.StimulusItem.{StimulusItem}
+use Rattle.stimulus.specs.declared.stimulus_item.StimulusItem.TheVariants as items
 use Rattle.stimulus.specs.Numbers.{number, below, as_negative, value_of}
 use Rattle.stimulus.specs.Lines.{cycle_line, sample_words, sample_line, line_of}
-use Rattle.stimulus.specs.Places.{Place, First, Between, Inside, Ended, Step, step, begun, with_sample, taken}
+use Rattle.stimulus.specs.Places.{Place, First, Between, Inside, Ended, Step, step, empty_block, with_sample, taken}
 use Rattle.stimulus.specs.Limits.{IsTime, IsSample, IsLine, IsInput, IsItem}
-use Rattle.stimulus.specs.Reading.{Reading, reading, reading_from, parts, at_end, taken_at, go_on}
+use Rattle.stimulus.specs.Reading.{Reading, reading, reading_from, parts, at_end, text_step, go_on}
 use Rattle.stimulus.proofs.Going.{open_items}
 
 abbrev IfNumber : ℕ → Option ℕ → Type 0
@@ -121,11 +121,11 @@ IfStep events (Some s) = All (IsItem events) s.items × IsPlace events s.place
 no_items : (events : ℕ) → All (IsItem events) []
 no_items events = All-nil (IsItem events)
 
-one_item : (events : ℕ) (item : StimItem) (others : List StimItem) → IsItem events item → All (IsItem events) others →
+one_item : (events : ℕ) (item : StimulusItem) (others : List StimulusItem) → IsItem events item → All (IsItem events) others →
     All (IsItem events) (item ∷ others)
 one_item events item others = All-cons (IsItem events) item others
 
-fresh : (events : ℕ) (time : Option ℕ) → IsTime time → IsInput events (begun time)
+fresh : (events : ℕ) (time : Option ℕ) → IsTime time → IsInput events (empty_block time)
 fresh events time h =
     record { time = h; few = omega arith; known = All-nil (λ s. s.event < events); values = All-nil (λ s. IsSampleValue s.value) }
 
@@ -162,7 +162,7 @@ taken_within events Between (lines.Sample s) h k = tt
 taken_within events Between lines.Terminate h k = (one_item events items.Terminate [] tt (no_items events), tt)
 taken_within events (Inside n input) lines.Stim h k = tt
 taken_within events (Inside n input) (lines.Cycle time) h k =
-    elim (nat_lt n 1000000) as (λ t. IfStep events (cond t (step (items.Cycle input ∷ []) (Inside (n + 1) (begun time))) None)) [
+    elim (nat_lt n 1000000) as (λ t. IfStep events (cond t (step (items.Cycle input ∷ []) (Inside (n + 1) (empty_block time))) None)) [
       | true ↦ (one_item events (items.Cycle input) [] h (no_items events), fresh events time k)
       | false ↦ tt
     ]
@@ -176,7 +176,7 @@ taken_if_within : (events : ℕ) (p : Place) (o : Option Line) → IsPlace event
 taken_if_within events p None h k = tt
 taken_if_within events p (Some l) h k = taken_within events p l h k
 
-taken_at_within : (events : ℕ) (p : Place) (line : List ℕ) → IsPlace events p → IfStep events (taken_at events p line)
+taken_at_within : (events : ℕ) (p : Place) (line : List ℕ) → IsPlace events p → IfStep events (text_step events p line)
 taken_at_within events p line h =
     elim (nat_lt 128 (length line)) as (λ t. IfStep events (cond t None (option_and_then (taken p) (line_of events line)))) [
       | true ↦ tt
@@ -194,13 +194,13 @@ unfolding reading_from
 reading_within events p [] h = no_items events
 reading_within events p (line ∷ []) h = All-same (IsItem events) (at_end p line).items [] (open_items p line) (no_items events)
 reading_within events p (line ∷ next ∷ texts) h =
-    go_on_within events line (taken_at events p line) (λ q. reading_from events q (next ∷ texts)) (taken_at_within events p line h)
+    go_on_within events line (text_step events p line) (λ q. reading_from events q (next ∷ texts)) (taken_at_within events p line h)
     (λ q k. reading_within events q (next ∷ texts) k)
 
 pub all_within : (events : ℕ) (text : List ℕ) → All (IsItem events) (reading events text).items
 all_within events text = reading_within events First (parts text) tt
 
-pub next_within : (events : ℕ) (bytes : List ℕ) (given others : List StimItem) (item : StimItem) →
+pub next_within : (events : ℕ) (bytes : List ℕ) (given others : List StimulusItem) (item : StimulusItem) →
     (reading events bytes).items ≡ given ++ item ∷ others → IsItem events item
 next_within events bytes given others item e =
     let all : All (IsItem events) (given ++ item ∷ others) =

@@ -12,8 +12,8 @@ use Rattle.std.proofs.lemmas.List.Quantifiers.{position-Some}
 use Rattle.std.proofs.lemmas.Str.Parse.{tells_digits}
 use Rattle.std.proofs.lemmas.Bool.Decides.{nat_tests}
 use Rattle.det_values.specs.Values.{SampleValue}
-use Rattle.stimulus.specs.declared.line.Line.{Line}
-use Rattle.stimulus.specs.declared.line.Line.TheVariants as lines
+use Rattle.stimulus.specs.declared.parse_line.Line.{Line}
+use Rattle.stimulus.specs.declared.parse_line.Line.TheVariants as lines
 use Rattle.stimulus.specs.Limits.{IsSample, IsLine}
 use Rattle.stimulus.specs.Numbers.{number, below, value_of}
 use Rattle.stimulus.specs.Lines.{cycle_line, sample_words, sample_line, line_of, spelling}

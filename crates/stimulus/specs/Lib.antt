@@ -7,6 +7,6 @@ pub mod States
 pub mod FirstLine
 pub mod StandsFor
 pub mod Steps
-pub mod Made
-pub mod Good
+pub mod GeneratedText
+pub mod GoodLines
 pub mod slot_reader

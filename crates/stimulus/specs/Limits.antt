@@ -4,10 +4,10 @@ use Rattle.std.specs.List.{All}
 use Rattle.det_values.specs.Values.{SampleValue}
 use Rattle.det_values.specs.Limits.{IsSampleValue}
 use Rattle.det_values.specs.declared.frames.CycleInput.{CycleInput}
-use Rattle.stimulus.specs.declared.line.Line.{Line}
-use Rattle.stimulus.specs.declared.line.Line.TheVariants as lines
-use Rattle.stimulus.specs.declared.item.StimItem.{StimItem}
-use Rattle.stimulus.specs.declared.item.StimItem.TheVariants as items
+use Rattle.stimulus.specs.declared.parse_line.Line.{Line}
+use Rattle.stimulus.specs.declared.parse_line.Line.TheVariants as lines
+use Rattle.stimulus.specs.declared.stimulus_item.StimulusItem.{StimulusItem}
+use Rattle.stimulus.specs.declared.stimulus_item.StimulusItem.TheVariants as items
 
 -- a sample of an event below `events`
 pub record IsSample (events : ℕ) (s : SampleValue) : Type 0 where
@@ -33,6 +33,6 @@ pub record IsInput (events : ℕ) (input : CycleInput) : Type 0 where
   pub known : All (λ s. s.event < events) input.samples
   pub values : All (λ s. IsSampleValue s.value) input.samples
 
-abbrev pub IsItem : ℕ → StimItem → Type 0
+abbrev pub IsItem : ℕ → StimulusItem → Type 0
 IsItem events (items.Cycle input) = IsInput events input
 IsItem events items.Terminate = Unit {0}

@@ -4,8 +4,8 @@ use Rattle.std.specs.Prelude.{Some, if◌then◌else◌, codes, option_map, opti
 use Rattle.std.specs.Option.{option_zip}
 use Rattle.std.specs.Str.{bytes_eq}
 use Rattle.std.specs.Fmt.{decimal, signed_decimal}
-use Rattle.stimulus.specs.declared.line.Line.{Line}
-use Rattle.stimulus.specs.declared.line.Line.TheVariants as lines
+use Rattle.stimulus.specs.declared.parse_line.Line.{Line}
+use Rattle.stimulus.specs.declared.parse_line.Line.TheVariants as lines
 use Rattle.stimulus.specs.Numbers.{number, below, value_of}
 
 -- what comes after `cycle `

@@ -3,8 +3,8 @@ use Rattle.std.specs.Prelude.{ℕ, ◌+◌, ◌==◌, nat_lt, Bool, true, false,
 use Rattle.std.specs.Prelude.{Option, None, Some, if◌then◌else◌, option_and_then}
 use Rattle.std.specs.List.{slice_split}
 use Rattle.det_values.specs.declared.frames.CycleInput.{CycleInput}
-use Rattle.stimulus.specs.declared.item.StimItem.{StimItem}
-use Rattle.stimulus.specs.declared.item.StimItem.TheVariants as items
+use Rattle.stimulus.specs.declared.stimulus_item.StimulusItem.{StimulusItem}
+use Rattle.stimulus.specs.declared.stimulus_item.StimulusItem.TheVariants as items
 use Rattle.stimulus.specs.Lines.{line_of}
 use Rattle.stimulus.specs.Places.{Place, First, Ended, Step, taken}
 
@@ -17,7 +17,7 @@ pub data Ending : Type 0 where
 -- are all of a stimulus, and whether the bad line counts as fed.
 pub record Reading : Type 0 where
   pub head : List (List ℕ)
-  pub items : List StimItem
+  pub items : List StimulusItem
   pub is_whole : Bool
   pub bad_is_fed : Bool
 
@@ -26,7 +26,7 @@ abbrev pub parts : List ℕ → List (List ℕ)
 parts text = slice_split (λ b. b == 10) text
 
 -- a reading, after good lines that gave these items
-abbrev pub after : List (List ℕ) → List StimItem → Reading → Reading
+abbrev pub after : List (List ℕ) → List StimulusItem → Reading → Reading
 after head given r = record r { head = head ++ r.head; items = given ++ r.items }
 
 -- the first line is bad
@@ -44,8 +44,8 @@ at_end Ended (b ∷ bs) = bad_at_once true
 at_end _ line = bad_at_once (nat_lt 128 (length line))
 
 -- a whole line at a place
-abbrev pub taken_at : ℕ → Place → List ℕ → Option Step
-taken_at events place line =
+abbrev pub text_step : ℕ → Place → List ℕ → Option Step
+text_step events place line =
     if nat_lt 128 (length line) then None else option_and_then (taken place) (line_of events line)
 
 abbrev pub go_on : List ℕ → Option Step → (Place → Reading) → Reading
@@ -56,13 +56,13 @@ unfoldable pub reading_from : ℕ → Place → List (List ℕ) → Reading
 reading_from events place [] = bad_at_once false
 reading_from events place (line ∷ []) = at_end place line
 reading_from events place (line ∷ next ∷ lines) =
-    go_on line (taken_at events place line) (λ p. reading_from events p (next ∷ lines))
+    go_on line (text_step events place line) (λ p. reading_from events p (next ∷ lines))
 
 -- a whole text, for this number of events
 abbrev pub reading : ℕ → List ℕ → Reading
 reading events text = reading_from events First (parts text)
 
-abbrev pub inputs_of : List StimItem → List CycleInput
+abbrev pub inputs_of : List StimulusItem → List CycleInput
 inputs_of [] = []
 inputs_of (items.Cycle input ∷ others) = input ∷ inputs_of others
 inputs_of (items.Terminate ∷ others) = inputs_of others

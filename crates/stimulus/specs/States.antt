@@ -1,12 +1,12 @@
 -- The state of a reader: its place, and what is still to be returned.
 use Rattle.std.specs.Prelude.{◌≡◌, ℕ, ◌+◌, ◌*◌, ◌≤◌, List, [], ◌∷◌, length, None}
-use Rattle.stimulus.specs.declared.line.Line.{Line}
+use Rattle.stimulus.specs.declared.parse_line.Line.{Line}
 use Rattle.stimulus.specs.declared.state.State.{State}
 use Rattle.stimulus.specs.declared.state.State.TheVariants as states
-use Rattle.stimulus.specs.declared.state.Taken.{Taken}
-use Rattle.stimulus.specs.declared.state.Taken.TheVariants as answers
-use Rattle.stimulus.specs.declared.item.StimItem.{StimItem}
-use Rattle.stimulus.specs.declared.item.StimItem.TheVariants as items
+use Rattle.stimulus.specs.declared.state.AfterLine.{AfterLine}
+use Rattle.stimulus.specs.declared.state.AfterLine.TheVariants as answers
+use Rattle.stimulus.specs.declared.stimulus_item.StimulusItem.{StimulusItem}
+use Rattle.stimulus.specs.declared.stimulus_item.StimulusItem.TheVariants as items
 use Rattle.stimulus.specs.Places.{Place, First, Between, Inside, Ended, step, taken}
 
 abbrev pub place_of : State → Place
@@ -17,17 +17,17 @@ place_of states.Last = Ended
 place_of states.Ended = Ended
 
 -- the item that a line completed and that is still to be returned
-abbrev pub owed : State → List StimItem
-owed states.Last = items.Terminate ∷ []
-owed _ = []
+abbrev pub items_to_give : State → List StimulusItem
+items_to_give states.Last = items.Terminate ∷ []
+items_to_give _ = []
 
-abbrev pub TakenIs : Taken → State → Line → Type 0
-TakenIs (answers.Line s) state line =
-    (taken (place_of state) line ≡ step [] (place_of s)) × (owed s ≡ [])
-TakenIs (answers.Item item s) state line =
-    taken (place_of state) line ≡ step (item ∷ owed s) (place_of s)
-TakenIs answers.Bad state line = taken (place_of state) line ≡ None
-TakenIs (answers.OutOfMemory s) state line = s ≡ state
+abbrev pub AfterLineIs : AfterLine → State → Line → Type 0
+AfterLineIs (answers.Line s) state line =
+    (taken (place_of state) line ≡ step [] (place_of s)) × (items_to_give s ≡ [])
+AfterLineIs (answers.Item item s) state line =
+    taken (place_of state) line ≡ step (item ∷ items_to_give s) (place_of s)
+AfterLineIs answers.Bad state line = taken (place_of state) line ≡ None
+AfterLineIs (answers.OutOfMemory s) state line = s ≡ state
 
 -- the greatest number of lines that can have been read in a state
 abbrev pub most_lines : State → ℕ
@@ -46,7 +46,7 @@ abbrev pub limit_of : State → ℕ
 limit_of (states.Inside blocks input) = 4097 * 1000000 + 4096
 limit_of _ = all_lines
 
-abbrev pub Counts : Taken → State → Type 0
+abbrev pub Counts : AfterLine → State → Type 0
 Counts (answers.Line s) state =
     most_lines state ≤ limit_of state → (most_lines state + 1 ≤ most_lines s)
     × (most_lines s ≤ limit_of s)

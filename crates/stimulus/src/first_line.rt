@@ -1,7 +1,7 @@
 //! Finds the end of the first line.
 ghost use Rattle.stimulus.specs.FirstLine.{FirstLineIs};
 
-use crate::line::find;
+use crate::parse_line::find;
 
 const MAX_LINE: usize = 128;
 

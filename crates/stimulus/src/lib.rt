@@ -1,16 +1,16 @@
 //! The stimulus: a text with the time and the samples of each cycle, read in pieces.
 #![tactic(auto)]
 
+mod decimal;
 mod first_line;
-mod item;
-pub mod laws;
-mod line;
-mod made;
-mod number;
-mod reader;
+mod generated_text;
+mod parse_line;
+mod parser;
 pub mod slot_reader;
 mod state;
+mod stimulus_item;
+pub mod stimulus_laws;
 
-pub use item::{StimError, StimFault, StimItem};
-pub use made::made_stimulus;
-pub use reader::StimReader;
+pub use generated_text::generate_stimulus;
+pub use parser::StimulusParser;
+pub use stimulus_item::{StimulusError, StimulusFault, StimulusItem};

@@ -1,5 +1,5 @@
 //! Reads a stimulus from a slot, block by block.
 
-mod reader;
+mod stimulus_reader;
 
-pub use reader::StimulusReader;
+pub use stimulus_reader::StimulusReader;

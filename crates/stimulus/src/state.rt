@@ -1,10 +1,10 @@
 //! The state of a reader, and the lines that may come in it.
 ghost use Rattle.std.specs.Prelude.{◌≡◌};
-ghost use Rattle.stimulus.specs.Places.{begun};
-ghost use Rattle.stimulus.specs.States.{TakenIs, Counts};
+ghost use Rattle.stimulus.specs.Places.{empty_block};
+ghost use Rattle.stimulus.specs.States.{AfterLineIs, Counts};
 
-use crate::item::StimItem;
-use crate::line::Line;
+use crate::parse_line::Line;
+use crate::stimulus_item::StimulusItem;
 use det_values::{CycleInput, Samples};
 use std::alloc::Global;
 
@@ -28,10 +28,10 @@ pub enum State {
 
 /// The result of a line.
 #[derive(Drop)]
-pub enum Taken {
+pub enum AfterLine {
     /// The line completes no item.
     Line(State),
-    Item(StimItem, State),
+    Item(StimulusItem, State),
     Bad,
     OutOfMemory(State),
 }
@@ -67,7 +67,7 @@ impl State {
 }
 
 fn begin(alloc: Global, blocks: u32, time: Option<u64>) -> State
-    ensures { result ≡ State.Inside blocks (begun time) }
+    ensures { result ≡ State.Inside blocks (empty_block time) }
 {
     State::Inside {
         blocks,
@@ -78,50 +78,50 @@ fn begin(alloc: Global, blocks: u32, time: Option<u64>) -> State
     }
 }
 
-fn take_inside(alloc: Global, blocks: u32, block: CycleInput, line: Line) -> Taken
-    ensures taken { TakenIs result (State.Inside blocks block) line }
+fn take_inside(alloc: Global, blocks: u32, block: CycleInput, line: Line) -> AfterLine
+    ensures taken { AfterLineIs result (State.Inside blocks block) line }
     ensures counts { Counts result (State.Inside blocks block) }
 {
     match line {
-        Line::Stim => Taken::Bad,
+        Line::Stim => AfterLine::Bad,
         Line::Cycle(time) => {
             if blocks >= MAX_BLOCKS {
-                return Taken::Bad;
+                return AfterLine::Bad;
             }
             let next = begin(alloc, blocks + 1, time);
-            Taken::Item(StimItem::Cycle(block), next)
+            AfterLine::Item(StimulusItem::Cycle(block), next)
         }
         Line::Sample(sample) => {
             let mut input = block;
             if input.samples.is_full() {
-                return Taken::Bad;
+                return AfterLine::Bad;
             }
             match input.samples.push(sample) {
-                Ok(()) => Taken::Line(State::Inside { blocks, input }),
-                Err(_) => Taken::OutOfMemory(State::Inside { blocks, input }),
+                Ok(()) => AfterLine::Line(State::Inside { blocks, input }),
+                Err(_) => AfterLine::OutOfMemory(State::Inside { blocks, input }),
             }
         }
-        Line::Terminate => Taken::Item(StimItem::Cycle(block), State::Last),
+        Line::Terminate => AfterLine::Item(StimulusItem::Cycle(block), State::Last),
     }
 }
 
 /// The result of a line in a state.
-pub fn take_line(alloc: Global, state: State, line: Line) -> Taken
-    ensures taken { TakenIs result state line }
+pub fn take_line(alloc: Global, state: State, line: Line) -> AfterLine
+    ensures taken { AfterLineIs result state line }
     ensures counts { Counts result state }
 {
     match state {
         State::First => match line {
-            Line::Stim => Taken::Line(State::Between),
-            _ => Taken::Bad,
+            Line::Stim => AfterLine::Line(State::Between),
+            _ => AfterLine::Bad,
         },
         State::Between => match line {
-            Line::Cycle(time) => Taken::Line(begin(alloc, 1, time)),
-            Line::Terminate => Taken::Item(StimItem::Terminate, State::Ended),
-            _ => Taken::Bad,
+            Line::Cycle(time) => AfterLine::Line(begin(alloc, 1, time)),
+            Line::Terminate => AfterLine::Item(StimulusItem::Terminate, State::Ended),
+            _ => AfterLine::Bad,
         },
         State::Inside { blocks, input } => take_inside(alloc, blocks, input, line),
-        State::Last => Taken::Bad,
-        State::Ended => Taken::Bad,
+        State::Last => AfterLine::Bad,
+        State::Ended => AfterLine::Bad,
     }
 }

@@ -43,8 +43,8 @@ module _ {T : Type 0} where
   }
 
   -- a seat that knows only this number and work
-  abbrev pub paper : ℕ → List T → View T
-  paper number work = record {
+  abbrev pub ticket_view : ℕ → List T → View T
+  ticket_view number work = record {
     keeps = false;
     number = 0;
     work = [];
@@ -53,10 +53,10 @@ module _ {T : Type 0} where
   }
 
   abbrev pub ticket_of : View T → View T
-  ticket_of v = paper v.number v.work
+  ticket_of v = ticket_view v.number v.work
 
   abbrev pub nobody : View T
-  nobody = paper 0 []
+  nobody = ticket_view 0 []
 
   -- the keeper with a ticket that it took back
   abbrev pub with_ticket : View T → View T → View T

@@ -3,22 +3,22 @@ ghost use Rattle.std.specs.Prelude.{◌≡◌, ◌+◌, ◌<◌, ◌^◌, []};
 ghost use Rattle.tickets.specs.Offices.{name_of};
 
 use crate::office::Office;
-use crate::plays::{Announce, Check, Paper, Site};
-use crate::view::{Room, TicketRule, View};
+use crate::plays::{Announce, Check, Site, TicketExchange};
+use crate::view::{OfficeName, TicketRule, View};
 use atomic_table::{Seat, Table};
 use std::alloc::Global;
 use std::marker::{Brand, Model, PhantomData};
 
 /// Announces work under rising numbers. Contracts see the last number and its work.
 #[derive(Drop)]
-pub struct Keeper<T, B: Room> {
+pub struct Keeper<T, B: OfficeName> {
     table: Table<(), View<T>, (), TicketRule, Global>,
     seat: Seat<(), View<T>>,
     number: u64,
     room: PhantomData<B>,
 }
 
-impl<T, B: Room> Model for Keeper<T, B> {
+impl<T, B: OfficeName> Model for Keeper<T, B> {
     ghost use Rattle.std.specs.Prelude.{◌≡◌, [], true};
     ghost use Rattle.tickets.specs.Tickets.{Announced};
 
@@ -34,13 +34,13 @@ impl<T, B: Room> Model for Keeper<T, B> {
 /// Goes with a piece of work and comes back with its result. Contracts see its number and that
 /// work.
 #[derive(Drop)]
-pub struct Ticket<T, B: Room> {
+pub struct Ticket<T, B: OfficeName> {
     seat: Seat<(), View<T>>,
     number: u64,
     room: PhantomData<B>,
 }
 
-impl<T, B: Room> Model for Ticket<T, B> {
+impl<T, B: OfficeName> Model for Ticket<T, B> {
     ghost use Rattle.std.specs.Prelude.{◌≡◌, []};
     ghost use Rattle.tickets.specs.Tickets.{Announced};
 
@@ -52,7 +52,7 @@ impl<T, B: Room> Model for Ticket<T, B> {
         × (t.seat.me.0.claimed ≡ t.number) };
 }
 
-impl<T, B: Room> Ticket<T, B> {
+impl<T, B: OfficeName> Ticket<T, B> {
     /// The number of the announcement that the ticket is for.
     pub fn number(&self) -> u64
         ensures { result ≡ self.now.number }
@@ -61,9 +61,9 @@ impl<T, B: Room> Ticket<T, B> {
     }
 }
 
-impl<T, B: Room> Keeper<T, B> {
+impl<T, B: OfficeName> Keeper<T, B> {
     /// The keeper of an office.
-    pub fn of(office: Office<T>) -> Keeper<T, B>
+    pub fn new(office: Office<T>) -> Keeper<T, B>
         requires { name_of office ≡ B.table }
         ensures { result ≡ record { number = 0; work = [] } }
     {
@@ -108,7 +108,7 @@ impl<T, B: Room> Keeper<T, B> {
         ensures ticket { result ≡ self.old }
     {
         let table = &self.table;
-        let seat = table.shared.split_seat::<Paper>(&mut self.seat);
+        let seat = table.shared.split_seat::<TicketExchange>(&mut self.seat);
         Ticket {
             seat,
             number: self.number,
@@ -119,7 +119,7 @@ impl<T, B: Room> Keeper<T, B> {
     /// Takes a ticket back. If it has the present number, it is for the work announced last.
     pub fn check(&mut self, ticket: Ticket<T, B>)
         ensures same { self.new ≡ self.old }
-        ensures told { ticket.number ≡ self.old.number → ticket.work ≡ self.old.work }
+        ensures known { ticket.number ≡ self.old.number → ticket.work ≡ self.old.work }
     {
         let Ticket {
             seat,
@@ -127,7 +127,9 @@ impl<T, B: Room> Keeper<T, B> {
             room: _,
         } = ticket;
         let table = &self.table;
-        table.shared.join_seat::<Paper>(&mut self.seat, seat);
+        table
+            .shared
+            .join_seat::<TicketExchange>(&mut self.seat, seat);
         table.shared.load::<Check>(&mut self.seat, 0);
     }
 }

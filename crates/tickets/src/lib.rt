@@ -14,4 +14,4 @@ mod view;
 
 pub use keeper::{Keeper, Ticket};
 pub use office::Office;
-pub use view::{Room, TicketRule, View};
+pub use view::{OfficeName, TicketRule, View};

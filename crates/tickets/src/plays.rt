@@ -38,9 +38,9 @@ impl<T> Play<(), View<T>> for Check {
 }
 
 /// Splits a ticket off the keeper's seat, and joins one to it.
-pub struct Paper;
+pub struct TicketExchange;
 
-impl<T> Split<View<T>> for Paper {
+impl<T> Split<View<T>> for TicketExchange {
     ghost use Rattle.tickets.specs.Tickets.{ticket_of};
 
     ghost left = { λ v. v };
@@ -48,7 +48,7 @@ impl<T> Split<View<T>> for Paper {
     ghost right = { ticket_of };
 }
 
-impl<T> Join<View<T>> for Paper {
+impl<T> Join<View<T>> for TicketExchange {
     ghost use Rattle.tickets.specs.Tickets.{with_ticket, nobody};
 
     ghost both = { with_ticket };

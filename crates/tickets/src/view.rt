@@ -30,13 +30,13 @@ impl<T> TableRule<(), View<T>, ()> for TicketRule {
 
 /// The name of an office in the types of its keeper and its tickets, so that they can't be confused
 /// with those of another. The call that makes the office chooses it.
-pub trait Room {
+pub trait OfficeName {
     ghost use Rattle.atomic_table.specs.Seated.{TableId};
 
     ghost table: { TableId };
 }
 
-impl Room for Brand {
+impl OfficeName for Brand {
     ghost use Rattle.tickets.specs.Tickets.{no_table};
 
     ghost table = { no_table };

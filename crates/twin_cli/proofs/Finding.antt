@@ -10,7 +10,7 @@ use Rattle.det_io.specs.Traffic.{failure_in, IfRefused}
 use Rattle.det_io.specs.declared.failure.Failure.TheVariants as failures
 use Rattle.det_io.specs.declared.failure.Stopped.{Stopped}
 use Rattle.det_io.specs.declared.failure.Stopped.TheVariants.{Refused, Failed}
-use Rattle.det_io.specs.declared.reading.TooLong.{TooLong}
+use Rattle.det_io.specs.declared.bounded_read.TooLong.{TooLong}
 use Rattle.det_io.proofs.Counts.{rose-before}
 use Rattle.det_io.proofs.Opening.{asks-all, asks-prefix-none, asks-then-prefix}
 use Rattle.jobs.proofs.ByKinds.{by_kind-has}
@@ -18,13 +18,13 @@ use Rattle.manifest.specs.Values.{ManifestValue}
 use Rattle.manifest.specs.Profiles.{profile_of}
 use Rattle.copies.specs.declared.verdict.Verdict.{Verdict}
 use Rattle.cli_answers.specs.declared.answer.BadManifest as refusals
-use Rattle.cli_answers.specs.Outcome.{OutcomeIn, Tells, told}
+use Rattle.cli_answers.specs.Outcome.{OutcomeIn, KnowsBytes, known_bytes}
 use Rattle.run_setup.specs.Setup.{setup_of}
-use Rattle.twin_cli.specs.declared.answer.TwinAnswer.{TwinAnswer}
-use Rattle.twin_cli.specs.declared.answer.TwinAnswer.TheVariants.{BadWords, LongStimulus, ReadFault, WriteFault}
+use Rattle.twin_cli.specs.declared.twin_answer.TwinAnswer.{TwinAnswer}
+use Rattle.twin_cli.specs.declared.twin_answer.TwinAnswer.TheVariants.{BadWords, LongStimulus, ReadFault, WriteFault}
 use Rattle.twin_cli.specs.Answers.{without_manifest, without_text}
-use Rattle.twin_cli.specs.Finding.{Finds, Found}
-use Rattle.twin_cli.specs.Outcome.{refusal, twinned, twinned_by_kind, twinned_by, twins_outcome, names_by}
+use Rattle.twin_cli.specs.FoundVerdict.{Finds, Found}
+use Rattle.twin_cli.specs.Outcome.{refusal, twin_outcome, twin_outcome_by_kind, twin_outcome_by_setup, twins_outcome, names_by}
 use Rattle.twin_cli.specs.Words.{TwinsValue}
 
 -- ---- of a text
@@ -32,13 +32,13 @@ use Rattle.twin_cli.specs.Words.{TwinsValue}
 module _ (twins : TwinsValue) (kind : JobKind) (profile : ProfileValue) (text : List ℕ) where
   -- the outcome of a kind's job
   abbrev wanted : OutcomeIn TwinAnswer
-  wanted = twinned_by_kind twins kind profile text
+  wanted = twin_outcome_by_kind twins kind profile text
 
   -- a text that is too long
   too-long : 1048576 < length text → refusal LongStimulus ≡ wanted
   too-long long =
       let e : nat_lt 1048576 (length text) ≡ true = lt-ltb 1048576 (length text) long in
-      by_kind-has (λ S G E L P m. twinned twins m profile text) (λ o. refusal LongStimulus ≡ o) (λ S G E L P m. rw e refl) kind
+      by_kind-has (λ S G E L P m. twin_outcome twins m profile text) (λ o. refusal LongStimulus ≡ o) (λ S G E L P m. rw e refl) kind
 
 -- neither shelf nor sink failed, and the words were a command
 pub record IsQuiet (result : Result Verdict TwinAnswer) : Type 0 where
@@ -51,16 +51,17 @@ pub record IsQuiet (result : Result Verdict TwinAnswer) : Type 0 where
 module _ (twins : TwinsValue) (first : ShelfState) where
   -- what the manifest is
   abbrev setup : Result ManifestValue refusals.BadManifest
-  setup = setup_of twins.options.strict (told first twins.manifest)
+  setup = setup_of twins.options.strict (known_bytes first twins.manifest)
 
   -- the names that are opened by that
   abbrev names : Result ManifestValue refusals.BadManifest → List (List ℕ)
   names read = names_by twins.manifest twins.stimulus read
 
   -- the manifest is always among them
-  tells-manifest : (read : Result ManifestValue refusals.BadManifest) → Tells first (names read) → IsSome (first.holds twins.manifest)
-  tells-manifest (Ok m) t = t 0 twins.manifest (omega arith)
-  tells-manifest (Err why) t = t 0 twins.manifest (omega arith)
+  is_known-manifest : (read : Result ManifestValue refusals.BadManifest) → KnowsBytes first (names read)
+      → IsSome (first.holds twins.manifest)
+  is_known-manifest (Ok m) t = t 0 twins.manifest (omega arith)
+  is_known-manifest (Err why) t = t 0 twins.manifest (omega arith)
 
   -- what was asked for if only the manifest was read
   asked-manifest : (last : ShelfState) (read : Result ManifestValue refusals.BadManifest) → Asks first last (twins.manifest ∷ [])
@@ -82,7 +83,8 @@ module _ (twins : TwinsValue) (first : ShelfState) where
       → (failure_in {A = ManifestValue} (Err end) ≡ Some failures.Write → ⊥) → Asks first last (twins.manifest ∷ [])
       → Found twins first last (Err (without_manifest end))
   found-no-manifest last (Refused why) bad read write asked = record {
-    finds = λ t. inr (inr (sym (ap (λ r. twinned_by twins r (told first twins.stimulus)) (bad (tells-manifest setup t)))));
+    finds = λ t. inr (inr (sym (ap (λ r. twin_outcome_by_setup twins r (known_bytes first twins.stimulus)) (bad (is_known-manifest setup
+        t)))));
     cause = λ e. absurd cc;
     writes_nothing = λ e. cc;
     words = λ e. cc;
@@ -109,24 +111,24 @@ module _ (twins : TwinsValue) (first : ShelfState) where
 
   module _ (m : ManifestValue) (is : IsSome (first.holds twins.manifest) → setup ≡ Ok m) where
     -- if the manifest is known, it is this one
-    is-told : Tells first (names setup) → setup ≡ Ok m
-    is-told t = is (tells-manifest setup t)
+    is-told : KnowsBytes first (names setup) → setup ≡ Ok m
+    is-told t = is (is_known-manifest setup t)
 
     -- so both names are opened
-    tells-stimulus : Tells first (names setup) → IsSome (first.holds twins.stimulus)
-    tells-stimulus t =
-        let both : Tells first (names (Ok m)) = subst (λ r. Tells first (names r)) (is-told t) t in both 1 twins.stimulus (omega arith)
+    is_known-stimulus : KnowsBytes first (names setup) → IsSome (first.holds twins.stimulus)
+    is_known-stimulus t =
+        let both : KnowsBytes first (names (Ok m)) = subst (λ r. KnowsBytes first (names r)) (is-told t) t in both 1 twins.stimulus (omega arith)
 
-    asked-both : (last : ShelfState) → AsksPrefix first last (twins.manifest ∷ twins.stimulus ∷ []) → Tells first (names setup)
+    asked-both : (last : ShelfState) → AsksPrefix first last (twins.manifest ∷ twins.stimulus ∷ []) → KnowsBytes first (names setup)
         → AsksPrefix first last (names setup)
     asked-both last asked t = subst (λ r. AsksPrefix first last (names r)) (sym (is-told t)) asked
 
     -- the outcome of a text
     abbrev over : List ℕ → OutcomeIn TwinAnswer
-    over text = twinned_by_kind twins m.kind (profile_of m 0) text
+    over text = twin_outcome_by_kind twins m.kind (profile_of m 0) text
 
-    by-told : Tells first (names setup) → over (told first twins.stimulus) ≡ twins_outcome twins (told first)
-    by-told t = sym (ap (λ r. twinned_by twins r (told first twins.stimulus)) (is-told t))
+    by-told : KnowsBytes first (names setup) → over (known_bytes first twins.stimulus) ≡ twins_outcome twins (known_bytes first)
+    by-told t = sym (ap (λ r. twin_outcome_by_setup twins r (known_bytes first twins.stimulus)) (is-told t))
 
     module _ (mid last : ShelfState) (holds : mid.holds ≡ first.holds) (asked : Asks first mid (twins.manifest ∷ []))
         (more : Asks mid last (twins.stimulus ∷ [])) where
@@ -135,22 +137,22 @@ module _ (twins : TwinsValue) (first : ShelfState) where
           (asks-all mid last (twins.stimulus ∷ []) more)
 
       -- the stimulus is still known after the manifest was read
-      still-told : Tells first (names setup) → IsSome (mid.holds twins.stimulus)
-      still-told t = subst (λ h. IsSome (h twins.stimulus)) (sym holds) (tells-stimulus t)
+      still-told : KnowsBytes first (names setup) → IsSome (mid.holds twins.stimulus)
+      still-told t = subst (λ h. IsSome (h twins.stimulus)) (sym holds) (is_known-stimulus t)
 
-      same-text : told mid twins.stimulus ≡ told first twins.stimulus
-      same-text = ap (λ h. told (record first { holds = h }) twins.stimulus) holds
+      same-text : known_bytes mid twins.stimulus ≡ known_bytes first twins.stimulus
+      same-text = ap (λ h. known_bytes (record first { holds = h }) twins.stimulus) holds
 
-      long-told : (IsSome (mid.holds twins.stimulus) → 1048576 < length (told mid twins.stimulus))
-          → Tells first (names setup) → refusal LongStimulus ≡ twins_outcome twins (told first)
+      long-told : (IsSome (mid.holds twins.stimulus) → 1048576 < length (known_bytes mid twins.stimulus))
+          → KnowsBytes first (names setup) → refusal LongStimulus ≡ twins_outcome twins (known_bytes first)
       long-told long t =
-          too-long twins m.kind (profile_of m 0) (told first twins.stimulus)
+          too-long twins m.kind (profile_of m 0) (known_bytes first twins.stimulus)
           (subst (λ (l : List ℕ). 1048576 < length l) same-text (long (still-told t)))
           ∙ by-told t
 
       -- a stimulus that is too long, or couldn't be read
       pub found-no-text : (end : Stopped TooLong)
-          → IfRefused end (λ _. IsSome (mid.holds twins.stimulus) → 1048576 < length (told mid twins.stimulus))
+          → IfRefused end (λ _. IsSome (mid.holds twins.stimulus) → 1048576 < length (known_bytes mid twins.stimulus))
           → (failure_in {A = List ℕ} (Err end) ≡ Some failures.Read → Rose mid.faults last.faults)
           → (failure_in {A = List ℕ} (Err end) ≡ Some failures.Write → ⊥) → first.faults ≤ mid.faults
           → Found twins first last (Err (without_text end))
@@ -181,15 +183,15 @@ module _ (twins : TwinsValue) (first : ShelfState) where
       }
 
       finds-told : (text : List ℕ) (result : Result Verdict TwinAnswer)
-          → (IsSome (mid.holds twins.stimulus) → text ≡ told mid twins.stimulus)
-          → Finds result (over text) → Tells first (names setup) → Finds result (twins_outcome twins (told first))
+          → (IsSome (mid.holds twins.stimulus) → text ≡ known_bytes mid twins.stimulus)
+          → Finds result (over text) → KnowsBytes first (names setup) → Finds result (twins_outcome twins (known_bytes first))
       finds-told text result read (inl memory) t = inl memory
       finds-told text result read (inr same) t =
           inr (same ∙ ap over (read (still-told t)) ∙ ap over same-text ∙ by-told t)
 
       -- copies were run over the stimulus
       pub found-compared : (text : List ℕ) (result : Result Verdict TwinAnswer)
-          → (IsSome (mid.holds twins.stimulus) → text ≡ told mid twins.stimulus) → Finds result (over text) → IsQuiet result
+          → (IsSome (mid.holds twins.stimulus) → text ≡ known_bytes mid twins.stimulus) → Finds result (over text) → IsQuiet result
           → Found twins first last result
       found-compared text result read finds quiet = record {
         finds = λ t. inr (finds-told text result read finds t);

@@ -1,3 +1,3 @@
-pub mod Meeting
+pub mod TwinMeets
 pub mod Sourcing
 pub mod Finding

@@ -12,17 +12,17 @@ use Rattle.det_io.specs.declared.failure.Stopped.{Stopped}
 use Rattle.det_io.specs.declared.failure.Stopped.TheVariants.{Refused, Failed}
 use Rattle.det_io.proofs.Counts.{rose-none}
 use Rattle.det_io.proofs.SlotReads.{reads-none, reads-then, reads-told, reads-all}
-use Rattle.stimulus.specs.declared.item.StimFault.{StimFault}
+use Rattle.stimulus.specs.declared.stimulus_item.StimulusFault.{StimulusFault}
 use Rattle.stimulus.specs.Reading.{BadLine, blocks, ending, ending_of, has_bad}
 use Rattle.stimulus.proofs.Growing.{bad_stays, blocks_within}
-use Rattle.stimulus.specs.declared.slot_reader.reader.StimulusReader.{StimulusReader}
+use Rattle.stimulus.specs.declared.slot_reader.stimulus_reader.StimulusReader.{StimulusReader}
 use Rattle.stimulus.specs.slot_reader.StandsFor.{StandsFor, InputIs, IsBad, ReadsIfNeeded, slot_of, events_of}
 use Rattle.twin_cli.specs.declared.text_inputs.TextInputs.{TextInputs}
 use Rattle.run_setup.specs.Setup.{IsCalm}
 use Rattle.twin_cli.specs.TextInputs.{IsBehind, Gives, IsWhole, Comes}
 
 -- what a reader returns, for all texts that it can be reading
-abbrev Answered : Result (Option CycleInput) (Stopped StimFault) → ShelfState → ShelfState → StimulusReader → StimulusReader → Type 0
+abbrev Answered : Result (Option CycleInput) (Stopped StimulusFault) → ShelfState → ShelfState → StimulusReader → StimulusReader → Type 0
 Answered answer before after old new = (more : List ℕ) × Reads before after (slot_of old) more
     × ((read : List ℕ) (given : List CycleInput) → StandsFor old read given
     → ReadsIfNeeded (events_of old) read given more × InputIs answer new (IsAtEnd after (slot_of old)) (read ++ more) given)
@@ -49,7 +49,7 @@ module _ (text : List ℕ) (events : ℕ) where
   module _ (old new : TextInputs) {given : List CycleInput} (b : IsBehind text events old given)
       (same : events_of new.reader ≡ events_of old.reader) where
     -- all that was read, and the answer of that
-    abbrev next-read : (answer : Result (Option CycleInput) (Stopped StimFault))
+    abbrev next-read : (answer : Result (Option CycleInput) (Stopped StimulusFault))
         → Answered answer (text_shelf_state old.shelf) (text_shelf_state new.shelf) old.reader new.reader
         → (all : List ℕ) × Reads (one_slot text) (text_shelf_state new.shelf) 0 all
         × InputIs answer new.reader (IsAtEnd (text_shelf_state new.shelf) 0) all given
@@ -60,7 +60,7 @@ module _ (text : List ℕ) (events : ℕ) where
           (h.2 b.read given b.fed).1,
     )
 
-    pub comes : (answer : Result (Option CycleInput) (Stopped StimFault))
+    pub comes : (answer : Result (Option CycleInput) (Stopped StimulusFault))
         → Answered answer (text_shelf_state old.shelf) (text_shelf_state new.shelf) old.reader new.reader
         → (failure_in answer ≡ Some Read → Rose (text_shelf_state old.shelf).faults (text_shelf_state new.shelf).faults)
         → Comes text events answer new given
@@ -99,13 +99,13 @@ module _ (text : List ℕ) (events : ℕ) (source : TextInputs) (given : List Cy
   whole o is h = let g : Comes text events (Ok None) source given = subst (λ p. Comes text events (Ok p) source given) is h in g
 
   -- the text stopped at its bad line
-  pub stopped-line : (why : Stopped StimFault) → Comes text events (Err why) source given
+  pub stopped-line : (why : Stopped StimulusFault) → Comes text events (Err why) source given
       → IfRefused why (λ fault. ending events text ≡ BadLine fault.line)
   stopped-line (Refused fault) h = h
   stopped-line (Failed failure) h = tt
 
   -- or memory couldn't be had
-  pub stopped-calm : (why : Stopped StimFault) → Comes text events (Err why) source given
+  pub stopped-calm : (why : Stopped StimulusFault) → Comes text events (Err why) source given
       → IsCalm (failure_in {A = List CycleInput} (Err why))
   stopped-calm (Refused fault) h = tt
   stopped-calm (Failed Read) h = h

@@ -4,18 +4,18 @@ use Rattle.det_io.specs.declared.failure.Failure.{Failure}
 use Rattle.det_io.specs.declared.failure.Failure.TheVariants as failures
 use Rattle.det_io.specs.declared.failure.Stopped.{Stopped}
 use Rattle.det_io.specs.declared.failure.Stopped.TheVariants.{Refused, Failed}
-use Rattle.det_io.specs.declared.reading.TooLong as texts
-use Rattle.stimulus.specs.declared.item.StimFault.{StimFault}
+use Rattle.det_io.specs.declared.bounded_read.TooLong as texts
+use Rattle.stimulus.specs.declared.stimulus_item.StimulusFault.{StimulusFault}
 use Rattle.cli_answers.specs.Answers.{err_line}
 use Rattle.cli_answers.specs.declared.answer.BadManifest as refusals
 use Rattle.cli_answers.specs.declared.answer.Answer.TheVariants as answers
-use Rattle.twin_cli.specs.declared.answer.TwinAnswer.{TwinAnswer}
-use Rattle.twin_cli.specs.declared.answer.TwinAnswer.TheVariants.{Done, Differs, BadWords}
-use Rattle.twin_cli.specs.declared.answer.TwinAnswer.TheVariants.{BadManifest, BadStimulus}
-use Rattle.twin_cli.specs.declared.answer.TwinAnswer.TheVariants.{LongStimulus, ReadFault}
-use Rattle.twin_cli.specs.declared.answer.TwinAnswer.TheVariants.{WriteFault, OutOfMemory}
-use Rattle.twin_cli.specs.declared.status.TwinStatus.{TwinStatus}
-use Rattle.twin_cli.specs.declared.status.TwinStatus.TheVariants as statuses
+use Rattle.twin_cli.specs.declared.twin_answer.TwinAnswer.{TwinAnswer}
+use Rattle.twin_cli.specs.declared.twin_answer.TwinAnswer.TheVariants.{Done, Differs, BadWords}
+use Rattle.twin_cli.specs.declared.twin_answer.TwinAnswer.TheVariants.{BadManifest, BadStimulus}
+use Rattle.twin_cli.specs.declared.twin_answer.TwinAnswer.TheVariants.{LongStimulus, ReadFault}
+use Rattle.twin_cli.specs.declared.twin_answer.TwinAnswer.TheVariants.{WriteFault, OutOfMemory}
+use Rattle.twin_cli.specs.declared.twin_status.TwinStatus.{TwinStatus}
+use Rattle.twin_cli.specs.declared.twin_status.TwinStatus.TheVariants as statuses
 
 -- the answer of a failure
 abbrev pub failed : Failure → TwinAnswer
@@ -32,7 +32,7 @@ abbrev pub without_text : Stopped texts.TooLong → TwinAnswer
 without_text (Refused long) = LongStimulus
 without_text (Failed failure) = failed failure
 
-abbrev pub without_stimulus : Stopped StimFault → TwinAnswer
+abbrev pub without_stimulus : Stopped StimulusFault → TwinAnswer
 without_stimulus (Refused fault) = BadStimulus fault.line
 without_stimulus (Failed failure) = failed failure
 

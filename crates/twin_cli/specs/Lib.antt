@@ -1,5 +1,5 @@
 pub mod Answers
-pub mod Finding
+pub mod FoundVerdict
 pub mod Outcome
 pub mod Promise
 pub mod TextInputs

@@ -7,7 +7,7 @@ use Rattle.det_io.specs.TextShelf.{one_slot, text_shelf_state}
 use Rattle.det_io.specs.declared.failure.Failure.TheVariants.{OutOfMemory}
 use Rattle.det_io.specs.declared.failure.Stopped.{Stopped}
 use Rattle.det_io.specs.declared.failure.Stopped.TheVariants.{Refused, Failed}
-use Rattle.stimulus.specs.declared.item.StimFault.{StimFault}
+use Rattle.stimulus.specs.declared.stimulus_item.StimulusFault.{StimulusFault}
 use Rattle.stimulus.specs.Reading.{Terminated, BadLine, blocks, ending}
 use Rattle.stimulus.specs.slot_reader.StandsFor.{StandsFor, events_of}
 use Rattle.twin_cli.specs.declared.text_inputs.TextInputs.{TextInputs}
@@ -30,7 +30,7 @@ module _ (text : List ℕ) (events : ℕ) where
     pub all : blocks events text ≡ given
     pub good : ending events text ≡ Terminated
 
-  abbrev pub Comes : Result (Option CycleInput) (Stopped StimFault) → TextInputs → List CycleInput
+  abbrev pub Comes : Result (Option CycleInput) (Stopped StimulusFault) → TextInputs → List CycleInput
       → Type 0
   Comes (Ok (Some input)) source given = Gives source (given ++ input ∷ [])
   Comes (Ok None) source given = IsWhole given

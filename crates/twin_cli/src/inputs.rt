@@ -5,15 +5,15 @@ ghost use Rattle.std.specs.List.{All};
 ghost use Rattle.det_io.specs.Shelf.{Asks};
 ghost use Rattle.det_io.specs.Traffic.{ShelfTraffic, shelf_run, failure_in, IfRefused};
 ghost use Rattle.stimulus.specs.Reading.{Terminated, BadLine, blocks, ending};
-ghost use Rattle.cli_answers.specs.Outcome.{told};
+ghost use Rattle.cli_answers.specs.Outcome.{known_bytes};
 ghost use Rattle.run_setup.specs.Setup.{IsCalm};
 
 use crate::text_inputs::TextInputs;
 use det_io::{Failure, Shelf, Stopped, TooLong, read_limited};
 use det_values::Bytes;
 use std::alloc::Global;
-use stimulus::StimFault;
-use stimulus::laws::limits;
+use stimulus::StimulusFault;
+use stimulus::stimulus_laws::limits;
 use twins::Inputs;
 
 /// The greatest length of a stimulus, in bytes. It is read whole before a copy runs, so that each
@@ -28,11 +28,11 @@ pub(crate) fn read_text<S: Shelf>(
     shelf: &mut S,
 ) -> Result<Bytes, Stopped<TooLong>>
     ensures text { IfOk result (λ text. IsSome ((S.sees shelf.old).holds name.now)
-        → text ≡ told (S.sees shelf.old) name.now) }
+        → text ≡ known_bytes (S.sees shelf.old) name.now) }
     ensures few { IfOk result (λ text. length text ≤ 1048576) }
     ensures long { IfErr result (λ e. IfRefused e (λ _.
         IsSome ((S.sees shelf.old).holds name.now)
-        → 1048576 < length (told (S.sees shelf.old) name.now))) }
+        → 1048576 < length (known_bytes (S.sees shelf.old) name.now))) }
     ensures traffic { ShelfTraffic (shelf_run S.sees S.stays shelf.old shelf.new)
         (failure_in result) }
     ensures writes_nothing { failure_in result ≡ Some Failure.Write → ⊥ }
@@ -49,7 +49,7 @@ pub(crate) fn inputs_of(
     alloc: Global,
     text: Bytes,
     events: u16,
-) -> Result<Inputs, Stopped<StimFault>>
+) -> Result<Inputs, Stopped<StimulusFault>>
     ensures inputs { IfOk result (λ inputs. inputs ≡ blocks events text) }
     ensures whole { IfOk result (λ inputs. ending events text ≡ Terminated) }
     ensures known { IfOk result (λ inputs.
@@ -59,7 +59,7 @@ pub(crate) fn inputs_of(
     ensures calm { IsCalm (failure_in result) }
 {
     limits();
-    let mut source = TextInputs::of(alloc, text, events);
+    let mut source = TextInputs::new(alloc, text, events);
     let mut inputs = Inputs::new(alloc);
     'inputs: while let Some(input) = source.next()? {
         inputs.push(input)?;

@@ -6,19 +6,19 @@
 //! promise of `twin_top`.
 #![tactic(auto)]
 
-mod answer;
+mod find_verdict;
 mod inputs;
 mod options;
-mod program;
-mod running;
-mod status;
 mod text_inputs;
-mod texts;
-mod words;
+mod twin_answer;
+mod twin_command;
+mod twin_program;
+mod twin_status;
+mod twin_usage;
 
-pub use answer::TwinAnswer;
-pub use options::{Flip, Options, Twins};
-pub use program::twin_top;
-pub use status::TwinStatus;
-pub use texts::{USAGE, VERSION};
-pub use words::TwinCommand;
+pub use options::{Flip, TwinOptions, Twins};
+pub use twin_answer::TwinAnswer;
+pub use twin_command::TwinCommand;
+pub use twin_program::twin_top;
+pub use twin_status::TwinStatus;
+pub use twin_usage::{USAGE, VERSION};

@@ -10,7 +10,7 @@ pub struct Flip {
 
 /// The options after the names.
 #[derive(Clone, Copy, Debug, PartialEq, Eq)]
-pub struct Options {
+pub struct TwinOptions {
     /// Whether an unknown key in the manifest is a fault.
     pub strict: bool,
     pub flip: Option<Flip>,
@@ -23,7 +23,7 @@ pub struct Twins<'a> {
     pub copies: u32,
     pub manifest: &'a str,
     pub stimulus: &'a str,
-    pub options: Options,
+    pub options: TwinOptions,
     ghost some: { 2 ≤ copies },
     ghost few: { copies ≤ 8 },
 }

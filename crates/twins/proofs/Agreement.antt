@@ -14,7 +14,7 @@ use Rattle.copies.specs.declared.verdict.Verdict.TheVariants.{Differ}
 use Rattle.copies.specs.Verdict.{row_difference, first_other}
 use Rattle.copies.proofs.Judging.{item-apart, none-other}
 use Rattle.twins.specs.Laws.{frames_in}
-use Rattle.twins.specs.Verdict.{as_read, row_at, row_verdict, first_verdict}
+use Rattle.twins.specs.TwinVerdict.{as_read, row_at, row_verdict, first_verdict}
 use Rattle.twins.proofs.Verdicts.{first-none}
 
 -- ---- one row

@@ -9,14 +9,14 @@ use Rattle.det_values.specs.declared.frames.CycleInput.{CycleInput}
 use Rattle.det_values.specs.declared.frames.Frame.{Frame}
 use Rattle.job.specs.Meaning.{Meaning}
 use Rattle.frame_queue.specs.declared.queue.FrameQueue.{FrameQueue}
-use Rattle.twins.specs.declared.twin_copies.Copies.{Copies}
+use Rattle.twins.specs.declared.twin_copies.TwinCopies.{TwinCopies}
 use Rattle.twins.specs.declared.taker.Intake.{Intake}
 use Rattle.twins.specs.declared.twin.Twin.{Twin}
-use Rattle.twins.specs.Copies.{AreCopies}
+use Rattle.twins.specs.TwinCopies.{AreCopies}
 use Rattle.twins.specs.Intakes.{IsIntakeOf, rows_in}
-use Rattle.twins.specs.Making.{IsTwin}
-use Rattle.twins.specs.Sending.{numbers_of}
-use Rattle.twins.specs.Taking.{HaveTaken}
+use Rattle.twins.specs.TwinFrames.{IsTwin}
+use Rattle.twins.specs.TwinQueues.{numbers_of}
+use Rattle.twins.specs.TakenRows.{HaveTaken}
 use Rattle.twins.proofs.InTurn.{Took}
 use Rattle.twins.proofs.Pairs.{pair_none, pair_more}
 
@@ -34,7 +34,7 @@ took-none intake rows taken = All-cons (Took 0) intake [] (rows, ap length taken
 
 module _ {S G E L P : Type 0} (m : Meaning S G E L P) (profile : ProfileValue) (inputs : List CycleInput)
     (altered : ℕ → ℕ → Frame → Frame) where
-  pub none-begun : (copies : Copies S G E L P) → copies.queues.items ≡ [] → copies.twins.items ≡ [] → copies.intakes.items ≡ []
+  pub none-begun : (copies : TwinCopies S G E L P) → copies.queues.items ≡ [] → copies.twins.items ≡ [] → copies.intakes.items ≡ []
       → AreCopies m profile inputs altered 0 copies
   none-begun copies q t l = record {
     twins = rw (q, t) (pair_none (IsTwin m profile inputs altered));
@@ -43,7 +43,7 @@ module _ {S G E L P : Type 0} (m : Meaning S G E L P) (profile : ProfileValue) (
     taken = rw l (All-nil (Took 0));
   }
 
-  pub one-begun : (count : ℕ) (old new : Copies S G E L P) (queue : FrameQueue) (twin : Twin S G E L P) (intake : Intake)
+  pub one-begun : (count : ℕ) (old new : TwinCopies S G E L P) (queue : FrameQueue) (twin : Twin S G E L P) (intake : Intake)
       → AreCopies m profile inputs altered count old → new.queues.items ≡ old.queues.items ++ queue ∷ []
       → new.twins.items ≡ old.twins.items ++ twin ∷ [] → new.intakes.items ≡ old.intakes.items ++ intake ∷ []
       → IsTwin m profile inputs altered queue twin → twin.copy ≡ count → IsIntakeOf queue intake → intake.rows ≡ 0 → rows_in intake ≡ []
@@ -58,7 +58,7 @@ module _ {S G E L P : Type 0} (m : Meaning S G E L P) (profile : ProfileValue) (
 
 -- as many copies as were made
 pub many-begun : {S G E L P : Type 0} {m : Meaning S G E L P} {profile : ProfileValue} {inputs : List CycleInput}
-    {altered : ℕ → ℕ → Frame → Frame} (count : ℕ) (copies : Copies S G E L P) → AreCopies m profile inputs altered count copies
+    {altered : ℕ → ℕ → Frame → Frame} (count : ℕ) (copies : TwinCopies S G E L P) → AreCopies m profile inputs altered count copies
     → length copies.twins.items ≡ count
 many-begun {S} {G} {E} {L} {P} count copies all =
     sym (length-map copies.twins.items (λ (x : Twin S G E L P). x.copy)) ∙ ap length all.numbers ∙ length-range_with_len 0 count

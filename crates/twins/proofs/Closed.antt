@@ -6,7 +6,7 @@ use Rattle.frame_queue.specs.Queues.{sent_of}
 use Rattle.twins.specs.declared.taker.Intake.{Intake}
 use Rattle.twins.specs.declared.twin.Twin.{Twin}
 use Rattle.twins.specs.Intakes.{rows_in}
-use Rattle.twins.specs.Closing.{AreBegun}
+use Rattle.twins.specs.ClosedQueues.{AreBegun}
 use Rattle.twins.proofs.Pairs.{pair_none, pair_one, pair_join}
 
 module _ {S G E L P : Type 0} where

@@ -13,8 +13,8 @@ use Rattle.copies.specs.Verdict.{row_difference}
 use Rattle.twins.specs.declared.taker.Intake.{Intake}
 use Rattle.twins.specs.Intakes.{IsIntakeOf, rows_in}
 use Rattle.twins.specs.Pairs.{EachPair}
-use Rattle.twins.specs.Verdict.{as_read, row_at, row_verdict}
-use Rattle.twins.specs.Taking.{AreIntakes, HaveTaken, TookOne, taken_by}
+use Rattle.twins.specs.TwinVerdict.{as_read, row_at, row_verdict}
+use Rattle.twins.specs.TakenRows.{AreIntakes, HaveTaken, TookOne, taken_by}
 use Rattle.twins.proofs.Pairs.{pair_none, pair_more, pair_set}
 use Rattle.twins.proofs.Rows.{row-last}
 use Rattle.twins.proofs.Verdicts.{verdict-more}

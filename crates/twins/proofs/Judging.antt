@@ -24,11 +24,11 @@ use Rattle.twins.specs.declared.taker.Taker.{Taker}
 use Rattle.twins.specs.Intakes.{rows_in}
 use Rattle.twins.specs.declared.twin.Twin.{Twin}
 use Rattle.twins.specs.Pairs.{EachPair}
-use Rattle.twins.specs.Verdict.{row_at, row_verdict, copy_rows, twin_verdict}
-use Rattle.twins.specs.Making.{IsTwin}
-use Rattle.twins.specs.Sending.{AreTwins, numbers_of}
-use Rattle.twins.specs.Taking.{AreIntakes, HaveTaken, TookOne, taken_by, Agreed, Judged}
-use Rattle.twins.specs.Closing.{AreBegun}
+use Rattle.twins.specs.TwinVerdict.{row_at, row_verdict, copy_rows, twin_verdict}
+use Rattle.twins.specs.TwinFrames.{IsTwin}
+use Rattle.twins.specs.TwinQueues.{AreTwins, numbers_of}
+use Rattle.twins.specs.TakenRows.{AreIntakes, HaveTaken, TookOne, taken_by, Agreed, Judged}
+use Rattle.twins.specs.ClosedQueues.{AreBegun}
 use Rattle.twins.proofs.Pairs.{pair_map, pair_then, pair_with, pair_with_right, pair_all}
 use Rattle.twins.proofs.Rows.{row-of-prefix, rows-begin, length-rows}
 use Rattle.twins.proofs.InTurn.{Took}

@@ -13,9 +13,9 @@ use Rattle.det_values.specs.declared.frames.Frame.TheVariants.{Init, Run, Termin
 use Rattle.job.specs.Meaning.{Meaning}
 use Rattle.job.specs.Cycle.{state_after}
 use Rattle.cycle_engine.specs.Engine.{EngineState, StandsFor}
-use Rattle.cycle_engine.specs.Frames.{frames, frame_of, state_of, runs, runs_behind, first_state, cycle_of}
-use Rattle.cycle_engine.proofs.Standing.{runs_behind-append, length-runs, init_is}
-use Rattle.twins.specs.Making.{IsFrame, HasMade}
+use Rattle.cycle_engine.specs.Frames.{frames, frame_of, state_of, runs, runs_after_inputs, first_state, cycle_of}
+use Rattle.cycle_engine.proofs.Standing.{runs_after_inputs-append, length-runs, init_is}
+use Rattle.twins.specs.TwinFrames.{IsFrame, HasMade}
 use Rattle.twins.proofs.Rows.{get-mapped, get-end, take-at}
 
 abbrev pub as_run : RunFrame → Frame
@@ -26,11 +26,11 @@ module _ {S G E L P : Type 0} (m : Meaning S G E L P) (profile : ProfileValue) w
   runs-at : (before : List CycleInput) (input : CycleInput) (after : List CycleInput)
       → (more : List RunFrame) × (runs m profile (before ++ input ∷ after)
       ≡ runs m profile before ++ frame_of m profile before (state_of m profile before) input ∷ more)
-  unfolding runs_behind
+  unfolding runs_after_inputs
   runs-at before input after = (
-    runs_behind m profile (before ++ input ∷ []) (state_after (state_of m profile before)
+    runs_after_inputs m profile (before ++ input ∷ []) (state_after (state_of m profile before)
         (cycle_of m profile before (state_of m profile before) input)) after,
-    runs_behind-append m profile [] before (input ∷ after) (first_state m profile),
+    runs_after_inputs-append m profile [] before (input ∷ after) (first_state m profile),
   )
 
   run-at : (before : List CycleInput) (input : CycleInput) (after : List CycleInput)

@@ -8,7 +8,7 @@ use Rattle.std.proofs.Math.Seq.{take-suc}
 use Rattle.det_io.specs.Prefix.{IsPrefix}
 use Rattle.det_values.specs.declared.frames.Frame.{Frame}
 use Rattle.frame_queue.specs.declared.row.Row.{Row}
-use Rattle.twins.specs.Verdict.{rows_from, row_at, as_read}
+use Rattle.twins.specs.TwinVerdict.{rows_from, row_at, as_read}
 
 -- ---- an item in its place
 

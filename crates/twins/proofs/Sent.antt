@@ -10,8 +10,8 @@ use Rattle.frame_queue.specs.declared.queue.FrameQueue.{FrameQueue}
 use Rattle.frame_queue.specs.declared.ends.Sender.{Sender}
 use Rattle.frame_queue.specs.Queues.{sent_of, IsSenderOf}
 use Rattle.twins.specs.declared.twin.Twin.{Twin}
-use Rattle.twins.specs.Making.{HasMade, IsRow, IsTwin}
-use Rattle.twins.specs.Verdict.{rows_from}
+use Rattle.twins.specs.TwinFrames.{HasMade, IsRow, IsTwin}
+use Rattle.twins.specs.TwinVerdict.{rows_from}
 use Rattle.twins.proofs.Rows.{rows-more}
 
 module _ {S G E L P : Type 0} (m : Meaning S G E L P) (profile : ProfileValue) (inputs : List CycleInput)

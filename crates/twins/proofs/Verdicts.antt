@@ -9,7 +9,7 @@ use Rattle.copies.specs.declared.row.Row.{Row as Read}
 use Rattle.copies.specs.declared.verdict.Verdict.{Verdict}
 use Rattle.copies.specs.declared.verdict.Verdict.TheVariants.{Differ}
 use Rattle.copies.specs.Verdict.{row_difference, first_other}
-use Rattle.twins.specs.Verdict.{row_at, row_verdict, first_verdict}
+use Rattle.twins.specs.TwinVerdict.{row_at, row_verdict, first_verdict}
 
 or-none : {X : Type 0} (o : Option X) → option_or o None ≡ o
 or-none None = refl

@@ -3,7 +3,7 @@ use Rattle.std.specs.Prelude.{◌≡◌, ◌↔◌, List, ◌∷◌, length, map
 use Rattle.std.specs.List.{AllByRecursion}
 use Rattle.det_values.specs.declared.frames.Frame.{Frame}
 use Rattle.frame_queue.specs.declared.row.Row.{Row}
-use Rattle.twins.specs.Verdict.{first_verdict}
+use Rattle.twins.specs.TwinVerdict.{first_verdict}
 
 -- the frames in these rows
 abbrev pub frames_in : List Row → List Frame

@@ -1,11 +1,11 @@
-pub mod Closing
-pub mod Copies
+pub mod ClosedQueues
+pub mod TwinCopies
 pub mod Intakes
 pub mod Laws
-pub mod Making
+pub mod TwinFrames
 pub mod Pairs
-pub mod Sending
+pub mod TwinQueues
 pub mod Sides
-pub mod Taking
+pub mod TakenRows
 pub mod Tampers
-pub mod Verdict
+pub mod TwinVerdict

@@ -18,21 +18,21 @@ kind_of Terminate = 4
 -- ---- a bit that is flipped
 
 -- the bytes, with the lowest bit of the last one flipped
-abbrev pub last_turned : List ℕ → List ℕ
-last_turned [] = []
-last_turned (byte ∷ []) = bit_xor byte 1 ∷ []
-last_turned (byte ∷ next ∷ more) = byte ∷ last_turned (next ∷ more)
+abbrev pub flipped_last : List ℕ → List ℕ
+flipped_last [] = []
+flipped_last (byte ∷ []) = bit_xor byte 1 ∷ []
+flipped_last (byte ∷ next ∷ more) = byte ∷ flipped_last (next ∷ more)
 
 -- a finished cycle whose output is altered like this
-abbrev pub output_turned : Outcome → Outcome
-output_turned (Finished elements output) = Finished elements (last_turned output)
-output_turned (Refused at) = Refused at
+abbrev pub flipped_output : Outcome → Outcome
+flipped_output (Finished elements output) = Finished elements (flipped_last output)
+flipped_output (Refused at) = Refused at
 
-abbrev pub frame_turned : Frame → Frame
-frame_turned (Run run) = Run (record run { outcome = output_turned run.outcome })
-frame_turned frame = frame
+abbrev pub flipped_frame : Frame → Frame
+flipped_frame (Run run) = Run (record run { outcome = flipped_output run.outcome })
+flipped_frame frame = frame
 
 -- one frame of one copy, altered like this
-abbrev pub turned_at : ℕ → ℕ → ℕ → ℕ → Frame → Frame
-turned_at copy number its_copy its_number frame =
-    if (its_copy == copy) && (its_number == number) then frame_turned frame else frame
+abbrev pub flipped_at : ℕ → ℕ → ℕ → ℕ → Frame → Frame
+flipped_at copy number its_copy its_number frame =
+    if (its_copy == copy) && (its_number == number) then flipped_frame frame else frame

@@ -2,10 +2,10 @@
 ghost use Rattle.std.specs.Prelude.{◌≡◌, ◌+◌, ◌<◌, ◌≤◌, ◌∷◌, ◌++◌, [], length};
 ghost use Rattle.std.specs.Prelude.{IfNone, IfOk};
 ghost use Rattle.std.specs.Thread.{IsSend, IsSync};
-ghost use Rattle.twins.specs.Making.{AreKnown};
-ghost use Rattle.twins.specs.Sending.{AreTwins, numbers_of};
+ghost use Rattle.twins.specs.TwinFrames.{AreKnown};
+ghost use Rattle.twins.specs.TwinQueues.{AreTwins, numbers_of};
 ghost use Rattle.twins.specs.Sides.{twins_of};
-ghost use Rattle.twins.specs.Taking.{Agreed, Judged};
+ghost use Rattle.twins.specs.TakenRows.{Agreed, Judged};
 
 use crate::sides::Sides;
 use crate::taker::Taker;

@@ -3,6 +3,6 @@ ghost use Rattle.twins.specs.Laws.{Agreeing};
 
 /// The verdict on copies with the same number of rows is that they agree exactly where all of them
 /// have the frames of copy 0.
-pub fn agreeing()
+pub fn agreement()
     ensures { Agreeing }
 {}

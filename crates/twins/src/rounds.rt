@@ -4,11 +4,11 @@ ghost use Rattle.std.specs.Option.{option_map};
 ghost use Rattle.copies.specs.declared.verdict.Verdict.TheVariants.{Differ};
 ghost use Rattle.copies.specs.Verdict.{row_difference};
 ghost use Rattle.twins.specs.Pairs.{EachPair};
-ghost use Rattle.twins.specs.Verdict.{as_read, row_verdict};
-ghost use Rattle.twins.specs.Taking.{AreIntakes, HaveTaken, TookOne, taken_by, Agreed, Judged};
+ghost use Rattle.twins.specs.TwinVerdict.{as_read, row_verdict};
+ghost use Rattle.twins.specs.TakenRows.{AreIntakes, HaveTaken, TookOne, taken_by, Agreed, Judged};
 
 use crate::taker::{Intake, Taker};
-use copies::{Verdict, first_difference};
+use copies::{Verdict, first_frame_difference};
 use frame_queue::{FrameQueue, Row};
 use std::sync::Wait;
 
@@ -29,7 +29,7 @@ impl Taker {
         ensures within { self.new.rows ≤ self.old.rows + more }
     {
         'rounds: for _ in 0..more {
-            if !all_have_rows(rt, queues) {
+            if !wait_for_rows(rt, queues) {
                 break;
             }
             if let Some(verdict) = self.take_next(rt, queues) {
@@ -55,9 +55,9 @@ impl Taker {
 }
 
 /// Waits for a row of each copy, and returns whether there is one of each.
-fn all_have_rows<R: Wait>(rt: &R, queues: &[FrameQueue]) -> bool {
+fn wait_for_rows<R: Wait>(rt: &R, queues: &[FrameQueue]) -> bool {
     'queues: for queue in queues {
-        if !queue.pace().has_row(rt) {
+        if !queue.pace().wait_for_row(rt) {
             return false;
         }
     }
@@ -84,17 +84,17 @@ fn take_round<R: Wait>(
     let mut found = None;
     'others: for copy in 1..intakes.len() {
         let row = intakes[copy].take(rt, &queues[copy]);
-        found = found.or(parted(copy as u32, number, &ours, row));
+        found = found.or(difference_verdict(copy as u32, number, &ours, row));
     }
     found
 }
 
 /// The verdict that this copy differs, if its row isn't that of copy 0.
-fn parted(copy: u32, number: u32, ours: &Row, row: Row) -> Option<Verdict>
+fn difference_verdict(copy: u32, number: u32, ours: &Row, row: Row) -> Option<Verdict>
     ensures { result ≡ option_map (Differ copy)
         (row_difference (number + 1) (as_read (Some ours.now)) (as_read (Some row))) }
 {
-    match first_difference(number, &ours.frame, &row.frame) {
+    match first_frame_difference(number, &ours.frame, &row.frame) {
         Some(at) => Some(Verdict::Differ { copy, at }),
         None => None,
     }

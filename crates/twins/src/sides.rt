@@ -2,7 +2,7 @@
 ghost use Rattle.std.specs.Prelude.{◌≡◌, ◌<◌, length, IfOk};
 ghost use Rattle.twins.specs.Sides.{twins_of};
 
-use crate::pushing::push;
+use crate::push_item::push;
 use crate::taker::{Intake, Taker};
 use crate::twin::Twin;
 use det_values::OutOfMemory;
@@ -20,7 +20,7 @@ pub(crate) struct Sides<J: Job> {
 
 impl<J: Job> Sides<J> {
     /// The sides of a run before anything is taken.
-    pub(crate) fn of(mut twins: Vec<Twin<J>>, intakes: Vec<Intake>) -> Sides<J>
+    pub(crate) fn new(mut twins: Vec<Twin<J>>, intakes: Vec<Intake>) -> Sides<J>
         requires { 0 < length twins.items }
         ensures twins { twins_of result ≡ twins.items }
         ensures intakes { result.taker.intakes ≡ intakes }

@@ -1,8 +1,8 @@
 //! Runs the sending of all copies, each on a thread of its own.
 ghost use Rattle.std.specs.Prelude.{◌≡◌, ◌+◌, ◌≤◌, ◌∷◌, ◌++◌, [], vec_len, vec_capacity};
 ghost use Rattle.std.specs.Thread.{IsSend, IsSync};
-ghost use Rattle.twins.specs.Making.{AreKnown, IsTwin};
-ghost use Rattle.twins.specs.Sending.{AreTwins, numbers_of};
+ghost use Rattle.twins.specs.TwinFrames.{AreKnown, IsTwin};
+ghost use Rattle.twins.specs.TwinQueues.{AreTwins, numbers_of};
 
 use crate::twin::Twin;
 use crate::{Tamper, TwinRun};
@@ -25,7 +25,7 @@ fn put_back<J: Job>(twins: &mut Vec<Twin<J>>, twin: Twin<J>)
 }
 
 /// Lets one copy send rows to its queue. Returns the copy.
-fn send_alone<J: Job, T: Tamper, R: Wait>(
+fn send_one_copy<J: Job, T: Tamper, R: Wait>(
     rt: &R,
     alloc: Global,
     run: &TwinRun<T>,
@@ -78,7 +78,7 @@ where
         unreachable!()
     };
     let Some(next) = others.pop() else {
-        return (send_alone(rt, alloc, run, queue, last), others);
+        return (send_one_copy(rt, alloc, run, queue, last), others);
     };
     let (last, second) = join(
         rt,
@@ -90,7 +90,7 @@ where
             ensures twin { IsTwin J.meaning run.entry.now.profile run.entry.now.inputs
                 (T.altered run.entry.now.tamper) queue.entry.now result }
             ensures copy { result.copy ≡ last.copy }
-        { send_alone(rt, alloc, run, queue, last) },
+        { send_one_copy(rt, alloc, run, queue, last) },
         move || -> (Twin<J>, Vec<Twin<J>>)
             requires threads { IsSync R.row × IsSync T.row × IsSync J.row × IsSend J.row
                 × IsSend J.Globals.row × IsSend J.Element.row × IsSync J.Element.row

@@ -2,10 +2,10 @@
 ghost use Rattle.std.specs.Prelude.{◌≡◌, ◌+◌, ◌<◌, ◌≤◌, ◌∷◌, ◌++◌, [], length};
 ghost use Rattle.std.specs.Prelude.{IfOk, OnOk, None, false};
 ghost use Rattle.std.specs.List.{range_with_len};
-ghost use Rattle.twins.specs.Making.{HasMade};
-ghost use Rattle.twins.specs.Copies.{AreCopies};
+ghost use Rattle.twins.specs.TwinFrames.{HasMade};
+ghost use Rattle.twins.specs.TwinCopies.{AreCopies};
 
-use crate::pushing::push;
+use crate::push_item::push;
 use crate::taker::Intake;
 use crate::twin::Twin;
 use crate::{Tamper, TwinRun};
@@ -17,25 +17,25 @@ use std::alloc::Global;
 
 /// Copies of a run, with their queues and the ends from which their rows are taken.
 #[derive(Drop)]
-pub(crate) struct Copies<J: Job> {
+pub(crate) struct TwinCopies<J: Job> {
     pub(crate) queues: Vec<FrameQueue>,
     pub(crate) twins: Vec<Twin<J>>,
     pub(crate) intakes: Vec<Intake>,
 }
 
-impl<J: Job> Copies<J> {
+impl<J: Job> TwinCopies<J> {
     /// This number of copies. None of them has sent anything.
-    pub(crate) fn begun<T: Tamper>(
+    pub(crate) fn new<T: Tamper>(
         alloc: Global,
         run: &TwinRun<T>,
         copies: u32,
-    ) -> Result<Copies<J>, OutOfMemory>
+    ) -> Result<TwinCopies<J>, OutOfMemory>
         requires { J.meaning.bad_param run.now.profile.params (length run.now.profile.events)
             ≡ None }
         ensures { IfOk result (AreCopies J.meaning run.now.profile run.now.inputs
             (T.altered run.now.tamper) copies) }
     {
-        let mut all = Copies {
+        let mut all = TwinCopies {
             queues: Vec::new(alloc),
             twins: Vec::new(alloc),
             intakes: Vec::new(alloc),

@@ -4,10 +4,10 @@ use Rattle.std.proofs.Common.{get_or-set_other}
 use mathlib.Core.Option.{some, some-ne-none}
 use lib.ListN.{get_elem?, length-replicate}
 use Rattle.atomic_table.proofs.Lists.{at_snoc}
-use Rattle.worker_pool.specs.declared.view.PoolView.{PoolView}
+use Rattle.worker_pool.specs.declared.pool_view.PoolView.{PoolView}
 use Rattle.worker_pool.specs.Machine.{start}
 use Rattle.worker_pool.specs.Moves.{begun}
-use Rattle.worker_pool.specs.Shown.{Becomes}
+use Rattle.worker_pool.specs.MachineOfTable.{Becomes}
 use Rattle.worker_pool.specs.Views.{Stands, fresh, no_block}
 use Rattle.worker_pool.proofs.Sharing.{begins, zeros}
 

@@ -2,14 +2,14 @@
 use Rattle.std.proofs.Common.{◌≡◌, ℕ, ◌+◌, ◌<◌, ◌≤◌, List, [], ◌∷◌, ◌++◌, length, map, Result, is_err, sym, refl, ap, ◌∙◌, subst, inl, inr}
 use Rattle.std.proofs.Common.{arith, append_assoc, length-append}
 use mathlib.Core.List.{map-append}
-use Rattle.worker_pool.specs.declared.view.Mark.{Mark}
-use Rattle.worker_pool.specs.declared.view.Mark.TheVariants.{Open, Finished, Reported, Skipped}
-use Rattle.worker_pool.specs.declared.view.PoolEntry.{PoolEntry}
-use Rattle.worker_pool.specs.declared.view.PoolView.{PoolView}
-use Rattle.job.specs.Pass.{Passed, Refusal}
-use Rattle.pass_in_blocks.specs.declared.answers.BlockResult.{BlockResult}
-use Rattle.pass_in_blocks.specs.declared.answers.BlockAnswer.{BlockAnswer}
-use Rattle.pass_in_blocks.specs.Answers.{answer_of}
+use Rattle.worker_pool.specs.declared.pool_view.Mark.{Mark}
+use Rattle.worker_pool.specs.declared.pool_view.Mark.TheVariants.{Open, Finished, Reported, Skipped}
+use Rattle.worker_pool.specs.declared.pool_view.PoolEntry.{PoolEntry}
+use Rattle.worker_pool.specs.declared.pool_view.PoolView.{PoolView}
+use Rattle.job.specs.Pass.{PassResult, Refusal}
+use Rattle.pass_in_blocks.specs.declared.block_answer.BlockResult.{BlockResult}
+use Rattle.pass_in_blocks.specs.declared.block_answer.BlockAnswer.{BlockAnswer}
+use Rattle.pass_in_blocks.specs.BlockAnswers.{answer_of}
 use Rattle.worker_pool.specs.Views.{entry, view, Stands, marked, Below, taken, passed, with_mark}
 use Rattle.worker_pool.specs.Gather.{refuses}
 use Rattle.worker_pool.specs.Results.{Rising, shown, IsHonest, Honest, result_at, results_of, Tidy, Works}
@@ -42,14 +42,14 @@ pub marked_view : (v w u : PoolView) (k : Mark) (b : ℕ) → Below v.seen v.ent
 marked_view v w u k b below took is got = got ∙ ap (with_mark b k) took ∙ ap (λ (c : ℕ). with_mark c k (taken v)) is
     ∙ ap (λ (es : List PoolEntry). view es (v.seen + 1) v.shares) (marked_last v.seen k v.entries below)
 
-module _ {E P : Type 0} (block : ℕ → Result (Passed E P) Refusal) where
+module _ {E P : Type 0} (block : ℕ → Result (PassResult E P) Refusal) where
   pub honest_append : (es fs : List PoolEntry) → Honest block es → Honest block fs → Honest block (es ++ fs)
   honest_append [] fs h k = k
   honest_append (e ∷ es) fs h k = (h.0, honest_append es fs h.1 k)
 
   pub results_append : (es fs : List PoolEntry) → results_of block (es ++ fs) ≡ results_of block es ++ results_of block fs
   results_append [] fs = refl
-  results_append (e ∷ es) fs = ap (λ (r : List (ℕ × Result (Passed E P) Refusal)). result_at block e.mark e.block ++ r)
+  results_append (e ∷ es) fs = ap (λ (r : List (ℕ × Result (PassResult E P) Refusal)). result_at block e.mark e.block ++ r)
       (results_append es fs) ∙ sym (three (result_at block e.mark e.block) (results_of block es) (results_of block fs))
 
   pub tidy_more : (v w : PoolView) (k : Mark) → Tidy block v → IsHonest block k v.seen
@@ -67,7 +67,7 @@ module _ {E P : Type 0} (block : ℕ → Result (Passed E P) Refusal) where
   works_more v w k rs qs h honest is results = record {
     tidy = tidy_more v w k h.tidy honest is;
     results = map-append shown rs qs ∙ (λ i. h.results i ++ results i) ∙ ap
-        (λ (r : List (ℕ × Result (Passed E P) Refusal)). results_of block v.entries ++ r) (sym (nil (result_at block k v.seen)))
+        (λ (r : List (ℕ × Result (PassResult E P) Refusal)). results_of block v.entries ++ r) (sym (nil (result_at block k v.seen)))
         ∙ sym (results_append v.entries (entry v.seen k ∷ [])) ∙ ap (λ (u : PoolView). results_of block u.entries) (sym is);
   }
 
@@ -114,7 +114,7 @@ rising_few lo n [] r b le = omega arith
 rising_few lo n (e ∷ es) r b le = let x : e.block < n = b.0 in let y : lo ≤ e.block = r.0 in
     let ih = rising_few (e.block + 1) n es r.1 b.1 (omega arith) in omega arith
 
-module _ {E P : Type 0} (block : ℕ → Result (Passed E P) Refusal) where
+module _ {E P : Type 0} (block : ℕ → Result (PassResult E P) Refusal) where
   at_most_one : (k : Mark) (b : ℕ) → length (result_at block k b) ≤ 1
   at_most_one Open b = omega arith
   at_most_one Finished b = omega arith

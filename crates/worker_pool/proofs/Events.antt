@@ -8,16 +8,16 @@ use native.Mathlib.Decide.{ℕ_discrete, dec_le}
 use lib.ListN.{get_elem?}
 use Rattle.std.proofs.lemmas.Bool.{lt-ltb}
 use Rattle.atomic_table.proofs.Lists.{at_set, at_snoc, at_last, at_longer, set_here, set_else, set_again}
-use Rattle.worker_pool.specs.declared.view.Mark.{Mark}
-use Rattle.worker_pool.specs.declared.view.Mark.TheVariants.{Open, Finished, Reported, Skipped}
-use Rattle.worker_pool.specs.declared.view.PoolEntry.{PoolEntry}
-use Rattle.worker_pool.specs.declared.view.PoolView.{PoolView}
+use Rattle.worker_pool.specs.declared.pool_view.Mark.{Mark}
+use Rattle.worker_pool.specs.declared.pool_view.Mark.TheVariants.{Open, Finished, Reported, Skipped}
+use Rattle.worker_pool.specs.declared.pool_view.PoolEntry.{PoolEntry}
+use Rattle.worker_pool.specs.declared.pool_view.PoolView.{PoolView}
 use Rattle.worker_pool.specs.Views.{entry, fresh, times, reported, Stands, IsAbove, marked, total, taken, passed, with_mark, one_less}
 use Rattle.worker_pool.specs.Views.{newcomer, joined}
 use Rattle.worker_pool.specs.Rule.{PoolState}
 use Rattle.worker_pool.specs.Machine.{Machine, machine, next, claim, finish, look, report, Has, after}
 use Rattle.worker_pool.specs.Moves.{moved, regrouped}
-use Rattle.worker_pool.specs.Shown.{Becomes, At}
+use Rattle.worker_pool.specs.MachineOfTable.{Becomes, At}
 use Rattle.worker_pool.proofs.Entries.{least_of_small}
 use Rattle.worker_pool.proofs.Marks.{here, there, stands_times, total_at}
 use Rattle.worker_pool.proofs.Kept.{take_kept, pass_kept, stayed}

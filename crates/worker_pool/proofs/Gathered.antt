@@ -7,9 +7,9 @@ use Rattle.std.proofs.lemmas.Bool.{lt-ltb, ltb-true}
 use Rattle.job.specs.Meaning.{Meaning}
 use Rattle.job.specs.Passes.{blocks_of}
 use Rattle.job.proofs.Sizes.{few_blocks}
-use Rattle.job.specs.Pass.{Passed, Refusal, passed, block}
-use Rattle.worker_pool.specs.declared.view.Mark.{Mark}
-use Rattle.worker_pool.specs.declared.view.Mark.TheVariants.{Open, Finished, Reported, Skipped}
+use Rattle.job.specs.Pass.{PassResult, Refusal, passed, block}
+use Rattle.worker_pool.specs.declared.pool_view.Mark.{Mark}
+use Rattle.worker_pool.specs.declared.pool_view.Mark.TheVariants.{Open, Finished, Reported, Skipped}
 use Rattle.worker_pool.specs.Views.{no_block}
 use Rattle.worker_pool.specs.Machine.{Machine, next, start, Event, Has, Leads, HasEnded}
 use Rattle.worker_pool.specs.Gather.{refuses, together, gather}
@@ -39,16 +39,16 @@ module _ {S G E L P : Type 0} (m : Meaning S G E L P) (j : S) (plan : L) (carry 
   abbrev B : ℕ
   B = blocks_of (length es)
 
-  abbrev at : ℕ → Result (Passed E P) Refusal
+  abbrev at : ℕ → Result (PassResult E P) Refusal
   at b = block m j plan carry seed cycle pass b es
 
   abbrev no : ℕ → Bool
   no = refuses at
 
-  abbrev whole : Result (Passed E P) Refusal
+  abbrev whole : Result (PassResult E P) Refusal
   whole = passed m j plan carry seed cycle pass es
 
-  abbrev all : Passed E P
+  abbrev all : PassResult E P
   all = together (m.joined j) (m.unit_part j) at B
 
   -- the result, if the least refusing block is known or none refuses

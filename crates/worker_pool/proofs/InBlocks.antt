@@ -5,9 +5,9 @@ use mathlib.Core.Logic.{dite}
 use native.Mathlib.Decide.{ℕ_discrete}
 use Rattle.std.proofs.Math.Seq.{take-add}
 use Rattle.std.proofs.lemmas.List.{take_all}
-use Rattle.det_client.specs.element_random.Words.{key}
+use Rattle.det_client.specs.element_random.RandomStreams.{key}
 use Rattle.job.specs.Meaning.{Meaning}
-use Rattle.job.specs.Pass.{Passed, Refusal, nothing, more, taken, passed, block, block_size, in_block}
+use Rattle.job.specs.Pass.{PassResult, Refusal, nothing, more, taken, passed, block, block_size, in_block}
 use Rattle.job.proofs.Sizes.{begins, covers}
 use Rattle.job.specs.Passes.{blocks_of}
 use Rattle.pass_in_blocks.specs.Steps.{beside}
@@ -20,46 +20,46 @@ append_nil (e ∷ es) = ap (λ (r : List _). e ∷ r) (append_nil es)
 three : {A : Type 0} (es fs gs : List A) → (es ++ fs) ++ gs ≡ es ++ (fs ++ gs)
 three es fs gs = simp append_assoc
 
-abbrev done : {E P : Type 0} → List E → List ℕ → P → Passed E P
+abbrev done : {E P : Type 0} → List E → List ℕ → P → PassResult E P
 done es ds p = record { elements = es; draws = ds; part = p }
 
 module _ {E P : Type 0} (join : P → P → P) where
   -- a result after an earlier one
-  abbrev pub onto : Passed E P → Result (Passed E P) Refusal → Result (Passed E P) Refusal
+  abbrev pub onto : PassResult E P → Result (PassResult E P) Refusal → Result (PassResult E P) Refusal
   onto d (Ok e) = Ok (beside join d e)
   onto d (Err r) = Err r
 
-  abbrev pub then : Result (Passed E P) Refusal → Result (Passed E P) Refusal → Result (Passed E P) Refusal
+  abbrev pub then : Result (PassResult E P) Refusal → Result (PassResult E P) Refusal → Result (PassResult E P) Refusal
   then (Ok d) a = onto d a
   then (Err r) a = Err r
 
-  done_next : (unit : P) (d : Passed E P) (a : Result (Passed E P) Refusal) → is_err a ≡ false
+  done_next : (unit : P) (d : PassResult E P) (a : Result (PassResult E P) Refusal) → is_err a ≡ false
       → onto d a ≡ Ok (beside join d (left_by join unit a))
   done_next unit d (Ok e) h = refl
   done_next unit d (Err r) h = absurd (cc)
 
-  stops : (d : Passed E P) (a : Result (Passed E P) Refusal) → is_err a ≡ true → onto d a ≡ a
+  stops : (d : PassResult E P) (a : Result (PassResult E P) Refusal) → is_err a ≡ true → onto d a ≡ a
   stops d (Err r) h = refl
   stops d (Ok e) h = absurd (cc)
 
-  stays_stopped : (a c : Result (Passed E P) Refusal) → is_err a ≡ true → then a c ≡ a
+  stays_stopped : (a c : Result (PassResult E P) Refusal) → is_err a ≡ true → then a c ≡ a
   stays_stopped (Err r) c h = refl
   stays_stopped (Ok d) c h = absurd (cc)
 
 -- the elements in two portions
 module _ {S G E L P : Type 0} (m : Meaning S G E L P) (j : S) (plan : L) (carry : P) (seed cycle pass : ℕ) where
-  abbrev from : ℕ → List E → Passed E P → Result (Passed E P) Refusal
+  abbrev from : ℕ → List E → PassResult E P → Result (PassResult E P) Refusal
   from = taken m j plan carry seed cycle pass
 
   abbrev drew : ℕ → E → ℕ
   drew i e = m.drawn j plan carry pass e (key seed cycle pass i)
 
   -- the result of further elements
-  abbrev pub on_with : ℕ → List E → Result (Passed E P) Refusal → Result (Passed E P) Refusal
+  abbrev pub on_with : ℕ → List E → Result (PassResult E P) Refusal → Result (PassResult E P) Refusal
   on_with i es (Ok d) = taken m j plan carry seed cycle pass i es d
   on_with i es (Err r) = Err r
 
-  pub through : (i n : ℕ) (es fs : List E) (d : Passed E P) → n ≡ i + length es
+  pub through : (i n : ℕ) (es fs : List E) (d : PassResult E P) → n ≡ i + length es
       → taken m j plan carry seed cycle pass i (es ++ fs) d ≡ on_with n fs (taken m j plan carry seed cycle pass i es d)
   through i n [] fs d is = ap (λ (k : ℕ). from k fs d) (omega arith)
   through i n (e ∷ es) fs d is =
@@ -83,16 +83,16 @@ module _ {S G E L P : Type 0} (m : Meaning S G E L P) (j : S) (plan : L) (carry 
     abbrev join : P → P → P
     join = m.joined j
 
-    abbrev none : Passed E P
+    abbrev none : PassResult E P
     none = nothing m j plan carry seed cycle pass
 
-    onto_twice : (d e : Passed E P) (a : Result (Passed E P) Refusal) → onto join d (onto join e a) ≡ onto join (beside join d e) a
+    onto_twice : (d e : PassResult E P) (a : Result (PassResult E P) Refusal) → onto join d (onto join e a) ≡ onto join (beside join d e) a
     onto_twice d e (Err r) = refl
     onto_twice d e (Ok f) = λ k. Ok (done (sym (three d.elements e.elements f.elements) k) (sym (three d.draws e.draws f.draws) k)
         (sym (assoc d.part e.part f.part) k))
 
     -- the earlier result comes before the result from nothing
-    from_nothing : (i : ℕ) (es : List E) (d : Passed E P) → from i es d ≡ onto join d (from i es none)
+    from_nothing : (i : ℕ) (es : List E) (d : PassResult E P) → from i es d ≡ onto join d (from i es none)
     from_nothing i [] d = λ k. Ok (done (sym (append_nil d.elements) k) (sym (append_nil d.draws) k) (sym (right d.part) k))
     from_nothing i (e ∷ es) d =
         elim (m.worked j plan carry pass e (key seed cycle pass i)) as (λ r.
@@ -106,7 +106,7 @@ module _ {S G E L P : Type 0} (m : Meaning S G E L P) (j : S) (plan : L) (carry 
           | Err c ↦
               Err (record { element = i; code = c })
         ])) [
-          | Ok w ↦ let one : Passed E P = more m j plan carry seed cycle pass none w (drew i e) in
+          | Ok w ↦ let one : PassResult E P = more m j plan carry seed cycle pass none w (drew i e) in
               from_nothing (i + 1) es (more m j plan carry seed cycle pass d w (drew i e))
               ∙ (λ k. onto join (done (d.elements ++ w.element ∷ []) (d.draws ++ drew i e ∷ []) (join d.part (sym (left w.part) k)))
               (from (i + 1) es none))
@@ -114,22 +114,22 @@ module _ {S G E L P : Type 0} (m : Meaning S G E L P) (j : S) (plan : L) (carry 
           | Err c ↦ refl
         ]
 
-    on_is_then : (i : ℕ) (es : List E) (a : Result (Passed E P) Refusal) → on_with i es a ≡ then join a (from i es none)
+    on_is_then : (i : ℕ) (es : List E) (a : Result (PassResult E P) Refusal) → on_with i es a ≡ then join a (from i es none)
     on_is_then i es (Ok d) = from_nothing i es d
     on_is_then i es (Err r) = refl
 
     module _ (es : List E) where
-      abbrev at : ℕ → Result (Passed E P) Refusal
+      abbrev at : ℕ → Result (PassResult E P) Refusal
       at b = block m j plan carry seed cycle pass b es
 
-      abbrev first : ℕ → Result (Passed E P) Refusal
+      abbrev first : ℕ → Result (PassResult E P) Refusal
       first zero = Ok none
       first (suc n) = then join (first n) (at n)
 
-      abbrev all : ℕ → Passed E P
+      abbrev all : ℕ → PassResult E P
       all n = together join (m.unit_part j) at n
 
-      abbrev whole : List E → Result (Passed E P) Refusal
+      abbrev whole : List E → Result (PassResult E P) Refusal
       whole = passed m j plan carry seed cycle pass
 
       abbrev w : ℕ
@@ -145,7 +145,7 @@ module _ {S G E L P : Type 0} (m : Meaning S G E L P) (j : S) (plan : L) (carry 
           ap (λ (k : ℕ). whole (take k es)) next ∙ ap whole (take-add (w * n) w es)
           ∙ through 0 (w * n) (take (w * n) es) (in_block (length es) n es) none (omega arith)
           ∙ on_is_then (w * n) (in_block (length es) n es) (whole (take (w * n) es))
-          ∙ ap (λ (a : Result (Passed E P) Refusal). then join a (at n)) ih
+          ∙ ap (λ (a : Result (PassResult E P) Refusal). then join a (at n)) ih
 
       in_blocks : whole es ≡ first (blocks_of (length es))
       in_blocks = ap whole (sym (take_all (w * blocks_of (length es)) es (covers (length es))))
@@ -153,7 +153,7 @@ module _ {S G E L P : Type 0} (m : Meaning S G E L P) (j : S) (plan : L) (carry 
 
       first_all : (n : ℕ) → ((b : ℕ) → b < n → refuses at b ≡ false) → first n ≡ Ok (all n)
       first_all zero ok = refl
-      first_all (suc n) ok = ap (λ (a : Result (Passed E P) Refusal). then join a (at n)) (first_all n (λ b lt. ok b (omega arith)))
+      first_all (suc n) ok = ap (λ (a : Result (PassResult E P) Refusal). then join a (at n)) (first_all n (λ b lt. ok b (omega arith)))
           ∙ done_next join (m.unit_part j) (all n) (at n) (ok n (omega arith))
 
       -- no block refuses
@@ -163,9 +163,9 @@ module _ {S G E L P : Type 0} (m : Meaning S G E L P) (j : S) (plan : L) (carry 
       first_stops : (l n : ℕ) → l < n → refuses at l ≡ true → ((b : ℕ) → b < l → refuses at b ≡ false) → first n ≡ at l
       first_stops l zero lt says ok = absurd (omega arith)
       first_stops l (suc n) lt says ok = dite (ℕ_discrete n l)
-          (λ e. ap (λ (a : Result (Passed E P) Refusal). then join a (at n)) (first_all n (λ b h. ok b (omega arith)))
+          (λ e. ap (λ (a : Result (PassResult E P) Refusal). then join a (at n)) (first_all n (λ b h. ok b (omega arith)))
           ∙ ap (λ (k : ℕ). onto join (all n) (at k)) e ∙ stops join (all n) (at l) says)
-          (λ ne. ap (λ (a : Result (Passed E P) Refusal). then join a (at n)) (first_stops l n (omega arith) says ok)
+          (λ ne. ap (λ (a : Result (PassResult E P) Refusal). then join a (at n)) (first_stops l n (omega arith) says ok)
           ∙ stays_stopped join (at l) (at n) says)
 
       -- block l is the least that refuses

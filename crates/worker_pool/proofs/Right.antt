@@ -2,18 +2,18 @@
 use Rattle.std.proofs.Common.{◌≡◌, ℕ, ◌<◌, ◌≤◌, List, [], ◌∷◌, map, Result, refl, arith}
 use Rattle.std.specs.List.{All}
 use Rattle.std.proofs.lemmas.List.Elements.{All-nil, All-cons, All-head, All-tail, All-append, All-same}
-use Rattle.job.specs.Pass.{Passed, Refusal}
-use Rattle.pass_in_blocks.specs.declared.answers.BlockResult.{BlockResult}
-use Rattle.pass_in_blocks.specs.Answers.{IsRight, AreRight}
-use Rattle.worker_pool.specs.declared.view.Mark.{Mark}
-use Rattle.worker_pool.specs.declared.view.Mark.TheVariants.{Open, Finished, Reported, Skipped}
-use Rattle.worker_pool.specs.declared.view.PoolEntry.{PoolEntry}
-use Rattle.worker_pool.specs.declared.view.PoolView.{PoolView}
+use Rattle.job.specs.Pass.{PassResult, Refusal}
+use Rattle.pass_in_blocks.specs.declared.block_answer.BlockResult.{BlockResult}
+use Rattle.pass_in_blocks.specs.BlockAnswers.{IsRight, AreRight}
+use Rattle.worker_pool.specs.declared.pool_view.Mark.{Mark}
+use Rattle.worker_pool.specs.declared.pool_view.Mark.TheVariants.{Open, Finished, Reported, Skipped}
+use Rattle.worker_pool.specs.declared.pool_view.PoolEntry.{PoolEntry}
+use Rattle.worker_pool.specs.declared.pool_view.PoolView.{PoolView}
 use Rattle.worker_pool.specs.Views.{Below}
 use Rattle.worker_pool.specs.Results.{shown, result_at, results_of, Works}
 
-module _ {E P : Type 0} (block : ℕ → Result (Passed E P) Refusal) (blocks : ℕ) where
-  abbrev IsOf : ℕ × Result (Passed E P) Refusal → Type 0
+module _ {E P : Type 0} (block : ℕ → Result (PassResult E P) Refusal) (blocks : ℕ) where
+  abbrev IsOf : ℕ × Result (PassResult E P) Refusal → Type 0
   IsOf q = (q.0 < blocks) × (q.1 ≡ block q.0)
 
   at_right : (k : Mark) (b : ℕ) → b < blocks → All IsOf (result_at block k b)

@@ -6,13 +6,13 @@ use Rattle.std.specs.Global.{Global}
 use Rattle.std.specs.declared.vec.Vec.{Vec}
 use Rattle.det_values.specs.declared.out_of_memory.OutOfMemory.{OutOfMemory}
 use Rattle.job.specs.Meaning.{Meaning}
-use Rattle.job.specs.Pass.{Passed, Refusal}
-use Rattle.pass_in_blocks.specs.declared.answers.BlockResult.{BlockResult}
+use Rattle.job.specs.Pass.{PassResult, Refusal}
+use Rattle.pass_in_blocks.specs.declared.block_answer.BlockResult.{BlockResult}
 use Rattle.worker_pool.specs.declared.seat.PassSeat.{PassSeat}
 use Rattle.worker_pool.specs.declared.task.Task.{Task}
-use Rattle.worker_pool.specs.declared.view.Mark.{Mark}
-use Rattle.worker_pool.specs.declared.view.PoolEntry.{PoolEntry}
-use Rattle.worker_pool.specs.declared.view.PoolView.{PoolView}
+use Rattle.worker_pool.specs.declared.pool_view.Mark.{Mark}
+use Rattle.worker_pool.specs.declared.pool_view.PoolEntry.{PoolEntry}
+use Rattle.worker_pool.specs.declared.pool_view.PoolView.{PoolView}
 use Rattle.worker_pool.specs.Handles.{IsAt}
 use Rattle.worker_pool.specs.Views.{entry, Stands, joined}
 use Rattle.worker_pool.specs.Messages.{AreOf, IsShareOf, IsReply}
@@ -23,7 +23,7 @@ stands_before : (b : ℕ) (k : Mark) (es fs : List PoolEntry) → Stands b k es 
 stands_before b k [] fs h = absurd h
 stands_before b k (e ∷ es) fs h = ⊎_elim (λ (x : e ≡ entry b k). inl x) (λ (x : Stands b k es). inr (stands_before b k es fs x)) h
 
-module _ {E P : Type 0} (block : ℕ → Result (Passed E P) Refusal) (blocks : ℕ) where
+module _ {E P : Type 0} (block : ℕ → Result (PassResult E P) Refusal) (blocks : ℕ) where
   tried_joined : (v w : PoolView) → (blocks ≤ v.seen) ⊎ Stops v.entries → (blocks ≤ (joined v w).seen) ⊎ Stops (joined v w).entries
   tried_joined v w tried = ⊎_elim (λ (x : blocks ≤ v.seen). inl (omega arith)) (λ (x : Stops v.entries).
       inr (

@@ -1,6 +1,6 @@
 -- The parts of a table and a seat that clauses use.
 use Rattle.std.specs.Prelude.{◌≡◌, ℕ}
-use Rattle.worker_pool.specs.declared.view.PoolView.{PoolView}
+use Rattle.worker_pool.specs.declared.pool_view.PoolView.{PoolView}
 use Rattle.worker_pool.specs.declared.seat.PassTable.{PassTable}
 use Rattle.worker_pool.specs.declared.seat.PassSeat.{PassSeat}
 

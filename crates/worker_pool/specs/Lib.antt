@@ -6,6 +6,6 @@ pub mod Messages
 pub mod Moves
 pub mod Results
 pub mod Rule
-pub mod Shown
+pub mod MachineOfTable
 pub mod Steps
 pub mod Views

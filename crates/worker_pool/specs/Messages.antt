@@ -5,9 +5,9 @@ use Rattle.std.specs.Global.{Global}
 use Rattle.std.specs.declared.vec.Vec.{Vec}
 use Rattle.job.specs.Meaning.{Meaning}
 use Rattle.job.specs.Passes.{IsReady, block_in, blocks_in}
-use Rattle.pass_in_blocks.specs.Answers.{IsRight, Shows}
-use Rattle.pass_in_blocks.specs.Showing.{shown_in}
-use Rattle.pass_in_blocks.specs.declared.answers.BlockResult.{BlockResult}
+use Rattle.pass_in_blocks.specs.BlockAnswers.{IsRight, Shows}
+use Rattle.pass_in_blocks.specs.ShownElements.{shown_in}
+use Rattle.pass_in_blocks.specs.declared.block_answer.BlockResult.{BlockResult}
 use Rattle.det_values.specs.declared.out_of_memory.OutOfMemory.{OutOfMemory}
 use Rattle.worker_pool.specs.declared.messages.Reply.{Reply}
 use Rattle.worker_pool.specs.declared.messages.Work.{Work}

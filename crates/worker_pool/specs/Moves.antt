@@ -1,7 +1,7 @@
 -- A table as it is made, and after a step.
 use Rattle.std.specs.Prelude.{ℕ, ◌+◌, List, [], replicate, slice_set}
 use Rattle.atomic_table.specs.Table.{opening, stepped, keeps}
-use Rattle.worker_pool.specs.declared.view.PoolView.{PoolView}
+use Rattle.worker_pool.specs.declared.pool_view.PoolView.{PoolView}
 use Rattle.worker_pool.specs.Rule.{PoolState}
 use Rattle.worker_pool.specs.Views.{fresh, no_block, all_shares}
 

@@ -1,12 +1,12 @@
 -- The work that a worker has done: the marks of its entries, and its results.
 use Rattle.std.specs.Prelude.{◌≡◌, ℕ, ◌+◌, ◌≤◌, ◌⊎◌, true, false, List, [], ◌∷◌, ◌++◌, map, Result}
-use Rattle.job.specs.Pass.{Passed, Refusal}
-use Rattle.worker_pool.specs.declared.view.Mark.{Mark}
-use Rattle.worker_pool.specs.declared.view.Mark.TheVariants.{Open, Finished, Reported, Skipped}
-use Rattle.worker_pool.specs.declared.view.PoolEntry.{PoolEntry}
-use Rattle.worker_pool.specs.declared.view.PoolView.{PoolView}
-use Rattle.pass_in_blocks.specs.declared.answers.BlockResult.{BlockResult}
-use Rattle.pass_in_blocks.specs.Answers.{answer_of}
+use Rattle.job.specs.Pass.{PassResult, Refusal}
+use Rattle.worker_pool.specs.declared.pool_view.Mark.{Mark}
+use Rattle.worker_pool.specs.declared.pool_view.Mark.TheVariants.{Open, Finished, Reported, Skipped}
+use Rattle.worker_pool.specs.declared.pool_view.PoolEntry.{PoolEntry}
+use Rattle.worker_pool.specs.declared.pool_view.PoolView.{PoolView}
+use Rattle.pass_in_blocks.specs.declared.block_answer.BlockResult.{BlockResult}
+use Rattle.pass_in_blocks.specs.BlockAnswers.{answer_of}
 use Rattle.worker_pool.specs.Views.{Stands, Below}
 use Rattle.worker_pool.specs.Gather.{refuses}
 
@@ -20,11 +20,11 @@ abbrev pub Stops : List PoolEntry → Type 0
 Stops es = (b : ℕ) × (Stands b Reported es ⊎ Stands b Skipped es)
 
 module _ {E P : Type 0} where
-  abbrev pub shown : BlockResult E P → ℕ × Result (Passed E P) Refusal
+  abbrev pub shown : BlockResult E P → ℕ × Result (PassResult E P) Refusal
   shown r = (r.block, answer_of r.answer)
 
 -- given the result of each block
-module _ {E P : Type 0} (block : ℕ → Result (Passed E P) Refusal) where
+module _ {E P : Type 0} (block : ℕ → Result (PassResult E P) Refusal) where
   -- no block is Open, a Finished block isn't a refusal, and a Reported block is one
   abbrev pub IsHonest : Mark → ℕ → Type 0
   IsHonest Open b = ⊥
@@ -37,13 +37,13 @@ module _ {E P : Type 0} (block : ℕ → Result (Passed E P) Refusal) where
   Honest (e ∷ es) = IsHonest e.mark e.block × Honest es
 
   -- a result for an entry that is Finished or Reported, and for no other
-  abbrev pub result_at : Mark → ℕ → List (ℕ × Result (Passed E P) Refusal)
+  abbrev pub result_at : Mark → ℕ → List (ℕ × Result (PassResult E P) Refusal)
   result_at Open b = []
   result_at Finished b = (b, block b) ∷ []
   result_at Reported b = (b, block b) ∷ []
   result_at Skipped b = []
 
-  abbrev pub results_of : List PoolEntry → List (ℕ × Result (Passed E P) Refusal)
+  abbrev pub results_of : List PoolEntry → List (ℕ × Result (PassResult E P) Refusal)
   results_of [] = []
   results_of (e ∷ es) = result_at e.mark e.block ++ results_of es
 

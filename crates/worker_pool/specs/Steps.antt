@@ -3,8 +3,8 @@ use Rattle.std.specs.Prelude.{◌≡◌, ℕ, ◌<◌, ◌≤◌, ◌⊎◌, min
 use mathlib.Core.Option.{some}
 use lib.ListN.{get_elem?}
 use Rattle.atomic_table.specs.Table.{Me, Step}
-use Rattle.worker_pool.specs.declared.view.PoolView.{PoolView}
-use Rattle.worker_pool.specs.declared.view.Mark.TheVariants.{Finished, Reported, Skipped}
+use Rattle.worker_pool.specs.declared.pool_view.PoolView.{PoolView}
+use Rattle.worker_pool.specs.declared.pool_view.Mark.TheVariants.{Finished, Reported, Skipped}
 use Rattle.worker_pool.specs.Views.{taken, passed, with_mark, least_in}
 use Rattle.worker_pool.specs.declared.seat.PassTable.{PassTable}
 use Rattle.worker_pool.specs.declared.seat.PassSeat.{PassSeat}

@@ -2,10 +2,10 @@
 -- seen, and its shares of the table.
 use Rattle.std.specs.Prelude.{◌≡◌, ℕ, ◌+◌, ◌-◌, ◌<◌, ◌≤◌, ◌==◌, min, max, cond, List, [], ◌∷◌, ◌++◌}
 use Rattle.std.specs.Prelude.{◌⊎◌}
-use Rattle.worker_pool.specs.declared.view.Mark.{Mark}
-use Rattle.worker_pool.specs.declared.view.Mark.TheVariants.{Open, Finished, Reported, Skipped}
-use Rattle.worker_pool.specs.declared.view.PoolEntry.{PoolEntry}
-use Rattle.worker_pool.specs.declared.view.PoolView.{PoolView}
+use Rattle.worker_pool.specs.declared.pool_view.Mark.{Mark}
+use Rattle.worker_pool.specs.declared.pool_view.Mark.TheVariants.{Open, Finished, Reported, Skipped}
+use Rattle.worker_pool.specs.declared.pool_view.PoolEntry.{PoolEntry}
+use Rattle.worker_pool.specs.declared.pool_view.PoolView.{PoolView}
 
 abbrev pub entry : ℕ → Mark → PoolEntry
 entry b m = record { block = b; mark = m }

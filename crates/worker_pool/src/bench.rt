@@ -1,11 +1,11 @@
 //! The memory in which a crew's kept threads run their blocks, and its way back to the caller.
 
-use crate::line::{Line, clear_line};
+use crate::link::{Link, clear_link};
 use job::{Job, PassRoom};
 use pass_in_blocks::{BlockAnswer, BlockResult};
 use std::alloc::Global;
 use std::mem;
-use tickets::Room;
+use tickets::OfficeName;
 
 /// More spares than any room holds.
 const ALL: usize = usize::MAX;
@@ -54,25 +54,25 @@ fn keep_answer<E: Drop, P: Drop>(room: &mut PassRoom<E, P>, answer: BlockAnswer<
 
 /// Moves the spares of all benches back to the caller's room, late replies' memory included. No
 /// pass may wait for replies.
-pub(crate) fn clear_benches<J: Job, B: Room>(
-    lines: &mut [Line<J, B>],
+pub(crate) fn clear_benches<J: Job, B: OfficeName>(
+    links: &mut [Link<J, B>],
     room: &mut PassRoom<J::Element, J::Part>,
 ) {
-    'each: for line in lines {
-        clear_line(line);
-        line.bench.room.give(room, ALL);
+    'each: for link in links {
+        clear_link(link);
+        link.bench.room.give(room, ALL);
     }
 }
 
 /// Distributes the spares evenly: each bench gets as many as the caller keeps. So they don't gather
 /// at a worker that runs few blocks, and the crew's memory stops growing.
-pub(crate) fn fill_benches<J: Job, B: Room>(
-    lines: &mut [Line<J, B>],
+pub(crate) fn fill_benches<J: Job, B: OfficeName>(
+    links: &mut [Link<J, B>],
     room: &mut PassRoom<J::Element, J::Part>,
 ) {
-    clear_benches(lines, room);
-    let count = room.elements.blocks() / (lines.len() + 1);
-    'each: for line in lines {
-        room.give(&mut line.bench.room, count);
+    clear_benches(links, room);
+    let count = room.elements.blocks() / (links.len() + 1);
+    'each: for link in links {
+        room.give(&mut link.bench.room, count);
     }
 }

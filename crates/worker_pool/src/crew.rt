@@ -2,23 +2,23 @@
 //! processor for milliseconds, so new threads for each pass would mostly run one after another.
 ghost use Rattle.std.specs.Prelude.{◌+◌, ◌<◌, ◌≤◌, ◌^◌, length, IfOk};
 ghost use Rattle.job.specs.Passes.{IsReady, IsAnswer, block_in, blocks_in};
-ghost use Rattle.pass_in_blocks.specs.Answers.{AreRight, AreShown};
-ghost use Rattle.pass_in_blocks.specs.Showing.{shown_in};
+ghost use Rattle.pass_in_blocks.specs.BlockAnswers.{AreRight, AreShown};
+ghost use Rattle.pass_in_blocks.specs.ShownElements.{shown_in};
 
 use crate::bench::{clear_benches, fill_benches};
 use crate::gate::Gate;
-use crate::line::Line;
-use crate::lines::work_together;
+use crate::link::Link;
+use crate::links::work_together;
 use crate::seat::PassTable;
-use crate::task::{HeldPass, Task};
+use crate::task::{OwnedPass, Task};
 use det_values::OutOfMemory;
-use job::{Job, PassDone, PassOf, PassRoom, Pool, PoolFault};
+use job::{Job, PassDone, PassRef, PassRoom, Pool, PoolFault};
 use pass_in_blocks::{BlockResult, finish_pass};
 use std::alloc::Global;
 use std::marker::Model;
 use std::sync::Arc;
 use std::thread::JoinHandle;
-use tickets::{Keeper, Room};
+use tickets::{Keeper, OfficeName};
 
 /// The number of passes after which the crew gives no work to its threads. It keeps the tickets'
 /// numbers within their bound.
@@ -28,15 +28,15 @@ const MOST_PASSES: u64 = 1_000_000_000_000;
 ///
 /// No result depends on a thread: blocks that a kept thread doesn't return in time are run by the
 /// caller. A crew can't be dropped, so its owner must call `stop`.
-pub struct Crew<J: Job, B: Room, G: Gate> {
+pub struct Crew<J: Job, B: OfficeName, G: Gate> {
     pub(crate) keeper: Keeper<Task<J>, B>,
-    pub(crate) lines: Vec<Line<J, B>>,
+    pub(crate) links: Vec<Link<J, B>>,
     pub(crate) handles: Vec<JoinHandle<()>>,
     pub(crate) workers: u32,
     pub(crate) gate: Arc<G, Global>,
 }
 
-impl<J: Job, B: Room, G: Gate> Model for Crew<J, B, G> {
+impl<J: Job, B: OfficeName, G: Gate> Model for Crew<J, B, G> {
     ghost use Rattle.std.specs.Prelude.{ℕ, ◌≤◌, ◌<◌, length};
 
     ghost Value = { ℕ };
@@ -44,18 +44,18 @@ impl<J: Job, B: Room, G: Gate> Model for Crew<J, B, G> {
     ghost view = { λ c. c.workers };
 
     ghost invariant = { λ c. (1 ≤ c.workers) × (c.workers ≤ 64)
-        × (length c.lines.items < c.workers) };
+        × (length c.links.items < c.workers) };
 }
 
 /// The results of a pass by the caller and these kept threads. Some blocks may be missing.
-fn shared_pass<J: Job, B: Room, G: Gate>(
+fn shared_pass<J: Job, B: OfficeName, G: Gate>(
     keeper: &mut Keeper<Task<J>, B>,
-    lines: &mut [Line<J, B>],
-    pass: &PassOf<'_, J>,
+    links: &mut [Link<J, B>],
+    pass: &PassRef<'_, J>,
     gate: &G,
     room: &mut PassRoom<J::Element, J::Part>,
 ) -> Result<Vec<BlockResult<J::Element, J::Part>>, OutOfMemory>
-    requires few { length lines.old ≤ 63 }
+    requires few { length links.old ≤ 63 }
     requires room { keeper.old.number < 2 ^ 63 }
     requires ready { IsReady J.meaning J.Covers J.Own J.Fit pass.now }
     ensures right { IfOk result (λ found. AreRight (block_in J.meaning pass.now)
@@ -63,15 +63,15 @@ fn shared_pass<J: Job, B: Room, G: Gate>(
     ensures shown { IfOk result (λ found. AreShown (shown_in J.meaning pass.now) found.items) }
 {
     let (table, mut seat) = PassTable::new(room.alloc(), pass.blocks())?;
-    let pass = HeldPass::of(pass)?;
+    let pass = OwnedPass::from_pass(pass)?;
     let Ok(task) = Arc::new(room.alloc(), Task { pass, table }) else {
         return Err(OutOfMemory);
     };
-    work_together(keeper, lines, &task, &mut seat, gate, room)
+    work_together(keeper, links, &task, &mut seat, gate, room)
 }
 
 /// Lets the workers from `first` on pass the gate on the caller's thread.
-fn enter_here<G: Gate>(gate: &G, first: u32, workers: u32) {
+fn enter_on_caller<G: Gate>(gate: &G, first: u32, workers: u32) {
     for worker in first..workers {
         gate.enter(worker);
     }
@@ -79,41 +79,41 @@ fn enter_here<G: Gate>(gate: &G, first: u32, workers: u32) {
 
 /// A pass by the caller and the kept threads. At most as many threads get work as there are blocks
 /// besides the caller's first one. If none gets work, no table is made.
-fn crew_pass<J: Job, B: Room, G: Gate>(
+fn crew_pass<J: Job, B: OfficeName, G: Gate>(
     keeper: &mut Keeper<Task<J>, B>,
-    lines: &mut [Line<J, B>],
-    pass: &PassOf<'_, J>,
+    links: &mut [Link<J, B>],
+    pass: &PassRef<'_, J>,
     workers: u32,
     gate: &G,
     room: &mut PassRoom<J::Element, J::Part>,
 ) -> Result<PassDone<J::Element, J::Part>, PoolFault>
-    requires few { length lines.old < workers }
+    requires few { length links.old < workers }
     requires workers { workers ≤ 64 }
     requires ready { IsReady J.meaning J.Covers J.Own J.Fit pass.now }
     ensures { IsAnswer J.meaning J.Covers J.Own pass.now result }
 {
     let more = pass.blocks().saturating_sub(1) as usize;
-    let helpers = more.min(lines.len());
+    let helpers = more.min(links.len());
     if helpers == 0 || keeper.number() >= MOST_PASSES {
-        enter_here(gate, 0, workers);
+        enter_on_caller(gate, 0, workers);
         return finish_pass(pass, Vec::new(room.alloc()), room);
     }
-    fill_benches(lines, room);
-    let results = shared_pass(keeper, &mut lines[..helpers], pass, gate, room)?;
-    enter_here(gate, helpers as u32 + 1, workers);
-    clear_benches(lines, room);
+    fill_benches(links, room);
+    let results = shared_pass(keeper, &mut links[..helpers], pass, gate, room)?;
+    enter_on_caller(gate, helpers as u32 + 1, workers);
+    clear_benches(links, room);
     finish_pass(pass, results, room)
 }
 
-impl<J: Job, B: Room, G: Gate> Pool<J> for Crew<J, B, G> {
+impl<J: Job, B: OfficeName, G: Gate> Pool<J> for Crew<J, B, G> {
     fn run_pass(
         &mut self,
-        pass: &PassOf<'_, J>,
+        pass: &PassRef<'_, J>,
         room: &mut PassRoom<J::Element, J::Part>,
     ) -> Result<PassDone<J::Element, J::Part>, PoolFault> {
         crew_pass(
             &mut self.keeper,
-            self.lines.as_mut_slice(),
+            self.links.as_mut_slice(),
             pass,
             self.workers,
             &*self.gate,

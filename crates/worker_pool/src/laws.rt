@@ -9,17 +9,17 @@ ghost use Rattle.std.specs.Prelude.{slice_index, slice_set, Result};
 ghost use mathlib.Core.Option.{some};
 ghost use lib.ListN.{get_elem?};
 ghost use Rattle.job.specs.Passes.{blocks_of};
-ghost use Rattle.job.specs.Pass.{Passed, Refusal, passed as passed_in_order, block};
+ghost use Rattle.job.specs.Pass.{PassResult, Refusal, passed as passed_in_order, block};
 ghost use Rattle.worker_pool.specs.Gather.{gather, refuses};
 ghost use Rattle.worker_pool.specs.Machine.{Machine, Event, claim, finish, look, report, Has};
 ghost use Rattle.worker_pool.specs.Machine.{after, next, start, Leads, HasEnded};
-ghost use Rattle.worker_pool.specs.declared.view.Mark.TheVariants.{Open, Finished, Reported};
-ghost use Rattle.worker_pool.specs.declared.view.Mark.TheVariants.{Skipped};
-ghost use Rattle.worker_pool.specs.declared.view.PoolView.{PoolView};
+ghost use Rattle.worker_pool.specs.declared.pool_view.Mark.TheVariants.{Open, Finished, Reported};
+ghost use Rattle.worker_pool.specs.declared.pool_view.Mark.TheVariants.{Skipped};
+ghost use Rattle.worker_pool.specs.declared.pool_view.PoolView.{PoolView};
 ghost use Rattle.worker_pool.specs.Views.{Stands, taken, passed, with_mark, one_less, newcomer};
 ghost use Rattle.worker_pool.specs.Views.{joined, fresh};
 ghost use Rattle.worker_pool.specs.Rule.{PoolState};
-ghost use Rattle.worker_pool.specs.Shown.{At, Becomes};
+ghost use Rattle.worker_pool.specs.MachineOfTable.{At, Becomes};
 ghost use Rattle.worker_pool.specs.Moves.{begun, moved, regrouped};
 
 use job::Job;
@@ -70,7 +70,7 @@ pub fn any_schedule<J: Job>()
         (elements : List J.Element)
         (events : List Event) (end : Machine) → length elements ≤ 65536
         → let blocks : ℕ = blocks_of (length elements) in
-        let answer : ℕ → Result (Passed J.Element J.Part) Refusal =
+        let answer : ℕ → Result (PassResult J.Element J.Part) Refusal =
         λ b. block J.meaning job plan carry seed cycle pass b elements in
         Leads blocks (refuses answer) events start end → HasEnded blocks end
         → gather (J.meaning.joined job) (J.meaning.unit_part job) answer blocks end

@@ -9,11 +9,11 @@ use pass_in_blocks::BlockResult;
 use rtrb::Protocol;
 use std::alloc::Global;
 use std::sync::Arc;
-use tickets::{Room, Ticket};
+use tickets::{OfficeName, Ticket};
 
 /// A piece of work: a task, a seat at its table, a ticket for it, and memory to work in.
 #[derive(Drop)]
-pub struct Work<J: Job, B: Room> {
+pub struct Work<J: Job, B: OfficeName> {
     pub ticket: Ticket<Task<J>, B>,
     pub task: Arc<Task<J>, Global>,
     pub seat: PassSeat,
@@ -23,7 +23,7 @@ pub struct Work<J: Job, B: Room> {
 /// A reply: the ticket, the seat, the results of the blocks that the worker claimed, and the room
 /// that it worked in.
 #[derive(Drop)]
-pub struct Reply<J: Job, B: Room> {
+pub struct Reply<J: Job, B: OfficeName> {
     pub ticket: Ticket<Task<J>, B>,
     pub seat: PassSeat,
     pub results: Result<Vec<BlockResult<J::Element, J::Part>>, OutOfMemory>,
@@ -33,7 +33,7 @@ pub struct Reply<J: Job, B: Room> {
 /// The protocol of work: the ticket, the task and the seat of a message belong together.
 pub struct WorkFits;
 
-impl<J: Job, B: Room> Protocol<Work<J, B>> for WorkFits {
+impl<J: Job, B: OfficeName> Protocol<Work<J, B>> for WorkFits {
     ghost use Rattle.std.specs.Arc.{arc_value};
     ghost use Rattle.worker_pool.specs.Messages.{IsWork};
 
@@ -44,7 +44,7 @@ impl<J: Job, B: Room> Protocol<Work<J, B>> for WorkFits {
 /// The protocol of replies: the results are right for the task of the ticket.
 pub struct ReplyFits;
 
-impl<J: Job, B: Room> Protocol<Reply<J, B>> for ReplyFits {
+impl<J: Job, B: OfficeName> Protocol<Reply<J, B>> for ReplyFits {
     ghost use Rattle.worker_pool.specs.Messages.{IsReply};
 
     ghost allows = { λ _ reply. IsReply J.meaning reply.ticket.work reply.seat

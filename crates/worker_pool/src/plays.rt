@@ -4,7 +4,7 @@ ghost use Rattle.std.specs.Prelude.{ℕ};
 ghost use Rattle.worker_pool.specs.Steps.{claims, finishes, looks, reports};
 ghost use Rattle.worker_pool.specs.Views.{one_less, newcomer, joined, fresh};
 
-use crate::view::PoolView;
+use crate::pool_view::PoolView;
 use atomic_table::{Join, Play, Split};
 use std::marker::{Brand, PhantomData};
 

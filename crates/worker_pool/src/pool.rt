@@ -4,21 +4,21 @@ ghost use Rattle.job.specs.Passes.{IsReady, IsAnswer};
 ghost use Rattle.worker_pool.specs.Crews.{room_name};
 
 use crate::crew::Crew;
+use crate::crew_room::CrewRoom;
 use crate::gate::Gate;
-use crate::room::CrewRoom;
-use job::{Job, PassDone, PassOf, PassRoom, Pool, PoolFault};
+use job::{Job, PassDone, PassRef, PassRoom, Pool, PoolFault};
 use std::alloc::Global;
 use std::marker::Brand;
 use std::sync::Arc;
 use std::thread::Threads;
-use tickets::Room;
+use tickets::OfficeName;
 
 /// Runs one pass with a crew started in this room.
-fn run_in_room<J, B, G, R>(
+fn run_pass_with_crew<J, B, G, R>(
     rt: &R,
     alloc: Global,
     room: CrewRoom<J>,
-    pass: &PassOf<'_, J>,
+    pass: &PassRef<'_, J>,
     workers: u32,
     gate: &Arc<G, Global>,
 ) -> Result<PassDone<J::Element, J::Part>, PoolFault>
@@ -28,7 +28,7 @@ where
     J::Element: Send + Sync + 'static,
     J::Plan: Send + Sync + 'static,
     J::Part: Send + Sync + 'static,
-    B: Room + Send + Sync + 'static,
+    B: OfficeName + Send + Sync + 'static,
     G: Gate + Send + Sync + 'static,
     R: Threads,
     requires room { room_name room ≡ B.table }
@@ -50,7 +50,7 @@ where
 pub fn run_worker_pool<J, G, R>(
     rt: &R,
     alloc: Global,
-    pass: &PassOf<'_, J>,
+    pass: &PassRef<'_, J>,
     workers: u32,
     gate: &Arc<G, Global>,
 ) -> Result<PassDone<J::Element, J::Part>, PoolFault>
@@ -68,7 +68,7 @@ where
 {
     let room = CrewRoom::new(alloc)?;
     let busy = workers.min(pass.blocks().max(1));
-    let done = run_in_room::<J, Brand, G, R>(rt, alloc, room, pass, busy, gate);
+    let done = run_pass_with_crew::<J, Brand, G, R>(rt, alloc, room, pass, busy, gate);
     for worker in busy..workers {
         gate.enter(worker);
     }

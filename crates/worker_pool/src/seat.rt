@@ -1,7 +1,7 @@
 //! The table of a pass, a worker's seat at it, and the rule that the table keeps.
 ghost use Rattle.std.specs.Prelude.{◌≡◌, ◌+◌, ◌<◌, []};
 
-use crate::view::PoolView;
+use crate::pool_view::PoolView;
 use atomic_table::{Seat, Table, TableRule};
 use std::alloc::Global;
 

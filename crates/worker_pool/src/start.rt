@@ -4,10 +4,10 @@ ghost use Rattle.worker_pool.specs.Crews.{room_name};
 
 use crate::bench::Bench;
 use crate::crew::Crew;
+use crate::crew_room::CrewRoom;
 use crate::gate::Gate;
-use crate::line::{Line, MOST_REPLIES, serve};
+use crate::link::{Link, MOST_REPLIES, serve_link};
 use crate::messages::{ReplyFits, WorkFits};
-use crate::room::CrewRoom;
 use det_values::OutOfMemory;
 use job::Job;
 use rtrb::RingBuffer;
@@ -15,7 +15,7 @@ use std::alloc::Global;
 use std::sync::Arc;
 use std::thread;
 use std::thread::{JoinHandle, Threads};
-use tickets::{Keeper, Room};
+use tickets::{Keeper, OfficeName};
 
 /// The most threads of a crew, including the caller's. It is also the assumed number of processors
 /// if they can't be counted.
@@ -38,8 +38,8 @@ fn threads_for<R: Threads>(rt: &R, workers: u32) -> u32
 
 /// A kept thread after its start: the link to it, and its handle.
 #[derive(Drop)]
-struct Started<J: Job, B: Room> {
-    line: Line<J, B>,
+struct KeptThread<J: Job, B: OfficeName> {
+    link: Link<J, B>,
     handle: JoinHandle<()>,
 }
 
@@ -49,31 +49,31 @@ fn start_thread<J, B, G, R>(
     alloc: Global,
     worker: u32,
     gate: &Arc<G, Global>,
-) -> Result<Option<Started<J, B>>, OutOfMemory>
+) -> Result<Option<KeptThread<J, B>>, OutOfMemory>
 where
     J: Job + Send + Sync + 'static,
     J::Globals: Send + 'static,
     J::Element: Send + Sync + 'static,
     J::Plan: Send + Sync + 'static,
     J::Part: Send + Sync + 'static,
-    B: Room + Send + Sync + 'static,
+    B: OfficeName + Send + Sync + 'static,
     G: Gate + Send + Sync + 'static,
     R: Threads,
 {
     let gate = Arc::try_clone(gate)?;
     let (works, theirs) = RingBuffer::with_protocol::<Global, WorkFits>(alloc, 1)?;
     let (back, replies) = RingBuffer::with_protocol::<Global, ReplyFits>(alloc, MOST_REPLIES)?;
-    let thread = move || serve::<J, B, G>(worker, gate, theirs, back);
+    let thread = move || serve_link::<J, B, G>(worker, gate, theirs, back);
     let Ok(handle) = thread::spawn(rt, thread) else {
         return Ok(None);
     };
-    let line = Line::<J, B> {
+    let link = Link::<J, B> {
         works,
         replies,
         bench: Bench::new(alloc),
         is_busy: false,
     };
-    Ok(Some(Started { line, handle }))
+    Ok(Some(KeptThread { link, handle }))
 }
 
 /// Starts a kept thread for each worker except the caller, until the system refuses one.
@@ -82,7 +82,7 @@ fn start_threads<J, B, G, R>(
     alloc: Global,
     workers: u32,
     gate: &Arc<G, Global>,
-    lines: &mut Vec<Line<J, B>>,
+    links: &mut Vec<Link<J, B>>,
     handles: &mut Vec<JoinHandle<()>>,
 ) -> Result<(), OutOfMemory>
 where
@@ -91,19 +91,19 @@ where
     J::Element: Send + Sync + 'static,
     J::Plan: Send + Sync + 'static,
     J::Part: Send + Sync + 'static,
-    B: Room + Send + Sync + 'static,
+    B: OfficeName + Send + Sync + 'static,
     G: Gate + Send + Sync + 'static,
     R: Threads,
-    requires none { lines.old.items ≡ [] }
+    requires none { links.old.items ≡ [] }
     requires some { 1 ≤ workers }
-    ensures { length lines.new.items < workers }
+    ensures { length links.new.items < workers }
 {
     'start: for worker in 1..workers {
         let Some(started) = start_thread(rt, alloc, worker, gate)? else {
             break;
         };
-        let Started { line, handle } = started;
-        if handles.push(handle).is_err() || lines.push(line).is_err() {
+        let KeptThread { link, handle } = started;
+        if handles.push(handle).is_err() || links.push(link).is_err() {
             return Err(OutOfMemory);
         }
     }
@@ -117,7 +117,7 @@ where
     J::Element: Send + Sync + 'static,
     J::Plan: Send + Sync + 'static,
     J::Part: Send + Sync + 'static,
-    B: Room + Send + Sync + 'static,
+    B: OfficeName + Send + Sync + 'static,
     G: Gate + Send + Sync + 'static,
 {
     /// A crew of `workers` workers: the caller, and a kept thread for each other worker while there
@@ -136,14 +136,14 @@ where
         ensures { IfOk result (λ crew. crew ≡ workers) }
     {
         let more = workers as usize - 1;
-        let mut lines = Vec::with_capacity(alloc, more)?;
+        let mut links = Vec::with_capacity(alloc, more)?;
         let mut handles = Vec::with_capacity(alloc, more)?;
         let gate = Arc::try_clone(gate)?;
         let threads = threads_for(rt, workers);
-        let begun = start_threads(rt, alloc, threads, &gate, &mut lines, &mut handles);
+        let begun = start_threads(rt, alloc, threads, &gate, &mut links, &mut handles);
         let crew = Crew {
-            keeper: Keeper::of(room.office),
-            lines,
+            keeper: Keeper::new(room.office),
+            links,
             handles,
             workers,
             gate,
@@ -161,13 +161,13 @@ where
     pub fn stop<R: Threads>(self, rt: &R) {
         let Crew {
             keeper: _,
-            lines,
+            links,
             handles,
             workers: _,
             gate: _,
         } = self;
         // A thread ends when the other end of its ring is dropped.
-        drop(lines);
+        drop(links);
         for handle in handles {
             handle.join(rt);
         }

@@ -3,14 +3,14 @@ ghost use Rattle.std.specs.Prelude.{◌≡◌, IfOk};
 
 use crate::seat::PassTable;
 use det_values::{Container, OutOfMemory};
-use job::{Job, PassOf};
+use job::{Job, PassRef};
 use std::alloc::Global;
 use std::marker::Model;
 use std::sync::Arc;
 
 /// A pass that a thread may hold as long as it needs, since it owns its data.
 #[derive(Drop)]
-pub struct HeldPass<J: Job> {
+pub struct OwnedPass<J: Job> {
     pub job: Arc<J, Global>,
     pub plan: Arc<J::Plan, Global>,
     pub carry: Arc<J::Part, Global>,
@@ -22,7 +22,7 @@ pub struct HeldPass<J: Job> {
     pub shows: bool,
 }
 
-impl<J: Job> Model for HeldPass<J> {
+impl<J: Job> Model for OwnedPass<J> {
     ghost use Rattle.std.specs.Arc.{arc_value};
     ghost use Rattle.job.specs.Passes.{PassValue};
 
@@ -41,12 +41,12 @@ impl<J: Job> Model for HeldPass<J> {
     } };
 }
 
-impl<J: Job> HeldPass<J> {
+impl<J: Job> OwnedPass<J> {
     /// The same pass with its own owners of the data.
-    pub fn of(pass: &PassOf<'_, J>) -> Result<HeldPass<J>, OutOfMemory>
+    pub fn from_pass(pass: &PassRef<'_, J>) -> Result<OwnedPass<J>, OutOfMemory>
         ensures { IfOk result (λ held. held ≡ pass.now) }
     {
-        Ok(HeldPass {
+        Ok(OwnedPass {
             job: Arc::try_clone(pass.job)?,
             plan: Arc::try_clone(pass.plan)?,
             carry: Arc::try_clone(pass.carry)?,
@@ -60,10 +60,10 @@ impl<J: Job> HeldPass<J> {
     }
 
     /// The pass, borrowed.
-    pub fn pass(&self) -> PassOf<'_, J>
+    pub fn pass(&self) -> PassRef<'_, J>
         ensures { result ≡ self.now }
     {
-        PassOf {
+        PassRef {
             job: &self.job,
             plan: &self.plan,
             carry: &self.carry,
@@ -80,6 +80,6 @@ impl<J: Job> HeldPass<J> {
 /// A pass, and the table on which the workers claim its blocks.
 #[derive(Drop)]
 pub struct Task<J: Job> {
-    pub pass: HeldPass<J>,
+    pub pass: OwnedPass<J>,
     pub table: PassTable,
 }

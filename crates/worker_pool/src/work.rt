@@ -1,16 +1,16 @@
 //! The work of one worker in a pass: it claims blocks and runs them.
 ghost use Rattle.std.specs.Prelude.{◌≡◌, [], ◌+◌, ◌<◌, ◌≤◌, ◌⊎◌, IfOk, OnErr, IsTrue};
 ghost use Rattle.job.specs.Passes.{IsReady, block_in, blocks_in};
-ghost use Rattle.pass_in_blocks.specs.Answers.{AreRight, AreShown};
-ghost use Rattle.pass_in_blocks.specs.Showing.{shown_in};
-ghost use Rattle.worker_pool.specs.declared.view.PoolView.{PoolView};
+ghost use Rattle.pass_in_blocks.specs.BlockAnswers.{AreRight, AreShown};
+ghost use Rattle.pass_in_blocks.specs.ShownElements.{shown_in};
+ghost use Rattle.worker_pool.specs.declared.pool_view.PoolView.{PoolView};
 ghost use Rattle.worker_pool.specs.Handles.{view_of, block_count, IsAt, IsSameSeat};
 ghost use Rattle.worker_pool.specs.Results.{Stops, Tidy, Works};
 ghost use Rattle.worker_pool.specs.Views.{taken, IsNew};
 
 use crate::seat::{PassSeat, PassTable};
 use det_values::OutOfMemory;
-use job::{Job, PassOf, PassRoom};
+use job::{Job, PassRef, PassRoom};
 use pass_in_blocks::{BlockResult, BlockResults, run_block};
 
 /// Tries to claim the next block and runs it. Returns whether to go on. A block above a known
@@ -19,7 +19,7 @@ use pass_in_blocks::{BlockResult, BlockResults, run_block};
 fn try_block<J: Job>(
     table: &PassTable,
     seat: &mut PassSeat,
-    pass: &PassOf<'_, J>,
+    pass: &PassRef<'_, J>,
     room: &mut PassRoom<J::Element, J::Part>,
     results: &mut BlockResults<J::Element, J::Part>,
 ) -> Result<bool, OutOfMemory>
@@ -58,7 +58,10 @@ fn try_block<J: Job>(
 
 /// An empty list of results in the memory of `list`. It reserves room for `count` results at once;
 /// if that fails, it grows later.
-fn emptied<E: Drop, P: Drop>(mut list: Vec<BlockResult<E, P>>, count: usize) -> BlockResults<E, P>
+fn reuse_list<E: Drop, P: Drop>(
+    mut list: Vec<BlockResult<E, P>>,
+    count: usize,
+) -> BlockResults<E, P>
     ensures { result ≡ [] }
 {
     list.clear();
@@ -72,7 +75,7 @@ fn emptied<E: Drop, P: Drop>(mut list: Vec<BlockResult<E, P>>, count: usize) -> 
 pub fn work_blocks<J: Job>(
     table: &PassTable,
     seat: &mut PassSeat,
-    pass: &PassOf<'_, J>,
+    pass: &PassRef<'_, J>,
     room: &mut PassRoom<J::Element, J::Part>,
     list: Vec<BlockResult<J::Element, J::Part>>,
 ) -> Result<BlockResults<J::Element, J::Part>, OutOfMemory>
@@ -93,7 +96,7 @@ pub fn work_blocks<J: Job>(
         × Tidy (block_in J.meaning pass.now) before
         × (before.seen < block_count table.now) × (view_of seat.new ≡ taken before)) }
 {
-    let mut results = emptied(list, table.blocks() as usize);
+    let mut results = reuse_list(list, table.blocks() as usize);
     'each: while seat.seen() < table.blocks() {
         if !try_block(table, seat, pass, room, &mut results)? {
             return Ok(results);

@@ -1,3 +1,3 @@
 pub mod Watched
 pub mod Ending
-pub mod Meeting
+pub mod SalvageMeets

@@ -5,7 +5,7 @@ pub mod Held
 pub mod Holding
 pub mod Parting
 pub mod InTurn
-pub mod Told
+pub mod RowsHeld
 pub mod Deciding
 pub mod Leaving
 pub mod Loop

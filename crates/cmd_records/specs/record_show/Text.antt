@@ -4,13 +4,13 @@ use Rattle.std.specs.Prelude.{Bool, true, false, unwrap_or, option_map, if◌the
 use Rattle.det_values.specs.declared.format.Format.{Format}
 use Rattle.det_values.specs.declared.format.Format.TheVariants.{One}
 use Rattle.det_values.specs.declared.frames.RunFrame.{RunFrame}
-use Rattle.record_grammar.specs.declared.fault.RecordFault.{RecordFault}
+use Rattle.record_grammar.specs.declared.record_fault.RecordFault.{RecordFault}
 use Rattle.record_grammar.specs.declared.item.Item.{Item}
 use Rattle.record_grammar.specs.declared.item.Item.TheVariants as items
 use Rattle.record_grammar.specs.Record.{items as items_in, fault as fault_in}
 use Rattle.record_reader.specs.InItems.{runs_in}
-use Rattle.record_text.specs.declared.part.ShowPart.{ShowPart}
-use Rattle.record_text.specs.declared.part.ShowPart.TheVariants.{All, Reports, Cycle}
+use Rattle.record_text.specs.declared.show_part.ShowPart.{ShowPart}
+use Rattle.record_text.specs.declared.show_part.ShowPart.TheVariants.{All, Reports, Cycle}
 use Rattle.record_text.specs.Records.{run_lines, record_lines}
 use Rattle.probes.specs.Reports.{AudienceState, reported}
 

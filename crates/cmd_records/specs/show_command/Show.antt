@@ -2,10 +2,10 @@
 use Rattle.std.specs.Prelude.{ℕ, List, Result, Ok, Err}
 use Rattle.det_io.specs.declared.failure.Stopped.{Stopped}
 use Rattle.det_io.specs.declared.failure.Stopped.TheVariants.{Refused, Failed}
-use Rattle.record_grammar.specs.declared.fault.RecordFault.{RecordFault}
+use Rattle.record_grammar.specs.declared.record_fault.RecordFault.{RecordFault}
 use Rattle.record_grammar.specs.Record.{fault}
 use Rattle.probes.specs.Reports.{AudienceState}
-use Rattle.record_text.specs.declared.part.ShowPart.{ShowPart}
+use Rattle.record_text.specs.declared.show_part.ShowPart.{ShowPart}
 use Rattle.cmd_records.specs.declared.record_show.shown.Shown.{Shown}
 use Rattle.cmd_records.specs.record_show.Text.{text_of}
 use Rattle.cli_answers.specs.declared.answer.Answer.{Answer}

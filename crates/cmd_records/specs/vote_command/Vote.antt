@@ -17,12 +17,12 @@ use Rattle.cmd_records.specs.voter.Majority.{majority, dissent, common, are_held
 use Rattle.cli_answers.specs.declared.answer.Answer.{Answer}
 use Rattle.cli_answers.specs.declared.answer.Answer.TheVariants.{Done, NoMajority}
 use Rattle.cli_answers.specs.Answers.{failed}
-use Rattle.cli_answers.specs.Ends.{Work, writes_alone}
-use Rattle.cli_answers.specs.Outcome.{Outcome, text_outcome, refusal, told}
+use Rattle.cli_answers.specs.Ends.{Work, reads_nothing}
+use Rattle.cli_answers.specs.Outcome.{Outcome, text_outcome, refusal, known_bytes}
 
 -- a command that takes the majority of copies
 abbrev pub vote_work : Work
-vote_work = record writes_alone { votes = true }
+vote_work = record reads_nothing { votes = true }
 
 -- the answer by the result of a vote
 abbrev pub answer_of : Result Vote (Stopped voting.NoMajority) → Answer
@@ -74,7 +74,7 @@ pub record CopyShows (first last : ShelfState) (names : List (List ℕ)) (rows :
   pub there : copy < length names
   pub read : List ℕ
   pub rest : List ℕ
-  pub all : told first (get_or names copy []) ≡ read ++ rest
+  pub all : known_bytes first (get_or names copy []) ≡ read ++ rest
   pub left : last.left (first.slots + copy) ≡ Some rest
   pub items : items_in read ≡ rows
   pub sound : fault_so_far read ≡ None
@@ -86,5 +86,5 @@ pub record VoteBreaksOff (first last : ShelfState) (names : List (List ℕ))
   pub rows : List Item
   pub shown : CopyShows first last names rows
       ⊎ ((last.slots < first.slots + length names) × (rows ≡ []))
-  pub held : are_held (map (told first) names) rows ≡ true
+  pub held : are_held (map (known_bytes first) names) rows ≡ true
   pub grew : Grew before after (spelled_items rows)

@@ -8,7 +8,7 @@ use Rattle.det_io.specs.declared.failure.Failure.{Failure}
 use Rattle.det_io.specs.declared.failure.Failure.TheVariants.{Read, Write, OutOfMemory}
 use Rattle.det_io.specs.declared.failure.Stopped.{Stopped}
 use Rattle.det_io.specs.declared.failure.Stopped.TheVariants.{Refused, Failed}
-use Rattle.record_grammar.specs.declared.fault.RecordFault.{RecordFault}
+use Rattle.record_grammar.specs.declared.record_fault.RecordFault.{RecordFault}
 use Rattle.record_grammar.specs.declared.place.Place.{Place}
 use Rattle.record_grammar.specs.declared.place.Place.TheVariants as places
 use Rattle.record_grammar.specs.declared.item.Item.{Item}
@@ -20,14 +20,14 @@ use Rattle.record_reader.specs.declared.item_reader.reader.ItemReader.{ItemReade
 use Rattle.record_reader.specs.item_reader.StandsFor.{Holds, slot_of}
 use Rattle.copies.specs.declared.row.Row.{Row}
 use Rattle.copies.specs.declared.row.Row.TheVariants as rows
-use Rattle.copies.specs.ItemRows.{ReaderBehind, ReaderAtRow}
+use Rattle.copies.specs.ItemRows.{IsReaderAfter, ReaderAtRow}
 use Rattle.copies.specs.Needed.{GaveNeeded}
 use Rattle.cmd_records.specs.declared.voter.majority.Holders.{Holders}
-use Rattle.cmd_records.specs.declared.voter.reading.RowView.{RowView}
-use Rattle.cmd_records.specs.declared.voter.reading.RowView.TheVariants as views
-use Rattle.cmd_records.specs.declared.voter.reading.Voter.{Voter}
+use Rattle.cmd_records.specs.declared.voter.voter_rows.RowView.{RowView}
+use Rattle.cmd_records.specs.declared.voter.voter_rows.RowView.TheVariants as views
+use Rattle.cmd_records.specs.declared.voter.voter_rows.Voter.{Voter}
 use Rattle.cmd_records.specs.voter.Majority.{is_most}
-use Rattle.cmd_records.specs.voter.Voted.{ShowsRows}
+use Rattle.cmd_records.specs.voter.VoteResult.{ShowsRows}
 
 -- ---- rows
 
@@ -79,7 +79,7 @@ pub record HasLeft (first now : ShelfState) (given : List Item) (slot : ℕ) (re
 
 -- a copy that gave these items, or left before them
 abbrev pub VoterIs : Option ℕ → ShelfState → ShelfState → List Item → ℕ → ItemReader → Type 0
-VoterIs None first now given slot reader = ReaderBehind first now given slot reader
+VoterIs None first now given slot reader = IsReaderAfter first now given slot reader
 VoterIs (Some row) first now given slot reader = HasLeft first now given slot reader row
 
 -- the same for all copies, one for each slot
@@ -179,11 +179,11 @@ RowsRead (Err failure) first now given slots voters =
     FailedAmong failure first now given slots
 
 -- a copy stays in step, or leaves in this row unless it left before
-abbrev pub stayed : Bool → ℕ → Voter → Voter
-stayed holds number v =
+abbrev pub voter_after : Bool → ℕ → Voter → Voter
+voter_after holds number v =
     record v { left = cond holds v.left (option_or v.left (Some number)) }
 
 -- the copies that don't hold a row leave
-abbrev pub parted : ℕ → List Bool → List Voter → List Voter
-parted number (b ∷ same) (v ∷ voters) = stayed b number v ∷ parted number same voters
-parted number same voters = []
+abbrev pub voters_after : ℕ → List Bool → List Voter → List Voter
+voters_after number (b ∷ same) (v ∷ voters) = voter_after b number v ∷ voters_after number same voters
+voters_after number same voters = []

@@ -40,7 +40,7 @@ impl Presenter {
             → OnOk result (Shows (seen (λ b. life (b.vtable, b.value)) audience.old)
             (seen (λ b. life (b.vtable, b.value)) audience.new) (run_in item)) }
     {
-        if audience.staying() == 0 {
+        if audience.remaining() == 0 {
             return Ok(());
         }
         let Some(frame) = view.as_frame() else {

@@ -25,7 +25,7 @@ pub struct Watch {
 impl Watch {
     ghost use Rattle.std.specs.Prelude.{[]};
     ghost use Rattle.probes.specs.Reports.{AudienceState};
-    ghost use Rattle.cmd_records.specs.salvage_command.Watching.{Watched, Noted};
+    ghost use Rattle.cmd_records.specs.salvage_command.WatchedItems.{Watched, Noted};
 
     /// A watch that has seen no items. It allocates nothing.
     pub fn new(alloc: Global) -> Watch

@@ -5,18 +5,18 @@ ghost use Rattle.cmd_records.specs.vote_command.Vote.{dissenter_line, dissent_te
 
 use crate::voter::{Dissenter, Vote};
 use det_values::OutOfMemory;
-use record_text::{put_number, put_number_line, put_words};
+use record_text::{put_number, put_number_line, put_str};
 use std::alloc::{AllocError, Global};
 
 /// Appends the line of a dissenter. After an error a part of it may be appended.
 fn put_dissenter(out: &mut Vec<u8>, dissenter: Dissenter) -> Result<(), AllocError>
     ensures { OnOk result (out.new.items ≡ out.old.items ++ dissenter_line dissenter) }
 {
-    put_words(out, "copy ")?;
+    put_str(out, "copy ")?;
     put_number(out, dissenter.copy as u64)?;
-    put_words(out, " row ")?;
+    put_str(out, " row ")?;
     put_number(out, dissenter.row as u64)?;
-    put_words(out, "\n")
+    put_str(out, "\n")
 }
 
 /// Appends a line for each of these dissenters.

@@ -8,11 +8,11 @@ ghost use Rattle.copies.specs.declared.row.Row.{Row};
 ghost use Rattle.copies.specs.declared.row.Row.TheVariants as rows;
 ghost use Rattle.cmd_records.specs.voter.Rows.{same_row, HoldsAt, HoldsRow, AreHeld, AreHolders};
 ghost use Rattle.cmd_records.specs.voter.Rows.{MostHeld};
-ghost use Rattle.cmd_records.specs.voter.Rows.{parted};
+ghost use Rattle.cmd_records.specs.voter.Rows.{voters_after};
 
-use crate::voter::reading::{RowView, Voter};
+use crate::voter::voter_rows::{RowView, Voter};
 use record_reader::item_reader::ItemReader;
-use record_view::{ItemView, are_equal};
+use record_view::{ItemView, are_equal_items};
 
 /// The copies that hold a row.
 #[derive(Clone, Copy, Drop)]
@@ -81,7 +81,7 @@ fn are_same_items(
     ensures { (place : Place) (x y : Item) → HoldsAt place reader.now view x
         → HoldsAt place other.now other_view y → result ≡ item.eq-value.it x y }
 {
-    are_equal(
+    are_equal_items(
         view,
         reader.bytes(view),
         other_view,
@@ -160,9 +160,9 @@ pub fn most_held(voters: &[Voter]) -> Option<Holders>
 
 /// Marks the copies that don't hold the majority's row as having left in this row, unless they left
 /// before.
-pub fn part(voters: &mut Vec<Voter>, same: &[bool], number: u32)
+pub fn mark_leavers(voters: &mut Vec<Voter>, same: &[bool], number: u32)
     requires { length voters.old.items ≤ length same.now }
-    ensures parted { voters.new.items ≡ parted number same.now voters.old.items }
+    ensures voters_after { voters.new.items ≡ voters_after number same.now voters.old.items }
     ensures all { length voters.new.items ≡ length voters.old.items }
 {
     'voters: for at in 0..voters.len() {

@@ -9,16 +9,16 @@ ghost use Rattle.record_grammar.specs.declared.item.Item.{Item};
 ghost use Rattle.record_grammar.specs.declared.place.Place.{Place};
 ghost use Rattle.record_grammar.specs.Laws.{MayStand, item_spelling};
 ghost use Rattle.record_grammar.specs.Spelling.{AreBytes};
-ghost use Rattle.copies.specs.Compared.{AreDifferent, AreGiven, ReadsAmong};
+ghost use Rattle.copies.specs.CompareCopies.{AreDifferent, AreGiven, ReadsAmong};
 ghost use Rattle.copies.specs.Needed.{AllNeeded};
 ghost use Rattle.cmd_records.specs.voter.Majority.{is_most};
 ghost use Rattle.cmd_records.specs.voter.Rows.{is_in_step, voter_slot};
-ghost use Rattle.cmd_records.specs.voter.Standing.{Stand, RowTaken, IsHeldIn, held_in, Counts};
-ghost use Rattle.cmd_records.specs.voter.Standing.{Writes};
-ghost use Rattle.cmd_records.specs.voter.Standing.{TellsVote, dissenter, dissenters};
+ghost use Rattle.cmd_records.specs.voter.VotersState.{Stand, RowTaken, IsHeldIn, held_in, Counts};
+ghost use Rattle.cmd_records.specs.voter.VotersState.{Writes};
+ghost use Rattle.cmd_records.specs.voter.VotersState.{IsVoteOf, dissenter, dissenters};
 
-use crate::voter::majority::{most_held, part};
-use crate::voter::reading::{RowView, Voter, read_rows, voters_at};
+use crate::voter::majority::{mark_leavers, most_held};
+use crate::voter::voter_rows::{RowView, Voter, read_rows, voters_at};
 use crate::voter::{Dissent, Dissenter, NoMajority, Vote};
 use copies::runs_of;
 use det_io::{Sink, Slots, Stopped, write_all};
@@ -47,7 +47,7 @@ pub struct HeldItem {
 
 impl Voters {
     /// Copies of which nothing was read yet.
-    pub fn at(alloc: Global, slots: &[u32]) -> Result<Voters, OutOfMemory>
+    pub fn new(alloc: Global, slots: &[u32]) -> Result<Voters, OutOfMemory>
         requires { 1 ≤ length slots.now }
         ensures { IfOk result (λ voters. (state : ShelfState)
             → Stand state state [] slots.now voters) }
@@ -86,7 +86,7 @@ impl Voters {
         let Some(holders) = most_held(&self.voters) else {
             return Err(Stopped::Refused(NoMajority { row: self.rows }));
         };
-        part(&mut self.voters, &holders.same, self.rows);
+        mark_leavers(&mut self.voters, &holders.same, self.rows);
         let item = held_in(holders.first, self.voters[holders.first].row);
         self.count(item);
         Ok(item)
@@ -122,7 +122,7 @@ impl Voters {
         requires most { is_most (count_by is_in_step self.now.voters.items)
             (length self.now.voters.items) ≡ true }
         requires few { length self.now.voters.items ≤ 7 }
-        ensures { TellsVote result self.now }
+        ensures { IsVoteOf result self.now }
     {
         let dissent = dissent_of(alloc, &self.voters)?;
         Ok(Vote {

@@ -5,13 +5,13 @@ use Rattle.det_io.specs.Prefix.{IsPrefix}
 use Rattle.det_values.specs.Values.{ProfileValue}
 use Rattle.det_values.specs.declared.frames.RunFrame.{RunFrame}
 use Rattle.job.specs.Meaning.{Meaning}
-use Rattle.record_grammar.specs.declared.fault.RecordFault.{RecordFault}
+use Rattle.record_grammar.specs.declared.record_fault.RecordFault.{RecordFault}
 use Rattle.probes.specs.Reports.{AudienceState, reported}
 use Rattle.probes.specs.Shows.{SawRuns}
-use Rattle.rerun.specs.declared.checker.verdict.CheckVerdict.{CheckVerdict}
-use Rattle.rerun.specs.declared.checker.verdict.CheckVerdict.TheVariants.{Genuine, Departs}
+use Rattle.rerun.specs.declared.checker.check_verdict.CheckVerdict.{CheckVerdict}
+use Rattle.rerun.specs.declared.checker.check_verdict.CheckVerdict.TheVariants.{Genuine, Departs}
 use Rattle.rerun.specs.checker.Departure.{checked_runs}
-use Rattle.rerun.specs.checker.Verdict.{check_verdict}
+use Rattle.rerun.specs.checker.CheckVerdict.{check_verdict}
 use Rattle.record_text.specs.Words.{number_line}
 use Rattle.copies.specs.verdict_text.Verdicts.{place_text}
 use Rattle.cli_answers.specs.declared.answer.Answer.{Answer}

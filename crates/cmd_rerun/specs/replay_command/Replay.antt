@@ -4,10 +4,10 @@ use Rattle.det_values.specs.Values.{ProfileValue}
 use Rattle.det_io.specs.declared.failure.Stopped.{Stopped}
 use Rattle.det_io.specs.declared.failure.Stopped.TheVariants.{Refused, Failed}
 use Rattle.job.specs.Meaning.{Meaning}
-use Rattle.record_grammar.specs.declared.fault.RecordFault.{RecordFault}
+use Rattle.record_grammar.specs.declared.record_fault.RecordFault.{RecordFault}
 use Rattle.record_grammar.specs.Record.{fault as fault_in}
 use Rattle.recorder.specs.declared.run_writer.counts.Counts.{Counts}
-use Rattle.rerun.specs.replayer.Again.{again}
+use Rattle.rerun.specs.replayer.ReplayRecord.{replay_record}
 use Rattle.cli_answers.specs.declared.answer.Answer.{Answer}
 use Rattle.cli_answers.specs.declared.answer.Answer.TheVariants.{Done, BadRecord}
 use Rattle.cli_answers.specs.Answers.{failed, by_fault}
@@ -20,7 +20,7 @@ abbrev pub replayed_with : {S G E L P : Type 0} → Meaning S G E L P → Profil
     → Outcome
 replayed_with m profile record_bytes = record {
   answer = by_fault (fault_in record_bytes);
-  bytes = again m profile record_bytes;
+  bytes = replay_record m profile record_bytes;
 }
 
 -- the same with the run that the header of the record names, or why it names none

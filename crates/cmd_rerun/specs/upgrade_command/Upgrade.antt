@@ -3,12 +3,12 @@ use Rattle.std.specs.Prelude.{ℕ, List, is_none, if◌then◌else◌, Result, O
 use Rattle.det_values.specs.Values.{ProfileValue}
 use Rattle.det_io.specs.declared.failure.Stopped.{Stopped}
 use Rattle.job.specs.Meaning.{Meaning}
-use Rattle.record_grammar.specs.declared.fault.RecordFault.{RecordFault}
+use Rattle.record_grammar.specs.declared.record_fault.RecordFault.{RecordFault}
 use Rattle.record_grammar.specs.Record.{fault as fault_in}
-use Rattle.rerun.specs.declared.checker.verdict.CheckVerdict.{CheckVerdict}
-use Rattle.rerun.specs.declared.checker.verdict.CheckVerdict.TheVariants.{Genuine, Departs}
+use Rattle.rerun.specs.declared.checker.check_verdict.CheckVerdict.{CheckVerdict}
+use Rattle.rerun.specs.declared.checker.check_verdict.CheckVerdict.TheVariants.{Genuine, Departs}
 use Rattle.rerun.specs.checker.Departure.{departure}
-use Rattle.rerun.specs.upgrader.Upgraded.{upgraded}
+use Rattle.rerun.specs.upgrader.UpgradedRecord.{upgraded}
 use Rattle.cli_answers.specs.declared.answer.Answer.{Answer}
 use Rattle.cli_answers.specs.declared.answer.Answer.TheVariants.{Done, Differs}
 use Rattle.cli_answers.specs.Answers.{by_fault, stopped}

@@ -2,4 +2,4 @@ pub mod Samples
 pub mod Linking
 pub mod Running
 pub mod Ending
-pub mod Told
+pub mod KnownStimulus

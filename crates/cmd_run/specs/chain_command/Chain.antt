@@ -6,10 +6,10 @@ use Rattle.det_io.specs.declared.failure.Stopped.{Stopped}
 use Rattle.det_io.specs.declared.failure.Stopped.TheVariants.{Refused, Failed}
 use Rattle.job.specs.Meaning.{Meaning}
 use Rattle.jobs.specs.Kinds.{by_kind}
-use Rattle.stimulus.specs.declared.item.StimFault.{StimFault}
+use Rattle.stimulus.specs.declared.stimulus_item.StimulusFault.{StimulusFault}
 use Rattle.stimulus.specs.Reading.{ending}
-use Rattle.cmd_run.specs.declared.chain.counts.ChainCounts.{ChainCounts}
-use Rattle.cmd_run.specs.chain.Chained.{second_of}
+use Rattle.cmd_run.specs.declared.chain.chain_counts.ChainCounts.{ChainCounts}
+use Rattle.cmd_run.specs.chain.SecondClient.{second_of}
 use Rattle.manifest.specs.Values.{ManifestValue}
 use Rattle.manifest.specs.Profiles.{profile_of}
 use Rattle.cli_answers.specs.declared.answer.BadManifest.{BadManifest}
@@ -21,7 +21,7 @@ use Rattle.run_setup.specs.Setup.{setup_of, with_manifest}
 use Rattle.cmd_run.specs.record_command.Outcomes.{answer_to, record_names}
 
 -- the answer of the command for the result of a chain
-abbrev pub answer_of : Result ChainCounts (Stopped StimFault) → Answer
+abbrev pub answer_of : Result ChainCounts (Stopped StimulusFault) → Answer
 answer_of (Ok counts) = answers.Done
 answer_of (Err (Refused fault)) = answers.BadStimulus fault.line
 answer_of (Err (Failed failure)) = failed failure

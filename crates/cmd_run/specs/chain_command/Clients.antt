@@ -26,11 +26,11 @@ chained_by_kinds first second text =
     chained m first.profile n second.profile text) second.kind) first.kind
 
 -- after a first client: what the second manifest gives over a stimulus, or its refusal
-abbrev pub chained_behind : ℕ → Client → List ℕ → Result ManifestValue BadManifest → Outcome
-chained_behind seed first stimulus =
+abbrev pub chained_second : ℕ → Client → List ℕ → Result ManifestValue BadManifest → Outcome
+chained_second seed first stimulus =
     with_manifest (λ m. chained_by_kinds first (client_of seed m) stimulus)
 
 -- the first manifest is checked before the second
 abbrev pub chained_from : ℕ → List ℕ → (first second : Result ManifestValue BadManifest) → Outcome
 chained_from seed stimulus first second =
-    with_manifest (λ m. chained_behind seed (client_of seed m) stimulus second) first
+    with_manifest (λ m. chained_second seed (client_of seed m) stimulus second) first

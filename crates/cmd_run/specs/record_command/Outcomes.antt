@@ -11,7 +11,7 @@ use Rattle.det_io.specs.declared.failure.Stopped.TheVariants.{Refused, Failed}
 use Rattle.job.specs.Meaning.{Meaning}
 use Rattle.jobs.specs.bank.Meaning as bank
 use Rattle.jobs.specs.Kinds.{by_kind}
-use Rattle.stimulus.specs.declared.item.StimFault.{StimFault}
+use Rattle.stimulus.specs.declared.stimulus_item.StimulusFault.{StimulusFault}
 use Rattle.stimulus.specs.Reading.{Ending, Terminated, BadLine, ending}
 use Rattle.recorder.specs.Record.{record_of}
 use Rattle.recorder.specs.declared.run_writer.counts.Counts.{Counts}
@@ -21,13 +21,13 @@ use Rattle.cli_answers.specs.declared.answer.BadManifest.{BadManifest}
 use Rattle.cli_answers.specs.declared.answer.Answer.{Answer}
 use Rattle.cli_answers.specs.declared.answer.Answer.TheVariants as answers
 use Rattle.cli_answers.specs.Answers.{failed}
-use Rattle.cli_answers.specs.Ends.{Work, writes_alone}
+use Rattle.cli_answers.specs.Ends.{Work, reads_nothing}
 use Rattle.cli_answers.specs.Outcome.{Outcome}
 use Rattle.run_setup.specs.Setup.{setup_of, with_manifest}
 
 -- `demo` reads a stimulus, and `record` a manifest as well
 abbrev pub demo_work : Work
-demo_work = record writes_alone { stimulus = true }
+demo_work = record reads_nothing { stimulus = true }
 
 abbrev pub record_work : Work
 record_work = record demo_work { manifest = true }
@@ -38,7 +38,7 @@ answer_to Terminated = answers.Done
 answer_to (BadLine line) = answers.BadStimulus line
 
 -- the answer for the result of a recording
-abbrev pub answer_of : Result Counts (Stopped StimFault) → Answer
+abbrev pub answer_of : Result Counts (Stopped StimulusFault) → Answer
 answer_of (Ok counts) = answers.Done
 answer_of (Err (Refused fault)) = answers.BadStimulus fault.line
 answer_of (Err (Failed failure)) = failed failure

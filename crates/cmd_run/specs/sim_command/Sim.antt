@@ -10,7 +10,7 @@ use Rattle.det_values.specs.declared.frames.RunFrame.{RunFrame}
 use Rattle.job.specs.Meaning.{Meaning}
 use Rattle.jobs.specs.cloud.Meaning.{meaning}
 use Rattle.cycle_engine.specs.Frames.{runs}
-use Rattle.stimulus.specs.Made.{made}
+use Rattle.stimulus.specs.GeneratedText.{made}
 use Rattle.stimulus.specs.Reading.{blocks}
 use Rattle.probes.specs.Reports.{AudienceState, reported}
 use Rattle.probes.specs.Shipped.{is_refused}
@@ -21,8 +21,8 @@ use Rattle.record_text.specs.declared.summary_lines.Summary.{Summary}
 use Rattle.cli_answers.specs.Outcome.{Outcome, text_outcome}
 
 -- an event that keeps only its newest sample
-abbrev pub newest_of : List ℕ → EventSpecValue
-newest_of name = record { capacity = 1; name = name; policy = Last }
+abbrev pub newest_event : List ℕ → EventSpecValue
+newest_event name = record { capacity = 1; name = name; policy = Last }
 
 -- a cloud with the number as its seed; 10 ms; 10,000 particles, a spread of 1,000, a new seed in
 -- each 50th cycle, and no distance too far
@@ -33,7 +33,7 @@ sim_profile number = record {
   seed = number;
   cycle_time = 10000000;
   params = pos 10000 ∷ pos 1000 ∷ pos 50 ∷ pos 4000000000000 ∷ [];
-  events = newest_of (codes "x") ∷ newest_of (codes "y") ∷ newest_of (codes "hold") ∷ [];
+  events = newest_event (codes "x") ∷ newest_event (codes "y") ∷ newest_event (codes "hold") ∷ [];
 }
 
 module _ {S G E L P : Type 0} (m : Meaning S G E L P) (profile : ProfileValue) (text : List ℕ) where

@@ -4,23 +4,23 @@ ghost use Rattle.det_io.specs.Count.{Rose};
 ghost use Rattle.det_io.specs.Shelf.{AsksPrefix};
 ghost use Rattle.jobs.specs.Kinds.{bad_param};
 ghost use Rattle.cli_answers.specs.Ends.{can_end};
-ghost use Rattle.cli_answers.specs.Outcome.{Meets, told};
+ghost use Rattle.cli_answers.specs.Outcome.{Meets, known_bytes};
 ghost use Rattle.cli_answers.specs.Slots.{KeepsSlots};
 ghost use Rattle.cmd_run.specs.record_command.Outcomes.{record_work};
 ghost use Rattle.cmd_run.specs.chain_command.Chain.{answer_of};
 ghost use Rattle.cmd_run.specs.chain_command.Clients.{chained_by_kinds};
 
 use crate::chain::ChainCounts;
-use crate::chain_command::visiting::StimulusIn;
+use crate::chain_command::chain_visit::StimulusIn;
 use cli_answers::Answer;
 use det_io::{Discard, Shelf, Sink, Stopped};
-use shipped_crews::{StaffedRun, with_two_crews};
+use shipped_crews::{PlannedRun, with_two_crews};
 use std::thread::Threads;
-use stimulus::StimFault;
+use stimulus::StimulusFault;
 use worker_pool::Gate;
 
 /// The answer of the command for the result of a chain.
-fn answer_of(chained: Result<ChainCounts, Stopped<StimFault>>) -> Answer
+fn answer_of(chained: Result<ChainCounts, Stopped<StimulusFault>>) -> Answer
     ensures is { result ≡ answer_of chained }
     ensures ends { can_end record_work result ≡ true }
 {
@@ -33,9 +33,9 @@ fn answer_of(chained: Result<ChainCounts, Stopped<StimFault>>) -> Answer
 
 /// Chains two clients over the stimulus under a name. The record of the first client is discarded:
 /// `record` writes the same one for the first manifest.
-pub(crate) fn chain_named<S, K, R, G>(
-    first: StaffedRun<'_, R, G>,
-    second: StaffedRun<'_, R, G>,
+pub(crate) fn chain_named_stimulus<S, K, R, G>(
+    first: PlannedRun<'_, R, G>,
+    second: PlannedRun<'_, R, G>,
     stimulus: &str,
     shelf: &mut S,
     out: &mut K,
@@ -53,7 +53,7 @@ where
         (chained_by_kinds
         (record { kind = first.entry.run.kind; profile = first.entry.run.profile })
         (record { kind = second.entry.run.kind; profile = second.entry.run.profile })
-        (told (S.sees shelf.old) stimulus.now))
+        (known_bytes (S.sees shelf.old) stimulus.now))
         (IsSome ((S.sees shelf.old).holds stimulus.now))
         (Rose (S.sees shelf.old).faults (S.sees shelf.new).faults)
         (Rose (K.faults out.old) (K.faults out.new)) (K.took out.old) (K.took out.new) result }

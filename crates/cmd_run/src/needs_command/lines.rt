@@ -6,16 +6,16 @@ ghost use Rattle.cmd_run.specs.needs_command.Lines.{needs_lines};
 
 use det_values::{JobKind, OutOfMemory};
 use manifest::{Manifest, Needs, PlatformName};
-use record_text::{put_number_line, put_words};
+use record_text::{put_number_line, put_str};
 use std::alloc::AllocError;
 
 fn put_job_line(out: &mut Vec<u8>, kind: JobKind) -> Result<(), AllocError>
     ensures { OnOk result (out.new.items ≡ out.old.items ++ job_line kind) }
 {
     match kind {
-        JobKind::Bank => put_words(out, "job bank\n"),
-        JobKind::Cloud => put_words(out, "job cloud\n"),
-        JobKind::Guard => put_words(out, "job guard\n"),
+        JobKind::Bank => put_str(out, "job bank\n"),
+        JobKind::Cloud => put_str(out, "job cloud\n"),
+        JobKind::Guard => put_str(out, "job guard\n"),
     }
 }
 
@@ -24,7 +24,7 @@ fn put_platform(out: &mut Vec<u8>, name: Option<&PlatformName>) -> Result<(), Al
         ≡ out.old.items ++ unwrap_or (option_map (λ p. p.now) name.entry) (codes "none")) }
 {
     match name {
-        None => put_words(out, "none"),
+        None => put_str(out, "none"),
         Some(name) => out.extend_from_slice(name.as_slice()),
     }
 }
@@ -33,9 +33,9 @@ fn put_platform_line(out: &mut Vec<u8>, name: Option<&PlatformName>) -> Result<(
     ensures { OnOk result (out.new.items
         ≡ out.old.items ++ platform_line (option_map (λ p. p.now) name.entry)) }
 {
-    put_words(out, "platform ")?;
+    put_str(out, "platform ")?;
     put_platform(out, name)?;
-    put_words(out, "\n")?;
+    put_str(out, "\n")?;
     Ok(())
 }
 
@@ -43,7 +43,7 @@ fn put_need(out: &mut Vec<u8>, word: &str, key: &str, number: u64) -> Result<(),
     ensures { OnOk result (out.new.items
         ≡ out.old.items ++ (word.now ++ number_line key.now number)) }
 {
-    put_words(out, word)?;
+    put_str(out, word)?;
     put_number_line(out, key, number)?;
     Ok(())
 }
@@ -61,8 +61,8 @@ fn put_four_needs(out: &mut Vec<u8>, word: &str, needs: &Needs) -> Result<(), Al
 fn put_no_needs(out: &mut Vec<u8>, word: &str) -> Result<(), AllocError>
     ensures { OnOk result (out.new.items ≡ out.old.items ++ needs_of word.now None) }
 {
-    put_words(out, word)?;
-    put_words(out, " none\n")?;
+    put_str(out, word)?;
+    put_str(out, " none\n")?;
     Ok(())
 }
 

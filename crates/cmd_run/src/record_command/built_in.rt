@@ -3,11 +3,11 @@ ghost use Rattle.std.specs.Prelude.{◌≡◌, ◌∷◌, [], IfOk, true};
 ghost use Rattle.det_io.specs.Count.{Rose};
 ghost use Rattle.det_io.specs.Shelf.{AsksPrefix};
 ghost use Rattle.cli_answers.specs.Ends.{can_end};
-ghost use Rattle.cli_answers.specs.Outcome.{Meets, Tells, told};
+ghost use Rattle.cli_answers.specs.Outcome.{Meets, KnowsBytes, known_bytes};
 ghost use Rattle.cli_answers.specs.Slots.{KeepsSlots};
 ghost use Rattle.cmd_run.specs.record_command.Outcomes.{demo_outcome, demo_profile, demo_work};
 
-use crate::record_command::over_stimulus::record_named;
+use crate::record_command::over_stimulus::record_named_stimulus;
 use cli_answers::Answer;
 use det_io::{Shelf, Sink};
 use det_values::{
@@ -22,7 +22,7 @@ fn demo_events(alloc: Global) -> Result<Events, OutOfMemory>
     ensures { IfOk result (λ events. events ≡ demo_profile.events) }
 {
     let mut events = Events::new(alloc);
-    let Some(name) = EventName::of(b"x") else {
+    let Some(name) = EventName::from_bytes(b"x") else {
         unreachable!()
     };
     events.push(EventSpec {
@@ -63,8 +63,8 @@ where
     K: Sink,
     R: Threads,
     G: Gate + Send + Sync + 'static,
-    ensures meets { Meets (demo_outcome (told (S.sees shelf.old) stimulus.now))
-        (Tells (S.sees shelf.old) (stimulus.now ∷ []))
+    ensures meets { Meets (demo_outcome (known_bytes (S.sees shelf.old) stimulus.now))
+        (KnowsBytes (S.sees shelf.old) (stimulus.now ∷ []))
         (Rose (S.sees shelf.old).faults (S.sees shelf.new).faults)
         (Rose (K.faults out.old) (K.faults out.new))
         (K.took out.old) (K.took out.new) result }
@@ -77,5 +77,5 @@ where
     };
     let kind = JobKind::Bank;
     let run = ShippedRun { kind, profile };
-    record_named(&host.workers(1), run, stimulus, shelf, out)
+    record_named_stimulus(&host.workers(1), run, stimulus, shelf, out)
 }

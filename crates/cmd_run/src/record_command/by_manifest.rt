@@ -4,17 +4,17 @@ ghost use Rattle.det_io.specs.Count.{Rose};
 ghost use Rattle.det_io.specs.Shelf.{AsksPrefix};
 ghost use Rattle.manifest.specs.Limits.{IsWorkers};
 ghost use Rattle.cli_answers.specs.Ends.{can_end};
-ghost use Rattle.cli_answers.specs.Outcome.{Meets, Tells, told};
+ghost use Rattle.cli_answers.specs.Outcome.{Meets, KnowsBytes, known_bytes};
 ghost use Rattle.cli_answers.specs.Slots.{KeepsSlots};
 ghost use Rattle.run_setup.specs.Setup.{setup_of};
 ghost use Rattle.cmd_run.specs.record_command.Outcomes.{record_names, record_outcome, record_work};
 
-use crate::record_command::over_stimulus::record_named;
-use crate::record_command::staffing::staffed;
+use crate::record_command::over_stimulus::record_named_stimulus;
+use crate::record_command::run_plan::plan_run;
 use cli_answers::Answer;
 use det_io::{Shelf, Sink};
 use run_setup::read_setup;
-use shipped_crews::{Host, StaffedRun};
+use shipped_crews::{Host, PlannedRun};
 use std::thread::Threads;
 use worker_pool::Gate;
 
@@ -35,7 +35,7 @@ pub struct RecordTask<'t> {
 
 /// Writes the record of a manifest's profile over a stimulus. The manifest is read and checked
 /// before the stimulus is opened.
-pub fn record_stimulus<S, K, R, G>(
+pub fn record_by_manifest<S, K, R, G>(
     host: &Host<'_, R, G>,
     task: &RecordTask<'_>,
     shelf: &mut S,
@@ -48,30 +48,30 @@ where
     G: Gate + Send + Sync + 'static,
     requires workers { IfSome task.now.workers IsWorkers }
     ensures meets { Meets
-        (record_outcome task.now.strict (told (S.sees shelf.old) task.now.manifest.now)
-        (told (S.sees shelf.old) task.now.stimulus.now) task.now.seed)
-        (Tells (S.sees shelf.old) (record_names task.now.manifest.now task.now.stimulus.now
-        (setup_of task.now.strict (told (S.sees shelf.old) task.now.manifest.now))))
+        (record_outcome task.now.strict (known_bytes (S.sees shelf.old) task.now.manifest.now)
+        (known_bytes (S.sees shelf.old) task.now.stimulus.now) task.now.seed)
+        (KnowsBytes (S.sees shelf.old) (record_names task.now.manifest.now task.now.stimulus.now
+        (setup_of task.now.strict (known_bytes (S.sees shelf.old) task.now.manifest.now))))
         (Rose (S.sees shelf.old).faults (S.sees shelf.new).faults)
         (Rose (K.faults out.old) (K.faults out.new)) (K.took out.old) (K.took out.new) result }
     ensures ends { can_end record_work result ≡ true }
     ensures asked { AsksPrefix (S.sees shelf.old) (S.sees shelf.new)
         (task.now.manifest.now ∷ task.now.stimulus.now ∷ []) }
     ensures earlier { KeepsSlots (S.sees shelf.old) (S.sees shelf.new) }
-    ensures judged { Tells (S.sees shelf.old)
+    ensures judged { KnowsBytes (S.sees shelf.old)
         (record_names task.now.manifest.now task.now.stimulus.now
-        (setup_of task.now.strict (told (S.sees shelf.old) task.now.manifest.now)))
+        (setup_of task.now.strict (known_bytes (S.sees shelf.old) task.now.manifest.now)))
         → AsksPrefix (S.sees shelf.old) (S.sees shelf.new)
         (record_names task.now.manifest.now task.now.stimulus.now
-        (setup_of task.now.strict (told (S.sees shelf.old) task.now.manifest.now))) }
+        (setup_of task.now.strict (known_bytes (S.sees shelf.old) task.now.manifest.now))) }
 {
     let setup = match read_setup(host.alloc, task.manifest, task.strict, shelf) {
         Ok(setup) => setup,
         Err(end) => return Answer::from(end),
     };
-    let Ok(client) = staffed(host, &setup, task.seed, task.workers) else {
+    let Ok(client) = plan_run(host, &setup, task.seed, task.workers) else {
         return Answer::OutOfMemory;
     };
-    let StaffedRun { run, workers } = client;
-    record_named(&workers, run, task.stimulus, shelf, out)
+    let PlannedRun { run, workers } = client;
+    record_named_stimulus(&workers, run, task.stimulus, shelf, out)
 }

@@ -1,14 +1,14 @@
 //! The built-in profile of `sim`.
 ghost use Rattle.std.specs.Prelude.{◌≡◌, IfOk};
-ghost use Rattle.cmd_run.specs.sim_command.Sim.{newest_of, sim_profile};
+ghost use Rattle.cmd_run.specs.sim_command.Sim.{newest_event, sim_profile};
 
 use det_values::{
     EventName, EventSpec, Events, Format, JobKind, OutOfMemory, Params, Policy, Profile,
 };
 use std::alloc::Global;
 
-fn newest_of(name: EventName) -> EventSpec
-    ensures { result ≡ newest_of name }
+fn newest_event(name: EventName) -> EventSpec
+    ensures { result ≡ newest_event name }
 {
     EventSpec {
         capacity: 1,
@@ -21,18 +21,18 @@ fn sim_events(alloc: Global) -> Result<Events, OutOfMemory>
     ensures { IfOk result (λ events. events ≡ (sim_profile 0).events) }
 {
     let mut events = Events::new(alloc);
-    let Some(x) = EventName::of(b"x") else {
+    let Some(x) = EventName::from_bytes(b"x") else {
         unreachable!()
     };
-    let Some(y) = EventName::of(b"y") else {
+    let Some(y) = EventName::from_bytes(b"y") else {
         unreachable!()
     };
-    let Some(hold) = EventName::of(b"hold") else {
+    let Some(hold) = EventName::from_bytes(b"hold") else {
         unreachable!()
     };
-    events.push(newest_of(x))?;
-    events.push(newest_of(y))?;
-    events.push(newest_of(hold))?;
+    events.push(newest_event(x))?;
+    events.push(newest_event(y))?;
+    events.push(newest_event(hold))?;
     Ok(events)
 }
 

@@ -2,7 +2,7 @@
 
 /// A file by its index, and the number of its bytes that were read.
 #[derive(Clone, Copy, Debug)]
-pub struct Place {
+pub struct FilePlace {
     pub file: usize,
     pub at: usize,
 }

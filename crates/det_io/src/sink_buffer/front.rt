@@ -1,7 +1,7 @@
 //! A sink with held bytes in front of it.
 ghost use Rattle.std.specs.Prelude.{◌<◌, ◌≤◌, vec_len, vec_capacity};
 
-use crate::sink_buffer::passing::{append, pass};
+use crate::sink_buffer::held_bytes::{append, pass_on};
 use crate::sink_buffer::{BUFFER_ROOM, Gather};
 use crate::{Sink, SinkFailed};
 
@@ -53,6 +53,6 @@ impl<K: Sink> Gather for Front<'_, '_, K> {
         if self.held.is_empty() {
             return self.sink.write(piece);
         }
-        pass(self.sink, self.held, piece)
+        pass_on(self.sink, self.held, piece)
     }
 }

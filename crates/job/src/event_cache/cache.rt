@@ -121,13 +121,13 @@ impl EventCache {
 
     /// The last value of the window of an event, or None if the window is empty.
     #[tactic(auto, using(crate::proofs::lemmas::event_cache::Rounds::window_is, crate::proofs::lemmas::event_cache::Rounds::seen_windows))]
-    pub fn newest(&self, event: u16) -> Option<i64>
+    pub fn newest_sample(&self, event: u16) -> Option<i64>
         requires { event < length self.now }
         ensures window { result ≡ last_item (window_of (windows self.now) event) }
         ensures seen { (specs : List EventSpecValue) (rounds : List (List SampleValue))
             (arrived : List SampleValue) → HasSeen self.now specs rounds arrived
             → result ≡ last_item (window_of (windows_after specs rounds) event) }
     {
-        self.rings[usize::from(event)].newest()
+        self.rings[usize::from(event)].newest_sample()
     }
 }

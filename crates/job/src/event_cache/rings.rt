@@ -92,7 +92,7 @@ impl EventRings {
     }
 
     /// The last value of the window, or None if it is empty.
-    pub fn newest(&self) -> Option<i64>
+    pub fn newest_sample(&self) -> Option<i64>
         ensures { result ≡ last_item self.now.seen }
     {
         self.seen.back().copied()

@@ -8,8 +8,8 @@ use Rattle.std.proofs.lemmas.List.FromFn.{length-map-range_with_len}
 use Rattle.std.proofs.lemmas.Bool.Decides.{nat_tests}
 use Rattle.std.proofs.lemmas.Int.{ints, clamps}
 use Rattle.det_values.specs.Limits.{IsSampleValue}
-use Rattle.job.specs.declared.answers.Concluded.{Concluded}
-use Rattle.job.specs.Meaning.{Prepared, Worked}
+use Rattle.job.specs.declared.job_results.Conclusion.{Conclusion}
+use Rattle.job.specs.Meaning.{Preparation, ElementResult}
 use Rattle.job.specs.Laws.{JobLaws, CoversBoth}
 use Rattle.job_shared.specs.Bytes.{u16_bytes, i64_bytes}
 use Rattle.job_shared.specs.Samples.{sample_of, IsSample}
@@ -20,7 +20,7 @@ use Rattle.job_shared.proofs.Windows.{newest_are_samples, sample_ok}
 use Rattle.jobs.specs.declared.bank.bank.Bank.{Bank}
 use Rattle.jobs.specs.declared.bank.channel.Channel.{Channel}
 use Rattle.jobs.specs.declared.bank.summary.Summary.{Summary}
-use Rattle.jobs.specs.declared.bank.cycle.NoGlobals.{NoGlobals}
+use Rattle.jobs.specs.declared.bank.bank_job.NoGlobals.{NoGlobals}
 use Rattle.jobs.specs.bank.Meaning.{meaning, first_channel, first_channels, level_after, new_level}
 use Rattle.jobs.specs.bank.Meaning.{worked, summary_of, joined, output}
 use Rattle.jobs.specs.bank.Ranges.{Own, Fit, IsSummaryOf, IsPartOf, Covers}
@@ -183,20 +183,20 @@ bank_laws = record {
   covers_few = λ j part n h. part_few part n h;
   covers_unit = λ j. omega arith;
   covers_run = λ j plan carry pass e key w fit own below carried h. subst
-      (λ (x : Worked Channel (Option Summary)). Covers j x.part 1) (ok_same _ _ h)
+      (λ (x : ElementResult Channel (Option Summary)). Covers j x.part 1) (ok_same _ _ h)
       (one_summary (new_level j plan e) (own_worked j plan e fit own).level);
   covers_joined = λ j left right a b h k few. part_joined left right a b h k few;
   own_run = λ j plan carry pass e key w fit own below carried h. subst
-      (λ (x : Worked Channel (Option Summary)). Own j x.element) (ok_same _ _ h)
+      (λ (x : ElementResult Channel (Option Summary)). Own j x.element) (ok_same _ _ h)
       (own_worked j plan e fit own);
   own_started = λ j seed. own_all_first j;
   fit_prepared = λ j globals es windows seed cycle time next p own few ws h. subst
-      (λ (x : Prepared (List (Option ℤ))). Fit j x.plan) (ok_same _ _ h)
+      (λ (x : Preparation (List (Option ℤ))). Fit j x.plan) (ok_same _ _ h)
       (newest_are_samples j.events windows ws);
   shown_few = λ j e own. length-shown (leb 2 j.events) e;
   shown_apart = λ j a b p q e. apart (leb 2 j.events) j a b refl p q e;
   output_few = λ j globals plan part d h. subst
-      (λ (x : Concluded NoGlobals). length x.output ≤ 1048576) (ok_same _ _ h) (length-output part);
+      (λ (x : Conclusion NoGlobals). length x.output ≤ 1048576) (ok_same _ _ h) (length-output part);
   few_started = λ j seed. few_first j;
   fit_passes = λ j plan fit. (omega arith, omega arith);
   drawn_few = λ j plan carry pass e key. omega arith;

@@ -5,16 +5,16 @@ use Rattle.std.specs.Prelude.{not, if◌then◌else◌, nat_lt, nat_le, unwrap_o
 use Rattle.std.proofs.Common.{lit≤}
 use Rattle.std.specs.List.{range_with_len}
 use Rattle.std.specs.Int.{int_min, int_max}
-use Rattle.job.specs.Meaning.{Meaning, Worked}
+use Rattle.job.specs.Meaning.{Meaning, ElementResult}
 use Rattle.job_shared.specs.Params.{is_param, natural_param, few_events}
 use Rattle.job_shared.proofs.Clamps.{natural_most, events_few}
 use Rattle.job_shared.specs.Samples.{all_newest, sample_of}
 use Rattle.job_shared.specs.Bytes.{u16_bytes, i64_bytes}
-use Rattle.job_shared.specs.Filter.{towards}
+use Rattle.job_shared.specs.Filter.{step_towards}
 use Rattle.jobs.specs.declared.bank.bank.Bank.{Bank}
 use Rattle.jobs.specs.declared.bank.channel.Channel.{Channel}
 use Rattle.jobs.specs.declared.bank.summary.Summary.{Summary}
-use Rattle.jobs.specs.declared.bank.cycle.NoGlobals.{NoGlobals}
+use Rattle.jobs.specs.declared.bank.bank_job.NoGlobals.{NoGlobals}
 
 -- parameters: 0 channels, 1 to 65,536; 1 shift, 0 to 16
 abbrev pub bad_param : List ℤ → ℕ → Option ℕ
@@ -47,7 +47,7 @@ first_channels j = map (first_channel j) (range_with_len 0 j.channels)
 -- a level after one step towards a target; without a target it stays
 abbrev pub level_after : Option ℤ → ℤ → ℕ → ℤ
 level_after None level shift = level
-level_after (Some target) level shift = towards level target shift
+level_after (Some target) level shift = step_towards level target shift
 
 abbrev pub new_level : Bank → List (Option ℤ) → Channel → ℤ
 new_level j plan e = level_after (sample_of plan e.event) e.level j.shift
@@ -55,10 +55,10 @@ new_level j plan e = level_after (sample_of plan e.event) e.level j.shift
 abbrev pub summary_of : ℤ → Summary
 summary_of level = record { sum = level; least = level; greatest = level }
 
-abbrev pub gives : Channel → Worked Channel (Option Summary)
+abbrev pub gives : Channel → ElementResult Channel (Option Summary)
 gives e = record { element = e; part = Some (summary_of e.level) }
 
-abbrev pub worked : Bank → List (Option ℤ) → Channel → Worked Channel (Option Summary)
+abbrev pub worked : Bank → List (Option ℤ) → Channel → ElementResult Channel (Option Summary)
 worked j plan e = gives (record e { level = new_level j plan e })
 
 abbrev pub joined : Option Summary → Option Summary → Option Summary

@@ -9,11 +9,11 @@ use Rattle.std.proofs.lemmas.Bool.Decides.{nat_tests}
 use Rattle.std.proofs.lemmas.Int.{ints, clamps}
 use Rattle.det_values.specs.Limits.{IsSampleValue}
 use Rattle.job.specs.event_cache.Windows.{AreWindows}
-use Rattle.det_client.specs.element_random.Words.{word}
-use Rattle.job.specs.declared.answers.Concluded.{Concluded}
-use Rattle.job.specs.Meaning.{Prepared, Worked}
+use Rattle.det_client.specs.element_random.RandomStreams.{word}
+use Rattle.job.specs.declared.job_results.Conclusion.{Conclusion}
+use Rattle.job.specs.Meaning.{Preparation, ElementResult}
 use Rattle.job.specs.Laws.{JobLaws, CoversSome, CoversBoth}
-use Rattle.job_shared.specs.Samples.{newest, IsSample}
+use Rattle.job_shared.specs.Samples.{newest_sample, IsSample}
 use Rattle.job_shared.proofs.Answered.{ok_same}
 use Rattle.job_shared.proofs.Apart.{u32_bytes-apart, i64_bytes-apart}
 use Rattle.job_shared.proofs.Made.{made_all}
@@ -23,11 +23,11 @@ use Rattle.jobs.specs.declared.cloud.cloud.Cloud.{Cloud}
 use Rattle.jobs.specs.declared.cloud.particle.Particle.{Particle}
 use Rattle.jobs.specs.declared.cloud.particle.Target.{Target}
 use Rattle.jobs.specs.declared.cloud.best.Best.{Best}
-use Rattle.jobs.specs.declared.cloud.cycle.Finished.{Finished}
+use Rattle.jobs.specs.declared.cloud.cloud_job.Finished.{Finished}
 use Rattle.jobs.specs.declared.cloud.steps.Step.{Step}
 use Rattle.jobs.specs.cloud.Steps.{lands, try_of, landing_from, landing, step_of, words_drawn}
 use Rattle.jobs.specs.cloud.Meaning.{meaning, first_particle, first_particles, target_of, is_held}
-use Rattle.jobs.specs.cloud.Meaning.{seed_of, distance, moved, stepped, pulled, after_pass, best_of}
+use Rattle.jobs.specs.cloud.Meaning.{seed_of, distance, coordinate_after, particle_after_step, particle_after_pull, after_pass, best_of}
 use Rattle.jobs.specs.cloud.Meaning.{drawn, is_better, better, joined, is_far, one_more, output}
 use Rattle.jobs.specs.cloud.Meaning.{shown}
 use Rattle.jobs.specs.cloud.Ranges.{IsPlace, Own, Fit, IsBestOf, IsPartOf, Covers}
@@ -86,10 +86,10 @@ parts_joined left right whole e a b n sum few h k =
     (part_joined left right a b h k (omega arith)))
 
 -- places
-pub moved_in_range : (z by : ℤ) → IsSampleValue (moved z by)
+pub moved_in_range : (z by : ℤ) → IsSampleValue (coordinate_after z by)
 moved_in_range z by = (omega (arith, ints, clamps), omega (arith, ints, clamps))
 
-own_stepped : (j : Cloud) (e : Particle) (s : Step) → Own j e → Own j (stepped e s)
+own_stepped : (j : Cloud) (e : Particle) (s : Step) → Own j e → Own j (particle_after_step e s)
 own_stepped j e s own =
     record {
       number = own.number;
@@ -101,7 +101,7 @@ own_either j true a b h k = h
 own_either j false a b h k = k
 
 own_pulled : (j : Cloud) (carry : Option Best) (e : Particle) (w n : ℕ) → IsPartOf carry n →
-    Own j e → Own j (pulled carry e w)
+    Own j e → Own j (particle_after_pull carry e w)
 own_pulled j None e w n h own = own
 own_pulled j (Some b) e w n h own = own_either j (nat_eq (w % 8) 0) e _ own (record {
   number = own.number;
@@ -165,8 +165,8 @@ or_zero (Some v) h = h
 fit_target : (n : ℕ) (ws : List (List ℤ)) → AreWindows n ws →
     IsPlace (target_of ws).tx (target_of ws).ty
 fit_target n ws h = record {
-  x_range = or_zero (newest ws 0) (newest_ok ws 0 h.values);
-  y_range = or_zero (newest ws 1) (newest_ok ws 1 h.values);
+  x_range = or_zero (newest_sample ws 0) (newest_ok ws 0 h.values);
+  y_range = or_zero (newest_sample ws 1) (newest_ok ws 1 h.values);
 }
 
 -- facts about a result that isn't a refusal
@@ -222,22 +222,22 @@ cloud_laws = record {
   covers_few = λ j part n h. part_few part n h;
   covers_unit = λ j. omega arith;
   covers_run = λ j plan carry pass e key w fit own below carried h. subst
-      (λ (x : Worked Particle (Option Best)). Covers j x.part 1) (ok_same _ _ h)
+      (λ (x : ElementResult Particle (Option Best)). Covers j x.part 1) (ok_same _ _ h)
       (one_best plan (after_pass j carry pass e key) fit
       (own_after j carry pass e key carried own).place);
   covers_joined = λ j left right a b h k few. part_joined left right a b h k few;
   own_run = λ j plan carry pass e key w fit own below carried h. subst
-      (λ (x : Worked Particle (Option Best)). Own j x.element) (ok_same _ _ h)
+      (λ (x : ElementResult Particle (Option Best)). Own j x.element) (ok_same _ _ h)
       (own_after j carry pass e key carried own);
   own_started = λ j seed. own_all_first j;
   fit_prepared = λ j globals es windows seed cycle time next p own few ws h. answered
-      (λ (x : Prepared Target). Fit j x.plan) (is_held (newest windows 2)) 1
+      (λ (x : Preparation Target). Fit j x.plan) (is_held (newest_sample windows 2)) 1
       (record { plan = target_of windows; seed = seed_of j seed cycle }) p
       (fit_target j.events windows ws) h;
   shown_few = λ j e own. omega arith;
   shown_apart = λ j a b p q e. apart j a b p q e;
   output_few = λ j globals plan part d h. answered
-      (λ (x : Concluded Finished). length x.output ≤ 1048576) (is_far j.far part) 2
+      (λ (x : Conclusion Finished). length x.output ≤ 1048576) (is_far j.far part) 2
       (record {
         globals = record { cycles = one_more globals };
         output = output part (one_more globals);

@@ -5,19 +5,19 @@ use Rattle.std.specs.Prelude.{◌==◌, if◌then◌else◌, nat_lt, int_lt, uns
 use Rattle.std.proofs.Common.{lit≤}
 use Rattle.std.specs.List.{range_with_len}
 use Rattle.std.specs.Int.{int_min, int_max}
-use Rattle.det_client.specs.element_random.Words.{key, word}
-use Rattle.job.specs.declared.answers.Concluded.{Concluded}
-use Rattle.job.specs.Meaning.{Meaning, Prepared, Worked}
+use Rattle.det_client.specs.element_random.RandomStreams.{key, word}
+use Rattle.job.specs.declared.job_results.Conclusion.{Conclusion}
+use Rattle.job.specs.Meaning.{Meaning, Preparation, ElementResult}
 use Rattle.job_shared.specs.Params.{is_param, natural_param, few_events}
 use Rattle.job_shared.proofs.Clamps.{natural_least, natural_most, events_few}
-use Rattle.job_shared.specs.Samples.{newest}
+use Rattle.job_shared.specs.Samples.{newest_sample}
 use Rattle.job_shared.specs.Bytes.{u32_bytes, u64_bytes, i64_bytes}
-use Rattle.job_shared.specs.Filter.{towards}
+use Rattle.job_shared.specs.Filter.{step_towards}
 use Rattle.jobs.specs.declared.cloud.cloud.Cloud.{Cloud}
 use Rattle.jobs.specs.declared.cloud.particle.Particle.{Particle}
 use Rattle.jobs.specs.declared.cloud.particle.Target.{Target}
 use Rattle.jobs.specs.declared.cloud.best.Best.{Best}
-use Rattle.jobs.specs.declared.cloud.cycle.Finished.{Finished}
+use Rattle.jobs.specs.declared.cloud.cloud_job.Finished.{Finished}
 use Rattle.jobs.specs.declared.cloud.steps.Step.{Step}
 use Rattle.jobs.specs.cloud.Steps.{landing, step_of, words_drawn}
 
@@ -66,37 +66,37 @@ seed_of j seed cycle = if reseeds j cycle then word (key seed cycle 255 0) 0 els
 
 abbrev pub target_of : List (List ℤ) → Target
 target_of windows = record {
-  tx = unwrap_or (newest windows 0) (pos 0);
-  ty = unwrap_or (newest windows 1) (pos 0);
+  tx = unwrap_or (newest_sample windows 0) (pos 0);
+  ty = unwrap_or (newest_sample windows 1) (pos 0);
 }
 
-abbrev pub prepared : Cloud → List (List ℤ) → ℕ → ℕ → Result (Prepared Target) ℕ
+abbrev pub prepared : Cloud → List (List ℤ) → ℕ → ℕ → Result (Preparation Target) ℕ
 prepared j windows seed cycle =
-    if is_held (newest windows 2) then Err 1
+    if is_held (newest_sample windows 2) then Err 1
     else Ok (record { plan = target_of windows; seed = seed_of j seed cycle })
 
 abbrev pub distance : Target → ℤ → ℤ → ℕ
 distance target x y = unsigned_abs (x -ℤ target.tx) + unsigned_abs (y -ℤ target.ty)
 
 -- a coordinate after a step, clamped to -10^12 to 10^12
-abbrev pub moved : ℤ → ℤ → ℤ
-moved z by = int_max (negsuc 999999999999) (int_min (pos 1000000000000) (z +ℤ by))
+abbrev pub coordinate_after : ℤ → ℤ → ℤ
+coordinate_after z by = int_max (negsuc 999999999999) (int_min (pos 1000000000000) (z +ℤ by))
 
-abbrev pub stepped : Particle → Step → Particle
-stepped e s = record e { x = moved e.x s.dx; y = moved e.y s.dy }
+abbrev pub particle_after_step : Particle → Step → Particle
+particle_after_step e s = record e { x = coordinate_after e.x s.dx; y = coordinate_after e.y s.dy }
 
 -- an eighth of the way to the best particle; no way if there is none, or for one of eight random
 -- numbers
-abbrev pub pulled : Option Best → Particle → ℕ → Particle
-pulled None e w = e
-pulled (Some best) e w =
-    if w % 8 == 0 then e else record e { x = towards e.x best.x 3; y = towards e.y best.y 3 }
+abbrev pub particle_after_pull : Option Best → Particle → ℕ → Particle
+particle_after_pull None e w = e
+particle_after_pull (Some best) e w =
+    if w % 8 == 0 then e else record e { x = step_towards e.x best.x 3; y = step_towards e.y best.y 3 }
 
 -- a particle after a pass, from the key of its stream
 abbrev pub after_pass : Cloud → Option Best → ℕ → Particle → ℕ → Particle
 after_pass j carry pass e k =
-    if pass == 0 then stepped e (step_of j.spread k (landing j.spread k))
-    else pulled carry e (word k 0)
+    if pass == 0 then particle_after_step e (step_of j.spread k (landing j.spread k))
+    else particle_after_pull carry e (word k 0)
 
 abbrev pub best_of : Target → Particle → Best
 best_of target e = record {
@@ -106,7 +106,7 @@ best_of target e = record {
   y = e.y;
 }
 
-abbrev pub placed : Target → Particle → Worked Particle (Option Best)
+abbrev pub placed : Target → Particle → ElementResult Particle (Option Best)
 placed target e = record { element = e; part = Some (best_of target e) }
 
 abbrev pub drawn : Cloud → ℕ → ℕ → ℕ
@@ -143,7 +143,7 @@ best_bytes (Some best) =
 abbrev pub output : Option Best → ℕ → List ℕ
 output part finished = best_bytes part ++ u32_bytes finished
 
-abbrev pub concluded : Cloud → Finished → Option Best → Result (Concluded Finished) ℕ
+abbrev pub concluded : Cloud → Finished → Option Best → Result (Conclusion Finished) ℕ
 concluded j g part =
     if is_far j.far part then Err 2
     else Ok (record { globals = record { cycles = one_more g }; output = output part (one_more g) })

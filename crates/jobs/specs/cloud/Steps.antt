@@ -2,7 +2,7 @@
 -- lands inside.
 use Rattle.std.specs.Prelude.{ℕ, ℤ, zero, suc, pos, ◌+◌, ◌*◌, ◌%◌, ◌≤◌, ◌+ℤ◌, ◌-ℤ◌, ◌*ℤ◌, Bool}
 use Rattle.std.specs.Prelude.{Option, None, Some, if◌then◌else◌, int_le, unsigned_abs}
-use Rattle.det_client.specs.element_random.Words.{word}
+use Rattle.det_client.specs.element_random.RandomStreams.{word}
 use Rattle.jobs.specs.declared.cloud.steps.Step.{Step}
 
 -- a number from -spread to spread, from a random number of 64 bits

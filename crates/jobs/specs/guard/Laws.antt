@@ -8,8 +8,8 @@ use Rattle.std.proofs.lemmas.List.{append-nil}
 use Rattle.std.proofs.lemmas.List.FromFn.{length-map-range_with_len}
 use Rattle.std.proofs.lemmas.Bool.Decides.{nat_tests}
 use Rattle.std.proofs.lemmas.Int.{ints}
-use Rattle.job.specs.declared.answers.Concluded.{Concluded}
-use Rattle.job.specs.Meaning.{Prepared, Worked}
+use Rattle.job.specs.declared.job_results.Conclusion.{Conclusion}
+use Rattle.job.specs.Meaning.{Preparation, ElementResult}
 use Rattle.job.specs.Laws.{JobLaws, CoversBoth}
 use Rattle.job_shared.specs.Bytes.{u32_bytes}
 use Rattle.job_shared.specs.Samples.{IsSample, AreSamples}
@@ -19,37 +19,37 @@ use Rattle.job_shared.proofs.Made.{made_all}
 use Rattle.job_shared.proofs.Windows.{newest_are_samples, sample_ok}
 use Rattle.jobs.specs.declared.guard.guard.Guard.{Guard}
 use Rattle.jobs.specs.declared.guard.channel.Channel.{Channel}
-use Rattle.jobs.specs.declared.guard.cycle.Total.{Total}
-use Rattle.jobs.specs.declared.guard.cycle.Plan.{Plan}
+use Rattle.jobs.specs.declared.guard.guard_job.Total.{Total}
+use Rattle.jobs.specs.declared.guard.guard_job.Plan.{Plan}
 use Rattle.jobs.specs.guard.Bounds.{contains}
 use Rattle.jobs.specs.guard.Meaning.{meaning, first_channel, first_channels, event_of, reading}
-use Rattle.jobs.specs.guard.Meaning.{judged, joined, next_bytes, output, total_after}
+use Rattle.jobs.specs.guard.Meaning.{channel_after, joined, next_bytes, output, total_after}
 use Rattle.jobs.specs.guard.Meaning.{shown}
 use Rattle.jobs.specs.guard.Ranges.{Own, Fit, IsPartOf, Covers}
 
 -- a fact about both results of a choice is a fact about its result
-chosen : (P : Worked Channel (List ℕ) → Type 0) (b c : Bool) (x y w : Worked Channel (List ℕ)) →
+chosen : (P : ElementResult Channel (List ℕ) → Type 0) (b c : Bool) (x y w : ElementResult Channel (List ℕ)) →
     P x → (c ≡ false → P y)
-    → ◌≡◌ {A = Result (Worked Channel (List ℕ)) ℕ} (cond b (Ok x) (cond c (Err 1) (Ok y))) (Ok w)
+    → ◌≡◌ {A = Result (ElementResult Channel (List ℕ)) ℕ} (cond b (Ok x) (cond c (Err 1) (Ok y))) (Ok w)
     → P w
 chosen P true c x y w px py h = subst P (ok_same x w h) px
 chosen P false true x y w px py h = cc
 chosen P false false x y w px py h = subst P (ok_same y w h) (py refl)
 
-part_judged : (j : Guard) (e : Channel) (r : Option ℤ) (w : Worked Channel (List ℕ)) →
-    judged j e r ≡ Ok w → IsPartOf w.part 1
+part_judged : (j : Guard) (e : Channel) (r : Option ℤ) (w : ElementResult Channel (List ℕ)) →
+    channel_after j e r ≡ Ok w → IsPartOf w.part 1
 part_judged j e None w h =
-    subst (λ (x : Worked Channel (List ℕ)). IsPartOf x.part 1) (ok_same _ w h)
+    subst (λ (x : ElementResult Channel (List ℕ)). IsPartOf x.part 1) (ok_same _ w h)
     (record { most = omega arith; few = omega arith })
 part_judged j e (Some v) w h =
     chosen (λ x. IsPartOf x.part 1) (contains j.bounds v) (nat_le j.limit (e.streak + 1)) _ _ w
     (record { most = omega arith; few = omega arith })
     (λ _. record { most = omega arith; few = omega arith }) h
 
-own_judged : (j : Guard) (e : Channel) (r : Option ℤ) (w : Worked Channel (List ℕ)) → IsSample r →
-    Own j e → judged j e r ≡ Ok w → Own j w.element
+own_judged : (j : Guard) (e : Channel) (r : Option ℤ) (w : ElementResult Channel (List ℕ)) → IsSample r →
+    Own j e → channel_after j e r ≡ Ok w → Own j w.element
 own_judged j e None w ok own h =
-    subst (λ (x : Worked Channel (List ℕ)). Own j x.element) (ok_same _ w h) own
+    subst (λ (x : ElementResult Channel (List ℕ)). Own j x.element) (ok_same _ w h) own
 own_judged j e (Some v) w ok own h =
     let positive : 1 ≤ j.limit = j.positive in
     chosen (λ x. Own j x.element) (contains j.bounds v) (nat_le j.limit (e.streak + 1)) _ _ w
@@ -108,9 +108,9 @@ length-output total part next few =
     let last = length-next_bytes next in
     omega (arith, length-append (flat_map u32_bytes part) (next_bytes next))
 
-output_by : (b : Bool) (j : Guard) (g : Total) (plan : Plan) (part : List ℕ) (d : Concluded Total) →
+output_by : (b : Bool) (j : Guard) (g : Total) (plan : Plan) (part : List ℕ) (d : Conclusion Total) →
     b ≡ ltb j.most (length part)
-    → ◌≡◌ {A = Result (Concluded Total) ℕ} (cond b (Err 2)
+    → ◌≡◌ {A = Result (Conclusion Total) ℕ} (cond b (Err 2)
     (Ok (record {
       globals = record { corrections = total_after g part };
       output = output (total_after g part) part plan.next;
@@ -119,7 +119,7 @@ output_by : (b : Bool) (j : Guard) (g : Total) (plan : Plan) (part : List ℕ) (
 output_by true j g plan part d e h = cc
 output_by false j g plan part d e h =
     let most : j.most ≤ 65536 = j.bounded in
-    subst (λ (x : Concluded Total). length x.output ≤ 1048576) (ok_same _ d h)
+    subst (λ (x : Conclusion Total). length x.output ≤ 1048576) (ok_same _ d h)
     (length-output (total_after g part) part plan.next (grind (arith, nat_tests)))
 
 apart : (j : Guard) (a b : Channel) → Own j a → Own j b → shown a ≡ shown b → a ≡ b
@@ -151,7 +151,7 @@ guard_laws = record {
       (reading plan.samples e) w (reading_ok j plan.samples e fit) own h;
   own_started = λ j seed. own_all_first j;
   fit_prepared = λ j globals es windows seed cycle time next p own few ws h. subst
-      (λ (x : Prepared Plan). Fit j x.plan) (ok_same _ _ h)
+      (λ (x : Preparation Plan). Fit j x.plan) (ok_same _ _ h)
       (newest_are_samples j.events windows ws);
   shown_few = λ j e own. omega arith;
   shown_apart = λ j a b p q e. apart j a b p q e;

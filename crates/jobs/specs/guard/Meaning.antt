@@ -4,8 +4,8 @@ use Rattle.std.specs.Prelude.{map, min, Option, None, Some, Result, Ok, Err, not
 use Rattle.std.specs.Prelude.{if◌then◌else◌, nat_lt, nat_le}
 use Rattle.std.proofs.Common.{lit≤}
 use Rattle.std.specs.List.{range_with_len, flat_map}
-use Rattle.job.specs.declared.answers.Concluded.{Concluded}
-use Rattle.job.specs.Meaning.{Meaning, Worked}
+use Rattle.job.specs.declared.job_results.Conclusion.{Conclusion}
+use Rattle.job.specs.Meaning.{Meaning, ElementResult}
 use Rattle.job_shared.specs.Params.{param, is_param, natural_param, few_events}
 use Rattle.job_shared.proofs.Clamps.{natural_least, natural_most, events_few}
 use Rattle.job_shared.specs.Samples.{all_newest, sample_of}
@@ -13,8 +13,8 @@ use Rattle.job_shared.specs.Bytes.{u16_bytes, u32_bytes, u64_bytes, i64_bytes}
 use Rattle.jobs.specs.guard.Bounds.{contains}
 use Rattle.jobs.specs.declared.guard.guard.Guard.{Guard}
 use Rattle.jobs.specs.declared.guard.channel.Channel.{Channel}
-use Rattle.jobs.specs.declared.guard.cycle.Total.{Total}
-use Rattle.jobs.specs.declared.guard.cycle.Plan.{Plan}
+use Rattle.jobs.specs.declared.guard.guard_job.Total.{Total}
+use Rattle.jobs.specs.declared.guard.guard_job.Plan.{Plan}
 
 -- parameters: 0 channels, 1 to 65,536; 1 low, -10^12 to 10^12; 2 high, low to 10^12; 3 limit, 1 to
 -- 1,000; 4 most, 0 to 65,536
@@ -57,18 +57,18 @@ abbrev pub reading : List (Option ℤ) → Channel → Option ℤ
 reading samples e = sample_of samples e.event
 
 -- a channel that keeps its value
-abbrev pub corrected : Channel → Worked Channel (List ℕ)
+abbrev pub corrected : Channel → ElementResult Channel (List ℕ)
 corrected e = record { element = record e { streak = e.streak + 1 }; part = e.number ∷ [] }
 
 -- a channel that holds a reading
-abbrev pub holding : Channel → ℤ → Worked Channel (List ℕ)
+abbrev pub holding : Channel → ℤ → ElementResult Channel (List ℕ)
 holding e value = record { element = record e { held = value; streak = 0 }; part = [] }
 
 -- A channel after a reading: without one it stays, and it holds one in range. Otherwise it is
 -- corrected, or refuses at the correction in a row whose number is `limit`.
-abbrev pub judged : Guard → Channel → Option ℤ → Result (Worked Channel (List ℕ)) ℕ
-judged j e None = Ok (record { element = e; part = [] })
-judged j e (Some value) =
+abbrev pub channel_after : Guard → Channel → Option ℤ → Result (ElementResult Channel (List ℕ)) ℕ
+channel_after j e None = Ok (record { element = e; part = [] })
+channel_after j e (Some value) =
     if contains j.bounds value then Ok (holding e value)
     else if nat_le j.limit (e.streak + 1) then Err 1
     else Ok (corrected e)
@@ -91,7 +91,7 @@ output total corrections next =
 abbrev pub total_after : Total → List ℕ → ℕ
 total_after g part = min (g.corrections + length part) (2 ^ 64 - 1)
 
-abbrev pub concluded : Guard → Total → Plan → List ℕ → Result (Concluded Total) ℕ
+abbrev pub concluded : Guard → Total → Plan → List ℕ → Result (Conclusion Total) ℕ
 concluded j g plan part =
     if nat_lt j.most (length part) then Err 2
     else Ok (record {
@@ -116,7 +116,7 @@ meaning = record {
       (record { plan = record { samples = all_newest windows; next = next }; seed = seed });
   passes_of = λ j plan. 1;
   unit_part = λ j. [];
-  worked = λ j plan carry pass e key. judged j e (reading plan.samples e);
+  worked = λ j plan carry pass e key. channel_after j e (reading plan.samples e);
   drawn = λ j plan carry pass e key. 0;
   joined = λ j left right. joined left right;
   concluded = λ j globals plan part. concluded j globals plan part;

@@ -4,7 +4,7 @@ use Rattle.det_values.specs.Limits.{IsSampleValue}
 use Rattle.job_shared.specs.Samples.{AreSamples}
 use Rattle.jobs.specs.declared.guard.guard.Guard.{Guard}
 use Rattle.jobs.specs.declared.guard.channel.Channel.{Channel}
-use Rattle.jobs.specs.declared.guard.cycle.Plan.{Plan}
+use Rattle.jobs.specs.declared.guard.guard_job.Plan.{Plan}
 use Rattle.jobs.specs.guard.Meaning.{event_of}
 
 pub record Own (j : Guard) (e : Channel) : Type 0 where

@@ -3,7 +3,7 @@
 ghost use Rattle.std.specs.Prelude.{◌≡◌, ◌≤◌, MatchResult, None, Some};
 
 use job::BadParam;
-use job_shared::{natural_param, no_more};
+use job_shared::{natural_param, no_more_params};
 
 /// A bank of filters, by its parameters and the number of events.
 #[derive(Debug, Drop)]
@@ -20,14 +20,14 @@ impl Bank {
     ghost use Rattle.jobs.specs.bank.Meaning.{bad_param, made, event_of};
 
     /// The bank with these parameters: channels, 1 to 65,536, and shift, 0 to 16.
-    pub(crate) fn of_params(params: &[i64], events: u16) -> Result<Bank, BadParam>
+    pub(crate) fn from_params(params: &[i64], events: u16) -> Result<Bank, BadParam>
         ensures { MatchResult result
             (λ job. (bad_param params.now events ≡ None) × (job ≡ made params.now events))
             (λ bad. bad_param params.now events ≡ Some bad.index) }
     {
         let channels = natural_param(params, 0, 1, 65536)?;
         let shift = natural_param(params, 1, 0, 16)?;
-        no_more(params, 2)?;
+        no_more_params(params, 2)?;
         Ok(Bank {
             channels,
             shift,

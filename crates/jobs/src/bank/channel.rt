@@ -13,7 +13,7 @@ ghost use Rattle.jobs.specs.bank.Ranges.{Own};
 
 use crate::bank::Bank;
 use det_values::{Container, OutOfMemory};
-use job_shared::towards;
+use job_shared::step_towards;
 use std::alloc::Global;
 
 /// A channel: its event and its level, from -10^12 to 10^12.
@@ -32,7 +32,7 @@ pub(crate) fn level_after(target: Option<i64>, level: i64, shift: u32) -> i64
     ensures limits { IsSampleValue result }
 {
     match target {
-        Some(target) => towards(level, target, shift),
+        Some(target) => step_towards(level, target, shift),
         None => level,
     }
 }

@@ -33,7 +33,7 @@ pub(crate) fn summary_of(level: i64) -> Summary
 
 /// The summary of the channels of both.
 #[inline(always)]
-fn both(left: Summary, right: Summary) -> Summary
+fn join_summaries(left: Summary, right: Summary) -> Summary
     requires { CoverTogether IsSummaryOf left right }
     ensures { Some result ≡ joined (Some left) (Some right) }
 {
@@ -55,7 +55,7 @@ pub(crate) fn joined(left: Option<Summary>, right: Option<Summary>) -> Option<Su
         None => right,
         Some(first) => match right {
             None => Some(first),
-            Some(second) => Some(both(first, second)),
+            Some(second) => Some(join_summaries(first, second)),
         },
     }
 }

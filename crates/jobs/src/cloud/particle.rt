@@ -6,7 +6,7 @@ ghost use Rattle.std.specs.List.{All};
 ghost use Rattle.det_values.specs.Limits.{IsSampleValue};
 ghost use Rattle.det_values.specs.Spelling.{Grows, an_element, spelled_drawn};
 ghost use Rattle.det_values.specs.Spelling.{spelled_u16, spelled_u32};
-ghost use Rattle.jobs.specs.cloud.Meaning.{first_particles, distance, moved, shown};
+ghost use Rattle.jobs.specs.cloud.Meaning.{first_particles, distance, coordinate_after, shown};
 ghost use Rattle.jobs.specs.cloud.Ranges.{Own, IsPlace};
 
 use crate::cloud::Cloud;
@@ -55,10 +55,10 @@ pub(crate) fn distance(target: Target, x: i64, y: i64) -> u64
 }
 
 /// A coordinate after a step, clamped to -10^12 to 10^12.
-pub(crate) fn moved(coordinate: i64, by: i64) -> i64
+pub(crate) fn coordinate_after(coordinate: i64, by: i64) -> i64
     requires coordinate { IsSampleValue coordinate }
     requires by { IsSampleValue by }
-    ensures moved { result ≡ moved coordinate by }
+    ensures coordinate_after { result ≡ coordinate_after coordinate by }
     ensures limits { IsSampleValue result }
 {
     (coordinate + by).clamp(-1_000_000_000_000, 1_000_000_000_000)

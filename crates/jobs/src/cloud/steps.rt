@@ -1,7 +1,7 @@
 //! Random steps inside a circle, by rejection.
 
 ghost use Rattle.std.specs.Prelude.{◌≡◌, ℕ, ℤ, ◌+◌, ◌*◌, ◌≤◌, ◌*ℤ◌, ◌≤ℤ◌, pos, unsigned_abs};
-ghost use Rattle.det_client.specs.element_random.Words.{StandsFor, word};
+ghost use Rattle.det_client.specs.element_random.RandomStreams.{StandsFor, word};
 ghost use Rattle.jobs.specs.cloud.Steps.{offset, lands, try_of, step_of, landing, words_drawn};
 ghost use Rattle.jobs.specs.cloud.Steps.{IsStep};
 

@@ -7,7 +7,7 @@ ghost use Rattle.det_values.specs.Spelling.{Grows, an_element, spelled_drawn};
 ghost use Rattle.det_values.specs.Spelling.{spelled_u16, spelled_u32};
 ghost use Rattle.job_shared.specs.Samples.{IsSample};
 ghost use Rattle.job.specs.Meaning.{AgreesWithPart, joined_to};
-ghost use Rattle.jobs.specs.guard.Meaning.{first_channels, reading, judged, joined, shown};
+ghost use Rattle.jobs.specs.guard.Meaning.{first_channels, reading, channel_after, joined, shown};
 ghost use Rattle.jobs.specs.guard.Ranges.{Own};
 
 use crate::guard::{Corrections, Guard};
@@ -61,7 +61,7 @@ pub(crate) fn reading(samples: &NewestSamples, channel: &Channel) -> Option<i64>
 /// A channel after a reading. If it is corrected, its number is added to `part`. It refuses with
 /// code 1 at the correction in a row whose number is `limit`.
 #[inline(always)]
-pub(crate) fn judged(
+pub(crate) fn channel_after(
     guard: &Guard,
     channel: &Channel,
     reading: Option<i64>,
@@ -70,8 +70,8 @@ pub(crate) fn judged(
     requires own { Own guard.now channel.now }
     requires reading { IsSample reading }
     requires room { length part.old < 65536 }
-    ensures judged { AgreesWithPart result part.new
-        (joined_to joined part.old (judged guard.now channel.now reading)) }
+    ensures channel_after { AgreesWithPart result part.new
+        (joined_to joined part.old (channel_after guard.now channel.now reading)) }
     ensures own { IfOk result (λ channel. Own guard.now channel) }
 {
     let Some(value) = reading else {

@@ -4,7 +4,7 @@ ghost use Rattle.std.specs.Prelude.{◌≡◌, ◌≤◌, MatchResult, None, Som
 
 use crate::guard::bounds::{Bounds, high_param};
 use job::BadParam;
-use job_shared::{natural_param, no_more, whole_param};
+use job_shared::{natural_param, no_more_params, whole_param};
 
 /// A guard of channels, by its parameters and the number of events.
 #[derive(Debug, Drop)]
@@ -26,7 +26,7 @@ impl Guard {
 
     /// The guard with these parameters: channels, 1 to 65,536, low, -10^12 to 10^12, high, low to
     /// 10^12, limit, 1 to 1,000, and most, 0 to 65,536.
-    pub(crate) fn of_params(params: &[i64], events: u16) -> Result<Guard, BadParam>
+    pub(crate) fn from_params(params: &[i64], events: u16) -> Result<Guard, BadParam>
         ensures { MatchResult result
             (λ job. (bad_param params.now events ≡ None) × (job ≡ made params.now events))
             (λ bad. bad_param params.now events ≡ Some bad.index) }
@@ -36,7 +36,7 @@ impl Guard {
         let high = high_param(params, low)?;
         let limit = natural_param(params, 3, 1, 1000)?;
         let most = natural_param(params, 4, 0, 65536)?;
-        no_more(params, 5)?;
+        no_more_params(params, 5)?;
         Ok(Guard {
             channels,
             bounds: Bounds::new(low, high),

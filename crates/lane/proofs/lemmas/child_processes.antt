@@ -1,4 +1,4 @@
 pub mod Items
 pub mod Reading
 pub mod Scripted
-pub mod Untold
+pub mod OpaqueState

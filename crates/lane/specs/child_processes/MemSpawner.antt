@@ -5,19 +5,19 @@ use Rattle.det_io.specs.PlannedCalls.{is_listed}
 use Rattle.lane.specs.child_processes.Spawners.{SpawnerState, Words}
 use Rattle.lane.specs.child_processes.Scripts.{words_at, bytes_under, status_under, rest_of}
 use Rattle.lane.specs.declared.child_processes.mem_spawner.Script.{Script}
-use Rattle.lane.specs.declared.child_processes.mem_spawner.running.Running.{Running}
+use Rattle.lane.specs.declared.child_processes.mem_spawner.running_child.RunningChild.{RunningChild}
 use Rattle.lane.specs.declared.child_processes.mem_spawner.MemSpawner.{MemSpawner}
 
 abbrev pub asked_in : Bool → List Script → List ℕ → Option (List Words)
 asked_in told scripts asked = cond told (Some (map (words_at scripts) asked)) None
 
-abbrev pub state_of : List Script → List Running → Bool → List ℕ → ℕ → SpawnerState
+abbrev pub state_of : List Script → List RunningChild → Bool → List ℕ → ℕ → SpawnerState
 state_of scripts children told asked faults = record {
   children = length children;
   faults = faults;
-  words = slice_get (map (λ (child : Running). words_at scripts child.script) children);
+  words = slice_get (map (λ (child : RunningChild). words_at scripts child.script) children);
   finished = λ k. unwrap_or
-      (slice_get (map (λ (child : Running). child.is_finished) children) k) false;
+      (slice_get (map (λ (child : RunningChild). child.is_finished) children) k) false;
   asked = asked_in told scripts asked;
   gives = bytes_under scripts;
   ends = status_under scripts;
@@ -26,7 +26,7 @@ state_of scripts children told asked faults = record {
 
 -- its state: all that its children do, and the calls of `start` as long as they are known
 abbrev pub mem_spawner_state : MemSpawner → SpawnerState
-mem_spawner_state s = state_of s.scripts s.children.items s.is_told s.asked.items s.faults
+mem_spawner_state s = state_of s.scripts s.children.items s.knows_asked s.asked.items s.faults
 
 -- what a spawner was made from, which no call changes
 pub record MemSpawnerSetup : Type 0 where

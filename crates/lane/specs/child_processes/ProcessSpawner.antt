@@ -4,7 +4,7 @@ use Rattle.std.specs.Prelude.{vec_len, vec_capacity}
 use Rattle.std.specs.declared.io.traits.Read.{Ghosts as ReadGhosts}
 use Rattle.std.specs.declared.io.traits.Write.{Ghosts as WriteGhosts}
 use Rattle.lane.specs.child_processes.Spawners.{SpawnerState}
-use Rattle.lane.specs.child_processes.Processes.{untold, code_of}
+use Rattle.lane.specs.child_processes.Processes.{opaque_state, code_of}
 use Rattle.lane.specs.declared.child_processes.process_spawner.ProcessSpawner.{ProcessSpawner}
 
 -- for each child, whether it was given to `finish`
@@ -14,7 +14,7 @@ finished_of s = s.finished.items
 
 abbrev pub process_state : {R A B C D : Type 0} {w : WriteGhosts B} {r : ReadGhosts C}
     {e : ReadGhosts D} → ProcessSpawner R A B C D w r e → SpawnerState
-process_state s = untold s.finished.items s.faults
+process_state s = opaque_state s.finished.items s.faults
 
 -- a child's process was waited for, and ended with this exit status
 abbrev pub EndedWith : {R A B C D : Type 0} {w : WriteGhosts B} {r : ReadGhosts C}

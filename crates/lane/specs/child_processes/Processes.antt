@@ -7,8 +7,8 @@ use Rattle.std.specs.declared.process.child.Child.{Child}
 use Rattle.lane.specs.child_processes.Spawners.{SpawnerState}
 
 -- a spawner whose arguments, bytes and exit statuses aren't known
-abbrev pub untold : List Bool → ℕ → SpawnerState
-untold finished faults = record {
+abbrev pub opaque_state : List Bool → ℕ → SpawnerState
+opaque_state finished faults = record {
   children = length finished;
   faults = faults;
   words = λ child. None;

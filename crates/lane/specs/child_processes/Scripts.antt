@@ -6,7 +6,7 @@ use Rattle.std.specs.Str.{bytes_eq}
 use Rattle.std.specs.Cmp.Lexicographic.{pointwise}
 use Rattle.lane.specs.child_processes.Spawners.{Words, words_of}
 use Rattle.lane.specs.declared.child_processes.mem_spawner.Script.{Script}
-use Rattle.lane.specs.declared.child_processes.mem_spawner.running.Running.{Running}
+use Rattle.lane.specs.declared.child_processes.mem_spawner.running_child.RunningChild.{RunningChild}
 
 abbrev pub same_words : Words → Words → Bool
 same_words a b = pointwise bytes_eq a b
@@ -36,9 +36,9 @@ abbrev pub status_under : List Script → Words → Option ℕ
 status_under scripts words = option_map (status_at scripts) (index_of scripts words)
 
 -- what a child has left
-abbrev pub rest_of : List Script → Running → List ℕ
+abbrev pub rest_of : List Script → RunningChild → List ℕ
 rest_of scripts child = cond child.is_finished [] (drop child.at (bytes_at scripts child.script))
 
 -- a child keeps to the first script with its arguments
-abbrev pub KeepsToFirst : List Script → Running → Type 0
+abbrev pub KeepsToFirst : List Script → RunningChild → Type 0
 KeepsToFirst scripts child = index_of scripts (words_at scripts child.script) ≡ Some child.script

@@ -3,13 +3,13 @@ ghost use Rattle.std.specs.Prelude.{◌≤◌, vec_len, vec_capacity};
 ghost use Rattle.std.specs.List.{All};
 ghost use Rattle.lane.specs.child_processes.Scripts.{KeepsToFirst};
 
-mod finding;
-mod running;
+mod running_child;
+mod script_search;
 
 use crate::child_processes::{SpawnFailed, Spawner};
 use det_io::{FailList, PlannedCalls, push_within};
 use det_values::{Limited, OutOfMemory};
-use running::Running;
+use running_child::RunningChild;
 use std::alloc::Global;
 
 /// What a child with these arguments writes, and the exit status with which it ends.
@@ -53,10 +53,10 @@ pub struct MemSpawner {
     faults: u64,
     // The number of calls of `start` that took room.
     starts: u32,
-    is_told: bool,
+    knows_asked: bool,
     // The arguments of each call of `start`, as the index of their script.
     asked: Vec<usize>,
-    children: Vec<Running>,
+    children: Vec<RunningChild>,
     ghost starts_within: { starts ≤ 64 },
     ghost asked_within: { vec_len asked ≤ starts },
     ghost children_within: { vec_len children ≤ starts },
@@ -82,7 +82,7 @@ impl MemSpawner {
             calls: PlannedCalls { fails, made: 0 },
             faults: 0,
             starts: 0,
-            is_told: true,
+            knows_asked: true,
             asked,
             children,
         })
@@ -129,13 +129,13 @@ impl Spawner for MemSpawner {
     {
         let is_listed = self.calls.next_fails();
         if self.starts == MOST_STARTS {
-            self.is_told = false;
+            self.knows_asked = false;
             self.faults = self.faults.saturating_add(1);
             return Err(SpawnFailed);
         }
         self.starts += 1;
-        let Some(script) = finding::index_of(self.scripts.as_slice(), words) else {
-            self.is_told = false;
+        let Some(script) = script_search::index_of(self.scripts.as_slice(), words) else {
+            self.knows_asked = false;
             self.faults = self.faults.saturating_add(1);
             return Err(SpawnFailed);
         };
@@ -145,7 +145,7 @@ impl Spawner for MemSpawner {
             return Err(SpawnFailed);
         }
         let number = self.children.len() as u32;
-        let child = Running {
+        let child = RunningChild {
             script,
             at: 0,
             is_finished: false,
@@ -181,8 +181,8 @@ impl Spawner for MemSpawner {
             return Err(SpawnFailed);
         }
         let running = self.children[child as usize];
-        let n = finding::copy_rest(self.scripts.as_slice(), running, buf);
-        self.children[child as usize] = Running {
+        let n = script_search::copy_rest(self.scripts.as_slice(), running, buf);
+        self.children[child as usize] = RunningChild {
             script: running.script,
             at: running.at + n,
             is_finished: running.is_finished,
@@ -213,7 +213,7 @@ impl Spawner for MemSpawner {
     {
         let is_listed = self.calls.next_fails();
         let ended = self.children[child as usize];
-        self.children[child as usize] = Running {
+        self.children[child as usize] = RunningChild {
             script: ended.script,
             at: ended.at,
             is_finished: true,
@@ -222,6 +222,6 @@ impl Spawner for MemSpawner {
             self.faults = self.faults.saturating_add(1);
             return Err(SpawnFailed);
         }
-        Ok(finding::status_at(self.scripts.as_slice(), ended.script))
+        Ok(script_search::status_at(self.scripts.as_slice(), ended.script))
     }
 }

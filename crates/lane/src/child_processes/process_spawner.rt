@@ -3,7 +3,7 @@ ghost use Rattle.std.specs.Prelude.{◌≡◌, ◌<◌, ◌≤◌, length, vec_l
 ghost use Rattle.lane.specs.child_processes.Processes.{code_of};
 
 use crate::child_processes::{SpawnFailed, Spawner};
-use det_io::{push_within, read_trying};
+use det_io::{push_within, read_with_retries};
 use std::alloc::Global;
 use std::io::{self, BufReader};
 use std::process::{Child, Command, OpenProcess, Processes, Stdio};
@@ -50,12 +50,12 @@ pub struct ProcessSpawner<R: Processes> {
 
 impl<R: Processes + Copy> ProcessSpawner<R> {
     ghost use Rattle.std.specs.Prelude.{◌≡◌, []};
-    ghost use Rattle.lane.specs.child_processes.Processes.{untold};
+    ghost use Rattle.lane.specs.child_processes.Processes.{opaque_state};
     ghost use Rattle.lane.specs.child_processes.ProcessSpawner.{process_state};
 
     /// A spawner without children.
     pub fn new(rt: &R, alloc: Global) -> ProcessSpawner<R>
-        ensures { process_state result ≡ untold [] 0 }
+        ensures { process_state result ≡ opaque_state [] 0 }
     {
         ProcessSpawner {
             rt: *rt,
@@ -74,7 +74,7 @@ impl<R: Processes> ProcessSpawner<R> {
     ghost use Rattle.std.specs.Prelude.{OnErr};
     ghost use Rattle.det_io.specs.Count.{Rose};
     ghost use Rattle.lane.specs.child_processes.Spawners.{Starts, words_of};
-    ghost use Rattle.lane.specs.child_processes.Processes.{untold};
+    ghost use Rattle.lane.specs.child_processes.Processes.{opaque_state};
     ghost use Rattle.lane.specs.child_processes.ProcessSpawner.{process_state, finished_of};
     ghost use Rattle.lane.specs.child_processes.ProcessSpawner.{HasRoom};
 
@@ -82,7 +82,7 @@ impl<R: Processes> ProcessSpawner<R> {
     fn keep(&mut self, child: Child<R::Started>, output: Output<R>)
         requires { HasRoom self.old }
         ensures { process_state self.new
-            ≡ untold (finished_of self.old ++ false ∷ []) (process_state self.old).faults }
+            ≡ opaque_state (finished_of self.old ++ false ∷ []) (process_state self.old).faults }
     {
         push_within(&mut self.children, child);
         push_within(&mut self.outputs, Some(output));
@@ -201,7 +201,7 @@ fn read_output<R: Processes>(
     ensures { IfOk result (λ n. n ≤ length buf.old) }
 {
     match output.as_mut() {
-        Some(output) => read_trying(output, buf).map_err(|_| SpawnFailed),
+        Some(output) => read_with_retries(output, buf).map_err(|_| SpawnFailed),
         None => Err(SpawnFailed),
     }
 }

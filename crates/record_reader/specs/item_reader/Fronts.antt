@@ -7,8 +7,8 @@ use Rattle.det_io.specs.declared.failure.Failure.TheVariants.{Read, Write, OutOf
 use Rattle.record_grammar.specs.Spelling.{AreBytes}
 use Rattle.record_view.specs.declared.partial.Partial.TheVariants.{Nothing}
 use Rattle.record_reader.specs.declared.item_reader.reader.ItemReader.{ItemReader}
-use Rattle.record_reader.specs.declared.item_reader.like.Front.{Front}
-use Rattle.record_reader.specs.declared.item_reader.like.Front.TheVariants as fronts
+use Rattle.record_reader.specs.declared.item_reader.comparison.Front.{Front}
+use Rattle.record_reader.specs.declared.item_reader.comparison.Front.TheVariants as fronts
 use Rattle.record_reader.specs.item_reader.Held.{held}
 use Rattle.record_reader.specs.item_reader.StandsFor.{unread}
 use Rattle.record_reader.specs.item_reader.Steps.{count_of}

@@ -52,7 +52,7 @@ impl ItemReader {
     ghost use Rattle.std.specs.Prelude.{ℕ, List, [], ◌∷◌, ◌++◌, Option, Some, None, Ok, Err};
     ghost use Rattle.det_io.specs.Shelf.{Reads, IsAtEnd};
     ghost use Rattle.det_io.specs.Traffic.{ShelfTraffic, shelf_run, failure_of, failure_in};
-    ghost use Rattle.record_grammar.specs.declared.fault.RecordFault.{RecordFault};
+    ghost use Rattle.record_grammar.specs.declared.record_fault.RecordFault.{RecordFault};
     ghost use Rattle.record_grammar.specs.Spelling.{AreBytes};
     ghost use Rattle.record_grammar.specs.declared.item.Item.{Item};
     ghost use Rattle.record_view.specs.Shows.{IsSpelling};

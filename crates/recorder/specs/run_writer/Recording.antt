@@ -23,8 +23,8 @@ Cuts Write before after bytes = GrewShort before after bytes
 Cuts OutOfMemory before after bytes = Same before after
 
 -- the counts after these bytes were written
-abbrev pub wrote : Counts → List ℕ → Counts
-wrote counts bytes = record counts { bytes = counted (counts.bytes + length bytes) }
+abbrev pub counts_after : Counts → List ℕ → Counts
+counts_after counts bytes = record counts { bytes = counted (counts.bytes + length bytes) }
 
 module _ {S G E L P : Type 0} where
   -- the engine, the profile and the counts stay
@@ -41,7 +41,7 @@ module _ {S G E L P : Type 0} where
       pub counts : recording.counts ≡ record { cycles = 0; refused = 0; bytes = 0 }
 
     -- its engine has run these inputs, and the record of their run was written except for its end
-    pub record Stands (recording : Recording S G E L P) (given : List CycleInput) : Type 0 where
+    pub record IsRecordingAfter (recording : Recording S G E L P) (given : List CycleInput) : Type 0 where
       pub engine : EngineStands m recording.profile recording.engine given
       pub going : recording.engine.stopped ≡ false
       pub counts : Counted recording.counts (runs m recording.profile given)
@@ -51,6 +51,6 @@ module _ {S G E L P : Type 0} where
     pub record Ran (profile : ProfileValue) (given : List CycleInput) (input : CycleInput)
         (recording : Recording S G E L P) (frame : RunFrame) (before after : List ℕ → Type 0)
         : Type 0 where
-      pub stands : Stands recording (given ++ input ∷ [])
+      pub stands : IsRecordingAfter recording (given ++ input ∷ [])
       pub run : frame ≡ frame_of m profile given (state_of m profile given) input
       pub took : Grew before after (spelled_frame profile.format (Run frame))

@@ -2,8 +2,8 @@
 ghost use Rattle.std.specs.Prelude.{◌≡◌};
 
 use crate::run_writer::counts::Counts;
-use crate::run_writer::frames::{frame_of, long_run, refusals, run_in};
-use crate::run_writer::parts::{count_blocks, write_parts};
+use crate::run_writer::frame_parts::{count_blocks, write_parts};
+use crate::run_writer::run_frames::{frame_of, long_run, refusals, run_in};
 use cycle_engine::{Desk, Engine};
 use det_io::{Failure, Sink, write_all};
 use det_values::{CycleInput, DrawnElements, Frame, OutOfMemory, Profile, RunFrame};
@@ -37,10 +37,11 @@ impl<J: Job> Recording<J> {
     ghost use Rattle.record_grammar.specs.Spelling.{CanSpell, spelled, spelled_frame};
     ghost use Rattle.record_codec.specs.FinishedRun.{finished_run};
     ghost use Rattle.recorder.specs.run_writer.Record.{opening, record_with, Counted};
-    ghost use Rattle.recorder.specs.run_writer.Recording.{IsNew, Stands, Cuts, Ran, Keeps, wrote};
+    ghost use Rattle.recorder.specs.run_writer.Recording.{IsNew, IsRecordingAfter, Cuts, Ran};
+    ghost use Rattle.recorder.specs.run_writer.Recording.{Keeps, counts_after};
 
     /// A recording of this engine's run, before anything of it is written. It allocates nothing.
-    pub fn of(alloc: Global, engine: Engine<J>, profile: Profile) -> Recording<J>
+    pub fn new(alloc: Global, engine: Engine<J>, profile: Profile) -> Recording<J>
         requires stands { EngineStands J.meaning profile engine [] }
         requires going { engine.stopped ≡ false }
         ensures new { IsNew J.meaning result }
@@ -65,7 +66,7 @@ impl<J: Job> Recording<J> {
     /// must not be used.
     pub fn open<K: Sink>(&mut self, sink: &mut K) -> Result<(), Failure>
         requires new { IsNew J.meaning self.old }
-        ensures opened { OnOk result (Stands J.meaning self.new []
+        ensures opened { OnOk result (IsRecordingAfter J.meaning self.new []
             × Grew (K.took sink.old) (K.took sink.new) (opening J.meaning self.old.profile)) }
         ensures cut { IfErr result (λ failure. Cuts failure (K.took sink.old) (K.took sink.new)
             (opening J.meaning self.old.profile)) }
@@ -86,14 +87,16 @@ impl<J: Job> Recording<J> {
         input: CycleInput,
         sink: &mut K,
     ) -> Result<RunFrame, Failure>
-        requires stands { (given : List Input) × Stands J.meaning self.old given }
+        requires stands { (given : List Input) × IsRecordingAfter J.meaning self.old given }
         requires few { self.old.engine.cycles < 1000000 }
         requires known { All (λ s. s.event < length self.old.profile.events) input.samples }
-        ensures ran { IfOk result (λ run. (given : List Input) → Stands J.meaning self.old given
+        ensures ran { IfOk result (λ run. (given : List Input)
+            → IsRecordingAfter J.meaning self.old given
             → Ran J.meaning self.old.profile given input self.new run
             (K.took sink.old) (K.took sink.new)) }
         ensures cut { IfErr result (λ failure. (given : List Input)
-            → Stands J.meaning self.old given → Cuts failure (K.took sink.old) (K.took sink.new)
+            → IsRecordingAfter J.meaning self.old given → Cuts failure (K.took sink.old) (K.took
+            sink.new)
             (spelled_frame self.old.profile.format (Frame.Run
             (frame_of J.meaning self.old.profile given
             (state_of J.meaning self.old.profile given) input)))) }
@@ -179,7 +182,7 @@ impl<J: Job> Recording<J> {
     /// recording must not be used.
     pub fn close<K: Sink>(&mut self, sink: &mut K) -> Result<Counts, Failure>
         ensures closed { IfOk result (λ counts. (given : List Input)
-            → Stands J.meaning self.old given
+            → IsRecordingAfter J.meaning self.old given
             → Counted counts (runs J.meaning self.old.profile given)
             (record_with J.meaning self.old.profile given true)) }
         ensures took { OnOk result (Grew (K.took sink.old) (K.took sink.new)
@@ -267,7 +270,7 @@ impl<J: Job> Recording<J> {
         requires { CanSpell self.old.profile.format (length self.old.profile.events) frame.now }
         ensures took { OnOk result (Grew (K.took sink.old) (K.took sink.new)
             (spelled_frame self.old.profile.format frame.now)) }
-        ensures wrote { OnOk result (self.new.counts ≡ wrote self.old.counts
+        ensures counts_after { OnOk result (self.new.counts ≡ counts_after self.old.counts
             (spelled_frame self.old.profile.format frame.now)) }
         ensures engine { self.new.engine ≡ self.old.engine }
         ensures profile { self.new.profile ≡ self.old.profile }
@@ -297,7 +300,7 @@ impl<J: Job> Recording<J> {
         requires short { length output.now ≤ 1048576 }
         ensures took { OnOk result (Grew (K.took sink.old) (K.took sink.new)
             (spelled_frame Two (finished_run input.now elements.now output.now))) }
-        ensures wrote { OnOk result (self.new.counts ≡ wrote self.old.counts
+        ensures counts_after { OnOk result (self.new.counts ≡ counts_after self.old.counts
             (spelled_frame Two (finished_run input.now elements.now output.now))) }
         ensures engine { self.new.engine ≡ self.old.engine }
         ensures profile { self.new.profile ≡ self.old.profile }
@@ -342,7 +345,7 @@ impl<J: Job> Recording<J> {
 
     /// Counts the bytes of a frame whose elements aren't in the buffer.
     fn count(&mut self, elements: &DrawnElements)
-        ensures counts { self.new.counts ≡ wrote self.old.counts
+        ensures counts { self.new.counts ≡ counts_after self.old.counts
             (spelled_all elements.now ++ self.old.buffer.items) }
         ensures engine { self.new.engine ≡ self.old.engine }
         ensures profile { self.new.profile ≡ self.old.profile }
@@ -355,8 +358,8 @@ impl<J: Job> Recording<J> {
     pub fn write<K: Sink>(&mut self, sink: &mut K) -> Result<(), Failure>
         ensures took { OnOk result
             (Grew (K.took sink.old) (K.took sink.new) self.old.buffer.items) }
-        ensures wrote { OnOk result
-            (self.new.counts ≡ wrote self.old.counts self.old.buffer.items) }
+        ensures counts_after { OnOk result
+            (self.new.counts ≡ counts_after self.old.counts self.old.buffer.items) }
         ensures engine { self.new.engine ≡ self.old.engine }
         ensures profile { self.new.profile ≡ self.old.profile }
         ensures cut { IfErr result (λ failure.

@@ -2,4 +2,4 @@ pub mod Items
 pub mod Giving
 pub mod Running
 pub mod Ending
-pub mod Told
+pub mod KnownRecord

@@ -13,16 +13,16 @@ use Rattle.record_grammar.specs.Record.{items as items_in}
 use Rattle.record_reader.specs.InItems.{frame_in, run_in}
 use Rattle.copies.specs.declared.difference.Difference.{Difference}
 use Rattle.copies.specs.FirstDifference.{frame_difference}
-use Rattle.rerun.specs.replayer.Again.{inputs}
+use Rattle.rerun.specs.replayer.ReplayRecord.{inputs}
 
 -- ---- frames, number by number
 
 -- the number of frames before the first one that differs from the one of its number in another list
-unfoldable pub agreeing : ℕ → List Frame → List Frame → ℕ
-agreeing number (frame ∷ others) (given ∷ later) =
-    if is_none (frame_difference number frame given) then suc (agreeing (suc number) others later)
+unfoldable pub agreeing_count : ℕ → List Frame → List Frame → ℕ
+agreeing_count number (frame ∷ others) (given ∷ later) =
+    if is_none (frame_difference number frame given) then suc (agreeing_count (suc number) others later)
     else 0
-agreeing number others later = 0
+agreeing_count number others later = 0
 
 -- the difference at that place; the first frames have this number
 unfoldable pub departure_from : ℕ → List Frame → List Frame → Option Difference
@@ -47,7 +47,7 @@ module _ {S G E L P : Type 0} (m : Meaning S G E L P) (profile : ProfileValue) w
   -- the number of frames of a record before the first that differs from the frame of its number in
   -- that run
   abbrev pub genuine_frames : List ℕ → ℕ
-  genuine_frames record_bytes = agreeing 0 (frames_in record_bytes) (given_by record_bytes)
+  genuine_frames record_bytes = agreeing_count 0 (frames_in record_bytes) (given_by record_bytes)
 
   -- the first difference of a record's frame from the frame of its number in that run
   abbrev pub departure : List ℕ → Option Difference

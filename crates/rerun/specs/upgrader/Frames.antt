@@ -11,8 +11,8 @@ use Rattle.det_io.specs.declared.failure.Failure.TheVariants.{Read, Write, OutOf
 use Rattle.job.specs.Meaning.{Meaning}
 use Rattle.copies.specs.declared.difference.Difference.{Difference}
 use Rattle.recorder.specs.declared.run_writer.recording.Recording.{Recording}
-use Rattle.rerun.specs.checker.Given.{IsBehind, input_of}
-use Rattle.rerun.specs.declared.upgrader.upgrading.Upgrade.{Upgrade}
+use Rattle.rerun.specs.checker.RerunFrames.{IsEngineAfter, input_of}
+use Rattle.rerun.specs.declared.upgrader.upgrade.Upgrade.{Upgrade}
 
 -- what is written in the place of a frame: nothing yet for Terminate
 abbrev pub unless_last : Frame → List ℕ → List ℕ
@@ -27,7 +27,7 @@ pub record Counted (frame : Frame) (old new : Upgrade) : Type 0 where
 -- the run goes on after this frame, and one more frame was compared
 pub record GoesOn {S G E L P : Type 0} (m : Meaning S G E L P) (given : List CycleInput)
     (frame : Frame) (recording : Recording S G E L P) (old new : Upgrade) : Type 0 where
-  pub behind : IsBehind m recording (given ++ input_of frame)
+  pub behind : IsEngineAfter m recording (given ++ input_of frame)
   pub counted : Counted frame old new
 
 -- what a result says of a frame with this difference, for which these bytes are written; without a

@@ -8,7 +8,7 @@ use Rattle.det_io.specs.declared.failure.Stopped.{Stopped}
 use Rattle.det_io.specs.declared.failure.Stopped.TheVariants.{Refused, Failed}
 use Rattle.job.specs.Meaning.{Meaning}
 use Rattle.jobs.specs.Kinds.{bad_param, by_kind}
-use Rattle.record_grammar.specs.declared.fault.RecordFault.{RecordFault}
+use Rattle.record_grammar.specs.declared.record_fault.RecordFault.{RecordFault}
 use Rattle.record_grammar.specs.declared.item.Item.{Item}
 use Rattle.record_grammar.specs.declared.item.Item.TheVariants.{Header}
 use Rattle.record_grammar.specs.Record.{items as items_in, fault as fault_in}
@@ -44,9 +44,9 @@ abbrev pub run_of : List ℕ → Result RunValue BadRun
 run_of record_bytes = run_by (items_in record_bytes) (fault_in record_bytes)
 
 -- why a record without a whole header has no run
-abbrev pub without_header : Stopped RecordFault → Stopped BadRun
-without_header (Refused fault) = Refused (Fault fault)
-without_header (Failed failure) = Failed failure
+abbrev pub as_bad_run : Stopped RecordFault → Stopped BadRun
+as_bad_run (Refused fault) = Refused (Fault fault)
+as_bad_run (Failed failure) = Failed failure
 
 -- why a refused run is missing, as the answer of a command
 abbrev pub refused : BadRun → Answer
@@ -61,6 +61,6 @@ over_run given otherwise (Ok run) = by_kind (λ S G E L P m. given S G E L P m r
 over_run given otherwise (Err why) = otherwise why
 
 -- the answer of a command without a run
-abbrev pub without_run : Stopped BadRun → Answer
-without_run (Refused why) = refused why
-without_run (Failed failure) = failed failure
+abbrev pub bad_run_answer : Stopped BadRun → Answer
+bad_run_answer (Refused why) = refused why
+bad_run_answer (Failed failure) = failed failure

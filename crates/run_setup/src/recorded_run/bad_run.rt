@@ -1,6 +1,6 @@
 //! `BadRun`: why a record has no run that can run again.
 ghost use Rattle.std.specs.Prelude.{◌≡◌};
-ghost use Rattle.run_setup.specs.recorded_run.Run.{without_run, without_header};
+ghost use Rattle.run_setup.specs.recorded_run.Run.{bad_run_answer, as_bad_run};
 
 use cli_answers::Answer;
 use det_io::Stopped;
@@ -16,8 +16,8 @@ pub enum BadRun {
 }
 
 /// The reason why a record without a whole header has no run.
-pub(crate) fn without_header(end: Stopped<RecordFault>) -> Stopped<BadRun>
-    ensures { result ≡ without_header end }
+pub(crate) fn as_bad_run(end: Stopped<RecordFault>) -> Stopped<BadRun>
+    ensures { result ≡ as_bad_run end }
 {
     match end {
         Stopped::Refused(fault) => Stopped::Refused(BadRun::Fault(fault)),
@@ -26,8 +26,8 @@ pub(crate) fn without_header(end: Stopped<RecordFault>) -> Stopped<BadRun>
 }
 
 /// The answer of a command without a run. The one record that it reads is copy 0.
-pub fn without_run(end: Stopped<BadRun>) -> Answer
-    ensures { result ≡ without_run end }
+pub fn bad_run_answer(end: Stopped<BadRun>) -> Answer
+    ensures { result ≡ bad_run_answer end }
 {
     match end {
         Stopped::Refused(BadRun::Fault(fault)) => Answer::BadRecord { copy: 0, fault },

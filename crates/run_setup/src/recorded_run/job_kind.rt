@@ -12,7 +12,7 @@ pub(crate) fn kind_of(profile: &Profile) -> Option<JobKind>
     ensures good { IfSome result (λ kind.
         bad_param kind profile.now.params (length profile.now.events) ≡ None) }
 {
-    let kind = JobKind::of_number(profile.job)?;
+    let kind = JobKind::from_number(profile.job)?;
     let events = profile.events.len() as u16;
     match bad_param(kind, &profile.params, events) {
         None => Some(kind),

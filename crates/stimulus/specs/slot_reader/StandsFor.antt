@@ -6,12 +6,12 @@ use Rattle.det_io.specs.declared.failure.Failure.TheVariants.{Read, Write, OutOf
 use Rattle.det_io.specs.declared.failure.Stopped.{Stopped}
 use Rattle.det_io.specs.declared.failure.Stopped.TheVariants.{Refused, Failed}
 use Rattle.det_values.specs.declared.frames.CycleInput.{CycleInput}
-use Rattle.stimulus.specs.declared.item.StimFault.{StimFault}
-use Rattle.stimulus.specs.declared.item.StimItem.{StimItem}
+use Rattle.stimulus.specs.declared.stimulus_item.StimulusFault.{StimulusFault}
+use Rattle.stimulus.specs.declared.stimulus_item.StimulusItem.{StimulusItem}
 use Rattle.stimulus.specs.Limits.{IsInput}
 use Rattle.stimulus.specs.Reading.{Terminated, BadLine, blocks, ending, has_bad, inputs_of}
 use Rattle.stimulus.specs.StandsFor.{StandsFor as Reads}
-use Rattle.stimulus.specs.declared.slot_reader.reader.StimulusReader.{StimulusReader}
+use Rattle.stimulus.specs.declared.slot_reader.stimulus_reader.StimulusReader.{StimulusReader}
 
 -- the slot that it reads
 abbrev pub slot_of : StimulusReader → ℕ
@@ -23,7 +23,7 @@ events_of r = r.text.events
 
 -- these bytes were read, and the inputs of these blocks returned
 pub record StandsFor (r : StimulusReader) (read : List ℕ) (given : List CycleInput) : Type 0 where
-  pub items : List StimItem
+  pub items : List StimulusItem
   pub reads : Reads r.text read items
   pub inputs : inputs_of items ≡ given
 
@@ -57,7 +57,7 @@ pub record IsBad (line events : ℕ) (at_end : Type 0) (read : List ℕ) (given 
   pub ending : ending events read ≡ BadLine line
   pub found : (has_bad events read ≡ true) ⊎ at_end
 
-abbrev pub InputIs : Result (Option CycleInput) (Stopped StimFault) → StimulusReader → Type 0
+abbrev pub InputIs : Result (Option CycleInput) (Stopped StimulusFault) → StimulusReader → Type 0
     → List ℕ → List CycleInput → Type 0
 InputIs (Ok (Some input)) r at_end read given =
     StandsFor r read (given ++ input ∷ []) × IsNext input (events_of r) read given

@@ -3,18 +3,18 @@ use Rattle.std.proofs.Common.{◌≡◌, ℕ, ◌≤◌, ◌%◌, List, [], ◌�
 use Rattle.std.proofs.Common.{true, false, cond, ltb, append_assoc, append-nil, length-append}
 use Rattle.std.proofs.Common.{subst}
 use Rattle.std.proofs.lemmas.List.Elements.{All-nil}
-use Rattle.job.specs.declared.answers.Concluded.{Concluded}
-use Rattle.job.specs.Meaning.{Worked}
+use Rattle.job.specs.declared.job_results.Conclusion.{Conclusion}
+use Rattle.job.specs.Meaning.{ElementResult}
 use Rattle.job.specs.Laws.{JobLaws}
 use Rattle.thread_tests.specs.declared.pool_tests.list_job.ListJob.{ListJob}
 use Rattle.thread_tests.specs.declared.pool_tests.list_job.NoGlobals.{NoGlobals}
 use Rattle.thread_tests.specs.pool_tests.Meaning.{meaning, byte_after, worked, drawn, Covers, Own, Fit}
 
-covers_run : (j : ListJob) (e k : ℕ) (w : Worked ℕ (List ℕ)) → worked j e k ≡ Ok w
+covers_run : (j : ListJob) (e k : ℕ) (w : ElementResult ℕ (List ℕ)) → worked j e k ≡ Ok w
     → Covers j w.part 1
 covers_run j e k w h = elim (ltb e j.limit) as (λ b. cond b
     (Ok (record { element = byte_after e k; part = e ∷ [] })) (Err e) ≡ Ok w → Covers j w.part 1) [
-      | true ↦ λ h. let same : ◌≡◌ {A = Worked ℕ (List ℕ)}
+      | true ↦ λ h. let same : ◌≡◌ {A = ElementResult ℕ (List ℕ)}
           (record { element = byte_after e k; part = e ∷ [] }) w = cc in
           rw (← same) (omega arith, omega arith)
       | false ↦ λ h. cc
@@ -49,7 +49,7 @@ list_laws = record {
   shown_few = λ j e own. omega arith;
   shown_apart = λ j a b l r h. cc;
   output_few = λ j globals plan part d h. subst
-      (λ (x : Concluded NoGlobals). length x.output ≤ 1048576) (ok_same _ _ h) (omega arith);
+      (λ (x : Conclusion NoGlobals). length x.output ≤ 1048576) (ok_same _ _ h) (omega arith);
   few_started = λ j seed. omega arith;
   fit_passes = λ j plan fit. (omega arith, omega arith);
   drawn_few = λ j plan carry pass e key. drawn_few j e;

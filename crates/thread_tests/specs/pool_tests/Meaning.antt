@@ -1,8 +1,8 @@
 -- The functions that define the list job.
 use Rattle.std.specs.Prelude.{ℕ, ◌≤◌, ◌%◌, ◌==◌, cond, ltb, if◌then◌else◌, List, [], ◌∷◌, ◌++◌}
 use Rattle.std.specs.Prelude.{length, None, Result, Ok, Err}
-use Rattle.det_client.specs.element_random.Words.{word}
-use Rattle.job.specs.Meaning.{Meaning, Worked}
+use Rattle.det_client.specs.element_random.RandomStreams.{word}
+use Rattle.job.specs.Meaning.{Meaning, ElementResult}
 use Rattle.thread_tests.specs.declared.pool_tests.list_job.ListJob.{ListJob}
 use Rattle.thread_tests.specs.declared.pool_tests.list_job.NoGlobals.{NoGlobals}
 use Rattle.thread_tests.specs.declared.pool_tests.list_job.NoPlan.{NoPlan}
@@ -11,7 +11,7 @@ use Rattle.thread_tests.specs.declared.pool_tests.list_job.NoPlan.{NoPlan}
 abbrev pub byte_after : ℕ → ℕ → ℕ
 byte_after byte key = if byte % 2 == 0 then byte else word key 0 % 256
 
-abbrev pub worked : ListJob → ℕ → ℕ → Result (Worked ℕ (List ℕ)) ℕ
+abbrev pub worked : ListJob → ℕ → ℕ → Result (ElementResult ℕ (List ℕ)) ℕ
 worked j e key = cond (ltb e j.limit) (Ok (record { element = byte_after e key; part = e ∷ [] }))
     (Err e)
 

@@ -2,7 +2,7 @@
 //! visible.
 
 ghost use Rattle.std.specs.Prelude.{◌≡◌, ℕ, ◌%◌};
-ghost use Rattle.det_client.specs.element_random.Words.{StandsFor};
+ghost use Rattle.det_client.specs.element_random.RandomStreams.{StandsFor};
 ghost use Rattle.thread_tests.specs.pool_tests.Meaning.{byte_after};
 
 use crate::pool_tests::watch::Watch;
@@ -10,7 +10,7 @@ use det_client::Client;
 use det_client::element_random::ElementRandom;
 use det_values::{Bytes, Container, Limited, OutOfMemory, Params};
 use job::event_cache::EventCache;
-use job::{BadParam, Concluded, Job, JobFault, Started};
+use job::{BadParam, Conclusion, Job, JobFault, JobStart};
 use std::alloc::Global;
 use std::sync::Arc;
 
@@ -81,8 +81,8 @@ impl Job for ListJob {
         &self,
         alloc: Global,
         _client: &mut Client,
-    ) -> Result<Started<NoGlobals, u8>, OutOfMemory> {
-        Ok(Started {
+    ) -> Result<JobStart<NoGlobals, u8>, OutOfMemory> {
+        Ok(JobStart {
             globals: NoGlobals,
             elements: Container::new(alloc),
         })
@@ -144,8 +144,8 @@ impl Job for ListJob {
         _plan: &NoPlan,
         _part: &Met,
         _spare: &mut Option<Bytes>,
-    ) -> Result<Concluded<NoGlobals>, JobFault> {
-        Ok(Concluded {
+    ) -> Result<Conclusion<NoGlobals>, JobFault> {
+        Ok(Conclusion {
             globals: NoGlobals,
             output: Bytes::new(alloc),
         })

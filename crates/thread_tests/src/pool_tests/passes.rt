@@ -10,24 +10,24 @@ use crate::pool_tests::list_job::{ListJob, Met, NoPlan};
 use crate::pool_tests::watch::Watch;
 use det_values::Container;
 use job::{PassDone, PassRoom, Pool, PoolFault};
-use pass_in_blocks::InOrder;
+use pass_in_blocks::SerialPool;
 use std::alloc::Global;
 use std::marker::Brand;
 use std::process::Abort;
 use std::sync::Arc;
 use std::sync::atomic::{AtomicBool, AtomicU64, Ordering};
 use std::thread::Threads;
-use tickets::Room;
-use worker_pool::{Crew, CrewRoom, HeldPass, NoGate, run_worker_pool};
+use tickets::OfficeName;
+use worker_pool::{Crew, CrewRoom, NoGate, OwnedPass, run_worker_pool};
 
 /// A pass of a list job.
-pub(crate) type ListPass = HeldPass<ListJob>;
+pub(crate) type ListPass = OwnedPass<ListJob>;
 
 /// The result of such a pass.
 pub(crate) type ListDone = Result<PassDone<u8, Met>, PoolFault>;
 
 /// A value behind a new `Arc`.
-pub(crate) fn shared<T: Drop, R: Abort>(rt: &R, alloc: Global, value: T) -> Arc<T, Global>
+pub(crate) fn new_shared<T: Drop, R: Abort>(rt: &R, alloc: Global, value: T) -> Arc<T, Global>
     ensures { arc_value result ≡ value }
 {
     match Arc::new(alloc, value) {
@@ -37,7 +37,7 @@ pub(crate) fn shared<T: Drop, R: Abort>(rt: &R, alloc: Global, value: T) -> Arc<
 }
 
 /// A clone of the `Arc`.
-fn again<T: Drop, R: Abort>(rt: &R, owner: &Arc<T, Global>) -> Arc<T, Global>
+fn clone_owner<T: Drop, R: Abort>(rt: &R, owner: &Arc<T, Global>) -> Arc<T, Global>
     ensures { arc_value result ≡ arc_value owner.now }
 {
     Arc::try_clone(owner).expect(rt, "out of memory")
@@ -82,25 +82,25 @@ pub(crate) fn list_pass<R: Abort>(
         watch,
         events: 0,
     };
-    HeldPass {
-        job: shared(rt, alloc, job),
-        plan: shared(rt, alloc, NoPlan),
-        carry: shared(rt, alloc, Met::new(alloc)),
+    OwnedPass {
+        job: new_shared(rt, alloc, job),
+        plan: new_shared(rt, alloc, NoPlan),
+        carry: new_shared(rt, alloc, Met::new(alloc)),
         number: 0,
-        elements: shared(rt, alloc, elements_of(rt, alloc, bytes)),
+        elements: new_shared(rt, alloc, elements_of(rt, alloc, bytes)),
         seed: 7,
         cycle: 1,
-        earlier: shared(rt, alloc, Container::new(alloc)),
+        earlier: new_shared(rt, alloc, Container::new(alloc)),
         shows: true,
     }
 }
 
 /// The result of such a pass by one thread, without a watch.
-pub(crate) fn alone<R: Abort>(rt: &R, alloc: Global, limit: u32, bytes: &[u8]) -> ListDone
+pub(crate) fn run_in_order<R: Abort>(rt: &R, alloc: Global, limit: u32, bytes: &[u8]) -> ListDone
     requires { length bytes.now ≤ 65536 }
 {
     let pass = list_pass(rt, alloc, limit, None, bytes);
-    InOrder.run_pass(&pass.pass(), &mut PassRoom::new(alloc))
+    SerialPool.run_pass(&pass.pass(), &mut PassRoom::new(alloc))
 }
 
 /// Whether two passes ended alike. Their shown bytes hold each element with its draws.
@@ -113,10 +113,15 @@ fn is_same(left: &ListDone, right: &ListDone) -> bool {
 }
 
 /// Whether a pass without refusals over these elements ended as by one thread.
-pub(crate) fn ended_as_alone<R: Abort>(rt: &R, alloc: Global, done: ListDone, bytes: &[u8]) -> bool
+pub(crate) fn ended_as_in_order<R: Abort>(
+    rt: &R,
+    alloc: Global,
+    done: ListDone,
+    bytes: &[u8],
+) -> bool
     requires { length bytes.now ≤ 65536 }
 {
-    is_same(&done, &alone(rt, alloc, 65536, bytes))
+    is_same(&done, &run_in_order(rt, alloc, 65536, bytes))
 }
 
 /// Whether this element refused the pass. Its byte equals its number.
@@ -142,7 +147,7 @@ pub(crate) fn is_alike<R: Threads + Abort>(
 ) -> bool
     requires { IsReady meaning Covers Own Fit pass.now }
 {
-    let gate = shared(rt, alloc, NoGate);
+    let gate = new_shared(rt, alloc, NoGate);
     for workers in [1, 2, 3, 8, 64] {
         if !is_same(
             &run_worker_pool(rt, alloc, &pass.pass(), workers, &gate),
@@ -167,13 +172,13 @@ pub(crate) fn gate_of<R: Abort>(
         let_go: AtomicBool::new(false),
     };
     let gate = HoldGate {
-        watch: shared(rt, alloc, watch),
+        watch: new_shared(rt, alloc, watch),
         worker,
         wanted,
         came: AtomicBool::new(false),
         rested: AtomicU64::new(0),
     };
-    shared(rt, alloc, gate)
+    new_shared(rt, alloc, gate)
 }
 
 /// A pass that a gate's watch sees.
@@ -186,12 +191,12 @@ pub(crate) fn watched_pass<R: Abort>(
     requires { length bytes.now ≤ 65536 }
     ensures { IsReady meaning Covers Own Fit result }
 {
-    list_pass(rt, alloc, 65536, Some(again(rt, &gate.watch)), bytes)
+    list_pass(rt, alloc, 65536, Some(clone_owner(rt, &gate.watch)), bytes)
 }
 
 /// Whether one crew in this room ends each of these passes as one thread does, in memory of the
 /// passes before. A row has the number of elements, and the least byte that refuses.
-fn is_alike_in_room<B: Room + Send + Sync + 'static, R: Threads + Abort>(
+fn is_alike_with_crew<B: OfficeName + Send + Sync + 'static, R: Threads + Abort>(
     rt: &R,
     alloc: Global,
     room: CrewRoom<ListJob>,
@@ -202,7 +207,7 @@ fn is_alike_in_room<B: Room + Send + Sync + 'static, R: Threads + Abort>(
     requires workers { (1 ≤ workers) × (workers ≤ 64) }
 {
     let bytes = many_bytes(rt, alloc);
-    let gate = shared(rt, alloc, NoGate);
+    let gate = new_shared(rt, alloc, NoGate);
     let crew = Crew::<ListJob, B, NoGate>::start(rt, alloc, room, workers, &gate);
     let mut crew = crew.expect(rt, "out of memory");
     let mut spares = PassRoom::new(alloc);
@@ -211,7 +216,7 @@ fn is_alike_in_room<B: Room + Send + Sync + 'static, R: Threads + Abort>(
         let elements = &bytes.as_slice()[..(*count).min(65536)];
         let pass = list_pass(rt, alloc, *limit, None, elements);
         let done = crew.run_pass(&pass.pass(), &mut spares);
-        is_alike = is_alike && is_same(&done, &alone(rt, alloc, *limit, elements));
+        is_alike = is_alike && is_same(&done, &run_in_order(rt, alloc, *limit, elements));
     }
     crew.stop(rt);
     is_alike
@@ -227,12 +232,12 @@ pub(crate) fn is_crew_alike<R: Threads + Abort>(
     requires { (1 ≤ workers) × (workers ≤ 64) }
 {
     let room = CrewRoom::new(alloc).expect(rt, "out of memory");
-    is_alike_in_room::<Brand, R>(rt, alloc, room, workers, rows)
+    is_alike_with_crew::<Brand, R>(rt, alloc, room, workers, rows)
 }
 
 /// Two passes by a crew of two workers in this room. Between them the held element is let go. The
 /// second one runs in memory of the first.
-fn twice_in_room<B: Room + Send + Sync + 'static, R: Threads + Abort>(
+fn run_twice_with_crew<B: OfficeName + Send + Sync + 'static, R: Threads + Abort>(
     rt: &R,
     alloc: Global,
     room: CrewRoom<ListJob>,
@@ -255,7 +260,7 @@ fn twice_in_room<B: Room + Send + Sync + 'static, R: Threads + Abort>(
 }
 
 /// Two passes by one crew of two workers. Between them the held element is let go.
-pub(crate) fn twice<R: Threads + Abort>(
+pub(crate) fn run_twice<R: Threads + Abort>(
     rt: &R,
     alloc: Global,
     first: &ListPass,
@@ -266,5 +271,5 @@ pub(crate) fn twice<R: Threads + Abort>(
     requires second { IsReady meaning Covers Own Fit second.now }
 {
     let room = CrewRoom::new(alloc).expect(rt, "out of memory");
-    twice_in_room::<Brand, R>(rt, alloc, room, first, second, gate)
+    run_twice_with_crew::<Brand, R>(rt, alloc, room, first, second, gate)
 }

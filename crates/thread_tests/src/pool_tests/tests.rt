@@ -1,8 +1,8 @@
 use crate::pool_tests::HELD;
 use crate::pool_tests::gates::Wanted;
 use crate::pool_tests::passes::{
-    alone, ended_as_alone, gate_of, is_alike, is_crew_alike, is_refused, list_pass, many_bytes,
-    shared, twice, watched_pass,
+    ended_as_in_order, gate_of, is_alike, is_crew_alike, is_refused, list_pass, many_bytes,
+    new_shared, run_in_order, run_twice, watched_pass,
 };
 use std::sync::atomic::Ordering;
 use worker_pool::{MeetGate, run_worker_pool};
@@ -26,10 +26,10 @@ const ROWS: [(usize, u32); 12] = [
 
 #[test]
 fn workers_meet(rt: HostRuntime) {
-    let gate = shared(&rt, rt.alloc(), MeetGate::new());
+    let gate = new_shared(&rt, rt.alloc(), MeetGate::new());
     let pass = list_pass(&rt, rt.alloc(), 65536, None, &[3; 128]);
     let done = run_worker_pool(&rt, rt.alloc(), &pass.pass(), 2, &gate);
-    assert!(rt; gate.met() && ended_as_alone(&rt, rt.alloc(), done, &[3; 128]));
+    assert!(rt; gate.met() && ended_as_in_order(&rt, rt.alloc(), done, &[3; 128]));
 }
 
 /// The result of the pool is that of the pass in order, whose part is the list of the elements. Of
@@ -40,7 +40,7 @@ fn every_number_of_workers_answers_alike(rt: HostRuntime) {
     for (count, limit) in ROWS {
         let elements = &bytes.as_slice()[..count.min(65536)];
         let pass = list_pass(&rt, rt.alloc(), limit, None, elements);
-        let wanted = alone(&rt, rt.alloc(), limit, elements);
+        let wanted = run_in_order(&rt, rt.alloc(), limit, elements);
         let refuses = (limit as usize) < count;
         assert!(rt;
             is_refused(&wanted, limit) == refuses,
@@ -73,7 +73,7 @@ fn blocks_are_claimed(rt: HostRuntime) {
     let pass = watched_pass(&rt, rt.alloc(), &gate, &[3; 128]);
     let done = run_worker_pool(&rt, rt.alloc(), &pass.pass(), 2, &gate);
     assert!(rt; gate.came.load(Ordering::SeqCst) && gate.watch.runs.load(Ordering::SeqCst) == 128);
-    assert!(rt; ended_as_alone(&rt, rt.alloc(), done, &[3; 128]));
+    assert!(rt; ended_as_in_order(&rt, rt.alloc(), done, &[3; 128]));
 }
 
 /// The caller is held until a kept thread has run all elements and has replied. The reply is used,
@@ -84,7 +84,7 @@ fn a_block_of_a_kept_thread_is_run_once(rt: HostRuntime) {
     let pass = watched_pass(&rt, rt.alloc(), &gate, &[3; 128]);
     let done = run_worker_pool(&rt, rt.alloc(), &pass.pass(), 2, &gate);
     assert!(rt; gate.came.load(Ordering::SeqCst) && gate.watch.runs.load(Ordering::SeqCst) == 128);
-    assert!(rt; ended_as_alone(&rt, rt.alloc(), done, &[3; 128]));
+    assert!(rt; ended_as_in_order(&rt, rt.alloc(), done, &[3; 128]));
 }
 
 /// A thread that replied to one pass gets work in the next. The caller is held in the second pass
@@ -94,10 +94,10 @@ fn a_kept_thread_works_in_each_pass(rt: HostRuntime) {
     let gate = gate_of(&rt, rt.alloc(), 0, Wanted::Rest(128));
     let first = list_pass(&rt, rt.alloc(), 65536, None, &[3; 128]);
     let second = watched_pass(&rt, rt.alloc(), &gate, &[5; 128]);
-    let (before, after) = twice(&rt, rt.alloc(), &first, &second, &gate);
+    let (before, after) = run_twice(&rt, rt.alloc(), &first, &second, &gate);
     assert!(rt; gate.came.load(Ordering::SeqCst) && gate.watch.runs.load(Ordering::SeqCst) == 128);
-    assert!(rt; ended_as_alone(&rt, rt.alloc(), before, &[3; 128]));
-    assert!(rt; ended_as_alone(&rt, rt.alloc(), after, &[5; 128]));
+    assert!(rt; ended_as_in_order(&rt, rt.alloc(), before, &[3; 128]));
+    assert!(rt; ended_as_in_order(&rt, rt.alloc(), after, &[5; 128]));
 }
 
 /// A kept thread is held at the gate through a whole pass, and let go before the next one. Its
@@ -107,10 +107,10 @@ fn a_reply_to_an_earlier_pass_is_thrown_away(rt: HostRuntime) {
     let gate = gate_of(&rt, rt.alloc(), 1, Wanted::LetGo);
     let first = list_pass(&rt, rt.alloc(), 65536, None, &[3; 300]);
     let second = list_pass(&rt, rt.alloc(), 65536, None, &[5; 300]);
-    let (before, after) = twice(&rt, rt.alloc(), &first, &second, &gate);
+    let (before, after) = run_twice(&rt, rt.alloc(), &first, &second, &gate);
     assert!(rt; gate.came.load(Ordering::SeqCst));
-    assert!(rt; ended_as_alone(&rt, rt.alloc(), before, &[3; 300]));
-    assert!(rt; ended_as_alone(&rt, rt.alloc(), after, &[5; 300]));
+    assert!(rt; ended_as_in_order(&rt, rt.alloc(), before, &[3; 300]));
+    assert!(rt; ended_as_in_order(&rt, rt.alloc(), after, &[5; 300]));
 }
 
 /// A kept thread claims a block and is held in it until the caller gives up and runs the block
@@ -120,8 +120,8 @@ fn a_block_that_is_given_up_is_run_again(rt: HostRuntime) {
     let gate = gate_of(&rt, rt.alloc(), 0, Wanted::Hold);
     let first = watched_pass(&rt, rt.alloc(), &gate, &[HELD; 128]);
     let second = watched_pass(&rt, rt.alloc(), &gate, &[5; 128]);
-    let (before, after) = twice(&rt, rt.alloc(), &first, &second, &gate);
+    let (before, after) = run_twice(&rt, rt.alloc(), &first, &second, &gate);
     assert!(rt; gate.came.load(Ordering::SeqCst));
-    assert!(rt; ended_as_alone(&rt, rt.alloc(), before, &[HELD; 128]));
-    assert!(rt; ended_as_alone(&rt, rt.alloc(), after, &[5; 128]));
+    assert!(rt; ended_as_in_order(&rt, rt.alloc(), before, &[HELD; 128]));
+    assert!(rt; ended_as_in_order(&rt, rt.alloc(), after, &[5; 128]));
 }

@@ -1,7 +1,7 @@
 //! Two copies of a run of the heavy job, each on its own thread.
 ghost use Rattle.std.specs.Prelude.{◌≡◌, ◌≤◌, length, IfOk};
 ghost use Rattle.det_values.specs.Values.{ProfileValue};
-ghost use Rattle.twins.specs.Making.{AreKnown};
+ghost use Rattle.twins.specs.TwinFrames.{AreKnown};
 
 use copies::{Difference, Verdict};
 use det_values::{CycleInput, Events, Format, Frame, OutOfMemory, Params, Profile, Samples};
@@ -109,10 +109,10 @@ impl Watch {
 }
 
 impl Tamper for Watch {
-    ghost use Rattle.twins.specs.Tampers.{turned_at};
+    ghost use Rattle.twins.specs.Tampers.{flipped_at};
 
     ghost altered = { λ watch copy number frame.
-        turned_at watch.flip.copy watch.flip.number copy number frame };
+        flipped_at watch.flip.copy watch.flip.number copy number frame };
 
     fn alter(
         &self,

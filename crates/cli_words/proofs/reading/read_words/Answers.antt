@@ -5,7 +5,7 @@ use Rattle.std.proofs.lemmas.List.{take_rest}
 use Rattle.cli_words.specs.Names.{texts}
 use Rattle.cli_words.proofs.Steps.{many}
 use Rattle.cli_words.proofs.reading.read_words.Goals as goal
-use Rattle.cli_words.specs.First.{read}
+use Rattle.cli_words.specs.FirstWord.{read}
 
 pub returns-in-len3-up : goal.returns-in-len3-up
 returns-in-len3-up c =

@@ -6,11 +6,11 @@ use Rattle.std.specs.List.{AllByRecursion, AllPairs, AllZip, range_with_len}
 use Rattle.std.proofs.lemmas.List.Elements.{All-tail, recursion_from_All}
 use Rattle.std.proofs.lemmas.List.{length-map}
 use Rattle.det_io.specs.Shelf.{ShelfState}
-use Rattle.cmd_records.specs.open_names.Opened.{Opened}
-use Rattle.cli_answers.specs.Outcome.{Tells, told}
-use Rattle.cli_answers.proofs.Telling.{held}
+use Rattle.cmd_records.specs.open_names.OpenedSlots.{Opened}
+use Rattle.cli_answers.specs.Outcome.{KnowsBytes, known_bytes}
+use Rattle.cli_answers.proofs.KnownBytes.{held}
 use Rattle.cli_answers.specs.Slots.{KeepsSlots}
-use Rattle.copies.specs.Compared.{AreDifferent, AreGiven, AreLeft, ReadsAmong}
+use Rattle.copies.specs.CompareCopies.{AreDifferent, AreGiven, AreLeft, ReadsAmong}
 
 -- no slot comes twice where any two differ
 different-of : (slots : List ℕ) → AllPairs (λ slot other. slot ≢ other) slots → AreDifferent slots
@@ -24,16 +24,17 @@ told-at : (holds : Option (List ℕ)) (bytes : List ℕ) (P : List ℕ → Type 
 told-at holds bytes P e p = rw e at p
 
 -- each slot has left what its name held, if that is known
-left-of : (first mid : ShelfState) (names : List (List ℕ)) (slots : List ℕ) → Tells first names
+left-of : (first mid : ShelfState) (names : List (List ℕ)) (slots : List ℕ) → KnowsBytes first names
     → AllZip (λ name slot. IfSome (first.holds name) (λ bytes. mid.left slot ≡ Some bytes)) names slots
-    → AreLeft mid slots (map (told first) names)
-left-of first mid [] [] tells left = tt
-left-of first mid [] (slot ∷ slots) tells left = absurd left
-left-of first mid (name ∷ names) [] tells left = absurd left
-left-of first mid (name ∷ names) (slot ∷ slots) tells left = (
-  told-at (first.holds name) (told first name) (λ bytes. mid.left slot ≡ Some bytes) (held (first.holds name) (tells 0 name (omega arith)))
+    → AreLeft mid slots (map (known_bytes first) names)
+left-of first mid [] [] is_known left = tt
+left-of first mid [] (slot ∷ slots) is_known left = absurd left
+left-of first mid (name ∷ names) [] is_known left = absurd left
+left-of first mid (name ∷ names) (slot ∷ slots) is_known left = (
+  told-at (first.holds name) (known_bytes first name) (λ bytes. mid.left slot ≡ Some bytes) (held (first.holds name) (is_known 0 name (omega
+      arith)))
       left.0,
-  left-of first mid names slots (All-tail (λ other. IsSome (first.holds other)) name names tells) left.1,
+  left-of first mid names slots (All-tail (λ other. IsSome (first.holds other)) name names is_known) left.1,
 )
 
 -- two lists that are paired are as long
@@ -69,8 +70,8 @@ module _ {first mid : ShelfState} {slots here : List ℕ} (recorded : List (Bor 
   are-different = different-of here opened-here.apart
 
   -- what the slots have left is what the names held
-  pub are-left : Tells first (texts recorded) → AreLeft mid here (map (told first) (texts recorded))
-  are-left tells = left-of first mid (texts recorded) here tells opened-here.left
+  pub are-left : KnowsBytes first (texts recorded) → AreLeft mid here (map (known_bytes first) (texts recorded))
+  are-left is_known = left-of first mid (texts recorded) here is_known opened-here.left
 
   -- reads of the slots keep what was given before them
   pub keeps-copies : {last : ShelfState} → KeepsSlots first mid → ReadsAmong mid last here → KeepsSlots first last

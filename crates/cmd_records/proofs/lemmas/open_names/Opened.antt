@@ -9,7 +9,7 @@ use Rattle.std.proofs.lemmas.List.{take_more, map-append, take-append-drop, leng
 use Rattle.det_io.specs.Prefix.{IsPrefix}
 use Rattle.det_io.specs.Shelf.{ShelfState, Opens, Asks, AsksPrefix}
 use Rattle.det_io.proofs.Opening.{opens-other, opens-apart, asks-then}
-use Rattle.cmd_records.specs.open_names.Opened.{Opened}
+use Rattle.cmd_records.specs.open_names.OpenedSlots.{Opened}
 
 -- what is left of slots that are given
 abbrev Left : (before after : ShelfState) → List ℕ → ℕ → Type 0

@@ -12,24 +12,24 @@ use Rattle.det_io.specs.Sink.{Grew, GrewByPrefix, GrewShort}
 use Rattle.det_io.specs.Traffic.{ShelfRun, SinkRun}
 use Rattle.det_io.proofs.Growth.{grew-none, grew-then, grew-then-short, part-wider, part-whole, short-part}
 use Rattle.det_io.proofs.Prefixes.{prefix-none, prefix-same, prefix-then, prefix-append, proper-then, proper-behind}
-use Rattle.record_grammar.specs.declared.fault.RecordFault.{RecordFault}
+use Rattle.record_grammar.specs.declared.record_fault.RecordFault.{RecordFault}
 use Rattle.record_grammar.specs.declared.item.Item.{Item}
 use Rattle.record_grammar.specs.Record.{items as items_in, fault as fault_in}
-use Rattle.record_text.specs.declared.part.ShowPart.{ShowPart}
-use Rattle.record_text.specs.declared.part.ShowPart.TheVariants.{All, Reports, Cycle}
+use Rattle.record_text.specs.declared.show_part.ShowPart.{ShowPart}
+use Rattle.record_text.specs.declared.show_part.ShowPart.TheVariants.{All, Reports, Cycle}
 use Rattle.record_reader.specs.item_reader.StandsFor.{FoundFault, IsFaulty}
 use Rattle.record_reader.proofs.lemmas.item_reader.Needed.{while-weaker}
-use Rattle.record_reader.specs.Taking.{AreAll, RecordRead, ItemsRead}
-use Rattle.record_reader.proofs.Taking.{behind, over, told, of-slot}
+use Rattle.record_reader.specs.ItemTaker.{AreAll, RecordRead, ItemsRead}
+use Rattle.record_reader.proofs.ItemTaker.{behind, over, told, of-slot}
 use Rattle.probes.specs.Reports.{ProbeLife, AudienceState, reported, reports, in_turn}
 use Rattle.probes.specs.Shows.{Shows, SawRuns}
 use Rattle.probes.proofs.Shown.{all-reports}
 use Rattle.cmd_records.specs.declared.record_show.shown.Shown.{Shown}
-use Rattle.cmd_records.specs.declared.record_show.printing.Printer.{Printer}
+use Rattle.cmd_records.specs.declared.record_show.printer.Printer.{Printer}
 use Rattle.cmd_records.specs.record_show.Text.{lines_of, reports_of, text_from, text_of}
 use Rattle.record_reader.specs.InItems.{runs_in}
-use Rattle.cmd_records.specs.record_show.Showing.{Watched, Kept, showing}
-use Rattle.cmd_records.specs.record_show.Ended.{Answers, SawFirst, Sees, Finished, IsGone, FinishIs, ReadsTo, WroteRead, Ended}
+use Rattle.cmd_records.specs.record_show.PrintedItems.{Watched, Kept, showing}
+use Rattle.cmd_records.specs.record_show.ShowEnds.{Answers, SawFirst, Sees, Finished, IsGone, FinishIs, ReadsTo, WroteRead, Ended}
 use Rattle.cmd_records.proofs.lemmas.record_show.Parts.{part-first, none-yet}
 use Rattle.cmd_records.proofs.lemmas.record_show.Taken.{kept-same}
 

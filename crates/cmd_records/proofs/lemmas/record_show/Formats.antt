@@ -11,7 +11,7 @@ use Rattle.record_grammar.specs.declared.item.Item.TheVariants as items
 use Rattle.record_grammar.specs.Places.{after, format_of, CanFollow}
 use Rattle.record_grammar.specs.Leads.{Leads}
 use Rattle.record_grammar.proofs.Leads.{can_follow}
-use Rattle.cmd_records.specs.record_show.Showing.{format_by, format_behind}
+use Rattle.cmd_records.specs.record_show.PrintedItems.{format_by, format_behind}
 
 none_at_end : (x : Item) → CanFollow places.End x → ⊥
 none_at_end (items.Header p) can = can

@@ -13,7 +13,7 @@ use Rattle.record_grammar.specs.declared.item.Item.TheVariants as items
 use Rattle.record_text.specs.Records.{header_lines, frame_lines, run_lines, item_lines, record_lines}
 use Rattle.record_reader.specs.InItems.{runs_in}
 use Rattle.record_reader.specs.InItems.{run_in}
-use Rattle.cmd_records.specs.record_show.Showing.{format_by, format_behind, lines_at}
+use Rattle.cmd_records.specs.record_show.PrintedItems.{format_by, format_behind, lines_at}
 
 -- the lines of one item
 

@@ -13,12 +13,12 @@ use Rattle.det_io.proofs.Prefixes.{prefix-none}
 use Rattle.record_grammar.specs.declared.item.Item.{Item}
 use Rattle.record_grammar.specs.declared.item.Item.TheVariants as items
 use Rattle.record_reader.proofs.Items.{NextIs}
-use Rattle.record_text.specs.declared.part.ShowPart.{ShowPart}
-use Rattle.record_text.specs.declared.part.ShowPart.TheVariants.{All, Reports, Cycle}
+use Rattle.record_text.specs.declared.show_part.ShowPart.{ShowPart}
+use Rattle.record_text.specs.declared.show_part.ShowPart.TheVariants.{All, Reports, Cycle}
 use Rattle.record_text.specs.Records.{run_lines, record_lines}
 use Rattle.cmd_records.specs.record_show.Text.{format_in, cycle_lines, lines_of}
 use Rattle.record_reader.specs.InItems.{run_in, runs_in}
-use Rattle.cmd_records.specs.record_show.Showing.{format_by, format_behind, printed_of}
+use Rattle.cmd_records.specs.record_show.PrintedItems.{format_by, format_behind, printed_of}
 use Rattle.cmd_records.proofs.lemmas.record_show.Lines.{item_is, format_one, behind_append, runs_append, runs_next, lines_first, lines_next}
 use Rattle.cmd_records.proofs.lemmas.record_show.Lines.{lines_none_yet}
 

@@ -10,7 +10,7 @@ use Rattle.det_io.specs.declared.failure.Stopped.{Stopped}
 use Rattle.det_io.specs.declared.failure.Stopped.TheVariants.{Refused, Failed}
 use Rattle.det_io.specs.Traffic.{SinkRun}
 use Rattle.det_io.proofs.Prefixes.{prefix-same}
-use Rattle.record_grammar.specs.declared.fault.RecordFault.{RecordFault}
+use Rattle.record_grammar.specs.declared.record_fault.RecordFault.{RecordFault}
 use Rattle.record_grammar.specs.declared.item.Item.{Item}
 use Rattle.record_grammar.specs.declared.item.Item.TheVariants as items
 use Rattle.det_values.specs.declared.frames.Frame.TheVariants.{Register, Discover, Init, Run, Terminate}
@@ -20,20 +20,20 @@ use Rattle.record_grammar.proofs.Leads.{can_follow}
 use Rattle.record_view.specs.declared.view.ItemView.{ItemView}
 use Rattle.record_view.specs.Shows.{IsSpelling}
 use Rattle.record_reader.specs.Kinds.{runs_of}
-use Rattle.record_reader.specs.Taking.{AreFirst, IsNext, Takes, Wrote}
+use Rattle.record_reader.specs.ItemTaker.{AreFirst, IsNext, Takes, Wrote}
 use Rattle.record_reader.proofs.Items.{next_is, few_first}
 use Rattle.record_reader.proofs.Kept.{adds}
-use Rattle.record_text.specs.declared.part.ShowPart.{ShowPart}
-use Rattle.record_text.specs.declared.part.ShowPart.TheVariants.{All, Reports, Cycle}
+use Rattle.record_text.specs.declared.show_part.ShowPart.{ShowPart}
+use Rattle.record_text.specs.declared.show_part.ShowPart.TheVariants.{All, Reports, Cycle}
 use Rattle.probes.specs.Reports.{AudienceState}
 use Rattle.probes.specs.Shows.{Shows}
 use Rattle.probes.proofs.Shown.{shows-none, shows-then}
-use Rattle.cmd_records.specs.declared.record_show.printing.Printer.{Printer}
+use Rattle.cmd_records.specs.declared.record_show.printer.Printer.{Printer}
 use Rattle.cmd_records.specs.record_show.Text.{lines_of}
 use Rattle.record_reader.specs.InItems.{runs_in}
 use Rattle.record_reader.specs.InItems.{run_in}
-use Rattle.cmd_records.specs.record_show.Showing.{format_by, format_behind, is_printed, lines_at, printed_of, Watched, Kept, IsFailed}
-use Rattle.cmd_records.specs.record_show.Showing.{AreShown, showing}
+use Rattle.cmd_records.specs.record_show.PrintedItems.{format_by, format_behind, is_printed, lines_at, printed_of, Watched, Kept, IsFailed}
+use Rattle.cmd_records.specs.record_show.PrintedItems.{AreShown, showing}
 use Rattle.cmd_records.proofs.lemmas.record_show.Lines.{runs_next}
 use Rattle.cmd_records.proofs.lemmas.record_show.Parts.{part-next, headed-next}
 use Rattle.cmd_records.proofs.lemmas.record_show.Formats.{format_there}

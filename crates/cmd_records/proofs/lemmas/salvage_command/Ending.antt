@@ -15,19 +15,19 @@ use Rattle.det_io.specs.Sink.{Grew, GrewByPrefix}
 use Rattle.det_io.specs.Traffic.{ShelfRun, SinkRun, SinkTraffic, failure_in}
 use Rattle.det_io.proofs.Growth.{grew-none, same-none, part-none}
 use Rattle.det_io.proofs.Prefixes.{prefix-same, proper-length}
-use Rattle.record_grammar.specs.declared.fault.RecordFault.{RecordFault}
+use Rattle.record_grammar.specs.declared.record_fault.RecordFault.{RecordFault}
 use Rattle.record_grammar.specs.declared.item.Item.{Item}
 use Rattle.record_grammar.specs.declared.item.Item.TheVariants as items
 use Rattle.record_grammar.specs.Record.{items as items_in, fault as fault_in}
 use Rattle.record_grammar.specs.Spelling.{spelled}
 use Rattle.record_text.specs.Words.{number_line}
-use Rattle.record_reader.specs.Keeping.{IsHeaded}
+use Rattle.record_reader.specs.SalvageState.{IsHeaded}
 use Rattle.record_reader.specs.Salvaged.{kept, is_init, salvaged_from}
 use Rattle.record_reader.specs.Salvages.{settled_by}
-use Rattle.record_reader.specs.Taking.{AreAll, RecordRead, StopsAt, ItemsRead}
-use Rattle.record_reader.proofs.Ending.{settled-failure}
+use Rattle.record_reader.specs.ItemTaker.{AreAll, RecordRead, StopsAt, ItemsRead}
+use Rattle.record_reader.proofs.Ending.{settle_fault-failure}
 use Rattle.record_reader.proofs.Items.{whole_has_init}
-use Rattle.record_reader.proofs.Taking.{of-slot}
+use Rattle.record_reader.proofs.ItemTaker.{of-slot}
 use Rattle.record_reader.specs.InItems.{runs_in}
 use Rattle.probes.specs.Reports.{ProbeLife, AudienceState, reported, reports, in_turn}
 use Rattle.probes.specs.Shows.{Shows}
@@ -36,8 +36,8 @@ use Rattle.cli_answers.specs.declared.answer.Answer.TheVariants.{BadRecord}
 use Rattle.cli_answers.specs.Outcome.{Outcome, text_outcome, refusal}
 use Rattle.cmd_records.specs.declared.salvage_command.watch.Watch.{Watch}
 use Rattle.cmd_records.specs.salvage_command.Salvage.{outcome_by, salvaged_text, salvage_reports_outcome}
-use Rattle.cmd_records.specs.salvage_command.Watching.{Watched, watching, no_sink}
-use Rattle.cmd_records.specs.salvage_command.Ended.{Gives, SawFirst, Sees, Ended}
+use Rattle.cmd_records.specs.salvage_command.WatchedItems.{Watched, watch_taking, no_sink}
+use Rattle.cmd_records.specs.salvage_command.ReportEnds.{Gives, SawFirst, Sees, Ended}
 
 -- ---- what can be saved
 
@@ -77,22 +77,22 @@ module _ (first mid : AudienceState) (watch : Watch) (given : List Item) (bytes 
         shows = subst (λ (xs : List Item). Shows first mid (runs_in xs)) (sym all) h.shows;
       }
 
-  settled-at : (fault : RecordFault) (begun : Bool) → watch.has_begun ≡ begun → settled_by begun (Err (Refused fault)) ≡ Ok tt
+  settle_fault-at : (fault : RecordFault) (begun : Bool) → watch.has_begun ≡ begun → settled_by begun (Err (Refused fault)) ≡ Ok tt
       → items_in bytes ≡ given → Watched first mid watch given → AllSeen first mid watch.cycles bytes
-  settled-at fault true is settled all h = all-seen all h (sym h.has_begun ∙ is)
-  settled-at fault false is settled all h = absurd cc
+  settle_fault-at fault true is settle_fault all h = all-seen all h (sym h.has_begun ∙ is)
+  settle_fault-at fault false is settle_fault all h = absurd cc
 
   not-failed : (begun : Bool) (failure : Failure) → settled_by begun (Err (Failed failure)) ≡ Ok tt → ⊥
   not-failed true failure is = cc
   not-failed false failure is = cc
 
   -- the reading came past the last item of a record that can be saved
-  settled-seen : (read : Result (Unit {0}) (Stopped RecordFault)) → settled_by watch.has_begun read ≡ Ok tt
-      → RecordRead read (watching first mid watch) given bytes no_sink → AllSeen first mid watch.cycles bytes
-  settled-seen (Ok u) settled h =
+  settle_fault-seen : (read : Result (Unit {0}) (Stopped RecordFault)) → settled_by watch.has_begun read ≡ Ok tt
+      → RecordRead read (watch_taking first mid watch) given bytes no_sink → AllSeen first mid watch.cycles bytes
+  settle_fault-seen (Ok u) settle_fault h =
       all-seen h.0.items h.1.stands (ap (list_any is_init) (sym h.0.items) ∙ whole_has_init bytes h.0.fault)
-  settled-seen (Err (Refused fault)) settled h = settled-at fault watch.has_begun refl settled h.0.items h.1.stands
-  settled-seen (Err (Failed failure)) settled h = absurd (not-failed watch.has_begun failure settled)
+  settle_fault-seen (Err (Refused fault)) settle_fault h = settle_fault-at fault watch.has_begun refl settle_fault h.0.items h.1.stands
+  settle_fault-seen (Err (Failed failure)) settle_fault h = absurd (not-failed watch.has_begun failure settle_fault)
 
   -- ---- where the reading stopped
 
@@ -104,7 +104,7 @@ module _ (first mid : AudienceState) (watch : Watch) (given : List Item) (bytes 
   saw-given front h = record { seen = given; first = front; saw = all-reports h.shows }
 
   -- a watch writes nothing, so no write of it fails
-  no-write-at : StopsAt (Failed Write) (watching first mid watch) given bytes no_sink → ⊥
+  no-write-at : StopsAt (Failed Write) (watch_taking first mid watch) given bytes no_sink → ⊥
   no-write-at h = let n = proper-length h.2.wrote.0 h.2.more h.2.wrote.1 in let m = ap length h.2.all in omega (arith, n, m)
 
   module _ (took : List ℕ → Type 0) (a b : ℕ) where
@@ -117,8 +117,8 @@ module _ (first mid : AudienceState) (watch : Watch) (given : List Item) (bytes 
     refused : (fault : RecordFault) (begun : Bool) → watch.has_begun ≡ begun
         → settled_by begun (Err (Refused fault)) ≡ Err (Refused fault) → AreAll given (Some fault) bytes → Watched first mid watch given
         → Both (Refused fault)
-    refused fault true is settled all h = absurd cc
-    refused fault false is settled all h =
+    refused fault true is settle_fault all h = absurd cc
+    refused fault false is settle_fault all h =
         let none = unsaved fault all (sym h.has_begun ∙ is) in (
           (
             ap (λ (o : Outcome). o.answer) none,
@@ -128,11 +128,11 @@ module _ (first mid : AudienceState) (watch : Watch) (given : List Item) (bytes 
         )
 
     stopped : (stop : Stopped RecordFault) → settled_by watch.has_begun (Err stop) ≡ Err stop
-        → RecordRead (Err stop) (watching first mid watch) given bytes no_sink → Both stop
-    stopped (Refused fault) settled h = refused fault watch.has_begun refl settled h.0 h.1.stands
-    stopped (Failed Read) settled h = (part-none took took _ (same-none took), saw-given h.0 h.1.stands)
-    stopped (Failed Write) settled h = absurd (no-write-at h)
-    stopped (Failed OutOfMemory) settled h = (part-none took took _ (same-none took), tt)
+        → RecordRead (Err stop) (watch_taking first mid watch) given bytes no_sink → Both stop
+    stopped (Refused fault) settle_fault h = refused fault watch.has_begun refl settle_fault h.0 h.1.stands
+    stopped (Failed Read) settle_fault h = (part-none took took _ (same-none took), saw-given h.0 h.1.stands)
+    stopped (Failed Write) settle_fault h = absurd (no-write-at h)
+    stopped (Failed OutOfMemory) settle_fault h = (part-none took took _ (same-none took), tt)
 
 -- ---- the audience is gone
 
@@ -198,9 +198,9 @@ module _ {first mid : AudienceState} {watch : Watch} {shelf : ShelfRun} {slot : 
   -- the reading stopped, and nothing was written
   pub ended-stopped : (read : Result (Unit {0}) (Stopped RecordFault)) (stop : Stopped RecordFault) (took : List ℕ → Type 0) (a b : ℕ)
       → settled_by watch.has_begun read ≡ Err stop
-      → (h : ItemsRead read (watching first mid watch) shelf slot no_sink)
+      → (h : ItemsRead read (watch_taking first mid watch) shelf slot no_sink)
       → Ended (Err stop) first mid h.read shelf slot (record { before = took; after = took; faults_before = a; faults_after = b })
-  ended-stopped read stop took a b settled h = record {
+  ended-stopped read stop took a b settle_fault h = record {
     gives = of-slot _ (λ bytes. Gives {T = Unit {0}} (Err stop) (salvage_reports_outcome first bytes)
         (still first mid watch h.given [] took a b))
         (λ bytes r. (both bytes r).0) h.record_read;
@@ -210,18 +210,18 @@ module _ {first mid : AudienceState} {watch : Watch} {shelf : ShelfRun} {slot : 
   }
     where
       is : read ≡ Err stop
-      is = settled-failure watch.has_begun read stop settled
+      is = settle_fault-failure watch.has_begun read stop settle_fault
 
-      both : (bytes : List ℕ) → RecordRead read (watching first mid watch) h.given bytes no_sink
+      both : (bytes : List ℕ) → RecordRead read (watch_taking first mid watch) h.given bytes no_sink
           → Both first mid watch h.given bytes took a b stop
       both bytes r =
           stopped first mid watch h.given bytes took a b stop
-          (subst (λ (x : Result (Unit {0}) (Stopped RecordFault)). settled_by watch.has_begun x ≡ Err stop) is settled)
-          (subst (λ (x : Result (Unit {0}) (Stopped RecordFault)). RecordRead x (watching first mid watch) h.given bytes no_sink) is r)
+          (subst (λ (x : Result (Unit {0}) (Stopped RecordFault)). settled_by watch.has_begun x ≡ Err stop) is settle_fault)
+          (subst (λ (x : Result (Unit {0}) (Stopped RecordFault)). RecordRead x (watch_taking first mid watch) h.given bytes no_sink) is r)
 
   -- memory could not be had, and nothing was written
   pub ended-unprinted : (read : Result (Unit {0}) (Stopped RecordFault)) (now : AudienceState) (took : List ℕ → Type 0) (a b : ℕ)
-      → (h : ItemsRead read (watching first mid watch) shelf slot no_sink)
+      → (h : ItemsRead read (watch_taking first mid watch) shelf slot no_sink)
       → Ended (Err (Failed OutOfMemory)) first now h.read shelf slot
       (record { before = took; after = took; faults_before = a; faults_after = b })
   ended-unprinted read now took a b h = record {
@@ -233,11 +233,11 @@ module _ {first mid : AudienceState} {watch : Watch} {shelf : ShelfRun} {slot : 
   }
 
   pub ended-written : (read result : Result (Unit {0}) (Stopped RecordFault)) (now : AudienceState) (text : List ℕ) (out : SinkRun)
-      → settled_by watch.has_begun read ≡ Ok tt → (h : ItemsRead read (watching first mid watch) shelf slot no_sink)
+      → settled_by watch.has_begun read ≡ Ok tt → (h : ItemsRead read (watch_taking first mid watch) shelf slot no_sink)
       → now.left ≡ reported mid [] → now.seeing ≡ [] → text ≡ number_line (codes "salvaged") watch.cycles ++ now.left
       → Written result text out
       → Ended result first now h.read shelf slot out
-  ended-written read result now text out settled h left none is written = record {
+  ended-written read result now text out settle_fault h left none is written = record {
     gives = of-slot _ (λ bytes. Gives result (salvage_reports_outcome first bytes) out)
         (λ bytes r. gives-written first mid result watch.cycles bytes out (all bytes r)
         (subst (λ (t : List ℕ). Written result t out)
@@ -249,18 +249,18 @@ module _ {first mid : AudienceState} {watch : Watch} {shelf : ShelfRun} {slot : 
     broken = reads-nothing result text out written;
   }
     where
-      all : (bytes : List ℕ) → RecordRead read (watching first mid watch) h.given bytes no_sink → AllSeen first mid watch.cycles bytes
-      all bytes r = settled-seen first mid watch h.given bytes read settled r
+      all : (bytes : List ℕ) → RecordRead read (watch_taking first mid watch) h.given bytes no_sink → AllSeen first mid watch.cycles bytes
+      all bytes r = settle_fault-seen first mid watch h.given bytes read settle_fault r
 
   -- a watch writes nothing
   pub no-write : (read : Result (Unit {0}) (Stopped RecordFault)) (stop : Stopped RecordFault) {out : SinkRun}
-      → settled_by watch.has_begun read ≡ Err stop → ItemsRead read (watching first mid watch) shelf slot no_sink
+      → settled_by watch.has_begun read ≡ Err stop → ItemsRead read (watch_taking first mid watch) shelf slot no_sink
       → SinkTraffic out None → SinkTraffic out (failure_in {A = Unit {0}} (Err stop))
-  no-write read stop {out} settled h traffic = by stop (subst
-      (λ (x : Result (Unit {0}) (Stopped RecordFault)). RecordRead x (watching first mid watch) h.given (h.read ++ []) no_sink)
-      (settled-failure watch.has_begun read stop settled) (h.record_read.each [] (λ end. refl)))
+  no-write read stop {out} settle_fault h traffic = by stop (subst
+      (λ (x : Result (Unit {0}) (Stopped RecordFault)). RecordRead x (watch_taking first mid watch) h.given (h.read ++ []) no_sink)
+      (settle_fault-failure watch.has_begun read stop settle_fault) (h.record_read.each [] (λ end. refl)))
     where
-      by : (stop : Stopped RecordFault) → RecordRead (Err stop) (watching first mid watch) h.given (h.read ++ []) no_sink
+      by : (stop : Stopped RecordFault) → RecordRead (Err stop) (watch_taking first mid watch) h.given (h.read ++ []) no_sink
           → SinkTraffic out (failure_in {A = Unit {0}} (Err stop))
       by (Refused f) r = record { cause = λ e. absurd cc; counted = traffic.counted }
       by (Failed Read) r = record { cause = λ e. absurd cc; counted = traffic.counted }

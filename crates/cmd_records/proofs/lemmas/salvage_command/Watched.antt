@@ -10,7 +10,7 @@ use Rattle.det_io.proofs.Prefixes.{prefix-none}
 use Rattle.record_grammar.specs.declared.item.Item.{Item}
 use Rattle.record_reader.specs.Salvaged.{is_init}
 use Rattle.record_view.specs.declared.view.ItemView.{ItemView}
-use Rattle.record_reader.specs.Taking.{AreFirst, IsNext, Takes}
+use Rattle.record_reader.specs.ItemTaker.{AreFirst, IsNext, Takes}
 use Rattle.record_reader.proofs.Items.{NextIs, next_is}
 use Rattle.record_reader.proofs.Kept.{Adds, adds}
 use Rattle.record_reader.proofs.Pieces.{headed-next, begun-next, cycles-next, cycles-room}
@@ -20,7 +20,7 @@ use Rattle.probes.specs.Reports.{AudienceState}
 use Rattle.probes.specs.Shows.{Shows}
 use Rattle.probes.proofs.Shown.{shows-none, shows-then}
 use Rattle.cmd_records.specs.declared.salvage_command.watch.Watch.{Watch}
-use Rattle.cmd_records.specs.salvage_command.Watching.{Watched, Noted, watching, no_sink}
+use Rattle.cmd_records.specs.salvage_command.WatchedItems.{Watched, Noted, watch_taking, no_sink}
 
 runs_next : (given : List Item) (item : Item) → runs_in (given ++ item ∷ []) ≡ runs_in given ++ run_in item
 runs_next given item =
@@ -51,7 +51,7 @@ module _ (first mid now : AudienceState) (given : List Item) (item : Item) (view
   }
 
   pub taken : (u : Unit {0}) → Watched first mid old given → IsNext given item view bytes → Noted view.span.kind old new
-      → Shows mid now (run_in item) → Takes (Ok u) (watching first now new) given item [] no_sink
+      → Shows mid now (run_in item) → Takes (Ok u) (watch_taking first now new) given item [] no_sink
   taken u h next noted shows = record {
     more = [];
     all = refl;
@@ -62,5 +62,5 @@ module _ (first mid now : AudienceState) (given : List Item) (item : Item) (view
 
 -- it couldn't be shown to all
 pub unshown : (first now : AudienceState) (given : List Item) (item : Item) (new : Watch)
-    → Takes (Err (Failed OutOfMemory)) (watching first now new) given item [] no_sink
+    → Takes (Err (Failed OutOfMemory)) (watch_taking first now new) given item [] no_sink
 unshown first now given item new = record { more = []; all = refl; wrote = ([], prefix-none [], grew-none no_sink.before); after = tt }

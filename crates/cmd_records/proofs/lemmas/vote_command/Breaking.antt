@@ -14,16 +14,16 @@ use Rattle.det_io.specs.declared.failure.Stopped.TheVariants.{Refused, Failed}
 use Rattle.det_io.proofs.Growth.{grew-none}
 use Rattle.det_io.proofs.SlotReads.{gave-told}
 use Rattle.record_grammar.specs.declared.item.Item.{Item}
-use Rattle.cmd_records.specs.open_names.Opened.{Opened}
+use Rattle.cmd_records.specs.open_names.OpenedSlots.{Opened}
 use Rattle.cmd_records.proofs.lemmas.open_names.Copies.{texts, are-left}
-use Rattle.copies.specs.Compared.{AreLeft}
+use Rattle.copies.specs.CompareCopies.{AreLeft}
 use Rattle.cmd_records.specs.declared.voter.outcome.NoMajority.{NoMajority}
 use Rattle.cmd_records.specs.declared.voter.outcome.Vote.{Vote}
-use Rattle.cmd_records.specs.voter.Voted.{ShowsRows, Breaks, HasVoted}
+use Rattle.cmd_records.specs.voter.VoteResult.{ShowsRows, Breaks, HasVoted}
 use Rattle.cmd_records.proofs.lemmas.voter.Held.{held-nothing}
 use Rattle.cli_answers.specs.declared.answer.Answer.TheVariants.{ReadFault}
 use Rattle.cli_answers.specs.Answers.{failed}
-use Rattle.cli_answers.specs.Outcome.{Tells, told}
+use Rattle.cli_answers.specs.Outcome.{KnowsBytes, known_bytes}
 use Rattle.cmd_records.specs.vote_command.Vote.{answer_of, CopyShows, VoteBreaksOff}
 
 -- each slot has its copy left
@@ -41,7 +41,7 @@ pub unopened : (first last : ShelfState) (names : List (List ℕ)) (before : Lis
 unopened first last names before Read fewer some e = record {
   rows = [];
   shown = inr (fewer refl, refl);
-  held = held-nothing (map (told first) names) (let n = length-map names (told first) in omega (arith, some, n));
+  held = held-nothing (map (known_bytes first) names) (let n = length-map names (known_bytes first) in omega (arith, some, n));
   grew = grew-none before;
 }
 unopened first last names before Write fewer some e = absurd cc
@@ -56,18 +56,19 @@ module _ {first mid : ShelfState} {slots here : List ℕ} (recorded : List (Bor 
   number-at k d there =
       ap (λ ks. get_or ks k d) (same ∙ opened.numbered) ∙ get_or-range_with_len first.slots (length (texts recorded)) k d there
 
-  copy-shows : (last : ShelfState) (rows : List Item) (slot : ℕ) → Tells first (texts recorded) → Contains here slot
+  copy-shows : (last : ShelfState) (rows : List Item) (slot : ℕ) → KnowsBytes first (texts recorded) → Contains here slot
       → ShowsRows mid last rows slot → CopyShows first last (texts recorded) rows
-  copy-shows last rows slot tells among shown =
+  copy-shows last rows slot is_known among shown =
       let k = among.0 in
       let less = among.1 in
       let many = as-many in
       let there : k < length (texts recorded) = omega (arith, less, many) in
-      let copy = told first (get_or (texts recorded) k []) in
+      let copy = known_bytes first (get_or (texts recorded) k []) in
       let left : mid.left slot ≡ Some copy =
       subst (λ (s : ℕ). mid.left s ≡ Some copy) among.2
-      (left-at mid here (map (told first) (texts recorded)) k slot (told first []) (are-left recorded same opened tells) less
-      ∙ ap Some (get_or-map (told first) (texts recorded) k [] (told first []) there)) in
+      (left-at mid here (map (known_bytes first) (texts recorded)) k slot (known_bytes first []) (are-left recorded same opened is_known)
+      less
+      ∙ ap Some (get_or-map (known_bytes first) (texts recorded) k [] (known_bytes first []) there)) in
       let rest = gave-told copy shown.gave left in
       record {
         copy = k;
@@ -82,13 +83,13 @@ module _ {first mid : ShelfState} {slots here : List ℕ} (recorded : List (Bor 
 
   -- a copy couldn't be read further
   pub vote-broke : (last : ShelfState) (out : SinkRun) (result : Result Vote (Stopped NoMajority)) → HasVoted result mid last here out
-      → answer_of result ≡ ReadFault → Tells first (texts recorded)
+      → answer_of result ≡ ReadFault → KnowsBytes first (texts recorded)
       → VoteBreaksOff first last (texts recorded) out.before out.after
-  vote-broke last out (Err (Failed Read)) h e tells =
-      let b : Breaks mid last here (map (told first) (texts recorded)) out =
-      h.answers (map (told first) (texts recorded)) (are-left recorded same opened tells) in
-      record { rows = b.rows; shown = inl (copy-shows last b.rows b.slot tells b.among b.shown); held = b.held; grew = b.grew }
-  vote-broke last out (Ok vote) h e tells = absurd cc
-  vote-broke last out (Err (Refused split)) h e tells = absurd cc
-  vote-broke last out (Err (Failed Write)) h e tells = absurd cc
-  vote-broke last out (Err (Failed OutOfMemory)) h e tells = absurd cc
+  vote-broke last out (Err (Failed Read)) h e is_known =
+      let b : Breaks mid last here (map (known_bytes first) (texts recorded)) out =
+      h.answers (map (known_bytes first) (texts recorded)) (are-left recorded same opened is_known) in
+      record { rows = b.rows; shown = inl (copy-shows last b.rows b.slot is_known b.among b.shown); held = b.held; grew = b.grew }
+  vote-broke last out (Ok vote) h e is_known = absurd cc
+  vote-broke last out (Err (Refused split)) h e is_known = absurd cc
+  vote-broke last out (Err (Failed Write)) h e is_known = absurd cc
+  vote-broke last out (Err (Failed OutOfMemory)) h e is_known = absurd cc

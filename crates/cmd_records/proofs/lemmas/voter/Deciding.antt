@@ -17,19 +17,19 @@ use Rattle.det_io.proofs.Growth.{grew-then}
 use Rattle.record_grammar.specs.declared.item.Item.{Item}
 use Rattle.record_grammar.specs.Record.{items as items_in}
 use Rattle.copies.specs.Verdict.{shared}
-use Rattle.copies.specs.Compared.{AreLeft}
+use Rattle.copies.specs.CompareCopies.{AreLeft}
 use Rattle.cmd_records.specs.declared.voter.outcome.Dissenter.{Dissenter}
 use Rattle.cmd_records.specs.declared.voter.outcome.NoMajority.{NoMajority}
 use Rattle.cmd_records.specs.declared.voter.outcome.Vote.{Vote}
-use Rattle.cmd_records.specs.declared.voter.reading.Voter.{Voter}
+use Rattle.cmd_records.specs.declared.voter.voter_rows.Voter.{Voter}
 use Rattle.cmd_records.specs.declared.voter.voters.Voters.{Voters}
 use Rattle.cmd_records.specs.voter.Majority.{is_record, is_most, dissent, common, voted, spelled_items}
-use Rattle.cmd_records.specs.voter.Voted.{Elects, dissents, OthersEnd, HasVoted}
+use Rattle.cmd_records.specs.voter.VoteResult.{Elects, dissents, OthersEnd, HasVoted}
 use Rattle.cmd_records.specs.voter.Rows.{is_in_step, AreVoters, FailedAmong}
-use Rattle.cmd_records.specs.voter.Standing.{Writes, AreMost, Stand, EndIs, AreEnded, Decided, RowTaken, dissenter, dissenters}
+use Rattle.cmd_records.specs.voter.VotersState.{Writes, AreMost, Stand, EndIs, AreEnded, Decided, RowTaken, dissenter, dissenters}
 use Rattle.cmd_records.proofs.lemmas.voter.Counting.{most-true, most-is, count-cons}
-use Rattle.cmd_records.proofs.lemmas.voter.Held.{record-tells, record-yes, majority-is, voted-from}
-use Rattle.cmd_records.proofs.lemmas.voter.Told.{held-told}
+use Rattle.cmd_records.proofs.lemmas.voter.Held.{record-is_known, record-yes, majority-is, voted-from}
+use Rattle.cmd_records.proofs.lemmas.voter.RowsHeld.{held-told}
 
 -- ---- how many are in step
 
@@ -134,7 +134,7 @@ module _ (first now : ShelfState) (given : List Item) where
       → is_none left ≡ is_record given copy
   end-told slot None copy h l = sym (record-yes given copy (h.1 copy l))
   end-told slot (Some row) copy h l =
-      sym (false_from_ne_true (is_record given copy) (λ e. (h copy l).other (record-tells given copy e)))
+      sym (false_from_ne_true (is_record given copy) (λ e. (h copy l).other (record-is_known given copy e)))
 
   ended-told : (slots : List ℕ) (voters : List Voter) (copies : List (List ℕ)) → AreEnded first now given slots voters
       → AreLeft first slots copies

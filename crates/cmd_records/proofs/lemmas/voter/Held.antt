@@ -9,7 +9,7 @@ use Rattle.std.proofs.lemmas.Bool.{and_from, and_parts, leb-true, leb-false, con
 use Rattle.det_io.specs.Prefix.{IsPrefix}
 use Rattle.std.proofs.lemmas.List.{length-map}
 use Rattle.det_io.proofs.Prefixes.{prefix-same, prefix-then, prefix-length}
-use Rattle.record_grammar.specs.declared.fault.RecordFault.{RecordFault}
+use Rattle.record_grammar.specs.declared.record_fault.RecordFault.{RecordFault}
 use Rattle.record_grammar.specs.declared.item.Item.{Item}
 use Rattle.record_grammar.specs.Record.{items as items_in, fault as fault_in}
 use Rattle.record_grammar.specs.contracts.item.ItemPartialEq.TheImpl as item
@@ -20,10 +20,10 @@ use Rattle.copies.proofs.Equality.{item_decides}
 use Rattle.cmd_records.specs.voter.Majority.{is_record, is_most, is_majority, majority, are_held, held, longest, common}
 use Rattle.cmd_records.specs.voter.Majority.{spelled_items, voted_items, voted}
 use Rattle.cmd_records.specs.voter.Rows.{same_row, is_held}
-use Rattle.cmd_records.specs.voter.Standing.{IsRecord}
+use Rattle.cmd_records.specs.voter.VotersState.{IsRecord}
 use Rattle.cmd_records.proofs.lemmas.voter.Counting.{most-true, most-is, count-cons, both, count-le, count-same, count-map, passes-at}
 use Rattle.cmd_records.proofs.lemmas.voter.Counting.{find-only, find-none}
-use Rattle.cmd_records.proofs.lemmas.voter.Prefixes.{begins_with, begins-yes, begins-tells, begins-shorter, shorter-first, follows}
+use Rattle.cmd_records.proofs.lemmas.voter.Prefixes.{begins_with, begins-yes, begins-is_known, begins-shorter, shorter-first, follows}
 use Rattle.cmd_records.proofs.lemmas.voter.Prefixes.{row_behind}
 use Rattle.cmd_records.proofs.lemmas.voter.Prefixes.{same-begins, same-is, sound-row}
 use Rattle.cmd_records.proofs.lemmas.voter.Spelled.{spelled-prefix}
@@ -48,7 +48,7 @@ held-first copies a b h k less =
     let n = most-true (beginning copies a) (length copies) h in
     let m = most-true (beginning copies b) (length copies) k in
     let c = both (λ copy. begins_with a (items_in copy)) (λ copy. begins_with b (items_in copy)) copies (omega (arith, n, m)) in
-    shorter-first a b (items_in c.0) (begins-tells a (items_in c.0) c.1) (begins-tells b (items_in c.0) c.2) less
+    shorter-first a b (items_in c.0) (begins-is_known a (items_in c.0) c.1) (begins-is_known b (items_in c.0) c.2) less
 
 held-on : (copies : List (List ℕ)) (given behind : List Item) → are_held copies given ≡ true
     → (are_held copies (held copies given behind) ≡ true) × IsPrefix given (held copies given behind)
@@ -127,7 +127,7 @@ longest-long copies (c ∷ some) given h n =
     by : (0 < count_by (λ copy. begins_with given (items_in copy)) some → length given ≤ length (longest all)) → (b : Bool)
         → begins_with given (items_in c) ≡ b → length given ≤ length (longest (held copies [] (items_in c) ∷ all))
     by on true e =
-        let p = begins-tells given (items_in c) e in
+        let p = begins-is_known given (items_in c) e in
         let reached = subst (λ xs. IsPrefix given (held copies [] xs)) p.1 (held-reaches copies [] given p.0 h) in
         let m = prefix-length given (held copies [] (items_in c)) reached in
         let k = (longest-of (held copies [] (items_in c)) all).0 in
@@ -159,17 +159,17 @@ common-is copies given h none = by (common-from copies given h).0 (common-from c
 
 -- ---- the majority
 
-none-tells : (o : Option RecordFault) → is_none o ≡ true → o ≡ None
-none-tells None e = refl
-none-tells (Some f) e = absurd cc
+none-is_known : (o : Option RecordFault) → is_none o ≡ true → o ≡ None
+none-is_known None e = refl
+none-is_known (Some f) e = absurd cc
 
 -- the test of a record
-pub record-tells : (given : List Item) (copy : List ℕ) → is_record given copy ≡ true → IsRecord given copy
-record-tells given copy e =
+pub record-is_known : (given : List Item) (copy : List ℕ) → is_record given copy ≡ true → IsRecord given copy
+record-is_known given copy e =
     let p = and_parts (is_none (fault_in copy)) (pointwise item.eq-value.it given (items_in copy)) e in
     record {
       items = sym ((pointwise_decides item_decides given (items_in copy)).0 p.1);
-      whole = none-tells (fault_in copy) p.0;
+      whole = none-is_known (fault_in copy) p.0;
     }
 
 pub record-yes : (given : List Item) (copy : List ℕ) → IsRecord given copy → is_record given copy ≡ true
@@ -184,7 +184,7 @@ majority-copy copies whole given e h =
     let n = most-true (count_by (is_record whole) copies) (length copies) e in
     let m = most-true (beginning copies given) (length copies) h in
     let c = both (is_record whole) (λ copy. begins_with given (items_in copy)) copies (omega (arith, n, m)) in
-    (c.0, record-tells whole c.0 c.1, begins-tells given (items_in c.0) c.2)
+    (c.0, record-is_known whole c.0 c.1, begins-is_known given (items_in c.0) c.2)
 
 -- the majority's record begins with what is held
 pub majority-begins : (copies : List (List ℕ)) (whole given : List Item) → is_majority copies whole ≡ true
@@ -203,14 +203,14 @@ majority-is copies given most =
     n = most-true (count_by (is_record given) copies) (length copies) most
 
     yes : (c : List ℕ) → is_record given c ≡ true → is_majority copies (items_in c) ≡ true
-    yes c e = let r = record-tells given c e in subst (λ xs. is_majority copies xs ≡ true) (sym r.items) most
+    yes c e = let r = record-is_known given c e in subst (λ xs. is_majority copies xs ≡ true) (sym r.items) most
 
     only : (xs : List Item) → is_majority copies xs ≡ true → xs ≡ given
     only xs e =
         let m = most-true (count_by (is_record xs) copies) (length copies) e in
         let d = both (is_record xs) (is_record given) copies (omega (arith, n, m)) in
-        let r = record-tells xs d.0 d.1 in
-        let t = record-tells given d.0 d.2 in
+        let r = record-is_known xs d.0 d.1 in
+        let t = record-is_known given d.0 d.2 in
         sym r.items ∙ t.items
 
 -- ---- rows that are held
@@ -256,7 +256,7 @@ split-majority copies given h none = find-none (is_majority copies) (map items_i
         let row : Option Row = Some (first_row p.0 None) in
         let n = most-true (count_by (is_record whole) copies) (length copies) e in
         let m = count-le (is_record whole) (λ d. same_row row (row_behind given d)) copies
-        (λ d f. subst (λ r. same_row row r ≡ true) (sym (behind whole p d (record-tells whole d f))) (sound-row p.0)) in
+        (λ d f. subst (λ r. same_row row r ≡ true) (sym (behind whole p d (record-is_known whole d f))) (sound-row p.0)) in
         let k = count-map (same_row row) (row_behind given) copies in
         let all = length-map copies (row_behind given) in
         none row (most-is (count_by (same_row row) (map (row_behind given) copies)) (length (map (row_behind given) copies))

@@ -6,7 +6,7 @@ use Rattle.std.specs.Prelude.{◌↔◌, IsTrue}
 use Rattle.std.proofs.lemmas.List.{take_all, take_more}
 use Rattle.std.proofs.lemmas.List.Sums.{sum_by_push}
 use Rattle.std.proofs.lemmas.Bool.Decides.{same_from_decides}
-use Rattle.record_grammar.specs.declared.fault.RecordFault.{RecordFault}
+use Rattle.record_grammar.specs.declared.record_fault.RecordFault.{RecordFault}
 use Rattle.record_grammar.specs.declared.place.Place.{Place}
 use Rattle.record_grammar.specs.declared.item.Item.{Item}
 use Rattle.record_grammar.specs.contracts.item.ItemPartialEq.TheImpl as item
@@ -20,8 +20,8 @@ use Rattle.copies.specs.declared.row.Row.{Row}
 use Rattle.copies.specs.declared.row.Row.TheVariants as rows
 use Rattle.copies.proofs.Equality.{item_decides}
 use Rattle.cmd_records.specs.declared.voter.majority.Holders.{Holders}
-use Rattle.cmd_records.specs.declared.voter.reading.RowView.TheVariants as views
-use Rattle.cmd_records.specs.declared.voter.reading.Voter.{Voter}
+use Rattle.cmd_records.specs.declared.voter.voter_rows.RowView.TheVariants as views
+use Rattle.cmd_records.specs.declared.voter.voter_rows.Voter.{Voter}
 use Rattle.cmd_records.specs.voter.Majority.{is_most}
 use Rattle.cmd_records.specs.voter.Rows.{HoldsAt, HoldsAs, HoldsRow, AreHeld, AreHolders, same_row, is_held}
 

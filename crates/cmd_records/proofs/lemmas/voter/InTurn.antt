@@ -9,7 +9,7 @@ use Rattle.det_io.specs.declared.failure.Stopped.{Stopped}
 use Rattle.det_io.specs.declared.failure.Stopped.TheVariants.{Refused, Failed}
 use Rattle.det_io.specs.Shelf.{ShelfState, Reads, IsAtEnd}
 use Rattle.det_io.proofs.SlotReads.{gave-none, gave-reads, kept-then, kept-same}
-use Rattle.record_grammar.specs.declared.fault.RecordFault.{RecordFault}
+use Rattle.record_grammar.specs.declared.record_fault.RecordFault.{RecordFault}
 use Rattle.record_grammar.specs.declared.item.Item.{Item}
 use Rattle.record_grammar.specs.declared.place.Place.TheVariants as places
 use Rattle.record_view.specs.declared.view.ItemView.{ItemView}
@@ -17,15 +17,15 @@ use Rattle.record_reader.specs.declared.item_reader.reader.ItemReader.{ItemReade
 use Rattle.record_reader.specs.item_reader.StandsFor.{StandsFor, HasRead, ItemIs, GaveItem, slot_of}
 use Rattle.copies.specs.declared.row.Row.{Row}
 use Rattle.copies.specs.declared.row.Row.TheVariants as rows
-use Rattle.copies.specs.Compared.{AreDifferent, ReadsAmong}
+use Rattle.copies.specs.CompareCopies.{AreDifferent, ReadsAmong}
 use Rattle.copies.specs.Copies.{row_of}
-use Rattle.copies.specs.ItemRows.{ReaderBehind, ReaderAtRow, IsHeldAs}
+use Rattle.copies.specs.ItemRows.{IsReaderAfter, ReaderAtRow, IsHeldAs}
 use Rattle.copies.specs.Needed.{GaveNeeded, AllNeeded}
 use Rattle.copies.proofs.ItemRows.{gave-on, behind-on, row-on, copy-next}
 use Rattle.copies.proofs.Needed.{needed-next}
-use Rattle.cmd_records.specs.declared.voter.reading.RowView.{RowView}
-use Rattle.cmd_records.specs.declared.voter.reading.RowView.TheVariants as views
-use Rattle.cmd_records.specs.declared.voter.reading.Voter.{Voter}
+use Rattle.cmd_records.specs.declared.voter.voter_rows.RowView.{RowView}
+use Rattle.cmd_records.specs.declared.voter.voter_rows.RowView.TheVariants as views
+use Rattle.cmd_records.specs.declared.voter.voter_rows.Voter.{Voter}
 use Rattle.cmd_records.specs.voter.Rows.{voter_slot, VoterIs, AreVoters, VoteIs, HaveVotes, HoldsAs, HoldsRow, AreHeld, place_behind}
 use Rattle.cmd_records.specs.voter.Rows.{view_answer}
 use Rattle.cmd_records.specs.voter.Rows.{HasLeft, FailedAt, RowGiven, ReadIs, RowsRead}
@@ -39,7 +39,7 @@ stands-behind : (view : ItemView) (reader : ItemReader) (read : List ℕ) (given
 stands-behind view reader read given p = sym (leads-place given places.Header view.place read p.behind.0 p.behind.1)
 
 module _ {first mid now : ShelfState} {given : List Item} {slot : ℕ} {reader : ItemReader} (next : ItemReader)
-    (at : slot_of next ≡ slot_of reader) (h : ReaderBehind first mid given slot reader) where
+    (at : slot_of next ≡ slot_of reader) (h : IsReaderAfter first mid given slot reader) where
   item-given : (view : ItemView) (item : Option Item) → view.place ≡ place_behind given → IsHeldAs (Some view) next item
       → ReaderAtRow first now given slot next (row_of item) → RowGiven (Ok (views.Item view)) first now given slot next
   item-given view (Some x) place holds row = (rows.Item x, row, record { holds = holds; at = place })
@@ -72,7 +72,7 @@ module _ {first mid now : ShelfState} {given : List Item} {slot : ℕ} {reader :
 
 -- a copy in step
 pub step-behind : {first now : ShelfState} {given : List Item} {slot : ℕ} {reader : ItemReader} (left : Option ℕ) → is_some left ≡ false
-    → VoterIs left first now given slot reader → ReaderBehind first now given slot reader
+    → VoterIs left first now given slot reader → IsReaderAfter first now given slot reader
 step-behind None e h = h
 step-behind (Some n) e h = absurd cc
 

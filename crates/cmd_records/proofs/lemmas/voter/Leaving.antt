@@ -2,8 +2,8 @@
 use Rattle.std.proofs.Common.{◌≡◌, ◌<◌, ◌≤◌, ◌+◌, ℕ, List, [], ◌∷◌, ◌++◌, length, take, drop, get_or}
 use Rattle.std.proofs.Common.{sym, ap, ◌∙◌, append_assoc, append-nil, length-append, add-zero, arith}
 use Rattle.std.proofs.lemmas.List.{take-append-drop, take_more, length-take-le}
-use Rattle.cmd_records.specs.declared.voter.reading.Voter.{Voter}
-use Rattle.cmd_records.specs.voter.Standing.{dissenter, dissenters}
+use Rattle.cmd_records.specs.declared.voter.voter_rows.Voter.{Voter}
+use Rattle.cmd_records.specs.voter.VotersState.{dissenter, dissenters}
 
 dissenters-append : (copy : ℕ) (xs ys : List Voter) → dissenters copy (xs ++ ys) ≡ dissenters copy xs ++ dissenters (copy + length xs) ys
 dissenters-append copy [] ys = ap (λ k. dissenters k ys) (sym (add-zero copy))

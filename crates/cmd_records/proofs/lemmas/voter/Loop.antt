@@ -13,25 +13,25 @@ use Rattle.det_io.specs.Traffic.{ShelfRun, SinkRun, ShelfTraffic, SinkTraffic, f
 use Rattle.det_io.proofs.Prefixes.{prefix-length}
 use Rattle.record_grammar.specs.declared.item.Item.{Item}
 use Rattle.record_reader.specs.item_reader.StandsFor.{unread}
-use Rattle.record_reader.specs.Taking.{AreFirst}
+use Rattle.record_reader.specs.ItemTaker.{AreFirst}
 use Rattle.record_reader.proofs.Items.{few_first}
 use Rattle.record_reader.proofs.Pieces.{cycles-few}
-use Rattle.copies.specs.Compared.{AreGiven, AreLeft, ReadsAmong}
+use Rattle.copies.specs.CompareCopies.{AreGiven, AreLeft, ReadsAmong}
 use Rattle.copies.specs.Needed.{AllNeeded}
 use Rattle.copies.proofs.Needed.{needed-wider}
 use Rattle.copies.proofs.SideBySide.{among-again}
 use Rattle.cmd_records.specs.declared.voter.outcome.NoMajority.{NoMajority}
 use Rattle.cmd_records.specs.declared.voter.outcome.Vote.{Vote}
-use Rattle.cmd_records.specs.declared.voter.reading.Voter.{Voter}
+use Rattle.cmd_records.specs.declared.voter.voter_rows.Voter.{Voter}
 use Rattle.cmd_records.specs.declared.voter.voters.HeldItem.{HeldItem}
 use Rattle.cmd_records.specs.declared.voter.voters.Voters.{Voters}
 use Rattle.cmd_records.specs.voter.Majority.{voted_items, spelled_items}
-use Rattle.cmd_records.specs.voter.Voted.{HasVoted}
+use Rattle.cmd_records.specs.voter.VoteResult.{HasVoted}
 use Rattle.cmd_records.specs.voter.Rows.{is_in_step, voter_slot, VoterIs, AreVoters}
-use Rattle.cmd_records.specs.voter.Standing.{Writes, Stand, AreEnded, Decided, TellsVote}
+use Rattle.cmd_records.specs.voter.VotersState.{Writes, Stand, AreEnded, Decided, IsVoteOf}
 use Rattle.cmd_records.proofs.lemmas.voter.Counting.{most-true, count-cons}
 use Rattle.cmd_records.proofs.lemmas.voter.Held.{items-from}
-use Rattle.cmd_records.proofs.lemmas.voter.Told.{held-told}
+use Rattle.cmd_records.proofs.lemmas.voter.RowsHeld.{held-told}
 use Rattle.cmd_records.proofs.lemmas.voter.InTurn.{voters-slots}
 use Rattle.cmd_records.proofs.lemmas.voter.Deciding.{memory-failed, elected}
 
@@ -128,7 +128,7 @@ decided-few {first} {now} {given} {slots} {voters} h few =
 
 pub decided : (first old now : ShelfState) (given : List Item) (slots : List ℕ) (voters new : Voters) (out : SinkRun)
     (result : Result Vote (Stopped NoMajority)) → Stand first old given slots voters → Decided first now given slots new
-    → TellsVote result new → Grew out.before out.after (spelled_items given) → HasVoted result first now slots out
+    → IsVoteOf result new → Grew out.before out.after (spelled_items given) → HasVoted result first now slots out
 decided first old now given slots voters new out (Ok vote) h d t grew = elected first now given slots new vote out d t.0 t.1 grew
 decided first old now given slots voters new out (Err (Failed OutOfMemory)) h d t grew =
     memory-failed first old now given slots voters.voters.items out h.readers h.most grew
@@ -136,21 +136,21 @@ decided first old now given slots voters new out (Err (Failed Read)) h d t grew 
 decided first old now given slots voters new out (Err (Failed Write)) h d t grew = absurd t
 decided first old now given slots voters new out (Err (Refused split)) h d t grew = absurd t
 
-pub tells-shelf : (run : ShelfRun) (new : Voters) (result : Result Vote (Stopped NoMajority)) → TellsVote result new
+pub is_known-shelf : (run : ShelfRun) (new : Voters) (result : Result Vote (Stopped NoMajority)) → IsVoteOf result new
     → ShelfTraffic run None → ShelfTraffic run (failure_in result)
-tells-shelf run new (Ok vote) t s = s
-tells-shelf run new (Err (Failed OutOfMemory)) t s = record { cause = λ e. absurd cc; counted = s.counted; stays = s.stays }
-tells-shelf run new (Err (Failed Read)) t s = absurd t
-tells-shelf run new (Err (Failed Write)) t s = absurd t
-tells-shelf run new (Err (Refused split)) t s = absurd t
+is_known-shelf run new (Ok vote) t s = s
+is_known-shelf run new (Err (Failed OutOfMemory)) t s = record { cause = λ e. absurd cc; counted = s.counted; stays = s.stays }
+is_known-shelf run new (Err (Failed Read)) t s = absurd t
+is_known-shelf run new (Err (Failed Write)) t s = absurd t
+is_known-shelf run new (Err (Refused split)) t s = absurd t
 
-pub tells-sink : (out : SinkRun) (new : Voters) (result : Result Vote (Stopped NoMajority)) → TellsVote result new
+pub is_known-sink : (out : SinkRun) (new : Voters) (result : Result Vote (Stopped NoMajority)) → IsVoteOf result new
     → SinkTraffic out None → SinkTraffic out (failure_in result)
-tells-sink out new (Ok vote) t s = s
-tells-sink out new (Err (Failed OutOfMemory)) t s = record { cause = λ e. absurd cc; counted = s.counted }
-tells-sink out new (Err (Failed Read)) t s = absurd t
-tells-sink out new (Err (Failed Write)) t s = absurd t
-tells-sink out new (Err (Refused split)) t s = absurd t
+is_known-sink out new (Ok vote) t s = s
+is_known-sink out new (Err (Failed OutOfMemory)) t s = record { cause = λ e. absurd cc; counted = s.counted }
+is_known-sink out new (Err (Failed Read)) t s = absurd t
+is_known-sink out new (Err (Failed Write)) t s = absurd t
+is_known-sink out new (Err (Refused split)) t s = absurd t
 
 -- ---- what was read
 

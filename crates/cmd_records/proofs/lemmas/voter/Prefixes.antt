@@ -7,7 +7,7 @@ use Rattle.std.proofs.lemmas.List.{drop_at}
 use Rattle.std.proofs.lemmas.Bool.{and_from, and_parts, false_from_ne_true}
 use Rattle.det_io.specs.Prefix.{IsPrefix}
 use Rattle.det_io.proofs.Prefixes.{prefix-none, prefix-then}
-use Rattle.record_grammar.specs.declared.fault.RecordFault.{RecordFault}
+use Rattle.record_grammar.specs.declared.record_fault.RecordFault.{RecordFault}
 use Rattle.record_grammar.specs.declared.item.Item.{Item}
 use Rattle.record_grammar.specs.contracts.item.ItemPartialEq.TheImpl as item
 use Rattle.record_grammar.specs.Record.{items as items_in, fault as fault_in}
@@ -30,17 +30,17 @@ begins-yes (x ∷ given) (y ∷ all) p =
     let same : x ≡ y = cc in
     and_from (item.eq-value.it x y) (begins_with given all) ((item_decides x y).1 same) (begins-yes given all (p.0, cc))
 
-pub begins-tells : (given all : List Item) → begins_with given all ≡ true → IsPrefix given all
-begins-tells [] all e = prefix-none all
-begins-tells (x ∷ given) [] e = absurd cc
-begins-tells (x ∷ given) (y ∷ all) e =
+pub begins-is_known : (given all : List Item) → begins_with given all ≡ true → IsPrefix given all
+begins-is_known [] all e = prefix-none all
+begins-is_known (x ∷ given) [] e = absurd cc
+begins-is_known (x ∷ given) (y ∷ all) e =
     let p = and_parts (item.eq-value.it x y) (begins_with given all) e in
-    let rest = begins-tells given all p.1 in
+    let rest = begins-is_known given all p.1 in
     (rest.0, ap (λ z. z ∷ (given ++ rest.0)) ((item_decides x y).0 p.0) ∙ ap (λ l. y ∷ l) rest.1)
 
 pub begins-shorter : (given more all : List Item) → begins_with (given ++ more) all ≡ true → begins_with given all ≡ true
 begins-shorter given more all e =
-    begins-yes given all (prefix-then given (given ++ more) all (more, refl) (begins-tells (given ++ more) all e))
+    begins-yes given all (prefix-then given (given ++ more) all (more, refl) (begins-is_known (given ++ more) all e))
 
 -- of two lists with which one begins the shorter one begins the other
 pub shorter-first : (a b all : List Item) → IsPrefix a all → IsPrefix b all → length a ≤ length b → IsPrefix a b
@@ -143,7 +143,7 @@ same-begins given x copy = by (begins_with given (items_in copy)) refl
         → same_row (Some (rows.Item x)) (cond b (Some (row_at (length given) copy)) None) ≡ begins_with (given ++ x ∷ []) (items_in copy)
     by true e =
         at (same_row (Some (rows.Item x)) (Some (row_at (length given) copy)))
-        ∙ ap (λ o. is_none o) (sym (parts-next given x copy (begins-tells given (items_in copy) e)))
+        ∙ ap (λ o. is_none o) (sym (parts-next given x copy (begins-is_known given (items_in copy) e)))
         ∙ sym (begins-parts 0 (given ++ x ∷ []) (items_in copy))
     by false e = sym (false_from_ne_true (begins_with (given ++ x ∷ []) (items_in copy))
         (λ yes. let no : false ≡ true = sym e ∙ begins-shorter given (x ∷ []) (items_in copy) yes in absurd cc))

@@ -21,7 +21,7 @@ use Rattle.record_grammar.specs.Record.{Decoded, decoded, with_next, items as it
 use Rattle.record_grammar.specs.Spelling.{AreBytes, spelled, spelled_header, spelled_frame}
 use Rattle.record_grammar.proofs.Leads.{all_leads, can_follow}
 use Rattle.record_grammar.proofs.lemmas.record_laws.Whole.{nil_more, all_leads_on, decoded_is}
-use Rattle.record_reader.specs.Taking.{AreFirst}
+use Rattle.record_reader.specs.ItemTaker.{AreFirst}
 use Rattle.cmd_records.specs.voter.Majority.{spelled_items}
 use Rattle.record_reader.specs.InItems.{frame_in}
 use Rattle.cmd_records.specs.voter.Rows.{place_after, place_behind}

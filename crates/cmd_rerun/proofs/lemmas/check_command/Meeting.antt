@@ -14,23 +14,23 @@ use Rattle.det_io.specs.declared.failure.Stopped.TheVariants.{Refused, Failed}
 use Rattle.job.specs.Meaning.{Meaning}
 use Rattle.jobs.specs.Kinds.{of_kind}
 use Rattle.jobs.proofs.ByKinds.{by_kind-then, of_kind-gives}
-use Rattle.record_grammar.specs.declared.fault.RecordFault.{RecordFault}
+use Rattle.record_grammar.specs.declared.record_fault.RecordFault.{RecordFault}
 use Rattle.record_grammar.specs.declared.item.Item.TheVariants.{Header}
-use Rattle.record_reader.specs.declared.frames.FrameReader.{FrameReader}
+use Rattle.record_reader.specs.declared.frame_reader.FrameReader.{FrameReader}
 use Rattle.record_reader.specs.Frames.{StandsFor, slot_of}
 use Rattle.probes.specs.Reports.{AudienceState, reported}
-use Rattle.rerun.specs.declared.checker.verdict.CheckVerdict.{CheckVerdict}
+use Rattle.rerun.specs.declared.checker.check_verdict.CheckVerdict.{CheckVerdict}
 use Rattle.rerun.specs.checker.Departure.{checked_runs}
-use Rattle.rerun.specs.checker.Checked.{Answers}
+use Rattle.rerun.specs.checker.CheckRun.{Answers}
 use Rattle.cli_answers.specs.declared.answer.Answer.{Answer}
 use Rattle.cli_answers.specs.declared.answer.Answer.TheVariants.{BadRecord, OutOfMemory}
 use Rattle.cli_answers.specs.Answers.{stopped}
 use Rattle.cli_answers.specs.Outcome.{Outcome, Meets, refusal}
-use Rattle.cli_answers.proofs.Meeting.{meets-read-fault, meets-no-memory, meets-refusal}
+use Rattle.cli_answers.proofs.AnswerMeets.{meets-read-fault, meets-no-memory, meets-refusal}
 use Rattle.run_setup.specs.declared.recorded_run.bad_run.BadRun.{BadRun}
 use Rattle.run_setup.specs.recorded_run.Run.{RunValue, over_run, refused}
 use Rattle.cmd_rerun.specs.check_command.Check.{outcome_by, checked_with}
-use Rattle.cmd_rerun.specs.check_command.Visited.{checked, IsUntouched, HasChecked}
+use Rattle.cmd_rerun.specs.check_command.CheckVisit.{checked, IsUntouched, HasChecked}
 
 -- the outcome by the run that a record's header names
 abbrev pub checked_by : AudienceState → List ℕ → Result RunValue BadRun → Outcome
@@ -41,9 +41,9 @@ at-told : (left : Option (List ℕ)) (rest : List ℕ) (P : List ℕ → Type 0)
 at-told left rest P e p = rw e at p
 
 -- what was printed is the outcome, where the rest of the record is known
-meets-printed : {wanted printed : Outcome} {tells rose other : Type 0} {before after : List ℕ → Type 0} {answer : Answer}
-    → (tells → wanted ≡ printed) → Meets printed (Unit {0}) ⊥ other before after answer
-    → Meets wanted tells rose other before after answer
+meets-printed : {wanted printed : Outcome} {is_known rose other : Type 0} {before after : List ℕ → Type 0} {answer : Answer}
+    → (is_known → wanted ≡ printed) → Meets printed (Unit {0}) ⊥ other before after answer
+    → Meets wanted is_known rose other before after answer
 meets-printed is m = record {
   part = λ t. rw (is t) (m.part tt);
   whole = λ t. rw (is t) (m.whole tt);
@@ -52,8 +52,8 @@ meets-printed is m = record {
 }
 
 -- nothing was written before or after what was
-same-first : {wanted : Outcome} {tells rose other : Type 0} {before mid after : List ℕ → Type 0} {answer : Answer} → Same before mid
-    → Meets wanted tells rose other mid after answer → Meets wanted tells rose other before after answer
+same-first : {wanted : Outcome} {is_known rose other : Type 0} {before mid after : List ℕ → Type 0} {answer : Answer} → Same before mid
+    → Meets wanted is_known rose other mid after answer → Meets wanted is_known rose other before after answer
 same-first same m = record {
   part = λ t. let p = m.part t in (p.0, p.1, same-then-grew same p.2);
   whole = λ t. elim (m.whole t) [
@@ -70,8 +70,8 @@ same-first same m = record {
   write_fault = m.write_fault;
 }
 
-same-last : {wanted : Outcome} {tells rose other : Type 0} {before mid after : List ℕ → Type 0} {answer : Answer} → Same mid after
-    → Meets wanted tells rose other before mid answer → Meets wanted tells rose other before after answer
+same-last : {wanted : Outcome} {is_known rose other : Type 0} {before mid after : List ℕ → Type 0} {answer : Answer} → Same mid after
+    → Meets wanted is_known rose other before mid answer → Meets wanted is_known rose other before after answer
 same-last same m = record {
   part = λ t. let p = m.part t in (p.0, p.1, grew-same p.2 same);
   whole = λ t. elim (m.whole t) [

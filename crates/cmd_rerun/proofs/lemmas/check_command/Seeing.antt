@@ -12,26 +12,26 @@ use Rattle.det_io.proofs.Prefixes.{prefix-none, prefix-same}
 use Rattle.job.specs.Meaning.{Meaning}
 use Rattle.jobs.specs.Kinds.{of_kind}
 use Rattle.jobs.proofs.ByKinds.{by_kind-then}
-use Rattle.record_grammar.specs.declared.fault.RecordFault.{RecordFault}
+use Rattle.record_grammar.specs.declared.record_fault.RecordFault.{RecordFault}
 use Rattle.record_grammar.specs.declared.item.Item.TheVariants.{Header}
-use Rattle.record_reader.specs.declared.frames.FrameReader.{FrameReader}
+use Rattle.record_reader.specs.declared.frame_reader.FrameReader.{FrameReader}
 use Rattle.record_reader.specs.Frames.{StandsFor, slot_of}
 use Rattle.probes.specs.Reports.{ProbeLife, AudienceState, reported, reports, in_turn}
 use Rattle.probes.specs.Shows.{SawRuns}
-use Rattle.rerun.specs.declared.checker.verdict.CheckVerdict.{CheckVerdict}
+use Rattle.rerun.specs.declared.checker.check_verdict.CheckVerdict.{CheckVerdict}
 use Rattle.rerun.specs.checker.Departure.{checked_runs}
 use Rattle.cli_answers.specs.declared.answer.Answer.{Answer}
 use Rattle.cli_answers.specs.declared.answer.Answer.TheVariants.{OutOfMemory}
 use Rattle.cli_answers.specs.Answers.{stopped}
 use Rattle.det_io.specs.Shelf.{ShelfState}
 use Rattle.run_setup.specs.declared.recorded_run.bad_run.BadRun.{BadRun}
-use Rattle.run_setup.specs.declared.recorded_run.run.RecordedRun.{RecordedRun}
-use Rattle.run_setup.specs.recorded_run.Begun.{HasBegun}
+use Rattle.run_setup.specs.declared.recorded_run.open_run.RecordedRun.{RecordedRun}
+use Rattle.run_setup.specs.recorded_run.OpenedRun.{HasBegun}
 use Rattle.run_setup.specs.recorded_run.Run.{RunValue, run_of, over_run}
 use Rattle.run_setup.proofs.lemmas.recorded_run.Resting.{rest}
 use Rattle.cmd_rerun.specs.check_command.Check.{runs_checked, SawFirst}
-use Rattle.cmd_rerun.specs.check_command.Visited.{runs_by_kind}
-use Rattle.cmd_rerun.specs.check_command.Visited.{HasChecked}
+use Rattle.cmd_rerun.specs.check_command.CheckVisit.{runs_by_kind}
+use Rattle.cmd_rerun.specs.check_command.CheckVisit.{HasChecked}
 use Rattle.cmd_rerun.proofs.lemmas.check_command.Meeting.{answers, no-write}
 
 -- nobody was shown anything

@@ -13,22 +13,22 @@ use Rattle.det_io.specs.declared.failure.Stopped.TheVariants.{Refused, Failed}
 use Rattle.job.specs.Meaning.{Meaning}
 use Rattle.jobs.specs.Kinds.{of_kind}
 use Rattle.jobs.proofs.ByKinds.{by_kind-then, of_kind-gives}
-use Rattle.record_grammar.specs.declared.fault.RecordFault.{RecordFault}
+use Rattle.record_grammar.specs.declared.record_fault.RecordFault.{RecordFault}
 use Rattle.record_grammar.specs.declared.item.Item.TheVariants.{Header}
-use Rattle.record_reader.specs.declared.frames.FrameReader.{FrameReader}
+use Rattle.record_reader.specs.declared.frame_reader.FrameReader.{FrameReader}
 use Rattle.record_reader.specs.Frames.{StandsFor, slot_of}
 use Rattle.recorder.specs.declared.run_writer.counts.Counts.{Counts}
-use Rattle.rerun.specs.replayer.Again.{again}
-use Rattle.rerun.specs.replayer.Ends.{Finishes, Stops}
-use Rattle.rerun.specs.replayer.Replayed.{IsReplayed}
+use Rattle.rerun.specs.replayer.ReplayRecord.{replay_record}
+use Rattle.rerun.specs.replayer.ReplayEnds.{Finishes, Stops}
+use Rattle.rerun.specs.replayer.ReplayRun.{IsReplayed}
 use Rattle.cli_answers.specs.declared.answer.Answer.{Answer}
 use Rattle.cli_answers.specs.Outcome.{Outcome, Meets, refusal}
-use Rattle.cli_answers.proofs.Meeting.{meets-read-fault-part, meets-write-fault, meets-no-memory-part}
+use Rattle.cli_answers.proofs.AnswerMeets.{meets-read-fault-part, meets-write-fault, meets-no-memory-part}
 use Rattle.cli_answers.specs.Answers.{by_fault}
 use Rattle.run_setup.specs.declared.recorded_run.bad_run.BadRun.{BadRun}
 use Rattle.run_setup.specs.recorded_run.Run.{RunValue, over_run, refused}
 use Rattle.cmd_rerun.specs.replay_command.Replay.{replayed_with, answer_of}
-use Rattle.cmd_rerun.specs.replay_command.Visited.{replayed, HasReplayed}
+use Rattle.cmd_rerun.specs.replay_command.ReplayVisit.{replayed, HasReplayed}
 
 -- the outcome by the run that a record's header names
 abbrev pub replayed_by : List ℕ → Result RunValue BadRun → Outcome
@@ -40,8 +40,8 @@ at-told left rest P e p = rw e at p
 
 module _ {S G E L P : Type 0} (m : Meaning S G E L P) (profile : ProfileValue) (read rest : List ℕ) (slot : ℕ) (shelf : ShelfRun)
     (out : SinkRun) where
-  abbrev tells : Type 0
-  tells = shelf.first.left slot ≡ Some rest
+  abbrev is_known : Type 0
+  is_known = shelf.first.left slot ≡ Some rest
 
   abbrev rose : Type 0
   rose = Rose shelf.first.faults shelf.last.faults
@@ -49,19 +49,19 @@ module _ {S G E L P : Type 0} (m : Meaning S G E L P) (profile : ProfileValue) (
   abbrev failed : Type 0
   failed = Rose out.faults_before out.faults_after
 
-  part : (result : Result Counts (Stopped RecordFault)) → IsReplayed m profile read slot shelf out result → tells
-      → GrewByPrefix out.before out.after (again m profile (read ++ rest))
+  part : (result : Result Counts (Stopped RecordFault)) → IsReplayed m profile read slot shelf out result → is_known
+      → GrewByPrefix out.before out.after (replay_record m profile (read ++ rest))
   part result r told =
-      let Part : List ℕ → Type 0 = λ more. GrewByPrefix out.before out.after (again m profile (read ++ more)) in
+      let Part : List ℕ → Type 0 = λ more. GrewByPrefix out.before out.after (replay_record m profile (read ++ more)) in
       at-told (shelf.first.left slot) rest Part told r.part
 
-  finished : (counts : Counts) → IsReplayed m profile read slot shelf out (Ok counts) → tells
+  finished : (counts : Counts) → IsReplayed m profile read slot shelf out (Ok counts) → is_known
       → Finishes m profile (read ++ rest) counts out
   finished counts r told =
       let P : List ℕ → Type 0 = λ more. Finishes m profile (read ++ more) counts out in
       at-told (shelf.first.left slot) rest P told r.ok
 
-  stopped : (fault : RecordFault) → IsReplayed m profile read slot shelf out (Err (Refused fault)) → tells
+  stopped : (fault : RecordFault) → IsReplayed m profile read slot shelf out (Err (Refused fault)) → is_known
       → Stops m profile (read ++ rest) fault out
   stopped fault r told =
       let Is : RecordFault → Type 0 = λ other. ◌≡◌ {A = Result Counts (Stopped RecordFault)} (Err (Refused fault)) (Err (Refused other)) in
@@ -71,7 +71,7 @@ module _ {S G E L P : Type 0} (m : Meaning S G E L P) (profile : ProfileValue) (
   -- by its end
   met-replayed : (result : Result Counts (Stopped RecordFault)) → IsReplayed m profile read slot shelf out result
       → ShelfTraffic shelf (failure_in result) → SinkTraffic out (failure_in result)
-      → Meets (replayed_with m profile (read ++ rest)) tells rose failed out.before out.after (answer_of result)
+      → Meets (replayed_with m profile (read ++ rest)) is_known rose failed out.before out.after (answer_of result)
   met-replayed (Ok counts) r reads writes = record {
     part = part (Ok counts) r;
     whole = λ t. inr (inr (inr (ap by_fault (sym (finished counts r t).whole), (finished counts r t).grew)));
@@ -85,13 +85,13 @@ module _ {S G E L P : Type 0} (m : Meaning S G E L P) (profile : ProfileValue) (
     write_fault = λ e. cc;
   }
   met-replayed (Err (Failed Read)) r reads writes =
-      meets-read-fault-part (replayed_with m profile (read ++ rest)) tells rose failed out.before out.after
+      meets-read-fault-part (replayed_with m profile (read ++ rest)) is_known rose failed out.before out.after
       (part (Err (Failed Read)) r) (reads.cause refl)
   met-replayed (Err (Failed Write)) r reads writes =
-      meets-write-fault (replayed_with m profile (read ++ rest)) tells rose failed out.before out.after
+      meets-write-fault (replayed_with m profile (read ++ rest)) is_known rose failed out.before out.after
       (part (Err (Failed Write)) r) (writes.cause refl)
   met-replayed (Err (Failed OutOfMemory)) r reads writes =
-      meets-no-memory-part (replayed_with m profile (read ++ rest)) tells rose failed out.before out.after
+      meets-no-memory-part (replayed_with m profile (read ++ rest)) is_known rose failed out.before out.after
       (part (Err (Failed OutOfMemory)) r)
 
 module _ (kind : JobKind) (profile : ProfileValue) (frames : FrameReader) (read : List ℕ) (shelf : ShelfRun) (out : SinkRun)

@@ -15,28 +15,28 @@ use Rattle.det_io.proofs.Growth.{part-whole, short-part}
 use Rattle.job.specs.Meaning.{Meaning}
 use Rattle.jobs.specs.Kinds.{of_kind}
 use Rattle.jobs.proofs.ByKinds.{by_kind-then, of_kind-gives}
-use Rattle.record_grammar.specs.declared.fault.RecordFault.{RecordFault}
+use Rattle.record_grammar.specs.declared.record_fault.RecordFault.{RecordFault}
 use Rattle.record_grammar.specs.declared.item.Item.TheVariants.{Header}
 use Rattle.record_grammar.specs.Record.{fault as fault_in}
 use Rattle.record_reader.specs.Frames.{StandsFor, slot_of}
 use Rattle.copies.specs.declared.difference.Difference.{Difference}
-use Rattle.rerun.specs.declared.checker.verdict.CheckVerdict.{CheckVerdict}
-use Rattle.rerun.specs.declared.checker.verdict.CheckVerdict.TheVariants.{Genuine, Departs}
+use Rattle.rerun.specs.declared.checker.check_verdict.CheckVerdict.{CheckVerdict}
+use Rattle.rerun.specs.declared.checker.check_verdict.CheckVerdict.TheVariants.{Genuine, Departs}
 use Rattle.rerun.specs.checker.Departure.{departure}
-use Rattle.rerun.specs.checker.Verdict.{verdict_by, check_verdict}
+use Rattle.rerun.specs.checker.CheckVerdict.{verdict_by, check_verdict}
 use Rattle.rerun.specs.declared.upgrader.original.Original.{Original}
-use Rattle.rerun.specs.upgrader.Begun.{header_of}
-use Rattle.rerun.specs.upgrader.Upgraded.{in_format_two, upgraded}
-use Rattle.rerun.specs.upgrader.Ends.{Answers, IsUpgraded}
+use Rattle.rerun.specs.upgrader.UpgradeStart.{header_of}
+use Rattle.rerun.specs.upgrader.UpgradedRecord.{in_format_two, upgraded}
+use Rattle.rerun.specs.upgrader.UpgradeEnds.{Answers, IsUpgraded}
 use Rattle.cli_answers.specs.declared.answer.Answer.{Answer}
 use Rattle.cli_answers.specs.declared.answer.Answer.TheVariants.{Differs, ReadFault, WriteFault}
 use Rattle.cli_answers.specs.Answers.{by_fault}
 use Rattle.cli_answers.specs.Outcome.{Outcome, Meets, refusal}
-use Rattle.cli_answers.proofs.Meeting.{meets-read-fault-part, meets-write-fault, meets-no-memory-part}
+use Rattle.cli_answers.proofs.AnswerMeets.{meets-read-fault-part, meets-write-fault, meets-no-memory-part}
 use Rattle.run_setup.specs.declared.recorded_run.bad_run.BadRun.{BadRun}
 use Rattle.run_setup.specs.recorded_run.Run.{RunValue, over_run, refused}
 use Rattle.cmd_rerun.specs.upgrade_command.Upgrade.{upgraded_with, answer_of}
-use Rattle.cmd_rerun.specs.upgrade_command.Visited.{upgraded_by_kind, HasUpgraded}
+use Rattle.cmd_rerun.specs.upgrade_command.UpgradeVisit.{upgraded_by_kind, HasUpgraded}
 
 -- the outcome by the run that a record's header names
 abbrev pub upgraded_by : List ℕ → Result RunValue BadRun → Outcome
@@ -89,8 +89,8 @@ module _ {S G E L P : Type 0} (m : Meaning S G E L P) (profile : ProfileValue) w
   part-of (Err (Failed OutOfMemory)) bytes out answer = answer
 
   module _ (read rest : List ℕ) (slot : ℕ) (shelf : ShelfRun) (out : SinkRun) where
-    abbrev tells : Type 0
-    tells = shelf.first.left slot ≡ Some rest
+    abbrev is_known : Type 0
+    is_known = shelf.first.left slot ≡ Some rest
 
     abbrev rose : Type 0
     rose = Rose shelf.first.faults shelf.last.faults
@@ -98,18 +98,18 @@ module _ {S G E L P : Type 0} (m : Meaning S G E L P) (profile : ProfileValue) w
     abbrev failed : Type 0
     failed = Rose out.faults_before out.faults_after
 
-    answered : (result : Result CheckVerdict (Stopped RecordFault)) → IsUpgraded m profile read slot shelf out result → tells
+    answered : (result : Result CheckVerdict (Stopped RecordFault)) → IsUpgraded m profile read slot shelf out result → is_known
         → Answers m profile result (read ++ rest) out
     answered result u told = at-told (shelf.first.left slot) rest (λ more. Answers m profile result (read ++ more) out) told u.told
 
-    part : (result : Result CheckVerdict (Stopped RecordFault)) → IsUpgraded m profile read slot shelf out result → tells
+    part : (result : Result CheckVerdict (Stopped RecordFault)) → IsUpgraded m profile read slot shelf out result → is_known
         → GrewByPrefix out.before out.after (upgraded m profile (read ++ rest))
     part result u told = part-of result (read ++ rest) out (answered result u told)
 
     -- it came to a verdict, or to a fault
-    met-verdict : (verdict : Result CheckVerdict RecordFault) → (tells → Answers m profile (ended_as verdict) (read ++ rest) out)
+    met-verdict : (verdict : Result CheckVerdict RecordFault) → (is_known → Answers m profile (ended_as verdict) (read ++ rest) out)
         → IsUpgraded m profile read slot shelf out (ended_as verdict)
-        → Meets (upgraded_with m profile (read ++ rest)) tells rose failed out.before out.after (answer_of (ended_as verdict))
+        → Meets (upgraded_with m profile (read ++ rest)) is_known rose failed out.before out.after (answer_of (ended_as verdict))
     met-verdict (Ok verdict) each u = record {
       part = part (Ok verdict) u;
       whole = λ t. inr (inr (inr (
@@ -132,17 +132,17 @@ module _ {S G E L P : Type 0} (m : Meaning S G E L P) (profile : ProfileValue) w
     -- by its end
     met-upgraded : (result : Result CheckVerdict (Stopped RecordFault)) → IsUpgraded m profile read slot shelf out result
         → ShelfTraffic shelf (failure_in result) → SinkTraffic out (failure_in result)
-        → Meets (upgraded_with m profile (read ++ rest)) tells rose failed out.before out.after (answer_of result)
+        → Meets (upgraded_with m profile (read ++ rest)) is_known rose failed out.before out.after (answer_of result)
     met-upgraded (Ok verdict) u reads writes = met-verdict (Ok verdict) (answered (Ok verdict) u) u
     met-upgraded (Err (Refused fault)) u reads writes = met-verdict (Err fault) (answered (Err (Refused fault)) u) u
     met-upgraded (Err (Failed Read)) u reads writes =
-        meets-read-fault-part (upgraded_with m profile (read ++ rest)) tells rose failed out.before out.after
+        meets-read-fault-part (upgraded_with m profile (read ++ rest)) is_known rose failed out.before out.after
         (part (Err (Failed Read)) u) (reads.cause refl)
     met-upgraded (Err (Failed Write)) u reads writes =
-        meets-write-fault (upgraded_with m profile (read ++ rest)) tells rose failed out.before out.after
+        meets-write-fault (upgraded_with m profile (read ++ rest)) is_known rose failed out.before out.after
         (part (Err (Failed Write)) u) (writes.cause refl)
     met-upgraded (Err (Failed OutOfMemory)) u reads writes =
-        meets-no-memory-part (upgraded_with m profile (read ++ rest)) tells rose failed out.before out.after
+        meets-no-memory-part (upgraded_with m profile (read ++ rest)) is_known rose failed out.before out.after
         (part (Err (Failed OutOfMemory)) u)
 
 -- ---- by the job of a kind

@@ -17,19 +17,19 @@ use Rattle.det_io.proofs.Growth.{grew-then, grew-then-part, part-whole, part-wid
 use Rattle.det_io.proofs.SlotReads.{reads-none}
 use Rattle.job.specs.Meaning.{Meaning}
 use Rattle.record_grammar.specs.Spelling.{spelled_frame}
-use Rattle.stimulus.specs.declared.item.StimFault.{StimFault}
+use Rattle.stimulus.specs.declared.stimulus_item.StimulusFault.{StimulusFault}
 use Rattle.stimulus.specs.Reading.{Reading, Ending, Terminated, BadLine, inputs_of, ending_of, blocks, ending}
 use Rattle.stimulus.proofs.Growing.{blocks_grow, bad_stays}
 use Rattle.recorder.specs.declared.run_writer.recording.Recording.{Recording}
 use Rattle.recorder.specs.run_writer.Record.{record_with, opening}
 use Rattle.recorder.proofs.lemmas.run_writer.Growing.{record-opened, record-next, record-ended, record-front}
-use Rattle.stimulus.specs.declared.slot_reader.reader.StimulusReader.{StimulusReader}
+use Rattle.stimulus.specs.declared.slot_reader.stimulus_reader.StimulusReader.{StimulusReader}
 use Rattle.stimulus.specs.slot_reader.StandsFor.{InputIs, IsNext, HasAll, IsWhole, IsBad, events_of}
 use Rattle.recorder.specs.Record.{is_terminated, record_of}
-use Rattle.cmd_run.specs.declared.chain.counts.ChainCounts.{ChainCounts}
-use Rattle.cmd_run.specs.chain.Chained.{second_with, second_of}
-use Rattle.cmd_run.specs.chain.Ends.{Sinks, BothGrew, BothGrewByPrefix, Counted, Finishes, Stops, Ended}
-use Rattle.cmd_run.specs.chain.Linked.{IsCut, CutOff, first_frame, second_frame}
+use Rattle.cmd_run.specs.declared.chain.chain_counts.ChainCounts.{ChainCounts}
+use Rattle.cmd_run.specs.chain.SecondClient.{second_with, second_of}
+use Rattle.cmd_run.specs.chain.ChainEnds.{Sinks, BothGrew, BothGrewByPrefix, Counted, Finishes, Stops, Ended}
+use Rattle.cmd_run.specs.chain.ChainCycle.{IsCut, CutOff, first_frame, second_frame}
 use Rattle.cmd_run.proofs.lemmas.chain.Linking.{second-opened, second-next, second-ended, second-front}
 use Rattle.cmd_run.proofs.lemmas.chain.Running.{Running, joined}
 
@@ -54,7 +54,7 @@ whole sinks bytes others grew = record {
 module _ {S G E L P : Type 0} (m : Meaning S G E L P) (first : ProfileValue) {T H F M Q : Type 0} (n : Meaning T H F M Q)
     (second : ProfileValue) where
   -- what was read of the text, and what the sinks took
-  abbrev pub HasRun : ℕ → ShelfRun → Sinks → Result ChainCounts (Stopped StimFault) → Type 0
+  abbrev pub HasRun : ℕ → ShelfRun → Sinks → Result ChainCounts (Stopped StimulusFault) → Type 0
   HasRun slot shelf sinks result = (read : List ℕ) × Reads shelf.first shelf.last slot read
       × Ended m first n second result read (IsAtEnd shelf.last slot) sinks
 
@@ -135,7 +135,7 @@ module _ {S G E L P : Type 0} (m : Meaning S G E L P) (first : ProfileValue) {T 
   -- a bad line, or a failure of the reader
   pub reading-stopped : (slot : ℕ) (shelf : ShelfRun) (sinks : Sinks) {mid : ShelfState} {reader : StimulusReader}
       {recording : Recording S G E L P} {other : Recording T H F M Q} {read : List ℕ} {given : List CycleInput}
-      (next : StimulusReader) (why : Stopped StimFault)
+      (next : StimulusReader) (why : Stopped StimulusFault)
       → Running m first n second shelf.first mid slot sinks reader recording other read given
       → (all : List ℕ) × Reads shelf.first shelf.last slot all × InputIs (Err why) next (IsAtEnd shelf.last slot) all given
       → events_of next ≡ length first.events → HasRun slot shelf sinks (Err why)
@@ -183,13 +183,13 @@ module _ {S G E L P : Type 0} (m : Meaning S G E L P) (first : ProfileValue) {T 
       {recording : Recording S G E L P} {other : Recording T H F M Q} {read : List ℕ} {given : List CycleInput}
       (running : Running m first n second shelf.first mid slot sinks reader recording other read given) where
     -- the frames of the next cycle weren't both written
-    pub link-failed : (input : CycleInput) (failure : Failure) (all : List ℕ) → Reads shelf.first shelf.last slot all
+    pub cycle_both-failed : (input : CycleInput) (failure : Failure) (all : List ℕ) → Reads shelf.first shelf.last slot all
         → IsNext input (length first.events) all given
         → IsCut failure
         → GrewByPrefix sinks.first.after step.first.after (first_frame m n first second given input)
         → GrewByPrefix sinks.second.after step.second.after (second_frame m n first second given input)
         → HasRun slot shelf (joined sinks step) (Err (Failed failure))
-    link-failed input failure all reads next cut one two = (
+    cycle_both-failed input failure all reads next cut one two = (
       all,
       reads,
       cut-off failure all (IsAtEnd shelf.last slot) (joined sinks step) cut

@@ -12,18 +12,18 @@ use Rattle.det_io.specs.declared.failure.Failure.{Failure}
 use Rattle.det_io.specs.declared.failure.Failure.TheVariants.{Read, Write, OutOfMemory}
 use Rattle.det_io.proofs.Growth.{part-whole, part-none, short-part}
 use Rattle.job.specs.Meaning.{Meaning}
-use Rattle.cycle_engine.specs.Frames.{runs, runs_behind, first_state, state_of}
-use Rattle.cycle_engine.proofs.Standing.{runs-append, runs_behind-append, length-runs}
+use Rattle.cycle_engine.specs.Frames.{runs, runs_after_inputs, first_state, state_of}
+use Rattle.cycle_engine.proofs.Standing.{runs-append, runs_after_inputs-append, length-runs}
 use Rattle.record_grammar.specs.Spelling.{spelled_frame}
 use Rattle.recorder.specs.declared.run_writer.counts.Counts.{Counts}
 use Rattle.recorder.specs.run_writer.Record.{record_with, opening}
 use Rattle.recorder.specs.run_writer.Record.{Counted as RecordCounted}
 use Rattle.recorder.specs.run_writer.Recording.{Cuts}
 use Rattle.recorder.proofs.lemmas.run_writer.Growing.{runs-none, record-opened, record-next, record-ended, record-front}
-use Rattle.cmd_run.specs.chain.Derived.{derived, derived_input}
-use Rattle.cmd_run.specs.chain.Chained.{passed_on, second_with}
-use Rattle.cmd_run.specs.chain.Ends.{Sinks, Counted}
-use Rattle.cmd_run.specs.chain.Linked.{IsCut, CutOff, next_run, next_input, second_frame}
+use Rattle.cmd_run.specs.chain.OutputSamples.{derived, derived_input}
+use Rattle.cmd_run.specs.chain.SecondClient.{passed_on, second_with}
+use Rattle.cmd_run.specs.chain.ChainEnds.{Sinks, Counted}
+use Rattle.cmd_run.specs.chain.ChainCycle.{IsCut, CutOff, next_run, next_input, second_frame}
 
 -- ---- what a cut leaves
 
@@ -82,9 +82,9 @@ module _ {S G E L P : Type 0} (m : Meaning S G E L P) (first : ProfileValue) whe
   pub derived-front : (events : ℕ) (given inputs : List CycleInput) → IsPrefix given inputs
       → IsPrefix (derived m first given events) (derived m first inputs events)
   derived-front events given inputs (rest, is) = (
-    map (derived_input events) (runs_behind m first ([] ++ given) (state_of m first given) rest),
-    sym (map-append (derived_input events) (runs m first given) (runs_behind m first ([] ++ given) (state_of m first given) rest))
-        ∙ ap (map (derived_input events)) (sym (runs_behind-append m first [] given rest (first_state m first)))
+    map (derived_input events) (runs_after_inputs m first ([] ++ given) (state_of m first given) rest),
+    sym (map-append (derived_input events) (runs m first given) (runs_after_inputs m first ([] ++ given) (state_of m first given) rest))
+        ∙ ap (map (derived_input events)) (sym (runs_after_inputs-append m first [] given rest (first_state m first)))
         ∙ ap (λ xs. derived m first xs events) is,
   )
 

@@ -14,26 +14,27 @@ use Rattle.det_io.proofs.Counts.{rose-before}
 use Rattle.det_io.proofs.Growth.{grew-then}
 use Rattle.det_io.proofs.SlotReads.{reads-none, reads-then}
 use Rattle.job.specs.Meaning.{Meaning}
-use Rattle.stimulus.specs.declared.item.StimFault.{StimFault}
+use Rattle.stimulus.specs.declared.stimulus_item.StimulusFault.{StimulusFault}
 use Rattle.recorder.specs.declared.run_writer.recording.Recording.{Recording}
 use Rattle.recorder.specs.run_writer.Record.{record_with, opening}
-use Rattle.recorder.specs.run_writer.Recording.{Stands}
+use Rattle.recorder.specs.run_writer.Recording.{IsRecordingAfter}
 use Rattle.recorder.proofs.lemmas.run_writer.Growing.{record-opened, record-next}
-use Rattle.stimulus.specs.declared.slot_reader.reader.StimulusReader.{StimulusReader}
+use Rattle.stimulus.specs.declared.slot_reader.stimulus_reader.StimulusReader.{StimulusReader}
 use Rattle.stimulus.specs.slot_reader.StandsFor.{StandsFor, InputIs, ReadsIfNeeded, slot_of, events_of}
-use Rattle.cmd_run.specs.declared.chain.counts.ChainCounts.{ChainCounts}
-use Rattle.cmd_run.specs.chain.Chained.{second_with}
-use Rattle.cmd_run.specs.chain.Ends.{Sinks, BothGrew}
-use Rattle.cmd_run.specs.chain.Linked.{IsCut, BothStand, BothTraffic, first_frame, second_frame}
+use Rattle.cmd_run.specs.declared.chain.chain_counts.ChainCounts.{ChainCounts}
+use Rattle.cmd_run.specs.chain.SecondClient.{second_with}
+use Rattle.cmd_run.specs.chain.ChainEnds.{Sinks, BothGrew}
+use Rattle.cmd_run.specs.chain.ChainCycle.{IsCut, AreBothAfter, BothTraffic, first_frame, second_frame}
 use Rattle.cmd_run.proofs.lemmas.chain.Linking.{derived-none, second-opened, second-next}
 
 -- what the reader returns, for all bytes that it can have read
-abbrev pub Answered : Result (Option CycleInput) (Stopped StimFault) → ShelfState → ShelfState → StimulusReader → StimulusReader → Type 0
+abbrev pub Answered : Result (Option CycleInput) (Stopped StimulusFault) → ShelfState → ShelfState → StimulusReader → StimulusReader
+    → Type 0
 Answered answer mid now old new = (more : List ℕ) × Reads mid now (slot_of old) more
     × ((read : List ℕ) (given : List CycleInput) → StandsFor old read given
     → ReadsIfNeeded (events_of old) read given more × InputIs answer new (IsAtEnd now (slot_of old)) (read ++ more) given)
 
-pub answered-as : (answer other : Result (Option CycleInput) (Stopped StimFault)) (mid now : ShelfState) (old new : StimulusReader)
+pub answered-as : (answer other : Result (Option CycleInput) (Stopped StimulusFault)) (mid now : ShelfState) (old new : StimulusReader)
     → answer ≡ other
     → Answered answer mid now old new → Answered other mid now old new
 answered-as answer other mid now old new is h = subst (λ a. Answered a mid now old new) is h
@@ -62,12 +63,12 @@ module _ {S G E L P : Type 0} (m : Meaning S G E L P) (first : ProfileValue) {T 
       (other : Recording T H F M Q) (read : List ℕ) (given : List CycleInput) : Type 0 where
     pub reads : Reads start now slot read
     pub fed : StandsFor reader read given
-    pub stands : BothStand m n recording other given
+    pub stands : AreBothAfter m n recording other given
     pub grew : BothGrew sinks (record_with m first given false) (second_with m first n second given false)
 
   pub running-opened : (shelf : ShelfState) (slot : ℕ) (sinks : Sinks) (reader : StimulusReader) (recording : Recording S G E L P)
       (other : Recording T H F M Q)
-      → StandsFor reader [] [] → Stands m recording [] → Stands n other []
+      → StandsFor reader [] [] → IsRecordingAfter m recording [] → IsRecordingAfter n other []
       → BothGrew sinks (opening m first) (opening n second)
       → Running shelf shelf slot sinks reader recording other [] []
   running-opened shelf slot sinks reader recording other stands one two grew = record {
@@ -75,7 +76,7 @@ module _ {S G E L P : Type 0} (m : Meaning S G E L P) (first : ProfileValue) {T 
     fed = stands;
     stands = record {
       first = one;
-      second = subst (Stands n other) (sym (derived-none m recording.profile (length other.profile.events))) two;
+      second = subst (IsRecordingAfter n other) (sym (derived-none m recording.profile (length other.profile.events))) two;
     };
     grew = record {
       first = subst (Grew sinks.first.before sinks.first.after) (sym (record-opened m first)) grew.first;
@@ -86,7 +87,7 @@ module _ {S G E L P : Type 0} (m : Meaning S G E L P) (first : ProfileValue) {T 
   -- the reader's result, for all that was read
   pub next-read : {start mid now : ShelfState} {slot : ℕ} {sinks : Sinks} {reader : StimulusReader} {recording : Recording S G E L P}
       {other : Recording T H F M Q} {read : List ℕ} {given : List CycleInput} (next : StimulusReader)
-      (answer : Result (Option CycleInput) (Stopped StimFault))
+      (answer : Result (Option CycleInput) (Stopped StimulusFault))
       → Running start mid slot sinks reader recording other read given
       → Answered answer mid now reader next → slot_of reader ≡ slot
       → (all : List ℕ) × Reads start now slot all × InputIs answer next (IsAtEnd now slot) all given
@@ -102,7 +103,7 @@ module _ {S G E L P : Type 0} (m : Meaning S G E L P) (first : ProfileValue) {T 
       (ran : Recording S G E L P) (followed : Recording T H F M Q) (input : CycleInput)
       → Running start mid slot sinks reader recording other read given
       → Answered (Ok (Some input)) mid now reader next → slot_of reader ≡ slot
-      → BothStand m n ran followed (given ++ input ∷ [])
+      → AreBothAfter m n ran followed (given ++ input ∷ [])
       → Grew sinks.first.after step.first.after (first_frame m n first second given input)
       → Grew sinks.second.after step.second.after (second_frame m n first second given input)
       → (all : List ℕ) × Running start now slot (joined sinks step) next ran followed all (given ++ input ∷ [])
@@ -131,7 +132,7 @@ module _ {S G E L P : Type 0} (m : Meaning S G E L P) (first : ProfileValue) {T 
       let cycles = running.stands.first.engine.cycles in let one = length-append given (input ∷ []) in omega arith
 
 -- no write failed where the reader stopped
-pub no-write : (why : Stopped StimFault) (next : StimulusReader) (at_end : Type 0) (read : List ℕ) (given : List CycleInput)
+pub no-write : (why : Stopped StimulusFault) (next : StimulusReader) (at_end : Type 0) (read : List ℕ) (given : List CycleInput)
     → InputIs (Err why) next at_end read given → failure_in {A = ChainCounts} (Err why) ≡ Some Write → ⊥
 no-write (Refused fault) next at_end read given h is = cc
 no-write (Failed Read) next at_end read given h is = cc

@@ -8,7 +8,7 @@ use Rattle.std.proofs.lemmas.List.Elements.{All-nil, All-cons, All-append}
 use Rattle.det_values.specs.Values.{SampleValue}
 use Rattle.det_values.specs.declared.frames.Outcome.{Outcome}
 use Rattle.det_values.specs.declared.frames.Outcome.TheVariants.{Finished, Refused}
-use Rattle.cmd_run.specs.chain.Derived.{sample_of, first_word, samples_from, samples_of}
+use Rattle.cmd_run.specs.chain.OutputSamples.{sample_of, first_word, samples_from, samples_of}
 
 -- the samples where a word is left
 pub samples-next : (event events : ℕ) (output : List ℕ) → 8 ≤ length output

@@ -12,27 +12,27 @@ use Rattle.det_io.proofs.Growth.{part-whole, part-none, same-none}
 use Rattle.job.specs.Meaning.{Meaning}
 use Rattle.jobs.specs.Kinds.{by_kind, of_kind}
 use Rattle.jobs.proofs.ByKinds.{by_kind-then, of_kind-gives}
-use Rattle.stimulus.specs.declared.item.StimFault.{StimFault}
-use Rattle.cmd_run.specs.declared.chain.counts.ChainCounts.{ChainCounts}
-use Rattle.cmd_run.specs.chain.Chained.{second_of}
-use Rattle.cmd_run.specs.chain.Ends.{Sinks, Answers}
+use Rattle.stimulus.specs.declared.stimulus_item.StimulusFault.{StimulusFault}
+use Rattle.cmd_run.specs.declared.chain.chain_counts.ChainCounts.{ChainCounts}
+use Rattle.cmd_run.specs.chain.SecondClient.{second_of}
+use Rattle.cmd_run.specs.chain.ChainEnds.{Sinks, Answers}
 use Rattle.cli_answers.specs.declared.answer.Answer.{Answer}
 use Rattle.cli_answers.specs.declared.answer.Answer.TheVariants as answers
 use Rattle.cli_answers.specs.Outcome.{Outcome, Meets}
-use Rattle.cli_answers.proofs.Meeting.{meets-read-fault-part, meets-write-fault, meets-no-memory-part}
+use Rattle.cli_answers.proofs.AnswerMeets.{meets-read-fault-part, meets-write-fault, meets-no-memory-part}
 use Rattle.cmd_run.specs.record_command.Outcomes.{answer_to}
 use Rattle.cmd_run.proofs.lemmas.record_command.Recorded.{at-told}
 use Rattle.cmd_run.specs.chain_command.Chain.{chained, answer_of}
 use Rattle.cmd_run.specs.chain_command.Clients.{Client, chained_by_kinds}
-use Rattle.cmd_run.specs.chain_command.Visited.{HasChained}
+use Rattle.cmd_run.specs.chain_command.ChainVisit.{HasChained}
 
 -- of two cases the first is refuted
 the-other : {A B : Type 0} → (A → ⊥) → A ⊎ B → B
 the-other never (inl a) = absurd (never a)
 the-other never (inr b) = b
 
-module _ (text : List ℕ) (slot : ℕ) (shelf : ShelfRun) (one out : SinkRun) (tells rose : Type 0)
-    (told : tells → shelf.first.left slot ≡ Some text) (calm : Rose one.faults_before one.faults_after → ⊥)
+module _ (text : List ℕ) (slot : ℕ) (shelf : ShelfRun) (one out : SinkRun) (is_known rose : Type 0)
+    (told : is_known → shelf.first.left slot ≡ Some text) (calm : Rose one.faults_before one.faults_after → ⊥)
     (later : Rose shelf.first.faults shelf.last.faults → rose) where
   abbrev failed : Type 0
   failed = Rose out.faults_before out.faults_after
@@ -43,14 +43,14 @@ module _ (text : List ℕ) (slot : ℕ) (shelf : ShelfRun) (one out : SinkRun) (
   module _ {S G E L P : Type 0} (m : Meaning S G E L P) (first : ProfileValue)
       {T H F M Q : Type 0} (n : Meaning T H F M Q) (second : ProfileValue) where
     -- what its result says of the text
-    said : (result : Result ChainCounts (Stopped StimFault)) → HasChained m first n second slot shelf one out result → tells
+    said : (result : Result ChainCounts (Stopped StimulusFault)) → HasChained m first n second slot shelf one out result → is_known
         → Answers m first n second result text sinks
     said result has t =
         at-told (shelf.first.left slot) text (λ x. Answers m first n second result x sinks) (told t) has.chained.answers
 
     -- it meets the outcome, by its end
-    met-chained : (result : Result ChainCounts (Stopped StimFault)) → HasChained m first n second slot shelf one out result
-        → Meets (chained m first n second text) tells rose failed out.before out.after (answer_of result)
+    met-chained : (result : Result ChainCounts (Stopped StimulusFault)) → HasChained m first n second slot shelf one out result
+        → Meets (chained m first n second text) is_known rose failed out.before out.after (answer_of result)
     met-chained (Ok counts) has = record {
       part = λ t. part-whole out.before out.after (second_of m first n second text) (said (Ok counts) has t).grew.second;
       whole = λ t. inr (inr (inr (
@@ -70,28 +70,28 @@ module _ (text : List ℕ) (slot : ℕ) (shelf : ShelfRun) (one out : SinkRun) (
       write_fault = λ e. cc;
     }
     met-chained (Err (Failed Read)) has =
-        meets-read-fault-part (chained m first n second text) tells rose failed out.before out.after
+        meets-read-fault-part (chained m first n second text) is_known rose failed out.before out.after
         (λ t. (said (Err (Failed Read)) has t).second) (later (has.shelf_traffic.cause refl))
     met-chained (Err (Failed Write)) has =
-        meets-write-fault (chained m first n second text) tells rose failed out.before out.after
+        meets-write-fault (chained m first n second text) is_known rose failed out.before out.after
         (λ t. (said (Err (Failed Write)) has t).second) (the-other calm (has.write_fault refl))
     met-chained (Err (Failed OutOfMemory)) has =
-        meets-no-memory-part (chained m first n second text) tells rose failed out.before out.after
+        meets-no-memory-part (chained m first n second text) is_known rose failed out.before out.after
         (λ t. (said (Err (Failed OutOfMemory)) has t).second)
 
-  module _ (first second : Client) (result : Result ChainCounts (Stopped StimFault))
+  module _ (first second : Client) (result : Result ChainCounts (Stopped StimulusFault))
       (visited : of_kind (λ S G E L P m. of_kind (λ T H F M Q n.
       HasChained m first.profile n second.profile slot shelf one out result) second.kind) first.kind) where
     -- with the jobs of two kinds it meets the outcome of those kinds
     pub met-by-kinds : (answer : Answer) → answer ≡ answer_of result
-        → Meets (chained_by_kinds first second text) tells rose failed out.before out.after answer
+        → Meets (chained_by_kinds first second text) is_known rose failed out.before out.after answer
     met-by-kinds answer is =
         rw is (by_kind-then (λ S G E L P m. by_kind (λ T H F M Q n. chained m first.profile n second.profile text) second.kind)
         (λ S G E L P m. of_kind (λ T H F M Q n. HasChained m first.profile n second.profile slot shelf one out result) second.kind)
-        (λ wanted. Meets wanted tells rose failed out.before out.after (answer_of result))
+        (λ wanted. Meets wanted is_known rose failed out.before out.after (answer_of result))
         (λ S G E L P m. by_kind-then (λ T H F M Q n. chained m first.profile n second.profile text)
         (λ T H F M Q n. HasChained m first.profile n second.profile slot shelf one out result)
-        (λ wanted. Meets wanted tells rose failed out.before out.after (answer_of result))
+        (λ wanted. Meets wanted is_known rose failed out.before out.after (answer_of result))
         (λ T H F M Q n has. met-chained m first.profile n second.profile result has) second.kind) first.kind visited)
 
 -- all that it read was of its slot
@@ -99,7 +99,7 @@ abbrev ReadsOf : ShelfRun → ℕ → Type 0
 ReadsOf shelf slot = (read : List ℕ) × Reads shelf.first shelf.last slot read
 
 pub reads-by-kinds : (slot : ℕ) (shelf : ShelfRun) (one out : SinkRun) (first second : Client)
-    (result : Result ChainCounts (Stopped StimFault))
+    (result : Result ChainCounts (Stopped StimulusFault))
     → of_kind (λ S G E L P m. of_kind (λ T H F M Q n.
     HasChained m first.profile n second.profile slot shelf one out result) second.kind) first.kind
     → ReadsOf shelf slot
@@ -111,7 +111,7 @@ reads-by-kinds slot shelf one out first second result visited =
     (ReadsOf shelf slot) (λ T H F M Q n has. let run = has.chained.run in (run.0, run.1)) second.kind) first.kind visited
 
 -- no memory could be had, and the bytes are as before
-pub met-none : (wanted : Outcome) (tells rose failed : Type 0) (before after : List ℕ → Type 0) → after ≡ before
-    → Meets wanted tells rose failed before after answers.OutOfMemory
-met-none wanted tells rose failed before after same =
-    rw same (meets-no-memory-part wanted tells rose failed before before (λ t. part-none before before wanted.bytes (same-none before)))
+pub met-none : (wanted : Outcome) (is_known rose failed : Type 0) (before after : List ℕ → Type 0) → after ≡ before
+    → Meets wanted is_known rose failed before after answers.OutOfMemory
+met-none wanted is_known rose failed before after same =
+    rw same (meets-no-memory-part wanted is_known rose failed before before (λ t. part-none before before wanted.bytes (same-none before)))

@@ -16,18 +16,18 @@ use Rattle.manifest.specs.Values.{ManifestValue}
 use Rattle.manifest.specs.Profiles.{profile_of}
 use Rattle.cli_answers.specs.Answers.{without_manifest}
 use Rattle.cli_answers.specs.declared.answer.BadManifest.{BadManifest}
-use Rattle.cli_answers.specs.Outcome.{Meets, Tells, told}
+use Rattle.cli_answers.specs.Outcome.{Meets, KnowsBytes, known_bytes}
 use Rattle.run_setup.specs.Setup.{setup_of}
 use Rattle.run_setup.proofs.Ending.{meets-end}
 use Rattle.cmd_run.specs.record_command.Outcomes.{record_names}
-use Rattle.cmd_run.proofs.lemmas.record_command.ByManifest.{tells-first}
+use Rattle.cmd_run.proofs.lemmas.record_command.ByManifest.{is_known-first}
 use Rattle.cmd_run.specs.chain_command.Chain.{chain_names}
-use Rattle.cmd_run.specs.chain_command.Clients.{chained_behind, chained_from}
+use Rattle.cmd_run.specs.chain_command.Clients.{chained_second, chained_from}
 
 module _ (strict : Bool) (shelf : ShelfState) (first second stimulus : List ℕ) where
   -- the second manifest, where its bytes are known
   abbrev other : Result ManifestValue BadManifest
-  other = setup_of strict (told shelf second)
+  other = setup_of strict (known_bytes shelf second)
 
   -- the names that are opened, by what the first manifest is
   abbrev names : Result ManifestValue BadManifest → List (List ℕ)
@@ -38,9 +38,9 @@ module _ (strict : Bool) (shelf : ShelfState) (first second stimulus : List ℕ)
   rest = record_names second stimulus other
 
   -- the first manifest is always among them
-  tells-manifest : (read : Result ManifestValue BadManifest) → Tells shelf (names read) → IsSome (shelf.holds first)
-  tells-manifest (Ok m) tells = tells-first shelf first rest tells
-  tells-manifest (Err why) tells = tells-first shelf first [] tells
+  is_known-manifest : (read : Result ManifestValue BadManifest) → KnowsBytes shelf (names read) → IsSome (shelf.holds first)
+  is_known-manifest (Ok m) is_known = is_known-first shelf first rest is_known
+  is_known-manifest (Err why) is_known = is_known-first shelf first [] is_known
 
   -- the names that were opened where only the first manifest was read
   pub asked-first : (last : ShelfState) (read : Result ManifestValue BadManifest) → Asks shelf last (first ∷ [])
@@ -49,51 +49,54 @@ module _ (strict : Bool) (shelf : ShelfState) (first second stimulus : List ℕ)
       asks-then-prefix shelf last last (first ∷ []) rest asked (asks-prefix-none last last rest refl)
   asked-first last (Err why) asked = asks-all shelf last (first ∷ []) asked
 
-  module _ (m : ManifestValue) (is : IsSome (shelf.holds first) → setup_of strict (told shelf first) ≡ Ok m) where
+  module _ (m : ManifestValue) (is : IsSome (shelf.holds first) → setup_of strict (known_bytes shelf first) ≡ Ok m) where
     -- where the bytes of the first manifest are known it is this one
-    is-first : Tells shelf (names (setup_of strict (told shelf first))) → setup_of strict (told shelf first) ≡ Ok m
-    is-first tells = is (tells-manifest (setup_of strict (told shelf first)) tells)
+    is-first : KnowsBytes shelf (names (setup_of strict (known_bytes shelf first))) → setup_of strict (known_bytes shelf first) ≡ Ok m
+    is-first is_known = is (is_known-manifest (setup_of strict (known_bytes shelf first)) is_known)
 
     module _ (mid : ShelfState) (holds : mid.holds ≡ shelf.holds) where
       -- so the bytes of the names after it are known, also after it was read
-      pub tells-rest : Tells shelf (names (setup_of strict (told shelf first)))
-          → Tells mid (record_names second stimulus (setup_of strict (told mid second)))
-      tells-rest tells =
+      pub is_known-rest : KnowsBytes shelf (names (setup_of strict (known_bytes shelf first)))
+          → KnowsBytes mid (record_names second stimulus (setup_of strict (known_bytes mid second)))
+      is_known-rest is_known =
           subst (λ h. All (λ name. IsSome (h name)) (record_names second stimulus (setup_of strict (unwrap_or (h second) []))))
           (sym holds) (All-tail (λ name. IsSome (shelf.holds name)) first rest
-          (subst (λ r. Tells shelf (names r)) (is-first tells) tells))
+          (subst (λ r. KnowsBytes shelf (names r)) (is-first is_known) is_known))
 
       -- the same outcome, where the bytes of the names are known
       pub by-first : (seed : ℕ) (kind : JobKind) (p : ProfileValue) → kind ≡ m.kind → p ≡ profile_of m seed
-          → Tells shelf (names (setup_of strict (told shelf first)))
-          → chained_from seed (told shelf stimulus) (setup_of strict (told shelf first)) other
-          ≡ chained_behind seed (record { kind = kind; profile = p }) (told mid stimulus) (setup_of strict (told mid second))
-      by-first seed kind p same profile tells =
-          ap (λ r. chained_from seed (told shelf stimulus) r other) (is-first tells)
-          ∙ ap (λ k. chained_behind seed (record { kind = k; profile = profile_of m seed }) (told shelf stimulus) other) (sym same)
-          ∙ ap (λ q. chained_behind seed (record { kind = kind; profile = q }) (told shelf stimulus) other) (sym profile)
-          ∙ ap (λ h. chained_behind seed (record { kind = kind; profile = p }) (unwrap_or (h stimulus) [])
+          → KnowsBytes shelf (names (setup_of strict (known_bytes shelf first)))
+          → chained_from seed (known_bytes shelf stimulus) (setup_of strict (known_bytes shelf first)) other
+          ≡ chained_second seed (record { kind = kind; profile = p }) (known_bytes mid stimulus) (setup_of strict (known_bytes mid second))
+      by-first seed kind p same profile is_known =
+          ap (λ r. chained_from seed (known_bytes shelf stimulus) r other) (is-first is_known)
+          ∙ ap (λ k. chained_second seed (record { kind = k; profile = profile_of m seed }) (known_bytes shelf stimulus) other) (sym same)
+          ∙ ap (λ q. chained_second seed (record { kind = kind; profile = q }) (known_bytes shelf stimulus) other) (sym profile)
+          ∙ ap (λ h. chained_second seed (record { kind = kind; profile = p }) (unwrap_or (h stimulus) [])
           (setup_of strict (unwrap_or (h second) []))) (sym holds)
 
       -- what was asked for
       pub asked-all : (last : ShelfState) → Asks shelf mid (first ∷ [])
-          → AsksPrefix mid last (record_names second stimulus (setup_of strict (told mid second)))
-          → Tells shelf (names (setup_of strict (told shelf first))) → AsksPrefix shelf last (names (setup_of strict (told shelf first)))
-      asked-all last asked more tells =
-          subst (λ r. AsksPrefix shelf last (names r)) (sym (is-first tells)) (asks-then-prefix shelf mid last (first ∷ []) rest asked
+          → AsksPrefix mid last (record_names second stimulus (setup_of strict (known_bytes mid second)))
+          → KnowsBytes shelf (names (setup_of strict (known_bytes shelf first)))
+          → AsksPrefix shelf last (names (setup_of strict (known_bytes shelf first)))
+      asked-all last asked more is_known =
+          subst (λ r. AsksPrefix shelf last (names r)) (sym (is-first is_known)) (asks-then-prefix shelf mid last (first ∷ []) rest asked
           (subst (λ h. AsksPrefix mid last (record_names second stimulus (setup_of strict (unwrap_or (h second) [])))) holds more))
 
-  bad-first : (end : Stopped BadManifest) → IfRefused end (λ why. IsSome (shelf.holds first) → setup_of strict (told shelf first) ≡ Err why)
-      → IfRefused end (λ why. Tells shelf (names (setup_of strict (told shelf first))) → setup_of strict (told shelf first) ≡ Err why)
-  bad-first (Refused why) bad = λ tells. bad (tells-manifest (setup_of strict (told shelf first)) tells)
+  bad-first : (end : Stopped BadManifest)
+      → IfRefused end (λ why. IsSome (shelf.holds first) → setup_of strict (known_bytes shelf first) ≡ Err why)
+      → IfRefused end (λ why. KnowsBytes shelf (names (setup_of strict (known_bytes shelf first)))
+      → setup_of strict (known_bytes shelf first) ≡ Err why)
+  bad-first (Refused why) bad = λ is_known. bad (is_known-manifest (setup_of strict (known_bytes shelf first)) is_known)
   bad-first (Failed failure) bad = bad
 
   -- a first manifest that is refused, or couldn't be read
   pub met-first : (seed : ℕ) (rose failed : Type 0) (before : List ℕ → Type 0) (end : Stopped BadManifest)
-      → IfRefused end (λ why. IsSome (shelf.holds first) → setup_of strict (told shelf first) ≡ Err why)
+      → IfRefused end (λ why. IsSome (shelf.holds first) → setup_of strict (known_bytes shelf first) ≡ Err why)
       → (failure_in {A = ManifestValue} (Err end) ≡ Some Read → rose) → (failure_in {A = ManifestValue} (Err end) ≡ Some Write → ⊥)
-      → Meets (chained_from seed (told shelf stimulus) (setup_of strict (told shelf first)) other)
-      (Tells shelf (names (setup_of strict (told shelf first)))) rose failed before before (without_manifest end)
+      → Meets (chained_from seed (known_bytes shelf stimulus) (setup_of strict (known_bytes shelf first)) other)
+      (KnowsBytes shelf (names (setup_of strict (known_bytes shelf first)))) rose failed before before (without_manifest end)
   met-first seed rose failed before end bad read write =
-      meets-end (λ r. chained_from seed (told shelf stimulus) r other) (λ why. refl) strict (told shelf first)
-      (Tells shelf (names (setup_of strict (told shelf first)))) rose failed before end (bad-first end bad) read write
+      meets-end (λ r. chained_from seed (known_bytes shelf stimulus) r other) (λ why. refl) strict (known_bytes shelf first)
+      (KnowsBytes shelf (names (setup_of strict (known_bytes shelf first)))) rose failed before end (bad-first end bad) read write

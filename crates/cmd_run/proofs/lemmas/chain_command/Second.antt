@@ -12,33 +12,34 @@ use Rattle.manifest.specs.Values.{ManifestValue}
 use Rattle.manifest.specs.Profiles.{profile_of}
 use Rattle.cli_answers.specs.Answers.{without_manifest}
 use Rattle.cli_answers.specs.declared.answer.BadManifest.{BadManifest}
-use Rattle.cli_answers.specs.Outcome.{Meets, Tells, told}
+use Rattle.cli_answers.specs.Outcome.{Meets, KnowsBytes, known_bytes}
 use Rattle.run_setup.specs.Setup.{setup_of}
 use Rattle.run_setup.proofs.Ending.{meets-end}
 use Rattle.cmd_run.specs.record_command.Outcomes.{record_names}
 use Rattle.cmd_run.proofs.lemmas.record_command.ByManifest.{is-told, bad-told}
-use Rattle.cmd_run.specs.chain_command.Clients.{Client, chained_behind, chained_by_kinds}
+use Rattle.cmd_run.specs.chain_command.Clients.{Client, chained_second, chained_by_kinds}
 
 module _ (strict : Bool) (first : ShelfState) (name stimulus : List ℕ) (seed : ℕ) (client : Client) where
   -- the same outcome, where the bytes of the manifest and of the stimulus are known
-  pub by-told : (m : ManifestValue) → (IsSome (first.holds name) → setup_of strict (told first name) ≡ Ok m) → (mid : ShelfState)
+  pub by-told : (m : ManifestValue) → (IsSome (first.holds name) → setup_of strict (known_bytes first name) ≡ Ok m) → (mid : ShelfState)
       (kind : JobKind) (p : ProfileValue) → mid.holds ≡ first.holds → kind ≡ m.kind → p ≡ profile_of m seed
-      → Tells first (record_names name stimulus (setup_of strict (told first name)))
-      → chained_behind seed client (told first stimulus) (setup_of strict (told first name))
-      ≡ chained_by_kinds client (record { kind = kind; profile = p }) (told mid stimulus)
-  by-told m is mid kind p holds same profile tells =
-      ap (chained_behind seed client (told first stimulus)) (is-told strict first name stimulus m is tells)
-      ∙ ap (λ k. chained_by_kinds client (record { kind = k; profile = profile_of m seed }) (told first stimulus)) (sym same)
-      ∙ ap (λ q. chained_by_kinds client (record { kind = kind; profile = q }) (told first stimulus)) (sym profile)
+      → KnowsBytes first (record_names name stimulus (setup_of strict (known_bytes first name)))
+      → chained_second seed client (known_bytes first stimulus) (setup_of strict (known_bytes first name))
+      ≡ chained_by_kinds client (record { kind = kind; profile = p }) (known_bytes mid stimulus)
+  by-told m is mid kind p holds same profile is_known =
+      ap (chained_second seed client (known_bytes first stimulus)) (is-told strict first name stimulus m is is_known)
+      ∙ ap (λ k. chained_by_kinds client (record { kind = k; profile = profile_of m seed }) (known_bytes first stimulus)) (sym same)
+      ∙ ap (λ q. chained_by_kinds client (record { kind = kind; profile = q }) (known_bytes first stimulus)) (sym profile)
       ∙ ap (λ h. chained_by_kinds client (record { kind = kind; profile = p }) (unwrap_or (h stimulus) [])) (sym holds)
 
   -- a manifest that is refused, or couldn't be read
   pub met-end : (rose failed : Type 0) (before : List ℕ → Type 0) (end : Stopped BadManifest)
-      → IfRefused end (λ why. IsSome (first.holds name) → setup_of strict (told first name) ≡ Err why)
+      → IfRefused end (λ why. IsSome (first.holds name) → setup_of strict (known_bytes first name) ≡ Err why)
       → (failure_in {A = ManifestValue} (Err end) ≡ Some Read → rose) → (failure_in {A = ManifestValue} (Err end) ≡ Some Write → ⊥)
-      → Meets (chained_behind seed client (told first stimulus) (setup_of strict (told first name)))
-      (Tells first (record_names name stimulus (setup_of strict (told first name)))) rose failed before before (without_manifest end)
+      → Meets (chained_second seed client (known_bytes first stimulus) (setup_of strict (known_bytes first name)))
+      (KnowsBytes first (record_names name stimulus (setup_of strict (known_bytes first name)))) rose failed before before (without_manifest
+      end)
   met-end rose failed before end bad read write =
-      meets-end (chained_behind seed client (told first stimulus)) (λ why. refl) strict (told first name)
-      (Tells first (record_names name stimulus (setup_of strict (told first name)))) rose failed before end
+      meets-end (chained_second seed client (known_bytes first stimulus)) (λ why. refl) strict (known_bytes first name)
+      (KnowsBytes first (record_names name stimulus (setup_of strict (known_bytes first name)))) rose failed before end
       (bad-told strict first name stimulus end bad) read write

@@ -10,9 +10,9 @@ use Rattle.det_io.specs.declared.failure.Stopped.TheVariants.{Failed}
 use Rattle.det_io.proofs.Growth.{same-none}
 use Rattle.job.specs.Meaning.{Meaning}
 use Rattle.probes.specs.Reports.{AudienceState}
-use Rattle.recorder.specs.Recorded.{IsRecorded}
+use Rattle.recorder.specs.RecordRun.{IsRecorded}
 use Rattle.recorder.proofs.Ending.{open-failed}
-use Rattle.recorder.proofs.Told.{recorded}
+use Rattle.recorder.proofs.KnownText.{recorded}
 use Rattle.jobs.specs.Kinds.{of_kind}
 use Rattle.jobs.proofs.ByKinds.{of_all}
 

@@ -16,7 +16,7 @@ use Rattle.manifest.specs.Values.{ManifestValue}
 use Rattle.manifest.specs.Profiles.{profile_of}
 use Rattle.cli_answers.specs.Answers.{without_manifest}
 use Rattle.cli_answers.specs.declared.answer.BadManifest.{BadManifest}
-use Rattle.cli_answers.specs.Outcome.{Outcome, Meets, Tells, told}
+use Rattle.cli_answers.specs.Outcome.{Outcome, Meets, KnowsBytes, known_bytes}
 use Rattle.run_setup.specs.Setup.{setup_of, with_manifest}
 use Rattle.run_setup.proofs.Ending.{meets-end}
 use Rattle.cmd_run.specs.record_command.Outcomes.{demo_profile, demo_outcome, recorded_by_kind}
@@ -27,12 +27,13 @@ abbrev pub recorded_by : ℕ → List ℕ → Result ManifestValue BadManifest �
 recorded_by seed stimulus = with_manifest (λ m. recorded_by_kind m.kind (profile_of m seed) stimulus)
 
 -- the first of some names whose bytes are known, and the second
-pub tells-first : (shelf : ShelfState) (name : List ℕ) (names : List (List ℕ)) → Tells shelf (name ∷ names) → IsSome (shelf.holds name)
-tells-first shelf name names t = t 0 name (omega arith)
-
-pub tells-second : (shelf : ShelfState) (first name : List ℕ) (names : List (List ℕ)) → Tells shelf (first ∷ name ∷ names)
+pub is_known-first : (shelf : ShelfState) (name : List ℕ) (names : List (List ℕ)) → KnowsBytes shelf (name ∷ names)
     → IsSome (shelf.holds name)
-tells-second shelf first name names t = t 1 name (omega arith)
+is_known-first shelf name names t = t 0 name (omega arith)
+
+pub is_known-second : (shelf : ShelfState) (first name : List ℕ) (names : List (List ℕ)) → KnowsBytes shelf (first ∷ name ∷ names)
+    → IsSome (shelf.holds name)
+is_known-second shelf first name names t = t 1 name (omega arith)
 
 -- the outcome of the built-in profile
 pub is-demo_outcome : (p : ProfileValue) (text : List ℕ) → p ≡ demo_profile → demo_outcome text ≡ recorded_by_kind Bank p text
@@ -49,9 +50,9 @@ module _ (strict : Bool) (first : ShelfState) (name stimulus : List ℕ) where
   names read = record_names name stimulus read
 
   -- the manifest is always among them
-  pub tells-manifest : (read : Result ManifestValue BadManifest) → Tells first (names read) → IsSome (first.holds name)
-  tells-manifest (Ok m) tells = tells-first first name (stimulus ∷ []) tells
-  tells-manifest (Err why) tells = tells-first first name [] tells
+  pub is_known-manifest : (read : Result ManifestValue BadManifest) → KnowsBytes first (names read) → IsSome (first.holds name)
+  is_known-manifest (Ok m) is_known = is_known-first first name (stimulus ∷ []) is_known
+  is_known-manifest (Err why) is_known = is_known-first first name [] is_known
 
   -- the names that were opened where only the manifest was read
   pub asked-manifest : (last : ShelfState) (read : Result ManifestValue BadManifest) → Asks first last (name ∷ [])
@@ -60,48 +61,51 @@ module _ (strict : Bool) (first : ShelfState) (name stimulus : List ℕ) where
       asks-then-prefix first last last (name ∷ []) (stimulus ∷ []) asked (asks-prefix-none last last (stimulus ∷ []) refl)
   asked-manifest last (Err why) asked = asks-all first last (name ∷ []) asked
 
-  module _ (m : ManifestValue) (is : IsSome (first.holds name) → setup_of strict (told first name) ≡ Ok m) where
+  module _ (m : ManifestValue) (is : IsSome (first.holds name) → setup_of strict (known_bytes first name) ≡ Ok m) where
     -- where the bytes of the manifest are known it is this one
-    pub is-told : Tells first (names (setup_of strict (told first name))) → setup_of strict (told first name) ≡ Ok m
-    is-told tells = is (tells-manifest (setup_of strict (told first name)) tells)
+    pub is-told : KnowsBytes first (names (setup_of strict (known_bytes first name))) → setup_of strict (known_bytes first name) ≡ Ok m
+    is-told is_known = is (is_known-manifest (setup_of strict (known_bytes first name)) is_known)
 
     -- so both names are opened
-    pub tells-both : Tells first (names (setup_of strict (told first name))) → Tells first (name ∷ stimulus ∷ [])
-    tells-both tells = subst (λ r. Tells first (names r)) (is-told tells) tells
+    pub is_known-both : KnowsBytes first (names (setup_of strict (known_bytes first name))) → KnowsBytes first (name ∷ stimulus ∷ [])
+    is_known-both is_known = subst (λ r. KnowsBytes first (names r)) (is-told is_known) is_known
 
     pub asked-both : (last : ShelfState) → AsksPrefix first last (name ∷ stimulus ∷ [])
-        → Tells first (names (setup_of strict (told first name)))
-        → AsksPrefix first last (names (setup_of strict (told first name)))
-    asked-both last asked tells = subst (λ r. AsksPrefix first last (names r)) (sym (is-told tells)) asked
+        → KnowsBytes first (names (setup_of strict (known_bytes first name)))
+        → AsksPrefix first last (names (setup_of strict (known_bytes first name)))
+    asked-both last asked is_known = subst (λ r. AsksPrefix first last (names r)) (sym (is-told is_known)) asked
 
     -- the same outcome, where the bytes of the manifest and of the stimulus are known
     pub by-told : (mid : ShelfState) (seed : Option ℕ) (kind : JobKind) (p : ProfileValue) → mid.holds ≡ first.holds
-        → kind ≡ m.kind → p ≡ profile_of m (unwrap_or seed 0) → Tells first (names (setup_of strict (told first name)))
-        → record_outcome strict (told first name) (told first stimulus) seed ≡ recorded_by_kind kind p (told mid stimulus)
-    by-told mid seed kind p holds same profile tells =
-        ap (recorded_by (unwrap_or seed 0) (told first stimulus)) (is-told tells)
-        ∙ ap (λ k. recorded_by_kind k (profile_of m (unwrap_or seed 0)) (told first stimulus)) (sym same)
-        ∙ ap (λ q. recorded_by_kind kind q (told first stimulus)) (sym profile)
+        → kind ≡ m.kind → p ≡ profile_of m (unwrap_or seed 0) → KnowsBytes first (names (setup_of strict (known_bytes first name)))
+        → record_outcome strict (known_bytes first name) (known_bytes first stimulus) seed
+        ≡ recorded_by_kind kind p (known_bytes mid stimulus)
+    by-told mid seed kind p holds same profile is_known =
+        ap (recorded_by (unwrap_or seed 0) (known_bytes first stimulus)) (is-told is_known)
+        ∙ ap (λ k. recorded_by_kind k (profile_of m (unwrap_or seed 0)) (known_bytes first stimulus)) (sym same)
+        ∙ ap (λ q. recorded_by_kind kind q (known_bytes first stimulus)) (sym profile)
         ∙ ap (λ h. recorded_by_kind kind p (unwrap_or (h stimulus) [])) (sym holds)
 
     -- the bytes of the stimulus are known after the manifest was read
-    pub still-told : (mid : ShelfState) → mid.holds ≡ first.holds → Tells first (names (setup_of strict (told first name)))
+    pub still-told : (mid : ShelfState) → mid.holds ≡ first.holds → KnowsBytes first (names (setup_of strict (known_bytes first name)))
         → IsSome (mid.holds stimulus)
-    still-told mid holds tells = subst (λ h. IsSome (h stimulus)) (sym holds) (tells-second first name stimulus [] (tells-both tells))
+    still-told mid holds is_known = subst (λ h. IsSome (h stimulus)) (sym holds) (is_known-second first name stimulus [] (is_known-both
+        is_known))
 
   -- where the bytes of the manifest are known it is refused so
   pub bad-told : (end : Stopped BadManifest)
-      → IfRefused end (λ why. IsSome (first.holds name) → setup_of strict (told first name) ≡ Err why)
-      → IfRefused end (λ why. Tells first (names (setup_of strict (told first name))) → setup_of strict (told first name) ≡ Err why)
-  bad-told (Refused why) bad = λ tells. bad (tells-manifest (setup_of strict (told first name)) tells)
+      → IfRefused end (λ why. IsSome (first.holds name) → setup_of strict (known_bytes first name) ≡ Err why)
+      → IfRefused end (λ why. KnowsBytes first (names (setup_of strict (known_bytes first name))) → setup_of strict (known_bytes first name)
+      ≡ Err why)
+  bad-told (Refused why) bad = λ is_known. bad (is_known-manifest (setup_of strict (known_bytes first name)) is_known)
   bad-told (Failed failure) bad = bad
 
   -- a manifest that is refused, or couldn't be read
   pub met-end : (seed : Option ℕ) (rose failed : Type 0) (before : List ℕ → Type 0) (end : Stopped BadManifest)
-      → IfRefused end (λ why. IsSome (first.holds name) → setup_of strict (told first name) ≡ Err why)
+      → IfRefused end (λ why. IsSome (first.holds name) → setup_of strict (known_bytes first name) ≡ Err why)
       → (failure_in {A = ManifestValue} (Err end) ≡ Some Read → rose) → (failure_in {A = ManifestValue} (Err end) ≡ Some Write → ⊥)
-      → Meets (record_outcome strict (told first name) (told first stimulus) seed)
-      (Tells first (names (setup_of strict (told first name)))) rose failed before before (without_manifest end)
+      → Meets (record_outcome strict (known_bytes first name) (known_bytes first stimulus) seed)
+      (KnowsBytes first (names (setup_of strict (known_bytes first name)))) rose failed before before (without_manifest end)
   met-end seed rose failed before end bad read write =
-      meets-end (recorded_by (unwrap_or seed 0) (told first stimulus)) (λ why. refl) strict (told first name)
-      (Tells first (names (setup_of strict (told first name)))) rose failed before end (bad-told end bad) read write
+      meets-end (recorded_by (unwrap_or seed 0) (known_bytes first stimulus)) (λ why. refl) strict (known_bytes first name)
+      (KnowsBytes first (names (setup_of strict (known_bytes first name)))) rose failed before end (bad-told end bad) read write

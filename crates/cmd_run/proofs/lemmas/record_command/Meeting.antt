@@ -10,10 +10,10 @@ rose-later first mid last le (inl lt) = inl (omega arith)
 rose-later first mid last le (inr most) = inr most
 
 -- a run meets any outcome that is the same where the bytes of the names are known
-pub meets-as : (wanted other : Outcome) (tells rose failed tells2 rose2 : Type 0) (before after : List ℕ → Type 0) (answer : Answer)
-    → (tells2 → tells) → (tells2 → other ≡ wanted) → (rose → rose2)
-    → Meets wanted tells rose failed before after answer → Meets other tells2 rose2 failed before after answer
-meets-as wanted other tells rose failed tells2 rose2 before after answer t same r m = record {
+pub meets-as : (wanted other : Outcome) (is_known rose failed tells2 rose2 : Type 0) (before after : List ℕ → Type 0) (answer : Answer)
+    → (tells2 → is_known) → (tells2 → other ≡ wanted) → (rose → rose2)
+    → Meets wanted is_known rose failed before after answer → Meets other tells2 rose2 failed before after answer
+meets-as wanted other is_known rose failed tells2 rose2 before after answer t same r m = record {
   part = λ x. rw (same x) (m.part (t x));
   whole = λ x. rw (same x) (m.whole (t x));
   read_fault = λ e. r (m.read_fault e);

@@ -12,12 +12,12 @@ use Rattle.det_io.specs.Traffic.{ShelfRun, SinkRun, failure_in}
 use Rattle.det_io.specs.declared.failure.Failure.TheVariants.{Read, Write, OutOfMemory}
 use Rattle.det_io.specs.declared.failure.Stopped.{Stopped}
 use Rattle.det_io.specs.declared.failure.Stopped.TheVariants.{Refused, Failed}
-use Rattle.stimulus.specs.declared.item.StimFault.{StimFault}
+use Rattle.stimulus.specs.declared.stimulus_item.StimulusFault.{StimulusFault}
 use Rattle.recorder.specs.declared.run_writer.counts.Counts.{Counts}
 use Rattle.probes.specs.Reports.{AudienceState, reported}
 use Rattle.recorder.specs.Record.{record_of}
-use Rattle.recorder.specs.Ends.{Finishes, Stops}
-use Rattle.recorder.specs.Recorded.{IsRecorded}
+use Rattle.recorder.specs.RunEnds.{Finishes, Stops}
+use Rattle.recorder.specs.RecordRun.{IsRecorded}
 use Rattle.record_text.specs.declared.summary_lines.Summary.{Summary}
 use Rattle.jobs.specs.Kinds.{by_kind, of_kind}
 use Rattle.jobs.proofs.ByKinds.{by_kind-then, of_kind-gives}
@@ -26,15 +26,15 @@ use Rattle.cmd_run.specs.sim_command.Sim.{runs_over, summary_over}
 told-at : (left : Option (List ℕ)) (text : List ℕ) (P : List ℕ → Type 0) → left ≡ Some text → IfSome left P → P text
 told-at left text P is p = rw is at p
 
-at-ok : (run : Result Counts (Stopped StimFault)) (counts : Counts) (P : Counts → Type 0) → run ≡ Ok counts → IfOk run P → P counts
+at-ok : (run : Result Counts (Stopped StimulusFault)) (counts : Counts) (P : Counts → Type 0) → run ≡ Ok counts → IfOk run P → P counts
 at-ok run counts P is p = rw is at p
 
-done : (run : Result Counts (Stopped StimFault)) (counts : Counts) {P : Type 0} → run ≡ Ok counts → OnOk run P → P
+done : (run : Result Counts (Stopped StimulusFault)) (counts : Counts) {P : Type 0} → run ≡ Ok counts → OnOk run P → P
 done (Ok other) counts is p = p
 done (Err end) counts is p = absurd (cc)
 
 module _ {S G E L P : Type 0} (m : Meaning S G E L P) (profile : ProfileValue) (text : List ℕ) (left : Option (List ℕ))
-    (run : Result Counts (Stopped StimFault)) where
+    (run : Result Counts (Stopped StimulusFault)) where
   -- what the probes report is that of the run's cycles
   all-reported : (counts : Counts) (old last : AudienceState) → left ≡ Some text → run ≡ Ok counts
       → IfSome left (λ t. OnOk run (reported last [] ≡ reported old (runs_over m profile t)))
@@ -43,15 +43,15 @@ module _ {S G E L P : Type 0} (m : Meaning S G E L P) (profile : ProfileValue) (
       done run counts is (told-at left text (λ t. OnOk run (reported last [] ≡ reported old (runs_over m profile t))) told shown)
 
 module _ {S G E L P : Type 0} (m : Meaning S G E L P) (profile : ProfileValue) (text : List ℕ) (left : Option (List ℕ))
-    (before after : List ℕ → Type 0) (run : Result Counts (Stopped StimFault)) where
+    (before after : List ℕ → Type 0) (run : Result Counts (Stopped StimulusFault)) where
   -- no line is bad, and neither shelf nor sink counts a fault
   record CannotStop : Type 0 where
     whole : ending (length profile.events) text ≡ Terminated
-    stops : (fault : StimFault) → run ≡ Err (Refused fault) → Stops m profile text fault.line before after
+    stops : (fault : StimulusFault) → run ≡ Err (Refused fault) → Stops m profile text fault.line before after
     read : failure_in run ≡ Some Read → Rose 0 0
     write : failure_in run ≡ Some Write → Rose 0 0
 
-  ends : (why : Stopped StimFault) → run ≡ Err why → CannotStop → why ≡ Failed OutOfMemory
+  ends : (why : Stopped StimulusFault) → run ≡ Err why → CannotStop → why ≡ Failed OutOfMemory
   ends (Refused fault) is h = absurd (let bad = (h.stops fault is).bad in let whole = h.whole in cc)
   ends (Failed Read) is h = absurd (rose-none 0 (h.read (ap failure_in is)))
   ends (Failed Write) is h = absurd (rose-none 0 (h.write (ap failure_in is)))
@@ -59,14 +59,14 @@ module _ {S G E L P : Type 0} (m : Meaning S G E L P) (profile : ProfileValue) (
 
   -- a run over a whole text, from a shelf and into a sink that count no fault, ends early only if memory runs out
   only-memory : left ≡ Some text → ending (length profile.events) text ≡ Terminated
-      → IfSome left (λ t. (fault : StimFault) → run ≡ Err (Refused fault) → Stops m profile t fault.line before after)
+      → IfSome left (λ t. (fault : StimulusFault) → run ≡ Err (Refused fault) → Stops m profile t fault.line before after)
       → (failure_in run ≡ Some Read → Rose 0 0) → (failure_in run ≡ Some Write → Rose 0 0) → IfErr run (λ why. why ≡ Failed OutOfMemory)
   only-memory told whole stops read write = at_err run refl where
-    at_err : (r : Result Counts (Stopped StimFault)) → run ≡ r → IfErr r (λ why. why ≡ Failed OutOfMemory)
+    at_err : (r : Result Counts (Stopped StimulusFault)) → run ≡ r → IfErr r (λ why. why ≡ Failed OutOfMemory)
     at_err (Ok counts) is = tt
     at_err (Err why) is = ends why is (record {
       whole = whole;
-      stops = told-at left text (λ t. (fault : StimFault) → run ≡ Err (Refused fault) → Stops m profile t fault.line before after) told
+      stops = told-at left text (λ t. (fault : StimulusFault) → run ≡ Err (Refused fault) → Stops m profile t fault.line before after) told
           stops;
       read = read;
       write = write;
@@ -97,7 +97,7 @@ module _ {S G E L P : Type 0} (m : Meaning S G E L P) (profile : ProfileValue) (
 -- ---- the same of a job by its kind
 
 module _ (kind : JobKind) (profile : ProfileValue) (text : List ℕ) (shelf : ShelfRun) (sink : SinkRun) (old last : AudienceState)
-    (run : Result Counts (Stopped StimFault))
+    (run : Result Counts (Stopped StimulusFault))
     (recorded : of_kind (λ S G E L P m. IsRecorded m profile 0 shelf sink old last run) kind)
     (told : shelf.first.left 0 ≡ Some text) where
   pub only-memory-by : ending (length profile.events) text ≡ Terminated

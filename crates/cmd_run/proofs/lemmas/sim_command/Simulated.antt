@@ -4,14 +4,14 @@ use Rattle.std.specs.Prelude.{None, Result, Ok, Err, IfOk, OnOk}
 use Rattle.det_io.specs.Sink.{Grew, GrewByPrefix}
 use Rattle.det_values.specs.Values.{ProfileValue}
 use Rattle.jobs.specs.cloud.Meaning.{meaning}
-use Rattle.stimulus.specs.Made.{made}
+use Rattle.stimulus.specs.GeneratedText.{made}
 use Rattle.stimulus.specs.Reading.{Terminated, ending}
 use Rattle.probes.specs.Reports.{ProbeLife, AudienceState, reported, reports, in_turn}
 use Rattle.record_text.specs.Summaries.{summary_lines}
 use Rattle.record_text.specs.declared.summary_lines.Summary.{Summary}
 use Rattle.cli_answers.specs.declared.answer.Answer.TheVariants.{Done, WriteFault}
 use Rattle.cli_answers.specs.Outcome.{Meets, text_outcome}
-use Rattle.cli_answers.proofs.Meeting.{meets-whole, meets-write-fault}
+use Rattle.cli_answers.proofs.AnswerMeets.{meets-whole, meets-write-fault}
 use Rattle.cmd_run.specs.sim_command.Sim.{sim_profile, runs_over, summary_over, sim_runs, summary_of, sim_text, sim_outcome}
 use Rattle.cmd_run.proofs.lemmas.sim_command.Whole.{made-is-good}
 

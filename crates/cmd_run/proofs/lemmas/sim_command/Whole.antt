@@ -12,14 +12,14 @@ use Rattle.std.proofs.lemmas.Bool.Decides.{nat_tests}
 use Rattle.std.proofs.lemmas.Int.{ints}
 use Rattle.det_values.specs.Limits.{IsSampleValue}
 use Rattle.det_values.specs.declared.frames.CycleInput.{CycleInput}
-use Rattle.stimulus.specs.declared.line.Line.{Line}
-use Rattle.stimulus.specs.declared.line.Line.TheVariants as lines
-use Rattle.stimulus.specs.declared.item.StimItem.{StimItem}
-use Rattle.stimulus.specs.declared.item.StimItem.TheVariants as items
+use Rattle.stimulus.specs.declared.parse_line.Line.{Line}
+use Rattle.stimulus.specs.declared.parse_line.Line.TheVariants as lines
+use Rattle.stimulus.specs.declared.stimulus_item.StimulusItem.{StimulusItem}
+use Rattle.stimulus.specs.declared.stimulus_item.StimulusItem.TheVariants as items
 use Rattle.stimulus.specs.Limits.{IsLine}
 use Rattle.stimulus.specs.Lines.{spelling}
-use Rattle.stimulus.specs.Places.{Place, First, Between, Inside, Ended, step, taken, begun, with_sample}
-use Rattle.stimulus.specs.Made.{word, made_value, block_text, made_blocks, made}
+use Rattle.stimulus.specs.Places.{Place, First, Between, Inside, Ended, step, taken, empty_block, with_sample}
+use Rattle.stimulus.specs.GeneratedText.{word, made_value, block_text, made_blocks, made}
 use Rattle.stimulus.specs.Reading.{Terminated, BadLine, parts, reading, reading_from, ending}
 use Rattle.stimulus.proofs.Parts.{is_lf}
 use Rattle.stimulus.proofs.Signed.{digits_of}
@@ -60,7 +60,7 @@ abbrev is_whole_from : Place → List ℕ → Bool
 is_whole_from place text = (reading_from 3 place (parts text)).is_whole
 
 -- a line that leads from a place to another
-line_leads : (place next : Place) (given : List StimItem) (l : Line) (rest : List ℕ) → IsLine 3 l → IsInLine (spelling l)
+line_leads : (place next : Place) (given : List StimulusItem) (l : Line) (rest : List ℕ) → IsLine 3 l → IsInLine (spelling l)
     → length (spelling l) ≤ 128 → taken place l ≡ step given next
     → is_whole_from place (spelling l ++ 10 ∷ rest) ≡ is_whole_from next rest
 line_leads place next given l rest within in_line short leads =
@@ -70,7 +70,7 @@ line_leads place next given l rest within in_line short leads =
 abbrev at_time : ℕ → Line
 at_time time = lines.Cycle (Some time)
 
-cycle_leads : (place next : Place) (given : List StimItem) (time : ℕ) (rest : List ℕ) → time < 2 ^ 64
+cycle_leads : (place next : Place) (given : List StimulusItem) (time : ℕ) (rest : List ℕ) → time < 2 ^ 64
     → taken place (at_time time) ≡ step given next
     → is_whole_from place ((codes "cycle " ++ decimal time) ++ 10 ∷ rest) ≡ is_whole_from next rest
 cycle_leads place next given time rest small leads =
@@ -83,7 +83,7 @@ cycle_leads place next given time rest small leads =
 abbrev sampled : ℕ → ℤ → Line
 sampled event value = lines.Sample (record { event = event; value = value })
 
-sample_leads : (place next : Place) (given : List StimItem) (event : ℕ) (value : ℤ) (rest : List ℕ) → event < 3 → IsSampleValue value
+sample_leads : (place next : Place) (given : List StimulusItem) (event : ℕ) (value : ℤ) (rest : List ℕ) → event < 3 → IsSampleValue value
     → taken place (sampled event value) ≡ step given next
     → is_whole_from place ((codes "sample " ++ (decimal event ++ (codes " " ++ signed_decimal value))) ++ 10 ∷ rest) ≡ is_whole_from next
     rest
@@ -107,9 +107,9 @@ block_lines : (time : ℕ) (first second : ℤ) (rest : List ℕ)
 block_lines time first second rest = simp (append_assoc, decimal_digit 0 (lit< tt), decimal_digit 1 (lit< tt))
 
 -- one block leads on, from before the first one or from another
-block_leads : (place : Place) (given : List StimItem) (number time : ℕ) (first second : ℤ) (rest : List ℕ) → time < 2 ^ 64
+block_leads : (place : Place) (given : List StimulusItem) (number time : ℕ) (first second : ℤ) (rest : List ℕ) → time < 2 ^ 64
     → IsSampleValue first → IsSampleValue second
-    → taken place (at_time time) ≡ step given (Inside number (begun (Some time)))
+    → taken place (at_time time) ≡ step given (Inside number (empty_block (Some time)))
     → is_whole_from place (block_text time first second ++ rest)
     ≡ is_whole_from (Inside number (record {
       time = Some time;
@@ -117,7 +117,7 @@ block_leads : (place : Place) (given : List StimItem) (number time : ℕ) (first
           { event = 1; value = second } ∷ [];
     })) rest
 block_leads place given number time first second rest small one two leads =
-    let begins : CycleInput = begun (Some time) in
+    let begins : CycleInput = empty_block (Some time) in
     let more : CycleInput = with_sample begins (record { event = 0; value = first }) in
     let last : List ℕ = sample_text 1 second ++ 10 ∷ rest in
     ap (is_whole_from place) (block_lines time first second rest)
@@ -145,11 +145,11 @@ abbrev made_block : ℕ → ℕ → List ℕ
 made_block k n = block_text (10000000 * n) (made_value (word k (2 * n))) (made_value (word k (2 * n + 1)))
 
 another_block : (n : ℕ) (input : CycleInput) (time : Option ℕ) → n < 1000000
-    → taken (Inside n input) (lines.Cycle time) ≡ step (items.Cycle input ∷ []) (Inside (suc n) (begun time))
+    → taken (Inside n input) (lines.Cycle time) ≡ step (items.Cycle input ∷ []) (Inside (suc n) (empty_block time))
 another_block n input time few =
     let test : nat_lt n 1000000 ≡ true = grind (arith, nat_tests) in
-    ap (λ t. cond t (step (items.Cycle input ∷ []) (Inside (n + 1) (begun time))) None) test
-    ∙ ap (λ m. step (items.Cycle input ∷ []) (Inside m (begun time))) (omega arith)
+    ap (λ t. cond t (step (items.Cycle input ∷ []) (Inside (n + 1) (empty_block time))) None) test
+    ∙ ap (λ m. step (items.Cycle input ∷ []) (Inside m (empty_block time))) (omega arith)
 
 next_leads : (k n : ℕ) (rest : List ℕ) → n < 1000 → is_whole_from (place_behind k n) (made_block k n ++ rest) ≡ is_whole_from
     (place_behind k (suc n)) rest

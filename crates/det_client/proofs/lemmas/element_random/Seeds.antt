@@ -39,8 +39,8 @@ below_30 z h = xor_lt 64 z (z / 2 ^ 30) h (omega arith)
 below_27 : (z : ℕ) → z < 2 ^ 64 → bit_xor z (z / 2 ^ 27) < 2 ^ 64
 below_27 z h = xor_lt 64 z (z / 2 ^ 27) h (omega arith)
 
-mixed-zero : (x : ℕ) → (mix_u64 x).0 ≡ 0 → next_state x ≡ 0
-mixed-zero x h =
+splitmix_output-zero : (x : ℕ) → (mix_u64 x).0 ≡ 0 → next_state x ≡ 0
+splitmix_output-zero x h =
     let a : ℕ = next_state x in
     let w : ℕ = fold_mul a 30 0xbf58476d1ce4e5b9 in
     let z : ℕ = fold_mul w 27 0x94d049bb133111eb in
@@ -53,8 +53,8 @@ mixed-zero x h =
 -- two outputs in a row are not both zero
 pub not_both_zero : (k : ℕ) → (mix_u64 k).0 ≡ 0 → (mix_u64 (next_state k)).0 ≡ 0 → ⊥
 not_both_zero k h g =
-    let a : next_state k ≡ 0 = mixed-zero k h in
-    let b : next_state (next_state k) ≡ 0 = mixed-zero (next_state k) g in
+    let a : next_state k ≡ 0 = splitmix_output-zero k h in
+    let b : next_state (next_state k) ≡ 0 = splitmix_output-zero (next_state k) g in
     let c : next_state 0 ≡ 0 = ap next_state (sym a) ∙ b in
     omega arith
 

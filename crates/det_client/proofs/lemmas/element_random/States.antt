@@ -8,7 +8,7 @@ use Rattle.std.proofs.lemmas.Nat.{le_or_l, le_or_r}
 use Rattle.rand_core.specs.Steps.{first_words, u32_at, u64_at}
 use Rattle.rand_xoshiro.specs.SplitMix64 as split
 use Rattle.rand_xoshiro.specs.Xoshiro256.{of_seed, next_state, state_bytes, zero_seed_state}
-use Rattle.det_client.specs.element_random.Words.{state_at, state_of_words}
+use Rattle.det_client.specs.element_random.RandomStreams.{state_at, state_of_words}
 use Rattle.det_client.proofs.lemmas.element_random.Seeds.{xor-eq, the_bytes, is_zero, output-below, not_both_zero}
 
 record IsState (s : List ℕ) : Type 0 where

@@ -1,28 +1,28 @@
 use Rattle.std.proofs.Common.{◌≡◌, ◌∙◌, ℕ, List, subst}
 use Rattle.std.specs.Prelude.{Ok, Err, Option, Some, None}
-use Rattle.stimulus.specs.declared.item.StimItem.{StimItem}
-use Rattle.stimulus.specs.declared.item.StimError.{StimError}
-use Rattle.stimulus.specs.declared.item.StimError.TheVariants.{Bad}
-use Rattle.stimulus.specs.declared.item.StimFault.{StimFault}
-use Rattle.stimulus.specs.declared.reader.StimReader.{StimReader}
+use Rattle.stimulus.specs.declared.stimulus_item.StimulusItem.{StimulusItem}
+use Rattle.stimulus.specs.declared.stimulus_item.StimulusError.{StimulusError}
+use Rattle.stimulus.specs.declared.stimulus_item.StimulusError.TheVariants.{Bad}
+use Rattle.stimulus.specs.declared.stimulus_item.StimulusFault.{StimulusFault}
+use Rattle.stimulus.specs.declared.parser.StimulusParser.{StimulusParser}
 use Rattle.stimulus.specs.Reading.{BadLine, ending}
 use Rattle.stimulus.specs.StandsFor.{StandsFor, NextIs, FinishIs}
 use Rattle.hints_on_files.proofs.stimuli.bad_line.Goals.{in-Ok, in-Err}
 use Rattle.hints_on_files.proofs.stimuli.bad_line.Goals as goal
 
 -- after a block the reader has read the same text
-some-stands : (next : Option StimItem) (item : StimItem) (r : StimReader) (text : List ℕ) (given : List StimItem)
-    → next ≡ Some item → NextIs (Ok next) r text given → (all : List StimItem) × StandsFor r text all
+some-stands : (next : Option StimulusItem) (item : StimulusItem) (r : StimulusParser) (text : List ℕ) (given : List StimulusItem)
+    → next ≡ Some item → NextIs (Ok next) r text given → (all : List StimulusItem) × StandsFor r text all
 some-stands (Some other) item r text given is next = (_, next.0)
 some-stands None item r text given is next = cc
 
 -- and where it has no more
-none-stands : (next : Option StimItem) (r : StimReader) (text : List ℕ) (given : List StimItem)
+none-stands : (next : Option StimulusItem) (r : StimulusParser) (text : List ℕ) (given : List StimulusItem)
     → next ≡ None → NextIs (Ok next) r text given → StandsFor r text given
 none-stands None r text given is next = next.0
 none-stands (Some item) r text given is next = cc
 
-bad-ends : (error : StimError) (fault : StimFault) (r : StimReader) (text : List ℕ) (given : List StimItem)
+bad-ends : (error : StimulusError) (fault : StimulusFault) (r : StimulusParser) (text : List ℕ) (given : List StimulusItem)
     → error ≡ Bad fault → NextIs (Err error) r text given → ending r.events text ≡ BadLine fault.line
 bad-ends error fault r text given is next =
     (subst (λ e. NextIs (Err e) r text given) is next).1.ending

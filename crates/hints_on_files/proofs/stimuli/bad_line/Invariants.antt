@@ -1,5 +1,5 @@
 use Rattle.std.proofs.Common.{◌≡◌, List}
-use Rattle.stimulus.specs.declared.item.StimItem.{StimItem}
+use Rattle.stimulus.specs.declared.stimulus_item.StimulusItem.{StimulusItem}
 use Rattle.stimulus.specs.StandsFor.{StandsFor}
 use Rattle.hints_on_files.proofs.stimuli.bad_line.Given as goal
 
@@ -7,5 +7,5 @@ use Rattle.hints_on_files.proofs.stimuli.bad_line.Given as goal
 abbrev pub invariant-loop : goal.invariant-loop
 invariant-loop l = record {
   events : l.reader.events ≡ l.events;
-  stands : (given : List StimItem) × StandsFor l.reader l.text given;
+  stands : (given : List StimulusItem) × StandsFor l.reader l.text given;
 }

@@ -1,5 +1,5 @@
 use Rattle.std.proofs.Common.{◌≡◌, ℕ}
-use Rattle.det_client.specs.element_random.Words.{StandsFor}
+use Rattle.det_client.specs.element_random.RandomStreams.{StandsFor}
 use Rattle.job_heavy.specs.Meaning.{folded}
 use Rattle.job_heavy.proofs.state.fold_words.Given as goal
 

@@ -16,7 +16,7 @@ use Rattle.lane.specs.child_processes.Scripts.{same_words, words_in, index_of, w
 use Rattle.lane.specs.child_processes.Scripts.{KeepsToFirst}
 use Rattle.lane.specs.child_processes.MemSpawner.{state_of}
 use Rattle.lane.specs.declared.child_processes.mem_spawner.Script.{Script}
-use Rattle.lane.specs.declared.child_processes.mem_spawner.running.Running.{Running}
+use Rattle.lane.specs.declared.child_processes.mem_spawner.running_child.RunningChild.{RunningChild}
 use Rattle.lane.proofs.lemmas.child_processes.Items.{seen-at, put-at, put-beside, put-same, more-at, more-beside}
 
 -- two lists of words are the same where their texts are
@@ -35,7 +35,7 @@ found-words (s ∷ scripts) words i e =
     get_or-map words_in (s ∷ scripts) i s [] found.0 ∙ (pointwise_decides bytes_eq-Decides _ words).0 found.1
 
 -- a child of the script found keeps to the first with its words
-pub found-first : (scripts : List Script) (words : Words) (child : Running) → index_of scripts words ≡ Some child.script
+pub found-first : (scripts : List Script) (words : Words) (child : RunningChild) → index_of scripts words ≡ Some child.script
     → KeepsToFirst scripts child
 found-first scripts words child e = rw (found-words scripts words child.script e) e
 
@@ -44,7 +44,7 @@ all-one P x p zero d h = p
 all-one P x p (suc k) d h = absurd (omega arith)
 
 -- one more child that keeps to the first script with its words
-pub firsts-more : (scripts : List Script) (words : Words) (children : List Running) (child : Running)
+pub firsts-more : (scripts : List Script) (words : Words) (children : List RunningChild) (child : RunningChild)
     → index_of scripts words ≡ Some child.script → All (KeepsToFirst scripts) children
     → All (KeepsToFirst scripts) (children ++ child ∷ [])
 firsts-more scripts words children child e all =
@@ -52,19 +52,20 @@ firsts-more scripts words children child e all =
     (all-one (KeepsToFirst scripts) child (found-first scripts words child e))
 
 -- a child at an index keeps to the first script with its words
-pub first-at : (scripts : List Script) (children : List Running) (i : ℕ) (child : Running) → i < length children
+pub first-at : (scripts : List Script) (children : List RunningChild) (i : ℕ) (child : RunningChild) → i < length children
     → child ≡ get_or children i child → All (KeepsToFirst scripts) children → KeepsToFirst scripts child
 first-at scripts children i child h e all = rw e (All-get_or (KeepsToFirst scripts) children i child h all)
 
 -- a child that is read further keeps to its script
-pub firsts-put : (scripts : List Script) (children : List Running) (i : ℕ) (child next : Running) → i < length children
+pub firsts-put : (scripts : List Script) (children : List RunningChild) (i : ℕ) (child next : RunningChild) → i < length children
     → child ≡ get_or children i child → next.script ≡ child.script → All (KeepsToFirst scripts) children
     → All (KeepsToFirst scripts) (set children i next)
 firsts-put scripts children i child next h e s all =
     All-set (KeepsToFirst scripts) children i next (rw s (first-at scripts children i child h e all)) all
 
 -- words of a script that were asked for
-pub found-asks : (scripts : List Script) (children more : List Running) (told : Bool) (asked : List ℕ) (faults after i : ℕ) (words : Words)
+pub found-asks : (scripts : List Script) (children more : List RunningChild) (told : Bool) (asked : List ℕ) (faults after i : ℕ) (words :
+    Words)
     → index_of scripts words ≡ Some i
     → Asks (state_of scripts children told asked faults) (state_of scripts more told (asked ++ i ∷ []) after) (words ∷ [])
 found-asks scripts children more true asked faults after i words e = record {
@@ -79,25 +80,25 @@ found-asks scripts children more true asked faults after i words e = record {
 found-asks scripts children more false asked faults after i words e = record { told = λ all h. cc }
 
 -- a new child of the script found has all of its bytes left
-pub found-starts : (scripts : List Script) (children : List Running) (told : Bool) (asked later : List ℕ) (faults after i : ℕ)
+pub found-starts : (scripts : List Script) (children : List RunningChild) (told : Bool) (asked later : List ℕ) (faults after i : ℕ)
     (words : Words)
     → index_of scripts words ≡ Some i
     → Starts (state_of scripts children told asked faults)
     (state_of scripts (children ++ record { script = i; at = 0; is_finished = false } ∷ []) told later after) words (length children)
 found-starts scripts children told asked later faults after i words e =
-    let child : Running = record { script = i; at = 0; is_finished = false } in
-    let script_words = λ (c : Running). words_at scripts c.script in
+    let child : RunningChild = record { script = i; at = 0; is_finished = false } in
+    let script_words = λ (c : RunningChild). words_at scripts c.script in
     record {
       number = refl;
       children = length-append children (child ∷ []);
-      running = ap (λ o. unwrap_or o false) (more-at (λ (c : Running). c.is_finished) children child);
+      running = ap (λ o. unwrap_or o false) (more-at (λ (c : RunningChild). c.is_finished) children child);
       left = rw e (
         more-at (rest_of scripts) children child,
         more-at script_words children child ∙ ap Some (found-words scripts words i e),
       );
       other_left = λ k ne. more-beside (rest_of scripts) children child k ne;
       other_words = λ k ne. more-beside script_words children child k ne;
-      other_finished = λ k ne. ap (λ o. unwrap_or o false) (more-beside (λ (c : Running). c.is_finished) children child k ne);
+      other_finished = λ k ne. ap (λ o. unwrap_or o false) (more-beside (λ (c : RunningChild). c.is_finished) children child k ne);
     }
 
 drop-none : {X : Type 0} (n : ℕ) → drop {A = X} n [] ≡ []
@@ -111,11 +112,12 @@ rest-next bytes at n true = sym (drop-none n)
 rest-next bytes at n false = sym (drop-drop n at bytes)
 
 -- a child after n more bytes of it were read
-abbrev pub gone_on : Running → ℕ → Running
+abbrev pub gone_on : RunningChild → ℕ → RunningChild
 gone_on child n = record { script = child.script; at = child.at + n; is_finished = child.is_finished }
 
 -- it gives these bytes
-pub child-reads : (scripts : List Script) (children : List Running) (told : Bool) (asked : List ℕ) (faults i n : ℕ) (child : Running)
+pub child-reads : (scripts : List Script) (children : List RunningChild) (told : Bool) (asked : List ℕ) (faults i n : ℕ) (child :
+    RunningChild)
     (front : List ℕ)
     → i < length children → child ≡ get_or children i child → front ≡ take n (rest_of scripts child)
     → ReadsChild (state_of scripts children told asked faults)
@@ -130,8 +132,9 @@ child-reads scripts children told asked faults i n child front h e f =
     record {
       stays = record {
         children = length-set children i next;
-        words = ap slice_get (put-same (λ (c : Running). words_at scripts c.script) children i child next e refl);
-        finished = ap (λ l k. unwrap_or (slice_get l k) false) (put-same (λ (c : Running). c.is_finished) children i child next e refl);
+        words = ap slice_get (put-same (λ (c : RunningChild). words_at scripts c.script) children i child next e refl);
+        finished = ap (λ l k. unwrap_or (slice_get l k) false) (put-same (λ (c : RunningChild). c.is_finished) children i child next e
+            refl);
         asked = refl;
         gives = refl;
         ends = refl;
@@ -146,7 +149,7 @@ length-none [] h = refl
 length-none (x ∷ xs) h = absurd (omega arith)
 
 -- a read that gives nothing where there was room for some finds nothing left
-pub child-end : (scripts : List Script) (children : List Running) (i n room : ℕ) (child : Running)
+pub child-end : (scripts : List Script) (children : List RunningChild) (i n room : ℕ) (child : RunningChild)
     → i < length children → child ≡ get_or children i child → n ≡ min room (length (rest_of scripts child))
     → n ≡ 0 → 0 < room
     → IfSome (slice_get (map (rest_of scripts)
@@ -159,33 +162,33 @@ child-end scripts children i n room child h e c z w =
     rw (put-at (rest_of scripts) children i child next h e) (rest ∙ ap (drop n) none ∙ drop-none n)
 
 -- what a child has left, by its index
-pub child-rest : (scripts : List Script) (children : List Running) (i : ℕ) (child : Running)
+pub child-rest : (scripts : List Script) (children : List RunningChild) (i : ℕ) (child : RunningChild)
     → i < length children → child ≡ get_or children i child
     → rest_of scripts child ≡ unwrap_or (slice_get (map (rest_of scripts) children) i) []
 child-rest scripts children i child h e = rw (seen-at (rest_of scripts) children i child h e) refl
 
 -- a finished child gives nothing
-pub child-done : (scripts : List Script) (children : List Running) (i n room : ℕ) (child : Running)
+pub child-done : (scripts : List Script) (children : List RunningChild) (i n room : ℕ) (child : RunningChild)
     → i < length children → child ≡ get_or children i child → n ≡ min room (length (rest_of scripts child))
-    → unwrap_or (slice_get (map (λ (c : Running). c.is_finished) children) i) false ≡ true → n ≡ 0
+    → unwrap_or (slice_get (map (λ (c : RunningChild). c.is_finished) children) i) false ≡ true → n ≡ 0
 child-done scripts children i n room child h e c f =
-    let done : child.is_finished ≡ true = rw (seen-at (λ (c : Running). c.is_finished) children i child h e) at f in
+    let done : child.is_finished ≡ true = rw (seen-at (λ (c : RunningChild). c.is_finished) children i child h e) at f in
     let none : rest_of scripts child ≡ [] = rw done refl in
     let count : length (rest_of scripts child) ≡ 0 = ap length none in
     omega (arith, c, count)
 
 -- a child that is given to finish
-pub child-finishes : (scripts : List Script) (children : List Running) (told : Bool) (asked : List ℕ) (faults after i at : ℕ)
-    (child : Running)
+pub child-finishes : (scripts : List Script) (children : List RunningChild) (told : Bool) (asked : List ℕ) (faults after i at : ℕ)
+    (child : RunningChild)
     → i < length children → child ≡ get_or children i child
     → Finishes (state_of scripts children told asked faults)
     (state_of scripts (set children i (record { script = child.script; at = at; is_finished = true })) told asked after) i
 child-finishes scripts children told asked faults after i at child h e =
-    let next : Running = record { script = child.script; at = at; is_finished = true } in
-    let is_done = λ (c : Running). c.is_finished in
+    let next : RunningChild = record { script = child.script; at = at; is_finished = true } in
+    let is_done = λ (c : RunningChild). c.is_finished in
     record {
       children = length-set children i next;
-      words = ap slice_get (put-same (λ (c : Running). words_at scripts c.script) children i child next e refl);
+      words = ap slice_get (put-same (λ (c : RunningChild). words_at scripts c.script) children i child next e refl);
       asked = refl;
       finished = ap (λ o. unwrap_or o false) (put-at is_done children i child next h e);
       other_finished = λ k ne. ap (λ o. unwrap_or o false) (put-beside is_done children i k next ne);
@@ -194,12 +197,12 @@ child-finishes scripts children told asked faults after i at child h e =
     }
 
 -- the status of a child's script is that of its words
-pub child-ends : (scripts : List Script) (children : List Running) (i : ℕ) (child : Running) (words : Words)
+pub child-ends : (scripts : List Script) (children : List RunningChild) (i : ℕ) (child : RunningChild) (words : Words)
     → i < length children → child ≡ get_or children i child → All (KeepsToFirst scripts) children
-    → slice_get (map (λ (c : Running). words_at scripts c.script) children) i ≡ Some words
+    → slice_get (map (λ (c : RunningChild). words_at scripts c.script) children) i ≡ Some words
     → status_under scripts words ≡ Some (status_at scripts child.script)
 child-ends scripts children i child words h e all w =
     let its : words_at scripts child.script ≡ words =
-    same_Some _ _ (sym (seen-at (λ (c : Running). words_at scripts c.script) children i child h e) ∙ w) in
+    same_Some _ _ (sym (seen-at (λ (c : RunningChild). words_at scripts c.script) children i child h e) ∙ w) in
     let first : index_of scripts words ≡ Some child.script = rw its at (first-at scripts children i child h e all) in
     ap (option_map (status_at scripts)) first

@@ -2,7 +2,7 @@ use Rattle.std.proofs.Common.{◌∙◌, ap, sym, Option, Some, None, Ok}
 use Rattle.std.proofs.lemmas.Result.{err_from_is_err_and}
 use Rattle.toml.specs.View.{view}
 use Rattle.manifest.specs.Meaning.{unknown_fault, by_names}
-use Rattle.manifest.specs.declared.fault.ManifestFault.{ManifestFault}
+use Rattle.manifest.specs.declared.manifest_fault.ManifestFault.{ManifestFault}
 use Rattle.manifest.specs.declared.work.Work.{Work}
 use Rattle.manifest.specs.Faults.{first_duplicate}
 use Rattle.manifest.proofs.Order.{or_fault, at_work, at_params, at_events, at_hardware, past_keys, agrees-read}

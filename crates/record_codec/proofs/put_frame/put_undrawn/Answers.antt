@@ -16,7 +16,8 @@ returns-in-None-clause-grows c = put_grows _ _ _ _ _ c.loop.invariant
 pub loop-preserved : goal.loop-preserved
 loop-preserved c =
     put_more _ _ _ _ _ _ _ _ _ _ c.loop.invariant c.in-Some.ensures.some
-    (record { short = c.in-Some.ensures.short; bytes = c.put_slice.ensures.fields; draws = search rules }) c.in_ok-put_u16-in-Some.ensures.ok
+    (record { short = c.in-Some.ensures.short; bytes = c.put_slice.ensures.fields; draws = search rules })
+    c.in_ok-put_u16-in-Some.ensures.ok
     c.in_ok-put_slice-in-Some.ensures.ok
 
 pub returns-clause-grows : goal.returns-clause-grows

@@ -3,9 +3,9 @@ use Rattle.std.proofs.Common.{◌≡◌, ℕ, suc, ◌+◌, ◌-◌, List, [], �
 use Rattle.std.proofs.Common.{◌⊎◌, length-append}
 use Rattle.std.proofs.lemmas.List.{append-nil}
 use Rattle.det_io.specs.Prefix.{IsPrefix}
-use Rattle.record_grammar.specs.declared.fault.Reason.{Reason}
-use Rattle.record_grammar.specs.declared.fault.Reason.TheVariants.{Truncated}
-use Rattle.record_grammar.specs.declared.fault.RecordFault.{RecordFault}
+use Rattle.record_grammar.specs.declared.record_fault.Reason.{Reason}
+use Rattle.record_grammar.specs.declared.record_fault.Reason.TheVariants.{Truncated}
+use Rattle.record_grammar.specs.declared.record_fault.RecordFault.{RecordFault}
 use Rattle.record_grammar.specs.declared.place.Place.{Place}
 use Rattle.record_grammar.specs.declared.place.Place.TheVariants as places
 use Rattle.record_grammar.specs.declared.item.Item.{Item}

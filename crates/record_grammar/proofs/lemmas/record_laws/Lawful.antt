@@ -2,7 +2,7 @@
 -- the first byte with which none does.
 use Rattle.std.proofs.Common.{◌≡◌, ℕ, suc, ◌<◌, List, [], ◌∷◌, ◌++◌, length, refl, sym, ap, subst, ◌∙◌, append_assoc, inl, inr, ◌⊎◌}
 use Rattle.std.proofs.lemmas.List.Elements.{All-head, All-tail}
-use Rattle.record_grammar.specs.declared.fault.Reason.{Reason}
+use Rattle.record_grammar.specs.declared.record_fault.Reason.{Reason}
 use Rattle.record_grammar.specs.Read.{Read, Got, More, Bad, ◌>>=◌}
 use Rattle.record_grammar.specs.Spelling.{AreBytes}
 use Rattle.record_grammar.proofs.Steady.{got, got_is, bad, bad_is, bind_got, bind_bad, by_first}

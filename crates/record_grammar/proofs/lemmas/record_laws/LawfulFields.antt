@@ -8,7 +8,7 @@ use Rattle.std.proofs.lemmas.Bool.Decides.{nat_tests}
 use Rattle.std.proofs.lemmas.Int.{ints, to_z-of_z, of_z-to_z}
 use Rattle.std.proofs.Math.Facts.{Fits-of_z, Fits-of_lt, sfits_to_z}
 use Rattle.det_values.specs.Limits.{IsSampleValue}
-use Rattle.record_grammar.specs.declared.fault.Reason.{Reason}
+use Rattle.record_grammar.specs.declared.record_fault.Reason.{Reason}
 use Rattle.record_grammar.specs.declared.limits.Limits.TheVariants.{Around}
 use Rattle.record_grammar.specs.Read.{Read, Got, More, Bad, ◌>>=◌, many}
 use Rattle.record_grammar.specs.Numbers.{number, number_from, IsWithin, highest}

@@ -12,8 +12,8 @@ use Rattle.det_values.specs.declared.format.Format.TheVariants.{One, Two}
 use Rattle.det_values.specs.declared.event.Policy.{Policy}
 use Rattle.det_values.specs.declared.event.Policy.TheVariants.{Last, Fresh}
 use Rattle.det_values.specs.Values.{EventSpecValue, ProfileValue}
-use Rattle.det_values.specs.Limits.{may_stand_in_name, is_event_name, KnowsPolicies}
-use Rattle.record_grammar.specs.declared.fault.Reason.TheVariants.{Magic, Version, Range}
+use Rattle.det_values.specs.Limits.{allowed_in_name, is_event_name, KnowsPolicies}
+use Rattle.record_grammar.specs.declared.record_fault.Reason.TheVariants.{Magic, Version, Range}
 use Rattle.record_grammar.specs.Read.{Read, Got, Bad, ◌>>=◌}
 use Rattle.record_grammar.specs.Numbers.{number}
 use Rattle.record_grammar.specs.Grammar.{signed_at, exactly_at, magic_at, format_at, version_at, name_byte_at, name_at, policy_of}
@@ -104,17 +104,17 @@ version_lawful =
 -- ---- events
 
 abbrev IsNameByte : ℕ → Type 0
-IsNameByte b = may_stand_in_name b ≡ true
+IsNameByte b = allowed_in_name b ≡ true
 
 abbrev name_byte_by : ℕ → List ℕ → Read ℕ
-name_byte_by b bytes = cond (may_stand_in_name b) (Got (b, bytes)) (Bad Range (suc (length bytes)))
+name_byte_by b bytes = cond (allowed_in_name b) (Got (b, bytes)) (Bad Range (suc (length bytes)))
 
 name_byte_reads : (bytes : List ℕ) → name_byte_at bytes ≡ by_first name_byte_by bytes
 unfolding name_byte_at
 name_byte_reads [] = refl
 name_byte_reads (b ∷ bytes) = refl
 
-name_byte_case : (b : ℕ) (t : Bool) → may_stand_in_name b ≡ t
+name_byte_case : (b : ℕ) (t : Bool) → allowed_in_name b ≡ t
     → (((bytes : List ℕ) → name_byte_by b bytes ≡ Bad Range (suc (length bytes))) × ((c : ℕ) → IsNameByte c → c ≡ b → ⊥))
     ⊎ IsLawful (λ c. IsNameByte c × (c ≡ b)) (λ c. []) (name_byte_by b)
 name_byte_case b true e =
@@ -124,7 +124,7 @@ name_byte_case b true e =
 name_byte_case b false e =
     inl (
       (λ bytes. ap (λ (t : Bool). cond t (Got (b, bytes)) (Bad Range (suc (length bytes)))) e),
-      (λ c h same. let no : may_stand_in_name c ≡ false = ap may_stand_in_name same ∙ e in absurd (cc (h, no))),
+      (λ c h same. let no : allowed_in_name c ≡ false = ap allowed_in_name same ∙ e in absurd (cc (h, no))),
     )
 
 name_byte_small : (b : ℕ) → IsNameByte b → b < 256
@@ -133,23 +133,23 @@ name_byte_small b h = grind (arith, nat_tests, h)
 name_byte_lawful : IsLawful IsNameByte (λ b. b ∷ []) name_byte_at
 name_byte_lawful =
     lawful_read IsNameByte (λ b. b ∷ []) name_byte_at (by_first name_byte_by) name_byte_reads
-    (lawful_first IsNameByte (λ b. b) (λ b. []) name_byte_by (λ b. Range) 97 refl (λ b small. name_byte_case b (may_stand_in_name b) refl)
+    (lawful_first IsNameByte (λ b. b) (λ b. []) name_byte_by (λ b. Range) 97 refl (λ b small. name_byte_case b (allowed_in_name b) refl)
     name_byte_small)
 
-all_name_bytes : (bytes : List ℕ) → list_all may_stand_in_name bytes ≡ true → All IsNameByte bytes
+all_name_bytes : (bytes : List ℕ) → list_all allowed_in_name bytes ≡ true → All IsNameByte bytes
 all_name_bytes [] h = All-nil IsNameByte
 all_name_bytes (b ∷ bytes) h =
-    let p = both (may_stand_in_name b) (list_all may_stand_in_name bytes) h in All-cons IsNameByte b bytes p.0 (all_name_bytes bytes p.1)
+    let p = both (allowed_in_name b) (list_all allowed_in_name bytes) h in All-cons IsNameByte b bytes p.0 (all_name_bytes bytes p.1)
   where
     both : (s t : Bool) → (s && t) ≡ true → (s ≡ true) × (t ≡ true)
     both true true e = (refl, refl)
     both true false e = absurd cc
     both false t e = absurd cc
 
-name_bytes_all : (bytes : List ℕ) → All IsNameByte bytes → list_all may_stand_in_name bytes ≡ true
+name_bytes_all : (bytes : List ℕ) → All IsNameByte bytes → list_all allowed_in_name bytes ≡ true
 name_bytes_all [] h = refl
 name_bytes_all (b ∷ bytes) h =
-    ap (λ (t : Bool). t && list_all may_stand_in_name bytes) (All-head IsNameByte b bytes h)
+    ap (λ (t : Bool). t && list_all allowed_in_name bytes) (All-head IsNameByte b bytes h)
     ∙ name_bytes_all bytes (All-tail IsNameByte b bytes h)
 
 each_byte : (bytes : List ℕ) → flat_map (λ b. b ∷ []) bytes ≡ bytes
@@ -160,9 +160,9 @@ abbrev IsName : List ℕ → Type 0
 IsName n = is_event_name n ≡ true
 
 name_there : (n : List ℕ) → IsFrom 1 32 (length n) × All IsNameByte n → IsName n
-name_there n h = let all : list_all may_stand_in_name n ≡ true = name_bytes_all n h.1 in grind (arith, nat_tests, h.0.0, h.0.1, all)
+name_there n h = let all : list_all allowed_in_name n ≡ true = name_bytes_all n h.1 in grind (arith, nat_tests, h.0.0, h.0.1, all)
 
-name_back : (n : List ℕ) → IsName n → IsFrom 1 32 (length n) × (list_all may_stand_in_name n ≡ true)
+name_back : (n : List ℕ) → IsName n → IsFrom 1 32 (length n) × (list_all allowed_in_name n ≡ true)
 name_back n h = ((grind (arith, nat_tests, h), grind (arith, nat_tests, h)), grind (arith, nat_tests, h))
 
 pub name_lawful : IsLawful IsName (λ n. length n ∷ n) name_at

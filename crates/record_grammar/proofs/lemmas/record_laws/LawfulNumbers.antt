@@ -5,7 +5,7 @@ use Rattle.std.proofs.lemmas.Bool.{cases_lt}
 use Rattle.std.proofs.lemmas.Bool.Decides.{nat_tests}
 use Rattle.record_grammar.specs.declared.limits.Limits.{Limits}
 use Rattle.record_grammar.specs.declared.limits.Limits.TheVariants.{Between, Around}
-use Rattle.record_grammar.specs.declared.fault.Reason.TheVariants.{Range}
+use Rattle.record_grammar.specs.declared.record_fault.Reason.TheVariants.{Range}
 use Rattle.record_grammar.specs.Read.{Bad}
 use Rattle.record_grammar.specs.Numbers.{IsWithin, lowest, highest, can_be, number_from, number}
 use Rattle.record_grammar.proofs.Steady.{by_first, number_is}

@@ -11,9 +11,9 @@ use Rattle.det_values.specs.declared.frames.DrawnElement.{DrawnElement}
 use Rattle.det_values.specs.declared.frames.Outcome.TheVariants.{Finished, Refused}
 use Rattle.det_values.specs.declared.frames.Frame.{Frame}
 use Rattle.det_values.specs.declared.frames.Frame.TheVariants as frames
-use Rattle.det_values.specs.Limits.{may_stand_in_name}
-use Rattle.record_grammar.specs.declared.fault.Reason.{Reason}
-use Rattle.record_grammar.specs.declared.fault.Reason.TheVariants.{Range}
+use Rattle.det_values.specs.Limits.{allowed_in_name}
+use Rattle.record_grammar.specs.declared.record_fault.Reason.{Reason}
+use Rattle.record_grammar.specs.declared.record_fault.Reason.TheVariants.{Range}
 use Rattle.record_grammar.specs.declared.limits.Limits.{Limits}
 use Rattle.record_grammar.specs.declared.limits.Limits.TheVariants.{Between, Around}
 use Rattle.record_grammar.specs.declared.place.Layout.{Layout}
@@ -110,7 +110,7 @@ name_byte_says false b bytes reason left e = let p = bad_is {A = ℕ} Range reas
 name_byte_reason : (bytes : List ℕ) (reason : Reason) (left : ℕ) → name_byte_at bytes ≡ Bad reason left → reason ≡ Range
 unfolding name_byte_at
 name_byte_reason [] reason left e = absurd cc
-name_byte_reason (b ∷ bytes) reason left e = name_byte_says (may_stand_in_name b) b bytes reason left e
+name_byte_reason (b ∷ bytes) reason left e = name_byte_says (allowed_in_name b) b bytes reason left e
 
 only_name_byte : OnlyRange name_byte_at
 only_name_byte = record { only = name_byte_reason }

@@ -9,7 +9,7 @@ use Rattle.det_io.specs.declared.failure.Failure.TheVariants.{Read, Write, OutOf
 use Rattle.det_io.specs.declared.failure.Stopped.{Stopped}
 use Rattle.det_io.specs.declared.failure.Stopped.TheVariants.{Refused, Failed}
 use Rattle.det_io.proofs.SlotReads.{reads-then}
-use Rattle.record_grammar.specs.declared.fault.RecordFault.{RecordFault}
+use Rattle.record_grammar.specs.declared.record_fault.RecordFault.{RecordFault}
 use Rattle.record_grammar.specs.declared.place.Place.{Place}
 use Rattle.record_grammar.specs.declared.place.Place.TheVariants as places
 use Rattle.record_grammar.specs.declared.item.Item.{Item}
@@ -26,14 +26,14 @@ use Rattle.record_view.specs.declared.view.ItemView.{ItemView}
 use Rattle.record_view.specs.Shows.{ShowsParts, IsSpelling, events_of}
 use Rattle.record_view.proofs.Spelled.{front_spells}
 use Rattle.record_reader.specs.declared.item_reader.reader.ItemReader.{ItemReader}
-use Rattle.record_reader.specs.declared.item_reader.like.Like.{Like}
-use Rattle.record_reader.specs.declared.item_reader.like.Like.TheVariants as likes
-use Rattle.record_reader.specs.declared.item_reader.like.Front.TheVariants as fronts
+use Rattle.record_reader.specs.declared.item_reader.comparison.Comparison.{Comparison}
+use Rattle.record_reader.specs.declared.item_reader.comparison.Comparison.TheVariants as likes
+use Rattle.record_reader.specs.declared.item_reader.comparison.Front.TheVariants as fronts
 use Rattle.record_reader.specs.item_reader.Held.{held}
 use Rattle.record_reader.specs.item_reader.StandsFor.{StandsFor, unread, slot_of, ReadsIfNeeded, HasRead}
 use Rattle.record_reader.specs.item_reader.Steps.{GaveAll, count_of}
 use Rattle.record_reader.specs.item_reader.Fronts.{Aside, AreNeeded, Restored, Compared}
-use Rattle.record_reader.specs.item_reader.Like.{LikeIs, OtherIs, IsOther}
+use Rattle.record_reader.specs.item_reader.Comparison.{ComparisonIs, OtherIs, IsOther}
 use Rattle.record_reader.proofs.lemmas.item_reader.Reading.{scan_none}
 use Rattle.record_reader.proofs.lemmas.item_reader.Stepping.{needed_then, gave, ended}
 
@@ -185,9 +185,10 @@ like_falls view item bytes place to place_is s leads_to =
 
 -- ---- a byte differs
 
-like_is : (result : Result Like (Stopped RecordFault)) (view : ItemView) (bytes : List ℕ) (place : Place) (r : ItemReader) (at_end : Type 0)
+like_is : (result : Result Comparison (Stopped RecordFault)) (view : ItemView) (bytes : List ℕ) (place : Place) (r : ItemReader) (at_end :
+    Type 0)
     (read : List ℕ) (given : List Item) → OtherIs result r at_end read given → (place ≡ view.place → IsOther view bytes read given)
-    → LikeIs result view bytes place r at_end read given
+    → ComparisonIs result view bytes place r at_end read given
 like_is (Ok likes.Same) view bytes place r at_end read given o other = absurd o
 like_is (Ok (likes.Other row)) view bytes place r at_end read given o other = (o, other)
 like_is (Err (Refused f)) view bytes place r at_end read given o other = o
@@ -195,11 +196,11 @@ like_is (Err (Failed Read)) view bytes place r at_end read given o other = o.0
 like_is (Err (Failed Write)) view bytes place r at_end read given o other = absurd o
 like_is (Err (Failed OutOfMemory)) view bytes place r at_end read given o other = tt
 
-pub like_differs : (view : ItemView) (item : Item) (bytes : List ℕ) (result : Result Like (Stopped RecordFault))
+pub like_differs : (view : ItemView) (item : Item) (bytes : List ℕ) (result : Result Comparison (Stopped RecordFault))
     (before between last : ShelfState) (old mid new : ItemReader) → events_of view.place ≤ 65536 → AreBytes bytes → old.place ≡ view.place
     → IsSpelling view item bytes → Compared (Ok fronts.Differs) bytes before between old mid
     → HasRead between last mid (OtherIs result new (IsAtEnd last (slot_of mid)))
-    → HasRead before last old (LikeIs result view bytes old.place new (IsAtEnd last (slot_of old)))
+    → HasRead before last old (ComparisonIs result view bytes old.place new (IsAtEnd last (slot_of old)))
 like_differs view item bytes result before between last old mid new few are place_is s k q = (
   k.more ++ q.0,
   reads-then k.reads (subst (λ (slot : ℕ). Reads between last slot q.0) k.aside.slot q.1),
@@ -233,7 +234,7 @@ ends_more view item bytes before last old mid read given place_is s k h = record
 pub like_ends_good : (view : ItemView) (item : Item) (bytes : List ℕ) (before last : ShelfState) (old mid new : ItemReader)
     → old.place ≡ view.place → IsSpelling view item bytes → Compared (Ok fronts.Ends) bytes before last old mid → new ≡ mid
     → ((read : List ℕ) (given : List Item) → GaveAll mid read given → fault_in read ≡ None)
-    → HasRead before last old (LikeIs (Ok (likes.Other None)) view bytes old.place new (IsAtEnd last (slot_of old)))
+    → HasRead before last old (ComparisonIs (Ok (likes.Other None)) view bytes old.place new (IsAtEnd last (slot_of old)))
 like_ends_good view item bytes before last old mid new place_is s k same good = (
   k.more,
   k.reads,
@@ -251,7 +252,7 @@ like_ends_good view item bytes before last old mid new place_is s k same good = 
 pub like_ends_bad : (view : ItemView) (item : Item) (bytes : List ℕ) (before last : ShelfState) (old mid new : ItemReader) (f : RecordFault)
     → old.place ≡ view.place → IsSpelling view item bytes → Compared (Ok fronts.Ends) bytes before last old mid → new.fault ≡ Some f
     → ((read : List ℕ) (given : List Item) → GaveAll mid read given → fault_in read ≡ Some f)
-    → HasRead before last old (LikeIs (Err (Refused f)) view bytes old.place new (IsAtEnd last (slot_of old)))
+    → HasRead before last old (ComparisonIs (Err (Refused f)) view bytes old.place new (IsAtEnd last (slot_of old)))
 like_ends_bad view item bytes before last old mid new f place_is s k fault bad = (
   k.more,
   k.reads,
@@ -266,14 +267,14 @@ like_ends_bad view item bytes before last old mid new f place_is s k fault bad =
 
 failed_is : (failure : Failure) (view : ItemView) (bytes : List ℕ) (before last : ShelfState) (old mid : ItemReader) (at_end : Type 0)
     (read : List ℕ) (given : List Item) → (k : Compared (Err failure) bytes before last old mid) → StandsFor old read given
-    → LikeIs (Err (Failed failure)) view bytes old.place mid at_end (read ++ k.more) given
+    → ComparisonIs (Err (Failed failure)) view bytes old.place mid at_end (read ++ k.more) given
 failed_is Read view bytes before last old mid at_end read given k h = restored_stands old read given h mid k.more k.aside k.is
 failed_is Write view bytes before last old mid at_end read given k h = absurd k.is
 failed_is OutOfMemory view bytes before last old mid at_end read given k h = tt
 
 pub like_fails : (failure : Failure) (view : ItemView) (item : Item) (bytes : List ℕ) (before last : ShelfState) (old mid : ItemReader)
     (at_end : Type 0) → old.place ≡ view.place → IsSpelling view item bytes → Compared (Err failure) bytes before last old mid
-    → HasRead before last old (LikeIs (Err (Failed failure)) view bytes old.place mid at_end)
+    → HasRead before last old (ComparisonIs (Err (Failed failure)) view bytes old.place mid at_end)
 like_fails failure view item bytes before last old mid at_end place_is s k = (
   k.more,
   k.reads,

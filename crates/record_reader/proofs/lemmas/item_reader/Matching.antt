@@ -9,8 +9,8 @@ use Rattle.det_io.specs.declared.failure.Failure.TheVariants.{Read, Write, OutOf
 use Rattle.det_io.proofs.SlotReads.{reads-then, reads-none}
 use Rattle.record_grammar.specs.Spelling.{AreBytes}
 use Rattle.record_reader.specs.declared.item_reader.reader.ItemReader.{ItemReader}
-use Rattle.record_reader.specs.declared.item_reader.like.Front.{Front}
-use Rattle.record_reader.specs.declared.item_reader.like.Front.TheVariants as fronts
+use Rattle.record_reader.specs.declared.item_reader.comparison.Front.{Front}
+use Rattle.record_reader.specs.declared.item_reader.comparison.Front.TheVariants as fronts
 use Rattle.record_reader.specs.item_reader.Held.{held, Took, Matched}
 use Rattle.record_reader.specs.item_reader.StandsFor.{unread}
 use Rattle.record_reader.specs.item_reader.Steps.{ReadsOn, Forgot, count_of}

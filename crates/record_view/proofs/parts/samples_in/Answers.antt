@@ -2,7 +2,7 @@ use Rattle.std.proofs.Common.{List, ap, ◌∙◌}
 use Rattle.det_values.specs.Values.{SampleValue}
 use Rattle.record_grammar.specs.Read.{Read, many}
 use Rattle.record_grammar.specs.Grammar.{sample_at}
-use Rattle.record_view.specs.Walked.{is_got}
+use Rattle.record_view.specs.Walks.{is_got}
 use Rattle.record_view.proofs.Walked.{walk_counted}
 use Rattle.record_view.proofs.parts.samples_in.Goals as goal
 

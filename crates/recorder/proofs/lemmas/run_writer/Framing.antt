@@ -8,7 +8,7 @@ use Rattle.std.specs.Prelude.{Result, Ok, Err, OnOk, IfOk}
 use Rattle.det_io.specs.Sink.{Grew}
 use Rattle.det_io.specs.declared.failure.Failure.{Failure}
 use Rattle.det_values.specs.Values.{ProfileValue, SampleValue}
-use Rattle.det_values.specs.Frames.{undrawn, outcome_in_format}
+use Rattle.det_values.specs.Frames.{without_draws, outcome_in_format}
 use Rattle.det_values.specs.declared.format.Format.{Format}
 use Rattle.det_values.specs.declared.format.Format.TheVariants.{One, Two}
 use Rattle.det_values.specs.declared.frames.CycleInput.{CycleInput}
@@ -27,14 +27,14 @@ use Rattle.probes.specs.Shipped.{is_refused}
 use Rattle.recorder.specs.declared.run_writer.counts.Counts.{Counts}
 use Rattle.recorder.specs.declared.run_writer.recording.Recording.{Recording}
 use Rattle.recorder.specs.run_writer.Record.{counted, Counted, record_with, opening}
-use Rattle.recorder.specs.run_writer.Recording.{Keeps, IsNew, Stands, wrote}
+use Rattle.recorder.specs.run_writer.Recording.{Keeps, IsNew, IsRecordingAfter, counts_after}
 use Rattle.recorder.proofs.lemmas.run_writer.Growing.{runs-none, record-opened, record-next, record-ended}
 
 -- ---- what a format can spell
 
-none_drawn : (elements : List DrawnElement) → All (λ (e : DrawnElement). MayDraw One e.draws) (map undrawn elements)
+none_drawn : (elements : List DrawnElement) → All (λ (e : DrawnElement). MayDraw One e.draws) (map without_draws elements)
 none_drawn [] = All-nil (λ (e : DrawnElement). MayDraw One e.draws)
-none_drawn (x ∷ xs) = All-cons (λ (e : DrawnElement). MayDraw One e.draws) (undrawn x) (map undrawn xs) refl (none_drawn xs)
+none_drawn (x ∷ xs) = All-cons (λ (e : DrawnElement). MayDraw One e.draws) (without_draws x) (map without_draws xs) refl (none_drawn xs)
 
 any_drawn : (elements : List DrawnElement) → All (λ (e : DrawnElement). MayDraw Two e.draws) elements
 any_drawn [] = All-nil (λ (e : DrawnElement). MayDraw Two e.draws)
@@ -87,7 +87,7 @@ module _ {S G E L P : Type 0} (m : Meaning S G E L P) where
   spelled-run engine profile given input (Err e) is stands known = tt
 
   -- no more refused cycles than cycles
-  pub few_refused : (recording : Recording S G E L P) (given : List CycleInput) → Stands m recording given
+  pub few_refused : (recording : Recording S G E L P) (given : List CycleInput) → IsRecordingAfter m recording given
       → recording.counts.refused ≤ recording.engine.cycles
   few_refused recording given h =
       let few = count_by-le-length is_refused (runs m recording.profile given) in
@@ -108,11 +108,11 @@ module _ {S G E L P : Type 0} (m : Meaning S G E L P) where
   -- the opening was written
   pub stands-opened : (old new : Recording S G E L P) (bytes : List ℕ) → IsNew m old → new.engine ≡ old.engine → new.profile ≡ old.profile
       → bytes ≡ opening m old.profile
-      → new.counts ≡ wrote old.counts bytes → Stands m new []
+      → new.counts ≡ counts_after old.counts bytes → IsRecordingAfter m new []
   stands-opened old new bytes h engine profile is counts =
       let none : runs m new.profile [] ≡ [] = runs-none m new.profile in
-      let zero : new.counts ≡ wrote (record { cycles = 0; refused = 0; bytes = 0 }) bytes = counts
-      ∙ ap (λ (k : Counts). wrote k bytes) h.counts in
+      let zero : new.counts ≡ counts_after (record { cycles = 0; refused = 0; bytes = 0 }) bytes = counts
+      ∙ ap (λ (k : Counts). counts_after k bytes) h.counts in
       let whole : bytes ≡ record_with m new.profile [] false = is ∙ ap (opening m) (sym profile) ∙ sym (record-opened m new.profile) in
       record {
         engine = rw (engine, profile) h.engine;
@@ -127,23 +127,23 @@ module _ {S G E L P : Type 0} (m : Meaning S G E L P) where
   pub opened-ok : (old mid new : Recording S G E L P) (before after : List ℕ → Type 0) (answer : Result (Unit {0}) Failure) → IsNew m old
       → Keeps old mid
       → mid.buffer.items ≡ opening m old.profile → new.engine ≡ mid.engine → new.profile ≡ mid.profile
-      → OnOk answer (new.counts ≡ wrote mid.counts mid.buffer.items) → OnOk answer (Grew before after mid.buffer.items)
-      → OnOk answer (Stands m new [] × Grew before after (opening m old.profile))
+      → OnOk answer (new.counts ≡ counts_after mid.counts mid.buffer.items) → OnOk answer (Grew before after mid.buffer.items)
+      → OnOk answer (IsRecordingAfter m new [] × Grew before after (opening m old.profile))
   opened-ok old mid new before after (Ok value) h keeps is engine profile counts took = (
     stands-opened old new mid.buffer.items h (engine ∙ keeps.engine) (profile ∙ keeps.profile) is
-        (counts ∙ ap (λ (k : Counts). wrote k mid.buffer.items) keeps.counts),
+        (counts ∙ ap (λ (k : Counts). counts_after k mid.buffer.items) keeps.counts),
     subst (Grew before after) is took,
   )
   opened-ok old mid new before after (Err failure) h keeps is engine profile counts took = tt
 
   -- a run's frame was written
   pub stands-next : (old new : Recording S G E L P) (given : List CycleInput) (input : CycleInput) (run : RunFrame) (refusals : ℕ)
-      → Stands m old given → run ≡ frame_of m old.profile given (state_of m old.profile given) input
+      → IsRecordingAfter m old given → run ≡ frame_of m old.profile given (state_of m old.profile given) input
       → EngineStands m old.profile new.engine (given ++ input ∷ []) → new.engine.stopped ≡ false → new.profile ≡ old.profile
       → refusals ≡ count_by is_refused (run ∷ [])
-      → new.counts ≡ wrote (record { cycles = new.engine.cycles; refused = old.counts.refused + refusals; bytes = old.counts.bytes })
+      → new.counts ≡ counts_after (record { cycles = new.engine.cycles; refused = old.counts.refused + refusals; bytes = old.counts.bytes })
       (spelled_frame old.profile.format (Run run))
-      → Stands m new (given ++ input ∷ [])
+      → IsRecordingAfter m new (given ++ input ∷ [])
   stands-next old new given input run refusals h run_is engine going profile refused counts =
       let all : runs m old.profile given ++ run ∷ [] ≡ runs m new.profile (given ++ input ∷ []) =
       ap (λ r. runs m old.profile given ++ r ∷ []) run_is ∙ sym (runs-append m old.profile given input)
@@ -168,8 +168,8 @@ module _ {S G E L P : Type 0} (m : Meaning S G E L P) where
       }
 
   -- Terminate was written
-  pub counted-ended : (old : Recording S G E L P) (counts : Counts) (given : List CycleInput) → Stands m old given
-      → counts ≡ wrote old.counts (spelled_frame old.profile.format Terminate)
+  pub counted-ended : (old : Recording S G E L P) (counts : Counts) (given : List CycleInput) → IsRecordingAfter m old given
+      → counts ≡ counts_after old.counts (spelled_frame old.profile.format Terminate)
       → Counted counts (runs m old.profile given) (record_with m old.profile given true)
   counted-ended old counts given h is = record {
     cycles = ap (λ (k : Counts). k.cycles) is ∙ h.counts.cycles;

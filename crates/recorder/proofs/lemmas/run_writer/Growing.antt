@@ -9,7 +9,7 @@ use Rattle.det_values.specs.declared.frames.CycleInput.{CycleInput}
 use Rattle.det_values.specs.declared.frames.Frame.{Frame}
 use Rattle.det_values.specs.declared.frames.Frame.TheVariants.{Run, Terminate}
 use Rattle.job.specs.Meaning.{Meaning}
-use Rattle.cycle_engine.specs.Frames.{state_of, frames, frame_of, runs, runs_behind}
+use Rattle.cycle_engine.specs.Frames.{state_of, frames, frame_of, runs, runs_after_inputs}
 use Rattle.cycle_engine.proofs.Standing.{frames-append, frames-ended}
 use Rattle.record_grammar.specs.Spelling.{spelled, spelled_header, spelled_frame}
 use Rattle.recorder.specs.run_writer.Record.{record_with, opening}
@@ -26,12 +26,12 @@ spelled-then profile frames frame =
 module _ {S G E L P : Type 0} (m : Meaning S G E L P) (profile : ProfileValue) where
   -- the record of no input is the opening
   pub record-opened : record_with m profile [] false ≡ opening m profile
-  unfolding record_with opening runs_behind
+  unfolding record_with opening runs_after_inputs
   record-opened = refl
 
   -- no input gives no run
   pub runs-none : runs m profile [] ≡ []
-  unfolding runs_behind
+  unfolding runs_after_inputs
   runs-none = refl
 
   -- one input more is one frame more

@@ -11,7 +11,7 @@ use Rattle.det_io.proofs.Prefixes.{prefix-append}
 use Rattle.det_io.proofs.Growth.{grew-then, short-wider, grew-then-short}
 use Rattle.recorder.specs.declared.run_writer.counts.Counts.{Counts}
 use Rattle.recorder.specs.run_writer.Record.{counted}
-use Rattle.recorder.specs.run_writer.Recording.{wrote}
+use Rattle.recorder.specs.run_writer.Recording.{counts_after}
 
 module _ (a b c : List ℕ) where
   -- the first write failed
@@ -63,11 +63,11 @@ parts-are at front behind ends held pieces middle whole first last same put is =
     ∙ ap (λ (xs : List ℕ). take at xs ++ (middle ++ drop at xs)) same ∙ is
 
 -- bytes that were put in are counted beside the others
-pub wrote-parts : (old mid new : Counts) (at : ℕ) (ends middle whole : List ℕ) → at ≤ length ends → mid ≡ old
-    → new ≡ wrote mid (middle ++ ends) → take at ends ++ (middle ++ drop at ends) ≡ whole → new ≡ wrote old whole
-wrote-parts old mid new at ends middle whole within same counts is =
+pub counts_after-parts : (old mid new : Counts) (at : ℕ) (ends middle whole : List ℕ) → at ≤ length ends → mid ≡ old
+    → new ≡ counts_after mid (middle ++ ends) → take at ends ++ (middle ++ drop at ends) ≡ whole → new ≡ counts_after old whole
+counts_after-parts old mid new at ends middle whole within same counts is =
     let more : ℕ → Counts = λ n. record old { bytes = counted (old.bytes + n) } in
-    counts ∙ ap (λ (k : Counts). wrote k (middle ++ ends)) same ∙ ap more (length-parts at ends middle within ∙ ap length is)
+    counts ∙ ap (λ (k : Counts). counts_after k (middle ++ ends)) same ∙ ap more (length-parts at ends middle within ∙ ap length is)
 
 -- pieces that are written one after another
 module _ {X : Type 0} (f : X → List ℕ) (xs : List X) (k : ℕ) (x : X) (inside : k < length xs) (is : x ≡ get_or xs k x) where

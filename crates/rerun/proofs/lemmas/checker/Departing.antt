@@ -10,7 +10,7 @@ use Rattle.det_values.specs.declared.frames.Frame.{Frame}
 use Rattle.det_values.specs.declared.frames.Frame.TheVariants.{Register, Discover, Init, Run, Terminate}
 use Rattle.job.specs.Meaning.{Meaning}
 use Rattle.job.specs.Cycle.{State, state_after}
-use Rattle.cycle_engine.specs.Frames.{frames, frame_of, cycle_of, state_of, state_behind, runs_behind, init_of}
+use Rattle.cycle_engine.specs.Frames.{frames, frame_of, cycle_of, state_of, state_after_inputs, runs_after_inputs, init_of}
 use Rattle.cycle_engine.proofs.Standing.{state_of-append}
 use Rattle.record_grammar.specs.declared.place.Layout.{Layout}
 use Rattle.record_grammar.specs.declared.place.Place.{Place}
@@ -19,8 +19,8 @@ use Rattle.record_grammar.specs.declared.item.Item.TheVariants as items
 use Rattle.record_grammar.specs.Places.{after, CanFollow}
 use Rattle.copies.specs.declared.difference.Difference.{Difference}
 use Rattle.copies.specs.FirstDifference.{frame_difference}
-use Rattle.rerun.specs.checker.Departure.{agreeing, departure_from}
-use Rattle.rerun.specs.checker.Given.{input_of, given_frame}
+use Rattle.rerun.specs.checker.Departure.{agreeing_count, departure_from}
+use Rattle.rerun.specs.checker.RerunFrames.{input_of, rerun_frame}
 
 -- the inputs of frames
 abbrev pub inputs_of : List Frame → List CycleInput
@@ -45,13 +45,13 @@ module _ {S G E L P : Type 0} (m : Meaning S G E L P) (profile : ProfileValue) w
   unfoldable pub departs : ℕ → List CycleInput → List Frame → Option Difference
   departs number before [] = None
   departs number before (x ∷ xs) =
-      option_or (frame_difference number x (given_frame m profile before x)) (departs (suc number) (before ++ input_of x) xs)
+      option_or (frame_difference number x (rerun_frame m profile before x)) (departs (suc number) (before ++ input_of x) xs)
 
   -- how many frames come before it
   unfoldable pub agrees : ℕ → List CycleInput → List Frame → ℕ
   agrees number before [] = 0
   agrees number before (x ∷ xs) =
-      cond (is_none (frame_difference number x (given_frame m profile before x))) (suc (agrees (suc number) (before ++ input_of x) xs)) 0
+      cond (is_none (frame_difference number x (rerun_frame m profile before x))) (suc (agrees (suc number) (before ++ input_of x) xs)) 0
 
   -- ---- more frames after some
 
@@ -62,7 +62,7 @@ module _ {S G E L P : Type 0} (m : Meaning S G E L P) (profile : ProfileValue) w
   unfolding departs agrees
   departs-stays [] rest number before at e = absurd cc
   departs-stays (x ∷ xs) rest number before at e =
-      by (frame_difference number x (given_frame m profile before x)) (departs-stays xs rest (suc number) (before ++ input_of x) at) e
+      by (frame_difference number x (rerun_frame m profile before x)) (departs-stays xs rest (suc number) (before ++ input_of x) at) e
     where
       by : (o : Option Difference)
           → (departs (suc number) (before ++ input_of x) xs ≡ Some at
@@ -88,7 +88,7 @@ module _ {S G E L P : Type 0} (m : Meaning S G E L P) (profile : ProfileValue) w
         (λ i. agrees (same i) (sym (append-nil before) i) rest) ∙ sym none,
       )
   departs-on (x ∷ xs) rest number next before is e =
-      let o = frame_difference number x (given_frame m profile before x) in
+      let o = frame_difference number x (rerun_frame m profile before x) in
       let both = either-none o (departs (suc number) (before ++ input_of x) xs) e in
       let on : next ≡ suc number + length xs = omega (arith, is) in
       let later = departs-on xs rest (suc number) next (before ++ input_of x) on both.1 in
@@ -107,14 +107,14 @@ module _ {S G E L P : Type 0} (m : Meaning S G E L P) (profile : ProfileValue) w
   unfolding departs agrees
   agrees-all [] number before e = refl
   agrees-all (x ∷ xs) number before e =
-      let o = frame_difference number x (given_frame m profile before x) in
+      let o = frame_difference number x (rerun_frame m profile before x) in
       let both = either-none o (departs (suc number) (before ++ input_of x) xs) e in
       ap (λ (p : Option Difference). cond (is_none p) (suc (agrees (suc number) (before ++ input_of x) xs)) 0) both.0
       ∙ ap suc (agrees-all xs (suc number) (before ++ input_of x) both.1)
 
   -- the first frame decides
   pub departs-one : (x : Frame) (xs : List Frame) (number : ℕ) (before : List CycleInput) (at : Difference)
-      → frame_difference number x (given_frame m profile before x) ≡ Some at
+      → frame_difference number x (rerun_frame m profile before x) ≡ Some at
       → (departs number before (x ∷ xs) ≡ Some at) × (agrees number before (x ∷ xs) ≡ 0)
   unfolding departs agrees
   departs-one x xs number before at e = (
@@ -129,7 +129,7 @@ module _ {S G E L P : Type 0} (m : Meaning S G E L P) (profile : ProfileValue) w
   -- one frame more that is the one given
   pub departs-next : (front : List Frame) (x : Frame) (number next : ℕ) (before : List CycleInput) → next ≡ number + length front
       → departs number before front ≡ None
-      → frame_difference next x (given_frame m profile (before ++ inputs_of front) x) ≡ None
+      → frame_difference next x (rerun_frame m profile (before ++ inputs_of front) x) ≡ None
       → departs number before (front ++ x ∷ []) ≡ None
   unfolding departs
   departs-next front x number next before is none same =
@@ -141,29 +141,29 @@ module _ {S G E L P : Type 0} (m : Meaning S G E L P) (profile : ProfileValue) w
   -- frames and those of a run that are compared with them, in both forms
   abbrev pub AreSame : ℕ → List CycleInput → List Frame → List Frame → Type 0
   AreSame number before fs given =
-      (departure_from number fs given ≡ departs number before fs) × (agreeing number fs given ≡ agrees number before fs)
+      (departure_from number fs given ≡ departs number before fs) × (agreeing_count number fs given ≡ agrees number before fs)
 
   same-none : (number : ℕ) (before : List CycleInput) (given : List Frame) → AreSame number before [] given
-  unfolding departs agrees departure_from agreeing
+  unfolding departs agrees departure_from agreeing_count
   same-none number before given = (refl, refl)
 
-  same-next : (number : ℕ) (before : List CycleInput) (x y : Frame) (fs later : List Frame) → y ≡ given_frame m profile before x
+  same-next : (number : ℕ) (before : List CycleInput) (x y : Frame) (fs later : List Frame) → y ≡ rerun_frame m profile before x
       → AreSame (suc number) (before ++ input_of x) fs later → AreSame number before (x ∷ fs) (y ∷ later)
-  unfolding departs agrees departure_from agreeing
+  unfolding departs agrees departure_from agreeing_count
   same-next number before x y fs later is both = (
     ap (λ (g : Frame). option_or (frame_difference number x g) (departure_from (suc number) fs later)) is
-        ∙ ap (option_or (frame_difference number x (given_frame m profile before x))) both.0,
-    ap (λ (g : Frame). cond (is_none (frame_difference number x g)) (suc (agreeing (suc number) fs later)) 0) is
-        ∙ ap (λ (k : ℕ). cond (is_none (frame_difference number x (given_frame m profile before x))) (suc k) 0) both.1,
+        ∙ ap (option_or (frame_difference number x (rerun_frame m profile before x))) both.0,
+    ap (λ (g : Frame). cond (is_none (frame_difference number x g)) (suc (agreeing_count (suc number) fs later)) 0) is
+        ∙ ap (λ (k : ℕ). cond (is_none (frame_difference number x (rerun_frame m profile before x))) (suc k) 0) both.1,
   )
 
   -- the frames that a run gives from the Run frames on, in the state after these inputs
   abbrev rest_of : List CycleInput → State G E → List Frame → List Frame
-  rest_of before state fs = map as_run (runs_behind m profile before state (inputs_of fs)) ++ Terminate ∷ []
+  rest_of before state fs = map as_run (runs_after_inputs m profile before state (inputs_of fs)) ++ Terminate ∷ []
 
   in_runs : (layout : Layout) (count number : ℕ) (before : List CycleInput) (fs : List Frame) → AreInOrder (places.Runs layout count) fs
       → AreSame number before fs (rest_of before (state_of m profile before) fs)
-  unfolding runs_behind
+  unfolding runs_after_inputs
   in_runs layout count number before [] h = same-none number before _
   in_runs layout count number before (Run r ∷ fs) h =
       let state = state_of m profile before in
@@ -179,7 +179,7 @@ module _ {S G E L P : Type 0} (m : Meaning S G E L P) (profile : ProfileValue) w
 
   in_init : (layout : Layout) (fs : List Frame) → AreInOrder (places.Init layout) fs
       → AreSame 2 [] fs (Init (init_of m profile) ∷ rest_of [] (state_of m profile []) fs)
-  unfolding state_behind
+  unfolding state_after_inputs
   in_init layout [] h = same-none 2 [] _
   in_init layout (Init elements ∷ fs) h =
       same-next 2 [] (Init elements) (Init (init_of m profile)) fs (rest_of [] (state_of m profile []) fs) refl
@@ -204,5 +204,5 @@ module _ {S G E L P : Type 0} (m : Meaning S G E L P) (profile : ProfileValue) w
   -- frames in order are compared with those of the whole run that their inputs give
   pub all-same : (layout : Layout) (fs : List Frame) → AreInOrder (places.Register layout) fs
       → AreSame 0 [] fs (frames m profile (inputs_of fs) true)
-  unfolding state_behind
+  unfolding state_after_inputs
   all-same layout fs h = in_register layout fs h

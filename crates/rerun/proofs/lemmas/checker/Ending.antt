@@ -12,32 +12,32 @@ use Rattle.det_io.specs.declared.failure.Failure.TheVariants.{Read, Write, OutOf
 use Rattle.det_io.specs.declared.failure.Stopped.{Stopped}
 use Rattle.det_io.specs.declared.failure.Stopped.TheVariants.{Refused, Failed}
 use Rattle.job.specs.Meaning.{Meaning}
-use Rattle.record_grammar.specs.declared.fault.RecordFault.{RecordFault}
+use Rattle.record_grammar.specs.declared.record_fault.RecordFault.{RecordFault}
 use Rattle.record_grammar.specs.declared.item.Item.{Item}
 use Rattle.record_grammar.specs.declared.item.Item.TheVariants as items
 use Rattle.record_grammar.specs.Record.{items as items_in, fault as fault_in}
-use Rattle.record_reader.specs.declared.frames.FrameReader.{FrameReader}
+use Rattle.record_reader.specs.declared.frame_reader.FrameReader.{FrameReader}
 use Rattle.record_reader.specs.item_reader.StandsFor.{IsFaulty, FoundFault}
 use Rattle.record_reader.specs.Frames.{StandsFor}
-use Rattle.record_reader.specs.Taking.{OfSlot}
+use Rattle.record_reader.specs.ItemTaker.{OfSlot}
 use Rattle.record_reader.proofs.FrameReading.{more_items}
-use Rattle.record_reader.proofs.Taking.{told}
+use Rattle.record_reader.proofs.ItemTaker.{told}
 use Rattle.probes.specs.Reports.{AudienceState}
 use Rattle.probes.specs.Shows.{Shows, SawRuns}
 use Rattle.probes.proofs.Shown.{shows-then, all-reports}
 use Rattle.recorder.specs.declared.run_writer.recording.Recording.{Recording}
-use Rattle.rerun.specs.replayer.Again.{inputs}
+use Rattle.rerun.specs.replayer.ReplayRecord.{inputs}
 use Rattle.copies.specs.declared.difference.Difference.{Difference}
 use Rattle.copies.specs.FirstDifference.{frame_difference}
-use Rattle.rerun.specs.declared.checker.comparing.Checker.{Checker}
-use Rattle.rerun.specs.declared.checker.verdict.CheckVerdict.{CheckVerdict}
-use Rattle.rerun.specs.declared.checker.verdict.CheckVerdict.TheVariants.{Genuine, Departs}
+use Rattle.rerun.specs.declared.checker.frame_checker.FrameChecker.{FrameChecker}
+use Rattle.rerun.specs.declared.checker.check_verdict.CheckVerdict.{CheckVerdict}
+use Rattle.rerun.specs.declared.checker.check_verdict.CheckVerdict.TheVariants.{Genuine, Departs}
 use Rattle.rerun.specs.checker.Departure.{frames_in, run_of, departure, checked_runs}
 use Rattle.record_reader.specs.InItems.{frame_in}
-use Rattle.rerun.specs.checker.Given.{given_frame}
+use Rattle.rerun.specs.checker.RerunFrames.{rerun_frame}
 use Rattle.rerun.specs.checker.Needed.{IsNeeded}
-use Rattle.rerun.specs.checker.Verdict.{verdict_by, check_verdict}
-use Rattle.rerun.specs.checker.Checked.{Answers, ReadsTo, IsChecked}
+use Rattle.rerun.specs.checker.CheckVerdict.{verdict_by, check_verdict}
+use Rattle.rerun.specs.checker.CheckRun.{Answers, ReadsTo, IsChecked}
 use Rattle.rerun.proofs.lemmas.checker.Departing.{inputs_of, departs, departs-one}
 use Rattle.rerun.proofs.lemmas.checker.Records.{runs_of, inputs-are, frames-are, frames-behind, agree-all, agree-first, departs-at}
 use Rattle.rerun.proofs.lemmas.checker.Running.{items_with, Comparing, Next}
@@ -55,7 +55,7 @@ module _ {S G E L P : Type 0} (m : Meaning S G E L P) (profile : ProfileValue) w
   -- a record that begins with these items, of whose frames only the last one differs
   departed : (front others : List Frame) (frame : Frame) (at : Difference) (bytes : List ℕ) → frames_in bytes ≡ front ++ frame ∷ others
       → departs m profile 0 [] front ≡ None
-      → frame_difference (length front) frame (given_frame m profile (inputs_of front) frame) ≡ Some at
+      → frame_difference (length front) frame (rerun_frame m profile (inputs_of front) frame) ≡ Some at
       → (departure m profile bytes ≡ Some at) × (checked_runs m profile bytes ≡ runs_of front ++ run_of frame)
   departed front others frame at bytes is none differs =
       let one = departs-one m profile frame others (length front) (inputs_of front) at differs in
@@ -113,7 +113,7 @@ module _ {S G E L P : Type 0} (m : Meaning S G E L P) (profile : ProfileValue) w
         )
 
   module _ (slot : ℕ) (shelf : ShelfRun) (start : AudienceState) {mid : ShelfState} {seen : AudienceState} {old reader : FrameReader}
-      {recording : Recording S G E L P} {checker : Checker} {more : List ℕ} {front : List Frame}
+      {recording : Recording S G E L P} {checker : FrameChecker} {more : List ℕ} {front : List Frame}
       (comparing : Comparing m profile shelf.first mid slot start seen old reader recording checker more front)
       (next : FrameReader) (read : List ℕ) (stands : StandsFor old read (items.Header profile ∷ [])) where
     -- the record has a fault, or the reader failed
@@ -168,7 +168,7 @@ module _ {S G E L P : Type 0} (m : Meaning S G E L P) (profile : ProfileValue) w
     -- a frame differs
     pub one-differs : {shown : AudienceState} (frame : Frame) (at : Difference)
         → (n : Next m profile shelf.first shelf.last slot old next front (Ok (Some frame)))
-        → frame_difference checker.compared frame (given_frame m profile (inputs_of front) frame) ≡ Some at
+        → frame_difference checker.compared frame (rerun_frame m profile (inputs_of front) frame) ≡ Some at
         → Shows seen shown (run_of frame) → IsChecked m profile start shown read slot shelf (Ok (Departs at))
     one-differs {shown} frame at n differs shows =
         let is = n.is read stands in
@@ -185,8 +185,8 @@ module _ {S G E L P : Type 0} (m : Meaning S G E L P) (profile : ProfileValue) w
           saw (runs_of front ++ run_of frame) ((read ++ n.all) ++ rest) there.1 (shows-then comparing.shown shows),
         ))
       where
-        differs_at : frame_difference (length front) frame (given_frame m profile (inputs_of front) frame) ≡ Some at
-        differs_at = subst (λ (k : ℕ). frame_difference k frame (given_frame m profile (inputs_of front) frame) ≡ Some at)
+        differs_at : frame_difference (length front) frame (rerun_frame m profile (inputs_of front) frame) ≡ Some at
+        differs_at = subst (λ (k : ℕ). frame_difference k frame (rerun_frame m profile (inputs_of front) frame) ≡ Some at)
             comparing.compared differs
 
     -- it couldn't be shown or compared

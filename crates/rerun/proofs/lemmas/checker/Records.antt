@@ -28,7 +28,7 @@ use Rattle.record_reader.proofs.lemmas.item_reader.Needed.{while-weaker, while-t
 use Rattle.record_grammar.proofs.lemmas.record_laws.Whole.{IsStuck, reads}
 use Rattle.record_grammar.proofs.lemmas.record_laws.Growing.{items_grow}
 use Rattle.copies.specs.declared.difference.Difference.{Difference}
-use Rattle.rerun.specs.replayer.Again.{input_in}
+use Rattle.rerun.specs.replayer.ReplayRecord.{input_in}
 use Rattle.rerun.specs.checker.Departure.{frames_in, run_of, given_by, genuine_frames, departure, checked_runs}
 use Rattle.record_reader.specs.InItems.{frame_in}
 use Rattle.rerun.specs.checker.Needed.{IsNeeded}

@@ -12,7 +12,7 @@ use Rattle.det_io.specs.Shelf.{ShelfState, Reads, IsAtEnd}
 use Rattle.det_io.specs.declared.failure.Stopped.{Stopped}
 use Rattle.det_io.proofs.SlotReads.{reads-none, reads-then}
 use Rattle.job.specs.Meaning.{Meaning}
-use Rattle.record_grammar.specs.declared.fault.RecordFault.{RecordFault}
+use Rattle.record_grammar.specs.declared.record_fault.RecordFault.{RecordFault}
 use Rattle.record_grammar.specs.declared.item.Item.{Item}
 use Rattle.record_grammar.specs.declared.item.Item.TheVariants as items
 use Rattle.record_grammar.specs.declared.place.Place.{Place}
@@ -23,10 +23,10 @@ use Rattle.record_grammar.specs.Record.{items as items_in}
 use Rattle.record_grammar.proofs.Leads.{can_follow}
 use Rattle.record_grammar.proofs.Steady.{got_is}
 use Rattle.record_view.specs.declared.view.FrameView.{FrameView}
-use Rattle.record_reader.specs.declared.frames.FrameReader.{FrameReader}
+use Rattle.record_reader.specs.declared.frame_reader.FrameReader.{FrameReader}
 use Rattle.record_reader.specs.item_reader.StandsFor as inner
 use Rattle.record_reader.specs.Frames.{StandsFor, HasRead, FrameIs, GaveView, Holds, slot_of}
-use Rattle.record_reader.specs.Taking.{AreFirst}
+use Rattle.record_reader.specs.ItemTaker.{AreFirst}
 use Rattle.record_reader.proofs.Items.{NextIs, next_is, few_first, HasLayout, header_first}
 use Rattle.record_reader.proofs.FrameReading.{are_first}
 use Rattle.probes.specs.Reports.{AudienceState}
@@ -35,9 +35,9 @@ use Rattle.probes.proofs.Shown.{shows-none, shows-then}
 use Rattle.recorder.specs.declared.run_writer.recording.Recording.{Recording}
 use Rattle.rerun.proofs.lemmas.replayer.Items.{few-inputs}
 use Rattle.copies.specs.FirstDifference.{frame_difference}
-use Rattle.rerun.specs.declared.checker.comparing.Checker.{Checker}
+use Rattle.rerun.specs.declared.checker.frame_checker.FrameChecker.{FrameChecker}
 use Rattle.rerun.specs.checker.Departure.{run_of}
-use Rattle.rerun.specs.checker.Given.{IsBehind, CanCome, IsPlaced, input_of, given_frame}
+use Rattle.rerun.specs.checker.RerunFrames.{IsEngineAfter, CanCome, IsPlaced, input_of, rerun_frame}
 use Rattle.rerun.specs.checker.Needed.{IsNeeded}
 use Rattle.rerun.proofs.lemmas.checker.Departing.{inputs_of, departs, departs-none, departs-next}
 use Rattle.rerun.proofs.lemmas.checker.Records.{runs_of, inputs-are, frames-are, frames-behind, needed-then}
@@ -79,7 +79,8 @@ AnswersAs r (Ok None) (Ok None) = Unit {0}
 AnswersAs r (Err stop) (Err other) = stop ≡ other
 AnswersAs r answer other = ⊥
 
-pub gives : (r : FrameReader) (answer : Result (Option FrameView) (Stopped RecordFault)) (other : Result (Option Frame) (Stopped RecordFault))
+pub gives : (r : FrameReader) (answer : Result (Option FrameView) (Stopped RecordFault)) (other : Result (Option Frame) (Stopped
+    RecordFault))
     (at_end : Type 0) (read : List ℕ) (given : List Item) → AnswersAs r answer other → FrameIs answer r at_end read given
     → Gives other r at_end read given
 gives r (Ok (Some view)) (Ok (Some frame)) at_end read given fits is =
@@ -113,19 +114,19 @@ placed-at places.End profile x h k = absurd k
 module _ {S G E L P : Type 0} (m : Meaning S G E L P) (profile : ProfileValue) where
   -- after what `old` had read these bytes were read, and these frames compared; none differs
   pub record Comparing (first now : ShelfState) (slot : ℕ) (start seen : AudienceState) (old reader : FrameReader)
-      (recording : Recording S G E L P) (checker : Checker) (more : List ℕ) (front : List Frame) : Type 0 where
+      (recording : Recording S G E L P) (checker : FrameChecker) (more : List ℕ) (front : List Frame) : Type 0 where
     pub reads : Reads first now slot more
     pub needed : (read : List ℕ) → StandsFor old read (items.Header profile ∷ []) → IsNeeded m profile read more
     pub gave : (read : List ℕ) → StandsFor old read (items.Header profile ∷ [])
         → StandsFor reader (read ++ more) (items_with profile front)
-    pub behind : IsBehind m recording (inputs_of front)
+    pub behind : IsEngineAfter m recording (inputs_of front)
     pub agree : departs m profile 0 [] front ≡ None
     pub shown : Shows start seen (runs_of front)
     pub compared : checker.compared ≡ length front
     pub cycles : checker.cycles ≡ length (inputs_of front)
 
   pub comparing-new : (shelf : ShelfState) (seen : AudienceState) (reader : FrameReader) (recording : Recording S G E L P)
-      (checker : Checker) → IsBehind m recording [] → checker.compared ≡ 0 → checker.cycles ≡ 0
+      (checker : FrameChecker) → IsEngineAfter m recording [] → checker.compared ≡ 0 → checker.cycles ≡ 0
       → Comparing shelf shelf (slot_of reader) seen seen reader reader recording checker [] []
   comparing-new shelf seen reader recording checker behind compared cycles = record {
     reads = reads-none shelf (slot_of reader);
@@ -148,7 +149,7 @@ module _ {S G E L P : Type 0} (m : Meaning S G E L P) (profile : ProfileValue) w
         → Gives answer next (IsAtEnd now slot) (read ++ all) (items_with profile front)
 
   module _ {first mid : ShelfState} {slot : ℕ} {start seen : AudienceState} {old reader : FrameReader}
-      {recording : Recording S G E L P} {checker : Checker} {more : List ℕ} {front : List Frame}
+      {recording : Recording S G E L P} {checker : FrameChecker} {more : List ℕ} {front : List Frame}
       (comparing : Comparing first mid slot start seen old reader recording checker more front) where
     pub next-read : {now : ShelfState} (next : FrameReader) (answer : Result (Option FrameView) (Stopped RecordFault))
         (other : Result (Option Frame) (Stopped RecordFault)) → AnswersAs next answer other
@@ -209,12 +210,13 @@ module _ {S G E L P : Type 0} (m : Meaning S G E L P) (profile : ProfileValue) w
           let x : Item = items.Frame frame in
           let few = few-inputs (given ++ x ∷ []) first-items.place first-items.bytes first-items.rest first-items.leads in
           let all = inputs-are (given ++ x ∷ []) ∙ ap (λ (l : List Frame). inputs_of l) (frames-behind profile front (x ∷ []) _ refl)
-          ∙ flat_map-append input_of front (frame ∷ []) ∙ ap (λ (l : List CycleInput). inputs_of front ++ l) (append-nil (input_of frame)) in
+          ∙ flat_map-append input_of front (frame ∷ []) ∙ ap (λ (l : List CycleInput). inputs_of front
+          ++ l) (append-nil (input_of frame)) in
           let count = ap length all ∙ length-append (inputs_of front) (input_of frame) in
           omega (arith, few, count)
 
       -- where it is a Run frame, a cycle is left for it
-      pub can-come : (recording : Recording S G E L P) → IsBehind m recording (inputs_of front) → recording.profile ≡ profile
+      pub can-come : (recording : Recording S G E L P) → IsEngineAfter m recording (inputs_of front) → recording.profile ≡ profile
           → CanCome recording.engine.cycles (length recording.profile.events) frame
       can-come recording behind its =
           subst (λ (p : ProfileValue). CanCome recording.engine.cycles (length p.events) frame) (sym its)
@@ -230,10 +232,10 @@ module _ {S G E L P : Type 0} (m : Meaning S G E L P) (profile : ProfileValue) w
 
       -- it was compared, and agrees
       pub comparing-next : {mid : ShelfState} {start seen shown : AudienceState} {reader : FrameReader}
-          {recording ran : Recording S G E L P} {checker counted : Checker} {more : List ℕ}
+          {recording ran : Recording S G E L P} {checker counted : FrameChecker} {more : List ℕ}
           → Comparing first mid slot start seen old reader recording checker more front
-          → IsBehind m ran (inputs_of front ++ input_of frame)
-          → frame_difference checker.compared frame (given_frame m profile (inputs_of front) frame) ≡ None
+          → IsEngineAfter m ran (inputs_of front ++ input_of frame)
+          → frame_difference checker.compared frame (rerun_frame m profile (inputs_of front) frame) ≡ None
           → Shows seen shown (run_of frame)
           → counted.compared ≡ checker.compared + 1 → counted.cycles ≡ checker.cycles + length (run_of frame)
           → Comparing first now slot start shown old next ran counted n.all (front ++ frame ∷ [])
@@ -246,7 +248,7 @@ module _ {S G E L P : Type 0} (m : Meaning S G E L P) (profile : ProfileValue) w
             needed = n.needed;
             gave = λ bytes begins. subst (λ (l : List Item). StandsFor next (bytes ++ n.all) l) (items-next profile front frame)
                 (n.is bytes begins).0;
-            behind = subst (IsBehind m ran) (sym more_inputs) behind;
+            behind = subst (IsEngineAfter m ran) (sym more_inputs) behind;
             agree = departs-next m profile front frame 0 checker.compared [] (zero-compared h.compared) h.agree none;
             shown = subst (Shows start shown) (sym more_runs) (shows-then h.shown shows);
             compared = compared ∙ ap (λ k. k + 1) h.compared ∙ sym (length-append front (frame ∷ []));

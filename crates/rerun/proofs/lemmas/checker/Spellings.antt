@@ -19,7 +19,7 @@ use Rattle.record_view.specs.declared.view.FrameView.{FrameView}
 use Rattle.record_view.specs.Shows.{IsFrameSpelling, item_view, events_of}
 use Rattle.record_view.proofs.Spelled.{spelling_read}
 use Rattle.record_codec.proofs.Made.{may_stand}
-use Rattle.rerun.specs.checker.Given.{AreAlike, given_frame}
+use Rattle.rerun.specs.checker.RerunFrames.{AreAlike, rerun_frame}
 
 same-frame : (x y : Frame) → items.Frame x ≡ items.Frame y → x ≡ y
 same-frame x y e = cc
@@ -51,16 +51,16 @@ pub same-spelling : (view : FrameView) (read given : Frame) (bytes : List ℕ) �
 same-spelling view read given bytes few are h alike fields same =
     let m = may_stand (item_view view) (items.Frame read) bytes few are h in
     let spelling : List ℕ = spelled_frame (format_of view.place) given in
-    let again : item_at view.place (spelling ++ []) ≡ Got (items.Frame given, []) =
+    let replay_record : item_at view.place (spelling ++ []) ≡ Got (items.Frame given, []) =
     spelling_read view.place (items.Frame given) [] few (stands-too view.place read given m alike fields) in
     let once : item_at view.place bytes ≡ Got (items.Frame given, []) =
-    subst (λ (xs : List ℕ). item_at view.place xs ≡ got (items.Frame given, [])) (append-nil spelling ∙ same) again in
+    subst (λ (xs : List ℕ). item_at view.place xs ≡ got (items.Frame given, [])) (append-nil spelling ∙ same) replay_record in
     same-frame given read (ap (λ (p : Item × List ℕ). p.0)
     (got_is (items.Frame given, []) (items.Frame read, drop view.len bytes) (sym once ∙ h.shows.read)))
 
 -- what is given is of the kind of the frame that was read
 pub given-alike : {S G E L P : Type 0} (m : Meaning S G E L P) (profile : ProfileValue) (before : List CycleInput) (read : Frame)
-    → AreAlike read (given_frame m profile before read)
+    → AreAlike read (rerun_frame m profile before read)
 given-alike m profile before Register = tt
 given-alike m profile before Discover = tt
 given-alike m profile before (Init elements) = tt

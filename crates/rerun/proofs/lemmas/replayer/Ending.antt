@@ -19,20 +19,20 @@ use Rattle.det_io.proofs.Growth.{grew-then, grew-same, grew-then-short, part-who
 use Rattle.det_io.proofs.SlotReads.{reads-none}
 use Rattle.job.specs.Meaning.{Meaning}
 use Rattle.cycle_engine.specs.Frames.{runs}
-use Rattle.record_grammar.specs.declared.fault.RecordFault.{RecordFault}
+use Rattle.record_grammar.specs.declared.record_fault.RecordFault.{RecordFault}
 use Rattle.record_grammar.specs.declared.item.Item.{Item}
 use Rattle.record_grammar.specs.declared.item.Item.TheVariants as items
 use Rattle.record_grammar.specs.Record.{fault as fault_in}
 use Rattle.record_grammar.specs.Spelling.{spelled_frame}
-use Rattle.record_reader.specs.declared.frames.FrameReader.{FrameReader}
+use Rattle.record_reader.specs.declared.frame_reader.FrameReader.{FrameReader}
 use Rattle.record_reader.specs.Frames.{StandsFor}
 use Rattle.recorder.specs.declared.run_writer.counts.Counts.{Counts}
 use Rattle.recorder.specs.declared.run_writer.recording.Recording.{Recording}
 use Rattle.recorder.specs.run_writer.Record.{Counted, record_with, opening}
 use Rattle.recorder.specs.run_writer.Recording.{Cuts}
 use Rattle.recorder.proofs.lemmas.run_writer.Growing.{record-opened, record-next, record-ended, record-front}
-use Rattle.rerun.specs.replayer.Again.{input_in, inputs, is_whole, again}
-use Rattle.rerun.specs.replayer.Ends.{Finishes, Stops, Answers, ReadsTo, Ended}
+use Rattle.rerun.specs.replayer.ReplayRecord.{input_in, inputs, is_whole, replay_record}
+use Rattle.rerun.specs.replayer.ReplayEnds.{Finishes, Stops, Answers, ReadsTo, Ended}
 use Rattle.rerun.proofs.lemmas.replayer.Giving.{inputs-first}
 use Rattle.rerun.proofs.lemmas.replayer.Running.{IsNeeded, Running, Next, next_run}
 
@@ -57,32 +57,32 @@ module _ {S G E L P : Type 0} (m : Meaning S G E L P) (profile : ProfileValue) w
 
   -- ---- the record that is written
 
-  again-is : (bytes : List ℕ) (given : List CycleInput) (end : Option RecordFault) → inputs bytes ≡ given → fault_in bytes ≡ end
-      → again m profile bytes ≡ record_with m profile given (is_none end)
-  again-is bytes given end is ends =
+  replay_record-is : (bytes : List ℕ) (given : List CycleInput) (end : Option RecordFault) → inputs bytes ≡ given → fault_in bytes ≡ end
+      → replay_record m profile bytes ≡ record_with m profile given (is_none end)
+  replay_record-is bytes given end is ends =
       ap (λ (f : Option RecordFault). record_with m profile (inputs bytes) (is_none f)) ends
       ∙ ap (λ (xs : List CycleInput). record_with m profile xs (is_none end)) is
 
   within : (given : List CycleInput) (bytes : List ℕ) → IsPrefix given (inputs bytes)
-      → IsPrefix (record_with m profile given false) (again m profile bytes)
+      → IsPrefix (record_with m profile given false) (replay_record m profile bytes)
   within given bytes first = record-front m profile given (inputs bytes) (is_whole bytes) first
 
   part-of : (out : SinkRun) (given : List CycleInput) (bytes : List ℕ) → IsPrefix given (inputs bytes)
-      → Grew out.before out.after (record_with m profile given false) → GrewByPrefix out.before out.after (again m profile bytes)
+      → Grew out.before out.after (record_with m profile given false) → GrewByPrefix out.before out.after (replay_record m profile bytes)
   part-of out given bytes first grew =
-      part-wider out.before out.after (record_with m profile given false) (again m profile bytes)
+      part-wider out.before out.after (record_with m profile given false) (replay_record m profile bytes)
       (part-whole out.before out.after (record_with m profile given false) grew) (within given bytes first)
 
   short-of : (out : SinkRun) (given : List CycleInput) (bytes : List ℕ) → IsPrefix given (inputs bytes)
-      → GrewShort out.before out.after (record_with m profile given false) → GrewShort out.before out.after (again m profile bytes)
+      → GrewShort out.before out.after (record_with m profile given false) → GrewShort out.before out.after (replay_record m profile bytes)
   short-of out given bytes first grew =
-      short-wider out.before out.after (record_with m profile given false) (again m profile bytes) grew (within given bytes first)
+      short-wider out.before out.after (record_with m profile given false) (replay_record m profile bytes) grew (within given bytes first)
 
   stops-at : (out : SinkRun) (bytes : List ℕ) (given : List CycleInput) (fault : RecordFault) → inputs bytes ≡ given
       → fault_in bytes ≡ Some fault → Grew out.before out.after (record_with m profile given false) → Stops m profile bytes fault out
   stops-at out bytes given fault is has grew = record {
     has = has;
-    grew = subst (Grew out.before out.after) (sym (again-is bytes given (Some fault) is has)) grew;
+    grew = subst (Grew out.before out.after) (sym (replay_record-is bytes given (Some fault) is has)) grew;
   }
 
   -- ---- the results
@@ -95,7 +95,7 @@ module _ {S G E L P : Type 0} (m : Meaning S G E L P) (profile : ProfileValue) w
   open-failed read slot state stays out Write cut = ended (reads-none state slot) (inl refl) tt (λ rest end.
       short-of out [] ((read ++ []) ++ rest) (prefix-none _) (subst (GrewShort out.before out.after) (sym (record-opened m profile)) cut))
   open-failed read slot state stays out OutOfMemory cut = ended (reads-none state slot) (inl refl) tt (λ rest end.
-      part-none out.before out.after (again m profile ((read ++ []) ++ rest)) cut)
+      part-none out.before out.after (replay_record m profile ((read ++ []) ++ rest)) cut)
 
   module _ (slot : ℕ) (shelf : ShelfRun) (out : SinkRun) where
     module _ {mid : ShelfState} {took : List ℕ → Type 0} {old reader : FrameReader} {recording : Recording S G E L P} {more : List ℕ}
@@ -121,9 +121,9 @@ module _ {S G E L P : Type 0} (m : Meaning S G E L P) (profile : ProfileValue) w
       close-failed Read n cut = absurd cut
       close-failed Write n cut =
           let whole = (n.is read stands).1 in
-          let is = again-is (read ++ n.all) given None whole.inputs whole.whole ∙ record-ended m profile given in
+          let is = replay_record-is (read ++ n.all) given None whole.inputs whole.whole ∙ record-ended m profile given in
           ended n.reads (n.needed read stands) tt (λ rest end.
-          at_record (λ bytes. GrewShort out.before out.after (again m profile bytes)) (read ++ n.all) rest (end whole.end)
+          at_record (λ bytes. GrewShort out.before out.after (replay_record m profile bytes)) (read ++ n.all) rest (end whole.end)
           (subst (GrewShort out.before out.after) (sym is) (grew-then-short out.before took out.after _ _ running.grew cut)))
       close-failed OutOfMemory n cut = ended n.reads (n.needed read stands) tt (λ rest end.
           part-of out given ((read ++ n.all) ++ rest) (n.front read stands rest) (grew-same running.grew cut))
@@ -135,7 +135,7 @@ module _ {S G E L P : Type 0} (m : Meaning S G E L P) (profile : ProfileValue) w
           → Ended m profile (Ok counts) read n.all shelf slot out
       closed counts n counted grew =
           let whole = (n.is read stands).1 in
-          let is = again-is (read ++ n.all) given None whole.inputs whole.whole in
+          let is = replay_record-is (read ++ n.all) given None whole.inputs whole.whole in
           let finishes : Finishes m profile (read ++ n.all) counts out = record {
             whole = whole.whole;
             grew = subst (Grew out.before out.after) (sym (is ∙ record-ended m profile given)) (grew-then running.grew grew);

@@ -13,7 +13,7 @@ use Rattle.det_io.specs.declared.failure.Stopped.TheVariants.{Refused, Failed}
 use Rattle.det_io.specs.Prefix.{IsPrefix}
 use Rattle.det_io.specs.Shelf.{ShelfState, Reads, IsAtEnd}
 use Rattle.det_io.proofs.SlotReads.{reads-then}
-use Rattle.record_grammar.specs.declared.fault.RecordFault.{RecordFault}
+use Rattle.record_grammar.specs.declared.record_fault.RecordFault.{RecordFault}
 use Rattle.record_grammar.specs.declared.item.Item.{Item}
 use Rattle.record_grammar.specs.declared.item.Item.TheVariants as items
 use Rattle.record_grammar.specs.Record.{items as items_in, fault_so_far}
@@ -22,12 +22,12 @@ use Rattle.record_codec.specs.Filled.{InputFilled}
 use Rattle.record_reader.specs.item_reader.Needed.{ReadsWhile}
 use Rattle.record_reader.specs.item_reader.StandsFor.{FoundFault, ReadsIfNeeded}
 use Rattle.record_reader.proofs.lemmas.item_reader.Needed.{while-weaker, while-then}
-use Rattle.record_reader.specs.declared.frames.FrameReader.{FrameReader}
+use Rattle.record_reader.specs.declared.frame_reader.FrameReader.{FrameReader}
 use Rattle.record_reader.specs.Frames.{HasRead, FrameIs, GaveFrame, Holds, slot_of}
 use Rattle.record_reader.proofs.FrameReading.{are_first, more_items}
 use Rattle.record_reader.proofs.Items.{next_is}
-use Rattle.rerun.specs.replayer.Again.{input_in, inputs}
-use Rattle.rerun.specs.replayer.Giving.{HasGiven, HasAll, ReadsOn, InputIs}
+use Rattle.rerun.specs.replayer.ReplayRecord.{input_in, inputs}
+use Rattle.rerun.specs.replayer.NextInput.{HasGiven, HasAll, ReadsOn, InputIs}
 use Rattle.rerun.proofs.lemmas.replayer.Items.{inputs-next, few-inputs, known-input}
 
 -- the inputs of a record, by its items

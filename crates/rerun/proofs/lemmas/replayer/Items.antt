@@ -13,7 +13,7 @@ use Rattle.record_grammar.specs.Places.{after, CanFollow}
 use Rattle.record_grammar.specs.Leads.{Leads}
 use Rattle.record_grammar.proofs.Leads.{can_follow}
 use Rattle.record_reader.proofs.Items.{NextIs}
-use Rattle.rerun.specs.replayer.Again.{input_in}
+use Rattle.rerun.specs.replayer.ReplayRecord.{input_in}
 
 -- one item more
 pub inputs-next : (xs : List Item) (x : Item) → flat_map input_in (xs ++ x ∷ []) ≡ flat_map input_in xs ++ input_in x

@@ -19,21 +19,21 @@ use Rattle.det_io.proofs.Growth.{grew-then}
 use Rattle.det_io.proofs.SlotReads.{reads-none, reads-then}
 use Rattle.job.specs.Meaning.{Meaning}
 use Rattle.cycle_engine.specs.Frames.{frame_of, state_of}
-use Rattle.record_grammar.specs.declared.fault.RecordFault.{RecordFault}
+use Rattle.record_grammar.specs.declared.record_fault.RecordFault.{RecordFault}
 use Rattle.record_grammar.specs.declared.item.Item.TheVariants as items
 use Rattle.record_grammar.specs.Record.{fault_so_far}
 use Rattle.record_grammar.specs.Spelling.{spelled_frame}
 use Rattle.record_reader.specs.item_reader.Needed.{ReadsWhile}
 use Rattle.record_reader.proofs.lemmas.item_reader.Needed.{while-weaker, while-then}
-use Rattle.record_reader.specs.declared.frames.FrameReader.{FrameReader}
+use Rattle.record_reader.specs.declared.frame_reader.FrameReader.{FrameReader}
 use Rattle.record_reader.specs.Frames.{StandsFor, slot_of}
 use Rattle.recorder.specs.declared.run_writer.counts.Counts.{Counts}
 use Rattle.recorder.specs.declared.run_writer.recording.Recording.{Recording}
 use Rattle.recorder.specs.run_writer.Record.{record_with, opening}
-use Rattle.recorder.specs.run_writer.Recording.{Cuts, Stands, Ran}
+use Rattle.recorder.specs.run_writer.Recording.{Cuts, IsRecordingAfter, Ran}
 use Rattle.recorder.proofs.lemmas.run_writer.Growing.{record-opened, record-next}
-use Rattle.rerun.specs.replayer.Again.{inputs}
-use Rattle.rerun.specs.replayer.Giving.{HasGiven, HasAll, ReadsOn, InputIs}
+use Rattle.rerun.specs.replayer.ReplayRecord.{inputs}
+use Rattle.rerun.specs.replayer.NextInput.{HasGiven, HasAll, ReadsOn, InputIs}
 use Rattle.rerun.proofs.lemmas.replayer.Giving.{inputs-first}
 
 -- what the reader returns, for every record whose header it gave
@@ -51,7 +51,7 @@ module _ {S G E L P : Type 0} (m : Meaning S G E L P) (profile : ProfileValue) w
     pub reads : Reads first now slot more
     pub needed : (read : List ℕ) → StandsFor old read (items.Header profile ∷ []) → IsNeeded read more
     pub gave : (read : List ℕ) → StandsFor old read (items.Header profile ∷ []) → HasGiven profile reader (read ++ more) given
-    pub stands : Stands m recording given
+    pub stands : IsRecordingAfter m recording given
     pub grew : Grew before took (record_with m profile given false)
 
   -- the frame of the run after these inputs
@@ -59,7 +59,7 @@ module _ {S G E L P : Type 0} (m : Meaning S G E L P) (profile : ProfileValue) w
   next_run given input = frame_of m profile given (state_of m profile given) input
 
   pub running-opened : (shelf : ShelfState) (before took : List ℕ → Type 0) (reader : FrameReader) (recording : Recording S G E L P)
-      → Stands m recording [] → Grew before took (opening m profile)
+      → IsRecordingAfter m recording [] → Grew before took (opening m profile)
       → Running shelf shelf (slot_of reader) before took reader reader recording [] []
   running-opened shelf before took reader recording opened grew = record {
     reads = reads-none shelf (slot_of reader);
@@ -134,7 +134,7 @@ module _ {S G E L P : Type 0} (m : Meaning S G E L P) (profile : ProfileValue) w
   no-write (Failed OutOfMemory) read stands n sink t = record { cause = λ e. cc; counted = t.counted }
 
   -- fewer than 1,000,000 cycles were run before the next one
-  pub few-cycles : {recording : Recording S G E L P} {given : List CycleInput} (input : CycleInput) → Stands m recording given
+  pub few-cycles : {recording : Recording S G E L P} {given : List CycleInput} (input : CycleInput) → IsRecordingAfter m recording given
       → length (given ++ input ∷ []) ≤ 1000000 → recording.engine.cycles < 1000000
   few-cycles {given = given} input stands few =
       let cycles = stands.engine.cycles in let one = length-append given (input ∷ []) in omega arith

@@ -16,28 +16,28 @@ use Rattle.det_io.specs.declared.failure.Stopped.TheVariants.{Refused, Failed}
 use Rattle.det_io.proofs.Growth.{grew-then, grew-same, grew-then-short, part-whole, part-wider, part-none, short-wider}
 use Rattle.det_io.proofs.SlotReads.{reads-none}
 use Rattle.job.specs.Meaning.{Meaning}
-use Rattle.record_grammar.specs.declared.fault.RecordFault.{RecordFault}
+use Rattle.record_grammar.specs.declared.record_fault.RecordFault.{RecordFault}
 use Rattle.record_grammar.specs.declared.item.Item.{Item}
 use Rattle.record_grammar.specs.declared.item.Item.TheVariants as items
 use Rattle.record_grammar.specs.Record.{items as items_in, fault as fault_in}
 use Rattle.record_grammar.specs.Spelling.{spelled, spelled_frame}
-use Rattle.record_reader.specs.declared.frames.FrameReader.{FrameReader}
+use Rattle.record_reader.specs.declared.frame_reader.FrameReader.{FrameReader}
 use Rattle.record_reader.specs.item_reader.StandsFor.{IsFaulty}
 use Rattle.record_reader.specs.Frames.{StandsFor}
-use Rattle.record_reader.proofs.Taking.{told}
+use Rattle.record_reader.proofs.ItemTaker.{told}
 use Rattle.copies.specs.declared.difference.Difference.{Difference}
 use Rattle.recorder.specs.declared.run_writer.recording.Recording.{Recording}
 use Rattle.recorder.specs.run_writer.Recording.{Cuts}
-use Rattle.rerun.specs.replayer.Again.{inputs}
-use Rattle.rerun.specs.declared.checker.verdict.CheckVerdict.{CheckVerdict}
-use Rattle.rerun.specs.declared.checker.verdict.CheckVerdict.TheVariants.{Genuine, Departs}
+use Rattle.rerun.specs.replayer.ReplayRecord.{inputs}
+use Rattle.rerun.specs.declared.checker.check_verdict.CheckVerdict.{CheckVerdict}
+use Rattle.rerun.specs.declared.checker.check_verdict.CheckVerdict.TheVariants.{Genuine, Departs}
 use Rattle.rerun.specs.checker.Departure.{departure}
 use Rattle.record_reader.specs.InItems.{frame_in}
 use Rattle.rerun.specs.checker.Needed.{IsNeeded}
-use Rattle.rerun.specs.checker.Verdict.{verdict_by, check_verdict}
+use Rattle.rerun.specs.checker.CheckVerdict.{verdict_by, check_verdict}
 use Rattle.rerun.specs.upgrader.Frames.{Takes}
-use Rattle.rerun.specs.upgrader.Upgraded.{in_format_two, upgraded_with, upgraded}
-use Rattle.rerun.specs.upgrader.Ends.{Answers, ReadsTo, Ended, IsUpgraded}
+use Rattle.rerun.specs.upgrader.UpgradedRecord.{in_format_two, upgraded_with, upgraded}
+use Rattle.rerun.specs.upgrader.UpgradeEnds.{Answers, ReadsTo, Ended, IsUpgraded}
 use Rattle.rerun.proofs.lemmas.checker.Departing.{inputs_of}
 use Rattle.rerun.proofs.lemmas.upgrader.Order.{AreFrames, are_frames}
 use Rattle.rerun.proofs.lemmas.upgrader.Records.{Agree, agree-next, so_far, so_far-first, header-first, Departed, departed, AllDone}

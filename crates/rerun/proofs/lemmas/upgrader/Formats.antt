@@ -5,7 +5,7 @@ use Rattle.std.specs.List.{flat_map}
 use Rattle.std.proofs.lemmas.Grind.{flat_map-append}
 use Rattle.det_values.specs.Values.{ProfileValue}
 use Rattle.std.proofs.lemmas.List.Elements.{All-map}
-use Rattle.det_values.specs.Frames.{in_format, outcome_in_format, undrawn}
+use Rattle.det_values.specs.Frames.{in_format, outcome_in_format, without_draws}
 use Rattle.det_values.specs.declared.format.Format.{Format}
 use Rattle.det_values.specs.declared.format.Format.TheVariants.{One, Two}
 use Rattle.det_values.specs.declared.frames.DrawnElement.{DrawnElement}
@@ -17,18 +17,18 @@ use Rattle.det_values.specs.declared.frames.Frame.{Frame}
 use Rattle.det_values.specs.declared.frames.Frame.TheVariants.{Register, Discover, Init, Run, Terminate}
 use Rattle.job.specs.Meaning.{Meaning}
 use Rattle.job.specs.Cycle.{State, state_after, outcome_of}
-use Rattle.cycle_engine.specs.Frames.{first_state, job_of, cycle_of, state_behind, runs, init_of, frames}
+use Rattle.cycle_engine.specs.Frames.{first_state, job_of, cycle_of, state_after_inputs, runs, init_of, frames}
 use Rattle.record_grammar.specs.Spelling.{spelled, spelled_header, spelled_frame, CanSpell, MayDrawAll}
-use Rattle.rerun.specs.checker.Given.{AreAlike, given_frame}
+use Rattle.rerun.specs.checker.RerunFrames.{AreAlike, rerun_frame}
 use Rattle.rerun.specs.upgrader.Frames.{unless_last}
-use Rattle.rerun.specs.upgrader.Upgraded.{in_format_two}
+use Rattle.rerun.specs.upgrader.UpgradedRecord.{in_format_two}
 use Rattle.rerun.proofs.lemmas.upgrader.Genuine.{as_run}
 
 module _ {S G E L P : Type 0} (m : Meaning S G E L P) (profile : ProfileValue) where
   -- a run's states don't depend on its format
   state_same : (before : List CycleInput) (state : State G E) (inputs : List CycleInput)
-      → state_behind m (in_format_two profile) before state inputs ≡ state_behind m profile before state inputs
-  unfolding state_behind
+      → state_after_inputs m (in_format_two profile) before state inputs ≡ state_after_inputs m profile before state inputs
+  unfolding state_after_inputs
   state_same before state [] = refl
   state_same before state (input ∷ inputs) =
       state_same (before ++ input ∷ []) (state_after state (cycle_of m profile before state input)) inputs
@@ -37,18 +37,18 @@ module _ {S G E L P : Type 0} (m : Meaning S G E L P) (profile : ProfileValue) w
   two_keeps o = refl
 
   -- what is given in a record's own format is what its format keeps of what is given in format 2
-  pub given_in : (before : List CycleInput) (x : Frame)
-      → in_format profile.format (given_frame m (in_format_two profile) before x) ≡ given_frame m profile before x
-  given_in before Register = refl
-  given_in before Discover = refl
-  given_in before (Init elements) =
+  pub rerun_frame_in : (before : List CycleInput) (x : Frame)
+      → in_format profile.format (rerun_frame m (in_format_two profile) before x) ≡ rerun_frame m profile before x
+  rerun_frame_in before Register = refl
+  rerun_frame_in before Discover = refl
+  rerun_frame_in before (Init elements) =
       ap (λ (s : State G E). Init (map (m.shown (job_of m profile)) s.elements)) (state_same [] (first_state m profile) before)
-  given_in before (Run r) =
+  rerun_frame_in before (Run r) =
       ap (λ (s : State G E). Run (record {
         input = r.input;
         outcome = outcome_in_format profile.format (outcome_of (cycle_of m profile before s r.input));
       })) (state_same [] (first_state m profile) before)
-  given_in before Terminate = refl
+  rerun_frame_in before Terminate = refl
 
 -- ---- frames but Terminate
 
@@ -89,8 +89,8 @@ kept-frames m profile inputs n =
 
 -- what is written in the place of a frame
 pub spelled-kept : {S G E L P : Type 0} (m : Meaning S G E L P) (profile other : ProfileValue) (before : List CycleInput) (x : Frame)
-    → flat_map (spelled_frame other.format) (kept_of (given_frame m profile before x))
-    ≡ unless_last x (spelled_frame other.format (given_frame m profile before x))
+    → flat_map (spelled_frame other.format) (kept_of (rerun_frame m profile before x))
+    ≡ unless_last x (spelled_frame other.format (rerun_frame m profile before x))
 spelled-kept m profile other before Register = append-nil _
 spelled-kept m profile other before Discover = append-nil _
 spelled-kept m profile other before (Init elements) = append-nil _
@@ -106,7 +106,7 @@ spelled-append profile xs ys =
 -- ---- what a format can spell
 
 may-draw : (format : Format) (outcome : Outcome) → MayDrawAll format (outcome_in_format format outcome)
-may-draw One (Finished elements output) = All-map (λ (e : DrawnElement). e.draws ≡ 0) undrawn elements (λ k d lt. refl)
+may-draw One (Finished elements output) = All-map (λ (e : DrawnElement). e.draws ≡ 0) without_draws elements (λ k d lt. refl)
 may-draw Two (Finished elements output) = λ k d lt. tt
 may-draw One (Refused at) = tt
 may-draw Two (Refused at) = tt

@@ -8,12 +8,12 @@ use Rattle.det_values.specs.declared.frames.Frame.{Frame}
 use Rattle.det_values.specs.declared.frames.Frame.TheVariants.{Register, Discover, Init, Run, Terminate}
 use Rattle.job.specs.Meaning.{Meaning}
 use Rattle.job.specs.Cycle.{State}
-use Rattle.cycle_engine.specs.Frames.{frames, frame_of, state_of, state_behind, runs_behind, init_of}
+use Rattle.cycle_engine.specs.Frames.{frames, frame_of, state_of, state_after_inputs, runs_after_inputs, init_of}
 use Rattle.cycle_engine.proofs.Standing.{state_of-append}
 use Rattle.record_grammar.specs.declared.place.Layout.{Layout}
 use Rattle.record_grammar.specs.declared.place.Place.{Place}
 use Rattle.record_grammar.specs.declared.place.Place.TheVariants as places
-use Rattle.rerun.specs.checker.Given.{input_of, given_frame}
+use Rattle.rerun.specs.checker.RerunFrames.{input_of, rerun_frame}
 use Rattle.rerun.proofs.lemmas.checker.Departing.{inputs_of}
 use Rattle.rerun.proofs.lemmas.upgrader.Order.{Follow}
 
@@ -24,7 +24,7 @@ module _ {S G E L P : Type 0} (m : Meaning S G E L P) (profile : ProfileValue) w
   -- in the places of these frames, which come after inputs
   abbrev pub given_frames : List CycleInput → List Frame → List Frame
   given_frames before [] = []
-  given_frames before (x ∷ xs) = given_frame m profile before x ∷ given_frames (before ++ input_of x) xs
+  given_frames before (x ∷ xs) = rerun_frame m profile before x ∷ given_frames (before ++ input_of x) xs
 
   pub given-length : (before : List CycleInput) (xs : List Frame) → length (given_frames before xs) ≡ length xs
   given-length before [] = refl
@@ -34,7 +34,7 @@ module _ {S G E L P : Type 0} (m : Meaning S G E L P) (profile : ProfileValue) w
       → given_frames before (xs ++ ys) ≡ given_frames before xs ++ given_frames (before ++ inputs_of xs) ys
   given-append before [] ys = ap (λ (b : List CycleInput). given_frames b ys) (sym (append-nil before))
   given-append before (x ∷ xs) ys =
-      ap (λ (gs : List Frame). given_frame m profile before x ∷ gs)
+      ap (λ (gs : List Frame). rerun_frame m profile before x ∷ gs)
       (given-append (before ++ input_of x) xs ys
       ∙ ap (λ (b : List CycleInput). given_frames (before ++ input_of x) xs ++ given_frames b ys)
       (append_assoc before (input_of x) (inputs_of xs)))
@@ -49,9 +49,9 @@ module _ {S G E L P : Type 0} (m : Meaning S G E L P) (profile : ProfileValue) w
 
   -- the frames after these inputs
   abbrev runs_from : List CycleInput → List CycleInput → List Frame
-  runs_from before later = map as_run (runs_behind m profile before (state_of m profile before) later) ++ Terminate ∷ []
+  runs_from before later = map as_run (runs_after_inputs m profile before (state_of m profile before) later) ++ Terminate ∷ []
 
-  given-one : (before : List CycleInput) (x g : Frame) (xs all : List Frame) (to : Place) → given_frame m profile before x ≡ g
+  given-one : (before : List CycleInput) (x g : Frame) (xs all : List Frame) (to : Place) → rerun_frame m profile before x ≡ g
       → AreGiven (before ++ input_of x) xs to all → AreGiven before (x ∷ xs) to (g ∷ all)
   given-one before x g xs all to is h = record {
     rest = h.rest;
@@ -62,14 +62,14 @@ module _ {S G E L P : Type 0} (m : Meaning S G E L P) (profile : ProfileValue) w
   runs-next : (before : List CycleInput) (input : CycleInput) (later : List CycleInput)
       → Run (frame_of m profile before (state_of m profile before) input) ∷ runs_from (before ++ input ∷ []) later
       ≡ runs_from before (input ∷ later)
-  unfolding runs_behind
+  unfolding runs_after_inputs
   runs-next before input later =
       ap (λ (s : State G E). Run (frame_of m profile before (state_of m profile before) input)
-      ∷ (map as_run (runs_behind m profile (before ++ input ∷ []) s later) ++ Terminate ∷ []))
+      ∷ (map as_run (runs_after_inputs m profile (before ++ input ∷ []) s later) ++ Terminate ∷ []))
       (state_of-append m profile before input)
 
   runs-end : (before : List CycleInput) → Terminate ∷ [] ≡ runs_from before []
-  unfolding runs_behind
+  unfolding runs_after_inputs
   runs-end before = refl
 
   given-runs : (xs : List Frame) (layout : Layout) (k : ℕ) (to : Place) (before : List CycleInput)
@@ -89,8 +89,8 @@ module _ {S G E L P : Type 0} (m : Meaning S G E L P) (profile : ProfileValue) w
   given-runs (Discover ∷ xs) layout k to before h = absurd h.0
   given-runs (Init elements ∷ xs) layout k to before h = absurd h.0
 
-  init-given : (elements : List (List ℕ)) → given_frame m profile [] (Init elements) ≡ Init (init_of m profile)
-  unfolding state_behind
+  init-given : (elements : List (List ℕ)) → rerun_frame m profile [] (Init elements) ≡ Init (init_of m profile)
+  unfolding state_after_inputs
   init-given elements = refl
 
   given-init : (xs : List Frame) (layout : Layout) (to : Place) → Follow (places.Init layout) xs to
@@ -125,7 +125,7 @@ module _ {S G E L P : Type 0} (m : Meaning S G E L P) (profile : ProfileValue) w
   -- of frames in order the inputs give the first frames of their run, and all of them where they end it
   pub given-first : (xs : List Frame) (layout : Layout) (to : Place) → Follow (places.Register layout) xs to
       → AreGiven [] xs to (frames m profile (inputs_of xs) true)
-  unfolding state_behind
+  unfolding state_after_inputs
   given-first [] layout to h = record {
     rest = frames m profile [] true;
     first = refl;

@@ -22,36 +22,36 @@ use Rattle.det_io.proofs.Growth.{grew-then}
 use Rattle.det_io.proofs.SlotReads.{reads-none, reads-then}
 use Rattle.job.specs.Meaning.{Meaning}
 use Rattle.cycle_engine.specs.Engine.{EngineState}
-use Rattle.record_grammar.specs.declared.fault.RecordFault.{RecordFault}
+use Rattle.record_grammar.specs.declared.record_fault.RecordFault.{RecordFault}
 use Rattle.record_grammar.specs.declared.item.Item.{Item}
 use Rattle.record_grammar.specs.declared.item.Item.TheVariants as items
 use Rattle.record_grammar.specs.Spelling.{spelled, spelled_frame}
 use Rattle.record_grammar.proofs.Leads.{can_follow}
 use Rattle.record_view.specs.declared.view.FrameView.{FrameView}
-use Rattle.record_reader.specs.declared.frames.FrameReader.{FrameReader}
+use Rattle.record_reader.specs.declared.frame_reader.FrameReader.{FrameReader}
 use Rattle.record_reader.specs.Frames.{StandsFor, HasRead, FrameIs, slot_of}
-use Rattle.record_reader.specs.Taking.{AreFirst}
+use Rattle.record_reader.specs.ItemTaker.{AreFirst}
 use Rattle.record_reader.proofs.Items.{NextIs, next_is, few_first, header_first}
 use Rattle.record_reader.proofs.FrameReading.{are_first, more_items}
 use Rattle.copies.specs.declared.difference.Difference.{Difference}
 use Rattle.copies.specs.FirstDifference.{frame_difference}
 use Rattle.recorder.specs.declared.run_writer.recording.Recording.{Recording}
 use Rattle.recorder.specs.run_writer.Recording.{IsNew, Cuts}
-use Rattle.rerun.specs.replayer.Again.{input_in}
+use Rattle.rerun.specs.replayer.ReplayRecord.{input_in}
 use Rattle.rerun.proofs.lemmas.replayer.Items.{few-inputs}
 use Rattle.record_reader.specs.InItems.{frame_in}
-use Rattle.rerun.specs.checker.Given.{IsBehind, CanCome, IsPlaced, input_of, given_frame}
+use Rattle.rerun.specs.checker.RerunFrames.{IsEngineAfter, CanCome, IsPlaced, input_of, rerun_frame}
 use Rattle.rerun.specs.checker.Needed.{IsNeeded}
-use Rattle.rerun.specs.declared.checker.verdict.CheckVerdict.{CheckVerdict}
+use Rattle.rerun.specs.declared.checker.check_verdict.CheckVerdict.{CheckVerdict}
 use Rattle.rerun.proofs.lemmas.checker.Departing.{inputs_of, departs-none}
 use Rattle.rerun.proofs.lemmas.checker.Records.{inputs-are, needed-then}
 use Rattle.rerun.proofs.lemmas.checker.Running.{Gives, AnswersAs, gives, placed-at}
 use Rattle.rerun.specs.declared.upgrader.original.Original.{Original}
 use Rattle.rerun.specs.upgrader.Frames.{Takes, unless_last}
-use Rattle.rerun.specs.upgrader.Begun.{header_of}
-use Rattle.rerun.specs.upgrader.Upgraded.{in_format_two}
+use Rattle.rerun.specs.upgrader.UpgradeStart.{header_of}
+use Rattle.rerun.specs.upgrader.UpgradedRecord.{in_format_two}
 use Rattle.rerun.proofs.lemmas.upgrader.Order.{few_frames, AreFrames, are_frames}
-use Rattle.rerun.proofs.lemmas.upgrader.Formats.{given_in, spelled-kept}
+use Rattle.rerun.proofs.lemmas.upgrader.Formats.{rerun_frame_in, spelled-kept}
 use Rattle.rerun.proofs.lemmas.upgrader.Records.{Agree, agree-next, so_far, so_far-next}
 
 -- ---- the run of format 2
@@ -61,7 +61,7 @@ pub two-is : (original : Original) (profile : ProfileValue) → profile.format �
 two-is original profile two = ap (λ (f : Format). record profile { format = f }) two
 
 pub new-behind : {S G E L P : Type 0} (m : Meaning S G E L P) (old new : Recording S G E L P) → IsNew m old → new.engine ≡ old.engine
-    → new.profile ≡ old.profile → IsBehind m new []
+    → new.profile ≡ old.profile → IsEngineAfter m new []
 new-behind {S} {G} {E} m old new h engine profile = record {
   engine = rw (engine, profile) h.engine;
   going = ap (λ (e : EngineState S G E). e.stopped) engine ∙ h.going;
@@ -69,7 +69,7 @@ new-behind {S} {G} {E} m old new h engine profile = record {
 
 -- writing changes nothing of a run
 pub written-behind : {S G E L P : Type 0} (m : Meaning S G E L P) (old new : Recording S G E L P) (given : List CycleInput)
-    → IsBehind m old given → new.engine ≡ old.engine → new.profile ≡ old.profile → IsBehind m new given
+    → IsEngineAfter m old given → new.engine ≡ old.engine → new.profile ≡ old.profile → IsEngineAfter m new given
 written-behind {S} {G} {E} m old new given h engine profile = record {
   engine = rw (engine, profile) h.engine;
   going = ap (λ (e : EngineState S G E). e.stopped) engine ∙ h.going;
@@ -145,12 +145,12 @@ module _ {S G E L P : Type 0} (m : Meaning S G E L P) (profile : ProfileValue) w
     pub reads : Reads first now slot more
     pub needed : (read : List ℕ) → StandsFor old read (items.Header profile ∷ []) → IsNeeded m profile read more
     pub gone : (read : List ℕ) → StandsFor old read (items.Header profile ∷ []) → HasGone profile reader (read ++ more) done
-    pub behind : IsBehind m recording (inputs_of done)
+    pub behind : IsEngineAfter m recording (inputs_of done)
     pub agree : Agree m profile done
     pub grew : Grew before took (spelled two (so_far m profile done))
 
   pub running-begun : (shelf : ShelfState) (before took : List ℕ → Type 0) (reader : FrameReader) (recording : Recording S G E L P)
-      → IsBehind m recording [] → Grew before took (spelled two [])
+      → IsEngineAfter m recording [] → Grew before took (spelled two [])
       → Running shelf shelf (slot_of reader) before took reader reader recording [] []
   running-begun shelf before took reader recording behind grew = record {
     reads = reads-none shelf (slot_of reader);
@@ -226,7 +226,7 @@ module _ {S G E L P : Type 0} (m : Meaning S G E L P) (profile : ProfileValue) w
         let sum = length-append is.0 (items.Frame frame ∷ []) in
         omega arith
 
-    pub comes : (recording : Recording S G E L P) → IsBehind m recording (inputs_of done)
+    pub comes : (recording : Recording S G E L P) → IsEngineAfter m recording (inputs_of done)
         → recording.profile ≡ two → CanCome recording.engine.cycles (length recording.profile.events) frame
     comes recording behind same =
         let is = n.is read stands in
@@ -258,30 +258,30 @@ module _ {S G E L P : Type 0} (m : Meaning S G E L P) (profile : ProfileValue) w
 
   -- the difference of a frame from what is given in its place, in the record's format
   abbrev pub differs : List Frame → Frame → Option Difference
-  differs done frame = frame_difference (length done) frame (given_frame m profile (inputs_of done) frame)
+  differs done frame = frame_difference (length done) frame (rerun_frame m profile (inputs_of done) frame)
 
   -- what is written in the place of a frame
   abbrev pub piece : List Frame → Frame → List ℕ
-  piece done frame = unless_last frame (spelled_frame two.format (given_frame m two (inputs_of done) frame))
+  piece done frame = unless_last frame (spelled_frame two.format (rerun_frame m two (inputs_of done) frame))
 
   -- what a result says of a frame, in these terms
   pub takes-as : (answer result : Result (Option Difference) Failure) (number : ℕ) (format : Format) (other : ProfileValue)
       (done : List Frame) (frame : Frame) (goes_on : Type 0) (out : SinkRun) → answer ≡ result → number ≡ length done
       → format ≡ profile.format → other ≡ two
-      → Takes answer (frame_difference number frame (in_format format (given_frame m other (inputs_of done) frame)))
-      (unless_last frame (spelled_frame other.format (given_frame m other (inputs_of done) frame))) goes_on out
+      → Takes answer (frame_difference number frame (in_format format (rerun_frame m other (inputs_of done) frame)))
+      (unless_last frame (spelled_frame other.format (rerun_frame m other (inputs_of done) frame))) goes_on out
       → Takes result (differs done frame) (piece done frame) goes_on out
   takes-as answer result number format other done frame goes_on out is at in_format_of same h =
-      let differ : frame_difference number frame (in_format format (given_frame m other (inputs_of done) frame)) ≡ differs done frame =
-      (λ i. frame_difference (at i) frame (in_format (in_format_of i) (given_frame m (same i) (inputs_of done) frame)))
-      ∙ ap (frame_difference (length done) frame) (given_in m profile (inputs_of done) frame) in
+      let differ : frame_difference number frame (in_format format (rerun_frame m other (inputs_of done) frame)) ≡ differs done frame =
+      (λ i. frame_difference (at i) frame (in_format (in_format_of i) (rerun_frame m (same i) (inputs_of done) frame)))
+      ∙ ap (frame_difference (length done) frame) (rerun_frame_in m profile (inputs_of done) frame) in
       subst (λ (d : Option Difference). Takes result d (piece done frame) goes_on out) differ
       (subst (λ (q : ProfileValue). Takes result
-      (frame_difference number frame (in_format format (given_frame m other (inputs_of done) frame)))
-      (unless_last frame (spelled_frame q.format (given_frame m q (inputs_of done) frame))) goes_on out) same
+      (frame_difference number frame (in_format format (rerun_frame m other (inputs_of done) frame)))
+      (unless_last frame (spelled_frame q.format (rerun_frame m q (inputs_of done) frame))) goes_on out) same
       (subst (λ (r : Result (Option Difference) Failure). Takes r (frame_difference number frame (in_format format
-      (given_frame m other (inputs_of done) frame)))
-      (unless_last frame (spelled_frame other.format (given_frame m other (inputs_of done) frame))) goes_on out) is h))
+      (rerun_frame m other (inputs_of done) frame)))
+      (unless_last frame (spelled_frame other.format (rerun_frame m other (inputs_of done) frame))) goes_on out) is h))
 
   pub so_far-grows : (done : List Frame) (frame : Frame)
       → spelled two (so_far m profile (done ++ frame ∷ [])) ≡ spelled two (so_far m profile done) ++ piece done frame
@@ -296,13 +296,13 @@ module _ {S G E L P : Type 0} (m : Meaning S G E L P) (profile : ProfileValue) w
       → Running first mid slot before took old reader recording more done → (next : FrameReader) (frame : Frame)
       → (n : Next first now slot old next done (Ok (Some frame))) (later : Recording S G E L P) (after : List ℕ → Type 0)
       → differs done frame ≡ None → Grew took after (piece done frame)
-      → IsBehind m later (inputs_of done ++ input_of frame)
+      → IsEngineAfter m later (inputs_of done ++ input_of frame)
       → Running first now slot before after old next later n.all (done ++ frame ∷ [])
   running-next {before = before} {done = done} running next frame n later after same grew behind = record {
     reads = n.reads;
     needed = n.needed;
     gone = λ read stands. gone-next frame n read stands;
-    behind = subst (IsBehind m later)
+    behind = subst (IsEngineAfter m later)
         (sym (inputs-next done frame)) behind;
     agree = agree-next m profile done frame running.agree same;
     grew = subst (Grew before after) (sym (so_far-grows done frame)) (grew-then running.grew grew);

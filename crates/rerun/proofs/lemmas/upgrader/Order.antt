@@ -15,7 +15,7 @@ use Rattle.record_grammar.specs.Leads.{Leads}
 use Rattle.record_grammar.specs.Record.{items as items_in, fault as fault_in, fault_from, ending_at, Decoded, Ending, whole, early, faulty}
 use Rattle.record_grammar.specs.Record.{with_next, decoded, decoded_all}
 use Rattle.record_grammar.proofs.Leads.{can_follow}
-use Rattle.rerun.specs.replayer.Again.{input_in, inputs}
+use Rattle.rerun.specs.replayer.ReplayRecord.{input_in, inputs}
 use Rattle.rerun.specs.checker.Departure.{frames_in}
 use Rattle.record_reader.specs.InItems.{frame_in}
 use Rattle.rerun.proofs.lemmas.checker.Departing.{inputs_of}

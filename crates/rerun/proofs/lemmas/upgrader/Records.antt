@@ -17,12 +17,12 @@ use Rattle.record_grammar.specs.Spelling.{spelled, spelled_header, spelled_frame
 use Rattle.record_grammar.specs.Record.{fault as fault_in}
 use Rattle.copies.specs.declared.difference.Difference.{Difference}
 use Rattle.copies.specs.FirstDifference.{frame_difference}
-use Rattle.rerun.specs.replayer.Again.{inputs}
+use Rattle.rerun.specs.replayer.ReplayRecord.{inputs}
 use Rattle.rerun.specs.checker.Departure.{departure, genuine_frames}
-use Rattle.rerun.specs.checker.Given.{given_frame}
+use Rattle.rerun.specs.checker.RerunFrames.{rerun_frame}
 use Rattle.rerun.proofs.lemmas.checker.Departing.{inputs_of, departs, agrees, departs-on, departs-one, departs-next, agrees-all}
 use Rattle.rerun.proofs.lemmas.checker.Records.{departure-is, genuine-is}
-use Rattle.rerun.specs.upgrader.Upgraded.{in_format_two, upgraded_with}
+use Rattle.rerun.specs.upgrader.UpgradedRecord.{in_format_two, upgraded_with}
 use Rattle.rerun.proofs.lemmas.upgrader.Order.{AreFrames}
 use Rattle.rerun.proofs.lemmas.upgrader.Genuine.{given_frames, given-length, given-append, given-first}
 use Rattle.rerun.proofs.lemmas.upgrader.Formats.{kept, kept-frames, kept-append, spelled-append}
@@ -44,7 +44,7 @@ module _ {S G E L P : Type 0} (m : Meaning S G E L P) (profile : ProfileValue) w
 
   -- one frame more
   pub agree-next : (done : List Frame) (x : Frame) → Agree done
-      → frame_difference (length done) x (given_frame m profile (inputs_of done) x) ≡ None → Agree (done ++ x ∷ [])
+      → frame_difference (length done) x (rerun_frame m profile (inputs_of done) x) ≡ None → Agree (done ++ x ∷ [])
   agree-next done x agree same = departs-next m profile done x 0 (length done) [] (omega arith) agree same
 
   -- the frames after them decide
@@ -131,7 +131,7 @@ module _ {S G E L P : Type 0} (m : Meaning S G E L P) (profile : ProfileValue) w
 
   pub departed : (bytes : List ℕ) (done more : List Frame) (x : Frame) (at : Difference) (ended : Bool)
       → AreFrames profile bytes (done ++ x ∷ more) → Agree done
-      → frame_difference (length done) x (given_frame m profile (inputs_of done) x) ≡ Some at → Departed bytes done at ended
+      → frame_difference (length done) x (rerun_frame m profile (inputs_of done) x) ≡ Some at → Departed bytes done at ended
   departed bytes done more x at ended are agree differs =
       let behind = genuine-done bytes done (x ∷ more) are agree in
       let first = departs-one m profile x more (length done) (inputs_of done) at differs in
@@ -185,10 +185,10 @@ module _ {S G E L P : Type 0} (m : Meaning S G E L P) (profile : ProfileValue) w
 pub so_far-next : {S G E L P : Type 0} (m : Meaning S G E L P) (profile : ProfileValue) (done : List Frame) (x : Frame)
     → spelled (in_format_two profile) (so_far m profile (done ++ x ∷ []))
     ≡ spelled (in_format_two profile) (so_far m profile done)
-    ++ flat_map (spelled_frame (in_format_two profile).format) (kept (given_frame m (in_format_two profile) (inputs_of done) x ∷ []))
+    ++ flat_map (spelled_frame (in_format_two profile).format) (kept (rerun_frame m (in_format_two profile) (inputs_of done) x ∷ []))
 so_far-next m profile done x =
     ap (λ (gs : List Frame). spelled (in_format_two profile) (kept gs)) (given-append m (in_format_two profile) [] done (x ∷ []))
     ∙ ap (λ (fs : List Frame). spelled (in_format_two profile) fs)
-    (kept-append (given_frames m (in_format_two profile) [] done) (given_frame m (in_format_two profile) (inputs_of done) x ∷ []))
+    (kept-append (given_frames m (in_format_two profile) [] done) (rerun_frame m (in_format_two profile) (inputs_of done) x ∷ []))
     ∙ spelled-append (in_format_two profile) (so_far m profile done)
-    (kept (given_frame m (in_format_two profile) (inputs_of done) x ∷ []))
+    (kept (rerun_frame m (in_format_two profile) (inputs_of done) x ∷ []))

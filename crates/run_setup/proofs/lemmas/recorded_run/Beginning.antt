@@ -7,26 +7,26 @@ use Rattle.det_io.specs.declared.failure.Stopped.{Stopped}
 use Rattle.det_io.specs.declared.failure.Stopped.TheVariants.{Refused, Failed}
 use Rattle.record_reader.specs.Frames.{slot_of}
 use Rattle.cli_answers.specs.declared.answer.Answer.{Answer}
-use Rattle.cli_answers.specs.Outcome.{Outcome, Meets, Tells, told}
+use Rattle.cli_answers.specs.Outcome.{Outcome, Meets, KnowsBytes, known_bytes}
 use Rattle.run_setup.specs.declared.recorded_run.bad_run.BadRun.{BadRun}
-use Rattle.run_setup.specs.declared.recorded_run.run.RecordedRun.{RecordedRun}
+use Rattle.run_setup.specs.declared.recorded_run.open_run.RecordedRun.{RecordedRun}
 use Rattle.run_setup.specs.recorded_run.Run.{RunValue, run_of}
-use Rattle.run_setup.specs.recorded_run.Begun.{HasBegun}
+use Rattle.run_setup.specs.recorded_run.OpenedRun.{HasBegun}
 use Rattle.run_setup.proofs.lemmas.recorded_run.Resting.{rest, rest-told}
 
 -- a run meets any outcome that is the same where the bytes of the names are known
-meets-as : (wanted other : Outcome) (tells tells2 rose rose2 failed : Type 0) (before after : List ℕ → Type 0) (answer : Answer)
-    → (tells2 → tells) → (tells2 → other ≡ wanted) → (rose → rose2)
-    → Meets wanted tells rose failed before after answer → Meets other tells2 rose2 failed before after answer
-meets-as wanted other tells tells2 rose rose2 failed before after answer t same r m = record {
+meets-as : (wanted other : Outcome) (is_known tells2 rose rose2 failed : Type 0) (before after : List ℕ → Type 0) (answer : Answer)
+    → (tells2 → is_known) → (tells2 → other ≡ wanted) → (rose → rose2)
+    → Meets wanted is_known rose failed before after answer → Meets other tells2 rose2 failed before after answer
+meets-as wanted other is_known tells2 rose rose2 failed before after answer t same r m = record {
   part = λ x. rw (same x) (m.part (t x));
   whole = λ x. rw (same x) (m.whole (t x));
   read_fault = λ e. r (m.read_fault e);
   write_fault = λ e. m.write_fault e;
 }
 
-pub tells-name : (shelf : ShelfState) (name : List ℕ) → Tells shelf (name ∷ []) → IsSome (shelf.holds name)
-tells-name shelf name t = t 0 name (omega arith)
+pub is_known-name : (shelf : ShelfState) (name : List ℕ) → KnowsBytes shelf (name ∷ []) → IsSome (shelf.holds name)
+is_known-name shelf name t = t 0 name (omega arith)
 
 -- what the header names
 abbrev as_run : RecordedRun → Result RunValue BadRun
@@ -34,26 +34,27 @@ as_run run = Ok (record { kind = run.kind; profile = run.profile })
 
 -- `wanted` is the command's outcome of the bytes of a record, by the run that its header names
 module _ (wanted : List ℕ → Result RunValue BadRun → Outcome) {first mid : ShelfState} {name : List ℕ} {run : RecordedRun}
-    (begun : HasBegun first mid name run) (is : IsSome (first.holds name) → run_of (told first name) ≡ as_run run) where
+    (begun : HasBegun first mid name run) (is : IsSome (first.holds name) → run_of (known_bytes first name) ≡ as_run run) where
   outcome-is : IsSome (first.holds name)
-      → wanted (told first name) (run_of (told first name)) ≡ wanted (begun.read ++ rest begun) (as_run run)
-  outcome-is tells =
-      ap (wanted (told first name)) (is tells)
-      ∙ ap (λ (bytes : List ℕ). wanted bytes (as_run run)) (sym (rest-told begun tells).1)
+      → wanted (known_bytes first name) (run_of (known_bytes first name)) ≡ wanted (begun.read ++ rest begun) (as_run run)
+  outcome-is is_known =
+      ap (wanted (known_bytes first name)) (is is_known)
+      ∙ ap (λ (bytes : List ℕ). wanted bytes (as_run run)) (sym (rest-told begun is_known).1)
 
   -- what the rest of the record gives is what the whole record does
   pub meets-told : (rose rose2 failed : Type 0) (before after : List ℕ → Type 0) (answer : Answer) → (rose → rose2)
       → Meets (wanted (begun.read ++ rest begun) (as_run run)) (mid.left (slot_of run.frames) ≡ Some (rest begun)) rose failed
       before after answer
-      → Meets (wanted (told first name) (run_of (told first name))) (Tells first (name ∷ [])) rose2 failed before after answer
+      → Meets (wanted (known_bytes first name) (run_of (known_bytes first name))) (KnowsBytes first (name
+      ∷ [])) rose2 failed before after answer
   meets-told rose rose2 failed before after answer later met =
-      meets-as (wanted (begun.read ++ rest begun) (as_run run)) (wanted (told first name) (run_of (told first name)))
-      (mid.left (slot_of run.frames) ≡ Some (rest begun)) (Tells first (name ∷ [])) rose rose2 failed before after answer
-      (λ t. (rest-told begun (tells-name first name t)).0) (λ t. outcome-is (tells-name first name t)) later met
+      meets-as (wanted (begun.read ++ rest begun) (as_run run)) (wanted (known_bytes first name) (run_of (known_bytes first name)))
+      (mid.left (slot_of run.frames) ≡ Some (rest begun)) (KnowsBytes first (name ∷ [])) rose rose2 failed before after answer
+      (λ t. (rest-told begun (is_known-name first name t)).0) (λ t. outcome-is (is_known-name first name t)) later met
 
 -- why there is no run, where the bytes of the name are known
 pub if-refused : (first : ShelfState) (name : List ℕ) (end : Stopped BadRun)
-    → IfRefused end (λ why. IsSome (first.holds name) → run_of (told first name) ≡ Err why)
-    → IfRefused end (λ why. Tells first (name ∷ []) → run_of (told first name) ≡ Err why)
-if-refused first name (Refused why) bad = λ t. bad (tells-name first name t)
+    → IfRefused end (λ why. IsSome (first.holds name) → run_of (known_bytes first name) ≡ Err why)
+    → IfRefused end (λ why. KnowsBytes first (name ∷ []) → run_of (known_bytes first name) ≡ Err why)
+if-refused first name (Refused why) bad = λ t. bad (is_known-name first name t)
 if-refused first name (Failed failure) bad = bad

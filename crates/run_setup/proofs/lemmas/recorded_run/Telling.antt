@@ -10,15 +10,15 @@ use Rattle.det_io.specs.declared.failure.Stopped.TheVariants.{Refused}
 use Rattle.record_grammar.specs.declared.item.Item.{Item}
 use Rattle.record_grammar.specs.declared.item.Item.TheVariants.{Header}
 use Rattle.record_grammar.specs.Record.{fault as fault_in}
-use Rattle.record_reader.specs.declared.frames.FrameReader.{FrameReader}
-use Rattle.record_reader.specs.declared.frames.OpenRecord.{OpenRecord}
+use Rattle.record_reader.specs.declared.frame_reader.FrameReader.{FrameReader}
+use Rattle.record_reader.specs.declared.frame_reader.OpenRecord.{OpenRecord}
 use Rattle.record_reader.specs.Frames.{StandsFor, HasOpened}
 use Rattle.record_reader.proofs.FrameReading.{more_items}
-use Rattle.cli_answers.specs.Outcome.{told}
-use Rattle.cli_answers.proofs.Telling.{read-part}
+use Rattle.cli_answers.specs.Outcome.{known_bytes}
+use Rattle.cli_answers.proofs.KnownBytes.{read-part}
 use Rattle.run_setup.specs.declared.recorded_run.bad_run.BadRun.{BadRun}
 use Rattle.run_setup.specs.declared.recorded_run.bad_run.BadRun.TheVariants.{Profile}
-use Rattle.run_setup.specs.declared.recorded_run.run.RecordedRun.{RecordedRun}
+use Rattle.run_setup.specs.declared.recorded_run.open_run.RecordedRun.{RecordedRun}
 use Rattle.run_setup.specs.recorded_run.Run.{RunValue, kind_of, run_by, run_of}
 
 -- a profile with the kind that takes it
@@ -26,12 +26,12 @@ abbrev pub run_with : Option JobKind → ProfileValue → Result RunValue BadRun
 run_with kind p = ok_or (option_map (λ (k : JobKind). record { kind = k; profile = p }) kind) Profile
 
 module _ (first : ShelfState) {opened last : ShelfState} (name : List ℕ) {slot : ℕ} {read : List ℕ}
-    (opens : Opens first opened name slot) (reads : Reads opened last slot read) (tells : IsSome (first.holds name)) where
+    (opens : Opens first opened name slot) (reads : Reads opened last slot read) (is_known : IsSome (first.holds name)) where
   -- the header that was given is the record's
   pub told-header : {r : FrameReader} (p : ProfileValue) (kind : Option JobKind) → StandsFor r read (Header p ∷ []) → kind ≡ kind_of p
-      → run_of (told first name) ≡ run_with kind p
+      → run_of (known_bytes first name) ≡ run_with kind p
   told-header {r} p kind gave is =
-      let rest = read-part first opened last name slot read opens reads tells in
+      let rest = read-part first opened last name slot read opens reads is_known in
       let more = more_items r read (Header p ∷ []) gave rest.0 in
       ap run_of (sym rest.1) ∙ ap (λ (xs : List Item). run_by xs (fault_in (read ++ rest.0))) more.1
       ∙ ap (λ (k : Option JobKind). run_with k p) (sym is)
@@ -42,16 +42,16 @@ module _ (first : ShelfState) {opened last : ShelfState} (name : List ℕ) {slot
   pub told-run : (result : Result RecordedRun (Stopped BadRun)) → IfOk result (λ run. kind_of found.profile ≡ Some run.kind)
       → IfOk result (λ run. run.profile ≡ found.profile)
       → IfOk result (λ run. IsSome (first.holds name)
-      → run_of (told first name) ≡ Ok (record { kind = run.kind; profile = run.profile }))
-  told-run (Ok run) kind profile = λ tells.
-      told-header first name opens h.reads tells found.profile (Some run.kind) h.is.0 (sym kind)
+      → run_of (known_bytes first name) ≡ Ok (record { kind = run.kind; profile = run.profile }))
+  told-run (Ok run) kind profile = λ is_known.
+      told-header first name opens h.reads is_known found.profile (Some run.kind) h.is.0 (sym kind)
       ∙ ap (run_with (Some run.kind)) (sym profile)
   told-run (Err end) kind profile = tt
 
   -- no job takes the profile of the header that was given
   pub told-no-job : (result : Result RecordedRun (Stopped BadRun)) → IfErr result (λ end. kind_of found.profile ≡ None)
       → IfErr result (λ end. end ≡ Refused Profile)
-      → IfErr result (λ end. IfRefused end (λ why. IsSome (first.holds name) → run_of (told first name) ≡ Err why))
+      → IfErr result (λ end. IfRefused end (λ why. IsSome (first.holds name) → run_of (known_bytes first name) ≡ Err why))
   told-no-job (Ok run) none is = tt
   told-no-job (Err end) none is =
-      rw is (λ tells. told-header first name opens h.reads tells found.profile None h.is.0 (sym none))
+      rw is (λ is_known. told-header first name opens h.reads is_known found.profile None h.is.0 (sym none))

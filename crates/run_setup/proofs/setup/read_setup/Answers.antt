@@ -1,8 +1,8 @@
 use Rattle.std.proofs.Common.{◌≡◌, ◌∙◌, inl, inr, arith}
 use Rattle.std.specs.Prelude.{IsSome}
-use Rattle.cli_answers.specs.Outcome.{told}
+use Rattle.cli_answers.specs.Outcome.{known_bytes}
 use Rattle.cli_answers.proofs.Keeping.{keeps-stay, keeps-read}
-use Rattle.cli_answers.proofs.Telling.{whole-text}
+use Rattle.cli_answers.proofs.KnownBytes.{whole-text}
 use Rattle.run_setup.proofs.Reading.{told-ok, told-err, told-too-long, takes}
 use Rattle.run_setup.proofs.setup.read_setup.Goals as goal
 
@@ -31,9 +31,10 @@ returns-clause-manifest g c =
     let first = g.S.Slots.sees c.args.shelf.now in
     let name = c.args.name.now in
     let read = c.in-Ok.ensures.ok in
-    let same : IsSome (first.holds name) → c.deref.result.now ≡ told first name = λ tells.
-    c.deref.ensures.value ∙ whole-text first _ _ name c.in_ok-slot.slot c.in-Ok.text.items c.in_ok-slot.ensures.opens read.0 read.1 tells in
-    told-ok c.args.strict c.deref.result.now (told first name)
+    let same : IsSome (first.holds name) → c.deref.result.now ≡ known_bytes first name = λ is_known.
+    c.deref.ensures.value ∙ whole-text first _ _ name c.in_ok-slot.slot c.in-Ok.text.items c.in_ok-slot.ensures.opens read.0 read.1 is_known
+    in
+    told-ok c.args.strict c.deref.result.now (known_bytes first name)
     (IsSome (first.holds name)) same c.setup_of.result c.setup_of.ensures.manifest
 
 pub returns-clause-refused : goal.returns-clause-refused
@@ -41,9 +42,10 @@ returns-clause-refused g c =
     let first = g.S.Slots.sees c.args.shelf.now in
     let name = c.args.name.now in
     let read = c.in-Ok.ensures.ok in
-    let same : IsSome (first.holds name) → c.deref.result.now ≡ told first name = λ tells.
-    c.deref.ensures.value ∙ whole-text first _ _ name c.in_ok-slot.slot c.in-Ok.text.items c.in_ok-slot.ensures.opens read.0 read.1 tells in
-    told-err c.args.strict c.deref.result.now (told first name)
+    let same : IsSome (first.holds name) → c.deref.result.now ≡ known_bytes first name = λ is_known.
+    c.deref.ensures.value ∙ whole-text first _ _ name c.in_ok-slot.slot c.in-Ok.text.items c.in_ok-slot.ensures.opens read.0 read.1 is_known
+    in
+    told-err c.args.strict c.deref.result.now (known_bytes first name)
     (IsSome (first.holds name)) same c.setup_of.result c.setup_of.ensures.refused
 
 pub returns-in_err-slot-clause-earlier : goal.returns-in_err-slot-clause-earlier

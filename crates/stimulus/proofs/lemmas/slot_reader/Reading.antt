@@ -9,35 +9,36 @@ use Rattle.det_io.specs.declared.failure.Stopped.TheVariants.{Refused, Failed}
 use Rattle.det_io.specs.Traffic.{ShelfRun, ShelfTraffic, failure_in}
 use Rattle.det_io.proofs.SlotReads.{reads-then}
 use Rattle.det_values.specs.declared.frames.CycleInput.{CycleInput}
-use Rattle.stimulus.specs.declared.item.StimError.{StimError}
-use Rattle.stimulus.specs.declared.item.StimError.TheVariants as errors
-use Rattle.stimulus.specs.declared.item.StimFault.{StimFault}
-use Rattle.stimulus.specs.declared.item.StimItem.{StimItem}
-use Rattle.stimulus.specs.declared.item.StimItem.TheVariants as items
-use Rattle.stimulus.specs.declared.reader.StimReader.{StimReader}
+use Rattle.stimulus.specs.declared.stimulus_item.StimulusError.{StimulusError}
+use Rattle.stimulus.specs.declared.stimulus_item.StimulusError.TheVariants as errors
+use Rattle.stimulus.specs.declared.stimulus_item.StimulusFault.{StimulusFault}
+use Rattle.stimulus.specs.declared.stimulus_item.StimulusItem.{StimulusItem}
+use Rattle.stimulus.specs.declared.stimulus_item.StimulusItem.TheVariants as items
+use Rattle.stimulus.specs.declared.parser.StimulusParser.{StimulusParser}
 use Rattle.stimulus.specs.Reading.{Terminated, BadLine, blocks, ending, inputs_of}
 use Rattle.stimulus.specs.StandsFor.{StandsFor as Stands, NextIs}
 use Rattle.stimulus.proofs.Growing.{inputs_then, inputs_end, stands_within, blocks_grow}
-use Rattle.stimulus.specs.declared.slot_reader.reader.StimulusReader.{StimulusReader}
+use Rattle.stimulus.specs.declared.slot_reader.stimulus_reader.StimulusReader.{StimulusReader}
 use Rattle.stimulus.specs.slot_reader.StandsFor.{StandsFor, InputIs, IsNext, HasAll, IsWhole, IsBad, ReadsIfNeeded, slot_of, events_of}
 use Rattle.stimulus.specs.slot_reader.Steps.{stopped_by, FedIs, Hungers, GaveAll}
 
 -- ---- what was fed
 
 -- the result of the text's reader, by all that it stands for
-abbrev pub Answers : Result (Option StimItem) StimError → StimReader → StimReader → Type 0
-Answers answer old new = (bytes : List ℕ) (given : List StimItem) → Stands old bytes given → NextIs answer new bytes given
+abbrev pub Answers : Result (Option StimulusItem) StimulusError → StimulusParser → StimulusParser → Type 0
+Answers answer old new = (bytes : List ℕ) (given : List StimulusItem) → Stands old bytes given → NextIs answer new bytes given
 
-pub answers-as : (answer other : Result (Option StimItem) StimError) (old new : StimReader) → answer ≡ other → Answers answer old new
+pub answers-as : (answer other : Result (Option StimulusItem) StimulusError) (old new : StimulusParser) → answer ≡ other
+    → Answers answer old new
     → Answers other old new
 answers-as answer other old new is next = subst (λ a. Answers a old new) is next
 
-pub item-is : (item : Option StimItem) (x y : StimItem) → item ≡ Some x → x ≡ y
-    → ◌≡◌ {A = Result (Option StimItem) StimError} (Ok item) (Ok (Some y))
+pub item-is : (item : Option StimulusItem) (x y : StimulusItem) → item ≡ Some x → x ≡ y
+    → ◌≡◌ {A = Result (Option StimulusItem) StimulusError} (Ok item) (Ok (Some y))
 item-is item x y p q = ap Ok (p ∙ ap Some q)
 
 -- the inputs of the returned items come first
-comes-first : (r : StimReader) (read : List ℕ) (items : List StimItem) (given : List CycleInput) → Stands r read items
+comes-first : (r : StimulusParser) (read : List ℕ) (items : List StimulusItem) (given : List CycleInput) → Stands r read items
     → inputs_of items ≡ given → IsPrefix given (blocks r.events read)
 comes-first r read items given stands is = subst (λ xs. IsPrefix xs (blocks r.events read)) is (stands_within r read items stands)
 
@@ -79,7 +80,8 @@ fed-all r r' read given next h =
     }
 
 -- a bad line, or no memory
-pub fed-stopped : (error : StimError) (r r' : StimulusReader) (read : List ℕ) (given : List CycleInput) → Answers (Err error) r.text r'.text
+pub fed-stopped : (error : StimulusError) (r r' : StimulusReader) (read : List ℕ) (given : List CycleInput)
+    → Answers (Err error) r.text r'.text
     → StandsFor r read given
     → InputIs (Err (stopped_by error)) r' ⊥ read given
 fed-stopped (errors.Bad fault) r r' read given next h =
@@ -97,7 +99,7 @@ pub took-none : (n : ℕ) (buf : List ℕ) → n ≡ 0 → take n buf ≡ []
 took-none n buf e = ap (λ (k : ℕ). take k buf) e
 
 pub ended-whole : (r : StimulusReader) (at_end : Type 0) (read : List ℕ) (given : List CycleInput) → at_end
-    → ((items : List StimItem) → Stands r.text read items → ending r.text.events read ≡ Terminated)
+    → ((items : List StimulusItem) → Stands r.text read items → ending r.text.events read ≡ Terminated)
     → GaveAll r read given → InputIs (Ok None) r at_end read given
 ended-whole r at_end read given at finish h = (
   h.stands,
@@ -105,15 +107,16 @@ ended-whole r at_end read given at finish h = (
       { blocks = h.all.blocks; ending = finish h.stands.items h.stands.reads; end = at },
 )
 
-pub ended-bad : (fault : StimFault) (r : StimulusReader) (at_end : Type 0) (read : List ℕ) (given : List CycleInput) → at_end
-    → ((items : List StimItem) → Stands r.text read items → ending r.text.events read ≡ BadLine fault.line)
+pub ended-bad : (fault : StimulusFault) (r : StimulusReader) (at_end : Type 0) (read : List ℕ) (given : List CycleInput) → at_end
+    → ((items : List StimulusItem) → Stands r.text read items → ending r.text.events read ≡ BadLine fault.line)
     → GaveAll r read given → InputIs (Err (Refused fault)) r at_end read given
 ended-bad fault r at_end read given at finish h = record
     { blocks = h.all.blocks; ending = finish h.stands.items h.stands.reads; found = inr at }
 
 -- a piece was fed
 pub fed-on : (r r' : StimulusReader) (piece read : List ℕ) (given : List CycleInput)
-    → ((bytes : List ℕ) (items : List StimItem) → Stands r.text bytes items → Stands r'.text (bytes ++ piece) items) → GaveAll r read given
+    → ((bytes : List ℕ) (items : List StimulusItem) → Stands r.text bytes items → Stands r'.text (bytes ++ piece) items)
+    → GaveAll r read given
     → StandsFor r' (read ++ piece) given
 fed-on r r' piece read given fed h = record {
   items = h.stands.items;
@@ -168,7 +171,7 @@ read-then {mid = mid} {after = after} old at Q same events p q = (
 )
 
 -- how what was fed stopped is how the reader stops
-pub stops-as : (why : Stopped StimFault) (r : StimulusReader) (at_end : Type 0) (read : List ℕ) (given : List CycleInput)
+pub stops-as : (why : Stopped StimulusFault) (r : StimulusReader) (at_end : Type 0) (read : List ℕ) (given : List CycleInput)
     → InputIs (Err why) r ⊥ read given → InputIs (Err why) r at_end read given
 stops-as (Refused fault) r at_end read given h = record
     { blocks = h.blocks; ending = h.ending; found = elim h.found [ inl bad ↦ inl bad | inr none ↦ absurd none ] }
@@ -179,14 +182,14 @@ stops-as (Failed OutOfMemory) r at_end read given h = h
 -- ---- which way it goes
 
 -- what was fed stopped, and no read failed
-pub no-read : (why : Stopped StimFault) (r : StimulusReader) (run : ShelfRun) → Hungers (Err why) r → ShelfTraffic run None
+pub no-read : (why : Stopped StimulusFault) (r : StimulusReader) (run : ShelfRun) → Hungers (Err why) r → ShelfTraffic run None
     → ShelfTraffic run (failure_in {A = Option CycleInput} (Err why))
 no-read (Refused fault) r run h t = t
 no-read (Failed Read) r run h t = absurd h
 no-read (Failed Write) r run h t = record { cause = λ e. cc; counted = t.counted; stays = t.stays }
 no-read (Failed OutOfMemory) r run h t = record { cause = λ e. cc; counted = t.counted; stays = t.stays }
 
-pub stops-unread : (error : StimError) (r : StimulusReader) → Hungers (Err (stopped_by error)) r
+pub stops-unread : (error : StimulusError) (r : StimulusReader) → Hungers (Err (stopped_by error)) r
 stops-unread (errors.Bad fault) r = tt
 stops-unread errors.OutOfMemory r = tt
 

@@ -1,6 +1,6 @@
 use Rattle.std.proofs.Common.{◌≡◌, Option, None, refl, rules, subst, ◌∙◌, arith}
 use Rattle.copies.specs.declared.verdict.Verdict.{Verdict}
-use Rattle.twins.specs.Taking.{Judged}
+use Rattle.twins.specs.TakenRows.{Judged}
 use Rattle.twins.proofs.exchange.exchange_all.Goals as goal
 
 pub turns-init : goal.turns-init

@@ -1,7 +1,7 @@
 use Rattle.std.proofs.Common.{◌≡◌, ◌≤◌}
-use Rattle.twins.specs.Sending.{AreTwins, numbers_of}
+use Rattle.twins.specs.TwinQueues.{AreTwins, numbers_of}
 use Rattle.twins.specs.Sides.{twins_of}
-use Rattle.twins.specs.Taking.{Agreed}
+use Rattle.twins.specs.TakenRows.{Agreed}
 use Rattle.twins.proofs.exchange.exchange_all.Given as goal
 
 abbrev pub invariant-turns : goal.invariant-turns

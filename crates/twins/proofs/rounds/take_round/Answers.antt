@@ -39,6 +39,6 @@ others-preserved g c =
           within
           (subst (λ (q : FrameQueue). IsIntakeOf q c.take-row.new.self) c.index-queues-copy.is c.take-row.ensures.queue)
           c.take-row.ensures.taken c.take-row.ensures.rows
-          (c.or-found.ensures ∙ ap (option_or c.others.found) c.parted.ensures);
+          (c.or-found.ensures ∙ ap (option_or c.others.found) c.difference_verdict.ensures);
       end = c.others.invariant.end;
     }

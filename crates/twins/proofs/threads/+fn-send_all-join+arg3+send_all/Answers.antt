@@ -5,12 +5,12 @@ use denote.Param.Send.{IsSend, IsSync, Quiet-if}
 use Rattle.std.proofs.Common.{◌≡◌, ◌+◌, List, [], ◌∷◌, ◌++◌, rules, arith, length, sym, ap, ◌∙◌, subst, length-append}
 use Rattle.frame_queue.specs.declared.queue.FrameQueue.{FrameQueue}
 use Rattle.twins.proofs.Pairs.{pair_less, pair_more}
-use Rattle.twins.specs.Making.{IsTwin}
+use Rattle.twins.specs.TwinFrames.{IsTwin}
 use Rattle.twins.specs.Pairs.{EachPair}
 use Rattle.twins.proofs.threads.+fn-send_all-join+arg3+send_all.Goals as goal
 
-pub send_alone-requires-clause-twin : goal.send_alone-requires-clause-twin
-send_alone-requires-clause-twin g t c κs within =
+pub send_one_copy-requires-clause-twin : goal.send_one_copy-requires-clause-twin
+send_one_copy-requires-clause-twin g t c κs within =
     let twin = IsTwin g.J.Job.meaning c.args.run.now.profile c.args.run.now.inputs (g.T.Tamper.altered c.args.run.now.tamper) in
     let apart = pair_less twin c.in-Some.front.now c.args.others.items c.in-Some.queue.now c.args.last
     (subst (λ (queues : List FrameQueue). EachPair twin queues (c.args.others.items ++ c.args.last ∷ [])) c.in-Some.ensures.cases.0
@@ -24,10 +24,10 @@ returns-in_default-pop-clause-twins g t c =
     (subst (λ (queues : List FrameQueue). EachPair twin queues (c.args.others.items ++ c.args.last ∷ [])) c.in-Some.ensures.cases.0
     c.requires.twins) in
     let same : c.args.others.items ≡ c.pop.new.self.items = search rules in
-    subst (λ (queues : List FrameQueue). EachPair twin queues (c.pop.new.self.items ++ c.send_alone.result ∷ []))
+    subst (λ (queues : List FrameQueue). EachPair twin queues (c.pop.new.self.items ++ c.send_one_copy.result ∷ []))
     (sym c.in-Some.ensures.cases.0)
-    (pair_more twin c.in-Some.front.now c.pop.new.self.items c.in-Some.queue.now c.send_alone.result
-    (subst (λ twins. EachPair twin c.in-Some.front.now twins) same apart.0) c.send_alone.ensures.twin)
+    (pair_more twin c.in-Some.front.now c.pop.new.self.items c.in-Some.queue.now c.send_one_copy.result
+    (subst (λ twins. EachPair twin c.in-Some.front.now twins) same apart.0) c.send_one_copy.ensures.twin)
 
 pub join-last-requires-after_bounds : goal.join-last-requires-after_bounds
 join-last-requires-after_bounds g t c κs within =

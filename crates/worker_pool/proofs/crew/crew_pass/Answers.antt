@@ -1,20 +1,20 @@
 use Rattle.std.proofs.Common.{◌≡◌, ℕ, ◌<◌, ◌≤◌, List, length, take, arith, length-take}
 use Rattle.std.proofs.lemmas.List.Elements.{All-nil, All-same}
 use Rattle.job.specs.Passes.{block_in, blocks_in}
-use Rattle.pass_in_blocks.specs.Answers.{IsRight, Shows}
-use Rattle.pass_in_blocks.specs.Showing.{shown_in}
+use Rattle.pass_in_blocks.specs.BlockAnswers.{IsRight, Shows}
+use Rattle.pass_in_blocks.specs.ShownElements.{shown_in}
 use Rattle.worker_pool.proofs.crew.crew_pass.Goals as goal
 
-few_helpers : {A : Type 0} (n : ℕ) (lines filled : List A) (workers : ℕ) → length filled ≡ length lines → length lines < workers
+few_helpers : {A : Type 0} (n : ℕ) (links filled : List A) (workers : ℕ) → length filled ≡ length links → length links < workers
     → workers ≤ 64 → length (take n filled) ≤ 63
-few_helpers n lines filled workers same few most = omega (arith, length-take n filled)
+few_helpers n links filled workers same few most = omega (arith, length-take n filled)
 
 has_room : (found number : ℕ) → found ≡ number → found < 1000000000000 → number < 9223372036854775808
 has_room found number is early = omega arith
 
 pub shared_pass-requires : goal.shared_pass-requires
 shared_pass-requires g c = record {
-  few = few_helpers c.min-helpers.result c.args.lines.now c.fill_benches.new.lines c.args.workers c.fill_benches.auto.lines
+  few = few_helpers c.min-helpers.result c.args.links.now c.fill_benches.new.links c.args.workers c.fill_benches.auto.links
       c.requires.few c.requires.workers;
   room = has_room c.number.result c.args.keeper.now.number c.number.ensures c.if-number-ge-MOST_PASSES.false;
   ready = c.requires.ready;

@@ -2,8 +2,8 @@ use Rattle.std.proofs.Common.{IfOk, ◌∙◌, sym, ap, subst}
 use Rattle.std.specs.List.{All}
 use Rattle.std.proofs.lemmas.Result.{IfOk-weaker}
 use Rattle.job.specs.Passes.{IsReady, block_in, blocks_in}
-use Rattle.pass_in_blocks.specs.Answers.{IsRight, Shows}
-use Rattle.pass_in_blocks.specs.Showing.{shown_in}
+use Rattle.pass_in_blocks.specs.BlockAnswers.{IsRight, Shows}
+use Rattle.pass_in_blocks.specs.ShownElements.{shown_in}
 use Rattle.worker_pool.specs.Handles.{IsAt}
 use Rattle.worker_pool.specs.Messages.{IsTask}
 use Rattle.worker_pool.proofs.crew.shared_pass.Goals as goal

@@ -1,5 +1,5 @@
 use Rattle.worker_pool.specs.Crews.{room_name}
 use Rattle.worker_pool.proofs.pool.run_worker_pool.Given as goal
 
-abbrev pub ghosts-run_in_room : goal.ghosts-run_in_room
-ghosts-run_in_room g a = record { table = room_name a.room }
+abbrev pub ghosts-run_pass_with_crew : goal.ghosts-run_pass_with_crew
+ghosts-run_pass_with_crew g a = record { table = room_name a.room }

@@ -2,10 +2,10 @@ use Rattle.std.proofs.Common.{◌≡◌, ◌<◌, length, true≢false, refl, sy
 use Rattle.std.proofs.lemmas.List.Elements.{All-push, All-same}
 use Rattle.job.specs.Passes.{block_in}
 use Rattle.job.proofs.Sizes.{few_blocks}
-use Rattle.pass_in_blocks.specs.Answers.{Shows}
-use Rattle.pass_in_blocks.specs.declared.answers.BlockResult.{BlockResult}
-use Rattle.pass_in_blocks.specs.Showing.{shown_in}
-use Rattle.worker_pool.specs.declared.view.Mark.TheVariants.{Finished, Reported, Skipped}
+use Rattle.pass_in_blocks.specs.BlockAnswers.{Shows}
+use Rattle.pass_in_blocks.specs.declared.block_answer.BlockResult.{BlockResult}
+use Rattle.pass_in_blocks.specs.ShownElements.{shown_in}
+use Rattle.worker_pool.specs.declared.pool_view.Mark.TheVariants.{Finished, Reported, Skipped}
 use Rattle.worker_pool.specs.Handles.{view_of}
 use Rattle.worker_pool.proofs.Done.{taken_stands, mark_stands, works_passed, works_skipped, works_marked, room}
 use Rattle.worker_pool.proofs.work.try_block.Goals as goal
@@ -82,9 +82,11 @@ returns-else-refused-clause-works g c =
     (λ same. sym same ∙ sym c.is_refusal-refused.ensures ∙ c.if-refused.false) refl
 
 pub returns-then-refused-clause-shown : goal.returns-then-refused-clause-shown
-returns-then-refused-clause-shown g c = let P : BlockResult _ _ → Type 0 = λ r. Shows (shown_in g.J.Job.meaning c.args.pass.now r.block) r.answer in
+returns-then-refused-clause-shown g c = let P : BlockResult _ _ → Type 0 = λ r. Shows (shown_in g.J.Job.meaning c.args.pass.now r.block)
+    r.answer in
     All-same P _ _ c.in_ok-push.ensures.ok (All-push P _ _ c.requires.shown c.in_ok-answer.ensures.shown)
 
 pub returns-else-refused-clause-shown : goal.returns-else-refused-clause-shown
-returns-else-refused-clause-shown g c = let P : BlockResult _ _ → Type 0 = λ r. Shows (shown_in g.J.Job.meaning c.args.pass.now r.block) r.answer in
+returns-else-refused-clause-shown g c = let P : BlockResult _ _ → Type 0 = λ r. Shows (shown_in g.J.Job.meaning c.args.pass.now r.block)
+    r.answer in
     All-same P _ _ c.in_ok-push.ensures.ok (All-push P _ _ c.requires.shown c.in_ok-answer.ensures.shown)

@@ -1,7 +1,7 @@
 use Rattle.std.proofs.Common.{◌≡◌, ◌≤◌, ◌-◌}
 use Rattle.job.specs.Passes.{block_in}
-use Rattle.pass_in_blocks.specs.Answers.{AreShown}
-use Rattle.pass_in_blocks.specs.Showing.{shown_in}
+use Rattle.pass_in_blocks.specs.BlockAnswers.{AreShown}
+use Rattle.pass_in_blocks.specs.ShownElements.{shown_in}
 use Rattle.worker_pool.specs.Results.{Works}
 use Rattle.worker_pool.proofs.work.work_blocks.Given as goal
 

@@ -1,8 +1,8 @@
 use Rattle.std.proofs.Common.{◌≡◌, Some, rules, sym, ap, subst, ◌∙◌}
 use Rattle.std.specs.Prelude.{Option}
 use Rattle.copies.specs.declared.row.Row.{Row}
-use Rattle.cmd_records.specs.declared.voter.reading.RowView.{RowView}
-use Rattle.cmd_records.specs.declared.voter.reading.RowView.TheVariants as views
+use Rattle.cmd_records.specs.declared.voter.voter_rows.RowView.{RowView}
+use Rattle.cmd_records.specs.declared.voter.voter_rows.RowView.TheVariants as views
 use Rattle.cmd_records.specs.voter.Rows.{same_row, HoldsAs}
 use Rattle.cmd_records.proofs.lemmas.voter.Holding.{held-item}
 use Rattle.cmd_records.proofs.voter.majority.are_same.Goals as goal

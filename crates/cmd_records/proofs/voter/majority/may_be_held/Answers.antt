@@ -1,7 +1,7 @@
 use Rattle.std.proofs.Common.{◌≡◌, Some, rules, subst}
 use Rattle.std.specs.Prelude.{Option}
-use Rattle.cmd_records.specs.declared.voter.reading.RowView.{RowView}
-use Rattle.cmd_records.specs.declared.voter.reading.RowView.TheVariants as views
+use Rattle.cmd_records.specs.declared.voter.voter_rows.RowView.{RowView}
+use Rattle.cmd_records.specs.declared.voter.voter_rows.RowView.TheVariants as views
 use Rattle.cmd_records.specs.voter.Rows.{HoldsAs}
 use Rattle.cmd_records.proofs.lemmas.voter.Holding.{itself-item}
 use Rattle.cmd_records.proofs.voter.majority.may_be_held.Goals as goal

@@ -1,6 +1,6 @@
 use Rattle.std.proofs.Common.{◌≤◌, ◌+◌, ◌++◌, ap, ◌∙◌, sym, rules, arith, take, length}
 use Rattle.std.specs.Prelude.{slice_index_or}
-use Rattle.cmd_records.specs.voter.Standing.{dissenter, dissenters}
+use Rattle.cmd_records.specs.voter.VotersState.{dissenter, dissenters}
 use Rattle.cmd_records.proofs.lemmas.voter.Leaving.{room-left, dissenters-more}
 use Rattle.cmd_records.proofs.voter.voters.dissent_of.Goals as goal
 

@@ -1,5 +1,5 @@
 use Rattle.std.proofs.Common.{◌≡◌, take}
-use Rattle.cmd_records.specs.voter.Standing.{dissenters}
+use Rattle.cmd_records.specs.voter.VotersState.{dissenters}
 use Rattle.cmd_records.proofs.voter.voters.dissent_of.Given as goal
 
 abbrev pub invariant-voters : goal.invariant-voters

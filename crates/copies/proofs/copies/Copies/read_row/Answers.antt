@@ -3,8 +3,8 @@ use Rattle.std.specs.Prelude.{Ok, map}
 use Rattle.std.specs.List.{AllByRecursion}
 use Rattle.record_reader.specs.declared.item_reader.reader.ItemReader.{ItemReader}
 use Rattle.record_reader.specs.item_reader.StandsFor.{slot_of, room}
-use Rattle.copies.specs.Compared.{ReadsAmong}
-use Rattle.copies.specs.ItemRows.{ReadersBehind}
+use Rattle.copies.specs.CompareCopies.{ReadsAmong}
+use Rattle.copies.specs.ItemRows.{AreReadersAfter}
 use Rattle.copies.proofs.Standing.{first-row, others-behind, stop-first, stop-others, all-rows, row-read, fell-first, row-stops}
 use Rattle.copies.proofs.Standing.{written-back}
 use Rattle.copies.proofs.Needed.{first-needed, all-needed}
@@ -18,8 +18,8 @@ returns-in_err-item-clause-row g c first given slots ne h =
     c.next_of_copy.new.reader c.args.self.now.others.items c.in_err-item.field-0.0 h.readers
     (λ slot b. c.in_err-item.ensures.row first given slot b))
 
-pub read_others-requires-clause-given : goal.read_others-requires-clause-given
-read_others-requires-clause-given g c =
+pub compare_others-requires-clause-given : goal.compare_others-requires-clause-given
+compare_others-requires-clause-given g c =
     subst (λ (rs : List ItemReader). AllByRecursion (λ k. k < (g.S.Slots.sees c.next_of_copy.new.shelf).slots) (map slot_of rs))
     (search rules)
     (subst (λ (n : ℕ). AllByRecursion (λ k. k < n) (map slot_of c.args.self.now.others.items)) (sym c.next_of_copy.ensures.reads.kept.slots)
@@ -33,16 +33,16 @@ item_bytes-bytes-requires g c =
     (λ slot b. c.in_ok-item.ensures.row s.0 s.1 slot b) in
     (row.0, row.1)
 
-pub read_others-requires-clause-item : goal.read_others-requires-clause-item
-read_others-requires-clause-item g c =
+pub compare_others-requires-clause-item : goal.compare_others-requires-clause-item
+compare_others-requires-clause-item g c =
     let s = c.requires.stand in
     let row = first-row s.0 (g.S.Slots.sees c.args.shelf.now) (g.S.Slots.sees c.next_of_copy.new.shelf) s.1 s.2 c.args.self.now.first
     c.next_of_copy.new.reader c.args.self.now.others.items c.in_ok-item.item s.4.readers
     (λ slot b. c.in_ok-item.ensures.row s.0 s.1 slot b) in
     (row.0, c.item_bytes-bytes.ensures row.0 row.1)
 
-pub read_others-requires-clause-stand : goal.read_others-requires-clause-stand
-read_others-requires-clause-stand g c =
+pub compare_others-requires-clause-stand : goal.compare_others-requires-clause-stand
+compare_others-requires-clause-stand g c =
     let s = c.requires.stand in
     let same : c.args.self.now.others.items ≡ c.deref_mut.result.now = search rules in
     let b = others-behind s.0 (g.S.Slots.sees c.args.shelf.now) (g.S.Slots.sees c.next_of_copy.new.shelf) s.1 s.2
@@ -51,7 +51,7 @@ read_others-requires-clause-stand g c =
       s.1,
       b.0,
       b.1,
-      subst (λ rs. ReadersBehind s.0 (g.S.Slots.sees c.next_of_copy.new.shelf) s.1 b.0 rs) same b.2,
+      subst (λ rs. AreReadersAfter s.0 (g.S.Slots.sees c.next_of_copy.new.shelf) s.1 b.0 rs) same b.2,
       s.4.rows,
     )
 
@@ -61,13 +61,13 @@ returns-in_err-found-clause-row g c first given slots ne h =
     let row = first-row first (g.S.Slots.sees c.args.shelf.now) (g.S.Slots.sees c.next_of_copy.new.shelf) given slots
     c.args.self.now.first c.next_of_copy.new.reader c.args.self.now.others.items c.in_ok-item.item h.readers
     (λ slot b. c.in_ok-item.ensures.row first given slot b) in
-    row-stops first (g.S.Slots.sees c.read_others.new.shelf) given slots (room c.args.self.now.first) _
+    row-stops first (g.S.Slots.sees c.compare_others.new.shelf) given slots (room c.args.self.now.first) _
     c.from_residual-in_err-found.result c.in_err-found.field-0.0 c.from_residual-in_err-found.ensures.1
     (stop-others first (g.S.Slots.sees c.args.shelf.now) (g.S.Slots.sees c.next_of_copy.new.shelf)
-    (g.S.Slots.sees c.read_others.new.shelf) given c.args.self.now.first c.next_of_copy.new.reader c.args.self.now.others.items
-    c.read_others.new.readers row.0 row.2 c.next_of_copy.ensures.reads slots c.in_err-found.field-0.0 ne h.readers
+    (g.S.Slots.sees c.compare_others.new.shelf) given c.args.self.now.first c.next_of_copy.new.reader c.args.self.now.others.items
+    c.compare_others.new.readers row.0 row.2 c.next_of_copy.ensures.reads slots c.in_err-found.field-0.0 ne h.readers
     (λ others different b. c.in_err-found.ensures.others first given others row.0 (c.item_bytes-bytes.ensures row.0 row.1) different
-    (subst (λ rs. ReadersBehind first (g.S.Slots.sees c.next_of_copy.new.shelf) given others rs) same b) h.rows))
+    (subst (λ rs. AreReadersAfter first (g.S.Slots.sees c.next_of_copy.new.shelf) given others rs) same b) h.rows))
 
 pub returns-clause-row : goal.returns-clause-row
 returns-clause-row g c first given slots ne h =
@@ -76,17 +76,18 @@ returns-clause-row g c first given slots ne h =
     c.args.self.now.first c.next_of_copy.new.reader c.args.self.now.others.items c.in_ok-item.item h.readers
     (λ slot b. c.in_ok-item.ensures.row first given slot b) in
     let all = all-rows first (g.S.Slots.sees c.args.shelf.now) (g.S.Slots.sees c.next_of_copy.new.shelf)
-    (g.S.Slots.sees c.read_others.new.shelf) given c.args.self.now.first c.next_of_copy.new.reader c.args.self.now.others.items
-    c.read_others.new.readers row.0 row.2 c.next_of_copy.ensures.reads slots c.in_ok-found.found ne h.readers
+    (g.S.Slots.sees c.compare_others.new.shelf) given c.args.self.now.first c.next_of_copy.new.reader c.args.self.now.others.items
+    c.compare_others.new.readers row.0 row.2 c.next_of_copy.ensures.reads slots c.in_ok-found.found ne h.readers
     (λ others different b. c.in_ok-found.ensures.others first given others row.0 (c.item_bytes-bytes.ensures row.0 row.1) different
-    (subst (λ rs. ReadersBehind first (g.S.Slots.sees c.next_of_copy.new.shelf) given others rs) same b) h.rows)
-    (subst (λ rs. ReadsAmong (g.S.Slots.sees c.next_of_copy.new.shelf) (g.S.Slots.sees c.read_others.new.shelf) (map slot_of rs))
-    (sym same) c.read_others.ensures.reads) in
-    row-read first (g.S.Slots.sees c.args.shelf.now) (g.S.Slots.sees c.read_others.new.shelf) given slots
-    (c.args.self.now.first ∷ c.args.self.now.others.items) c.read_others.new.readers c.next_of_copy.new.reader c.in_ok-item.item row.0
-    c.in_ok-found.found c.go_on.result all.0 _ c.go_on.new.self (room c.args.self.now.first) row.1 h.readers all.1 all.2 all.3
-    c.go_on.ensures refl (written-back c.args.self.now.others.len c.read_others.new.readers c.args.self.now.others.items (search rules)
-    (subst (λ rs. map slot_of c.read_others.new.readers ≡ map slot_of rs) (sym same) c.read_others.ensures.slots)) h.rows h.cycles
+    (subst (λ rs. AreReadersAfter first (g.S.Slots.sees c.next_of_copy.new.shelf) given others rs) same b) h.rows)
+    (subst (λ rs. ReadsAmong (g.S.Slots.sees c.next_of_copy.new.shelf) (g.S.Slots.sees c.compare_others.new.shelf) (map slot_of rs))
+    (sym same) c.compare_others.ensures.reads) in
+    row-read first (g.S.Slots.sees c.args.shelf.now) (g.S.Slots.sees c.compare_others.new.shelf) given slots
+    (c.args.self.now.first ∷ c.args.self.now.others.items) c.compare_others.new.readers c.next_of_copy.new.reader c.in_ok-item.item row.0
+    c.in_ok-found.found c.finish_row.result all.0 _ c.finish_row.new.self (room c.args.self.now.first) row.1 h.readers all.1 all.2 all.3
+    c.finish_row.ensures refl (written-back c.args.self.now.others.len c.compare_others.new.readers c.args.self.now.others.items (search
+    rules)
+    (subst (λ rs. map slot_of c.compare_others.new.readers ≡ map slot_of rs) (sym same) c.compare_others.ensures.slots)) h.rows h.cycles
     (fell-first first (g.S.Slots.sees c.args.shelf.now) given slots c.args.self.now.first c.args.self.now.others.items h.readers
     (Ok c.in_ok-item.item) (room c.next_of_copy.new.reader) c.in_ok-item.ensures.room)
 
@@ -101,13 +102,13 @@ returns-in_err-found-clause-needed g c first given slots ne h =
     let row = first-row first (g.S.Slots.sees c.args.shelf.now) (g.S.Slots.sees c.next_of_copy.new.shelf) given slots
     c.args.self.now.first c.next_of_copy.new.reader c.args.self.now.others.items c.in_ok-item.item h.readers
     (λ slot b. c.in_ok-item.ensures.row first given slot b) in
-    all-needed first (g.S.Slots.sees c.args.shelf.now) (g.S.Slots.sees c.next_of_copy.new.shelf) (g.S.Slots.sees c.read_others.new.shelf)
+    all-needed first (g.S.Slots.sees c.args.shelf.now) (g.S.Slots.sees c.next_of_copy.new.shelf) (g.S.Slots.sees c.compare_others.new.shelf)
     given slots c.args.self.now.first c.args.self.now.others.items ne h.readers c.next_of_copy.ensures.reads
     (λ slot b. c.next_of_copy.ensures.needed first given slot b)
-    (λ others different b. c.read_others.ensures.needed first given others row.0 (c.item_bytes-bytes.ensures row.0 row.1) different
-    (subst (λ rs. ReadersBehind first (g.S.Slots.sees c.next_of_copy.new.shelf) given others rs) same b) h.rows)
-    (subst (λ rs. ReadsAmong (g.S.Slots.sees c.next_of_copy.new.shelf) (g.S.Slots.sees c.read_others.new.shelf) (map slot_of rs))
-    (sym same) c.read_others.ensures.reads)
+    (λ others different b. c.compare_others.ensures.needed first given others row.0 (c.item_bytes-bytes.ensures row.0 row.1) different
+    (subst (λ rs. AreReadersAfter first (g.S.Slots.sees c.next_of_copy.new.shelf) given others rs) same b) h.rows)
+    (subst (λ rs. ReadsAmong (g.S.Slots.sees c.next_of_copy.new.shelf) (g.S.Slots.sees c.compare_others.new.shelf) (map slot_of rs))
+    (sym same) c.compare_others.ensures.reads)
 
 pub returns-clause-needed : goal.returns-clause-needed
 returns-clause-needed g c first given slots ne h =
@@ -115,10 +116,10 @@ returns-clause-needed g c first given slots ne h =
     let row = first-row first (g.S.Slots.sees c.args.shelf.now) (g.S.Slots.sees c.next_of_copy.new.shelf) given slots
     c.args.self.now.first c.next_of_copy.new.reader c.args.self.now.others.items c.in_ok-item.item h.readers
     (λ slot b. c.in_ok-item.ensures.row first given slot b) in
-    all-needed first (g.S.Slots.sees c.args.shelf.now) (g.S.Slots.sees c.next_of_copy.new.shelf) (g.S.Slots.sees c.read_others.new.shelf)
+    all-needed first (g.S.Slots.sees c.args.shelf.now) (g.S.Slots.sees c.next_of_copy.new.shelf) (g.S.Slots.sees c.compare_others.new.shelf)
     given slots c.args.self.now.first c.args.self.now.others.items ne h.readers c.next_of_copy.ensures.reads
     (λ slot b. c.next_of_copy.ensures.needed first given slot b)
-    (λ others different b. c.read_others.ensures.needed first given others row.0 (c.item_bytes-bytes.ensures row.0 row.1) different
-    (subst (λ rs. ReadersBehind first (g.S.Slots.sees c.next_of_copy.new.shelf) given others rs) same b) h.rows)
-    (subst (λ rs. ReadsAmong (g.S.Slots.sees c.next_of_copy.new.shelf) (g.S.Slots.sees c.read_others.new.shelf) (map slot_of rs))
-    (sym same) c.read_others.ensures.reads)
+    (λ others different b. c.compare_others.ensures.needed first given others row.0 (c.item_bytes-bytes.ensures row.0 row.1) different
+    (subst (λ rs. AreReadersAfter first (g.S.Slots.sees c.next_of_copy.new.shelf) given others rs) same b) h.rows)
+    (subst (λ rs. ReadsAmong (g.S.Slots.sees c.next_of_copy.new.shelf) (g.S.Slots.sees c.compare_others.new.shelf) (map slot_of rs))
+    (sym same) c.compare_others.ensures.reads)

@@ -5,7 +5,7 @@ use Rattle.cycle_engine.proofs.engine.Engine.cycle.Goals as goal
 
 pub returns-clause-frame : goal.returns-clause-frame
 returns-clause-frame g c profile inputs stands =
-    let outcome : c.framed.result ≡ next_frame g.J.Job.meaning c.args.self.now c.args.input = search rules in
+    let outcome : c.frame_in_format.result ≡ next_frame g.J.Job.meaning c.args.self.now c.args.input = search rules in
     outcome ∙ frame_is g.J.Job.meaning profile c.args.self.now inputs c.args.input stands
 
 pub returns-clause-stands : goal.returns-clause-stands

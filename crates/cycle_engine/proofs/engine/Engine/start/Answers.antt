@@ -1,6 +1,6 @@
 use Rattle.std.proofs.Common.{List, [], length, arith, ap, ◌∙◌, subst}
 use Rattle.det_values.specs.Values.{EventSpecValue}
-use Rattle.det_client.specs.Life.{following}
+use Rattle.det_client.specs.Life.{successor}
 use Rattle.job.specs.event_cache.Windows.{HasSeen}
 use Rattle.std.specs.Arc.{arc_value}
 use Rattle.cycle_engine.proofs.Beginning.{comes-to-init, events-made, begins-run, all_own}
@@ -17,7 +17,7 @@ invariant_of-result g c =
       events = events-made g.J.Job.meaning c.args.profile.now (arc_value c.in_ok-job.job) c.in_ok-cache.cache c.profile.inside.events
           laws.events_made (c.in_ok-job.ensures ∙ c.requires.made) c.in_ok-cache.ensures.count (ap (λ p. p.events) c.profile.view_is)
           (omega (arith, c.events-events.ensures.count, c.events-events.ensures.few));
-      ready = λ going. ap following (c.start.ensures.same.last ∙ init.last);
+      ready = λ going. ap successor (c.start.ensures.same.last ∙ init.last);
       timed = c.start.ensures.same.cycle_time ∙ init.cycle_time ∙ c.new-client.ensures.cycle_time;
       in_limits = c.profile.invariant.0;
     }

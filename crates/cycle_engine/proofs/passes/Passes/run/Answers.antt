@@ -1,6 +1,6 @@
 use Rattle.std.proofs.Common.{◌≡◌, suc, ◌+◌, ◌-◌, Ok, ◌∙◌, ap, arith}
 use Rattle.job.specs.Cycle.{passes_on}
-use Rattle.cycle_engine.specs.Answers.{left_by}
+use Rattle.cycle_engine.specs.PhaseResults.{left_by}
 use Rattle.cycle_engine.proofs.passes.Passes.run.Goals as goal
 
 pub loop-number-preserved : goal.loop-number-preserved

@@ -1,7 +1,7 @@
 use Rattle.std.proofs.Common.{◌≡◌, ◌-◌, ◌*◌, ◌≤◌, length, Ok}
 use Rattle.std.specs.List.{All}
 use Rattle.std.specs.Arc.{arc_value}
-use Rattle.cycle_engine.specs.Answers.{left_by}
+use Rattle.cycle_engine.specs.PhaseResults.{left_by}
 use Rattle.job.specs.Cycle.{all_passes, passes_on, shown_with}
 use Rattle.cycle_engine.proofs.passes.Passes.run.Given as goal
 

@@ -1,5 +1,5 @@
 use Rattle.std.proofs.Common.{◌≡◌, ap, sym, subst, ◌∙◌}
-use Rattle.det_client.specs.element_random.Words.{StandsFor}
+use Rattle.det_client.specs.element_random.RandomStreams.{StandsFor}
 use Rattle.det_client.specs.State.{own_place}
 use Rattle.det_client.proofs.OwnStreams.{is_beginning}
 use Rattle.det_client.proofs.client.Client.own.Goals as goal
@@ -9,9 +9,9 @@ returns-in-Some c = λ k n s.
     let there : c.in-Some.own ≡ c.args.self.now.own =
     ap (λ o. own_place o c.self.inside.seed c.self.inside.cycle) (sym c.in-Some.is) ∙ ap (λ v. v.own) c.self.view_is in
     let stands : StandsFor c.in-Some.own k n = subst (λ p. StandsFor p k n) (sym there) s in
-    let again : c.of_parts.result ≡ c.in-Some.own = λ i. record {
-      state = (c.of_parts.ensures.state ∙ c.state.ensures.again k n stands) i;
-      draws = (c.of_parts.ensures.draws ∙ c.draws.ensures.kept) i;
+    let again : c.from_parts.result ≡ c.in-Some.own = λ i. record {
+      state = (c.from_parts.ensures.state ∙ c.state.ensures.again k n stands) i;
+      draws = (c.from_parts.ensures.draws ∙ c.draws.ensures.kept) i;
     } in
     again ∙ there
 

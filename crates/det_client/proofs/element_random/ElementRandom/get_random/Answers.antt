@@ -1,6 +1,6 @@
 use Rattle.std.proofs.Common.{ℕ, List, ap, ◌∙◌, arith, add-one}
 use Rattle.rand_xoshiro.specs.Xoshiro256.{plus_plus, next_state}
-use Rattle.det_client.specs.element_random.Words.{state_at, word}
+use Rattle.det_client.specs.element_random.RandomStreams.{state_at, word}
 use Rattle.det_client.proofs.element_random.ElementRandom.get_random.Goals as goal
 
 pub returns-clause-word : goal.returns-clause-word

@@ -1,6 +1,6 @@
 use Rattle.std.proofs.Common.{ap, ◌∙◌, sym, ◌∷◌, []}
 use Rattle.rand_xoshiro.specs.Xoshiro256.{state_bytes}
-use Rattle.det_client.specs.element_random.Words.{state_of_words}
+use Rattle.det_client.specs.element_random.RandomStreams.{state_of_words}
 use Rattle.det_client.proofs.lemmas.element_random.States.{given_back, words_of, words_back}
 use Rattle.det_client.proofs.element_random.ElementRandom.state.Goals as goal
 

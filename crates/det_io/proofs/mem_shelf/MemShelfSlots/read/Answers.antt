@@ -3,7 +3,8 @@ use Rattle.det_io.proofs.Places.{places-read, places-end, places-rest}
 use Rattle.det_io.proofs.mem_shelf.MemShelfSlots.read.Goals as goal
 
 pub returns-clause-reads : goal.returns-clause-reads
-returns-clause-reads c = places-read c.args.self.now.files c.args.self.now.slots.items c.args.self.now.is_told c.args.self.now.asked.items _
+returns-clause-reads c = places-read c.args.self.now.files c.args.self.now.slots.items c.args.self.now.names_known
+    c.args.self.now.asked.items _
     _
     c.args.slot c.copy_from-n.result c.index-place.result.now _ c.requires c.index-place.ensures
     (rw c.as_slice.ensures.items at c.copy_from-n.ensures.front)

@@ -1,6 +1,6 @@
 use Rattle.std.proofs.Common.{◌/◌, length, get_or, arith, ap, ◌∙◌, refl}
 use Rattle.std.specs.Vec.{vec_len}
-use Rattle.det_values.specs.Blocks.{held_by}
+use Rattle.det_values.specs.Blocks.{block_items}
 use Rattle.det_values.proofs.Blocking.{in_blocks, held_room, held_element, count_is}
 use Rattle.det_values.proofs.container.Container.item.Goals as goal
 
@@ -8,7 +8,7 @@ pub index-requires : goal.index-requires
 index-requires g c =
     omega (
       arith,
-      in_blocks (held_by c.self.inside.blocks.items) (c.args.index / 256) c.self.invariant.0
+      in_blocks (block_items c.self.inside.blocks.items) (c.args.index / 256) c.self.invariant.0
           (omega (arith, c.requires, ap length c.self.view_is)),
       count_is c.self.inside.blocks (vec_len c.self.inside.blocks) refl,
     )

@@ -1,5 +1,5 @@
 use Rattle.std.proofs.Common.{◌≡◌, ℕ, ◌+◌, ◌-◌, ◌*◌, ◌^◌, min, Some, sym, ap, ◌∙◌, subst, arith}
-use Rattle.det_client.specs.element_random.Words.{StandsFor}
+use Rattle.det_client.specs.element_random.RandomStreams.{StandsFor}
 use Rattle.jobs.specs.cloud.Steps.{lands, step_of, landing, words_drawn}
 use Rattle.jobs.proofs.lemmas.cloud.Landings.{landed, missed, never}
 use Rattle.jobs.proofs.cloud.steps.random_step.Goals as goal

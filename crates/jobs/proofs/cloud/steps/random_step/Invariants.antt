@@ -1,5 +1,5 @@
 use Rattle.std.proofs.Common.{◌≡◌, ℕ, ◌-◌, ◌*◌}
-use Rattle.det_client.specs.element_random.Words.{StandsFor}
+use Rattle.det_client.specs.element_random.RandomStreams.{StandsFor}
 use Rattle.jobs.specs.cloud.Steps.{landing, landing_from}
 use Rattle.jobs.proofs.cloud.steps.random_step.Given as goal
 

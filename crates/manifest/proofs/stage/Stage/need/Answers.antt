@@ -2,7 +2,7 @@ use Rattle.std.proofs.Common.{◌≡◌, ◌∙◌, ap}
 use Rattle.toml.specs.View.{view}
 use Rattle.manifest.specs.Tree.{step, to_member}
 use Rattle.manifest.specs.Keys.{found, need_word}
-use Rattle.manifest.specs.Judged.{seen, section_key}
+use Rattle.manifest.specs.KeyReaders.{seen, section_key}
 use Rattle.manifest.proofs.NeedKeys.{need_found, need_fault}
 use Rattle.manifest.proofs.stage.Stage.need.Goals as goal
 

@@ -4,8 +4,8 @@ use Rattle.det_io.specs.Sink.{Grew, GrewShort}
 use Rattle.det_io.specs.Traffic.{sink_run}
 use Rattle.det_io.proofs.Growth.{short-wider, grew-then-short}
 use Rattle.det_io.proofs.Prefixes.{prefix-append}
-use Rattle.record_grammar.specs.declared.fault.RecordFault.{RecordFault}
-use Rattle.record_reader.specs.Keeping.{Puts}
+use Rattle.record_grammar.specs.declared.record_fault.RecordFault.{RecordFault}
+use Rattle.record_reader.specs.SalvageState.{Puts}
 use Rattle.record_reader.proofs.lemmas.item_reader.Passing.{passed-on}
 use Rattle.record_reader.proofs.salvage.Salvage.put.Goals as goal
 

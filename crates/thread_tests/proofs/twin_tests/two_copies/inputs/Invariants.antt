@@ -1,6 +1,6 @@
 use Rattle.std.proofs.Common.{◌≡◌, ◌≤◌, length}
 use Rattle.det_values.specs.Values.{ProfileValue}
-use Rattle.twins.specs.Making.{AreKnown}
+use Rattle.twins.specs.TwinFrames.{AreKnown}
 use Rattle.thread_tests.proofs.twin_tests.two_copies.inputs.Given as goal
 
 abbrev pub invariant-inputs : goal.invariant-inputs

@@ -4,8 +4,8 @@ use Rattle.std.proofs.lemmas.List.{with_items_is}
 use Rattle.twins.specs.declared.taker.Intake.{Intake}
 use Rattle.twins.specs.declared.taker.Taker.{Taker}
 use Rattle.twins.specs.Pairs.{EachPair}
-use Rattle.twins.specs.Verdict.{row_verdict}
-use Rattle.twins.specs.Taking.{AreIntakes, TookOne, taken_by}
+use Rattle.twins.specs.TwinVerdict.{row_verdict}
+use Rattle.twins.specs.TakenRows.{AreIntakes, TookOne, taken_by}
 use Rattle.twins.proofs.Judging.{next-judged}
 use Rattle.twins.proofs.taker.Taker.take_next.Goals as goal
 

@@ -1,5 +1,5 @@
 use Rattle.std.proofs.Common.{◌≡◌, ◌+◌}
-use Rattle.twins.specs.Taking.{Agreed}
+use Rattle.twins.specs.TakenRows.{Agreed}
 use Rattle.twins.proofs.taker.Taker.take_rows.Given as goal
 
 abbrev pub invariant-rounds : goal.invariant-rounds

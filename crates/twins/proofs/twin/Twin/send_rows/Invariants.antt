@@ -1,5 +1,5 @@
 use Rattle.std.proofs.Common.{◌≡◌}
-use Rattle.twins.specs.Making.{IsTwin}
+use Rattle.twins.specs.TwinFrames.{IsTwin}
 use Rattle.twins.proofs.twin.Twin.send_rows.Given as goal
 
 abbrev pub invariant-rows : goal.invariant-rows

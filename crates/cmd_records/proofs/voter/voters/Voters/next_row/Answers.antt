@@ -1,14 +1,14 @@
 use Rattle.std.proofs.Common.{◌≡◌, ℕ, List, Some, None, Ok, length, get_or, map, rules, refl, sym, subst, arith}
 use Rattle.std.specs.Prelude.{Option}
 use Rattle.std.specs.Vec.{vec_len}
-use Rattle.cmd_records.specs.declared.voter.reading.Voter.{Voter}
+use Rattle.cmd_records.specs.declared.voter.voter_rows.Voter.{Voter}
 use Rattle.cmd_records.specs.declared.voter.voters.HeldItem.{HeldItem}
 use Rattle.cmd_records.specs.declared.voter.voters.Voters.{Voters}
-use Rattle.cmd_records.specs.voter.Rows.{AreHeld, MostHeld, same_row, parted, place_behind}
-use Rattle.cmd_records.specs.voter.Standing.{RowTaken, Counts}
+use Rattle.cmd_records.specs.voter.Rows.{AreHeld, MostHeld, same_row, voters_after, place_behind}
+use Rattle.cmd_records.specs.voter.VotersState.{RowTaken, Counts}
 use Rattle.cmd_records.proofs.lemmas.voter.Holding.{held-many}
 use Rattle.cmd_records.proofs.lemmas.voter.Parting.{part-by}
-use Rattle.cmd_records.proofs.lemmas.voter.Told.{split-told, row-taken}
+use Rattle.cmd_records.proofs.lemmas.voter.RowsHeld.{split-told, row-taken}
 use Rattle.cmd_records.proofs.voter.voters.Voters.next_row.Goals as goal
 
 pub most_held-requires-clause-rows : goal.most_held-requires-clause-rows
@@ -38,8 +38,8 @@ index-requires g c =
     (subst (λ (vs : List Voter). AreHeld (place_behind s.1) vs read.0) same read.2) in
     let many = held-many (place_behind s.1) c.read_rows.new.voters.items read.0 read.2 in
     let less = most.0 in
-    let len : vec_len c.part.new.voters ≡ length c.part.new.voters.items = search rules in
-    omega (arith, less, many, len, c.part.ensures.all)
+    let len : vec_len c.mark_leavers.new.voters ≡ length c.mark_leavers.new.voters.items = search rules in
+    omega (arith, less, many, len, c.mark_leavers.ensures.all)
 
 pub returns-clause-row : goal.returns-clause-row
 returns-clause-row g c first given slots ne h =
@@ -47,17 +47,18 @@ returns-clause-row g c first given slots ne h =
     let read = c.in_ok-read_rows.ensures.rows first given slots ne h.readers in
     let copy = c.in-Some.holders.first in
     let v = c.index.result.now in
-    let mid : Voters = record c.args.self.now { voters = c.part.new.voters } in
+    let mid : Voters = record c.args.self.now { voters = c.mark_leavers.new.voters } in
     let most : MostHeld (Some c.in-Some.holders) read.0 = c.in-Some.ensures (place_behind given) read.0
     (subst (λ (vs : List Voter). AreHeld (place_behind given) vs read.0) same read.2) in
     let many = held-many (place_behind given) c.read_rows.new.voters.items read.0 read.2 in
     let less = most.0 in
     let parts = part-by c.args.self.now.rows c.in-Some.holders (get_or read.0 copy None) c.read_rows.new.voters.items
-    c.part.new.voters.items read.0 most.1 many c.part.ensures.parted in
+    c.mark_leavers.new.voters.items read.0 most.1 many c.mark_leavers.ensures.voters_after in
     subst (λ (o : Option HeldItem). RowTaken (Ok o) first (g.S.Slots.sees c.read_rows.new.shelf) given slots c.count.new.self)
     (sym c.held_in-item.ensures)
     (row-taken first (g.S.Slots.sees c.read_rows.new.shelf) given slots c.read_rows.new.voters.items read.0 read.1 read.2 copy v
     (omega (arith, less, many)) mid c.count.new.self (get_or read.0 copy None) most.2
-    (subst (λ (n : ℕ). c.part.new.voters.items ≡ parted n (map (same_row (get_or read.0 copy None)) read.0) c.read_rows.new.voters.items)
+    (subst (λ (n : ℕ). c.mark_leavers.new.voters.items ≡ voters_after n (map (same_row (get_or read.0 copy None)) read.0)
+    c.read_rows.new.voters.items)
     h.rows parts) h.rows h.cycles v (search rules) refl
     (subst (λ (o : Option HeldItem). Counts o mid c.count.new.self) c.held_in-item.ensures c.count.ensures))

@@ -1,6 +1,6 @@
 use Rattle.std.proofs.Common.{◌≡◌, ◌≤◌, List, length, rules, subst}
-use Rattle.cmd_records.specs.declared.voter.reading.Voter.{Voter}
-use Rattle.cmd_records.specs.voter.Standing.{dissenters}
+use Rattle.cmd_records.specs.declared.voter.voter_rows.Voter.{Voter}
+use Rattle.cmd_records.specs.voter.VotersState.{dissenters}
 use Rattle.cmd_records.proofs.lemmas.voter.Deciding.{few-left}
 use Rattle.cmd_records.proofs.voter.voters.Voters.outcome.Goals as goal
 

@@ -1,9 +1,9 @@
 use Rattle.std.proofs.Common.{◌≡◌, ◌≤◌, List, ℕ, get_or, arith, rules, subst}
 use Rattle.det_io.specs.Traffic.{sink_run}
 use Rattle.record_view.specs.Shows.{events_of}
-use Rattle.cmd_records.specs.declared.voter.reading.Voter.{Voter}
+use Rattle.cmd_records.specs.declared.voter.voter_rows.Voter.{Voter}
 use Rattle.cmd_records.specs.voter.Rows.{HoldsAt}
-use Rattle.cmd_records.specs.voter.Standing.{Writes}
+use Rattle.cmd_records.specs.voter.VotersState.{Writes}
 use Rattle.cmd_records.proofs.lemmas.voter.Holding.{spelled-at}
 use Rattle.cmd_records.proofs.voter.voters.Voters.write.Goals as goal
 

@@ -26,12 +26,12 @@ invariant_of-self-else-is_listed c = record {
 }
 
 pub returns-then-is_listed-clause-finishes : goal.returns-then-is_listed-clause-finishes
-returns-then-is_listed-clause-finishes c = child-finishes c.args.self.now.scripts c.args.self.now.children.items c.args.self.now.is_told
+returns-then-is_listed-clause-finishes c = child-finishes c.args.self.now.scripts c.args.self.now.children.items c.args.self.now.knows_asked
     c.args.self.now.asked.items c.args.self.now.faults _ c.args.child _ c.index-ended.result.now c.requires.started
     c.index-ended.ensures
 
 pub returns-clause-finishes : goal.returns-clause-finishes
-returns-clause-finishes c = child-finishes c.args.self.now.scripts c.args.self.now.children.items c.args.self.now.is_told
+returns-clause-finishes c = child-finishes c.args.self.now.scripts c.args.self.now.children.items c.args.self.now.knows_asked
     c.args.self.now.asked.items c.args.self.now.faults _ c.args.child _ c.index-ended.result.now c.requires.started
     c.index-ended.ensures
 

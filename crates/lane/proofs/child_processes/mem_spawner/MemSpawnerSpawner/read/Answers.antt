@@ -14,7 +14,7 @@ invariant_of-self-2 c = record {
 }
 
 pub returns-clause-reads : goal.returns-clause-reads
-returns-clause-reads c = child-reads c.args.self.now.scripts c.args.self.now.children.items c.args.self.now.is_told
+returns-clause-reads c = child-reads c.args.self.now.scripts c.args.self.now.children.items c.args.self.now.knows_asked
     c.args.self.now.asked.items c.args.self.now.faults c.args.child c.copy_rest-n.result c.index-running.result.now _ c.requires
     c.index-running.ensures (rw c.as_slice.ensures.items at c.copy_rest-n.ensures.front)
 

@@ -19,7 +19,7 @@ invariant_of-self-2 c =
 pub returns-then-is_listed-clause-asks : goal.returns-then-is_listed-clause-asks
 returns-then-is_listed-clause-asks c =
     let found = rw c.as_slice.ensures.items at c.index_of.ensures in
-    rw c.push_within.ensures.items (found-asks c.args.self.now.scripts c.args.self.now.children.items _ c.args.self.now.is_told
+    rw c.push_within.ensures.items (found-asks c.args.self.now.scripts c.args.self.now.children.items _ c.args.self.now.knows_asked
     c.args.self.now.asked.items c.args.self.now.faults _ c.in-Some.script (words_of c.args.words.now) (sym found ∙ c.in-Some.is))
 
 pub returns-clause-starts : goal.returns-clause-starts
@@ -28,11 +28,11 @@ returns-clause-starts c =
     let count : c.len-number.result ≡ length c.args.self.now.children.items =
     (let ok = c.args.self.now.children.ok in search (rules, c.len-number.ensures)) in
     rw (c.push_within-2.ensures.items, count) (found-starts c.args.self.now.scripts c.args.self.now.children.items
-    c.args.self.now.is_told c.args.self.now.asked.items _ c.args.self.now.faults _ c.in-Some.script (words_of c.args.words.now)
+    c.args.self.now.knows_asked c.args.self.now.asked.items _ c.args.self.now.faults _ c.in-Some.script (words_of c.args.words.now)
     (sym found ∙ c.in-Some.is))
 
 pub returns-clause-asks : goal.returns-clause-asks
 returns-clause-asks c =
     let found = rw c.as_slice.ensures.items at c.index_of.ensures in
-    rw c.push_within.ensures.items (found-asks c.args.self.now.scripts c.args.self.now.children.items _ c.args.self.now.is_told
+    rw c.push_within.ensures.items (found-asks c.args.self.now.scripts c.args.self.now.children.items _ c.args.self.now.knows_asked
     c.args.self.now.asked.items c.args.self.now.faults _ c.in-Some.script (words_of c.args.words.now) (sym found ∙ c.in-Some.is))

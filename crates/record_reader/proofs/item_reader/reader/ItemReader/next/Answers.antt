@@ -2,7 +2,7 @@ use Rattle.std.proofs.Common.{◌<◌, ℕ, ◌++◌, Option, Some, None, Result
 use Rattle.det_io.specs.declared.failure.Stopped.{Stopped}
 use Rattle.det_io.specs.Shelf.{IsAtEnd}
 use Rattle.det_io.specs.Traffic.{ShelfTraffic, shelf_run, failure_in}
-use Rattle.record_grammar.specs.declared.fault.RecordFault.{RecordFault}
+use Rattle.record_grammar.specs.declared.record_fault.RecordFault.{RecordFault}
 use Rattle.record_view.specs.declared.view.ItemView.{ItemView}
 use Rattle.record_reader.specs.declared.item_reader.reader.Progress.{Progress}
 use Rattle.record_reader.specs.item_reader.StandsFor.{StandsFor, HasRead, ItemIs, RoomFell, GaveView, slot_of, room}

@@ -1,7 +1,7 @@
 use Rattle.std.proofs.Common.{◌≡◌, [], ◌++◌, Result, subst, sym, arith}
 use Rattle.det_io.specs.Shelf.{IsAtEnd}
 use Rattle.det_io.specs.declared.failure.Stopped.{Stopped}
-use Rattle.record_grammar.specs.declared.fault.RecordFault.{RecordFault}
+use Rattle.record_grammar.specs.declared.record_fault.RecordFault.{RecordFault}
 use Rattle.record_reader.specs.declared.item_reader.reader.ItemReader.{ItemReader}
 use Rattle.record_reader.specs.declared.item_reader.reader.Progress.{Progress}
 use Rattle.record_reader.specs.item_reader.StandsFor.{StandsFor, slot_of}

@@ -7,7 +7,7 @@ use Rattle.det_io.specs.Sink.{Grew}
 use Rattle.cycle_engine.specs.Engine.{StandsFor as EngineStands}
 use Rattle.record_grammar.specs.Spelling.{spelled_frame}
 use Rattle.recorder.specs.declared.run_writer.counts.Counts.{Counts}
-use Rattle.recorder.specs.run_writer.Recording.{wrote}
+use Rattle.recorder.specs.run_writer.Recording.{counts_after}
 use Rattle.recorder.proofs.lemmas.run_writer.Framing.{few_refused, stands-next, same_run}
 use Rattle.recorder.proofs.run_writer.recording.Recording.cycle.Goals as goal
 
@@ -34,9 +34,9 @@ returns-clause-ran g c given h =
     let wrote_it = rw (same_counts, same_profile) at c.in_ok-write_frame.ensures in
     let run_is = c.in_ok-run.ensures.frame given h.engine in
     let counts : ℕ → Counts = λ n. record { cycles = n; refused = old.counts.refused + c.refusals.result; bytes = old.counts.bytes } in
-    let all = wrote_it.wrote ∙ ap (λ (f : Frame). wrote (counts c.cycles-self.result) (spelled_frame profile.format f))
+    let all = wrote_it.counts_after ∙ ap (λ (f : Frame). counts_after (counts c.cycles-self.result) (spelled_frame profile.format f))
     c.frame_of-frame.ensures
-    ∙ ap (λ n. wrote (counts n) (spelled_frame profile.format (Run c.in_ok-run.run')))
+    ∙ ap (λ n. counts_after (counts n) (spelled_frame profile.format (Run c.in_ok-run.run')))
     (c.cycles-self.ensures ∙ ap (λ e. e.cycles) (sym wrote_it.engine)) in
     record {
       stands = stands-next g.J.Job.meaning old new given c.args.input c.in_ok-run.run' c.refusals.result h run_is

@@ -9,7 +9,7 @@ returns-clause-opened g c =
     let encoded = c.in_ok-encode_opening.ensures in
     let is = encoded.bytes ∙ opening-is g.J.Job.meaning c.args.self.now c.requires.new in
     opened-ok g.J.Job.meaning c.args.self.now c.encode_opening.new.self c.write.new.self _ _ c.write.result c.requires.new encoded.keeps is
-    c.write.ensures.engine c.write.ensures.profile c.write.ensures.wrote c.write.ensures.took
+    c.write.ensures.engine c.write.ensures.profile c.write.ensures.counts_after c.write.ensures.took
 
 pub returns-clause-cut : goal.returns-clause-cut
 returns-clause-cut g c =

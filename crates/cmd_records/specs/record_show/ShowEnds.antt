@@ -1,0 +1,116 @@
+-- What is true when the printing of a record ends.
+use Rattle.std.specs.Prelude.{◌≡◌, ◌⊎◌, ℕ, List, [], ◌++◌, length, Some, None, Result, Ok, Err}
+use Rattle.std.specs.Prelude.{OnOk}
+use Rattle.det_values.specs.declared.frames.RunFrame.{RunFrame}
+use Rattle.det_io.specs.declared.failure.Failure.TheVariants.{Read, Write, OutOfMemory}
+use Rattle.det_io.specs.declared.failure.Stopped.{Stopped}
+use Rattle.det_io.specs.declared.failure.Stopped.TheVariants.{Refused, Failed}
+use Rattle.det_io.specs.Prefix.{IsPrefix}
+use Rattle.det_io.specs.Shelf.{IsAtEnd}
+use Rattle.det_io.specs.Sink.{Grew, GrewByPrefix, GrewShort}
+use Rattle.det_io.specs.Traffic.{ShelfRun, SinkRun}
+use Rattle.record_grammar.specs.declared.record_fault.RecordFault.{RecordFault}
+use Rattle.record_grammar.specs.declared.item.Item.{Item}
+use Rattle.record_grammar.specs.Record.{items as items_in, fault as fault_in, fault_so_far}
+use Rattle.record_text.specs.declared.show_part.ShowPart.{ShowPart}
+use Rattle.record_text.specs.declared.show_part.ShowPart.TheVariants.{All, Reports, Cycle}
+use Rattle.record_reader.specs.item_reader.Needed.{ReadsWhile}
+use Rattle.record_reader.specs.ItemTaker.{OfSlot}
+use Rattle.probes.specs.Reports.{AudienceState, reported}
+use Rattle.probes.specs.Shows.{SawRuns}
+use Rattle.cmd_records.specs.declared.record_show.shown.Shown.{Shown}
+use Rattle.cmd_records.specs.record_show.PrintedItems.{Kept}
+use Rattle.cmd_records.specs.record_show.Text.{lines_of, reports_of, text_of}
+use Rattle.record_reader.specs.InItems.{runs_in}
+
+-- ---- the text
+
+-- the record is whole, and all of its text was taken
+pub record IsShown (shown : Shown) (part : ShowPart) (audience : AudienceState)
+    (record_bytes : List ℕ) (out : SinkRun) : Type 0 where
+  pub whole : fault_in record_bytes ≡ None
+  pub grew : Grew out.before out.after (text_of part audience record_bytes)
+  pub cycles : shown.cycles ≡ length (runs_in (items_in record_bytes))
+
+-- what a result says of a record, and of what the sink took
+abbrev pub Answers : Result Shown (Stopped RecordFault) → ShowPart → AudienceState → List ℕ
+    → SinkRun → Type 0
+Answers (Ok shown) part audience record_bytes out = IsShown shown part audience record_bytes out
+Answers (Err (Refused fault)) part audience record_bytes out = (fault_in record_bytes ≡ Some fault)
+    × Grew out.before out.after (text_of part audience record_bytes)
+Answers (Err (Failed Read)) part audience record_bytes out =
+    GrewByPrefix out.before out.after (text_of part audience record_bytes)
+Answers (Err (Failed Write)) part audience record_bytes out =
+    GrewShort out.before out.after (text_of part audience record_bytes)
+Answers (Err (Failed OutOfMemory)) part audience record_bytes out =
+    GrewByPrefix out.before out.after (text_of part audience record_bytes)
+
+-- ---- the audience
+
+-- the audience has seen the runs of the first items of a record, whose lines a sink took
+pub record SawFirst (part : ShowPart) (old now : AudienceState) (record_bytes : List ℕ)
+    (before after : List ℕ → Type 0) : Type 0 where
+  pub seen : List Item
+  pub first : IsPrefix seen (items_in record_bytes)
+  pub saw : SawRuns old now (runs_in seen)
+  pub taken : List ℕ
+  pub lines : IsPrefix (lines_of part seen) taken
+  pub grew : Grew before after taken
+
+-- The same for each result. If the record is whole, the audience has seen all its runs and reported
+-- on them, and no probe is left. Nothing is said after "out of memory": some probes may have seen
+-- one run more, or have left.
+abbrev pub Sees : Result Shown (Stopped RecordFault) → ShowPart → AudienceState → AudienceState
+    → List ℕ → SinkRun → Type 0
+Sees (Err (Failed OutOfMemory)) part old now record_bytes out = Unit {0}
+Sees result part old now record_bytes out =
+    SawFirst part old now record_bytes out.before out.after
+
+-- all reports are given and no probe is left, unless only one run is printed
+abbrev pub Finished : ShowPart → AudienceState → AudienceState → List RunFrame → Type 0
+Finished All old now runs = now ≡ record { seeing = []; left = reported old runs }
+Finished Reports old now runs = now ≡ record { seeing = []; left = reported old runs }
+Finished (Cycle number) old now runs = now ≡ old
+
+-- no probe is left, unless only one run is printed
+abbrev pub IsGone : ShowPart → AudienceState → Type 0
+IsGone (Cycle number) now = Unit {0}
+IsGone part now = now.seeing ≡ []
+
+-- the reports, if there are any, were printed, or the audience or the sink failed
+abbrev pub FinishIs : Result Shown (Stopped RecordFault) → ShowPart → ℕ → AudienceState
+    → AudienceState → SinkRun → Type 0
+FinishIs (Ok shown) part cycles old now out = (shown.cycles ≡ cycles) × Finished part old now []
+    × Grew out.before out.after (reports_of part old [])
+FinishIs (Err (Failed Write)) part cycles old now out = Finished part old now []
+    × GrewShort out.before out.after (reports_of part old [])
+FinishIs (Err (Failed OutOfMemory)) part cycles old now out = Grew out.before out.after []
+FinishIs (Err stop) part cycles old now out = ⊥
+
+-- ---- the whole
+
+-- how far a record was read: to its end, or until its fault is certain whatever follows
+abbrev pub ReadsTo : Result Shown (Stopped RecordFault) → List ℕ → Type 0 → Type 0
+ReadsTo (Ok shown) read at_end = at_end
+ReadsTo (Err (Refused fault)) read at_end =
+    ((rest : List ℕ) → fault_in (read ++ rest) ≡ Some fault) ⊎ at_end
+ReadsTo (Err (Failed Read)) read at_end = fault_so_far read ≡ None
+ReadsTo (Err stop) read at_end = Unit {0}
+
+-- if a read failed, the lines of all items in the bytes that were read were taken
+abbrev pub WroteRead : Result Shown (Stopped RecordFault) → ShowPart → List ℕ → SinkRun → Type 0
+WroteRead (Err (Failed Read)) part read out =
+    Grew out.before out.after (lines_of part (items_in read))
+WroteRead result part read out = Unit {0}
+
+-- the result after these bytes were read
+pub record Ended (result : Result Shown (Stopped RecordFault)) (part : ShowPart)
+    (old now : AudienceState) (read : List ℕ) (shelf : ShelfRun) (slot : ℕ) (out : SinkRun)
+    : Type 0 where
+  pub reads_to : ReadsTo result read (IsAtEnd shelf.last slot)
+  pub needed : ReadsWhile (λ first. fault_so_far first ≡ None) read
+  pub wrote : WroteRead result part read out
+  pub answers : OfSlot shelf slot read (λ bytes. Answers result part old bytes out)
+  pub sees : OfSlot shelf slot read (λ bytes. Sees result part old now bytes out)
+  pub gone : OnOk result (IsGone part now)
+  pub kept : Kept part old now

@@ -1,0 +1,95 @@
+//! `show_run`, which prints a record and shows it to an audience as it is read.
+ghost use Rattle.std.specs.Prelude.{◌≡◌, ℕ, ◌<◌, List, []};
+ghost use Rattle.det_io.specs.Traffic.{ShelfTraffic, SinkTraffic, shelf_run, sink_run};
+ghost use Rattle.det_io.specs.Traffic.{failure_in};
+ghost use Rattle.probes.specs.Reports.{AudienceState};
+ghost use Rattle.probes.specs.Shows.{seen};
+ghost use Rattle.record_reader.specs.item_reader.StandsFor.{StandsFor, slot_of};
+ghost use Rattle.record_reader.specs.ItemTaker.{ItemsRead};
+ghost use Rattle.cmd_records.specs.record_show.PrintedItems.{AreShown, Kept, showing};
+ghost use Rattle.cmd_records.specs.record_show.ShowEnds.{Ended};
+
+use crate::record_show::printer::Printer;
+use crate::record_show::shown::Shown;
+use det_io::{Sink, Slots, Stopped, write_all};
+use probes::{Audience, Probe};
+use record_grammar::RecordFault;
+use record_reader::item_reader::ItemReader;
+use record_text::ShowPart;
+use std::alloc::Global;
+
+/// Prints a part of the record that a reader reads, item by item.
+///
+/// Each Run frame is printed and then shown to the audience. After a whole record all reports are
+/// printed. If only one run is printed, the audience takes no part and stays as it is. The whole
+/// record is read, whatever the part.
+///
+/// `Refused` has the record's fault. The lines of all whole items before it are written then, and
+/// no reports. After a failed read, the lines of all items that were read are written.
+pub fn show_run<S: Slots, K: Sink>(
+    alloc: Global,
+    part: ShowPart,
+    reader: &mut ItemReader,
+    shelf: &mut S,
+    sink: &mut K,
+    audience: &mut Audience,
+) -> Result<Shown, Stopped<RecordFault>>
+    requires slot { slot_of reader.old < (S.sees shelf.old).slots }
+    // The reader is new.
+    requires new { StandsFor reader.old [] [] }
+    // For the bytes that were read, and every record that begins with them.
+    ensures run { (read : List ℕ)
+        × Ended result part (seen (λ b. life (b.vtable, b.value)) audience.old)
+        (seen (λ b. life (b.vtable, b.value)) audience.new)
+        read (shelf_run S.sees S.stays shelf.old shelf.new) (slot_of reader.old)
+        (sink_run K.took K.faults sink.old sink.new) }
+    ensures shelf_traffic { ShelfTraffic (shelf_run S.sees S.stays shelf.old shelf.new)
+        (failure_in result) }
+    ensures sink_traffic { SinkTraffic (sink_run K.took K.faults sink.old sink.new)
+        (failure_in result) }
+{
+    let mut printer = Printer::new(alloc, part);
+    show_items(reader, shelf, &mut printer, sink, audience)?;
+    let shown = Shown {
+        cycles: printer.cycles,
+    };
+    if let ShowPart::Cycle(_) = part {
+        return Ok(shown);
+    }
+    audience.finish(alloc)?;
+    write_all(sink, audience.reports())?;
+    Ok(shown)
+}
+
+/// Passes all items to a printer and an audience.
+fn show_items<S: Slots, K: Sink>(
+    reader: &mut ItemReader,
+    shelf: &mut S,
+    printer: &mut Printer,
+    sink: &mut K,
+    audience: &mut Audience,
+) -> Result<(), Stopped<RecordFault>>
+    requires slot { slot_of reader.old < (S.sees shelf.old).slots }
+    requires new { StandsFor reader.old [] [] }
+    requires fresh { (first : AudienceState)
+        → AreShown printer.old.part first first printer.old [] }
+    ensures items { ItemsRead result
+        (showing printer.old.part (seen (λ b. life (b.vtable, b.value)) audience.old)
+        (seen (λ b. life (b.vtable, b.value)) audience.new) printer.new)
+        (shelf_run S.sees S.stays shelf.old shelf.new) (slot_of reader.old)
+        (sink_run K.took K.faults sink.old sink.new) }
+    ensures part { printer.new.part ≡ printer.old.part }
+    ensures kept { Kept printer.old.part (seen (λ b. life (b.vtable, b.value)) audience.old)
+        (seen (λ b. life (b.vtable, b.value)) audience.new) }
+    ensures shelf_traffic { ShelfTraffic (shelf_run S.sees S.stays shelf.old shelf.new)
+        (failure_in result) }
+    ensures sink_traffic { SinkTraffic (sink_run K.took K.faults sink.old sink.new)
+        (failure_in result) }
+{
+    'items: loop {
+        let Some(view) = reader.next(shelf)? else {
+            return Ok(());
+        };
+        printer.take(view, reader.bytes(view), sink, audience)?;
+    }
+}

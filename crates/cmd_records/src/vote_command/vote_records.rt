@@ -1,0 +1,113 @@
+//! The commands `vote` and `vote --dissent` over names, around `voter::vote` over slots.
+ghost use Rattle.std.specs.Prelude.{◌≡◌, ◌≤◌, map, length, true, Ok, []};
+ghost use Rattle.det_io.specs.Count.{Rose};
+ghost use Rattle.det_io.specs.Shelf.{AsksPrefix};
+ghost use Rattle.det_io.specs.Sink.{Grew};
+ghost use Rattle.cli_answers.specs.Ends.{can_end};
+ghost use Rattle.cli_answers.specs.Outcome.{Meets, KnowsBytes, known_bytes};
+ghost use Rattle.cli_answers.specs.Slots.{KeepsSlots};
+ghost use Rattle.cmd_records.specs.vote_command.Vote.{answer_of, dissent_text, vote_work};
+ghost use Rattle.cmd_records.specs.vote_command.Vote.{vote_outcome, dissent_outcome, VoteBreaksOff};
+
+use crate::open_names::open_all;
+use crate::vote_command::text::text_of;
+use crate::voter::{NoMajority, Vote};
+use cli_answers::Answer;
+use det_io::{Discard, Shelf, Sink, Stopped, write_all};
+use std::alloc::Global;
+
+/// The answer by the result of a vote.
+fn answer_of(voted: Result<Vote, Stopped<NoMajority>>) -> Answer
+    ensures is { result ≡ answer_of voted }
+    ensures ends { can_end vote_work result ≡ true }
+{
+    match voted {
+        Ok(_) => Answer::Done,
+        Err(Stopped::Refused(split)) => Answer::NoMajority { row: split.row },
+        Err(Stopped::Failed(failure)) => Answer::from(failure),
+    }
+}
+
+/// Writes the record of the majority of the records under these names, row by row as they are read.
+///
+/// All names are opened in their order before the first record is read. If more than half of the
+/// records aren't one whole record, the rows that more than half have in common are written. If a
+/// read fails, all rows that were voted are written.
+pub fn vote<S: Shelf, K: Sink>(
+    alloc: Global,
+    recorded: &[&str],
+    shelf: &mut S,
+    out: &mut K,
+) -> Answer
+    requires some { 3 ≤ length recorded.now }
+    requires few { length recorded.now ≤ 7 }
+    ensures meets { Meets (vote_outcome
+        (map (known_bytes (S.sees shelf.old)) (map (λ name. name.now) recorded.now)))
+        (KnowsBytes (S.sees shelf.old) (map (λ name. name.now) recorded.now))
+        (Rose (S.sees shelf.old).faults (S.sees shelf.new).faults)
+        (Rose (K.faults out.old) (K.faults out.new)) (K.took out.old) (K.took out.new) result }
+    ensures ends { can_end vote_work result ≡ true }
+    ensures broken { result ≡ Answer.ReadFault
+        → KnowsBytes (S.sees shelf.old) (map (λ name. name.now) recorded.now)
+        → VoteBreaksOff (S.sees shelf.old) (S.sees shelf.new)
+        (map (λ name. name.now) recorded.now) (K.took out.old) (K.took out.new) }
+    ensures asked { AsksPrefix (S.sees shelf.old) (S.sees shelf.new)
+        (map (λ name. name.now) recorded.now) }
+    ensures earlier { KeepsSlots (S.sees shelf.old) (S.sees shelf.new) }
+{
+    let slots = match open_all(alloc, recorded, shelf) {
+        Ok(slots) => slots,
+        Err(failure) => return Answer::from(failure),
+    };
+    answer_of(crate::voter::vote(alloc, shelf, &slots, out))
+}
+
+/// Prints how many cycles the majority's record has, and which copies dissent from it.
+fn print<K: Sink>(alloc: Global, vote: &Vote, out: &mut K) -> Answer
+    ensures meets { Meets (record {
+      answer = Answer.Done;
+      bytes = dissent_text vote.now.cycles vote.now.dissent;
+    }) (Unit {0}) ⊥
+        (Rose (K.faults out.old) (K.faults out.new)) (K.took out.old) (K.took out.new) result }
+    ensures ends { can_end vote_work result ≡ true }
+{
+    let Ok(text) = text_of(alloc, vote) else {
+        return Answer::OutOfMemory;
+    };
+    match write_all(out, &text) {
+        Ok(()) => Answer::Done,
+        Err(_) => Answer::WriteFault,
+    }
+}
+
+/// Prints how many cycles the majority's record has, in place of the record. For each copy that
+/// isn't that record, it prints the copy's number and the first row in which it differs. If there
+/// is no majority, or a read fails, nothing is printed.
+pub fn vote_dissent<S: Shelf, K: Sink>(
+    alloc: Global,
+    recorded: &[&str],
+    shelf: &mut S,
+    out: &mut K,
+) -> Answer
+    requires some { 3 ≤ length recorded.now }
+    requires few { length recorded.now ≤ 7 }
+    ensures meets { Meets (dissent_outcome
+        (map (known_bytes (S.sees shelf.old)) (map (λ name. name.now) recorded.now)))
+        (KnowsBytes (S.sees shelf.old) (map (λ name. name.now) recorded.now))
+        (Rose (S.sees shelf.old).faults (S.sees shelf.new).faults)
+        (Rose (K.faults out.old) (K.faults out.new)) (K.took out.old) (K.took out.new) result }
+    ensures ends { can_end vote_work result ≡ true }
+    ensures broken { result ≡ Answer.ReadFault → Grew (K.took out.old) (K.took out.new) [] }
+    ensures asked { AsksPrefix (S.sees shelf.old) (S.sees shelf.new)
+        (map (λ name. name.now) recorded.now) }
+    ensures earlier { KeepsSlots (S.sees shelf.old) (S.sees shelf.new) }
+{
+    let slots = match open_all(alloc, recorded, shelf) {
+        Ok(slots) => slots,
+        Err(failure) => return Answer::from(failure),
+    };
+    match crate::voter::vote(alloc, shelf, &slots, &mut Discard) {
+        Ok(vote) => print(alloc, &vote, out),
+        Err(stop) => answer_of(Err(stop)),
+    }
+}

@@ -1,0 +1,78 @@
+//! The output of `check`: the line of a verdict, then the reports.
+ghost use Rattle.std.specs.Prelude.{◌≡◌, ◌++◌, true, Ok, IfOk, OnOk};
+ghost use Rattle.det_io.specs.Count.{Rose};
+ghost use Rattle.cli_answers.specs.Ends.{can_end, compares_runs};
+ghost use Rattle.cli_answers.specs.Outcome.{Meets};
+ghost use Rattle.cmd_rerun.specs.check_command.Check.{answer_to, check_line, outcome_by};
+
+use cli_answers::Answer;
+use copies::Difference;
+use copies::verdict_text::put_place;
+use det_io::{Sink, write_all};
+use det_values::OutOfMemory;
+use record_text::{put_number_line, put_str};
+use rerun::checker::CheckVerdict;
+use std::alloc::Global;
+
+/// The answer of the command for a verdict.
+fn answer_to(verdict: CheckVerdict) -> Answer
+    ensures is { result ≡ answer_to verdict }
+    ensures ends { can_end compares_runs result ≡ true }
+{
+    match verdict {
+        CheckVerdict::Genuine { .. } => Answer::Done,
+        CheckVerdict::Departs(_) => Answer::Differs,
+    }
+}
+
+fn put_departs_line(out: &mut Vec<u8>, at: Difference) -> Result<(), OutOfMemory>
+    ensures { OnOk result (out.new.items
+        ≡ out.old.items ++ check_line (CheckVerdict.Departs at)) }
+{
+    put_str(out, "departs ")?;
+    put_place(out, at)?;
+    put_str(out, "\n")?;
+    Ok(())
+}
+
+fn put_check_line(out: &mut Vec<u8>, verdict: CheckVerdict) -> Result<(), OutOfMemory>
+    ensures { OnOk result (out.new.items ≡ out.old.items ++ check_line verdict) }
+{
+    match verdict {
+        CheckVerdict::Genuine { cycles } => {
+            put_number_line(out, "genuine", cycles as u64)?;
+            Ok(())
+        }
+        CheckVerdict::Departs(at) => put_departs_line(out, at),
+    }
+}
+
+/// The line of a verdict, then the reports.
+fn lines_of(alloc: Global, verdict: CheckVerdict, reports: &[u8]) -> Result<Vec<u8>, OutOfMemory>
+    ensures { IfOk result (λ lines. lines.items ≡ check_line verdict ++ reports.now) }
+{
+    let mut lines = Vec::new(alloc);
+    put_check_line(&mut lines, verdict)?;
+    lines.extend_from_slice(reports)?;
+    Ok(lines)
+}
+
+/// Prints the line of a verdict, then the reports.
+pub(crate) fn print_verdict<K: Sink>(
+    alloc: Global,
+    verdict: CheckVerdict,
+    reports: &[u8],
+    out: &mut K,
+) -> Answer
+    ensures meets { Meets (outcome_by (Ok verdict) reports.now) (Unit {0}) ⊥
+        (Rose (K.faults out.old) (K.faults out.new)) (K.took out.old) (K.took out.new) result }
+    ensures ends { can_end compares_runs result ≡ true }
+{
+    let Ok(lines) = lines_of(alloc, verdict, reports) else {
+        return Answer::OutOfMemory;
+    };
+    match write_all(out, &lines) {
+        Ok(()) => answer_to(verdict),
+        Err(_) => Answer::WriteFault,
+    }
+}

@@ -1,0 +1,32 @@
+use Rattle.std.proofs.Common.{refl, sym, ap, ◌∙◌}
+use Rattle.std.specs.Prelude.{Result}
+use Rattle.manifest.specs.Values.{ManifestValue}
+use Rattle.cli_answers.specs.declared.answer.BadManifest.{BadManifest}
+use Rattle.cli_answers.specs.Outcome.{Outcome, known_bytes, text_outcome}
+use Rattle.cli_answers.proofs.AnswerMeets.{meets-whole}
+use Rattle.run_setup.proofs.Ending.{meets-end, can-end}
+use Rattle.run_setup.specs.Setup.{with_manifest}
+use Rattle.cmd_run.specs.needs_command.Lines.{needs_lines}
+use Rattle.cmd_run.specs.needs_command.Needs.{needs_work}
+use Rattle.cmd_run.proofs.needs_command.manifest_needs.needs.Goals as goal
+
+-- the lines of the manifest that a text is, or its refusal
+abbrev needs_from : Result ManifestValue BadManifest → Outcome
+needs_from = with_manifest (λ m. text_outcome (needs_lines m))
+
+pub returns-in-Err-clause-meets : goal.returns-in-Err-clause-meets
+returns-in-Err-clause-meets g c =
+    let bytes = known_bytes (g.S.Slots.sees c.args.shelf.now) c.args.name.now in
+    rw c.from.ensures
+    (meets-end needs_from (λ why. refl) c.args.strict bytes _ _ _ _ c.in-Err.end c.in-Err.ensures.refused
+    c.in-Err.ensures.traffic.cause c.in-Err.ensures.writes_nothing)
+
+pub returns-in-Err-clause-ends : goal.returns-in-Err-clause-ends
+returns-in-Err-clause-ends g c = rw c.from.ensures (can-end c.in-Err.end needs_work refl)
+
+pub returns-in-Ok-write_all-clause-meets : goal.returns-in-Ok-write_all-clause-meets
+returns-in-Ok-write_all-clause-meets g c =
+    meets-whole _ _ _ _ _ _ _ c.deref.result.now (λ e. cc) (λ e. cc)
+    (λ is_known. ap needs_from (c.in-Ok.ensures.manifest is_known) ∙ ap text_outcome (sym (c.deref.ensures.value
+    ∙ c.in-Ok-needs_text.ensures)))
+    c.in-Ok-write_all.ensures.all

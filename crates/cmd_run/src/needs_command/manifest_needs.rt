@@ -1,0 +1,58 @@
+//! The command `needs`: reads the manifest and prints its lines.
+ghost use Rattle.std.specs.Prelude.{◌≡◌, ◌∷◌, [], true, IfOk, IsSome};
+ghost use Rattle.det_io.specs.Count.{Rose};
+ghost use Rattle.det_io.specs.Shelf.{Asks};
+ghost use Rattle.cli_answers.specs.Ends.{can_end};
+ghost use Rattle.cli_answers.specs.Outcome.{Meets, known_bytes};
+ghost use Rattle.cli_answers.specs.Slots.{KeepsSlots};
+ghost use Rattle.cmd_run.specs.needs_command.Lines.{needs_lines};
+ghost use Rattle.cmd_run.specs.needs_command.Needs.{needs_outcome, needs_work};
+
+use crate::needs_command::lines::put_needs_lines;
+use cli_answers::Answer;
+use det_io::{Shelf, Sink, write_all};
+use det_values::OutOfMemory;
+use manifest::Manifest;
+use run_setup::read_setup;
+use std::alloc::Global;
+
+/// The lines of a manifest, in memory of their own.
+fn needs_text(alloc: Global, manifest: &Manifest) -> Result<Vec<u8>, OutOfMemory>
+    ensures { IfOk result (λ text. text.items ≡ needs_lines manifest.now) }
+{
+    let mut text = Vec::new(alloc);
+    put_needs_lines(&mut text, manifest)?;
+    Ok(text)
+}
+
+/// Prints the lines of the manifest under this name: its job, its cycle time in nanoseconds, its
+/// workers, its platform, and what an initialisation and a run need. If `strict` is set, a key that
+/// no table of a manifest knows is a fault.
+pub fn needs<S: Shelf, K: Sink>(
+    alloc: Global,
+    name: &str,
+    strict: bool,
+    shelf: &mut S,
+    out: &mut K,
+) -> Answer
+    ensures meets { Meets (needs_outcome strict (known_bytes (S.sees shelf.old) name.now))
+        (IsSome ((S.sees shelf.old).holds name.now))
+        (Rose (S.sees shelf.old).faults (S.sees shelf.new).faults)
+        (Rose (K.faults out.old) (K.faults out.new)) (K.took out.old) (K.took out.new) result }
+    ensures ends { can_end needs_work result ≡ true }
+    ensures asked { Asks (S.sees shelf.old) (S.sees shelf.new) (name.now ∷ []) }
+    ensures earlier { KeepsSlots (S.sees shelf.old) (S.sees shelf.new) }
+{
+    let manifest = match read_setup(alloc, name, strict, shelf) {
+        Ok(manifest) => manifest,
+        Err(end) => return Answer::from(end),
+    };
+    let text = match needs_text(alloc, &manifest) {
+        Ok(text) => text,
+        Err(_) => return Answer::OutOfMemory,
+    };
+    match write_all(out, &text) {
+        Ok(()) => Answer::Done,
+        Err(_) => Answer::WriteFault,
+    }
+}

@@ -1,0 +1,64 @@
+//! Runs a shipped job over a text in memory, and sums up the record without keeping it.
+ghost use Rattle.std.specs.Prelude.{◌≡◌, [], length, None, Ok, OnOk, IfOk, IfErr};
+ghost use Rattle.stimulus.specs.Reading.{Terminated, ending};
+ghost use Rattle.probes.specs.Reports.{reported};
+ghost use Rattle.probes.specs.Shows.{seen};
+ghost use Rattle.jobs.specs.Kinds.{bad_param, by_kind};
+ghost use Rattle.cmd_run.specs.sim_command.Sim.{runs_over, summary_over};
+
+use crate::crew_recorder::record_by_crew;
+use det_io::{Failure, Stopped, TextShelf};
+use det_values::{Bytes, OutOfMemory};
+use probes::{Audience, Probe};
+use record_reader::DigestSink;
+use record_text::Summary;
+use recorder::run_writer::Counts;
+use shipped_crews::{ShippedRun, Workers};
+use std::thread::Threads;
+use stimulus::StimulusFault;
+use worker_pool::Gate;
+
+/// The counts of a run that only `OutOfMemory` can end early.
+fn counts_of(run: Result<Counts, Stopped<StimulusFault>>) -> Result<Counts, OutOfMemory>
+    requires { IfErr run (λ why. why ≡ Stopped.Failed Failure.OutOfMemory) }
+    ensures { IfOk result (λ counts. run ≡ Ok counts) }
+{
+    match run {
+        Ok(counts) => Ok(counts),
+        Err(_) => Err(OutOfMemory),
+    }
+}
+
+/// Runs a shipped job over a whole stimulus before an audience. Returns the summary of the record,
+/// which isn't kept.
+pub(crate) fn summarize_run<R, G>(
+    workers: &Workers<'_, R, G>,
+    run: ShippedRun,
+    number: u64,
+    text: Bytes,
+    audience: &mut Audience,
+) -> Result<Summary, OutOfMemory>
+where
+    R: Threads,
+    G: Gate + Send + Sync + 'static,
+    requires good { bad_param run.kind run.profile.params (length run.profile.events) ≡ None }
+    requires whole { ending (length run.profile.events) text ≡ Terminated }
+    ensures summary { IfOk result (λ summary.
+        summary ≡ by_kind (λ s g e l p m. summary_over m run.profile text number) run.kind) }
+    ensures reports { OnOk result (reported
+        (seen (λ b. life (b.vtable, b.value)) audience.new) []
+        ≡ reported (seen (λ b. life (b.vtable, b.value)) audience.old)
+        (by_kind (λ s g e l p m. runs_over m run.profile text) run.kind)) }
+{
+    let mut shelf = TextShelf::new(text);
+    let mut sink = DigestSink::new();
+    let recorded = record_by_crew(workers, run, 0, &mut shelf, &mut sink, audience);
+    let counts = counts_of(recorded)?;
+    Ok(Summary {
+        number,
+        cycles: counts.cycles,
+        refused: counts.refused,
+        bytes: counts.bytes,
+        digest: sink.finish(),
+    })
+}

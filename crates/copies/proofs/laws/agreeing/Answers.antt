@@ -1,5 +1,0 @@
-use Rattle.copies.proofs.Agreeing.{agrees, agreed}
-use Rattle.copies.proofs.laws.agreeing.Goals as goal
-
-pub returns : goal.returns
-returns c first others cycles bytes = (agrees first others cycles bytes, agreed first others cycles)

@@ -1,0 +1,83 @@
+//! Hints of `det`, written after the answer's line.
+use cli_words::read_words;
+use det_cli::{Answer, Status};
+use det_io::{DirShelf, Sink, write_all};
+use hints_on_files::command_hint;
+use hints_on_words::{
+    UnreadFile, can_reread, help_for, words_fault, write_failure, write_hint, write_words_hint,
+};
+use std::alloc::Global;
+use std::io::Error;
+
+/// Refuses to write a record to a terminal, with the line of a write fault and a hint.
+pub(crate) fn refuse_terminal<E: Sink>(alloc: Global, err: &mut E) -> Status {
+    let line = Answer::WriteFault.line();
+    if write_all(err, line.as_slice()).is_ok() {
+        let hint = "standard output is a terminal: redirect it, or add --force";
+        write_hint(alloc, hint, err);
+    }
+    Status::WriteFault
+}
+
+/// Writes the hints on arguments that are no command.
+fn hint_on_words<E: Sink>(rt: &HostRuntime, words: &[String], err: &mut E) {
+    write_words_hint(rt, rt.alloc(), words_fault(words), help_for(words), err);
+}
+
+/// Writes the hint on a file that couldn't be opened or read.
+fn hint_on_read<E: Sink>(
+    alloc: Global,
+    words: &[String],
+    failed: Option<(u32, Error)>,
+    err: &mut E,
+) {
+    let Some(command) = read_words(words) else {
+        return;
+    };
+    if let Some(unread) = UnreadFile::find(alloc, command.names.as_slice(), failed) {
+        write_hint(alloc, unread, err);
+    }
+}
+
+/// Writes the hint on a file that was refused.
+fn hint_on_file<E: Sink>(rt: &HostRuntime, words: &[String], status: Status, err: &mut E) {
+    let alloc = rt.alloc();
+    let Some(command) = read_words(words) else {
+        return;
+    };
+    if !can_reread(rt, command.names.as_slice()) {
+        return;
+    }
+    let mut shelf = DirShelf::new(rt, alloc);
+    if let Some(hint) = command_hint(alloc, &command, status, &mut shelf) {
+        write_hint(alloc, hint, err);
+    }
+}
+
+/// Writes the hints on a status whose line was written. They say why the arguments are no command,
+/// why the system failed, or what is wrong with a file, which is read once more.
+///
+/// `unread` is the slot that failed, with its error, and `failed` the error of standard output.
+pub(crate) fn write_hints<E: Sink>(
+    rt: &HostRuntime,
+    words: &[String],
+    status: Status,
+    unread: Option<(u32, Error)>,
+    failed: Option<Error>,
+    err: &mut E,
+) {
+    let alloc = rt.alloc();
+    match status {
+        Status::BadWords => hint_on_words(rt, words, err),
+        Status::ReadFault => hint_on_read(alloc, words, unread, err),
+        Status::WriteFault => {
+            if let Some(reason) = write_failure(alloc, failed) {
+                write_hint(alloc, reason, err);
+            }
+        }
+        Status::BadManifest | Status::BadStimulus | Status::BadRecord => {
+            hint_on_file(rt, words, status, err);
+        }
+        _ => {}
+    }
+}

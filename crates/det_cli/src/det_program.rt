@@ -1,0 +1,212 @@
+//! `top`, which runs the command that the arguments name.
+ghost use Rattle.std.specs.Prelude.{◌≡◌, true, map, option_map, MatchOption};
+ghost use Rattle.det_io.specs.Count.{Rose};
+ghost use Rattle.cli_answers.specs.Ends.{can_end, reads_nothing};
+ghost use Rattle.cli_answers.specs.Outcome.{Meets, text_outcome};
+ghost use Rattle.cli_words.specs.Names.{texts};
+ghost use Rattle.cli_words.specs.Command.{command_value};
+ghost use Rattle.cli_words.specs.Reading.{command_of};
+ghost use Rattle.cli_words.specs.Ranges.{IsInRange};
+ghost use Rattle.probes.specs.Reports.{AudienceState};
+ghost use Rattle.probes.specs.Shows.{seen};
+ghost use Rattle.det_cli.specs.Texts.{page_of, help_text};
+ghost use Rattle.det_cli.specs.Promise.{Runs, Refuses, IsPromised};
+
+use crate::det_usage::{USAGE, VERSION};
+use crate::pages::{
+    CHAIN, CHECK, COMPARE, DEMO, NEEDS, RECORD, REPLAY, SALVAGE, SHOW, SIM, UPGRADE, VOTE,
+};
+use crate::record_commands::{workers_of, write_gathered};
+use cli_answers::{Answer, Status};
+use cli_words::laws::range_law;
+use cli_words::{Command, CommandWord, Options, read_words};
+use cmd_records::compare_command::compare;
+use cmd_records::salvage_command::{salvage, salvage_reports};
+use cmd_records::show_command::show;
+use cmd_records::vote_command::{vote, vote_dissent};
+use cmd_rerun::check_command::check;
+use cmd_run::needs_command::needs;
+use cmd_run::sim_command::sim;
+use det_io::{Shelf, Sink, write_all};
+use probes::{Audience, Probe};
+use shipped_crews::Host;
+use std::alloc::Global;
+use std::thread::Threads;
+use worker_pool::Gate;
+
+/// Runs the command that the arguments after the program's name give.
+///
+/// `record`, `demo`, `sim`, `chain`, `replay`, `check` and `upgrade` run their cycles by workers on
+/// real threads. At most one worker runs for each block of elements, and at least one runs. Each
+/// worker that runs passes the gate; one beyond them isn't started and doesn't pass.
+///
+/// `show`, `sim`, `check` and `salvage` show the runs that they read or make to the audience.
+pub fn top<S, K, E, R, G>(
+    host: &Host<'_, R, G>,
+    words: &[String],
+    shelf: &mut S,
+    out: &mut K,
+    err: &mut E,
+    audience: &mut Audience,
+) -> Status
+where
+    S: Shelf,
+    K: Sink,
+    E: Sink,
+    R: Threads,
+    G: Gate + Send + Sync + 'static,
+    ensures { IsPromised (texts words.now) (S.sees shelf.old) (S.sees shelf.new)
+        (Rose (K.faults out.old) (K.faults out.new)) (K.took out.old) (K.took out.new)
+        (Rose (E.faults err.old) (E.faults err.new)) (E.took err.old) (E.took err.new)
+        (seen (λ b. life (b.vtable, b.value)) audience.old)
+        (seen (λ b. life (b.vtable, b.value)) audience.new) result }
+{
+    let answer = run(host, words, shelf, out, audience);
+    let line = answer.line();
+    let _ = write_all(err, line.as_slice());
+    answer.status()
+}
+
+fn run<S, K, R, G>(
+    host: &Host<'_, R, G>,
+    words: &[String],
+    shelf: &mut S,
+    out: &mut K,
+    audience: &mut Audience,
+) -> Answer
+where
+    S: Shelf,
+    K: Sink,
+    R: Threads,
+    G: Gate + Send + Sync + 'static,
+    ensures { MatchOption (command_of (texts words.now))
+        (Refuses (S.sees shelf.old) (S.sees shelf.new) (K.took out.old) (K.took out.new)
+        (seen (λ b. life (b.vtable, b.value)) audience.old)
+        (seen (λ b. life (b.vtable, b.value)) audience.new) result)
+        (λ c. Runs c (S.sees shelf.old) (S.sees shelf.new)
+        (Rose (K.faults out.old) (K.faults out.new)) (K.took out.old) (K.took out.new)
+        (seen (λ b. life (b.vtable, b.value)) audience.old)
+        (seen (λ b. life (b.vtable, b.value)) audience.new) result) }
+{
+    range_law();
+    match read_words(words) {
+        Some(command) => run_command(host, command, shelf, out, audience),
+        None => Answer::BadWords,
+    }
+}
+
+fn run_command<S, K, R, G>(
+    host: &Host<'_, R, G>,
+    command: Command<'_>,
+    shelf: &mut S,
+    out: &mut K,
+    audience: &mut Audience,
+) -> Answer
+where
+    S: Shelf,
+    K: Sink,
+    R: Threads,
+    G: Gate + Send + Sync + 'static,
+    requires range { IsInRange (command_value command) }
+    ensures { Runs (command_value command.entry) (S.sees shelf.old) (S.sees shelf.new)
+        (Rose (K.faults out.old) (K.faults out.new)) (K.took out.old) (K.took out.new)
+        (seen (λ b. life (b.vtable, b.value)) audience.old)
+        (seen (λ b. life (b.vtable, b.value)) audience.new) result }
+{
+    let alloc = host.alloc;
+    let first = command.name(0);
+    let Options {
+        workers,
+        strict,
+        ..
+    } = command.options;
+    match command.word {
+        CommandWord::Demo
+        | CommandWord::Record
+        | CommandWord::Replay
+        | CommandWord::Upgrade
+        | CommandWord::Chain => write_gathered(host, &command, shelf, out),
+        CommandWord::Show => show(alloc, first, command.options.part(), shelf, out, audience),
+        CommandWord::Needs => needs(alloc, first, strict, shelf, out),
+        CommandWord::Sim => sim(&workers_of(host, workers), command.number(), out, audience),
+        CommandWord::Help => match help_text(command.names.as_slice()) {
+            Some(text) => print(text, out),
+            // Each name that help takes is the word of a command with a page.
+            None => unreachable!(),
+        },
+        CommandWord::Version => print(VERSION, out),
+        CommandWord::Compare => compare(alloc, command.names.as_slice(), shelf, out),
+        CommandWord::Salvage => {
+            if command.options.reports {
+                return salvage_reports(alloc, first, shelf, out, audience);
+            }
+            salvage(alloc, first, shelf, out)
+        }
+        CommandWord::Check => check(&workers_of(host, workers), first, shelf, out, audience),
+        CommandWord::Vote => run_vote(alloc, &command, shelf, out),
+    }
+}
+
+/// Writes the majority's record of the named copies, or prints which copies dissent from it.
+fn run_vote<S: Shelf, K: Sink>(
+    alloc: Global,
+    command: &Command<'_>,
+    shelf: &mut S,
+    out: &mut K,
+) -> Answer
+    requires range { IsInRange (command_value command.now) }
+    requires word { command.now.word ≡ CommandWord.Vote }
+    ensures { (audience : AudienceState) → Runs (command_value command.now)
+        (S.sees shelf.old) (S.sees shelf.new) (Rose (K.faults out.old) (K.faults out.new))
+        (K.took out.old) (K.took out.new) audience audience result }
+{
+    let copies = command.names.as_slice();
+    if command.options.dissent {
+        return vote_dissent(alloc, copies, shelf, out);
+    }
+    vote(alloc, copies, shelf, out)
+}
+
+/// The page of a command. `--help` and `--version` have none.
+fn page_of(word: CommandWord) -> Option<&'static str>
+    ensures { option_map (λ text. text.now) result ≡ page_of word }
+{
+    match word {
+        CommandWord::Demo => Some(DEMO),
+        CommandWord::Record => Some(RECORD),
+        CommandWord::Show => Some(SHOW),
+        CommandWord::Needs => Some(NEEDS),
+        CommandWord::Sim => Some(SIM),
+        CommandWord::Replay => Some(REPLAY),
+        CommandWord::Check => Some(CHECK),
+        CommandWord::Upgrade => Some(UPGRADE),
+        CommandWord::Compare => Some(COMPARE),
+        CommandWord::Vote => Some(VOTE),
+        CommandWord::Salvage => Some(SALVAGE),
+        CommandWord::Chain => Some(CHAIN),
+        CommandWord::Help | CommandWord::Version => None,
+    }
+}
+
+/// The text that `--help` prints with these names.
+pub(crate) fn help_text(names: &[&str]) -> Option<&'static str>
+    ensures { option_map (λ text. text.now) result
+        ≡ help_text (map (λ name. name.now) names.now) }
+{
+    match names {
+        [] => Some(USAGE),
+        [name, ..] => page_of(CommandWord::from_word(name)?),
+    }
+}
+
+/// Writes a text.
+fn print<K: Sink>(text: &str, out: &mut K) -> Answer
+    ensures meets { Meets (text_outcome text.now) (Unit {0}) ⊥
+        (Rose (K.faults out.old) (K.faults out.new)) (K.took out.old) (K.took out.new) result }
+    ensures ends { can_end reads_nothing result ≡ true }
+{
+    match write_all(out, text.as_bytes()) {
+        Ok(()) => Answer::Done,
+        Err(_) => Answer::WriteFault,
+    }
+}

@@ -1,0 +1,55 @@
+//! Hints of `det_lane`, written after the answer's line.
+use det_io::Sink;
+use hints_on_words::{
+    Excerpt, Help, WordKind, WordsFault, misplaced_word, write_failure, write_hint,
+    write_words_hint,
+};
+use lane::LaneStatus;
+use std::io::Error;
+
+/// The kinds of its arguments.
+const KINDS: [WordKind; 4] = [
+    WordKind::Name("PROGRAM"),
+    WordKind::Copies("COPIES"),
+    WordKind::Name("MANIFEST"),
+    WordKind::Name("STIM"),
+];
+
+/// Why arguments are no lane. None if they are one.
+fn words_fault(words: &[String]) -> Option<WordsFault<'_>> {
+    let fault = misplaced_word(&KINDS, words);
+    if fault.is_some() {
+        return fault;
+    }
+    let word = Excerpt::from_text(words.get(4)?.as_str());
+    Some(WordsFault::At { number: 5, word })
+}
+
+/// Writes the hints on arguments that are no lane.
+fn hint_on_words<E: Sink>(rt: &HostRuntime, words: &[String], err: &mut E) {
+    let help = Help {
+        program: "det_lane",
+        command: None,
+    };
+    write_words_hint(rt, rt.alloc(), words_fault(words), help, err);
+}
+
+/// Writes the hints on a status whose line was written: why the arguments are no lane, or the
+/// system's reason for a failed write.
+pub(crate) fn write_hints<E: Sink>(
+    rt: &HostRuntime,
+    words: &[String],
+    status: LaneStatus,
+    failed: Option<Error>,
+    err: &mut E,
+) {
+    match status {
+        LaneStatus::BadWords => hint_on_words(rt, words, err),
+        LaneStatus::WriteFault => {
+            if let Some(reason) = write_failure(rt.alloc(), failed) {
+                write_hint(rt.alloc(), reason, err);
+            }
+        }
+        _ => {}
+    }
+}

@@ -1,5 +1,0 @@
-use Rattle.det_record_c.proofs.Whole.{whole_record}
-use Rattle.det_record_c.proofs.laws.whole_record.Goals as goal
-
-pub returns : goal.returns
-returns c = whole_record

@@ -1,6 +1,0 @@
-use Rattle.det_values.specs.Spelling.{elements_in}
-use Rattle.det_values.proofs.Undrawing.{Undrawing}
-use Rattle.det_values.proofs.undraw.undraw_all.Given as goal
-
-abbrev pub invariant-loop : goal.invariant-loop
-invariant-loop l = Undrawing (elements_in l.count l.fn.bytes) l.counter l.at l.bytes

@@ -1,0 +1,14 @@
+use Rattle.std.proofs.Common.{◌∙◌, rules, SFits, w64}
+use Rattle.std.proofs.lemmas.Int.{to_z-of_z}
+use Rattle.hints_on_files.proofs.parameter_hint.range_of.Goals as goal
+
+pub returns-in-Bank : goal.returns-in-Bank
+returns-in-Bank c = λ events refused. c.bank.ensures c.args.params.now events (rw c.in-Bank.is at refused)
+
+pub returns-in-Cloud : goal.returns-in-Cloud
+returns-in-Cloud c = λ events refused. c.cloud.ensures c.args.params.now events (rw c.in-Cloud.is at refused)
+
+pub returns-in-Guard : goal.returns-in-Guard
+returns-in-Guard c = λ events refused.
+    let fits : SFits w64 c.at.result = search rules in
+    c.guard.ensures c.args.params.now events (to_z-of_z w64 c.at.result fits ∙ c.at.ensures) (rw c.in-Guard.is at refused)

@@ -1,4 +1,0 @@
-use Rattle.job.proofs.room.PassRoom.keep_frame.Given as goal
-
-abbrev pub decreases-each : goal.decreases-each
-decreases-each g l = goal.left-each g l

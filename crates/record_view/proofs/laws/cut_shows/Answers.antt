@@ -1,5 +1,0 @@
-use Rattle.record_view.proofs.Cutting.{cut_shows as law}
-use Rattle.record_view.proofs.laws.cut_shows.Goals as goal
-
-pub returns : goal.returns
-returns c = law

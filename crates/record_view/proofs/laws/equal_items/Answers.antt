@@ -1,5 +1,0 @@
-use Rattle.record_view.proofs.EqualItems.{equal_items as law}
-use Rattle.record_view.proofs.laws.equal_items.Goals as goal
-
-pub returns : goal.returns
-returns c = law

@@ -1,5 +1,0 @@
-use Rattle.record_view.proofs.Growing.{scanned_grows}
-use Rattle.record_view.proofs.laws.scan_stays.Goals as goal
-
-pub returns : goal.returns
-returns c = scanned_grows

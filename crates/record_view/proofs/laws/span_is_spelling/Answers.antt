@@ -1,5 +1,0 @@
-use Rattle.record_view.proofs.EqualItems.{span_is_spelling as law}
-use Rattle.record_view.proofs.laws.span_is_spelling.Goals as goal
-
-pub returns : goal.returns
-returns c = law

@@ -1,8 +1,0 @@
--- A frame that was read, and the frame that the run gives in its place.
-use Rattle.std.specs.Option.{unwrap_or}
-use Rattle.det_values.specs.declared.frames.Frame.{Frame}
-use Rattle.rerun.specs.declared.checker.compared.Compared.{Compared}
-
--- the frame that the run gives
-abbrev pub given_in : Compared → Frame
-given_in compared = unwrap_or compared.other compared.read

@@ -1,5 +1,0 @@
-use Rattle.run_laws.proofs.Compared.{copies_are_compared}
-use Rattle.run_laws.proofs.comparing.Goals as goal
-
-pub returns : goal.returns
-returns c = copies_are_compared

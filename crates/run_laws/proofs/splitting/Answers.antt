@@ -1,5 +1,0 @@
-use Rattle.run_laws.proofs.Split.{split_is_common}
-use Rattle.run_laws.proofs.splitting.Goals as goal
-
-pub returns : goal.returns
-returns c = split_is_common

@@ -1,5 +1,0 @@
-use Rattle.run_laws.proofs.Summed.{sim_is_recorded}
-use Rattle.run_laws.proofs.summing.Goals as goal
-
-pub returns : goal.returns
-returns c = sim_is_recorded

@@ -1,0 +1,47 @@
+use Rattle.std.proofs.Common.{ℕ, List, [], subst, arith}
+use Rattle.std.specs.Prelude.{Ok, Err, None}
+use Rattle.det_io.specs.Shelf.{Reads, IsAtEnd}
+use Rattle.det_io.specs.declared.failure.Stopped.TheVariants.{Refused}
+use Rattle.stimulus.specs.slot_reader.StandsFor.{InputIs, slot_of}
+use Rattle.stimulus.proofs.lemmas.slot_reader.Reading.{read-none, took-none, ended-whole, ended-bad, fed-on, unfed}
+use Rattle.stimulus.proofs.slot_reader.stimulus_reader.StimulusReader.read_on.Goals as goal
+
+pub returns-in-Ok-clause-piece : goal.returns-in-Ok-clause-piece
+returns-in-Ok-clause-piece g c =
+    let r = c.args.self.now in
+    let after = g.S.Slots.sees c.read.new.self in
+    let at : IsAtEnd after (slot_of r) = c.in_ok-n.ensures.end c.if-n-eq0.true (omega arith) in (
+      [],
+      subst (λ (xs : List ℕ). Reads (g.S.Slots.sees c.args.shelf.now) after (slot_of r) xs)
+          (took-none c.in_ok-n.n c.read.new.buf c.if-n-eq0.true) c.in_ok-n.ensures.reads,
+      λ read given h. read-none (λ (xs : List ℕ). InputIs (Ok None) r (IsAtEnd after (slot_of r)) xs given) read
+          (ended-whole r _ read given at (c.in-Ok.ensures read) h),
+    )
+
+pub returns-in-Err-clause-piece : goal.returns-in-Err-clause-piece
+returns-in-Err-clause-piece g c =
+    let r = c.args.self.now in
+    let after = g.S.Slots.sees c.read.new.self in
+    let at : IsAtEnd after (slot_of r) = c.in_ok-n.ensures.end c.if-n-eq0.true (omega arith) in (
+      [],
+      subst (λ (xs : List ℕ). Reads (g.S.Slots.sees c.args.shelf.now) after (slot_of r) xs)
+          (took-none c.in_ok-n.n c.read.new.buf c.if-n-eq0.true) c.in_ok-n.ensures.reads,
+      λ read given h. read-none (λ (xs : List ℕ). InputIs (Err (Refused c.in-Err.fault)) r (IsAtEnd after (slot_of r)) xs given) read
+          (ended-bad c.in-Err.fault r _ read given at (c.in-Err.ensures read) h),
+    )
+
+pub returns-in-Ok-feed-clause-piece : goal.returns-in-Ok-feed-clause-piece
+returns-in-Ok-feed-clause-piece g c = (
+  _,
+  c.in_ok-n.ensures.reads,
+  λ read given h. fed-on c.args.self.now (record { slot = c.args.self.now.slot; text = c.feed.new.self }) _ read given
+      c.in-Ok-feed.ensures.ok h,
+)
+
+pub returns-in-Err-feed-clause-piece : goal.returns-in-Err-feed-clause-piece
+returns-in-Err-feed-clause-piece g c = (
+  _,
+  c.in_ok-n.ensures.reads,
+  λ read given h. unfed c.args.self.now (record { slot = c.args.self.now.slot; text = c.feed.new.self }) _ read given
+      c.in-Err-feed.ensures.events h,
+)

@@ -1,5 +1,0 @@
-use Rattle.twin_cli.proofs.Sourcing.{behind-none}
-use Rattle.twin_cli.proofs.text_inputs.TextInputs.of.Goals as goal
-
-pub returns : goal.returns
-returns c = behind-none c.args.text c.args.events _ c.new.ensures c.at.ensures.stands c.at.ensures.events

@@ -1,5 +1,0 @@
-use Rattle.twins.specs.Copies.{AreCopies}
-use Rattle.twins.proofs.twin_copies.Copies.begun.Given as goal
-
-abbrev pub invariant-copies : goal.invariant-copies
-invariant-copies g l = AreCopies g.J.Job.meaning l.run.profile l.run.inputs (g.T.Tamper.altered l.run.tamper) l.copy l.all
