@@ -23,10 +23,13 @@ library:
 test:
 	$(PYTHON) tests/run.py
 
-# The gate: the list of the theorem's definitions, all proofs, edits that must fail, tests in Rattle,
-# and how many minutes of a processor each crate took. Where it passed, out/proved says when it began.
+# The gate: how many lines of definitions the theorem rests on, the table of crates, the manual pages,
+# all proofs, edits that must fail, tests in Rattle, and how many minutes of a processor each crate
+# took. If it passed, out/proved has the time when it began.
 prove:
 	$(PYTHON) tools/definitions.py --check
+	$(PYTHON) tools/crate_table.py --check
+	$(PYTHON) tools/manual.py --check
 	mkdir -p out && touch out/proving
 	$(PYTHON) tools/gate_times.py rt ci
 	mv out/proving out/proved

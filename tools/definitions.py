@@ -1,14 +1,13 @@
 #!/usr/bin/env python3
-"""Lists the definitions that the contract of `top` rests on, in reading order, with their lengths; and all files of definitions.
+"""The definitions that the contract of `top` rests on, in reading order, and all files of them.
 
-    python3 tools/definitions.py            prints the table that docs/THEOREM.md has between its marks
-    python3 tools/definitions.py --write    puts the table there, and writes docs/DEFINITIONS.md
-    python3 tools/definitions.py --check    ends with 1 where one of the two is older, a file begins with no comment, or too many
-                                            lines are needed
+    python3 tools/definitions.py            prints both lists
+    python3 tools/definitions.py --check    ends with 1 if too many lines are needed, or a file of
+                                            definitions begins with no comment
 
-It starts at the clauses of `top` and follows each name through the imports of its file. What belongs to the kit is left out.
-Types that are declared in code are listed by their file. docs/DEFINITIONS.md has each file of specs/ with the comment that it
-begins with. Python's standard library is all that it needs.
+It starts at the clauses of `top` and follows each name through the imports of its file. A name is
+listed after those that it needs, a file where the first of its names is needed. Left out are names
+of the kit and types that are declared in code. Python's standard library is all it needs.
 """
 
 import argparse
@@ -17,28 +16,22 @@ import re
 import sys
 from dataclasses import dataclass, field
 from pathlib import Path
+from typing import Iterator
 
-from crate_list import listed_crates
+sys.dont_write_bytecode = True
+
+from crate_list import listed_crates  # noqa: E402
 
 TOP = Path(__file__).resolve().parent.parent
 CRATES = TOP / "crates"
-THEOREM = TOP / "docs" / "THEOREM.md"
-ROOMS = TOP / "docs" / "DEFINITIONS.md"
-BEGIN, END = "<!-- definitions -->", "<!-- end of definitions -->"
-ROOT_CRATE, ROOT_FILE, ROOT_FUNCTION = "det_cli", "program", "top"
+ROOT_CRATE, ROOT_FILE, ROOT_FUNCTION = "det_cli", "det_program", "top"
 # The record of any job over a stimulus, what a slot gives of it, and what a sink takes.
 RECORD = [
     ("recorder", "specs.Record", "record_of"),
-    ("det_edges", "specs.Shelf", "Reads"),
-    ("det_edges", "specs.Shelf", "IsAtEnd"),
-    ("det_edges", "specs.Sink", "GrewByPrefix"),
+    ("det_io", "specs.Shelf", "Reads"),
+    ("det_io", "specs.Shelf", "IsAtEnd"),
+    ("det_io", "specs.Sink", "GrewByPrefix"),
 ]
-ROOMS_HEAD = """# Definitions, crate by crate
-
-Each file of definitions with the comment that it begins with, in the order of `crates.txt`. The contracts of a crate cite its own
-files and those of crates below it. `docs/THEOREM.md` has the definitions that the program's promise rests on, in reading order.
-This page is made by `python3 tools/definitions.py --write`, and `--check` fails where it is older.
-"""
 MOST_LINES = 2300
 MOST_LINES_OF_A_RECORD = 415
 
@@ -69,7 +62,7 @@ class Definition:
 
 @dataclass
 class Module:
-    """A file of specs/: its definitions and what its names stand for."""
+    """A file of specs/: its definitions and what its names refer to."""
 
     definitions: dict[str, Definition] = field(default_factory=dict)
     imports: dict[str, tuple[str, str, str]] = field(default_factory=dict)
@@ -92,10 +85,19 @@ def imported(line: str) -> list[tuple[str, tuple[str, str, str]]]:
     return names
 
 
-def read_module(crate: str, path: Path) -> Module:
-    """A file of definitions, parted at the lines that begin one."""
+def spec_files(crate: str) -> Iterator[tuple[str, Path]]:
+    """The files of definitions of a crate, each with the name of its module. A file that only lists
+    others by `pub mod` has none, whether it is Lib or that of a folder."""
+    folder = CRATES / crate / "specs"
+    for path in sorted(folder.rglob("*.antt")):
+        lines = path.read_text(encoding="utf-8").split("\n")
+        if any(line.strip() and not line.startswith(("pub mod ", "--")) for line in lines):
+            yield ".".join(path.relative_to(folder.parent).with_suffix("").parts), path
+
+
+def read_module(crate: str, name_of_module: str, path: Path) -> Module:
+    """A file of definitions, split at the lines that begin one."""
     module, current, comment = Module(), None, []
-    name_of_module = f"specs.{path.stem}"
     for line in path.read_text(encoding="utf-8").splitlines():
         for name, target in imported(line):
             module.imports[name] = target
@@ -129,16 +131,17 @@ def is_field(current: Definition, line: str) -> bool:
 
 
 def all_modules() -> dict[tuple[str, str], Module]:
-    modules = {}
-    for path in sorted(CRATES.glob("*/specs/*.antt")):
-        crate = path.parts[-3]
-        if path.stem != "Lib":
-            modules[crate, f"specs.{path.stem}"] = read_module(crate, path)
-    return modules
+    return {
+        (crate, name): read_module(crate, name, path)
+        for crate in listed_crates()
+        for name, path in spec_files(crate)
+    }
 
 
-def contract_of(crate: str, file: str, function: str) -> tuple[str, dict[str, tuple[str, str, str]]]:
-    """The clauses of a function, and what the names of its file stand for."""
+def contract_of(
+    crate: str, file: str, function: str
+) -> tuple[str, dict[str, tuple[str, str, str]]]:
+    """The clauses of a function, and what the names of its file refer to."""
     text = (CRATES / crate / "src" / f"{file}.rt").read_text(encoding="utf-8")
     imports = dict(item for line in text.splitlines() for item in imported(line))
     begin = text.index(f"pub fn {function}<")
@@ -147,7 +150,7 @@ def contract_of(crate: str, file: str, function: str) -> tuple[str, dict[str, tu
 
 
 def targets(text: str, imports: dict[str, tuple[str, str, str]]) -> list[tuple[str, str, str]]:
-    """What the words of a text stand for, in the order of their first use."""
+    """What the names of a text refer to, in the order of their first use."""
     found = []
     for word in WORD.findall(text):
         first, _, rest = word.partition(".")
@@ -156,12 +159,16 @@ def targets(text: str, imports: dict[str, tuple[str, str, str]]) -> list[tuple[s
             if name == "*":
                 name = rest.split(".", 1)[0] if rest else "*"
             found.append((crate, path, name))
-    found += [target for name, target in imports.items() if "◌" in name and name.replace("◌", "") in text]
+    found += [
+        target for name, target in imports.items() if "◌" in name and name.replace("◌", "") in text
+    ]
     return found
 
 
-def closure(start: list[tuple[str, str, str]], modules: dict[tuple[str, str], Module]) -> list[Definition]:
-    """All definitions that the given ones need, each behind those that it needs."""
+def closure(
+    start: list[tuple[str, str, str]], modules: dict[tuple[str, str], Module]
+) -> list[Definition]:
+    """All definitions that the given ones need, each after those that it needs."""
     done: dict[tuple[str, str, str], None] = {}
     found: list[Definition] = []
 
@@ -175,7 +182,9 @@ def closure(start: list[tuple[str, str, str]], modules: dict[tuple[str, str], Mo
             return
         text = "\n".join(line for line in definition.lines if not line.strip().startswith("--"))
         names = dict(module.imports)
-        names.update({name: other.key for name, other in module.definitions.items() if name != key[2]})
+        names.update(
+            {name: other.key for name, other in module.definitions.items() if name != key[2]}
+        )
         for target in targets(text, names):
             visit(target)
         found.append(definition)
@@ -185,90 +194,77 @@ def closure(start: list[tuple[str, str, str]], modules: dict[tuple[str, str], Mo
     return found
 
 
-def rests_on(crate: str, file: str, function: str, modules: dict[tuple[str, str], Module]) -> list[Definition]:
+def rests_on(
+    crate: str, file: str, function: str, modules: dict[tuple[str, str], Module]
+) -> list[Definition]:
     text, imports = contract_of(crate, file, function)
     return closure(targets(text, imports), modules)
-
-
-def table(definitions: list[Definition]) -> list[str]:
-    """A line a file, in reading order, with its definitions and their lines."""
-    files: dict[tuple[str, str], list[Definition]] = {}
-    for definition in definitions:
-        files.setdefault((definition.crate, definition.module), []).append(definition)
-    lines = ["| file | definitions | lines |", "|---|---|---:|"]
-    for (crate, module), held in files.items():
-        names = ", ".join(f"`{definition.name}`" for definition in held)
-        lines.append(f"| `{crate}/{module.replace('.', '/')}` | {names} | {count(held)} |")
-    return lines
 
 
 def count(definitions: list[Definition]) -> int:
     return sum(definition.size for definition in definitions)
 
 
-def made() -> tuple[str, list[str]]:
-    """The text between the marks, and what is too long."""
-    modules = all_modules()
-    record = closure(RECORD, modules)
-    whole = rests_on(ROOT_CRATE, ROOT_FILE, ROOT_FUNCTION, modules)
-    faults = []
-    if count(record) > MOST_LINES_OF_A_RECORD:
-        faults.append(f"the record of any job takes {count(record)} lines, more than {MOST_LINES_OF_A_RECORD}")
-    if count(whole) > MOST_LINES:
-        faults.append(f"`top` takes {count(whole)} lines, more than {MOST_LINES}")
-    text = [
-        f"The record of any job, with shelf and sink, is {count(record)} lines of definitions; all of `top` is {count(whole)}.",
-        "",
-        *table(whole),
+def by_file(definitions: list[Definition]) -> list[str]:
+    """A line a file, in reading order, with the lines of its definitions and their names."""
+    files: dict[tuple[str, str], list[Definition]] = {}
+    for definition in definitions:
+        files.setdefault((definition.crate, definition.module), []).append(definition)
+    return [
+        f"{path_of(*file)}  {count(held)}  {', '.join(definition.name for definition in held)}"
+        for file, held in files.items()
     ]
-    return "\n".join(text), faults
+
+
+def path_of(crate: str, module: str) -> str:
+    return f"{crate}/{module.replace('.', '/')}"
 
 
 def first_words(path: Path) -> str:
     """The comment that a file of definitions begins with."""
     lines = path.read_text(encoding="utf-8").splitlines()
-    return " ".join(line[2:].strip() for line in itertools.takewhile(lambda line: line.startswith("--"), lines))
+    comment = itertools.takewhile(lambda line: line.startswith("--"), lines)
+    return " ".join(line[2:].strip() for line in comment)
 
 
-def rooms() -> tuple[str, list[str]]:
-    """A page with each file of specs/, in the order of crates.txt, and the files that begin with no comment."""
-    lines, faults = [ROOMS_HEAD, "| file | what it says |", "|---|---|"], []
-    for crate in listed_crates():
-        for path in sorted((CRATES / crate / "specs").glob("*.antt")):
-            words = first_words(path)
-            if path.stem != "Lib":
-                lines.append(f"| `{crate}/specs/{path.stem}` | {words.replace('|', chr(92) + '|')} |")
-                faults += [] if words else [f"{path.relative_to(TOP)} begins with no comment"]
-    return "\n".join(lines) + "\n", faults
-
-
-def theorem_with(text: str) -> str:
-    """docs/THEOREM.md with this text between its marks."""
-    page = THEOREM.read_text(encoding="utf-8")
-    begin, end = page.index(BEGIN) + len(BEGIN), page.index(END)
-    return f"{page[:begin]}\n{text}\n{page[end:]}"
+def missing(start: list[tuple[str, str, str]], modules: dict[tuple[str, str], Module]) -> list[str]:
+    """Those of these definitions that no file has."""
+    keys = {other.key for module in modules.values() for other in module.definitions.values()}
+    return [f"{path_of(*key[:2])} has no {key[2]}" for key in start if key not in keys]
 
 
 def main() -> int:
-    parser = argparse.ArgumentParser(description="Lists the definitions that the contract of top rests on.")
-    parser.add_argument("--write", action="store_true", help="writes the table of docs/THEOREM.md, and docs/DEFINITIONS.md")
-    parser.add_argument("--check", action="store_true", help="ends with 1 where one of the two is older")
+    parser = argparse.ArgumentParser(description="Lists definitions, and counts those of top.")
+    parser.add_argument("--check", action="store_true", help="ends with 1 if a limit isn't kept")
     options = parser.parse_args()
-    (text, faults), (page, silent) = made(), rooms()
-    for fault in faults + silent:
+    modules = all_modules()
+    record = closure(RECORD, modules)
+    whole = rests_on(ROOT_CRATE, ROOT_FILE, ROOT_FUNCTION, modules)
+    comments = {
+        path_of(crate, name): first_words(path)
+        for crate in listed_crates()
+        for name, path in spec_files(crate)
+    }
+    faults = missing(RECORD, modules)
+    faults += [
+        f"crates/{file} begins with no comment" for file, words in comments.items() if not words
+    ]
+    of_record, of_top = count(record), count(whole)
+    if of_record > MOST_LINES_OF_A_RECORD:
+        faults.append(f"the record takes {of_record} lines, more than {MOST_LINES_OF_A_RECORD}")
+    if of_top > MOST_LINES:
+        faults.append(f"`top` takes {of_top} lines, more than {MOST_LINES}")
+    for fault in faults:
         print(fault, file=sys.stderr)
-    wanted = {THEOREM: theorem_with(text), ROOMS: page}
-    if options.write:
-        for path, content in wanted.items():
-            path.write_text(content, encoding="utf-8")
-        return 0
     if not options.check:
-        print(text)
-        return 0
-    older = [path for path, content in wanted.items() if not path.is_file() or path.read_text(encoding="utf-8") != content]
-    for path in older:
-        print(f"{path.relative_to(TOP)} is older: python3 tools/definitions.py --write", file=sys.stderr)
-    return 1 if older or faults or silent else 0
+        print(
+            f"The record of any job, with shelf and sink, takes {of_record} lines of definitions,"
+        )
+        print(f"all of `top` {of_top}. These are those of `top`, in reading order:")
+        print("", "file  lines  definitions", *by_file(whole), sep="\n")
+        print("", "All files of definitions, in the order of crates.txt:", "", sep="\n")
+        print(*(f"{file}  {words}" for file, words in comments.items()), sep="\n")
+    return 1 if options.check and faults else 0
 
 
 if __name__ == "__main__":

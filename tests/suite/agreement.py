@@ -2,7 +2,6 @@
 
 from __future__ import annotations
 
-import fnmatch
 import re
 from functools import partial
 from pathlib import Path
@@ -57,24 +56,16 @@ def apart(one: str, ones: set, other: str, others: set) -> Optional[str]:
 
 
 def crates() -> Optional[str]:
-    """crates.txt, the folders, DESIGN, PROVED and CONTRIBUTING name the same crates."""
+    """crates.txt, the folders and the table of ARCHITECTURE name the same crates, each once."""
     listed = listed_crates()
     folders = {path.name for path in (TOP / "crates").iterdir() if (path / "src").is_dir()}
-    design = words_in(first_cells("docs/DESIGN.md", "## Crates"))
-    proved = words_in(first_cells("docs/PROVED.md", "## Proved, crate by crate"))
-    named = set(re.findall(r"`(\w+)`", text("docs/PROVED.md")))
-    lives = words_in(first_cells("CONTRIBUTING.md", "## Where things live"))
-    nameless = sorted(set(listed) - named)
-    strangers = sorted(set(proved) - set(listed))
-    homeless = [name for name in listed if not any(fnmatch.fnmatch(name, it) for it in lives)]
-    twice = [name for name in design + listed if (design + listed).count(name) > 2]
+    cells = words_in(first_cells("docs/ARCHITECTURE.md", "## Crates"))
+    table = [name for name in cells if "::" not in name]
+    twice = [name for name in table + listed if (table + listed).count(name) > 2]
     told = [
         apart("crates.txt", set(listed), "crates/", folders),
-        apart("crates.txt", set(listed), "docs/DESIGN.md", set(design)),
+        apart("crates.txt", set(listed), "docs/ARCHITECTURE.md", set(table)),
         f"named twice: {sorted(set(twice))}" if twice else None,
-        f"docs/PROVED.md doesn't name {nameless}" if nameless else None,
-        f"docs/PROVED.md has rows of no crate: {strangers}" if strangers else None,
-        f"CONTRIBUTING.md doesn't say where these live: {homeless}" if homeless else None,
     ]
     return "; ".join(line for line in told if line) or None
 
