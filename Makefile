@@ -1,9 +1,16 @@
 # Builds, tests, proves and installs. `make` needs the Rattle kit (rt on the path) and Python 3.9 or
-# later, `make install` Python alone. README.md says more.
+# later, `make install` only Python, `make test` also pytest. README.md says more.
 VERSION = 0.1.0
 PREFIX = /usr/local
 DESTDIR =
-PYTHON = python3
+# A python3 that has pytest, where there is one.
+PYTHON = $(shell for it in python3 /usr/bin/python3; do \
+    $$it -c 'import pytest' 2>/dev/null && echo $$it && exit; done; echo python3)
+# How many tests run at a time where pytest-xdist is there, and words for pytest, as -k WORD.
+JOBS = auto
+TESTS =
+PYTEST = $(PYTHON) -B -m pytest $(shell $(PYTHON) -c 'import xdist' 2>/dev/null && \
+    printf -- '-n %s' $(JOBS)) $(TESTS)
 PROGRAMS = det det_lane det_twin
 
 all: programs library
@@ -19,9 +26,13 @@ $(PROGRAMS):
 library:
 	bin/build_library
 
-# The tests behind the gate, over the programs that are there, proved or compiled.
-test:
-	$(PYTHON) tests/run.py
+# The tests after the gate, over the programs that are there, proved or compiled.
+test: has-pytest
+	$(PYTEST)
+
+has-pytest:
+	@$(PYTHON) -c 'import pytest' 2>/dev/null || { echo "no python3 here has pytest: install the \
+	Debian packages python3-pytest and python3-pytest-xdist" >&2; exit 1; }
 
 # The gate: how many lines of definitions the theorem rests on, the table of crates, the manual pages,
 # all proofs, edits that must fail, tests in Rattle, and how many minutes of a processor each crate
@@ -35,9 +46,9 @@ prove:
 	mv out/proving out/proved
 
 # Both: the gate, the library over what it proved, and the tests over the proved programs.
-check: prove
+check: has-pytest prove
 	bin/build_library --prove
-	$(PYTHON) tests/run.py --prove
+	$(PYTEST) --prove
 
 # Copies what `make` built, and builds nothing.
 install:
@@ -48,6 +59,6 @@ uninstall:
 
 # Records that stand in out/ stay.
 clean:
-	rm -rf crates/*/out out/compiled out/lib out/proving out/proved
+	rm -rf crates/*/out out/compiled out/lib out/pytest out/proving out/proved
 
-.PHONY: all programs $(PROGRAMS) library test prove check install uninstall clean
+.PHONY: all programs $(PROGRAMS) library test has-pytest prove check install uninstall clean

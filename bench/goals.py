@@ -16,7 +16,7 @@ Key = tuple[str, Optional[int]]
 
 @dataclass(frozen=True)
 class Goal:
-    """A bound on what one line found by what another one found, which is taken so many times."""
+    """A bound on what one line found by a multiple of what another one found."""
 
     what: str
     of: Key
@@ -38,7 +38,11 @@ class Goal:
     def by_medians(self, of: Result, beside: Result) -> str:
         """The ratio of the medians of both, which a goal doesn't go by."""
         has_both = of.median is not None and beside.median is not None
-        return f"{of.median / beside.median / self.times:.3f}" if has_both and not self.is_memory else ""
+        return (
+            f"{of.median / beside.median / self.times:.3f}"
+            if has_both and not self.is_memory
+            else ""
+        )
 
     def verdict(self, figure: Optional[float], processors: int) -> str:
         if figure is None:
@@ -50,9 +54,15 @@ class Goal:
 
     def cells(self, of: Result, beside: Result, processors: int) -> list[str]:
         figure = self.figure(of, beside)
-        told = "" if figure is None else f"{figure:.3f}"
+        text = "" if figure is None else f"{figure:.3f}"
         bound = f"at {'least' if self.is_least else 'most'} {self.bound}"
-        return [self.what, told, bound, self.verdict(figure, processors), self.by_medians(of, beside)]
+        return [
+            self.what,
+            text,
+            bound,
+            self.verdict(figure, processors),
+            self.by_medians(of, beside),
+        ]
 
 
 @dataclass(frozen=True)
@@ -83,13 +93,25 @@ def workers_goals(what: str) -> list[Goal]:
 
 def gain_goal(name: str, least: float) -> Goal:
     most = WORKERS[-1]
-    return Goal(f"{name}: gain of {most} workers", (name, 1), (name, most), least, is_least=True, processors=most)
+    return Goal(
+        f"{name}: gain of {most} workers",
+        (name, 1),
+        (name, most),
+        least,
+        is_least=True,
+        processors=most,
+    )
 
 
 def written_goals(what: str) -> list[Goal]:
     """That a record which goes into a file or a pipe takes no longer than by plain Rust."""
     return [
-        Goal(f"{what}{end}: time, of plain Rust", (what + end, None), (what + IN_PLAIN + end, None), 1.0)
+        Goal(
+            f"{what}{end}: time, of plain Rust",
+            (what + end, None),
+            (what + IN_PLAIN + end, None),
+            1.0,
+        )
         for end in (KEPT, PIPED)
     ]
 
@@ -103,7 +125,9 @@ def record_goals(name: str) -> list[Goal]:
     ]
     return [
         Goal(f"{what}: time, of plain Rust", one, (what + IN_PLAIN, None), 1.0),
-        Goal(f"{what}: time, of the same interfaces in plain Rust", one, (what + BY_CLIENT, 1), 1.0),
+        Goal(
+            f"{what}: time, of the same interfaces in plain Rust", one, (what + BY_CLIENT, 1), 1.0
+        ),
         *workers_goals(what),
         *again,
         Goal(f"{show}: time, of plain Rust", (show, None), (show + IN_PLAIN, None), 0.8),
@@ -115,7 +139,12 @@ def copies_goals() -> list[Goal]:
     return [
         Goal("compare 2: time, of cmp", ("compare 2", None), cmp, 1.2),
         Goal("compare 8: time, of seven cmp", ("compare 8", None), cmp, 1.0, times=MOST_COPIES - 1),
-        Goal("vote 3: time, of two cmp and a cp", (f"vote 3{KEPT}", None), ("two cmp and a cp", None), 1.5),
+        Goal(
+            "vote 3: time, of two cmp and a cp",
+            (f"vote 3{KEPT}", None),
+            ("two cmp and a cp", None),
+            1.5,
+        ),
         Goal("salvage: time, of cp", (f"salvage{KEPT}", None), ("cp", None), 1.2),
         *(
             Goal(f"{what}: time, of plain Rust", (what, None), (what + IN_PLAIN, None), 1.5)
@@ -139,7 +168,13 @@ def all_goals() -> list[Goal]:
         gain_goal("record bank", 2.0),
         gain_goal("record guard", 2.0),
         gain_goal("heavy pass", 3.5),
-        Goal(f"record cycles: memory, of {part}", ("record cycles", 1), (part, 1), 1.2, is_memory=True),
+        Goal(
+            f"record cycles: memory, of {part}",
+            ("record cycles", 1),
+            (part, 1),
+            1.2,
+            is_memory=True,
+        ),
         *copies_goals(),
         Goal("chain: time, of two records", ("chain", 1), ("two records", 1), 1.1),
         *(
@@ -150,7 +185,7 @@ def all_goals() -> list[Goal]:
     ]
 
 
-def judged(results: list[Result]) -> list[list[str]]:
+def goal_rows(results: list[Result]) -> list[list[str]]:
     """The cells of each goal whose lines were asked for."""
     found = {(result.command.what, result.command.workers): result for result in results}
     processors = len(os.sched_getaffinity(0))

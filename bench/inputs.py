@@ -30,8 +30,11 @@ class Recording:
         return sum(line.startswith("cycle ") for line in self.lines)
 
     def manifest(self) -> str:
-        head = f'job = "{self.job}"\ncycle_time_ns = {CYCLE_TIME}\nworkers = 1\nparams = {self.params}\n'
-        return head + "".join(f'\n[[event]]\nname = "{event}"\ncapacity = 1\n' for event in self.events)
+        head = f'job = "{self.job}"\ncycle_time_ns = {CYCLE_TIME}\nworkers = 1\n'
+        head += f"params = {self.params}\n"
+        return head + "".join(
+            f'\n[[event]]\nname = "{event}"\ncapacity = 1\n' for event in self.events
+        )
 
     def stimulus(self) -> str:
         return "".join(f"{line}\n" for line in self.lines)
@@ -84,19 +87,19 @@ def bank(is_quick: bool) -> Recording:
     return Recording("bank", "bank", [65_536, 2], ["x"], sampled_lines(4 if is_quick else 60, wave))
 
 
-def moving(name: str, particles: int, cycles: int) -> Recording:
+def cloud_of(name: str, particles: int, cycles: int) -> Recording:
     """A cloud over the first cycles of the stimulus that `sim` makes, with its seed."""
     params, events = [particles, 1_000, 50, 4_000_000_000_000], ["x", "y", "hold"]
     return Recording(name, "cloud", params, events, made_lines(SIM_NUMBER, cycles), seed=SIM_NUMBER)
 
 
 def cloud(is_quick: bool) -> Recording:
-    return moving("cloud", 10_000, 20 if is_quick else 200)
+    return cloud_of("cloud", 10_000, 20 if is_quick else 200)
 
 
 def large(is_quick: bool) -> Recording:
     """Passes so long that what is done once in each of them counts for less."""
-    return moving("large", 65_536, 8 if is_quick else 40)
+    return cloud_of("large", 65_536, 8 if is_quick else 40)
 
 
 def guard(is_quick: bool) -> Recording:
@@ -113,11 +116,13 @@ def cycles(is_quick: bool, divisor: int = 1) -> Recording:
 
 
 def crowded_lines(cycles: int, samples: int, events: int) -> list[str]:
-    """So many samples in each cycle, spread over the events."""
+    """The same number of samples in each cycle, spread over the events."""
     lines = ["stim 1"]
     for cycle in range(cycles):
         lines.append(f"cycle {CYCLE_TIME * cycle}")
-        lines += [f"sample {(number * 37 + cycle) % events} {number - cycle}" for number in range(samples)]
+        lines += [
+            f"sample {(number * 37 + cycle) % events} {number - cycle}" for number in range(samples)
+        ]
     return [*lines, "terminate"]
 
 
@@ -128,23 +133,36 @@ def many(is_quick: bool) -> Recording:
     return Recording("many", "bank", [16, 2], [f"e{event}" for event in range(events)], lines)
 
 
-def behind(is_quick: bool) -> Recording:
+def second_client(is_quick: bool) -> Recording:
     """A bank that follows the words of a cloud's output. Its own stimulus is made of them."""
-    return Recording("behind", "bank", [1_000 if is_quick else 10_000, 2], ["a", "b", "c", "d"], ["stim 1"], seed=SIM_NUMBER)
+    return Recording(
+        "behind",
+        "bank",
+        [1_000 if is_quick else 10_000, 2],
+        ["a", "b", "c", "d"],
+        ["stim 1"],
+        seed=SIM_NUMBER,
+    )
 
 
 def greatest_frame(time: int) -> bytes:
-    """A Run frame in format 2 with as much as one may hold: 4,096 samples, 65,536 elements of 64 bytes, and 1,048,576
-    bytes of output. It has 5,677,079 bytes."""
+    """A Run frame in format 2 with as much as one may hold: 4,096 samples, 65,536 elements of 64
+    bytes, and 1,048,576 bytes of output. It has 5,677,079 bytes."""
     samples = struct.pack(">Hq", 0, time) * MOST_SAMPLES
-    element = struct.pack(">H", MOST_ELEMENT_BYTES) + bytes([time % 256]) * MOST_ELEMENT_BYTES + bytes(4)
-    start = struct.pack(">BBQI", 4, 1, time, MOST_SAMPLES) + samples + struct.pack(">BI", 0, MOST_ELEMENTS)
+    element = (
+        struct.pack(">H", MOST_ELEMENT_BYTES) + bytes([time % 256]) * MOST_ELEMENT_BYTES + bytes(4)
+    )
+    start = (
+        struct.pack(">BBQI", 4, 1, time, MOST_SAMPLES)
+        + samples
+        + struct.pack(">BI", 0, MOST_ELEMENTS)
+    )
     return start + element * MOST_ELEMENTS + struct.pack(">I", MOST_OUTPUT) + bytes(MOST_OUTPUT)
 
 
 def write_greatest(record: Path, runs: int) -> None:
-    """Writes a record of an unknown job with so many of the greatest frames. No shipped job has elements of 64 bytes,
-    and commands that only read records ask for no job."""
+    """Writes a record of an unknown job with some of the greatest frames. No shipped job has
+    elements of 64 bytes, and commands that only read records ask for no job."""
     event = struct.pack(">HB", 1, 1) + b"x" + bytes(1)
     header = b"DETREC" + struct.pack(">HHQQHH", 2, 999, 0, CYCLE_TIME, 0, 1) + event
     element = struct.pack(">H", MOST_ELEMENT_BYTES) + bytes(MOST_ELEMENT_BYTES)
@@ -155,5 +173,12 @@ def write_greatest(record: Path, runs: int) -> None:
         file.write(b"\5")
 
 
-RECORDED = {"bank": bank, "cloud": cloud, "large": large, "guard": guard, "cycles": cycles, "many": many}
+RECORDED = {
+    "bank": bank,
+    "cloud": cloud,
+    "large": large,
+    "guard": guard,
+    "cycles": cycles,
+    "many": many,
+}
 NAMES = (*RECORDED, "copies", "greatest", "chain", "running", "sim", "heavy")

@@ -1,4 +1,4 @@
-"""Passes of the pool over a job that draws 64 words for each element, as the program `bench_pool` times them."""
+"""Passes of the pool over a job that draws 64 words for each element, timed by `bench_pool`."""
 
 import re
 import subprocess
@@ -21,7 +21,8 @@ def times_of(text: str) -> dict[int, float]:
 
 
 def heavy_passes(program: Path, rounds: int) -> list[Result]:
-    """The times of a heavy pass for each number of workers. Nothing is written, and no memory is told."""
+    """The times of a heavy pass for each number of workers. It writes nothing, and no memory is
+    measured."""
     words = [str(program), "--times"]
     walls: dict[int, list[float]] = {}
     for _ in range(rounds):
@@ -30,4 +31,7 @@ def heavy_passes(program: Path, rounds: int) -> list[Result]:
             raise failure(words, done.returncode)
         for workers, seconds in times_of(done.stdout).items():
             walls.setdefault(workers, []).append(seconds)
-    return [Result(Command("heavy pass", words, workers), Trial(0, ""), found) for workers, found in walls.items()]
+    return [
+        Result(Command("heavy pass", words, workers), Trial(0, ""), found)
+        for workers, found in walls.items()
+    ]

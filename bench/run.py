@@ -1,7 +1,7 @@
 #!/usr/bin/env python3
-"""Times of the program `det` over large inputs, beside those of plain programs, as tables in Markdown.
+"""Times of `det` over large inputs, beside those of plain programs, as tables in Markdown.
 
-Python's standard library is all that it needs. README.md in this folder says what is measured and how.
+It needs Python's standard library only. README.md in this folder says what is measured and how.
 """
 
 import argparse
@@ -13,10 +13,10 @@ import tempfile
 from pathlib import Path
 from typing import Optional
 
-from goals import ABSENT, judged
+from goals import ABSENT, goal_rows
 from inputs import NAMES
 from running import Failure, Runner, adopt_orphans, busy_processes
-from suites import Bench, Programs, Row, build_plain
+from suites import Measurements, Programs, Row, build_plain
 
 TOP = Path(__file__).resolve().parent.parent
 POOL = TOP / "crates" / "bench_pool"
@@ -48,16 +48,17 @@ def print_table(heads: list[str], rows: list[list[str]]) -> None:
     print()
 
 
-def print_findings(bench: Bench, load: float) -> None:
-    print_table(ROW_HEADS, [row_cells(row) for row in bench.rows])
-    print_table(GOAL_HEADS, judged([row.result for row in bench.rows]))
-    for remark in bench.remarks:
+def print_findings(found: Measurements, load: float) -> None:
+    print_table(ROW_HEADS, [row_cells(row) for row in found.rows])
+    print_table(GOAL_HEADS, goal_rows([row.result for row in found.rows]))
+    for remark in found.remarks:
         print(f"- {remark}")
-    print(f"- load average {load:.2f} before the first run, {os.getloadavg()[0]:.2f} behind the last one")
+    after = os.getloadavg()[0]
+    print(f"- load average {load:.2f} before the first run, {after:.2f} after the last one")
 
 
 def build_program(name: str) -> Path:
-    """A proved program: no other one's times are told."""
+    """A proved program: the times of no other one are printed."""
     words = [sys.executable, str(TOP / "tools" / "build.py"), "--prove", name]
     done = subprocess.run(words, stdout=subprocess.PIPE, text=True)
     if done.returncode != 0:
@@ -66,23 +67,26 @@ def build_program(name: str) -> Path:
 
 
 def copies_program(name: str, given: Optional[Path], options: argparse.Namespace) -> Optional[Path]:
-    """A program of running copies: the one that is given, or, where no program is, one that is built."""
+    """A program of running copies: one that is given, or is built where no program is given."""
     if given or options.program:
         return given and given.resolve()
     return build_program(name)
 
 
 def pool_program(options: argparse.Namespace) -> Optional[Path]:
-    """The program that times passes: the one that is given, or, where no program is, one that is built."""
+    """The program that times passes: one that is given, or is built where no program is given."""
     if options.pool or options.program:
         return options.pool and options.pool.resolve()
     words = ["rt", "run"]
-    if not shutil.which("rt") or subprocess.run(words, cwd=POOL, stdout=subprocess.DEVNULL).returncode != 0:
+    if (
+        not shutil.which("rt")
+        or subprocess.run(words, cwd=POOL, stdout=subprocess.DEVNULL).returncode != 0
+    ):
         raise Failure("bench_pool can't be built")
     return POOL / "out" / "bench_pool"
 
 
-def measured(options: argparse.Namespace, room: Path) -> Bench:
+def measure(options: argparse.Namespace, room: Path) -> Measurements:
     det = options.program.resolve() if options.program else build_program("det")
     plain = build_plain("baseline", room), build_plain("client", room)
     lane = copies_program("det_lane", options.lane, options)
@@ -92,10 +96,10 @@ def measured(options: argparse.Namespace, room: Path) -> Bench:
         print("a program in plain Rust is left out: rustc doesn't build it", file=sys.stderr)
     adopt_orphans()
     rounds = options.rounds or (1 if options.quick else ROUNDS)
-    bench = Bench(Runner(room, rounds), programs, options.quick)
+    measurements = Measurements(Runner(room, rounds), programs, options.quick)
     with busy_processes(options.busy):
-        bench.measure(options.only)
-    return bench
+        measurements.measure(options.only)
+    return measurements
 
 
 def positive(word: str) -> int:
@@ -109,12 +113,28 @@ def options_of_words() -> argparse.Namespace:
     parser = argparse.ArgumentParser(description="Prints times of det over large inputs.")
     parser.add_argument("--quick", action="store_true", help="smaller inputs, each run once")
     parser.add_argument("--only", choices=NAMES, help="one of the inputs")
-    parser.add_argument("--rounds", type=positive, help=f"timed runs of each command; else {ROUNDS}")
-    parser.add_argument("--busy", type=positive, default=0, help="so many busy processes beside all runs; else none")
-    parser.add_argument("--program", type=Path, help="a program that is there, in place of the one that bin/det builds")
-    parser.add_argument("--lane", type=Path, help="likewise det_lane; with --program alone running copies are left out")
+    parser.add_argument(
+        "--rounds", type=positive, help=f"timed runs of each command; else {ROUNDS}"
+    )
+    parser.add_argument(
+        "--busy", type=positive, default=0, help="busy processes beside all runs; else none"
+    )
+    parser.add_argument(
+        "--program",
+        type=Path,
+        help="a program that is there, in place of the one that bin/det builds",
+    )
+    parser.add_argument(
+        "--lane",
+        type=Path,
+        help="likewise det_lane; with only --program running copies are left out",
+    )
     parser.add_argument("--twin", type=Path, help="likewise det_twin")
-    parser.add_argument("--pool", type=Path, help="likewise bench_pool; with --program alone its passes are left out")
+    parser.add_argument(
+        "--pool",
+        type=Path,
+        help="likewise bench_pool; with only --program its passes are left out",
+    )
     return parser.parse_args()
 
 
@@ -123,12 +143,12 @@ def main() -> int:
     load = os.getloadavg()[0]
     try:
         with tempfile.TemporaryDirectory(prefix="det-bench-") as room:
-            bench = measured(options, Path(room))
+            found = measure(options, Path(room))
     except Failure as failure:
         print(failure, file=sys.stderr)
         return 1
-    print_findings(bench, load)
-    return 0 if bench.is_same else 1
+    print_findings(found, load)
+    return 0 if found.is_same else 1
 
 
 if __name__ == "__main__":

@@ -25,9 +25,10 @@ class Failure(Exception):
 class Command:
     """A command, and the line of the table that it fills.
 
-    `gives` names what it writes: commands that give the same have to write the same bytes. `records` says how many
-    records it reads or writes, of those that a group of commands is about. `makes` is a file that it writes itself,
-    which is removed before each run, so that each writes a new file.
+    `gives` names what it writes: commands that give the same have to write the same bytes.
+    `records` says how many records it reads or writes, of those that a group of commands is about.
+    `makes` is a file that it writes itself, which is removed before each run, so that each writes a
+    new file.
     """
 
     what: str
@@ -54,8 +55,8 @@ class Trial:
 
 @dataclass(frozen=True)
 class Result:
-    """What was found of a command, with the wall time of each of its rounds in seconds. There is nothing where the
-    program hasn't got it."""
+    """What was found of a command, with the wall time of each of its rounds in seconds. There is
+    nothing where the program hasn't got it."""
 
     command: Command
     trial: Optional[Trial]
@@ -73,7 +74,7 @@ class Result:
 
 @contextmanager
 def busy_processes(count: int) -> Iterator[None]:
-    """Keeps so many processors busy as long as it is open."""
+    """Keeps some processors busy as long as it is open."""
     processes = [subprocess.Popen(["sh", "-c", "while :; do :; done"]) for _ in range(count)]
     try:
         yield
@@ -119,28 +120,36 @@ def run_into(path: Path, words: list[str]) -> None:
 
 
 def adopt_orphans() -> None:
-    """Makes this process the parent of what its children leave behind (Linux)."""
+    """Makes this process the parent of what its children leave (Linux)."""
     set_child_subreaper = 36
     if ctypes.CDLL(None).prctl(set_child_subreaper, 1, 0, 0, 0) != 0:
         raise Failure("this system doesn't hand over orphans")
 
 
 def memory_of(words: list[str], output: Path, errors: Path) -> Optional[int]:
-    """Runs a command into a file, and answers the greatest resident memory in bytes, or None for bad words.
+    """Runs a command into a file. Returns the greatest resident memory in bytes, or None for bad
+    words.
 
-    A child begins as a copy of its parent, and this counts as the child's memory. So a shell, which is small, starts
-    the command and ends, and this process takes it in.
+    A child begins as a copy of its parent, and this counts as the child's memory. So a shell, which
+    is small, starts the command and ends, and this process takes it in.
     """
-    start = ["sh", "-c", 'out=$0 err=$1; shift; "$@" >"$out" 2>"$err" & echo $!', str(output), str(errors), *words]
+    start = [
+        "sh",
+        "-c",
+        'out=$0 err=$1; shift; "$@" >"$out" 2>"$err" & echo $!',
+        str(output),
+        str(errors),
+        *words,
+    ]
     number = int(subprocess.run(start, stdout=subprocess.PIPE, check=True).stdout)
     _, status, usage = os.wait4(number, 0)
     code = os.waitstatus_to_exitcode(status)
-    told = errors.read_text()
-    # Hints stand behind the line.
-    if code == BAD_WORDS and told.startswith("bad words\n"):
+    lines = errors.read_text()
+    # Hints come after the line.
+    if code == BAD_WORDS and lines.startswith("bad words\n"):
         return None
     if code != 0:
-        print(told, end="", file=sys.stderr)
+        print(lines, end="", file=sys.stderr)
         raise failure(words, code)
     return usage.ru_maxrss * 1024
 
@@ -157,7 +166,8 @@ def wall_time(command: Command) -> float:
 
 
 def wall_times(commands: list[Command], rounds: int) -> list[list[float]]:
-    """The wall times of each command. They take turns, so that what else the host does hits all of them alike."""
+    """The wall times of each command. They take turns, so that other work of the host hits all of
+    them alike."""
     walls: list[list[float]] = [[] for _ in commands]
     turns = list(zip(commands, walls))
     for number in range(rounds):
@@ -177,7 +187,8 @@ class Runner:
         self.errors = room / "errors"
 
     def trial(self, command: Command) -> Optional[Trial]:
-        """Runs a command into a file, and for the least memory of some runs a few times more into nothing."""
+        """Runs a command into a file, and for the least memory of some runs a few times more into
+        nothing."""
         print(f"{command.what} {command.workers or ''} ..", file=sys.stderr)
         output = command.keep or self.room / "output"
         memory = memory_of(command.words, output, self.errors)
@@ -188,8 +199,12 @@ class Runner:
         return Trial(memory, digest_of(output))
 
     def measure(self, commands: list[Command]) -> list[Result]:
-        """Tries the commands one after another, and then takes the times of those that the programs have."""
+        """Tries the commands one after another, and then takes the times of those that the programs
+        have."""
         trials = [self.trial(command) for command in commands]
         present = [command for command, trial in zip(commands, trials) if trial]
         walls = iter(wall_times(present, self.rounds))
-        return [Result(command, trial, next(walls) if trial else []) for command, trial in zip(commands, trials)]
+        return [
+            Result(command, trial, next(walls) if trial else [])
+            for command, trial in zip(commands, trials)
+        ]

@@ -9,7 +9,7 @@ from dataclasses import dataclass
 from pathlib import Path
 from typing import Optional
 
-from inputs import RECORDED, SIM_NUMBER, Recording, behind, cloud, cycles, write_greatest
+from inputs import RECORDED, SIM_NUMBER, Recording, cloud, cycles, second_client, write_greatest
 from passes import heavy_passes
 from running import Command, Result, Runner, digest_of, digest_of_text, run_into, size, text_of
 
@@ -24,7 +24,8 @@ CYCLES_DIVISOR = 10
 # Endings of the names of lines, for those of the plain programs.
 IN_PLAIN = ", plain Rust"
 BY_CLIENT = ", same interfaces"
-# Of one whose output goes into a new file or through a pipe to a `cat`, and of one that reads the greatest frames.
+# Of one whose output goes into a new file or through a pipe to a `cat`, and of one that reads the
+# greatest frames.
 KEPT = ", into a file"
 PIPED = ", into a pipe"
 GREATEST = ", greatest frames"
@@ -32,7 +33,8 @@ GREATEST = ", greatest frames"
 
 @dataclass(frozen=True)
 class Programs:
-    """The program that is measured, those of copies and of its pool, and the plain ones, where there is a compiler for them."""
+    """The program that is measured, those of copies and of its pool, and the plain ones, where
+    there is a compiler for them."""
 
     det: Path
     lane: Optional[Path]
@@ -53,14 +55,14 @@ def build_plain(name: str, room: Path) -> Optional[Path]:
 
 @dataclass(frozen=True)
 class Row:
-    """A line of the table: what was found, the bytes of the record that it is about, and the time that is 1."""
+    """A line of the table: what was found, the bytes of its record, and the time that is 1."""
 
     result: Result
     size: int
     first: Optional[float]
 
 
-class Bench:
+class Measurements:
     """The measurements, and what they found."""
 
     def __init__(self, runner: Runner, programs: Programs, is_quick: bool) -> None:
@@ -81,22 +83,24 @@ class Bench:
         """A command of the least plain program, where there is one."""
         if self.programs.baseline is None:
             return []
-        return [Command(what + IN_PLAIN, [str(self.programs.baseline), *map(str, words)], gives=gives)]
+        return [
+            Command(what + IN_PLAIN, [str(self.programs.baseline), *map(str, words)], gives=gives)
+        ]
 
     def add_rows(self, results: list[Result], size: int, first: Optional[float] = None) -> None:
         self.rows += [Row(result, size, first) for result in results]
 
     def judge(self, results: list[Result], expected: dict[str, str]) -> None:
-        """Tells of each thing that was given whether its bytes were equal, and equal to those that are expected."""
+        """Says of each output whether its bytes were equal, and equal to the expected ones."""
         found: dict[str, list[str]] = {gives: [digest] for gives, digest in expected.items()}
         for result in results:
             if result.trial and result.command.gives:
                 found.setdefault(result.command.gives, []).append(result.trial.digest)
         for gives, digests in found.items():
             if len(digests) > 1:
-                self.tell_whether_same(f"{gives}, {len(digests)} times", digests)
+                self.remark_whether_same(f"{gives}, {len(digests)} times", digests)
 
-    def tell_whether_same(self, what: str, digests: list[str]) -> None:
+    def remark_whether_same(self, what: str, digests: list[str]) -> None:
         is_same = len(set(digests)) == 1
         self.is_same = self.is_same and is_same
         self.remarks.append(f"{what}: {'equal, byte for byte' if is_same else 'THEY DIFFER'}")
@@ -104,29 +108,41 @@ class Bench:
     # ---- a stimulus recorded ----
 
     def inputs(self, recording: Recording) -> tuple[Path, list[str]]:
-        """Writes a manifest and a stimulus. Answers the stimulus, and the words that record it."""
+        """Writes a manifest and a stimulus. Returns the stimulus, and the words that record it."""
         name = recording.name.replace(" / ", "_")
         manifest, stimulus = self.room(f"{name}.toml"), self.room(f"{name}.stim")
         manifest.write_text(recording.manifest())
         stimulus.write_text(recording.stimulus())
         return stimulus, self.det("record", manifest, stimulus, "--seed", recording.seed)
 
-    def recorded(self, recording: Recording, record: Path) -> list[Command]:
-        """The recording by each number of workers, the first of which keeps the record, and by plain Rust."""
+    def record_commands(self, recording: Recording, record: Path) -> list[Command]:
+        """The recording by each number of workers, of which the first keeps the record, and by
+        plain Rust."""
         stimulus, words = self.inputs(recording)
-        what, gives, plain = f"record {recording.name}", f"record of {recording.name}", recording.plain_words(stimulus)
+        what, gives, plain = (
+            f"record {recording.name}",
+            f"record of {recording.name}",
+            recording.plain_words(stimulus),
+        )
         commands = [
-            Command(what, [*words, "--workers", str(workers)], workers, gives, keep=record if workers == 1 else None)
+            Command(
+                what,
+                [*words, "--workers", str(workers)],
+                workers,
+                gives,
+                keep=record if workers == 1 else None,
+            )
             for workers in WORKERS
         ]
         if self.programs.client:
             client = [str(self.programs.client), *plain]
             commands += [
-                Command(what + BY_CLIENT, [*client, str(workers)], workers, gives) for workers in CLIENT_WORKERS
+                Command(what + BY_CLIENT, [*client, str(workers)], workers, gives)
+                for workers in CLIENT_WORKERS
             ]
         return commands + self.in_plain(what, gives, *plain)
 
-    def read_again(self, name: str, record: Path) -> list[Command]:
+    def read_commands(self, name: str, record: Path) -> list[Command]:
         """The commands that read the record."""
         text = f"text of {name}"
         return [
@@ -141,61 +157,75 @@ class Bench:
         few = cycles(self.is_quick, CYCLES_DIVISOR)
         return Command(f"record {few.name}", self.inputs(few)[1], 1, records=1 / CYCLES_DIVISOR)
 
-    def written(self, recorded: list[Command]) -> list[Command]:
-        """Recordings by one worker and by plain Rust whose bytes go into a file, and through a pipe."""
+    def file_commands(self, recorded: list[Command]) -> list[Command]:
+        """Recordings by one worker and by plain Rust, into a file and through a pipe."""
         commands = []
         for command in recorded:
             if command.workers in (1, None) and not command.what.endswith(BY_CLIENT):
                 piped = ["sh", "-c", f"{shlex.join(command.words)} | cat"]
-                commands.append(self.kept(command.what + KEPT, command.words))
+                commands.append(self.into_file(command.what + KEPT, command.words))
                 commands.append(Command(command.what + PIPED, piped))
         return commands
 
     def record(self, recording: Recording) -> None:
         name, record = recording.name, self.room("record")
-        commands = self.recorded(recording, record)
+        commands = self.record_commands(recording, record)
         if name == "cycles":
-            commands += [self.tenth(), *self.written(commands)]
-        results = self.runner.measure(commands + self.read_again(name, record))
+            commands += [self.tenth(), *self.file_commands(commands)]
+        results = self.runner.measure(commands + self.read_commands(name, record))
         self.add_rows(results, size(record), results[0].seconds)
         verdict = f"genuine {recording.cycles()}\n" + text_of(self.det("show", "--reports", record))
         self.judge(results, {f"verdict on {name}": digest_of_text(verdict)})
 
     # ---- a record and its copies ----
 
-    def compared(self, copies: list[Path]) -> list[Command]:
+    def compare_commands(self, copies: list[Path]) -> list[Command]:
         def compare(count: int) -> Command:
             words = self.det("compare", *copies[:count])
             return Command(f"compare {count}", words, gives="verdict on copies", records=count)
 
-        cmp = [Command("cmp", ["cmp", *map(str, copies[:2])], records=2)] if shutil.which("cmp") else []
-        return [compare(2), *cmp, compare(MOST_COPIES), *self.voted(copies[:3])]
+        cmp = (
+            [Command("cmp", ["cmp", *map(str, copies[:2])], records=2)]
+            if shutil.which("cmp")
+            else []
+        )
+        return [compare(2), *cmp, compare(MOST_COPIES), *self.vote_commands(copies[:3])]
 
-    def kept(self, what: str, words: list[str], *before: list[str], records: float = 1) -> Command:
-        """A command whose output goes into a new file, behind others that a shell runs first.
+    def into_file(
+        self, what: str, words: list[str], *before: list[str], records: float = 1
+    ) -> Command:
+        """A command whose output goes into a new file, after others that a shell runs first.
 
-        A shell starts it whatever stands before it, so that what is compared with it has one too.
+        A shell starts it whatever is before it, so that what is compared with it has one too.
         """
         made = self.room("made")
         last = shlex.join(words) + (f" {made}" if words[0] == "cp" else f" > {made}")
         script = " && ".join([*map(shlex.join, before), f"exec {last}"])
         return Command(what, ["sh", "-c", script], records=records, makes=made)
 
-    def voted(self, copies: list[Path]) -> list[Command]:
-        """Three copies voted into one, and the least that does as much with copies that are equal."""
+    def vote_commands(self, copies: list[Path]) -> list[Command]:
+        """Three copies voted into one, and the least that does as much with equal copies."""
         first, second, third = map(str, copies)
         vote = self.det("vote", *copies)
-        plain = self.kept("two cmp and a cp", ["cp", first], ["cmp", first, second], ["cmp", first, third], records=3)
+        plain = self.into_file(
+            "two cmp and a cp",
+            ["cp", first],
+            ["cmp", first, second],
+            ["cmp", first, third],
+            records=3,
+        )
         return [
             Command("vote 3", vote, gives="voted record", records=3),
-            self.kept(f"vote 3{KEPT}", vote, records=3),
+            self.into_file(f"vote 3{KEPT}", vote, records=3),
             *([plain] if shutil.which("cmp") else []),
         ]
 
-    def salvaged(self, record: Path, cycles: int) -> list[Command]:
-        """A record that breaks off in the middle of its last cycle, made whole, and copied as it is.
+    def salvage_commands(self, record: Path, cycles: int) -> list[Command]:
+        """A record that breaks off in the middle of its last cycle, made whole, and copied as it
+        is.
 
-        `cp` leaves the copying to the kernel, and `dd` reads and writes pieces as large as those of `salvage`.
+        `cp` leaves the copying to the kernel, and `dd` reads and writes pieces as large as those of
+        `salvage`.
         """
         cut = self.room("cut")
         shutil.copyfile(record, cut)
@@ -204,12 +234,16 @@ class Bench:
         return [
             Command("salvage", salvage, gives="salvaged record"),
             *self.in_plain("salvage", "salvaged record", "salvage", cut),
-            self.kept(f"salvage{KEPT}", salvage),
-            self.kept("cp", ["cp", str(cut)]),
-            *([self.kept("dd", ["dd", f"if={cut}", "bs=64K", "status=none"])] if shutil.which("dd") else []),
+            self.into_file(f"salvage{KEPT}", salvage),
+            self.into_file("cp", ["cp", str(cut)]),
+            *(
+                [self.into_file("dd", ["dd", f"if={cut}", "bs=64K", "status=none"])]
+                if shutil.which("dd")
+                else []
+            ),
         ]
 
-    def upgraded(self, record: Path) -> list[Command]:
+    def upgrade_commands(self, record: Path) -> list[Command]:
         """A record in format 1, which only a plain program makes, run again in format 2."""
         if self.programs.baseline is None:
             return []
@@ -224,24 +258,33 @@ class Bench:
         run_into(paths[0], self.inputs(recording)[1])
         for path in paths[1:]:
             shutil.copyfile(paths[0], path)
-        commands = self.compared(paths) + self.salvaged(paths[0], recording.cycles()) + self.upgraded(paths[0])
+        commands = (
+            self.compare_commands(paths)
+            + self.salvage_commands(paths[0], recording.cycles())
+            + self.upgrade_commands(paths[0])
+        )
         results = self.runner.measure(commands)
         self.add_rows(results, size(paths[0]))
         agree = digest_of_text(f"agree {recording.cycles()}\n")
         digest = digest_of(paths[0])
-        self.judge(results, {"verdict on copies": agree, "voted record": digest, "upgraded record": digest})
+        self.judge(
+            results, {"verdict on copies": agree, "voted record": digest, "upgraded record": digest}
+        )
 
     # ---- the greatest frames ----
 
     def greatest(self) -> None:
-        """Copies of a record of the greatest frames, for the memory. One file is named for each of them."""
+        """Copies of a record of the greatest frames, for the memory. All are one file."""
         record = self.room("greatest")
         runs = 2 if self.is_quick else 4
         write_greatest(record, runs)
         verdict = "verdict on the greatest frames"
         commands = [
             Command(
-                f"compare {count}{GREATEST}", self.det("compare", *[record] * count), gives=verdict, records=count
+                f"compare {count}{GREATEST}",
+                self.det("compare", *[record] * count),
+                gives=verdict,
+                records=count,
             )
             for count in (2, MOST_COPIES)
         ]
@@ -253,8 +296,9 @@ class Bench:
     # ---- two clients ----
 
     def chain(self) -> None:
-        """A cloud and a bank behind it, and both recorded one after the other, the bank over a stimulus made of the cloud."""
-        first, second = cloud(self.is_quick), behind(self.is_quick)
+        """A cloud and a bank after it, and both recorded one after the other, the bank over a
+        stimulus made of the cloud."""
+        first, second = cloud(self.is_quick), second_client(self.is_quick)
         one, two, derived = (self.room(name) for name in ("first", "second", "derived"))
         stimulus, first_words = self.inputs(first)
         run_into(one, first_words)
@@ -275,7 +319,8 @@ class Bench:
     # ---- copies that run now ----
 
     def running_copies(self) -> None:
-        """Two copies of a cloud as processes and as threads, one of them alone, and two that nobody compares."""
+        """Two copies of a cloud as processes and as threads, one by itself, and two that nobody
+        compares."""
         if None in (self.programs.lane, self.programs.twin):
             self.remarks.append("running copies are left out: there are no programs of them")
             return
@@ -286,35 +331,43 @@ class Bench:
         lane = [str(self.programs.lane), str(self.programs.det), "2", manifest, stimulus]
         twin = [str(self.programs.twin), "2", manifest, stimulus]
         one = self.det("record", manifest, stimulus, "--workers", 1)
-        alone = shlex.join(one)
-        read = f"{alone} | cat > /dev/null"
+        single = shlex.join(one)
+        read = f"{single} | cat > /dev/null"
         commands = [
             Command("one record", one, 1, keep=record),
-            Command("two at once", ["sh", "-c", f"{alone} > /dev/null & {alone}; wait"], 1, records=2),
+            Command(
+                "two at once", ["sh", "-c", f"{single} > /dev/null & {single}; wait"], 1, records=2
+            ),
             Command("two at once, read", ["sh", "-c", f"{read} & {read}; wait"], 1, records=2),
             Command("det_lane 2", lane, gives="verdict on running copies", records=2),
             Command("det_twin 2", twin, gives="verdict on running copies", records=2),
         ]
         results = self.runner.measure(commands)
         self.add_rows(results, size(record))
-        self.judge(results, {"verdict on running copies": digest_of_text(f"agree {recording.cycles()}\n")})
+        self.judge(
+            results, {"verdict on running copies": digest_of_text(f"agree {recording.cycles()}\n")}
+        )
 
     # ---- a simulated run ----
 
     def sim(self) -> None:
-        """The simulated run by each number of workers, and the time of its digest alone."""
+        """The simulated run by each number of workers, and the time of only its digest."""
         record, summary = self.room("record"), self.room("summary")
         run_into(record, self.inputs(cloud(False))[1])
         what, sim = f"sim {SIM_NUMBER}", self.det("sim", SIM_NUMBER, "--workers")
         text = f"text of {what}"
-        commands = [Command(what, [*sim, str(workers)], workers, text, keep=summary) for workers in WORKERS]
+        commands = [
+            Command(what, [*sim, str(workers)], workers, text, keep=summary) for workers in WORKERS
+        ]
         if shutil.which("sha256sum"):
             commands.append(Command("sha256sum of its record", ["sha256sum", str(record)]))
         results = self.runner.measure(commands)
         self.add_rows(results, size(record), results[0].seconds)
         self.judge(results, {})
-        told = dict(line.split(" ", 1) for line in summary.read_text().splitlines())
-        self.tell_whether_same("digests by sim and of the recorded cloud", [told["sha256"], digest_of(record)])
+        values = dict(line.split(" ", 1) for line in summary.read_text().splitlines())
+        self.remark_whether_same(
+            "digests by sim and of the recorded cloud", [values["sha256"], digest_of(record)]
+        )
 
     def heavy(self) -> None:
         """Passes over a job that does next to nothing but draw random words."""
@@ -327,11 +380,22 @@ class Bench:
     # ---- memory that is asked for ----
 
     def requests(self) -> None:
-        """Tells how often the most workers ask for memory while they record."""
-        words = [sys.executable, str(REQUESTS), "--programs", str(self.programs.det.parent), "--only", "det record"]
-        done = subprocess.run([*words, "--workers", str(WORKERS[-1])], stdout=subprocess.PIPE, text=True)
+        """Counts how often the most workers ask for memory while they record."""
+        words = [
+            sys.executable,
+            str(REQUESTS),
+            "--programs",
+            str(self.programs.det.parent),
+            "--only",
+            "det record",
+        ]
+        done = subprocess.run(
+            [*words, "--workers", str(WORKERS[-1])], stdout=subprocess.PIPE, text=True
+        )
         if done.returncode == 0:
-            self.remarks += [f"with {WORKERS[-1]} workers, {line}" for line in done.stdout.splitlines()]
+            self.remarks += [
+                f"with {WORKERS[-1]} workers, {line}" for line in done.stdout.splitlines()
+            ]
         else:
             print("requests for memory can't be counted", file=sys.stderr)
 

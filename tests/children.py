@@ -1,4 +1,4 @@
-"""Runs commands that start others, with all that they start, and looks for what one has left."""
+"""Runs commands that start others, and looks for processes that one has left."""
 
 from __future__ import annotations
 
@@ -25,25 +25,25 @@ def run_within(words: list[str], limit: float, **how: Any) -> "subprocess.Comple
             out, err = child.communicate(given, timeout=limit)
         except BaseException:
             # A stopped process starts no other one while its children are looked for.
-            end(child.pid, signal.SIGSTOP)
-            for process in (child.pid, *started_by(child.pid)):
-                end(process, signal.SIGKILL)
+            send(child.pid, signal.SIGSTOP)
+            for process in (child.pid, *descendants(child.pid)):
+                send(process, signal.SIGKILL)
             raise
     return subprocess.CompletedProcess(words, child.returncode, out, err)
 
 
-def end(process: int, by: signal.Signals) -> None:
+def send(process: int, number: signal.Signals) -> None:
     """Sends a signal to a process that may have ended."""
     with contextlib.suppress(ProcessLookupError, PermissionError):
-        os.kill(process, by)
+        os.kill(process, number)
 
 
-def started_by(process: int) -> list[int]:
+def descendants(process: int) -> list[int]:
     """The children of a process, theirs, and so on, as far as their parents are still there."""
     parents: dict[int, int] = {}
     for stat in Path("/proc").glob("[0-9]*/stat"):
         with contextlib.suppress(OSError, ValueError):
-            # The name of a program stands in parentheses and may have any bytes.
+            # The name of a program is in parentheses and may have any bytes.
             _, parent, *_ = stat.read_bytes().rpartition(b")")[2].split()
             parents[int(stat.parent.name)] = int(parent)
     found = [process]
@@ -52,7 +52,7 @@ def started_by(process: int) -> list[int]:
     return found[1:]
 
 
-def children_left(mark: str) -> list[int]:
+def processes_with(mark: str) -> list[int]:
     """The processes that have this mark, NAME=VALUE, among their variables."""
     found = []
     for folder in Path("/proc").iterdir():
@@ -65,13 +65,13 @@ def children_left(mark: str) -> list[int]:
     return found
 
 
-def stays_child(mark: str) -> bool:
+def has_child(mark: str) -> bool:
     """Whether a child with this mark runs on.
 
     What a child started itself has a moment to find its output closed.
     """
     for _ in range(20):
-        if not children_left(mark):
+        if not processes_with(mark):
             return False
         time.sleep(0.1)
     return True

@@ -1,13 +1,14 @@
 #!/usr/bin/env python3
-"""Runs the console blocks of a document and compares what they print with what stands there.
+"""Runs the console blocks of a document and compares what they print with what it has.
 
-    python3 tests/console.py docs/TUTORIAL.md                      with the programs of bin/, which build where needed
+    python3 tests/console.py docs/TUTORIAL.md                      with the programs of bin/
     python3 tests/console.py docs/TUTORIAL.md --programs FOLDER    with other builds of them
 
-A block is fenced by ```console. A line behind "$ " is a command, lines behind "> " go on with it, and the lines up to the next
-command are what it prints, on standard output and standard error together. All commands of a document run in one shell, which
-starts at the top of the repository. Prints each command that printed something else, and ends with 1 where there is one.
-Python's standard library and bash are all that it needs.
+A block is fenced by ```console. A line after "$ " is a command, lines after "> " go on with it, and
+the lines up to the next command are what it prints, on standard output and standard error together.
+All commands of a document run in one shell, which starts at the top of the repository. Prints each
+command that printed something else, and ends with 1 where there is one. The programs of bin/ build
+where needed. It needs Python's standard library and bash.
 """
 
 from __future__ import annotations
@@ -20,13 +21,18 @@ import tempfile
 from dataclasses import dataclass, field
 from pathlib import Path
 
-TOP = Path(__file__).resolve().parent.parent
+from builds import build_programs
+from commands import TOP, run
+
+# The most seconds that all commands of a document may take.
+LIMIT = 600
 MARK = "--- command "
-NAMES = ("det", "det_lane", "det_twin")
 
 
 @dataclass
 class Command:
+    """A command of a console block, and the lines that the document has after it."""
+
     line: int
     text: str
     prints: list[str] = field(default_factory=list)
@@ -48,32 +54,29 @@ def commands_of(document: Path) -> list[Command]:
     return commands
 
 
-def script_of(commands: list[Command], programs: Path | None) -> str:
+def script_of(commands: list[Command]) -> str:
     """One script that marks where the output of each command begins."""
     parts = []
     for number, command in enumerate(commands):
-        if programs:
-            parts.append('PATH="$PROGRAMS:$PATH"')
-        parts += [f"echo '{MARK}{number}'", command.text]
+        # A command may change the path, which then has the programs first again.
+        parts += ['PATH="$PROGRAMS:$PATH"', f"echo '{MARK}{number}'", command.text]
     return "\n".join(parts) + "\n"
 
 
-def printed_by(commands: list[Command], programs: Path | None, room: str) -> list[list[str]]:
+def outputs_of(commands: list[Command], programs: Path, room: Path) -> list[list[str]]:
     """What each command prints, line by line. Temporary files go to a folder."""
-    environment = dict(os.environ, PROGRAMS=str(programs), TMPDIR=room)
-    done = subprocess.run(
+    environment = dict(os.environ, PROGRAMS=str(programs), TMPDIR=str(room))
+    given = run(
         ["bash"],
-        input=script_of(commands, programs),
-        cwd=TOP,
-        env=environment,
-        stdout=subprocess.PIPE,
+        TOP,
+        environment,
+        LIMIT,
+        input=script_of(commands).encode(),
         stderr=subprocess.STDOUT,
-        text=True,
-        check=False,
     )
     outputs: list[list[str]] = [[] for _ in commands]
     at = -1
-    for line in done.stdout.splitlines():
+    for line in given.out.decode().splitlines():
         if line.startswith(MARK):
             at = int(line[len(MARK) :])
         elif at >= 0:
@@ -81,27 +84,29 @@ def printed_by(commands: list[Command], programs: Path | None, room: str) -> lis
     return outputs
 
 
+def departures(document: Path, programs: Path, room: Path) -> list[str]:
+    """The commands of a document that print something else than what it has."""
+    commands, texts = commands_of(document), []
+    for command, output in zip(commands, outputs_of(commands, programs, room)):
+        if output != command.prints:
+            lines = [f"{document}:{command.line}: {command.text}"]
+            lines.append("  document: " + "\n            ".join(command.prints))
+            lines.append("  printed:  " + "\n            ".join(output))
+            texts.append("\n".join(lines))
+    return texts
+
+
 def main() -> int:
     parser = argparse.ArgumentParser(description="Runs the console blocks of a document.")
     parser.add_argument("document", type=Path)
     parser.add_argument("--programs", type=Path, help="a folder of builds to take in place of bin/")
     given = parser.parse_args()
-    programs = given.programs.resolve() if given.programs else None
-    lacking = [name for name in NAMES if programs and not os.access(programs / name, os.X_OK)]
-    if lacking:
-        parser.error(f"{programs} has no program {', '.join(lacking)}")
-    commands = commands_of(given.document)
-    bad = 0
-    with tempfile.TemporaryDirectory(prefix="det-console-") as room:
-        outputs = printed_by(commands, programs, room)
-    for command, output in zip(commands, outputs):
-        if output != command.prints:
-            bad += 1
-            print(f"{given.document}:{command.line}: {command.text}")
-            print("  stands: " + "\n          ".join(command.prints))
-            print("  prints: " + "\n          ".join(output))
-    print(f"{len(commands)} commands, {bad} of them print something else")
-    return 1 if bad or not commands else 0
+    with tempfile.TemporaryDirectory(prefix="det-console-") as name:
+        room = Path(name)
+        programs = build_programs(room / "programs", given.programs).folder
+        texts = departures(given.document, programs, room)
+    print("\n".join([*texts, f"{len(texts)} commands print something else"]))
+    return 1 if texts or not commands_of(given.document) else 0
 
 
 if __name__ == "__main__":

@@ -1,7 +1,4 @@
-"""The lines of `det show` for the items that tools/det_record.py reads.
-
-Python finds that program where tools/ is in its path.
-"""
+"""The lines of `det show` for the items that tools/det_record.py reads."""
 
 from __future__ import annotations
 
@@ -34,7 +31,7 @@ def item_lines(item: Item, cycle: int) -> Iterator[str]:
     """The lines of `det show` for an item."""
     if isinstance(item, Header):
         lines = list(header_lines(item))
-        yield from lines if item.format == 2 else untold(lines)
+        yield from lines if item.format == 2 else without_policies(lines)
     elif isinstance(item, Init):
         yield f"init {len(item.elements)}"
         yield from element_lines(item.elements)
@@ -44,7 +41,7 @@ def item_lines(item: Item, cycle: int) -> Iterator[str]:
         yield type(item).__name__.lower()
 
 
-def untold(lines: list[str]) -> Iterator[str]:
-    """The lines of a header of format 1, which tells neither its format nor policies."""
+def without_policies(lines: list[str]) -> Iterator[str]:
+    """The lines of a header of format 1, which names neither its format nor policies."""
     for line in lines[1:]:
         yield line.removesuffix(" last") if line.startswith("event ") else line

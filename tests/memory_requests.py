@@ -4,27 +4,29 @@
     python3 tests/memory_requests.py                       with the programs of bin/
     python3 tests/memory_requests.py --programs FOLDER     with another build of det
     python3 tests/memory_requests.py --only "det show"     the commands whose words begin so
-    python3 tests/memory_requests.py --workers 4           only tells what so many workers ask for
+    python3 tests/memory_requests.py --workers 4           only prints what four workers ask for
 
 The longer record has the samples of the shorter one twice. Each command has to make exactly as many
 requests to the C library over both: none for a further cycle, be it read, run, run again or
 refused. All run with one worker; what more of them ask for depends on when which thread comes, so
 it is only printed, of the commands that run cycles. `sim` has a number of cycles of its own: it may
 make no more requests in all than its first cycles take. Prints a line for each record and command;
-ends with 1 where there are too many requests. bin/det builds where needed. Python's standard
-library and gcc are all that it needs, on Linux.
+ends with 1 where there are too many requests. bin/det builds where needed. It needs Python's
+standard library and gcc, on Linux.
 """
+
+from __future__ import annotations
 
 import argparse
 import sys
 import tempfile
 from dataclasses import dataclass
 from pathlib import Path
-from typing import List
 
-from chained import Client, stimulus
+from builds import build_programs
+from clients import Client, stimulus
 from mutations import in_first_format
-from refused_memory import Trial, built_in
+from refused_memory import RefusingBench
 
 # A multiple of 140, so that the second half of the longer record has the samples of the first.
 CYCLES = 700
@@ -45,7 +47,7 @@ COMMANDS = (
 )
 # Those that run cycles on workers.
 ON_WORKERS = ("det replay RECORD", "det check RECORD", "det upgrade RECORD")
-# The requests of all 200 cycles of `sim`, whose 10,000 elements stand in 40 blocks.
+# The requests of all 200 cycles of `sim`, whose 10,000 elements are in 40 blocks.
 MOST_OF_SIM = 3_000
 
 
@@ -55,7 +57,7 @@ class Input:
 
     name: str
     client: Client
-    values: List[int]
+    values: list[int]
     record_format: int = 2
 
 
@@ -72,75 +74,79 @@ INPUTS = (
 
 @dataclass(frozen=True)
 class Counts:
-    """How many requests there were over the shorter record, and over the longer one."""
+    """How many requests a command made over the shorter record, and over the longer one."""
 
+    name: str
     shorter: int
     longer: int
-
-    def a_cycle(self) -> float:
-        """How many a further cycle takes."""
-        return (self.longer - self.shorter) / CYCLES
 
     def are_few(self) -> bool:
         """Whether a further cycle takes none."""
         return self.longer <= self.shorter
 
+    def __str__(self) -> str:
+        one = (self.longer - self.shorter) / CYCLES
+        return f"{self.name}: {self.shorter} and {self.longer} requests, {one:.2f} a cycle"
 
-class Counting:
+
+class Recordings:
     """An input with its two records."""
 
-    def __init__(self, trial: Trial, given: Input, workers: int) -> None:
-        self.trial, self.given, self.workers = trial, given, workers
+    def __init__(self, bench: RefusingBench, given: Input, workers: int) -> None:
+        self.bench, self.given, self.workers = bench, given, workers
         self.manifest = self.file("toml", given.client.manifest().encode())
-        runs = [self.recording(cycles) for cycles in (CYCLES, 2 * CYCLES)]
-        self.recorded = self.counted(runs)
-        self.records = [self.record(number, words) for number, words in enumerate(runs)]
+        self.words = [self.words_of(cycles) for cycles in (CYCLES, 2 * CYCLES)]
+        self.records = [self.record(number, it) for number, it in enumerate(self.words)]
 
-    def file(self, ending: str, data: bytes) -> Path:
-        path = self.trial.folder / f"{self.given.name.replace(' ', '_')}.{ending}"
-        path.write_bytes(data)
-        return path
+    def file(self, ending: str, data: bytes) -> str:
+        return self.bench.file(f"{self.given.name.replace(' ', '_')}.{ending}", data)
 
-    def recording(self, cycles: int) -> str:
-        """The words that record so many cycles."""
+    def words_of(self, cycles: int) -> str:
+        """The words that record a number of cycles."""
         text = stimulus(self.given.client.events, cycles, self.given.values)
         path = self.file(f"{cycles}.stim", text.encode())
         return f"det record {self.manifest} {path} --workers {self.workers}"
 
-    def record(self, number: int, words: str) -> Path:
-        data = self.trial.run(words, 0)[0].out
+    def record(self, number: int, words: str) -> str:
+        data = self.bench.run_refused(words, 0)[0].out
         is_old = self.given.record_format == 1
         return self.file(f"{number}.rec", in_first_format(data) if is_old else data)
 
-    def counted(self, pair: List[str]) -> Counts:
+    def counts(self, name: str, pair: list[str]) -> Counts:
         """The requests of two commands, which have to end well."""
-        ends = [self.trial.run(words, 0) for words in pair]
-        for words, (ended, _) in zip(pair, ends):
-            if ended.status:
-                raise RuntimeError(f"status {ended.status}: {words}")
-        return Counts(*(count for _, count in ends))
+        ends = [self.bench.run_refused(words, 0) for words in pair]
+        for words, (outcome, _) in zip(pair, ends):
+            if outcome.status:
+                raise RuntimeError(f"status {outcome.status}: {words}")
+        return Counts(f"{self.given.name}: {name}", *(count for _, count in ends))
 
-    def has_few(self, words: str, counts: Counts) -> bool:
-        """Whether a further cycle takes none, with one worker; prints what it takes."""
-        told = f"{counts.shorter} and {counts.longer} requests, {counts.a_cycle():.2f} a cycle"
-        good = counts.are_few() or self.workers > 1
-        print(f"{self.given.name}: {words}: {told}{'' if good else ': TOO MANY'}", flush=True)
-        return good
-
-    def reads_with_few(self, words: str) -> bool:
-        """The same of a command over the two records."""
+    def counts_of_reading(self, words: str) -> Counts:
+        """The requests of a command over the two records."""
         more = f" --workers {self.workers}" if words in ON_WORKERS else ""
-        both = [words.replace("RECORD", str(record)) + more for record in self.records]
-        return self.has_few(words, self.counted(both))
+        return self.counts(words, [words.replace("RECORD", it) + more for it in self.records])
 
-    def records_with_few(self) -> bool:
-        return self.has_few("det record", self.recorded)
+    def counts_of_recording(self) -> Counts:
+        return self.counts("det record", self.words)
 
 
-def sim_has_few(trial: Trial) -> bool:
-    """Whether `sim` takes no more than its first cycles do."""
-    ended, count = trial.run("det sim 7 --workers 1", 0)
-    good = ended.status == 0 and count <= MOST_OF_SIM
+def requests_of_sim(bench: RefusingBench) -> int:
+    """The requests of `sim`, which has to end well."""
+    outcome, count = bench.run_refused("det sim 7 --workers 1", 0)
+    if outcome.status:
+        raise RuntimeError(f"sim ends with {outcome.status}")
+    return count
+
+
+def print_counts(counts: Counts, workers: int) -> bool:
+    """Prints what a command asked for. Returns whether that is few; of one worker only."""
+    good = counts.are_few() or workers > 1
+    print(f"{counts}{'' if good else ': TOO MANY'}", flush=True)
+    return good
+
+
+def print_sim(bench: RefusingBench) -> bool:
+    count = requests_of_sim(bench)
+    good = count <= MOST_OF_SIM
     print(f"det sim 7: {count} requests{'' if good else ': TOO MANY'}", flush=True)
     return good
 
@@ -155,14 +161,16 @@ def main() -> int:
     commands = [words for words in every if words.startswith(given.only)]
     with tempfile.TemporaryDirectory() as name:
         folder = Path(name)
-        programs = given.programs.resolve() if given.programs else built_in(folder / "programs")
-        trial = Trial(programs, folder)
-        countings = [Counting(trial, it, given.workers) for it in INPUTS]
-        good = [counting.reads_with_few(words) for counting in countings for words in commands]
+        bench = RefusingBench(
+            build_programs(folder / "programs", given.programs, names=("det",)), folder
+        )
+        recordings = [Recordings(bench, it, given.workers) for it in INPUTS]
+        counts = [it.counts_of_reading(words) for it in recordings for words in commands]
         if "det record".startswith(given.only):
-            good += [counting.records_with_few() for counting in countings]
+            counts += [it.counts_of_recording() for it in recordings]
+        good = [print_counts(it, given.workers) for it in counts]
         if given.workers == 1 and "det sim".startswith(given.only):
-            good.append(sim_has_few(trial))
+            good.append(print_sim(bench))
     return 0 if good and all(good) else 1
 
 

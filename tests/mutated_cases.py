@@ -1,11 +1,19 @@
 """Cases made of changed inputs: the words of a program, and the files that they name."""
 
 import random
-from dataclasses import dataclass, field
+from dataclasses import replace
 from typing import Callable, Dict, List, Sequence
 
+from both_programs import PROGRAM
+from commands import Case
 from mutated_inputs import (
-    FreeRecord, Profile, long_record, long_stimulus, manifest_of, profile, stimulus_of,
+    FreeRecord,
+    Profile,
+    long_record,
+    long_stimulus,
+    manifest_of,
+    profile,
+    stimulus_of,
     stimulus_of_length,
 )
 from mutated_words import COMMAND_WORDS, OF_MANIFESTS, OF_STIMULI
@@ -13,30 +21,23 @@ from mutations import changed_record, changed_text, changed_words, in_first_form
 from toml_texts import TomlText
 
 GENUINE = 60
-# What stands for the program `det` among the words of `det_lane`.
-PROGRAM = "PROGRAM"
 LARGE_WORDS = (
     ["show", "r0", "--reports"],
     ["show", "r0", "--cycle", "1000000"],
     ["salvage", "r0", "--reports"],
     ["vote", "r0", "r0", "r0"],
 )
-
-
-@dataclass
-class Case:
-    """The words of a case, the first of which is the program, and its files."""
-
-    words: List[str]
-    files: Dict[str, bytes] = field(default_factory=dict)
-
-
-# Has a stimulus recorded, given the manifest and the stimulus.
+# Records a stimulus, given the manifest and the stimulus.
 Recorder = Callable[[bytes, bytes], bytes]
 
 
+def case_from(words: List[str], files: Dict[str, bytes]) -> Case:
+    """A case whose outcome is that of the plain program."""
+    return Case(" ".join(words), list(words), files=files)
+
+
 class Cases:
-    """Makes cases, each by its number alone."""
+    """Makes cases, each from the seed and its number only."""
 
     def __init__(self, seed: str, recorder: Recorder) -> None:
         self.seed = seed
@@ -55,7 +56,7 @@ class Cases:
             return FreeRecord(choose).record()
         return choose.choice(self.genuine)
 
-    def perhaps_changed(self, choose: random.Random, data: bytes, share: float) -> bytes:
+    def change_some(self, choose: random.Random, data: bytes, share: float) -> bytes:
         return changed_record(choose, data) if choose.random() < share else data
 
     def record_options(self, choose: random.Random, word: str) -> Sequence[str]:
@@ -67,19 +68,19 @@ class Cases:
         return ("--workers", choose.choice(("1", "2", "5"))) if choose.random() < 0.3 else ()
 
     def one_record(self, choose: random.Random) -> Case:
-        data = self.perhaps_changed(choose, self.record(choose), 0.97)
+        data = self.change_some(choose, self.record(choose), 0.97)
         word = choose.choice(("show", "show", "replay", "check", "check", "upgrade", "salvage"))
-        return Case(["det", word, "r0", *self.record_options(choose, word)], {"r0": data})
+        return case_from(["det", word, "r0", *self.record_options(choose, word)], {"r0": data})
 
     def copies(self, choose: random.Random) -> Case:
         word, counts = choose.choice((("compare", (2, 2, 3, 8)), ("vote", (3, 3, 4, 5, 7))))
         good, share = self.record(choose), choose.choice((0.1, 0.3, 0.6))
         other, files = changed_record(choose, good), {}
         for copy in range(choose.choice(counts)):
-            one = self.perhaps_changed(choose, good, share / 2)
+            one = self.change_some(choose, good, share / 2)
             files[f"r{copy}"] = other if choose.random() < share else one
         options = ["--dissent"] if word == "vote" and choose.random() < 0.5 else []
-        return Case(["det", word, *files, *options], files)
+        return case_from(["det", word, *files, *options], files)
 
     def run_options(self, choose: random.Random) -> List[str]:
         options = ["--workers", choose.choice(("1", "1", "2", "3"))]
@@ -97,13 +98,15 @@ class Cases:
             data += b"#" * (65_536 - len(data) - 2 + choose.randrange(4)) + b"\n"
         data = changed_text(choose, data, OF_MANIFESTS)
         if choose.random() < 0.7:
-            return Case(["det", "needs", "m0", *self.strict(choose)], {"m0": data})
+            return case_from(["det", "needs", "m0", *self.strict(choose)], {"m0": data})
         files = {"m0": data, "s": stimulus_of(choose, len(given.events))}
         words = ["det", "record", "m0", "s", *self.strict(choose), *self.run_options(choose)]
-        return Case(words, files)
+        return case_from(words, files)
 
     def toml(self, choose: random.Random) -> Case:
-        return Case(["det", "needs", "m0", *self.strict(choose)], {"m0": TomlText(choose).text()})
+        return case_from(
+            ["det", "needs", "m0", *self.strict(choose)], {"m0": TomlText(choose).text()}
+        )
 
     def stimulus(self, choose: random.Random) -> Case:
         given = profile(choose)
@@ -113,25 +116,25 @@ class Cases:
             data = b"stim 1\ncycle -\n" + samples + data[len(b"stim 1\n") :]
         way = choose.random()
         if way < 0.2:
-            return Case(["det", "demo", "s"], {"s": data})
+            return case_from(["det", "demo", "s"], {"s": data})
         files = {"m0": manifest_of(choose, given), "s": data}
         if way < 0.6:
-            return Case(["det", "record", "m0", "s", *self.run_options(choose)], files)
+            return case_from(["det", "record", "m0", "s", *self.run_options(choose)], files)
         if way < 0.8:
-            return self.running(choose, files)
+            return self.running_copies(choose, files)
         files["m1"] = manifest_of(choose, profile(choose))
-        return Case(["det", "chain", "m0", "m1", "s", *self.run_options(choose)], files)
+        return case_from(["det", "chain", "m0", "m1", "s", *self.run_options(choose)], files)
 
-    def running(self, choose: random.Random, files: Dict[str, bytes]) -> Case:
+    def running_copies(self, choose: random.Random, files: Dict[str, bytes]) -> Case:
         """Copies that run now."""
         copies = choose.choice((2, 2, 3, 8))
         if choose.random() < 0.2:
-            return Case(["det_lane", PROGRAM, str(copies), "m0", "s"], files)
+            return case_from(["det_lane", PROGRAM, str(copies), "m0", "s"], files)
         words = ["det_twin", str(copies), "m0", "s"]
         if choose.random() < 0.6:
             frame = choose.choice(("0", "2", "3", "3", "4", "5", "4294967295"))
             words += ["--flip", str(choose.randrange(copies)), frame]
-        return Case(words, files)
+        return case_from(words, files)
 
     def chain(self, choose: random.Random) -> Case:
         """Two clients, of which one manifest may be changed, or the stimulus."""
@@ -143,31 +146,32 @@ class Cases:
             others = OF_STIMULI if changed == "s" else OF_MANIFESTS
             files[changed] = changed_text(choose, files[changed], others)
         words = ["det", "chain", "m0", "m1", "s"]
-        return Case([*words, *self.strict(choose), *self.run_options(choose)], files)
+        return case_from([*words, *self.strict(choose), *self.run_options(choose)], files)
 
     def words(self, choose: random.Random) -> Case:
         """The words of a case changed, but not its program."""
         ways = (self.one_record, self.copies, self.manifest, self.stimulus, self.chain)
         case = choose.choice(ways)(choose)
         if case.words[0] != "det_lane":
-            changed = changed_words(choose, case.words[1:], COMMAND_WORDS)
-            case.words = [case.words[0], *changed]
+            words = [str(word) for word in case.words[1:]]
+            changed = changed_words(choose, words, COMMAND_WORDS)
+            return replace(case, words=[case.words[0], *changed])
         return case
 
     def large(self, choose: random.Random) -> Case:
         """A case with as many cycles, events or held bytes as there may be, or one more."""
         way = choose.randrange(4)
         if way == 0:
-            return Case(["det", *choose.choice(LARGE_WORDS)], {"r0": long_record(choose)})
+            return case_from(["det", *choose.choice(LARGE_WORDS)], {"r0": long_record(choose)})
         if way == 1:
-            return Case(["det", "demo", "s"], {"s": long_stimulus(choose)})
+            return case_from(["det", "demo", "s"], {"s": long_stimulus(choose)})
         if way == 2:
             events = [(f"e{event}", 1, "") for event in range(choose.choice((256, 257)))]
             manifest = manifest_of(choose, Profile("bank", [4, 2], events))
-            return Case(["det", "needs", "m0"], {"m0": manifest})
+            return case_from(["det", "needs", "m0"], {"m0": manifest})
         text = stimulus_of_length(choose.choice((1 << 20, (1 << 20) + 1)))
         manifest = manifest_of(choose, Profile("bank", [4, 2], [("x", 1, "")]))
-        return Case(["det_twin", "2", "m0", "s"], {"m0": manifest, "s": text})
+        return case_from(["det_twin", "2", "m0", "s"], {"m0": manifest, "s": text})
 
     def case(self, number: int) -> Case:
         choose = random.Random(f"{self.seed}/{number}")

@@ -163,7 +163,7 @@ def long_stimulus(choose: random.Random) -> bytes:
 
 
 def stimulus_of_length(length: int) -> bytes:
-    """A stimulus of exactly so many bytes."""
+    """A stimulus of a given number of bytes."""
     begin, line, end = b"stim 1\n", b"cycle -\n", b"terminate\n"
     text = begin + line * ((length - len(begin) - len(end)) // len(line) - 1)
     digits = length - len(text) - len(end) - len(b"cycle \n")

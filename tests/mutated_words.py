@@ -10,11 +10,22 @@ NUMBERS = """
 4294967296 1000000000000 1000000000001 -1000000000000 -1000000000001 4000000000000 4000000000001
 9223372036854775807 9223372036854775808 -9223372036854775808 -9223372036854775809
 18446744073709551615 18446744073709551616 99999999999999999999999
-""".split() + ["", " "]
+""".split() + [
+    "",
+    " ",
+]
 CHARACTERS = """
 " ' \\ # = [ ] { } , . _ - + \x00 \x7f é \ufeff 0 9 a Z \"\"\" ''' [[ ]] \\n \\x41 \\u0041
 \\U00110000 \\ud800 \\e
-""".split() + [" ", "\t", "\r", "\r\n", "\n", "\x1f", "\u2028"]
+""".split() + [
+    " ",
+    "\t",
+    "\r",
+    "\r\n",
+    "\n",
+    "\x1f",
+    "\u2028",
+]
 
 
 def lines_of(text: str, more: Sequence[str]) -> List[bytes]:
@@ -115,12 +126,25 @@ seed = 7
 "\u00e9" = 1
 "a b" = 1
 """,
-    ["", f"platform = '{'p' * 64}'", f"platform = '{'p' * 65}'", 'platform = """a\nb"""',
-     "params = [\n 4, # four\n 2\n]", 'event = [{name = "x",\n capacity = 1, # last\n}, 3]',
-     's = """\\\n  a"""', f"'{'k' * 70}' = 1", "n = " + "[" * 80 + "]" * 80,
-     "n = " + "[" * 81 + "]" * 81, "n = " + "{a=" * 80 + "1" + "}" * 80,
-     "n = " + "{a=" * 81 + "1" + "}" * 81, ".".join("k" * 80) + " = 1", ".".join("k" * 81) + " = 1",
-     "[" + ".".join("k" * 80) + "]", "[" + ".".join("k" * 81) + "]"])
+    [
+        "",
+        f"platform = '{'p' * 64}'",
+        f"platform = '{'p' * 65}'",
+        'platform = """a\nb"""',
+        "params = [\n 4, # four\n 2\n]",
+        'event = [{name = "x",\n capacity = 1, # last\n}, 3]',
+        's = """\\\n  a"""',
+        f"'{'k' * 70}' = 1",
+        "n = " + "[" * 80 + "]" * 80,
+        "n = " + "[" * 81 + "]" * 81,
+        "n = " + "{a=" * 80 + "1" + "}" * 80,
+        "n = " + "{a=" * 81 + "1" + "}" * 81,
+        ".".join("k" * 80) + " = 1",
+        ".".join("k" * 81) + " = 1",
+        "[" + ".".join("k" * 80) + "]",
+        "[" + ".".join("k" * 81) + "]",
+    ],
+)
 MANIFEST_VALUES = lines_of(
     r"""
 0
@@ -196,18 +220,52 @@ false
 1979-05-27T07:32:00Z
 1979-05-27 07:32:00-07:00
 """,
-    ['"""x"""', "'''\nlast'''", f"'{'n' * 32}'", f"'{'n' * 33}'", f"'{'p' * 64}'",
-     f"'{'p' * 65}'", f"[{'1, ' * 16}]", f"[{'1, ' * 17}]"])
+    [
+        '"""x"""',
+        "'''\nlast'''",
+        f"'{'n' * 32}'",
+        f"'{'n' * 33}'",
+        f"'{'p' * 64}'",
+        f"'{'p' * 65}'",
+        f"[{'1, ' * 16}]",
+        f"[{'1, ' * 17}]",
+    ],
+)
 # Values at the limits of a key, whose good ones are among them.
 MANIFEST_VALUES_OF = {
     b"job": [b"'bank'", b"'cloud'", b"'guard'", b"'Bank'", b"''"],
     b"cycle_time_ns": [b"0", b"1", b"9223372036854775807", b"9223372036854775808"],
     b"workers": [b"0", b"1", b"64", b"65"],
     b"params": [value for value in MANIFEST_VALUES if value.startswith(b"[")],
-    b"platform": [b"''", b"' '", b"'~'", b"'\x7f'", b'"\\u007f"', b'"\\u001f"', b"'\xc3\xa9'",
-                  b"'" + b"p" * 64 + b"'", b"'" + b"p" * 65 + b"'"],
-    b"name": [b"''", b"'`'", b"'a'", b"'z'", b"'{'", b"'0'", b"'9'", b"'/'", b"':'", b"'_'", b"'A'",
-              b"'a_9'", b"'x'", b"'y'", b"'" + b"n" * 32 + b"'", b"'" + b"n" * 33 + b"'"],
+    b"platform": [
+        b"''",
+        b"' '",
+        b"'~'",
+        b"'\x7f'",
+        b'"\\u007f"',
+        b'"\\u001f"',
+        b"'\xc3\xa9'",
+        b"'" + b"p" * 64 + b"'",
+        b"'" + b"p" * 65 + b"'",
+    ],
+    b"name": [
+        b"''",
+        b"'`'",
+        b"'a'",
+        b"'z'",
+        b"'{'",
+        b"'0'",
+        b"'9'",
+        b"'/'",
+        b"':'",
+        b"'_'",
+        b"'A'",
+        b"'a_9'",
+        b"'x'",
+        b"'y'",
+        b"'" + b"n" * 32 + b"'",
+        b"'" + b"n" * 33 + b"'",
+    ],
     b"capacity": [b"0", b"1", b"1024", b"1025"],
     b"policy": [b"'last'", b"'fresh'", b"'Last'", b"''"],
     b"instructions": [b"-1", b"0", b"9223372036854775807", b"9223372036854775808"],
@@ -249,7 +307,8 @@ init_needs.instructions
 1
 1.2
 """,
-    [])
+    [],
+)
 STIMULUS_LINES = lines_of(
     """
 stim 1
@@ -281,12 +340,19 @@ sample 00 1
 terminate
 # a comment
 """,
-    ["", "cycle ", "cycle 1 ", "terminate ", "x" * 128, "x" * 129, "sample 0 " + "1" * 119])
+    ["", "cycle ", "cycle 1 ", "terminate ", "x" * 128, "x" * 129, "sample 0 " + "1" * 119],
+)
 
 ENCODED_NUMBERS = [number.encode() for number in NUMBERS]
 ENCODED_CHARACTERS = [character.encode() for character in CHARACTERS]
-OF_MANIFESTS = Words(MANIFEST_LINES, ENCODED_NUMBERS, ENCODED_CHARACTERS, MANIFEST_KEYS,
-                     MANIFEST_VALUES, MANIFEST_VALUES_OF)
+OF_MANIFESTS = Words(
+    MANIFEST_LINES,
+    ENCODED_NUMBERS,
+    ENCODED_CHARACTERS,
+    MANIFEST_KEYS,
+    MANIFEST_VALUES,
+    MANIFEST_VALUES_OF,
+)
 # The limits of a stimulus come as often as all other numbers together.
 STIMULUS_LIMITS = lines_of(
     """
@@ -299,11 +365,19 @@ STIMULUS_LIMITS = lines_of(
 18446744073709551615
 18446744073709551616
 """,
-    [])
+    [],
+)
 OF_STIMULI = Words(STIMULUS_LINES, ENCODED_NUMBERS + STIMULUS_LIMITS * 8, ENCODED_CHARACTERS)
 # Words of a command line. The last one isn't UTF-8.
-COMMAND_WORDS = [word for word in """
+COMMAND_WORDS = (
+    [
+        word
+        for word in """
 demo record show replay check upgrade compare vote salvage chain needs --workers --seed --strict
 --reports --cycle --dissent --flip --help -h help --version -V version --workers=2 --Workers -w --
 - missing m0 m1 s r0 r1 r2 ./m0 Show é 1 2 3 64
-""".split()] + NUMBERS + ["\udcff"]
+""".split()
+    ]
+    + NUMBERS
+    + ["\udcff"]
+)

@@ -32,13 +32,72 @@ LIMITS_OF: Dict[str, Sequence[int]] = {
     "output length": (0, 1, 1 << 20, (1 << 20) + 1),
 }
 LIMITS = (
-    0, 1, 2, 3, 4, 5, 7, 8, 16, 17, 32, 33, 64, 65, 255, 256, 257, 1024, 1025, 4096, 4097,
-    65535, 65536, 65537, 1 << 20, (1 << 20) + 1, 10**12, 10**12 + 1, -(10**12), -(10**12) - 1,
-    -1, 1 << 31, 1 << 63, (1 << 63) - 1, (1 << 64) - 1,
+    0,
+    1,
+    2,
+    3,
+    4,
+    5,
+    7,
+    8,
+    16,
+    17,
+    32,
+    33,
+    64,
+    65,
+    255,
+    256,
+    257,
+    1024,
+    1025,
+    4096,
+    4097,
+    65535,
+    65536,
+    65537,
+    1 << 20,
+    (1 << 20) + 1,
+    10**12,
+    10**12 + 1,
+    -(10**12),
+    -(10**12) - 1,
+    -1,
+    1 << 31,
+    1 << 63,
+    (1 << 63) - 1,
+    (1 << 64) - 1,
 )
 BYTES = (
-    0, 1, 2, 3, 4, 5, 6, 9, 10, 13, 32, 34, 35, 39, 45, 46, 48, 61, 91, 93, 95, 97, 123, 125,
-    127, 128, 192, 239, 255,
+    0,
+    1,
+    2,
+    3,
+    4,
+    5,
+    6,
+    9,
+    10,
+    13,
+    32,
+    34,
+    35,
+    39,
+    45,
+    46,
+    48,
+    61,
+    91,
+    93,
+    95,
+    97,
+    123,
+    125,
+    127,
+    128,
+    192,
+    239,
+    255,
 )
 
 
@@ -64,24 +123,24 @@ def cut_place(choose: random.Random, data: bytes) -> Tuple[int, int]:
 def changed_bytes(choose: random.Random, data: bytes) -> bytes:
     """Some bytes flipped, replaced, put in, taken out, doubled, swapped or cut."""
     begin, end = cut_place(choose, data)
-    before, part, behind = data[:begin], data[begin:end], data[end:]
+    before, part, after = data[:begin], data[begin:end], data[end:]
     way = choose.randrange(8)
     if way == 0 and part:
-        return before + bytes([part[0] ^ 1 << choose.randrange(8)]) + part[1:] + behind
+        return before + bytes([part[0] ^ 1 << choose.randrange(8)]) + part[1:] + after
     if way == 1 and part:
-        return before + bytes([choose.choice(BYTES)]) + part[1:] + behind
+        return before + bytes([choose.choice(BYTES)]) + part[1:] + after
     if way == 2:
         put = bytes(choose.choice(BYTES) for _ in range(choose.randint(1, 4)))
-        return before + put + part + behind
+        return before + put + part + after
     if way == 3:
-        return before + behind
+        return before + after
     if way == 4:
-        return before + part + part + behind
-    if way == 5 and behind:
-        return before + behind[: len(part)] + part + behind[len(part) :]
+        return before + part + part + after
+    if way == 5 and after:
+        return before + after[: len(part)] + part + after[len(part) :]
     if way == 6:
         return before
-    return before + choose.randbytes(len(part)) + behind
+    return before + choose.randbytes(len(part)) + after
 
 
 def changed_character(choose: random.Random, data: bytes, words: Words) -> bytes:
@@ -113,8 +172,8 @@ def changed_pair(choose: random.Random, data: bytes, words: Words) -> bytes:
 def changed_line(choose: random.Random, line: bytes) -> bytes:
     """A line with blanks, another end, or a comment."""
     before = choose.choice((b"", b" ", b"\t"))
-    behind = choose.choice((b"", b" ", b"\r\n", b"\n\n", b" # x\n"))
-    return before + line.rstrip(b"\n") + behind
+    after = choose.choice((b"", b" ", b"\r\n", b"\n\n", b" # x\n"))
+    return before + line.rstrip(b"\n") + after
 
 
 def changed_lines(choose: random.Random, data: bytes, words: Words) -> bytes:
@@ -162,8 +221,8 @@ def changed_text(choose: random.Random, data: bytes, words: Words) -> bytes:
 
 @dataclass
 class Layout:
-    """Where the fields of each kind stand in a whole record, by their beginnings and widths, and
-    where its frames do."""
+    """Where the fields of each kind are in a whole record, by their beginnings and widths, and
+    where its frames are."""
 
     fields: Dict[str, List[Tuple[int, int]]] = field(default_factory=dict)
     frames: List[Tuple[int, int]] = field(default_factory=list)
@@ -188,8 +247,8 @@ class Walker:
         self.raw(width, kind)
         return int.from_bytes(self.data[self.at - width : self.at], "big")
 
-    def added(self, width: int, kind: str) -> None:
-        """A field of format 2 alone."""
+    def second_format_field(self, width: int, kind: str) -> None:
+        """A field that only format 2 has."""
         if self.version == 2:
             self.layout.second_format.append((self.at, width))
             self.raw(width, kind)
@@ -203,13 +262,13 @@ class Walker:
             self.raw(2, "capacity")
             for _ in range(self.number(1, "name length")):
                 self.raw(1, "letter")
-            self.added(1, "policy")
+            self.second_format_field(1, "policy")
 
     def elements(self, in_run: bool) -> None:
         for _ in range(self.number(4, "elements")):
             self.raw(self.number(2, "element length"), "element")
             if in_run:
-                self.added(4, "draws")
+                self.second_format_field(4, "draws")
 
     def samples(self) -> None:
         for _ in range(self.number(4, "samples")):

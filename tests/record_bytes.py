@@ -33,14 +33,14 @@ def init(elements: list[bytes]) -> bytes:
     return b"\1\2\3" + number(4, len(elements)) + spelled
 
 
-def given(time: Optional[int], samples: list[tuple[int, int]]) -> bytes:
+def run_begin(time: Optional[int], samples: list[tuple[int, int]]) -> bytes:
     """The tag of a Run frame, its time and its samples."""
     spelled = b"".join(number(2, event) + number(8, value) for event, value in samples)
     moment = b"\0" if time is None else b"\1" + number(8, time)
     return b"\4" + moment + number(4, len(samples)) + spelled
 
 
-def finished(record_format: int, elements: list[tuple[bytes, int]], output: bytes) -> bytes:
+def finished_outcome(record_format: int, elements: list[tuple[bytes, int]], output: bytes) -> bytes:
     """A finished outcome, of elements with their draws."""
     spelled = b"".join(
         content(data) + (number(4, draws) if record_format == 2 else b"")
@@ -49,7 +49,7 @@ def finished(record_format: int, elements: list[tuple[bytes, int]], output: byte
     return b"\0" + number(4, len(elements)) + spelled + number(4, len(output)) + output
 
 
-def refused(phase: int, pass_number: int, element: int, code: int) -> bytes:
+def refused_outcome(phase: int, pass_number: int, element: int, code: int) -> bytes:
     place = number(1, phase) + number(1, pass_number) + number(4, element)
     return b"\1" + place + number(4, code)
 
@@ -60,40 +60,45 @@ def mixed_record(record_format: int) -> bytes:
     pair = [(b"\0" * 7 + b"\x19", 2), (b"\xff" * 8, 70000)]
     mixed = [(b"", 0), (b"abc", 1), (b"\x80" + b"\1" * 15, 4_000_000_000)]
     runs = [
-        given(5, [(1, MOST_VALUE), (0, -MOST_VALUE)]) + finished(record_format, pair, b"out"),
-        given(None, [(0, 0)]) + refused(1, 7, 65_535, 4_000_000_000),
-        given(1005, []) + refused(0, 0, 0, 1),
-        given(1000, []) + refused(2, 0, 0, 2),
-        given(2**64 - 1, []) + finished(record_format, mixed, b""),
-        given(None, []) + finished(record_format, [], b"\0" * 20),
+        run_begin(5, [(1, MOST_VALUE), (0, -MOST_VALUE)])
+        + finished_outcome(record_format, pair, b"out"),
+        run_begin(None, [(0, 0)]) + refused_outcome(1, 7, 65_535, 4_000_000_000),
+        run_begin(1005, []) + refused_outcome(0, 0, 0, 1),
+        run_begin(1000, []) + refused_outcome(2, 0, 0, 2),
+        run_begin(2**64 - 1, []) + finished_outcome(record_format, mixed, b""),
+        run_begin(None, []) + finished_outcome(record_format, [], b"\0" * 20),
     ]
     start = header(record_format, 515, [-1, 2**63 - 1], events)
     return start + init([b"", b"xy", b"\7" * 64]) + b"".join(runs) + b"\5"
 
 
 def many_runs(runs: int) -> bytes:
-    """A record of so many finished cycles without anything in them."""
-    run = given(None, []) + finished(2, [], b"")
+    """A record of finished cycles without anything in them."""
+    run = run_begin(None, []) + finished_outcome(2, [], b"")
     return header(2, 9, [], []) + init([]) + run * runs + b"\5"
 
 
-def of_words(cycles: list[list[int]]) -> bytes:
+def record_of_words(cycles: list[list[int]]) -> bytes:
     """A record of an unknown job in whose cycles the elements are these numbers."""
     runs = []
     for words in cycles:
         elements = [(number(8, word), 0) for word in words]
-        runs.append(given(None, []) + finished(2, elements, b""))
+        runs.append(run_begin(None, []) + finished_outcome(2, elements, b""))
     start = header(2, 9, [], []) + init([bytes(8)] * len(cycles[0]))
     return start + b"".join(runs) + b"\5"
 
 
-def counted(runs: int) -> bytes:
+def counting_record(runs: int) -> bytes:
     """A bank of one channel whose level is the number of the cycle, at one time a cycle. Each
     cycle of which 1,000 is a divisor is refused in prepare with code 3."""
     frames = []
     for cycle in range(1, runs + 1):
         word = number(8, cycle)
-        outcome = finished(2, [(word, 1)], word * 3) if cycle % 1000 else refused(0, 0, 0, 3)
-        frames.append(given(1000 * cycle, []) + outcome)
+        outcome = (
+            finished_outcome(2, [(word, 1)], word * 3)
+            if cycle % 1000
+            else refused_outcome(0, 0, 0, 3)
+        )
+        frames.append(run_begin(1000 * cycle, []) + outcome)
     start = header(2, 1, [1, 0], [event(2, 1, "x", 0)]) + init([b"\0" * 8])
     return start + b"".join(frames) + b"\5"

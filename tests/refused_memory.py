@@ -1,5 +1,5 @@
 #!/usr/bin/env python3
-"""Runs each command with each of its requests for memory refused in turn, and tells how they ended.
+"""Runs each command with each of its requests for memory refused in turn, and says how they ended.
 
     python3 tests/refused_memory.py                       with the programs of bin/
     python3 tests/refused_memory.py --programs FOLDER     with other builds of them
@@ -16,9 +16,11 @@ be started is a spawn fault, and has to leave no child. A line of a table is a p
 bin/ or a path with a `/`, and its words; `OUT/` before a word is a folder that has the records
 guard.rec and old.rec, in formats 2 and 1, and `BIN/` the folder of the programs. Blank lines, and
 those that begin with `#`, are left out. Prints a line for each command, and each run that ended in
-another way; ends with 1 where there is one. The programs of bin/ build where needed. Python's
-standard library and gcc are all that it needs, on Linux.
+another way; ends with 1 where there is one. The programs of bin/ build where needed. It needs
+Python's standard library and gcc, on Linux.
 """
+
+from __future__ import annotations
 
 import argparse
 import os
@@ -27,18 +29,15 @@ import sys
 import tempfile
 from collections import Counter
 from concurrent.futures import ThreadPoolExecutor
-from dataclasses import dataclass
-from functools import partial
+from dataclasses import dataclass, field, replace
 from pathlib import Path
-from typing import Any, Dict, List, Optional, Tuple
-from typing import Counter as CounterOf
+from typing import Any, Optional, Sequence
 
-from built_programs import built
-from children import run_within, stays_child
+from builds import build_programs
+from commands import Outcome, Programs
 from mutations import in_first_format
+from preload import LANE, PreloadBench
 
-TOP = Path(__file__).resolve().parent.parent
-PROGRAMS = ("det", "det_lane", "det_twin")
 SHIPPED = """
 det demo examples/bank.stim
 det record examples/guard.toml examples/guard.stim --workers 1
@@ -71,8 +70,8 @@ det_twin 3 examples/cloud.toml examples/cloud.stim --strict
 det_twin 8 examples/bank.toml examples/bank.stim
 det_twin 2 examples/guard.toml examples/guard.stim --flip 1 3
 det_lane BIN/det 3 examples/guard.toml examples/guard.stim
-"""
-# The commands that are tried without a place for the line, too.
+""".strip().splitlines()
+# The commands that are also run without a place for the line.
 WITHOUT_LINE = (
     "det needs examples/wheels.toml",
     "det_twin 2 examples/guard.toml examples/guard.stim",
@@ -80,140 +79,107 @@ WITHOUT_LINE = (
 SIM = "det sim 7 --workers 2"
 SIM_STEP = 1_009
 # The ways in which a run may end early, by status and first line on standard error. The second is
-# for `det_lane` alone.
+# for `det_lane` only.
 EARLY = {(8, b"out of memory"): "out of memory", (10, b"spawn fault"): "spawn fault"}
-LANE = "det_lane"
 # Two threads may make a few requests more or fewer than in another run.
 MORE = 8
-LIMIT = 60
 
 
-@dataclass(frozen=True)
-class Ended:
-    """How a run ended, with the first line on standard error: those behind it are hints."""
+@dataclass
+class Findings:
+    """How the runs of a command ended."""
 
-    status: int
-    out: bytes
-    line: bytes
+    words: str
+    whole: Outcome
+    requests: int
+    ways: Counter[str] = field(default_factory=Counter)
+    departures: list[str] = field(default_factory=list)
+
+    def add(self, what: str, given: Optional[Outcome]) -> None:
+        way = way_of(self.words, given, self.whole) if given else "otherwise"
+        self.ways[way] += 1
+        if way == "otherwise":
+            self.departures.append(f"{what}: {given or 'no end'}")
+
+    def is_good(self) -> bool:
+        """Whether each run ended as it has to, and some for lack of memory."""
+        is_whole = self.whole.status in (0, 1)
+        return is_whole and not self.departures and self.ways["out of memory"] > 0
+
+    def __str__(self) -> str:
+        counts = ", ".join(f"{count} {way}" for way, count in sorted(self.ways.items()))
+        head = f"{self.words}: status {self.whole.status}, {self.requests} requests; {counts}"
+        return "\n".join([head, *self.departures])
 
 
-def placed(word: str, out: Path, programs: Path) -> str:
-    """A word of a table, whose folder may be one that was made for it."""
-    for name, folder in (("OUT/", out), ("BIN/", programs)):
-        if word.startswith(name):
-            return str(folder / word[len(name) :])
-    return word
+class RefusingBench(PreloadBench):
+    """A bench with the library that refuses requests, and with records."""
 
+    def __init__(self, programs: Programs, folder: Path) -> None:
+        super().__init__(programs, folder, "refused_memory")
+        record = self.run_refused("det record examples/guard.toml examples/guard.stim", 0)[0].out
+        self.file("guard.rec", record)
+        record = self.run_refused("det record examples/cloud.toml examples/cloud.stim", 0)[0].out
+        self.file("old.rec", in_first_format(record))
 
-class Trial:
-    """The programs beneath the library that refuses, with a folder for what is made."""
-
-    def __init__(self, programs: Path, folder: Path) -> None:
-        self.programs = programs
-        self.folder = folder
-        self.library = folder / "refused_memory.so"
-        source = TOP / "tests" / "refused_memory.c"
-        subprocess.run(["gcc", "-O1", "-shared", "-fPIC", "-o", self.library, source], check=True)
-        record = self.run("det record examples/guard.toml examples/guard.stim", 0)[0].out
-        (folder / "guard.rec").write_bytes(record)
-        record = self.run("det record examples/cloud.toml examples/cloud.stim", 0)[0].out
-        (folder / "old.rec").write_bytes(in_first_format(record))
-
-    def command(self, words: str) -> List[str]:
-        """A command's words, with its program by its path."""
-        program, *others = words.split()
-        path = program if "/" in program else str(self.programs / program)
-        return [path, *(placed(word, self.folder, self.programs) for word in others)]
-
-    def run(self, words: str, refused: int, **how: Any) -> Tuple[Ended, int]:
+    def run_refused(self, words: str, refused: int, **how: Any) -> tuple[Outcome, int]:
         """How a command ends with a request refused, and how many requests it made."""
-        counts, counted = os.pipe()
-        mark = f"{self.folder.name}-{refused}"
-        names = {"LD_PRELOAD": str(self.library), "REFUSED": str(refused), "COUNTED": str(counted)}
-        edges: Dict[str, Any] = {
-            "cwd": TOP,
-            "env": {**names, "MARK": mark},
-            "pass_fds": [counted],
-            "stdin": subprocess.DEVNULL,
-            "stdout": subprocess.PIPE,
-            "stderr": subprocess.PIPE,
-        }
-        done = run_within(self.command(words), LIMIT, **{**edges, **how})
-        os.close(counted)
-        is_left = words.startswith(LANE) and stays_child(f"MARK={mark}")
-        with os.fdopen(counts) as told:
-            # A child that is left has the other end too, so there would be no end to read to.
-            count = "" if is_left else told.read()
-        line = b"a child is left" if is_left else (done.stderr or b"").partition(b"\n")[0]
-        return Ended(done.returncode, done.stdout, line), int(count or 0)
+        given, counts, is_left = self.run_with(words, {"REFUSED": str(refused)}, **how)
+        if is_left:
+            given = replace(given, err=b"a child is left")
+        return given, counts[0] if counts else 0
+
+    def outcome(self, words: str, refused: int) -> Optional[Outcome]:
+        """How a run ends, or none where it takes too long."""
+        try:
+            return self.run_refused(words, refused)[0]
+        except subprocess.TimeoutExpired:
+            return None
+
+    def refuse_each(self, words: str, every: int, jobs: int) -> Findings:
+        """Runs a command with each of its requests refused, or every K-th, up to a run without
+        end."""
+        findings = Findings(words, *self.run_refused(words, 0))
+        numbers = range(1, findings.requests + MORE + 1, every)
+        threads = ThreadPoolExecutor(jobs)
+        ends = threads.map(lambda number: self.outcome(words, number), numbers)
+        for number, given in zip(numbers, ends):
+            findings.add(f"request {number} refused", given)
+            if given is None:
+                break
+        threads.shutdown(cancel_futures=True)
+        return findings
+
+    def refuse_without_line(self, words: str) -> Findings:
+        """The same where standard error is full, and where it is closed."""
+        findings = Findings(words, *self.run_refused(words, 0))
+        with open("/dev/full", "wb") as full:
+            places: list[dict[str, Any]] = [
+                {"stderr": full},
+                {"stderr": None, "preexec_fn": lambda: os.close(2)},
+            ]
+            for number in range(1, findings.requests + 1):
+                for place in places:
+                    given = self.run_refused(words, number, **place)[0]
+                    line = b"out of memory" if given.status == 8 else findings.whole.err
+                    findings.add(f"request {number} refused", replace(given, err=line))
+        return findings
 
 
-def way_of(words: str, ended: Ended, whole: Ended) -> str:
+def way_of(words: str, given: Outcome, whole: Outcome) -> str:
     """In which way a command ended, by the run in which nothing was refused."""
-    if ended == whole:
+    if given.is_like(whole):
         return "whole"
-    way = EARLY.get((ended.status, ended.line), "otherwise")
-    if not whole.out.startswith(ended.out) or (way == "spawn fault" and not words.startswith(LANE)):
+    way = EARLY.get((given.status, given.line()), "otherwise")
+    if not whole.out.startswith(given.out) or (way == "spawn fault" and not words.startswith(LANE)):
         return "otherwise"
     return way
 
 
-def ending(trial: Trial, words: str, refused: int) -> Optional[Ended]:
-    """How a run ends, or none where it takes too long."""
-    try:
-        return trial.run(words, refused)[0]
-    except subprocess.TimeoutExpired:
-        return None
-
-
-def tried(trial: Trial, words: str, every: int) -> bool:
-    """Whether every run of a command ended as it has to; prints how many ended in which way."""
-    whole, requests = trial.run(words, 0)
-    ways: CounterOf[str] = Counter()
-    numbers = range(1, requests + MORE + 1, every)
-    with ThreadPoolExecutor(os.cpu_count()) as threads:
-        ends = threads.map(partial(ending, trial, words), numbers)
-        for number, ended in zip(numbers, ends):
-            way = way_of(words, ended, whole) if ended else "otherwise"
-            ways[way] += 1
-            if way == "otherwise":
-                how = f"status {ended.status}, {ended.line!r}" if ended else "no end"
-                print(f"{words}: request {number} refused: {how}")
-    told = ", ".join(f"{count} {way}" for way, count in sorted(ways.items()))
-    print(f"{words}: status {whole.status}, {requests} requests; {told}", flush=True)
-    return not ways["otherwise"] and whole.status in (0, 1) and ways["out of memory"] > 0
-
-
-def ends_without_line(trial: Trial, words: str) -> bool:
-    """Whether each run of a command ends as it has to where its line finds no place."""
-    whole, requests = trial.run(words, 0)
-    ways: CounterOf[str] = Counter()
-    with open("/dev/full", "wb") as full:
-        places: List[Dict[str, Any]] = [
-            {"stderr": full},
-            {"stderr": None, "preexec_fn": lambda: os.close(2)},
-        ]
-        for number in range(1, requests + 1):
-            for place in places:
-                ended = trial.run(words, number, **place)[0]
-                line = b"out of memory" if ended.status == 8 else whole.line
-                ways[way_of(words, Ended(ended.status, ended.out, line), whole)] += 1
-    told = ", ".join(f"{count} {way}" for way, count in sorted(ways.items()))
-    print(f"{words}: without a place for the line {told}", flush=True)
-    return not ways["otherwise"] and ways["out of memory"] > 0
-
-
-def commands_of(table: str, only: str) -> List[str]:
-    lines = [line.strip() for line in table.splitlines()]
-    return [line for line in lines if line and not line.startswith("#") and line.startswith(only)]
-
-
-def built_in(folder: Path) -> Path:
-    """The programs of bin/, built where needed, in one folder."""
-    folder.mkdir()
-    for name in PROGRAMS:
-        (folder / name).symlink_to(built(name))
-    return folder
+def commands_in(lines: Sequence[str], start: str) -> list[str]:
+    """The commands of a table that begin so."""
+    stripped = [line.strip() for line in lines]
+    return [it for it in stripped if it and not it.startswith("#") and it.startswith(start)]
 
 
 def main() -> int:
@@ -221,19 +187,25 @@ def main() -> int:
     parser.add_argument("--programs", type=Path, help="a folder of builds in place of bin/")
     parser.add_argument("--every", type=int, default=1, metavar="K", help="every K-th request")
     parser.add_argument("--only", default="", help="what the commands begin with")
-    parser.add_argument("--table", type=Path, help="a file of commands to take instead")
+    parser.add_argument("--table", type=Path, help="a file of commands in place of these")
     parser.add_argument("--sim", action="store_true", help="sim too")
     given = parser.parse_args()
-    commands = commands_of(given.table.read_text() if given.table else SHIPPED, given.only)
+    lines = given.table.read_text().splitlines() if given.table else SHIPPED
+    commands = [(words, given.every) for words in commands_in(lines, given.only)]
+    commands += [(SIM, SIM_STEP * given.every)] * given.sim
+    good = []
     with tempfile.TemporaryDirectory() as name:
         folder = Path(name)
-        programs = given.programs.resolve() if given.programs else built_in(folder / "programs")
-        trial = Trial(programs, folder)
-        good = [tried(trial, words, given.every) for words in commands]
-        lost = [words for words in commands if words in WITHOUT_LINE]
-        good += [ends_without_line(trial, words) for words in lost]
-        if given.sim:
-            good.append(tried(trial, SIM, SIM_STEP * given.every))
+        bench = RefusingBench(build_programs(folder / "programs", given.programs), folder)
+        for words, every in commands:
+            findings = bench.refuse_each(words, every, os.cpu_count() or 1)
+            print(findings, flush=True)
+            good.append(findings.is_good())
+        for words in WITHOUT_LINE:
+            if (words, given.every) in commands:
+                findings = bench.refuse_without_line(words)
+                print(f"without a place for the line: {findings}", flush=True)
+                good.append(findings.is_good())
     return 0 if good and all(good) else 1
 
 

@@ -11,7 +11,7 @@ import pytest
 
 TOP = Path(__file__).resolve().parent.parent
 SOURCES = ("tools/manual.py", "docs/*.1", "docs/manual/*.txt")
-TEXTS = ("crates/*/src/**/texts.rt", "crates/*/src/**/pages.rt")
+TEXTS = ("crates/*/src/*_usage.rt", "crates/*/src/pages.rt")
 
 
 def manual(top: Path, *words: str) -> subprocess.CompletedProcess:
@@ -48,7 +48,7 @@ def test_pages_are_those_of_their_sources() -> None:
         ("docs/manual/det.txt", "no checksum", "a checksum"),
         ("docs/det.1", "no checksum", "a checksum"),
         ("crates/det_cli/src/pages.rt", "the shift 2", "the shift 3"),
-        ("crates/det_cli/src/texts.rt", "det 0.1.0", "det 9.9.9"),
+        ("crates/det_cli/src/det_usage.rt", "det 0.1.0", "det 9.9.9"),
     ],
 )
 def test_a_change_is_reported_until_the_page_is_written(
@@ -70,7 +70,7 @@ def test_a_status_without_a_meaning_is_refused(copy: Path) -> None:
 
 def test_a_command_without_a_page_is_refused(copy: Path) -> None:
     replace(
-        copy / "crates" / "det_cli" / "src" / "texts.rt", "  det needs MANIFEST", "  det want X"
+        copy / "crates" / "det_cli" / "src" / "det_usage.rt", "  det needs MANIFEST", "  det want X"
     )
     done = manual(copy, "--check")
     assert done.returncode == 1

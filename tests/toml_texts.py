@@ -7,15 +7,40 @@ HEAD = "job = 'bank'\ncycle_time_ns = 1\nworkers = 1\nparams = [4, 2]\n"
 PARTS = ("a", "b", "c", "d", '"a"', "'b'", '"\\u0061"', '""', "1", "-", "_")
 BAD_PARTS = ("a b", '"', "é", '"a\nb"', "'''a'''", "", "'a", "a\\b")
 SCALARS = (
-    "1", "-17", "+0", "1_000", "0x1f", "0o17", "0b11", "9223372036854775807", "true", "false",
-    "1.5", "-0.0", "1e3", "6.02_2e+2_3", "inf", "-nan", "2020-02-29", "07:32", "07:32:00.5",
-    "1979-05-27T07:32:00Z", "1979-05-27 07:32:00.999+01:30", "1979-05-27t07:32-23:59",
+    "1",
+    "-17",
+    "+0",
+    "1_000",
+    "0x1f",
+    "0o17",
+    "0b11",
+    "9223372036854775807",
+    "true",
+    "false",
+    "1.5",
+    "-0.0",
+    "1e3",
+    "6.02_2e+2_3",
+    "inf",
+    "-nan",
+    "2020-02-29",
+    "07:32",
+    "07:32:00.5",
+    "1979-05-27T07:32:00Z",
+    "1979-05-27 07:32:00.999+01:30",
+    "1979-05-27t07:32-23:59",
 )
 ALPHABETS = (
-    "0123456789_", "01+-_.eE", "0x_fFgG1", "0o_718", "0b_012", "0123456789-T:Z .+", "infnatrue+-",
+    "0123456789_",
+    "01+-_.eE",
+    "0x_fFgG1",
+    "0o_718",
+    "0b_012",
+    "0123456789-T:Z .+",
+    "infnatrue+-",
 )
 QUOTES = ('"', "'", '"""', "'''")
-# What may stand between each of the quotes.
+# What may be between each of the quotes.
 INSIDE: Dict[str, Sequence[str]] = {
     '"': ("a", " ", '\\"', "\\\\", "'", "''", "\\x41", "\\u00e9", "\\U0001F600", "\\e", "é", "#"),
     "'": ("a", " ", '"', '""', "\\", "é", "#", "\t"),
@@ -23,7 +48,17 @@ INSIDE: Dict[str, Sequence[str]] = {
     "'''": ("a", "'", "''", '"', "\\", "\n", "\r\n", "#"),
 }
 BAD_INSIDE = (
-    "\\q", "\\x4", "\\ud800", "\\U00110000", "\\", "\n", "\r", "\x00", "\x7f", '"""', "'''",
+    "\\q",
+    "\\x4",
+    "\\ud800",
+    "\\U00110000",
+    "\\",
+    "\n",
+    "\r",
+    "\x00",
+    "\x7f",
+    '"""',
+    "'''",
 )
 SPACES = ("", "", " ", "\t", "\n", "\r\n", " # x\n", "\n\n")
 BAD_SPACES = ("\r", "x", " #", "\x0b", "\u00a0")
@@ -64,10 +99,10 @@ class TomlText:
         return self.one_of(SPACES, BAD_SPACES)
 
     def items(self, items: List[str]) -> str:
-        """Items with commas between them, and perhaps behind them."""
+        """Items with commas between them, and perhaps after them."""
         spaced = [self.space() + item + self.space() for item in items]
-        behind = "," + self.space() if items and self.choose.random() < 0.3 else ""
-        return ",".join(spaced) + behind
+        after = "," + self.space() if items and self.choose.random() < 0.3 else ""
+        return ",".join(spaced) + after
 
     def value(self, depth: int) -> str:
         way = self.choose.random() if depth < 3 else 1

@@ -1,20 +1,21 @@
 #!/usr/bin/env python3
-"""Shows that copies in threads come to their verdict, and to an end, however they are disturbed.
+"""Shows that copies in threads reach their verdict and their end, however they are disturbed.
 
     python3 tests/twins.py                       1,000 runs with the program of bin/det_twin
-    python3 tests/twins.py --runs 100            so many runs
+    python3 tests/twins.py --runs 100            100 runs
     python3 tests/twins.py --programs FOLDER     with another build of det_twin
-    python3 tests/twins.py --busy 4              beside so many busy processes
+    python3 tests/twins.py --busy 4              beside four busy processes
     python3 tests/twins.py --seed 7              other random choices
 
-A run has 2 to 8 copies of a bank with many short cycles, or with few long ones; in every second one
-a bit of some copy's output is turned. It is disturbed as tests/one_digest.py disturbs its own: it is
-stopped and goes on, and its threads are pinned to random processors. A run that takes more than a
-minute has no verdict: two ends of a queue that wait for each other would show so. Prints how many
-runs had the verdict that they have to have and how they were disturbed, or the first run that
-hasn't; ends with 1 where there is one. bin/det_twin builds where needed. Python's standard library
-is all that it needs, on Linux.
+A run has 2 to 8 copies of a bank with many short cycles, or with few long ones. In about every
+second run a bit of some copy's output is turned. A run is disturbed as by tests/one_digest.py: it
+is stopped and goes on, and its threads are pinned to random processors. A run that takes more than
+a minute has no verdict: two ends of a queue that wait for each other would show as one. Prints how
+many runs had their verdict and how they were disturbed, or the first run that hadn't; ends with 1
+where there is one. bin/det_twin builds where needed. It needs Python's standard library, on Linux.
 """
+
+from __future__ import annotations
 
 import os
 import random
@@ -23,10 +24,12 @@ import sys
 import tempfile
 from dataclasses import dataclass
 from pathlib import Path
-from typing import List, Optional
+from typing import Optional
 
-from chained import Client, stimulus
-from one_digest import LIMIT, Disturber, busy, options, program_of
+from builds import build_programs
+from clients import Client, stimulus
+from commands import Case, Outcome
+from one_digest import LIMIT, Disturber, keep_busy, options
 
 COPIES = range(2, 9)
 VALUES = [0, 7, -5, 1000, 250]
@@ -43,8 +46,8 @@ class Input:
     client: Client
     cycles: int
 
-    def words(self, folder: Path) -> List[str]:
-        """Writes both, and gives the words that name them."""
+    def write(self, folder: Path) -> list[str]:
+        """Writes both. Returns the words that name them."""
         name = f"{self.client.params[0]}"
         manifest, text = folder / f"{name}.toml", folder / f"{name}.stim"
         manifest.write_text(self.client.manifest())
@@ -55,68 +58,55 @@ class Input:
 INPUTS = (Input(Client("bank", [3, 1], 1), 5000), Input(Client("bank", [9000, 1], 1), 40))
 
 
-@dataclass(frozen=True)
-class Case:
-    """The words of a run, and the verdict that it has to have."""
-
-    words: List[str]
-    status: int
-    out: str
-
-    @staticmethod
-    def some(choose: random.Random, words: List[str], cycles: int) -> "Case":
-        copies = choose.choice(COPIES)
-        words = [str(copies), *words]
-        if choose.random() < 0.5:
-            return Case(words, AGREE, f"agree {cycles}\n")
-        copy, cycle = choose.randrange(copies), choose.randrange(cycles)
+def some_case(choose: random.Random, folder: Path, which: int) -> Case:
+    """Copies of an input, in one of which a bit may be turned, and their verdict."""
+    given = INPUTS[which % len(INPUTS)]
+    copies = choose.choice(COPIES)
+    words = ["det_twin", str(copies), *given.write(folder)]
+    outcome = Outcome(AGREE, b"agree %d\n" % given.cycles, b"")
+    if choose.random() < 0.5:
+        copy, cycle = choose.randrange(copies), choose.randrange(given.cycles)
         words += ["--flip", str(copy), str(cycle + FIRST_RUN)]
-        # A copy 0 that differs is told as the first that isn't equal to it.
-        return Case(words, DIFFER, f"differ copy {max(copy, 1)} output {cycle + 1}\n")
+        # Where copy 0 differs, copy 1 is the first that isn't equal to it.
+        line = b"differ copy %d output %d\n" % (max(copy, 1), cycle + 1)
+        outcome = Outcome(DIFFER, line, b"")
+    return Case(" ".join(words), list(words), outcome)
 
 
-def wrong(program: Path, case: Case, disturber: Disturber) -> Optional[str]:
-    """What a run gave in place of its verdict, or none."""
-    pinned = disturber.some_processors()
-    with tempfile.TemporaryFile() as out:
+def departure(program: Path, case: Case, disturber: Disturber) -> Optional[str]:
+    """What a disturbed run gave, where it isn't its verdict."""
+    processors = disturber.some_processors()
+    with tempfile.TemporaryFile() as out, tempfile.TemporaryFile() as err:
         process = subprocess.Popen(
-            [str(program), *case.words],
+            [str(program), *map(str, case.words[1:])],
             stdout=out,
-            stderr=subprocess.STDOUT,
-            preexec_fn=lambda: os.sched_setaffinity(0, pinned),
+            stderr=err,
+            preexec_fn=lambda: os.sched_setaffinity(0, processors),
         )
         if not disturber.disturb(process):
-            return f"no end in {LIMIT} seconds"
+            return f"{case}: no end in {LIMIT} seconds"
         out.seek(0)
-        given = out.read().decode(errors="replace")
-    if (process.returncode, given) == (case.status, case.out):
-        return None
-    return f"status {process.returncode}, {given!r} in place of {case.status}, {case.out!r}"
-
-
-def first_wrong(program: Path, folder: Path, runs: int, disturber: Disturber) -> Optional[str]:
-    """What the first run was that had another verdict, or none."""
-    words = [it.words(folder) for it in INPUTS]
-    for run in range(runs):
-        which = run % len(INPUTS)
-        case = Case.some(disturber.choose, words[which], INPUTS[which].cycles)
-        why = wrong(program, case, disturber)
-        if why:
-            return f"run {run}, {' '.join(case.words)}: {why}"
-    return None
+        err.seek(0)
+        given = Outcome(process.returncode, out.read(), err.read())
+    return None if given == case.outcome else f"{case}: {given}, {given.out!r}, not {case.outcome}"
 
 
 def main() -> int:
     given = options("Compares verdicts of many disturbed runs.")
-    program = program_of("det_twin", given.programs)
-    with tempfile.TemporaryDirectory() as name, busy(given.busy):
-        disturber = Disturber(random.Random(given.seed))
-        why = first_wrong(program, Path(name), given.runs, disturber)
-    if why:
-        print(why)
-        return 1
-    told = ", ".join(f"{count} {what}" for what, count in sorted(disturber.counts.items()))
-    print(f"{given.runs} runs had their verdict; {told}, {given.busy} busy processes")
+    with tempfile.TemporaryDirectory() as name, keep_busy(given.busy):
+        folder, disturber = Path(name), Disturber(random.Random(given.seed))
+        program = (
+            build_programs(folder / "programs", given.programs, names=("det_twin",)).folder
+            / "det_twin"
+        )
+        for run in range(given.runs):
+            case = some_case(disturber.choose, folder, run)
+            other = departure(program, case, disturber)
+            if other:
+                print(f"run {run}, {other}")
+                return 1
+    counts = ", ".join(f"{count} {what}" for what, count in sorted(disturber.counts.items()))
+    print(f"{given.runs} runs had their verdict; {counts}, {given.busy} busy processes")
     return 0
 
 

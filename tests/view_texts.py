@@ -1,4 +1,4 @@
-"""What `det show` prints of cycles, and what a page tells, both as values."""
+"""What `det show` prints of cycles, and what a page says, both as values."""
 
 from __future__ import annotations
 
@@ -39,19 +39,19 @@ class ShownCycle:
 
 @dataclass
 class Shown:
-    """What `det show` prints: the lines before the first cycle, cycles, and the lines behind."""
+    """What `det show` prints: lines before the first cycle, cycles, and lines after them."""
 
     head: list[str]
     cycles: list[ShownCycle]
     tail: list[str]
 
     def fact(self, name: str) -> str:
-        """What stands behind the first word of a line."""
+        """What is after the first word of a line."""
         lines = (line.partition(" ") for line in (*self.head, *self.tail))
         return next((rest for word, _, rest in lines if word == name), "")
 
 
-def shown_of(text: str) -> Shown:
+def parse_text(text: str) -> Shown:
     shown = Shown([], [], [])
     for line in text.splitlines():
         words = line.split()
@@ -68,7 +68,7 @@ def shown_of(text: str) -> Shown:
 
 
 class Page(HTMLParser):
-    """A page: its tables, its told lines, and the titles and pictures of each drawing."""
+    """A page: its tables, its lines of code, and the titles and pictures of each drawing."""
 
     def __init__(self, text: str) -> None:
         super().__init__()
@@ -76,7 +76,7 @@ class Page(HTMLParser):
         self.open: list[str] = []
         self.wrong: Optional[str] = None
         self.rows: list[list[str]] = []
-        self.told = ""
+        self.code_text = ""
         self.paragraphs: list[str] = []
         # The titles of each drawing, by its label.
         self.titles: dict[str, list[str]] = {}
@@ -111,7 +111,7 @@ class Page(HTMLParser):
 
     def handle_endtag(self, tag: str) -> None:
         if not self.open or self.open.pop() != tag:
-            self.wrong = f"an end of {tag} stands at {self.getpos()}"
+            self.wrong = f"an end of {tag} at {self.getpos()}"
 
     def handle_data(self, data: str) -> None:
         if "title" in self.open and "rect" in self.open:
@@ -119,7 +119,7 @@ class Page(HTMLParser):
         elif self.open and self.open[-1] in ("td", "th"):
             self.rows[-1][-1] += data
         elif "code" in self.open:
-            self.told += data
+            self.code_text += data
         elif "p" in self.open:
             self.paragraphs[-1] += data
 
@@ -129,7 +129,7 @@ class Page(HTMLParser):
         return [cell.replace(",", "") for cell in cells]
 
     def series(self, chart: str, line: str) -> list[str]:
-        """What a line of a chart tells, column by column."""
+        """What a line of a chart says, column by column."""
         titles = self.titles[f"{chart} of elements over the cycles"]
         found = (re.search(rf"^{line}: (.*)$", title, re.MULTILINE) for title in titles)
         return [match.group(1).replace(",", "") for match in found]
@@ -150,5 +150,5 @@ def pixels(address: str) -> list[bytes]:
     return [row[1:] for row in rows if row[0] == 0]
 
 
-def signed(digits: str) -> int:
+def signed_number(digits: str) -> int:
     return int.from_bytes(bytes.fromhex(digits), "big", signed=True)

@@ -45,10 +45,10 @@ class Build:
         self.compiled, self.log = COMPILED / name, COMPILED / f"{name}.log"
         self.run = partial(run_logged, self.log)
 
-    def tell(self, text: str) -> None:
+    def report(self, text: str) -> None:
         print(f"{self.name}: {text}", file=sys.stderr, flush=True)
 
-    def found(self) -> Optional[Path]:
+    def find(self) -> Optional[Path]:
         """The program that is there and as new as its sources. It is made as new as this look at
         them, so that bin/build_and_run sees that no source is newer."""
         looked = time.time()
@@ -61,21 +61,21 @@ class Build:
 
     def compile(self, room: Path) -> Path:
         begun = time.time()  # what is changed from now on is newer than the program
-        self.tell("compiling it from source, in a minute or two ..")
+        self.report("compiling it from source, in a minute or two ..")
         kit = Path(self.run(["rt", "doc"], TOP)[1].strip()).parent
         program = compile_program(kit, CRATES / self.name, room, self.run)
         os.utime(program, (begun, begun))
         program.rename(self.compiled)
-        self.tell("compiled from source; its proofs weren't checked here: make prove")
+        self.report("compiled from source; its proofs weren't checked here: make prove")
         return self.compiled
 
     def prove(self) -> Path:
         begun, program = time.time(), program_file(self.name)
-        self.tell(f"proving {len(self.needed)} crates, which takes long; log: {self.log}")
+        self.report(f"proving {len(self.needed)} crates, which takes long; log: {self.log}")
         for words in (["rt", "all", "check"], ["rt", "run", "--", "--version"]):
-            status, told = self.run(words, CRATES / self.name)
+            status, output = self.run(words, CRATES / self.name)
             if status or (words[1] == "run" and not program.is_file()):
-                end = "\n".join(f"    {line}" for line in told.splitlines()[-SHOWN:])
+                end = "\n".join(f"    {line}" for line in output.splitlines()[-SHOWN:])
                 remedy = f"mend what {self.log} says, or see whether `rt selftest` passes"
                 raise NotBuilt(f"`{' '.join(words)}` fails: {remedy}\n{end}")
         os.utime(program, (begun, begun))
@@ -88,23 +88,23 @@ class Build:
         try:
             return self.prove() if self.is_proof else self.compile(room)
         except NoModule as why:
-            self.tell(f"can't be compiled without its proofs with this kit: {why}")
+            self.report(f"can't be compiled without its proofs with this kit: {why}")
             return self.prove()
 
-    def build_alone(self) -> Path:
+    def build_locked(self) -> Path:
         """Has the program built once no other process builds it, in a folder that goes again."""
         COMPILED.mkdir(parents=True, exist_ok=True)
         with open(COMPILED / f"{self.name}.lock", "w") as lock:
             try:
                 fcntl.flock(lock, fcntl.LOCK_EX | fcntl.LOCK_NB)
             except BlockingIOError:
-                self.tell("another process builds it; waiting for its end")
+                self.report("another process builds it; waiting for its end")
                 fcntl.flock(lock, fcntl.LOCK_EX)
             for left in COMPILED.glob(f"{self.name}-*"):  # of a build that was killed
                 shutil.rmtree(left, ignore_errors=True)
             with tempfile.TemporaryDirectory(prefix=f"{self.name}-", dir=COMPILED) as room:
                 os.environ["TMPDIR"] = room
-                return self.found() or self.build(Path(room))
+                return self.find() or self.build(Path(room))
 
 
 def main() -> int:
@@ -117,15 +117,15 @@ def main() -> int:
         signal.signal(number, signal.default_int_handler)
     build = Build(given.program, given.prove)
     try:
-        print(build.found() or build.build_alone())
+        print(build.find() or build.build_locked())
         return 0
     except NotBuilt as why:
-        build.tell(str(why))
+        build.report(str(why))
     except KeyboardInterrupt:
-        build.tell("stopped; the next call builds it anew")
+        build.report("stopped; the next call builds it anew")
     except OSError as why:
         is_full = why.errno == errno.ENOSPC
-        build.tell(f"{why}" + f": free a gigabyte for {COMPILED}, and call again" * is_full)
+        build.report(f"{why}" + f": free a gigabyte for {COMPILED}, and call again" * is_full)
     return NOT_BUILT
 
 

@@ -23,7 +23,7 @@ def listed_crates() -> dict[str, list[str]]:
 
 
 def needed_by(program: str, crates: dict[str, list[str]]) -> list[str]:
-    """A program and the crates below it, each behind those that it uses."""
+    """A program and the crates below it, each after those that it uses."""
     found: list[str] = []
 
     def add(name: str) -> None:
@@ -40,8 +40,8 @@ def program_file(name: str) -> Path:
     return CRATES / name / "out" / name
 
 
-def changed(path: str) -> float:
-    """When a file was changed last; 0 where there is none, as behind an editor's link."""
+def time_of_change(path: str) -> float:
+    """When a file was changed last; 0 where there is none, as for an editor's link to nothing."""
     try:
         return os.stat(path).st_mtime
     except FileNotFoundError:
@@ -53,8 +53,8 @@ def newest_source(crate: str) -> float:
     times = [0.0]
     for part in PARTS:
         for folder, _, files in os.walk(CRATES / crate / part):
-            times.append(changed(folder))
-            times += [changed(os.path.join(folder, name)) for name in files]
+            times.append(time_of_change(folder))
+            times += [time_of_change(os.path.join(folder, name)) for name in files]
     return max(times)
 
 

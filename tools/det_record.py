@@ -74,7 +74,7 @@ PIECE = 1 << 18
 STANDARD_OUTPUT = 1
 NAME_BYTES = frozenset(b"abcdefghijklmnopqrstuvwxyz0123456789_")
 SAMPLE = struct.Struct(">Hq")
-# What reads an unsigned number of so many bytes.
+# What reads an unsigned number, by how many bytes it has.
 UNSIGNED = {size: struct.Struct(f">{code}").unpack_from for size, code in zip((1, 2, 4, 8), "BHIQ")}
 # The ranges of a sample's value, read without its sign.
 VALUE_RANGES = ((0, MOST_VALUE), (2**64 - MOST_VALUE, 2**64 - 1))
@@ -95,7 +95,7 @@ class Cursor:
         return self.dropped + self.at
 
     def has(self, length: int) -> bool:
-        """Whether so many bytes are ahead. Where not, all that are left are in `data`."""
+        """Whether as many bytes are ahead. Where not, all that are left are in `data`."""
         return len(self.data) - self.at >= length or self._fill(length)
 
     def _fill(self, length: int) -> bool:
@@ -112,22 +112,22 @@ class Cursor:
         self.data = b"".join(pieces)
         return ahead >= length
 
-    def stop(self, behind: int, reason: Reason) -> NoReturn:
-        """Refuses the byte so many bytes ahead."""
-        raise BadRecord(self.offset + behind, reason)
+    def stop(self, ahead: int, reason: Reason) -> NoReturn:
+        """Refuses the byte some bytes ahead."""
+        raise BadRecord(self.offset + ahead, reason)
 
-    def truncated(self) -> NoReturn:
+    def stop_at_end(self) -> NoReturn:
         self.stop(len(self.data) - self.at, Reason.TRUNCATED)
 
     def take(self, length: int) -> bytes:
-        """So many bytes, whatever they are."""
+        """The next bytes, whatever they are."""
         if not self.has(length):
-            self.truncated()
+            self.stop_at_end()
         self.at += length
         return self.data[self.at - length : self.at]
 
     def number(self, width: int, least: int, most: int) -> int:
-        """An unsigned number of so many bytes within a range."""
+        """An unsigned number of some bytes within a range."""
         if len(self.data) - self.at >= width or self.has(width):
             value = UNSIGNED[width](self.data, self.at)[0]
             if least <= value <= most:
@@ -148,9 +148,9 @@ class Cursor:
             high = low | ((1 << left) - 1)
             if not any(least <= high and low <= most for least, most in ranges):
                 self.stop(read - 1, Reason.RANGE)
-        self.truncated()
+        self.stop_at_end()
 
-    def signed(self) -> int:
+    def signed_number(self) -> int:
         return int.from_bytes(self.take(8), "big", signed=True)
 
     def sample_value(self) -> int:
@@ -168,7 +168,7 @@ class Cursor:
     def one_of(self, allowed: Container[int], reason: Reason) -> int:
         """A byte that is one of those allowed."""
         if not self.has(1):
-            self.truncated()
+            self.stop_at_end()
         byte = self.data[self.at]
         if byte not in allowed:
             self.stop(0, reason)
@@ -191,13 +191,13 @@ def read_header(cursor: Cursor) -> Header:
     job = cursor.number(2, 0, 2**16 - 1)
     seed = cursor.number(8, 0, 2**64 - 1)
     cycle_time = cursor.number(8, 1, 2**63 - 1)
-    params = tuple(cursor.signed() for _ in range(cursor.number(2, 0, 16)))
+    params = tuple(cursor.signed_number() for _ in range(cursor.number(2, 0, 16)))
     events = [read_event(cursor, record_format) for _ in range(cursor.number(2, 0, 256))]
     return Header(record_format, job, seed, cycle_time, params, tuple(events))
 
 
 def even_stride(cursor: Cursor, count: int, tail: int) -> Optional[int]:
-    """The bytes that each of so many elements takes, where all are there and take as many."""
+    """The bytes that each of some elements takes, where all are there and take as many."""
     if count == 0 or not cursor.has(2):
         return None
     stride = int.from_bytes(cursor.data[cursor.at : cursor.at + 2], "big") + 2 + tail
@@ -247,7 +247,7 @@ def read_refused(cursor: Cursor) -> Refused:
 
 
 def read_run(cursor: Cursor, header: Header) -> Run:
-    """A Run frame behind its tag."""
+    """A Run frame after its tag."""
     time = cursor.number(8, 0, 2**64 - 1) if cursor.flag() else None
     samples = read_samples(cursor, len(header.events))
     if cursor.flag():
@@ -269,7 +269,7 @@ class RecordReader:
         return self.cursor.offset
 
     def items(self) -> Iterator[Item]:
-        """The header, then the frames. Raises `BadRecord` behind them where there is a fault."""
+        """The header, then the frames. Raises `BadRecord` after them where there is a fault."""
         header = read_header(self.cursor)
         yield header
         self._tag((REGISTER,))
@@ -288,7 +288,7 @@ class RecordReader:
 
     def _tag(self, allowed: Sequence[int], runs: int = 0) -> int:
         if not self.cursor.has(1):
-            self.cursor.truncated()
+            self.cursor.stop_at_end()
         tag = self.cursor.data[self.cursor.at]
         if tag == RUN and runs == MOST_RUNS:
             self.cursor.stop(0, Reason.TOO_MANY)
@@ -301,7 +301,7 @@ class RecordReader:
 
 @dataclass
 class Summary:
-    """What is told of a record that is read item by item."""
+    """A summary of a record that is read item by item."""
 
     header: Optional[Header] = None
     elements: int = 0

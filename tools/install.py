@@ -59,12 +59,12 @@ def source(name: str) -> bytes:
     return path.read_bytes()
 
 
-def matching(pattern: str) -> list[str]:
+def files_like(pattern: str) -> list[str]:
     """The files of the repository that a pattern names."""
     return sorted(str(path.relative_to(TOP)) for path in TOP.glob(pattern) if path.is_file())
 
 
-def built(name: str) -> Path:
+def program_path(name: str) -> Path:
     """A program that `make` built: proved, or else compiled."""
     if is_built(program_file(name), needed_by(name, listed_crates())):
         return program_file(name)
@@ -75,7 +75,9 @@ def kinds(folder: Optional[Path]) -> str:
     """Which programs are proved."""
     if folder:
         return f"the programs of {folder}"
-    kinds = {it: "proved" if built(it) == program_file(it) else "compiled" for it in PROGRAMS}
+    kinds = {
+        it: "proved" if program_path(it) == program_file(it) else "compiled" for it in PROGRAMS
+    }
     made = TOP / "out" / "lib" / "made"
     kinds["the library"] = made.read_text().strip() if made.is_file() else "proved"
     return ", ".join(f"{it} {kind}" for it, kind in kinds.items())
@@ -83,7 +85,7 @@ def kinds(folder: Optional[Path]) -> str:
 
 def programs(folder: Optional[Path]) -> list[Copy]:
     """The programs, from a folder or from where `make` builds them."""
-    files = {it: folder / it if folder else built(it) for it in PROGRAMS}
+    files = {it: folder / it if folder else program_path(it) for it in PROGRAMS}
     return [Copy(f"bin/{it}", source(str(file)), PROGRAM) for it, file in files.items()]
 
 
@@ -93,13 +95,13 @@ def manuals() -> list[Copy]:
 
 def documents() -> list[Copy]:
     """The documents, and the examples, under their names in the repository."""
-    names = [name for pattern in (*DOCUMENTS, "examples/**/*") for name in matching(pattern)]
+    names = [name for pattern in (*DOCUMENTS, "examples/**/*") for name in files_like(pattern)]
     return [Copy(f"share/doc/det/{name}", source(name)) for name in names]
 
 
 def tools(prefix: str) -> list[Copy]:
     """The tools of records, and for each a program of its name."""
-    names = [name for pattern in MODULES for name in matching(pattern)]
+    names = [name for pattern in MODULES for name in files_like(pattern)]
     there = [name for name in TOOLS if f"tools/{name}.py" in names]
     files = {it: shlex.quote(f"{prefix}/share/det/tools/{it}.py") for it in there}
     # Python would leave files of its own beside the modules, which nothing removes.
@@ -110,7 +112,7 @@ def tools(prefix: str) -> list[Copy]:
 
 def library(prefix: str, version: str) -> list[Copy]:
     """The static library with its headers and the file for pkg-config."""
-    headers = matching("include/ara/exec/*.h")
+    headers = files_like("include/ara/exec/*.h")
     if not headers:
         raise Refused("include/ara/exec has no headers")
     template = source("cpp/deterministic_client.pc.in").decode()
@@ -150,7 +152,7 @@ def install(root: Path, copies: list[Copy]) -> None:
 
 
 def uninstall(root: Path) -> int:
-    """Removes what is listed, and folders of its own. Answers how many files were there."""
+    """Removes what is listed, and folders of its own. Returns how many files were there."""
     if not (root / LISTED).is_file():
         raise Refused(f"{root / LISTED} isn't there, so nothing of this is installed there")
     names = [*(root / LISTED).read_text().splitlines(), LISTED]

@@ -9,7 +9,7 @@
 Prints where it lies: out/lib/libdeterministic_client.a, or out/lib/TARGET/libdeterministic_client.a
 for a TARGET; `made` beside it says how it was made. One for another target than this machine's is
 always proved, and so is one with a kit that doesn't serve for compiling. Over the libraries that
-`make prove` left its two crates alone are proved, which takes minutes; else all nine below them.
+`make prove` left only its two crates are proved, which takes minutes; else all nine below them.
 It ends with 0, with 2 for other words, or with 70 and a line that says why it isn't built.
 """
 
@@ -28,7 +28,7 @@ from functools import partial
 from pathlib import Path
 
 from compile import NoModule, compile_library, run_logged
-from crate_list import CRATES, LIST, TOP, changed, listed_crates, needed_by, newest_source
+from crate_list import CRATES, LIST, TOP, listed_crates, needed_by, newest_source, time_of_change
 
 EXPORTING = ("det_client_c", "det_record_c")
 HOST, ARM = "x86_64-unknown-linux-gnu", "aarch64-unknown-linux-gnu"
@@ -43,7 +43,7 @@ class NotBuilt(Exception):
     """The library can't be built; the text says why."""
 
 
-def tell(text: str) -> None:
+def report(text: str) -> None:
     print(f"build_library: {text}", file=sys.stderr, flush=True)
 
 
@@ -63,11 +63,15 @@ class Library:
         if not self.archive.is_file() or not self.made.is_file():
             return False
         crates = {name for it in EXPORTING for name in needed_by(it, listed_crates())}
-        sources = [changed(str(HEAP)), changed(str(LIST)), *map(newest_source, crates)]
+        sources = [
+            time_of_change(str(HEAP)),
+            time_of_change(str(LIST)),
+            *map(newest_source, crates),
+        ]
         is_new = max(sources) <= self.archive.stat().st_mtime
         return is_new and (not is_proof or self.made.read_text() == f"{PROVED}\n")
 
-    def compiled(self, work: Path) -> list[Path]:
+    def compile(self, work: Path) -> list[Path]:
         return [compile_library(self.kit, CRATES / it, work, self.run) for it in EXPORTING]
 
     def over_the_gate(self, crate: str) -> bool:
@@ -76,7 +80,7 @@ class Library:
         own times say nothing."""
         for name in needed_by(crate, listed_crates())[:-1]:
             checked = CRATES / name / "out/rlib" / f"{name}.rlib" / "format"
-            if not checked.is_file() or changed(str(GATE)) < newest_source(name):
+            if not checked.is_file() or time_of_change(str(GATE)) < newest_source(name):
                 return False
         sys.path.insert(0, str(self.kit / "bin"))
         try:
@@ -89,15 +93,17 @@ class Library:
         words += ["--target", self.target] * (self.target != HOST)
         words += ["--toolchain", f"{self.kit}/toolchain", "-o", f"out/lib{crate}.a"]
         (CRATES / crate / "out").mkdir(exist_ok=True)
-        tell(f"proving {crate} for {self.target} over what the gate proved ..")
+        report(f"proving {crate} for {self.target} over what the gate proved ..")
         status, _ = self.run([f"{self.kit}/bin/rattle", "build", *words], CRATES / crate)
         return status == 0
 
-    def proved(self, work: Path) -> list[Path]:
+    def prove(self, work: Path) -> list[Path]:
         for crate in EXPORTING:
             if not self.over_the_gate(crate):
-                tell(f"proving {crate} for {self.target} and all below it, which takes minutes ..")
-                status, told = self.run(["rt", "lib", "--target", self.target], CRATES / crate)
+                report(
+                    f"proving {crate} for {self.target} and all below it, which takes minutes .."
+                )
+                status, output = self.run(["rt", "lib", "--target", self.target], CRATES / crate)
                 if status:
                     raise NotBuilt(f"{crate} isn't proved: {self.folder / 'log'} says why")
             shutil.move(CRATES / crate / "out" / f"lib{crate}.a", work / f"{crate}.a")
@@ -120,21 +126,21 @@ class Library:
         files: list[Path] = []
         if how == COMPILED:
             try:
-                files = self.compiled(work)
+                files = self.compile(work)
             except NoModule as why:
-                told = f"can't be compiled without its proofs with this kit: {why}"
+                reason = f"can't be compiled without its proofs with this kit: {why}"
                 if self.never_proves:
-                    raise NotBuilt(told) from why
-                tell(told)
+                    raise NotBuilt(reason) from why
+                report(reason)
                 how = PROVED
-        self.merge(files or self.proved(work), work)
+        self.merge(files or self.prove(work), work)
         self.made.write_text(f"{how}\n")
         os.replace(work / "merged.a", self.archive)
         if how == COMPILED:
-            tell("compiled from source; its proofs weren't checked here: make prove")
+            report("compiled from source; its proofs weren't checked here: make prove")
 
 
-def build_alone(target: str, folder: Path, given: argparse.Namespace) -> Path:
+def build_locked(target: str, folder: Path, given: argparse.Namespace) -> Path:
     """Has the library built where it isn't, once no other process builds one."""
     OUT.mkdir(parents=True, exist_ok=True)
     with open(OUT / "lock", "w") as lock:
@@ -161,15 +167,15 @@ def main() -> int:
         signal.signal(number, signal.default_int_handler)
     folder = OUT / given.target if given.target else OUT
     try:
-        print(build_alone(given.target or HOST, folder, given))
+        print(build_locked(given.target or HOST, folder, given))
         return 0
     except NotBuilt as why:
-        tell(str(why))
+        report(str(why))
     except KeyboardInterrupt:
-        tell("stopped; the next call builds it anew")
+        report("stopped; the next call builds it anew")
     except OSError as why:
         is_full = why.errno == errno.ENOSPC
-        tell(f"{why}" + f": free a gigabyte for {OUT}, and call again" * is_full)
+        report(f"{why}" + f": free a gigabyte for {OUT}, and call again" * is_full)
     return NOT_BUILT
 
 

@@ -1,1 +1,0 @@
-"""What tests/run.py runs: each module makes a list of tests."""

@@ -1,0 +1,89 @@
+"""What `make install` puts below a prefix, and `make uninstall` removes."""
+
+from __future__ import annotations
+
+import os
+from pathlib import Path
+
+import pytest
+
+from commands import NAMES, TOP, Bench, Outcome, Programs, run
+
+PREFIX = "/opt/of det"
+OWN_FOLDERS = ("share/det", "share/doc/det", "include/ara")
+OTHER = "share/man/man1/other.1"
+LIBRARY = "lib/libdeterministic_client.a"
+
+
+def run_installer(programs: Programs, folder: Path, *words: str, umask: int = 0o022) -> Outcome:
+    """Runs the installer over the programs under test, below a folder."""
+    command = ["python3", str(TOP / "tools" / "install.py"), "--prefix", PREFIX]
+    command += ["--destdir", str(folder), "--programs", str(programs.folder), *words]
+    return run(command, TOP, programs.environment(), preexec_fn=lambda: os.umask(umask))
+
+
+def files_of_package() -> list[str]:
+    """What is installed at least: programs, manual pages, documents, library and tools."""
+    found = [f"bin/{it}" for it in NAMES] + [f"share/man/man1/{it}.1" for it in NAMES]
+    documents = ("README.md", "docs/FORMATS.md", "examples/bank.toml")
+    found += [f"share/doc/det/{it}" for it in documents]
+    headers = [path.name for path in (TOP / "include/ara/exec").glob("*.h")]
+    found += [LIBRARY, "lib/pkgconfig/deterministic_client.pc"]
+    found += [f"include/ara/exec/{it}" for it in headers]
+    return found + ["bin/det_record", "bin/det_view"]
+
+
+def wrong_modes(root: Path) -> list[str]:
+    """The files whose modes aren't those of an installed file, whatever the umask was."""
+    found = []
+    for path in (root, *root.rglob("*")):
+        runs = path.is_dir() or path.parent.name == "bin"
+        if path.stat().st_mode & 0o777 != (0o755 if runs else 0o644):
+            found.append(f"{path} {path.stat().st_mode:o}")
+    return found
+
+
+def make_other(root: Path) -> None:
+    """A file of another package, in a folder that both use."""
+    (root / OTHER).parent.mkdir(parents=True, exist_ok=True)
+    (root / OTHER).write_text("of another package")
+
+
+def test_install_and_uninstall(bench: Bench, library: Path) -> None:
+    """Installed files have their modes and run; removed, they and their own folders are gone."""
+    assert library.is_file()
+    root = Path(str(bench.folder) + PREFIX)
+    first = run_installer(bench.programs, bench.folder, "--version", "0.1.0", umask=0o077)
+    assert not first.status, str(first)
+    assert not wrong_modes(root)
+    assert [it for it in files_of_package() if not (root / it).is_file()] == []
+    for name in NAMES:
+        assert run([root / "bin" / name, "--version"], root, {}).out == f"{name} 0.1.0\n".encode()
+    make_other(root)
+    second = run_installer(bench.programs, bench.folder, "--uninstall")
+    assert not second.status, str(second)
+    assert [str(it.relative_to(root)) for it in root.rglob("*") if it.is_file()] == [OTHER]
+    assert [it for it in OWN_FOLDERS if (root / it).exists()] == []
+
+
+def test_missing_program(programs: Programs, folder: Path) -> None:
+    """Without a program nothing is installed, and what isn't installed isn't removed."""
+    empty = Programs(folder)
+    empty.folder.mkdir()
+    first = run_installer(empty, folder / "to")
+    assert first.status == 1 and b"run `make` first" in first.err, str(first)
+    second = run_installer(programs, folder / "to", "--uninstall")
+    assert second.status == 1 and b"nothing of this" in second.err, str(second)
+    assert not (folder / "to").exists()
+
+
+@pytest.mark.parametrize("target, word", (("install", b"--version"), ("uninstall", b"--uninstall")))
+def test_makefile(target: str, word: bytes) -> None:
+    """`make install` and `make uninstall` only call the installer, with PREFIX and DESTDIR."""
+    # Below `make test` it would also print the folder that it is in.
+    words = ["make", "-n", "--no-print-directory", target, "PREFIX=/p q", "DESTDIR=/d"]
+    given = run(words, TOP)
+    lines = given.out.splitlines()
+    assert given.status == 0 and len(lines) == 1, str(given)
+    for it in (b'--prefix "/p q"', b'--destdir "/d"', word, b"tools/install.py"):
+        assert it in lines[0]

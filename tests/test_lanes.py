@@ -1,0 +1,218 @@
+"""`det_lane` over real children: `det` itself, and scripts that fail in ways of their own.
+
+A case is a script for `sh`, in which $K is the number of its copy, counted from 1, and `record`
+writes the record of the words. After each case no child may be left running. It needs /proc.
+"""
+
+from __future__ import annotations
+
+import resource
+import time
+from pathlib import Path
+from typing import Any
+
+import pytest
+
+from children import has_child
+from clients import Client
+from commands import TOP, Bench, Case, Outcome, Word, run
+
+MANIFEST = TOP / "examples" / "guard.toml"
+STIMULUS = TOP / "examples" / "guard.stim"
+# The most seconds that a case may take, and one in which a child has to be stopped.
+WITHIN, STOPPED_WITHIN = 30, 10
+# The least bytes of the large record.
+LARGE = 100_000_000
+# What det_lane has on its own standard input.
+FOR_NO_CHILD = b"no child is given this\n"
+SPAWN_FAULT = Outcome(10, b"", b"spawn fault\n")
+
+# `flip N` turns the lowest bit of byte N of what it reads.
+FLIP = """flip() {
+    python3 -c 'import sys
+b = bytearray(sys.stdin.buffer.read())
+b[int(sys.argv[1])] ^= 1
+sys.stdout.buffer.write(b)' "$1"
+}
+"""
+
+
+def script(
+    name: str, text: str, status: int, out: str = "", err: str = "", copies: int = 2
+) -> Case:
+    """A case by the text of its script, and how det_lane has to end."""
+    words: list[Word] = ["det_lane", "./copy", copies, MANIFEST, STIMULUS]
+    outcome = Outcome(status, out.encode(), err.encode())
+    return Case(name, words, outcome, {"copy": text.encode()})
+
+
+def agrees(name: str, text: str, copies: int = 2) -> Case:
+    return script(name, text, 0, "agree 3\n", copies=copies)
+
+
+CASES = [
+    agrees("two copies agree", "record"),
+    agrees("eight copies agree", "record", 8),
+    agrees("what goes to standard error is dropped", "echo bad >&2; record"),
+    agrees("standard input is empty", "[ $(wc -c) = 0 ] && record"),
+    agrees("a child that closes its output and goes on", "record; exec >&-; sleep 2"),
+    script(
+        "a flipped bit differs",
+        "if [ $K = 2 ]; then record | flip 40; else record; fi",
+        1,
+        out="differ copy 1 header\n",
+    ),
+    script(
+        "a child that is killed before it writes",
+        "[ $K = 1 ] || kill -9 $$; record",
+        10,
+        err="spawn fault\n",
+    ),
+    script(
+        "a child that is killed after it wrote",
+        "record; [ $K = 1 ] || kill -9 $$",
+        10,
+        err="spawn fault\n",
+    ),
+    script(
+        "a child that ends with 3",
+        "record; [ $K = 1 ] || exit 3",
+        9,
+        err="child 1 status 3\n",
+    ),
+    script(
+        "a child without a status counts before one that failed",
+        "record; [ $K = 1 ] && exit 3; kill -9 $$",
+        10,
+        err="spawn fault\n",
+    ),
+    script(
+        "a child that breaks off and fails",
+        "if [ $K = 3 ]; then record | head -c 60; exit 7; fi; record",
+        9,
+        err="child 2 status 7\n",
+        copies=3,
+    ),
+    script(
+        "a child that breaks off and ends well",
+        "if [ $K = 3 ]; then record | head -c 60; else record; fi",
+        5,
+        err="bad record: copy 2 offset 60 truncated\n",
+        copies=3,
+    ),
+    script(
+        "children that write no record",
+        "echo hello",
+        5,
+        err="bad record: copy 0 offset 0 magic\n",
+    ),
+    script(
+        "children that write nothing and fail",
+        "exit 3",
+        9,
+        err="child 0 status 3\n",
+    ),
+    script(
+        "where copies differ no status counts",
+        "[ $K = 1 ] || { record | flip 40; exit 3; }; record",
+        1,
+        out="differ copy 1 header\n",
+    ),
+]
+# Children that would run on for longer than a case may take.
+STOPPED = [
+    script(
+        "a child that goes on where copies differ is stopped",
+        "if [ $K = 2 ]; then echo hello; fi; record; yes",
+        5,
+        err="bad record: copy 1 offset 0 magic\n",
+    ),
+    script(
+        "a child that never writes is stopped where another is bad",
+        "[ $K = 1 ] && echo hello || exec sleep 1000",
+        5,
+        err="bad record: copy 0 offset 0 magic\n",
+    ),
+]
+
+
+class Lane(Bench):
+    """A bench whose children have a mark among their variables."""
+
+    def run_marked(self, *words: Word, **how: Any) -> Outcome:
+        """Runs det_lane. No child may be left."""
+        environment = dict(self.programs.environment(), LANE_TEST=str(self.folder))
+        command = [self.programs.path("det_lane"), *words]
+        given = run(command, self.folder, environment, **how)
+        assert not has_child(f"LANE_TEST={self.folder}"), "a child is left running"
+        return given
+
+    def write_script(self, text: str) -> None:
+        record = f'record() {{ {self.programs.path("det")} "$@"; }}'
+        calls = text.replace("record", 'record "$@"')
+        path = Path(self.file("copy", f"#!/bin/sh\nK=$5\n{record}\n{FLIP}{calls}\n"))
+        path.chmod(0o755)
+
+    def check(self, case: Case, within: float) -> None:
+        """Runs a case. It has to end as it says, within some seconds."""
+        self.write_script(case.files["copy"].decode())
+        start = time.monotonic()
+        given = self.run_marked(*case.words[1:], input=FOR_NO_CHILD)
+        seconds = time.monotonic() - start
+        assert given == case.outcome
+        assert seconds <= within, f"took {seconds:.1f} seconds"
+
+    def write_large_record(self) -> int:
+        """Writes the record `large`. Returns how many cycles it has."""
+        self.file("large.toml", Client("cloud", [60_000, 1_000_000, 3, 4_000_000], 1).manifest())
+        cycles = 2
+        while True:
+            self.file("large.stim", "stim 1\n" + "cycle -\nsample 0 3\n" * cycles + "terminate\n")
+            with open(self.folder / "large", "wb") as out:
+                given = self.run("det", "record", "large.toml", "large.stim", stdout=out)
+            size = (self.folder / "large").stat().st_size
+            assert given.status == 0 and size, str(given)
+            if size >= LARGE:
+                return cycles
+            cycles = cycles * LARGE // size + 1
+
+
+@pytest.fixture
+def lane(bench: Bench) -> Lane:
+    return Lane(bench.programs, bench.folder)
+
+
+@pytest.mark.parametrize("case", CASES, ids=str)
+def test_children(case: Case, lane: Lane) -> None:
+    lane.check(case, WITHIN)
+
+
+@pytest.mark.parametrize("case", STOPPED, ids=str)
+def test_stopped_children(case: Case, lane: Lane) -> None:
+    lane.check(case, STOPPED_WITHIN)
+
+
+def test_large_record(lane: Lane) -> None:
+    """One child writes a large record before the other writes a byte."""
+    cycles = lane.write_large_record()
+    text = "[ $K = 1 ] || sleep 2; cat large"
+    lane.check(script("", text, 0, f"agree {cycles}\n"), WITHIN)
+
+
+def test_missing_program(lane: Lane) -> None:
+    assert lane.run_marked("./nothing", 2, "m", "s") == SPAWN_FAULT
+
+
+def test_refused_starts(lane: Lane) -> None:
+    """Starts that are refused for lack of files, at each of three copies, leave no child."""
+    statuses = set()
+    for most in range(4, 24):
+
+        def limit_files(most: int = most) -> None:
+            resource.setrlimit(resource.RLIMIT_NOFILE, (most, most))
+
+        given = lane.run_marked("yes", 3, "m", "s", preexec_fn=limit_files, limit=60)
+        statuses.add(given.status)
+        assert not given.out, f"with {most} files: {given}"
+        assert (given.status == 10) == (given == SPAWN_FAULT), f"with {most} files: {given}"
+    assert statuses >= {9, 10}

@@ -1,0 +1,111 @@
+"""The commands that documents show: console blocks, and the indented blocks of the README."""
+
+from __future__ import annotations
+
+import re
+from dataclasses import dataclass
+from pathlib import Path
+from typing import Optional
+
+import pytest
+
+from commands import TOP, Bench, excerpt
+from console import departures
+from documents import documents, name_of
+
+TUTORIAL = TOP / "docs" / "TUTORIAL.md"
+README = TOP / "README.md"
+CONSOLE = [path for path in documents() if "\n```console\n" in path.read_text()]
+# Beginnings of lines of the README that aren't run here: they build, install or run tests.
+NOT_RUN = ("rt ", "make", "bin/build_library", "sudo ", "git ")
+NOT_RUN += ("python3 -m pytest", "python3 tests/", "python3 bench/")
+COMPILER = "g++"
+# Words of a remark that the command has to print.
+PRINTED = ("agree", "genuine", "terminate")
+
+
+@pytest.mark.parametrize("document", CONSOLE, ids=name_of)
+def test_console(document: Path, bench: Bench) -> None:
+    """Each command of the console blocks prints what the document has."""
+    assert departures(document, bench.programs.folder, bench.folder) == []
+
+
+def test_tutorial_has_blocks() -> None:
+    assert TUTORIAL in CONSOLE
+
+
+@dataclass(frozen=True)
+class Line:
+    """A command of the README, and the remark after it."""
+
+    number: int
+    command: str
+    remark: str
+
+
+def lines_of(document: Path) -> list[Line]:
+    """The lines of the indented blocks of a document."""
+    lines, is_block, is_fenced, before = [], False, False, ""
+    for number, line in enumerate(document.read_text().splitlines(), start=1):
+        is_fenced ^= line.startswith("```")
+        is_block = line.startswith("    ") and not is_fenced and (is_block or not before.strip())
+        if is_block:
+            command, _, remark = line.strip().partition(" # ")
+            lines.append(Line(number, command.strip(), remark.strip()))
+        before = line
+    return lines
+
+
+def departure(line: Line, bench: Bench) -> Optional[str]:
+    """Runs a command of the README. Returns what went wrong."""
+    wanted = re.search(r"\bstatus (\d+)", line.remark)
+    given = bench.run("bash", "-c", line.command)
+    status = int(wanted[1]) if wanted else 0
+    if given.status != status:
+        return f"line {line.number} ends with {given.status}, not {status}: {excerpt(given.err)}"
+    if line.remark.startswith("silent") and (given.out or given.err):
+        return f"line {line.number} isn't silent: {excerpt(given.out)} {excerpt(given.err)}"
+    for word in PRINTED:
+        if re.search(rf"\b{word}\b", line.remark) and word.encode() not in given.out:
+            return f"line {line.number} doesn't print {word}: {excerpt(given.out)}"
+    return None
+
+
+def readme_lines() -> tuple[list[Line], list[Line]]:
+    """The lines of the README that are run: those without the library for C++, and those with it,
+    which call the compiler or name a file that it makes."""
+    lines = [line for line in lines_of(README) if not line.command.startswith(NOT_RUN)]
+    calls = [line.command for line in lines if line.command.startswith(f"{COMPILER} ")]
+    made = [name for call in calls for name in re.findall(r" -o (\S+)", call)]
+    wanted = [*calls, *made]
+    compiled = [line for line in lines if any(text in line.command for text in wanted)]
+    return [line for line in lines if line not in compiled], compiled
+
+
+def link_top(bench: Bench, library: Optional[Path] = None) -> None:
+    """Makes the bench's folder one like the top, with the programs under test in bin/."""
+    for path in TOP.iterdir():
+        if path.name not in ("bin", "out", ".git"):
+            (bench.folder / path.name).symlink_to(path)
+    (bench.folder / "bin").symlink_to(bench.programs.folder)
+    (bench.folder / "out").mkdir()
+    if library:
+        (bench.folder / "out" / "lib").symlink_to(library.parent)
+
+
+def check_lines(lines: list[Line], bench: Bench) -> None:
+    texts = [departure(line, bench) for line in lines]
+    assert [text for text in texts if text] == []
+
+
+def test_readme(bench: Bench) -> None:
+    lines, _ = readme_lines()
+    assert lines, "it shows no command that can be run"
+    link_top(bench)
+    check_lines(lines, bench)
+
+
+def test_readme_over_library(bench: Bench, library: Path) -> None:
+    """The commands that compile an application, or run it."""
+    link_top(bench, library)
+    check_lines(readme_lines()[1], bench)
