@@ -2,43 +2,30 @@
 
 from __future__ import annotations
 
-import os
 import re
 import shutil
-import subprocess
-import sys
 from pathlib import Path
 
 import pytest
 
-TOP = Path(__file__).resolve().parent.parent
-LIBRARY = TOP / "out" / "lib" / "libdeterministic_client.a"
-PROGRAMS = ("det", "det_lane", "det_twin")
+from commands import TOP, Bench, Outcome, make, run
+from documents import text_of
+
 LINE = re.compile(r"`(g\+\+ [^`]*pkg-config[^`]*)`")
 
 
-def run(command: list, **how) -> bytes:
-    return subprocess.run(command, check=True, stdout=subprocess.PIPE, **how).stdout
-
-
-def install(folder: Path) -> None:
-    """Installs the library below a folder, with empty files as the programs."""
-    programs = folder / "programs"
-    programs.mkdir()
-    for name in PROGRAMS:
-        (programs / name).touch()
-    tool = [sys.executable, "-B", TOP / "tools" / "install.py", "--version", "0.1.0"]
-    run([*tool, "--prefix", folder / "prefix", "--programs", programs])
-
-
-def test_an_application_builds_over_the_installed_library(tmp_path: Path) -> None:
-    if not LIBRARY.is_file() or not shutil.which("pkg-config") or not shutil.which("g++"):
-        pytest.skip("needs the built library, pkg-config and g++")
-    install(tmp_path)
-    line = LINE.search((TOP / "docs" / "CPP.md").read_text(encoding="utf-8"))
-    assert line
-    shutil.copy(TOP / "examples" / "cpp" / "tracker.cpp", tmp_path)
-    search = str(tmp_path / "prefix" / "lib" / "pkgconfig")
-    run(["sh", "-c", line[1]], cwd=tmp_path, env=dict(os.environ, PKG_CONFIG_PATH=search))
-    one, four = (run([tmp_path / "tracker", workers]) for workers in ("1", "4"))
+def test_an_application_builds_over_the_installed_library(bench: Bench, library: Path) -> None:
+    if not shutil.which("pkg-config") or not shutil.which("g++"):
+        pytest.skip("needs pkg-config and g++")
+    assert library.is_file()
+    prefix = bench.folder / "prefix"
+    installer = ["python3", "-B", TOP / "tools" / "install.py", "--version", "0.1.0"]
+    make([*installer, "--prefix", prefix, "--programs", bench.programs.folder])
+    shutil.copy(TOP / "examples" / "cpp" / "tracker.cpp", bench.folder)
+    search = {"PKG_CONFIG_PATH": str(prefix / "lib" / "pkgconfig")}
+    line = LINE.search(text_of("docs/CPP.md"))
+    assert line, "docs/CPP.md has no line with pkg-config"
+    built = run(["sh", "-c", line[1]], bench.folder, {**bench.programs.environment(), **search})
+    assert built == Outcome(0, b"", b"")
+    one, four = (bench.output(str(bench.folder / "tracker"), workers) for workers in "14")
     assert one and one == four

@@ -3,21 +3,20 @@
 from __future__ import annotations
 
 import shutil
-import subprocess
 import sys
 from pathlib import Path
 
 import pytest
 
-TOP = Path(__file__).resolve().parent.parent
+from commands import TOP, Outcome, run
+
 SOURCES = ("tools/manual.py", "docs/*.1", "docs/manual/*.txt")
 TEXTS = ("crates/*/src/*_usage.rt", "crates/*/src/pages.rt")
 
 
-def manual(top: Path, *words: str) -> subprocess.CompletedProcess:
+def manual(top: Path, word: str) -> Outcome:
     """Runs the tool of a copy of the repository."""
-    command = [sys.executable, "-B", str(top / "tools" / "manual.py"), *words]
-    return subprocess.run(command, capture_output=True, text=True, check=False)
+    return run([sys.executable, "-B", top / "tools" / "manual.py", word], top)
 
 
 @pytest.fixture
@@ -38,8 +37,7 @@ def replace(path: Path, old: str, new: str) -> None:
 
 
 def test_pages_are_those_of_their_sources() -> None:
-    done = manual(TOP, "--check")
-    assert (done.returncode, done.stdout, done.stderr) == (0, "", "")
+    assert manual(TOP, "--check") == Outcome(0, b"", b"")
 
 
 @pytest.mark.parametrize(
@@ -56,16 +54,16 @@ def test_a_change_is_reported_until_the_page_is_written(
 ) -> None:
     replace(copy / source, old, new)
     done = manual(copy, "--check")
-    assert (done.returncode, done.stdout) == (1, "differs: docs/det.1\n")
-    assert manual(copy, "--write").returncode == 0
-    assert manual(copy, "--check").returncode == 0
+    assert (done.status, done.out) == (1, b"differs: docs/det.1\n")
+    assert manual(copy, "--write").status == 0
+    assert manual(copy, "--check").status == 0
 
 
 def test_a_status_without_a_meaning_is_refused(copy: Path) -> None:
     replace(copy / "docs" / "manual" / "det_lane.txt", "\n  10 ", "\n  11 ")
     done = manual(copy, "--check")
-    assert done.returncode == 1
-    assert "docs/manual/det_lane.txt has the statuses" in done.stderr
+    assert done.status == 1
+    assert b"docs/manual/det_lane.txt has the statuses" in done.err
 
 
 def test_a_command_without_a_page_is_refused(copy: Path) -> None:
@@ -73,5 +71,5 @@ def test_a_command_without_a_page_is_refused(copy: Path) -> None:
         copy / "crates" / "det_cli" / "src" / "det_usage.rt", "  det needs MANIFEST", "  det want X"
     )
     done = manual(copy, "--check")
-    assert done.returncode == 1
-    assert "the usage of det has the commands" in done.stderr
+    assert done.status == 1
+    assert b"the usage of det has the commands" in done.err
